@@ -1,0 +1,9 @@
+//! What the tokenizer engine stands on: events, names of states, options, messages and places.
+#![tactic(auto)]
+
+pub mod configuration;
+pub mod event;
+pub mod message;
+pub mod owned;
+pub mod state;
+pub mod unist;

@@ -1,0 +1,137 @@
+//! Lists, texts and boxes, as contracts see them.
+//!
+//! Contracts compare what a `Vec`, a `String` or a `Box` holds, not where it holds it. Each type here is one of
+//! these, seen as its contents alone; it is made from what it wraps, and gives it back, without taking memory.
+
+ghost use Rattle.std.specs.Prelude.{◌≡◌, ◌++◌, ◌∷◌, [], List, ℕ, OnOk, OnErr, string_bytes, length};
+
+use std::alloc::{AllocError, Global};
+use std::marker::Model;
+
+/// A `Vec`, seen as the list of its items.
+#[derive(Drop)]
+pub struct Items<T> {
+    items: Vec<T>,
+}
+
+impl<T> Model for Items<T> {
+    ghost Value = { List T };
+
+    ghost view = { λ a. a.items.items };
+}
+
+impl<T> Items<T> {
+    /// No items. Takes no memory.
+    pub fn new(alloc: Global) -> Self
+        ensures { result ≡ [] }
+    {
+        Items {
+            items: Vec::new(alloc),
+        }
+    }
+
+    /// The items of a `Vec`. Takes no memory.
+    pub fn from_vec(items: Vec<T>) -> Self
+        ensures { result ≡ items.items }
+    {
+        Items { items }
+    }
+
+    /// The `Vec` of these items. Takes no memory.
+    pub fn into_vec(self) -> Vec<T>
+        ensures { result.items ≡ self }
+    {
+        let Items { items } = self;
+        items
+    }
+
+    /// The items.
+    pub fn as_slice(&self) -> &[T]
+        ensures { result.now ≡ self.now }
+    {
+        self.items.as_slice()
+    }
+}
+
+impl<T: Drop> Items<T> {
+    /// Puts an item at the end. Where memory is refused the items stay as they were.
+    pub fn push(&mut self, item: T) -> Result<(), AllocError>
+        ensures ok { OnOk result (self.new ≡ self.old ++ item ∷ []) }
+        ensures err { OnErr result (self.new ≡ self.old) }
+    {
+        self.items.push(item)?;
+        Ok(())
+    }
+}
+
+/// A `String`, seen as its bytes.
+#[derive(Drop)]
+pub struct OwnedText {
+    text: String,
+}
+
+impl Model for OwnedText {
+    ghost Value = { List ℕ };
+
+    ghost view = { λ a. string_bytes a.text };
+}
+
+impl OwnedText {
+    /// The text of a `String`. Takes no memory.
+    pub fn from_string(text: String) -> Self
+        ensures { result ≡ string_bytes text }
+    {
+        OwnedText { text }
+    }
+
+    /// The `String` of this text. Takes no memory.
+    pub fn into_string(self) -> String
+        ensures { string_bytes result ≡ self }
+    {
+        let OwnedText { text } = self;
+        text
+    }
+
+    /// The text.
+    pub fn as_str(&self) -> &str
+        ensures { result.now ≡ self.now }
+    {
+        self.text.as_str()
+    }
+}
+
+/// A `Box`, seen as what it holds.
+#[derive(Drop)]
+pub struct Boxed<T> {
+    item: Box<T>,
+}
+
+impl<T> Model for Boxed<T> {
+    ghost Value = { T };
+
+    ghost view = { λ a. a.item.value };
+}
+
+impl<T> Boxed<T> {
+    /// What a box holds. Takes no memory.
+    pub fn from_box(item: Box<T>) -> Self
+        ensures { result ≡ item.value }
+    {
+        Boxed { item }
+    }
+
+    /// The box of it. Takes no memory.
+    pub fn into_box(self) -> Box<T>
+        ensures { result.value ≡ self }
+    {
+        let Boxed { item } = self;
+        item
+    }
+
+    /// What it holds.
+    pub fn as_ref(&self) -> &T
+        ensures { result.now ≡ self.now }
+    {
+        &self.item
+    }
+}
