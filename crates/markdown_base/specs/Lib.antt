@@ -1,2 +1,4 @@
 pub mod EventNames
+pub mod Places
 pub mod Presets
+pub mod Virtual
