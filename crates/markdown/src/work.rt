@@ -18,8 +18,7 @@ use std::alloc::{AllocError, Global};
 /// A lawful machine reads each text in one way, within its cost.
 pub fn reads_in_one_way<M: Machine>()
     ensures { (m : _) (g : _) → HasOneEnd g (M.step m g) (M.holds m g) (M.cost m g) (M.reserve m g) }
-{
-}
+{}
 
 /// Whether a state ends a choice, and how.
 fn ending(state: &State) -> Option<bool>
@@ -55,7 +54,6 @@ impl<'a, M: Machine> Tokenizer<'a, M> {
 
     /// Choices end, as long as the state says so.
     fn settle(&mut self, state: State) -> State
-        requires { IsText self.old.given self.old.text }
         ensures same { OnlyWorked self.old self.new }
         ensures waits { self.new.configuration.waiting ≡ End → self.old.configuration.waiting ≡ End }
         ensures leads { (text : _) → IsText self.old.given text → M.holds self.old.machine self.old.given text self.old.configuration self.old.choices state → LeadsOn self.old.given (M.step self.old.machine self.old.given) (M.holds self.old.machine self.old.given) (M.cost self.old.machine self.old.given) (M.reserve self.old.machine self.old.given) text self.old state self.new result }
@@ -130,7 +128,10 @@ impl<'a, M: Machine> Tokenizer<'a, M> {
         self.tells();
         self.extend(from, to);
         match self.work(alloc, false, state) {
-            Ok(answer) => Ok(answer),
+            Ok(answer) => {
+                self.tells();
+                Ok(answer)
+            }
             Err(_) => {
                 self.close();
                 Err(Fault::Memory)
@@ -172,7 +173,10 @@ impl<'a, M: Machine> Tokenizer<'a, M> {
                 State::Next(_) => unreachable!(),
                 State::Retry(_) => unreachable!(),
             },
-            Err(_) => Err(Fault::Memory),
+            Err(_) => {
+                self.close();
+                Err(Fault::Memory)
+            }
         }
     }
 }
