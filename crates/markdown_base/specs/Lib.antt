@@ -1,2 +1,4 @@
 pub mod EventNames
 pub mod Presets
+pub mod Shown
+pub mod States

@@ -3,9 +3,12 @@
 //! Contracts compare what a `Vec`, a `String` or a `Box` holds, not where it holds it. Each type here is one of
 //! these, seen as its contents alone; it is made from what it wraps, and gives it back, without taking memory.
 
-ghost use Rattle.std.specs.Prelude.{◌≡◌, ◌++◌, ◌∷◌, [], List, ℕ, OnOk, OnErr, string_bytes, length};
+ghost use Rattle.std.specs.Prelude.{◌≡◌, ◌++◌, ◌∷◌, [], List, ℕ, IfOk, OnOk, OnErr, bytes_eq, string_bytes, length};
+ghost use Rattle.std.specs.Cmp.{partial_equiv_from_equiv};
+ghost use Rattle.std.specs.Cmp.Lexicographic.{pointwise, lists_per, lists_equiv, nat_list_eq_equiv};
 
 use std::alloc::{AllocError, Global};
+use std::fmt;
 use std::marker::Model;
 
 /// A `Vec`, seen as the list of its items.
@@ -64,6 +67,26 @@ impl<T: Drop> Items<T> {
     }
 }
 
+impl<T: PartialEq> PartialEq for Items<T> {
+    ghost eq = { pointwise T.eq };
+
+    ghost laws = { lists_per T.laws };
+
+    fn eq(&self, other: &Self) -> bool {
+        self.items == other.items
+    }
+}
+
+impl<T: Eq> Eq for Items<T> {
+    ghost laws = { lists_equiv T.Eq.laws };
+}
+
+impl<T: fmt::Debug> fmt::Debug for Items<T> {
+    fn fmt<W: fmt::Write>(&self, f: &mut fmt::Formatter<W>) -> fmt::Result {
+        fmt::Debug::fmt(&self.items, f)
+    }
+}
+
 /// A `String`, seen as its bytes.
 #[derive(Drop)]
 pub struct OwnedText {
@@ -100,6 +123,37 @@ impl OwnedText {
     }
 }
 
+impl OwnedText {
+    /// The same text, in memory of its own.
+    pub fn try_clone(&self, alloc: Global) -> Result<Self, AllocError>
+        ensures { IfOk result (λ copy. copy ≡ self.now) }
+    {
+        Ok(OwnedText {
+            text: String::from_str(alloc, self.text.as_str())?,
+        })
+    }
+}
+
+impl PartialEq for OwnedText {
+    ghost eq = { bytes_eq };
+
+    ghost laws = { partial_equiv_from_equiv nat_list_eq_equiv };
+
+    fn eq(&self, other: &Self) -> bool {
+        self.text.as_str() == other.text.as_str()
+    }
+}
+
+impl Eq for OwnedText {
+    ghost laws = { nat_list_eq_equiv };
+}
+
+impl fmt::Debug for OwnedText {
+    fn fmt<W: fmt::Write>(&self, f: &mut fmt::Formatter<W>) -> fmt::Result {
+        fmt::Debug::fmt(&self.text, f)
+    }
+}
+
 /// A `Box`, seen as what it holds.
 #[derive(Drop)]
 pub struct Boxed<T> {
@@ -133,5 +187,25 @@ impl<T> Boxed<T> {
         ensures { result.now ≡ self.now }
     {
         &self.item
+    }
+}
+
+impl<T: PartialEq> PartialEq for Boxed<T> {
+    ghost eq = { T.eq };
+
+    ghost laws = { T.laws };
+
+    fn eq(&self, other: &Self) -> bool {
+        self.item == other.item
+    }
+}
+
+impl<T: Eq> Eq for Boxed<T> {
+    ghost laws = { T.Eq.laws };
+}
+
+impl<T: fmt::Debug> fmt::Debug for Boxed<T> {
+    fn fmt<W: fmt::Write>(&self, f: &mut fmt::Formatter<W>) -> fmt::Result {
+        fmt::Debug::fmt(&self.item, f)
     }
 }

@@ -3,7 +3,11 @@
 //! A state is named by the construct that it reads and by the place in it. A machine's `call` runs the
 //! state of a name and answers a [`State`].
 
+ghost use Rattle.std.specs.Prelude.{◌≡◌, ◌↔◌, IfOk};
+ghost use Rattle.markdown_base.specs.States.{IsOkOrError};
+
 use crate::message::Message;
+use std::alloc::{AllocError, Global};
 
 /// The name of a state.
 ///
@@ -652,7 +656,7 @@ impl Name {
 }
 
 /// What a state answers.
-#[derive(Drop)]
+#[derive(Debug, PartialEq, Eq, Drop)]
 pub enum State {
     /// The document is refused, with this message.
     Error(Message),
@@ -664,4 +668,34 @@ pub enum State {
     Ok,
     /// The construct is not there.
     Nok,
+}
+
+impl State {
+    /// Nothing for `Ok`, the message for `Error`. Takes no memory.
+    ///
+    /// The state must be one of these two.
+    pub fn to_result(self) -> Result<(), Message>
+        requires { IsOkOrError self }
+        ensures ok { (result ≡ Ok tt) ↔ (self ≡ State.Ok) }
+        ensures err { (m : _) → (result ≡ Err m) ↔ (self ≡ State.Error m) }
+    {
+        match self {
+            State::Ok => Ok(()),
+            State::Error(message) => Err(message),
+            State::Next(_) | State::Retry(_) | State::Nok => unreachable!(),
+        }
+    }
+
+    /// The same state, in memory of its own.
+    pub fn try_clone(&self, alloc: Global) -> Result<State, AllocError>
+        ensures { IfOk result (λ copy. copy ≡ self.now) }
+    {
+        match self {
+            State::Error(message) => Ok(State::Error(message.try_clone(alloc)?)),
+            State::Next(name) => Ok(State::Next(*name)),
+            State::Retry(name) => Ok(State::Retry(*name)),
+            State::Ok => Ok(State::Ok),
+            State::Nok => Ok(State::Nok),
+        }
+    }
 }

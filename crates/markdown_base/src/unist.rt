@@ -1,6 +1,7 @@
 //! Points and positions of [unist](https://github.com/syntax-tree/unist), the syntax tree format.
 
-ghost use Rattle.std.specs.Prelude.{◌≡◌};
+ghost use Rattle.std.specs.Prelude.{◌≡◌, Some};
+ghost use Rattle.markdown_base.specs.Shown.{point_debug_text, position_debug_text};
 
 use std::fmt;
 
@@ -58,12 +59,16 @@ impl Position {
 }
 
 impl fmt::Debug for Point {
+    ghost debug_output = { λ p. Some (point_debug_text p) };
+
     fn fmt<W: fmt::Write>(&self, f: &mut fmt::Formatter<W>) -> fmt::Result {
         write!(f, "{}:{} ({})", self.line, self.column, self.offset)
     }
 }
 
 impl fmt::Debug for Position {
+    ghost debug_output = { λ p. Some (position_debug_text p) };
+
     fn fmt<W: fmt::Write>(&self, f: &mut fmt::Formatter<W>) -> fmt::Result {
         write!(
             f,
