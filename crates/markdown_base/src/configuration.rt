@@ -1,4 +1,12 @@
-//! Options: which constructs a document may use, and how they are read.
+//! Options: which constructs a document may use, how they are read, and how HTML is made of them.
+
+ghost use Rattle.std.specs.Prelude.{◌≡◌, IfOk};
+ghost use Rattle.markdown_base.specs.Presets.{gfm_constructs, mdx_constructs, gfm_parse_options, mdx_parse_options};
+ghost use Rattle.markdown_base.specs.Presets.{gfm_compile_options, gfm_options};
+
+use crate::owned::OwnedText;
+use crate::util::line_ending::LineEnding;
+use std::alloc::{AllocError, Global};
 
 /// Which constructs are on.
 #[derive(Clone, Copy, Debug, PartialEq, Eq)]
@@ -120,6 +128,42 @@ impl Default for Constructs {
     }
 }
 
+impl Constructs {
+    /// The constructs of GitHub flavored Markdown: those of CommonMark, and the six that GFM adds.
+    pub fn gfm() -> Self
+        ensures { result ≡ gfm_constructs }
+    {
+        Constructs {
+            gfm_autolink_literal: true,
+            gfm_footnote_definition: true,
+            gfm_label_start_footnote: true,
+            gfm_strikethrough: true,
+            gfm_table: true,
+            gfm_task_list_item: true,
+            ..Constructs::default()
+        }
+    }
+
+    /// The constructs of MDX: those of CommonMark without autolinks, indented code and HTML, and the five that
+    /// MDX adds.
+    pub fn mdx() -> Self
+        ensures { result ≡ mdx_constructs }
+    {
+        Constructs {
+            autolink: false,
+            code_indented: false,
+            html_flow: false,
+            html_text: false,
+            mdx_esm: true,
+            mdx_expression_flow: true,
+            mdx_expression_text: true,
+            mdx_jsx_flow: true,
+            mdx_jsx_text: true,
+            ..Constructs::default()
+        }
+    }
+}
+
 /// How a document is read.
 #[derive(Clone, Copy, Debug, PartialEq, Eq)]
 pub struct ParseOptions {
@@ -143,6 +187,156 @@ impl Default for ParseOptions {
             constructs: Constructs::default(),
             gfm_strikethrough_single_tilde: true,
             math_text_single_dollar: true,
+        }
+    }
+}
+
+impl ParseOptions {
+    /// The options of GitHub flavored Markdown.
+    pub fn gfm() -> Self
+        ensures { result ≡ gfm_parse_options }
+    {
+        ParseOptions {
+            constructs: Constructs::gfm(),
+            ..ParseOptions::default()
+        }
+    }
+
+    /// The options of MDX.
+    pub fn mdx() -> Self
+        ensures { result ≡ mdx_parse_options }
+    {
+        ParseOptions {
+            constructs: Constructs::mdx(),
+            ..ParseOptions::default()
+        }
+    }
+}
+
+/// How HTML is made of a document.
+#[derive(Debug, Drop)]
+pub struct CompileOptions {
+    /// Whether images may have any address, whatever its protocol.
+    pub allow_any_img_src: bool,
+    /// Whether HTML in the document is kept as HTML. Where it is not, it is shown as text.
+    pub allow_dangerous_html: bool,
+    /// Whether links and images may have addresses of any protocol.
+    pub allow_dangerous_protocol: bool,
+    /// The line ending to write where the document gives none.
+    pub default_line_ending: LineEnding,
+    /// What the link back from a footnote is called; `Back to content` where none is given.
+    pub gfm_footnote_back_label: Option<OwnedText>,
+    /// What stands before the `id` of a footnote; `user-content-` where none is given.
+    pub gfm_footnote_clobber_prefix: Option<OwnedText>,
+    /// The attributes of the heading of footnotes; `class="sr-only"` where none are given.
+    pub gfm_footnote_label_attributes: Option<OwnedText>,
+    /// The name of the element that is the heading of footnotes; `h2` where none is given.
+    pub gfm_footnote_label_tag_name: Option<OwnedText>,
+    /// The heading of footnotes; `Footnotes` where none is given.
+    pub gfm_footnote_label: Option<OwnedText>,
+    /// Whether a reader may tick the boxes of task list items.
+    pub gfm_task_list_item_checkable: bool,
+    /// Whether GFM's filter of tags is applied, where HTML is kept.
+    pub gfm_tagfilter: bool,
+}
+
+impl Default for CompileOptions {
+    ghost use Rattle.std.specs.Prelude.{◌≡◌};
+    ghost use Rattle.markdown_base.specs.Presets.{default_compile_options};
+
+    ghost is_default = { λ x. x ≡ default_compile_options };
+
+    /// Safe HTML, with labels in English.
+    fn default() -> Self {
+        CompileOptions {
+            allow_any_img_src: false,
+            allow_dangerous_html: false,
+            allow_dangerous_protocol: false,
+            default_line_ending: LineEnding::default(),
+            gfm_footnote_back_label: None,
+            gfm_footnote_clobber_prefix: None,
+            gfm_footnote_label_attributes: None,
+            gfm_footnote_label_tag_name: None,
+            gfm_footnote_label: None,
+            gfm_task_list_item_checkable: false,
+            gfm_tagfilter: false,
+        }
+    }
+}
+
+impl CompileOptions {
+    /// The defaults, with GFM's filter of tags.
+    pub fn gfm() -> Self
+        ensures { result ≡ gfm_compile_options }
+    {
+        CompileOptions {
+            gfm_tagfilter: true,
+            ..CompileOptions::default()
+        }
+    }
+
+    /// The same options, in memory of their own.
+    pub fn try_clone(&self, alloc: Global) -> Result<CompileOptions, AllocError>
+        ensures { IfOk result (λ copy. copy ≡ self.now) }
+    {
+        Ok(CompileOptions {
+            allow_any_img_src: self.allow_any_img_src,
+            allow_dangerous_html: self.allow_dangerous_html,
+            allow_dangerous_protocol: self.allow_dangerous_protocol,
+            default_line_ending: self.default_line_ending,
+            gfm_footnote_back_label: given_text(&self.gfm_footnote_back_label, alloc)?,
+            gfm_footnote_clobber_prefix: given_text(&self.gfm_footnote_clobber_prefix, alloc)?,
+            gfm_footnote_label_attributes: given_text(&self.gfm_footnote_label_attributes, alloc)?,
+            gfm_footnote_label_tag_name: given_text(&self.gfm_footnote_label_tag_name, alloc)?,
+            gfm_footnote_label: given_text(&self.gfm_footnote_label, alloc)?,
+            gfm_task_list_item_checkable: self.gfm_task_list_item_checkable,
+            gfm_tagfilter: self.gfm_tagfilter,
+        })
+    }
+}
+
+/// A text, if it is given, in memory of its own.
+fn given_text(text: &Option<OwnedText>, alloc: Global) -> Result<Option<OwnedText>, AllocError>
+    ensures { IfOk result (λ copy. copy ≡ text.now) }
+{
+    match text {
+        Some(text) => Ok(Some(text.try_clone(alloc)?)),
+        None => Ok(None),
+    }
+}
+
+/// How a document is read, and how HTML is made of it.
+#[derive(Debug, Drop)]
+pub struct Options {
+    /// How the document is read.
+    pub parse: ParseOptions,
+    /// How HTML is made of it.
+    pub compile: CompileOptions,
+}
+
+impl Default for Options {
+    ghost use Rattle.std.specs.Prelude.{◌≡◌};
+    ghost use Rattle.markdown_base.specs.Presets.{default_options};
+
+    ghost is_default = { λ x. x ≡ default_options };
+
+    /// CommonMark, made into safe HTML.
+    fn default() -> Self {
+        Options {
+            parse: ParseOptions::default(),
+            compile: CompileOptions::default(),
+        }
+    }
+}
+
+impl Options {
+    /// GitHub flavored Markdown, made into safe HTML.
+    pub fn gfm() -> Self
+        ensures { result ≡ gfm_options }
+    {
+        Options {
+            parse: ParseOptions::gfm(),
+            compile: CompileOptions::gfm(),
         }
     }
 }
