@@ -102,3 +102,55 @@ impl fmt::Display for Place {
         }
     }
 }
+
+#[cfg(test)]
+mod tests {
+    use super::*;
+    use std::test::Fail;
+
+    /// A text in a box.
+    fn boxed_text(text: &str, alloc: Global) -> Result<Boxed<OwnedText>, AllocError> {
+        let text = OwnedText::from_string(String::from_str(alloc, text)?);
+        Ok(Boxed::from_box(Box::new(alloc, text)?))
+    }
+
+    /// A message of the rule `r` of `markdown`, with the reason `x`.
+    fn message(place: Option<Place>, alloc: Global) -> Result<Message, AllocError> {
+        let place = match place {
+            Some(place) => Some(Boxed::from_box(Box::new(alloc, place)?)),
+            None => None,
+        };
+        Ok(Message {
+            place,
+            reason: OwnedText::from_string(String::from_str(alloc, "x")?),
+            rule_id: boxed_text("r", alloc)?,
+            source: boxed_text("markdown", alloc)?,
+        })
+    }
+
+    #[test]
+    fn shows_messages(rt: HostRuntime) -> Result<(), Fail> {
+        let point = Place::Point(Point::new(1, 2, 1));
+        let position = Place::Position(Position::new(1, 1, 0, 2, 3, 5));
+        for (place, want) in [
+            (Some(point), "1:2: x (markdown:r)"),
+            (Some(position), "1:1-2:3: x (markdown:r)"),
+            (None, "x (markdown:r)"),
+        ] {
+            let shown = format!(in rt.alloc(); "{}", message(place, rt.alloc())?)?;
+            assert_eq!(rt; shown.as_str(), want);
+        }
+        Ok(())
+    }
+
+    #[test]
+    fn clones_are_equal(rt: HostRuntime) -> Result<(), Fail> {
+        let point = message(Some(Place::Point(Point::new(1, 2, 1))), rt.alloc())?;
+        let copy = point.try_clone(rt.alloc())?;
+        assert!(rt; copy == point);
+        let shown = format!(in rt.alloc(); "{copy}")?;
+        assert_eq!(rt; shown.as_str(), "1:2: x (markdown:r)");
+        assert!(rt; copy != message(None, rt.alloc())?);
+        Ok(())
+    }
+}

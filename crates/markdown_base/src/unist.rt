@@ -82,3 +82,18 @@ impl fmt::Debug for Position {
         )
     }
 }
+
+#[cfg(test)]
+mod tests {
+    use super::*;
+    use std::test::Fail;
+
+    #[test]
+    fn shows_points_and_positions(rt: HostRuntime) -> Result<(), Fail> {
+        let point = format!(in rt.alloc(); "{:?}", Point::new(1, 1, 0))?;
+        assert_eq!(rt; point.as_str(), "1:1 (0)");
+        let position = format!(in rt.alloc(); "{:?}", Position::new(1, 1, 0, 1, 3, 2))?;
+        assert_eq!(rt; position.as_str(), "1:1-1:3 (0-2)");
+        Ok(())
+    }
+}
