@@ -129,7 +129,7 @@ impl OwnedText {
         ensures { IfOk result (λ copy. copy ≡ self.now) }
     {
         Ok(OwnedText {
-            text: String::from_str(alloc, self.text.as_str())?,
+            text: String::from_str(alloc, self.as_str())?,
         })
     }
 }
@@ -140,7 +140,7 @@ impl PartialEq for OwnedText {
     ghost laws = { partial_equiv_from_equiv nat_list_eq_equiv };
 
     fn eq(&self, other: &Self) -> bool {
-        self.text.as_str() == other.text.as_str()
+        self.as_str() == other.as_str()
     }
 }
 

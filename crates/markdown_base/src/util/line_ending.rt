@@ -22,7 +22,7 @@ impl Default for LineEnding {
 
     /// Line feed.
     fn default() -> Self {
-        LineEnding::LineFeed
+        Self::LineFeed
     }
 }
 
