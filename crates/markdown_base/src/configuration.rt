@@ -11,73 +11,73 @@ use std::alloc::{AllocError, Global};
 /// Which constructs are on.
 #[derive(Clone, Copy, Debug, PartialEq, Eq)]
 pub struct Constructs {
-    /// Attention.
+    /// Emphasis and strong emphasis.
     pub attention: bool,
-    /// Autolink.
+    /// Autolinks, `<https://example.com>`.
     pub autolink: bool,
-    /// Block quote.
+    /// Block quotes, `> a`.
     pub block_quote: bool,
-    /// Character escape.
+    /// Character escapes, `\*`.
     pub character_escape: bool,
-    /// Character reference.
+    /// Character references, `&amp;`.
     pub character_reference: bool,
-    /// Code indented.
+    /// Indented code.
     pub code_indented: bool,
-    /// Code fenced.
+    /// Fenced code.
     pub code_fenced: bool,
-    /// Code text.
+    /// Code spans.
     pub code_text: bool,
-    /// Definition.
+    /// Link reference definitions.
     pub definition: bool,
-    /// Frontmatter.
+    /// Frontmatter at the start of a document; no part of CommonMark.
     pub frontmatter: bool,
-    /// GFM autolink literal.
+    /// GFM: links with no markers, `https://example.com`.
     pub gfm_autolink_literal: bool,
-    /// GFM footnote definition.
+    /// GFM: footnote definitions, `[^a]: b`.
     pub gfm_footnote_definition: bool,
-    /// GFM label start footnote.
+    /// GFM: calls of footnotes, `[^a]`.
     pub gfm_label_start_footnote: bool,
-    /// GFM strikethrough.
+    /// GFM: strikethrough, `~~a~~`.
     pub gfm_strikethrough: bool,
-    /// GFM table.
+    /// GFM: tables.
     pub gfm_table: bool,
-    /// GFM task list item.
+    /// GFM: checks of list items, `[x]`.
     pub gfm_task_list_item: bool,
-    /// Hard break escape.
+    /// Hard breaks by a backslash.
     pub hard_break_escape: bool,
-    /// Hard break trailing.
+    /// Hard breaks by trailing spaces.
     pub hard_break_trailing: bool,
-    /// Heading atx.
+    /// Headings that begin with `#`.
     pub heading_atx: bool,
-    /// Heading setext.
+    /// Headings that are underlined.
     pub heading_setext: bool,
-    /// HTML flow.
+    /// Blocks of HTML.
     pub html_flow: bool,
-    /// HTML text.
+    /// HTML within text.
     pub html_text: bool,
-    /// Label start image.
+    /// Starts of image labels, `![`.
     pub label_start_image: bool,
-    /// Label start link.
+    /// Starts of link labels, `[`.
     pub label_start_link: bool,
-    /// Label end.
+    /// Ends of labels, with what follows them.
     pub label_end: bool,
-    /// List item.
+    /// List items.
     pub list_item: bool,
-    /// Math flow.
+    /// Blocks of math; no part of CommonMark.
     pub math_flow: bool,
-    /// Math text.
+    /// Math within text; no part of CommonMark.
     pub math_text: bool,
-    /// MDX esm.
+    /// MDX: imports and exports.
     pub mdx_esm: bool,
-    /// MDX expression flow.
+    /// MDX: expressions as blocks.
     pub mdx_expression_flow: bool,
-    /// MDX expression text.
+    /// MDX: expressions within text.
     pub mdx_expression_text: bool,
-    /// MDX jsx flow.
+    /// MDX: JSX as blocks.
     pub mdx_jsx_flow: bool,
-    /// MDX jsx text.
+    /// MDX: JSX within text.
     pub mdx_jsx_text: bool,
-    /// Thematic break.
+    /// Thematic breaks, `***`.
     pub thematic_break: bool,
 }
 

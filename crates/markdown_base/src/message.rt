@@ -82,9 +82,9 @@ fn write_prefix<W: fmt::Write>(
 /// Somewhere in a document: shown as `line:column`, or as two of these with `-` between.
 #[derive(Clone, Copy, Debug, PartialEq, Eq)]
 pub enum Place {
-    /// Between two points.
+    /// From one point to another.
     Position(Position),
-    /// At a point.
+    /// At one point.
     Point(Point),
 }
 

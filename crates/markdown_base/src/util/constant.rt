@@ -1,6 +1,6 @@
 //! Numbers and names that the constructs are bound by.
 //!
-//! Each stands in CommonMark, in GFM or in HTML, or caps what would otherwise grow without bound.
+//! Where CommonMark or GFM gives one, its section is named.
 
 /// How many characters the scheme of an autolink may have at most: CommonMark, "Autolinks".
 pub const AUTOLINK_SCHEME_SIZE_MAX: usize = 32;
