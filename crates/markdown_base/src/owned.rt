@@ -210,6 +210,34 @@ impl<T: fmt::Debug> fmt::Debug for Boxed<T> {
     }
 }
 
+/// Bytes of the program itself, seen as their list.
+#[derive(Drop)]
+pub struct StaticBytes {
+    bytes: &'static [u8],
+}
+
+impl Model for StaticBytes {
+    ghost Value = { List ℕ };
+
+    ghost view = { λ a. a.bytes.now };
+}
+
+impl StaticBytes {
+    /// These bytes.
+    pub fn new(bytes: &'static [u8]) -> Self
+        ensures { result ≡ bytes.now }
+    {
+        StaticBytes { bytes }
+    }
+
+    /// The bytes.
+    pub fn as_slice(&self) -> &'static [u8]
+        ensures { result.now ≡ self.now }
+    {
+        self.bytes
+    }
+}
+
 #[cfg(test)]
 mod tests {
     use super::*;
@@ -247,5 +275,10 @@ mod tests {
         assert!(rt; boxed == Boxed::from_box(Box::new(rt.alloc(), 7)?));
         assert_eq!(rt; Box::into_inner(boxed.into_box()), 7);
         Ok(())
+    }
+
+    #[test]
+    fn bytes_of_the_program_are_kept(rt: HostRuntime) {
+        assert_eq!(rt; StaticBytes::new(b"*_~").as_slice(), b"*_~".as_slice());
     }
 }
