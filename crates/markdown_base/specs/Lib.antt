@@ -1,2 +1,3 @@
 pub mod EventNames
+pub mod Events
 pub mod Presets

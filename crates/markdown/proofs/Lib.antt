@@ -1,0 +1,9 @@
+pub mod Common
+pub mod Order
+pub mod Passes
+pub mod Places
+pub mod Puts
+pub mod Splices
+pub mod StoredLemmas
+pub mod Turns
+pub mod Links

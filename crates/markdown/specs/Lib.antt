@@ -1,0 +1,6 @@
+pub mod Edited
+pub mod Edits
+pub mod Links
+pub mod Spliced
+pub mod Stored
+pub mod Woven
