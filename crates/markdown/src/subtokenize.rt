@@ -5,6 +5,9 @@
 ghost use Rattle.std.specs.Prelude.{◌≡◌, ◌-◌, ◌≤◌};
 ghost use Rattle.markdown.specs.Links.{CanLink, linked_to, with_next, with_previous};
 
+#[cfg(test)]
+mod tests;
+
 use markdown_base::event::Event;
 
 /// Links an event to the one two places before it, as [`link_to`] does from `index - 2` to `index`.

@@ -8,6 +8,9 @@ ghost use Rattle.markdown_base.specs.Events.{EndsBelow};
 ghost use Rattle.markdown.specs.Edits.{edit_at, is_no_edit, added_after, added_before, removal_at, AreDisjoint};
 ghost use Rattle.markdown.specs.Edited.{edited};
 
+#[cfg(test)]
+mod tests;
+
 use crate::util::splice::spliced_events;
 use crate::util::stored::{Stored, position_of};
 use markdown_base::event::Event;
