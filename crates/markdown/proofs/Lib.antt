@@ -1,9 +1,10 @@
 pub mod Common
+pub mod Links
 pub mod Order
 pub mod Passes
 pub mod Places
 pub mod Puts
 pub mod Splices
 pub mod StoredLemmas
+pub mod Survivors
 pub mod Turns
-pub mod Links

@@ -1,5 +1,6 @@
 -- Where the events of a list stand after disjoint changes.
 use Rattle.std.proofs.Common.{◌≡◌, ℕ, suc, ◌+◌, ◌-◌, ◌<◌, ◌≤◌, Bool, true, false, cond, eqb, ltb, List, [], ◌∷◌, ◌++◌, length, take, drop, Option, Some, None, refl, sym, ap, subst, ⊎_elim, arith, length-drop}
+use Rattle.std.specs.List.{AllByRecursion}
 use Rattle.std.specs.Option.{option_map}
 use Rattle.std.proofs.lemmas.Bool.{ne_eqb, eq-eqb, lt-ltb, le-ltb, cases_lt, cases_eq}
 use Rattle.std.proofs.lemmas.List.{length-take-le}
@@ -32,8 +33,7 @@ length-olds i (x ∷ xs) = ap suc (length-olds (i + 1) xs)
 
 -- no event with the identity comes
 abbrev pub HasNo : Identity → List Change → Type 0
-HasNo b [] = Unit {0}
-HasNo b (w ∷ ws) = (place_of b w.events ≡ None) × HasNo b ws
+HasNo b ws = AllByRecursion (λ w. place_of b w.events ≡ None) ws
 
 -- where the event at n comes to stand, by prefix sums
 abbrev pub old_place : List Change → ℕ → ℕ → ℕ → Option ℕ

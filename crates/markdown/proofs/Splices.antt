@@ -3,13 +3,14 @@ use Rattle.std.proofs.Common.{◌≡◌, ℕ, ◌+◌, ◌-◌, ◌<◌, cond, l
 use Rattle.std.specs.Option.{option_map, option_and_then, IfSome}
 use Rattle.std.specs.List.{All}
 use Rattle.std.proofs.lemmas.List.{map-append, length-map}
-use Rattle.std.proofs.lemmas.List.Elements.{All-head, All-tail, All-take, All-drop}
+use Rattle.std.proofs.lemmas.List.Elements.{All-head, All-tail, All-take, All-drop, All-from_recursion}
 use Rattle.markdown_base.specs.declared.event.Event.{Event}
 use Rattle.markdown_base.specs.declared.event.Link.{Link}
 use Rattle.markdown_base.specs.Events.{relinked, with_ends, EndsBelow, EachEnd}
 use Rattle.markdown.specs.Edits.{Edit, AreDisjoint}
 use Rattle.markdown.specs.Edited.{as_addition, as_change, edited}
-use Rattle.markdown.specs.Woven.{of_list, Tagged, place_of, end_place, woven, settled_in}
+use Rattle.markdown.specs.Woven.{Change, of_list, Tagged, place_of, end_place, woven, settled_in}
+use Rattle.markdown.specs.Survivors.{AreNew}
 use Rattle.markdown.specs.Spliced.{place_from, moved, spliced}
 use Rattle.markdown.proofs.Passes.{olds, pass, AreApart, woven-pass}
 use Rattle.markdown.proofs.Places.{HasNo, old_place, old_place-pass}
@@ -27,6 +28,9 @@ place_of-additions n (x ∷ xs) = rw (place_of-additions n xs) refl
 HasNo-edits : (n : ℕ) (es : List Edit) → HasNo (of_list n) (map as_change es)
 HasNo-edits n [] = tt
 HasNo-edits n (e ∷ es) = (place_of-additions n e.additions, HasNo-edits n es)
+
+pub AreNew-edits : (es : List Edit) → AreNew (map as_change es)
+AreNew-edits es n = All-from_recursion (λ (w : Change). place_of (of_list n) w.events ≡ None) (map as_change es) (HasNo-edits n es)
 
 old_place-edits : (es : List Edit) (removed added n : ℕ) → old_place (map as_change es) removed added n ≡ place_from es removed added n
 old_place-edits [] removed added n = refl

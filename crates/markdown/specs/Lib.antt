@@ -3,4 +3,5 @@ pub mod Edits
 pub mod Links
 pub mod Spliced
 pub mod Stored
+pub mod Survivors
 pub mod Woven

@@ -1,5 +1,5 @@
 -- Links between the events of a list.
-use Rattle.std.specs.Prelude.{◌≡◌, ℕ, zero, suc, ◌+◌, ◌<◌, true, List, [], ◌∷◌, length, Option, Some, IsSome, option_map, slice_index_or}
+use Rattle.std.specs.Prelude.{◌≡◌, ℕ, zero, suc, ◌+◌, ◌<◌, true, List, [], ◌∷◌, length, Option, Some, IsSome, option_map, option_and_then, slice_get, slice_index_or}
 use Rattle.markdown_base.specs.declared.event.Event.{Event}
 use Rattle.markdown_base.specs.declared.event.Link.{Link}
 use Rattle.markdown_base.specs.declared.event.Content.{Content}
@@ -54,3 +54,15 @@ updated_at (suc i) f (e ∷ es) = e ∷ updated_at i f es
 -- the list with its events at `previous` and `next` made neighbours in a chain
 abbrev pub linked_to : ℕ → ℕ → List Event → List Event
 linked_to previous next events = updated_at next (with_previous previous) (updated_at previous (with_next next) events)
+
+-- where the link of the event at an index leads on, if it does
+abbrev pub next_of : List Event → ℕ → Option ℕ
+next_of events i = option_and_then (λ (e : Event). option_and_then (λ (l : Link). l.next) e.link) (slice_get events i)
+
+-- where the link of the event at an index leads back, if it does
+abbrev pub previous_of : List Event → ℕ → Option ℕ
+previous_of events i = option_and_then (λ (e : Event). option_and_then (λ (l : Link). l.previous) e.link) (slice_get events i)
+
+-- two events are neighbours in a chain: the first one's link leads on to the second, and the second one's back to the first
+abbrev pub AreNeighbours : List Event → ℕ → ℕ → Type 0
+AreNeighbours events i j = (next_of events i ≡ Some j) × (previous_of events j ≡ Some i)

@@ -8,6 +8,7 @@ ghost use Rattle.markdown_base.specs.Events.{EndsBelow};
 ghost use Rattle.markdown.specs.Edits.{edit_at, is_no_edit, added_after, added_before, removal_at, AreDisjoint};
 ghost use Rattle.markdown.specs.Edited.{edited};
 
+pub mod laws;
 #[cfg(test)]
 mod tests;
 
