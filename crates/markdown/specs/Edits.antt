@@ -3,12 +3,13 @@ use Rattle.std.specs.Prelude.{ℕ, ◌+◌, ◌≤◌, Bool, ◌&&◌, ◌==◌,
 use Rattle.std.specs.Ordering.{match_ordering, nat_cmp}
 use Rattle.markdown_base.specs.declared.event.Event.{Event}
 
--- from an index on `remove` events go, and the additions come in their place
+-- from an index on `remove` events go, and the additions come in their place (the crate's comments on `EditMap`)
 pub record Edit : Type 0 where
   pub index : ℕ
   pub remove : ℕ
   pub additions : List Event
 
+-- the edit with these parts
 abbrev pub edit_at : ℕ → ℕ → List Event → Edit
 edit_at index remove additions = record { index = index; remove = remove; additions = additions }
 
@@ -20,7 +21,7 @@ is_no_edit d = (d.remove == 0) && (length d.additions == 0)
 abbrev pub merged : (List Event → List Event → List Event) → Edit → Edit → Edit
 merged f e d = edit_at e.index (e.remove + d.remove) (f e.additions d.additions)
 
--- the edits with one more, merged with the one at its index if there is one
+-- the edits with one more: merged with the one at its index, else in front of the first that lies behind it
 abbrev pub put_by : (List Event → List Event → List Event) → List Edit → Edit → List Edit
 put_by f [] d = d ∷ []
 put_by f (e ∷ es) d =

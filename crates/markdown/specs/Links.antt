@@ -22,7 +22,7 @@ abbrev pub content_of : Event → Option Content
 content_of e = option_map (λ (l : Link). l.content) e.link
 
 -- the event at `next` can follow the one at `previous` in a chain: both are linked enters of void spans, of one content,
--- and the first one's span ends directly behind it
+-- and the first one's span ends directly behind it (what the crate asserts in `link_to`, and that chains lead forward)
 pub record CanLink (events : List Event) (previous next : ℕ) : Type 0 where
   pub order : previous < next
   pub within : next < length events
@@ -31,9 +31,11 @@ pub record CanLink (events : List Event) (previous next : ℕ) : Type 0 where
   pub second : (d : Event) → IsLinkedEnter (slice_index_or events next d)
   pub one_content : (d : Event) → content_of (slice_index_or events previous d) ≡ content_of (slice_index_or events next d)
 
+-- the link with its next end set
 abbrev pub next_set : ℕ → Link → Link
 next_set n l = record l { next = Some n }
 
+-- the link with its previous end set
 abbrev pub previous_set : ℕ → Link → Link
 previous_set n l = record l { previous = Some n }
 

@@ -4,6 +4,7 @@ use Rattle.std.specs.List.{fold, AllByRecursion}
 use Rattle.markdown.specs.Edits.{Edit, put_after}
 use Rattle.markdown.specs.declared.util.stored.Stored.{Stored}
 
+-- the edit that is stored
 abbrev pub as_edit : Stored → Edit
 as_edit s = record { index = s.index; remove = s.remove; additions = s.additions.items }
 

@@ -1,5 +1,5 @@
 -- A list of events after changes, told by the identities of its events: a link end names an event, and its place is read
--- off the list that comes out.
+-- off the list that comes out (the crate's comments on `EditMap`: indices move, links stay).
 use Rattle.std.specs.Prelude.{ℕ, suc, ◌+◌, Bool, false, ◌&&◌, ◌==◌, nat_le, nat_lt, List, [], ◌∷◌, ◌++◌, map, Option, Some, None, option_map, if◌then◌else◌}
 use Rattle.std.specs.List.{list_any, flat_map}
 use Rattle.markdown_base.specs.declared.event.Event.{Event}
@@ -12,6 +12,7 @@ pub data Identity : Type 0 where
   of_child : ℕ → ℕ → Identity
   of_addition : Identity
 
+-- an event with its identity
 pub record Tagged : Type 0 where
   pub identity : Identity
   pub event : Event
@@ -59,6 +60,7 @@ events_at ws i = flat_map (λ w. if w.index == i then w.events else []) ws
 abbrev pub is_removed : List Change → ℕ → Bool
 is_removed ws i = list_any (λ w. nat_le w.index i && nat_lt i (w.index + w.remove)) ws
 
+-- an event of the list before
 abbrev pub as_listed : ℕ → Event → Tagged
 as_listed i e = record { identity = of_list i; event = e }
 
