@@ -1,3 +1,11 @@
+pub mod Text
+pub mod Configuration
+pub mod Sight
+pub mod Calls
+pub mod Reading
+pub mod Lawful
+pub mod Engine
+pub mod View
 pub mod Edited
 pub mod Edits
 pub mod Links

@@ -1,5 +1,12 @@
-//! The tokenizer engine: from bytes to events.
+//! The tokenizer engine: a machine of states reads a document, in ranges, and gives a list of events.
 #![tactic(auto)]
 
+pub mod count;
+pub mod parser;
+pub mod state;
 pub mod subtokenize;
+pub mod tokenizer;
 pub mod util;
+pub mod waiting;
+
+pub use markdown_base::{configuration, event, message, owned, unist};

@@ -9,6 +9,18 @@ ghost use Rattle.markdown.specs.Links.{CanLink, linked_to, with_next, with_previ
 mod tests;
 
 use markdown_base::event::Event;
+use markdown_base::owned::{Items, OwnedText};
+
+/// What reading content gave beside events.
+#[derive(Drop)]
+pub struct Subresult {
+    /// Whether nothing was left to read.
+    pub done: bool,
+    /// The labels of the footnote definitions that were found.
+    pub gfm_footnote_definitions: Items<OwnedText>,
+    /// The labels of the definitions that were found.
+    pub definitions: Items<OwnedText>,
+}
 
 /// Links an event to the one two places before it, as [`link_to`] does from `index - 2` to `index`.
 ///
