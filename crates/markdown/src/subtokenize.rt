@@ -1,6 +1,6 @@
-//! Content in other content: chains of linked events.
+//! Chains of events, whose text is read once more.
 //!
-//! The enters of some void spans are linked into a chain. The text of a chain is read once more, as its content.
+//! A chain links the enters of some void spans of a list of events. Their text together is content of its own.
 
 ghost use Rattle.std.specs.Prelude.{◌≡◌, ◌-◌, ◌≤◌};
 ghost use Rattle.markdown.specs.Links.{CanLink, linked_to, with_next, with_previous};

@@ -1,4 +1,4 @@
-//! Utilities used when tokenizing.
+//! Tools for lists of events.
 
 pub mod edit_map;
 mod splice;

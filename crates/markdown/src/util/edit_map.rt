@@ -1,7 +1,7 @@
-//! Deal with several edits of a list of events at once.
+//! Edits of a list of events, gathered first and then all made at once.
 //!
-//! Adding and removing events one edit at a time would move the rest each time, and with it the indices that links
-//! hold. A map gathers the edits, each at an index into the events as they are; all are then made at once.
+//! An edit made by itself would move what stands behind it, and links would have to follow each time. So a map holds
+//! edits at indices into the events as they are, and every event and link end is moved once.
 
 ghost use Rattle.std.specs.Prelude.{◌≡◌, ◌+◌, ◌<◌, ◌^◌, [], length, OnOk, OnErr, IsOk, All, IsTrue};
 ghost use Rattle.markdown_base.specs.Events.{EndsBelow};
