@@ -1,3 +1,13 @@
 pub mod Readings
 pub mod Ends
 pub mod Working
+pub mod Common
+pub mod Links
+pub mod Order
+pub mod Passes
+pub mod Places
+pub mod Puts
+pub mod Splices
+pub mod StoredLemmas
+pub mod Survivors
+pub mod Turns

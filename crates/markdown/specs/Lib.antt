@@ -21,3 +21,10 @@ pub mod Points
 pub mod Fields
 pub mod Steps
 pub mod Changes
+pub mod Edited
+pub mod Edits
+pub mod Links
+pub mod Spliced
+pub mod Stored
+pub mod Survivors
+pub mod Woven

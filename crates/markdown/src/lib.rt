@@ -7,6 +7,7 @@ pub mod parser;
 pub mod state;
 pub mod subtokenize;
 pub mod tokenizer;
+pub mod util;
 pub mod waiting;
 pub mod work;
 
