@@ -1,0 +1,4 @@
+pub mod Cursor
+pub mod Orders
+pub mod Seats
+pub mod Chains
