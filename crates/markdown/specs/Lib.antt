@@ -2,3 +2,5 @@ pub mod Cursor
 pub mod Orders
 pub mod Seats
 pub mod Chains
+pub mod Standing
+pub mod Cursors
