@@ -4,3 +4,5 @@ pub mod Seats
 pub mod Chains
 pub mod Standing
 pub mod Cursors
+pub mod Cuts
+pub mod Walks
