@@ -1,15 +1,15 @@
 -- Places of a document: where each virtual byte begins, is shown and ends, and what is left there.
-use Rattle.std.proofs.Common.{◌≡◌, ◌≢◌, ℕ, zero, suc, ◌+◌, ◌-◌, ◌*◌, ◌%◌, ◌≤◌, ◌<◌, ◌==◌, List, [], ◌∷◌, ◌++◌, Bool, true, false, cond, Option, Some, None, length, drop, refl, sym, ap, ◌∙◌, subst, arith, rules, append_assoc, ◌⊎◌, inl, inr}
-use Rattle.std.specs.Prelude.{slice_index, slice_index_or, slice_get, nat_lt, not, ◌&&◌, ◌||◌, Contains, filter}
+use Rattle.std.proofs.Common.{◌≡◌, ◌≢◌, ℕ, zero, suc, ◌-◌, ◌<◌, ◌==◌, List, [], ◌∷◌, ◌++◌, Bool, true, false, cond, Some, refl, sym, ap, ◌∙◌, subst, arith, append_assoc, ◌⊎◌, inl, inr}
+use Rattle.std.specs.Prelude.{slice_index, slice_get, nat_lt, ◌&&◌, ◌||◌, Contains, filter}
 use Rattle.std.specs.List.{flat_map}
 use Rattle.std.proofs.lemmas.Bool.Decides.{nat_tests}
 use Rattle.std.proofs.lemmas.List.{append-nil}
 use Rattle.std.proofs.lemmas.List.Elements.{Contains-append_cases}
 use Rattle.markdown_base.specs.declared.event.Point.{Point}
-use Rattle.markdown_base.specs.Virtual.{Seat, point, virtual_from, virtual, end_after, document_end}
-use Rattle.markdown_base.specs.Places.{stands_before, shown, follows_cr, IsShown, IsPointOf, points}
-use Rattle.markdown.specs.Cursor.{rest_at, Every, Bounds, IsPlace, IsSeatAt, end_at}
-use Rattle.markdown.specs.Orders.{is-number, not-number, before-self, before-later, later-later, after-before, above-later, before-upto, upto-before, every-append, every-map, every-front, every-back, every-all}
+use Rattle.markdown_base.specs.Virtual.{Seat, point, virtual, end_after, document_end}
+use Rattle.markdown_base.specs.Places.{stands_before, shown, follows_cr, IsShown, IsPointOf}
+use Rattle.markdown.specs.Cursor.{rest_at, Every, IsPlace, IsSeatAt, end_at}
+use Rattle.markdown.specs.Orders.{is-number, before-self, later-later, after-before, before-upto, every-map, every-back}
 use Rattle.markdown.specs.Seats.{rest-later}
 use Rattle.markdown.specs.Chains.{IsAt, Begins, IsChain, whole-chain, shown-other}
 
@@ -262,3 +262,56 @@ module _ (t : ℕ) (bytes : List ℕ) (d : 0 < t) (p : Point) (seat : Seat) (pla
   -- the seat's end is after the place
   pub seat-passes : stands_before seat.end p ≡ false
   seat-passes = later-later seat.end.index seat.end.vs seat.point.index seat.point.vs p.index p.vs (after-before seat.point.index seat.point.vs seat.end.index seat.end.vs next-begins.ends) n.later
+
+-- the byte of a seat waits at the seat too
+pub seat-here : (t : ℕ) (bytes : List ℕ) (p : Point) (seat : Seat) → IsSeatAt t bytes p seat → IsSeatAt t bytes seat.point seat
+seat-here t bytes p seat n = record {
+  after = n.after;
+  is = n.same ∙ n.is;
+  same = refl;
+  later = before-self seat.point.index seat.point.vs;
+  inside = n.inside;
+}
+
+-- a seat of a list, and of a filtered list
+pub get-among : (xs : List Seat) (k : ℕ) (s : Seat) → slice_get xs k ≡ Some s → IsAmong s xs
+get-among [] k s e = absurd (cc)
+get-among (x ∷ xs) zero s e = let f : x ≡ s = (cc) in record { front = []; back = xs; splits = ap (λ (y : Seat). y ∷ xs) f }
+get-among (x ∷ xs) (suc k) s e =
+    let a = get-among xs k s e in
+    record { front = x ∷ a.front; back = a.back; splits = ap (λ (ys : List Seat). x ∷ ys) a.splits }
+
+pub every-among : (P : Seat → Type 0) (xs : List Seat) (s : Seat) → Every P xs → IsAmong s xs → P s
+every-among P xs s h a = (every-back P a.front (s ∷ a.back) (subst (Every P) a.splits h)).0
+
+among-later : (x : Seat) (xs : List Seat) (s : Seat) → IsAmong s xs → IsAmong s (x ∷ xs)
+among-later x xs s a = record { front = x ∷ a.front; back = a.back; splits = ap (λ (ys : List Seat). x ∷ ys) a.splits }
+
+get-filter-at : (f : Seat → Bool) (x : Seat) (xs : List Seat) (b : Bool) (s : Seat) → ((k : ℕ) → slice_get (filter f xs) k ≡ Some s → IsAmong s xs) → (k : ℕ) → slice_get (cond b (x ∷ filter f xs) (filter f xs)) k ≡ Some s → IsAmong s (x ∷ xs)
+get-filter-at f x xs true s h zero e = let g : x ≡ s = (cc) in record { front = []; back = xs; splits = ap (λ (y : Seat). y ∷ xs) g }
+get-filter-at f x xs true s h (suc k) e = among-later x xs s (h k e)
+get-filter-at f x xs false s h k e = among-later x xs s (h k e)
+
+pub get-filter : (f : Seat → Bool) (xs : List Seat) (k : ℕ) (s : Seat) → slice_get (filter f xs) k ≡ Some s → IsAmong s xs
+get-filter f [] k s e = absurd (cc)
+get-filter f (x ∷ xs) k s e = get-filter-at f x xs (f x) s (λ m g. get-filter f xs m s g) k e
+
+-- what stands in the front of a list stands there in the whole
+pub get-front : {A : Type 0} (xs ys : List A) (k : ℕ) (x : A) → slice_get xs k ≡ Some x → slice_get (xs ++ ys) k ≡ Some x
+get-front [] ys k x e = absurd (cc)
+get-front (y ∷ xs) ys zero x e = e
+get-front (y ∷ xs) ys (suc k) x e = get-front xs ys k x e
+
+get-every : (P : Seat → Type 0) (xs : List Seat) (k : ℕ) (s : Seat) → Every P xs → slice_get xs k ≡ Some s → P s
+get-every P xs k s h e = every-among P xs s h (get-among xs k s e)
+
+-- of two seats of a text the later is shown at, or after, the end of the earlier
+pub ascends-get : (t : ℕ) (bytes : List ℕ) (xs : List Seat) → Ascends t bytes xs → (j k : ℕ) (a b : Seat) → j < k → slice_get xs j ≡ Some a → slice_get xs k ≡ Some b
+    → (stands_before (shown bytes b.point) a.end ≡ false) × (stands_before a.point b.point ≡ true)
+ascends-get t bytes [] h j k a b lt e f = absurd (cc)
+ascends-get t bytes (x ∷ xs) h j zero a b lt e f = absurd (omega arith)
+ascends-get t bytes (x ∷ xs) h zero (suc k) a b lt e f =
+    let g : x ≡ a = (cc) in
+    subst (λ (y : Seat). (stands_before (shown bytes b.point) y.end ≡ false) × (stands_before y.point b.point ≡ true)) g
+    (get-every (λ r. stands_before (shown bytes r.point) x.end ≡ false) xs k b h.0 f, get-every (λ r. stands_before x.point r.point ≡ true) xs k b h.1 f)
+ascends-get t bytes (x ∷ xs) h (suc j) (suc k) a b lt e f = ascends-get t bytes xs h.2 j k a b (omega arith) e f

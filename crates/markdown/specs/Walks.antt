@@ -1,6 +1,6 @@
 -- Walks over the virtual bytes of a document, from its start.
-use Rattle.std.proofs.Common.{◌≡◌, ◌≢◌, ℕ, zero, suc, ◌+◌, ◌-◌, ◌*◌, ◌%◌, ◌≤◌, ◌<◌, ◌==◌, List, [], ◌∷◌, ◌++◌, Bool, true, false, cond, Option, Some, None, length, drop, refl, sym, ap, ◌∙◌, subst, arith, rules, append_assoc, length-append, add-one, lit<, ◌⊎◌, inl, inr}
-use Rattle.std.specs.Prelude.{filter, slice_get, slice_index, nat_lt, not, ◌&&◌, ◌||◌, find, map}
+use Rattle.std.proofs.Common.{◌≡◌, ◌≢◌, ℕ, suc, ◌+◌, ◌*◌, ◌%◌, ◌≤◌, ◌<◌, ◌==◌, List, [], ◌∷◌, ◌++◌, Bool, true, false, cond, Option, Some, None, length, refl, sym, ap, ◌∙◌, subst, arith, append_assoc, length-append, lit<, ◌⊎◌, inl, inr}
+use Rattle.std.specs.Prelude.{filter, nat_lt, ◌&&◌, ◌||◌, find, map}
 use Rattle.std.specs.List.{flat_map, enumerate_from}
 use Rattle.std.specs.Option.{option_or}
 use Rattle.std.proofs.lemmas.List.{append-nil, map-append}
@@ -12,12 +12,12 @@ use Rattle.std.proofs.lemmas.Bool.Decides.{nat_tests}
 use Rattle.std.proofs.Math.Nat.{mul-le-mul_left}
 use Rattle.markdown_base.specs.declared.event.Point.{Point}
 use Rattle.markdown_base.specs.Virtual.{Seat, point, virtual, end_after, document_end}
-use Rattle.markdown_base.specs.Places.{stands_before, shown, points, point_at}
-use Rattle.markdown.specs.Cursor.{rest_at, Every, IsPlace, IsSeatAt, Bounds, end_at}
+use Rattle.markdown_base.specs.Places.{shown, points, point_at}
+use Rattle.markdown.specs.Cursor.{rest_at, IsPlace, IsSeatAt, Bounds}
 use Rattle.markdown.specs.Cuts.{place_of, is_cut, cuts_every}
 use Rattle.markdown.specs.Orders.{upto-before}
 use Rattle.markdown.specs.Chains.{IsChain, Begins, whole-chain}
-use Rattle.markdown.specs.Standing.{seat-place, place-after, rest-after, seat-begins, chain-at, after-rest}
+use Rattle.markdown.specs.Standing.{seat-place, place-after, seat-begins, chain-at, after-rest}
 
 -- a walk stands at a place, and has passed these virtual bytes
 pub record IsWalk (t : ℕ) (bytes : List ℕ) (p : Point) (passed : List Seat) : Type 0 where

@@ -95,6 +95,13 @@ pub(crate) fn shown(bytes: &[u8], point: Point) -> Point
     point
 }
 
+/// One place is before another: by byte index, then by number in the tab.
+pub(crate) fn is_before(a: Point, b: Point) -> bool
+    ensures { result ≡ Places.stands_before a b }
+{
+    a.index < b.index || (a.index == b.index && a.vs < b.vs)
+}
+
 /// A point is at a place, given by byte index and number in a tab.
 fn is_at(point: Point, place: (usize, usize)) -> bool
     ensures { result ≡ ((point.index == place.0) && (point.vs == place.1)) }
@@ -170,8 +177,10 @@ mod tests {
     fn cuts_of_a_text(rt: HostRuntime) -> Result<(), AllocError> {
         let text = b"a\tb\r\n\tc";
         let cuts = cuts_every(rt.alloc(), text, 3)?;
-        assert_eq!(rt; cuts.as_slice(), &[(1, 2), (5, 0), (5, 3)]);
-        assert_eq!(rt; cuts_every(rt.alloc(), text, 1)?.len(), 10);
+        assert_eq!(rt; cuts.as_slice(), [(1, 2), (5, 0), (5, 3)].as_slice());
+        let each = cuts_every(rt.alloc(), text, 1)?;
+        assert_eq!(rt; each.len(), 10);
+        assert_eq!(rt; each[4], (4, 0));
         assert_eq!(rt; cuts_every(rt.alloc(), text, 11)?.len(), 0);
         assert_eq!(rt; cuts_every(rt.alloc(), b"abc\td", 1)?.len(), 4);
         Ok(())

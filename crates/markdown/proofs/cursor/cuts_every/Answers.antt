@@ -1,4 +1,4 @@
-use Rattle.std.proofs.Common.{◌≡◌, ◌+◌, ◌*◌, ◌<◌, ◌≤◌, ℕ, Bool, true, false, List, [], ◌∷◌, ◌++◌, Option, Some, None, length, arith, rules, lit<, sym, ap, ◌∙◌, subst, refl, cond, Fits, w64, Vec, Global}
+use Rattle.std.proofs.Common.{◌≡◌, ◌+◌, ◌*◌, ◌<◌, ◌≤◌, ℕ, true, false, List, length, arith, lit<, sym, ap, ◌∙◌, subst, Vec, Global}
 use Rattle.std.proofs.lemmas.List.{append-nil}
 use Rattle.markdown.specs.Cuts.{is_cut}
 use Rattle.markdown_base.specs.declared.event.Point.{Point}
