@@ -25,6 +25,7 @@ pub record Begins (t : ℕ) (bytes : List ℕ) (p : Point) (s : Seat) (rest : Li
   pub at_shown : rest_at t bytes (shown bytes s.point) ≡ s ∷ rest
   pub seat_bounds : Bounds t bytes s.point
   pub shown_bounds : Bounds t bytes (shown bytes s.point)
+  pub shown_is : shown bytes s.point ≡ p
   pub later : stands_before s.point p ≡ false
   pub shown_later : stands_before (shown bytes s.point) p ≡ false
   pub ends : stands_before s.point s.end ≡ true
@@ -107,6 +108,7 @@ module _ (t : ℕ) (bytes : List ℕ) (d : 0 < t) where
           at_shown = rw same at.is;
           seat_bounds = at.bounds;
           shown_bounds = rw same at.bounds;
+          shown_is = same;
           later = before-self i v;
           shown_later = rw same (before-self i v);
           ends = below-before i v (suc i) 0 (omega arith);
@@ -136,6 +138,7 @@ module _ (t : ℕ) (bytes : List ℕ) (d : 0 < t) where
           at_shown = rw same at.is;
           seat_bounds = at.bounds;
           shown_bounds = rw same at.bounds;
+          shown_is = same;
           later = before-self i v;
           shown_later = rw same (before-self i v);
           ends = more-before i v;
@@ -167,6 +170,7 @@ module _ (t : ℕ) (bytes : List ℕ) (d : 0 < t) where
           at_shown = rw same at.is;
           seat_bounds = at.bounds;
           shown_bounds = rw same at.bounds;
+          shown_is = same;
           later = before-self i 0;
           shown_later = rw same (before-self i 0);
           ends = below-before i 0 end.index end.vs below;
@@ -191,6 +195,7 @@ module _ (t : ℕ) (bytes : List ℕ) (d : 0 < t) where
           at_shown = rw same at.is;
           seat_bounds = record { inside = omega arith; lines = omega (arith, b.lines); columns = omega (arith, b.columns); first = b.first; spaces = d; tab = λ k. absurd (omega arith) };
           shown_bounds = rw same at.bounds;
+          shown_is = same;
           later = above-later (suc i) 0 i 0 (omega arith);
           shown_later = rw same (before-self i 0);
           ends = below-before (suc i) 0 (suc (suc i)) 0 (omega arith);
