@@ -1,15 +1,15 @@
 -- The virtual bytes of a document, one after another: each begins at the place where the one before it ends.
-use Rattle.std.proofs.Common.{◌≡◌, ◌≢◌, ℕ, zero, suc, ◌+◌, ◌-◌, ◌%◌, ◌≤◌, ◌<◌, ◌==◌, List, [], ◌∷◌, ◌++◌, Bool, true, false, cond, length, drop, refl, sym, ap, ◌∙◌, subst, arith, add-one, ◌⊎◌, inl, inr}
-use Rattle.std.specs.Prelude.{slice_index, nat_lt, ◌&&◌, ◌||◌}
+use Rattle.std.proofs.Common.{◌≡◌, ◌≢◌, ℕ, zero, suc, ◌+◌, ◌-◌, ◌*◌, ◌%◌, ◌≤◌, ◌<◌, ◌==◌, List, [], ◌∷◌, ◌++◌, Bool, true, false, cond, length, drop, refl, sym, ap, ◌∙◌, subst, arith, rules, add-one, append_assoc, ◌⊎◌, inl, inr}
+use Rattle.std.specs.Prelude.{slice_index, nat_lt, not, ◌&&◌, ◌||◌}
 use Rattle.std.proofs.lemmas.Bool.Decides.{nat_tests}
 use Rattle.std.proofs.lemmas.Bool.{cases_lt}
 use Rattle.std.proofs.lemmas.List.{drop_all}
 use Rattle.std.proofs.Math.ListN.{get_or-eq_default}
 use Rattle.std.proofs.Math.Nat.{mod-lt, suc-mod, mod_self, mod-eq_of_lt}
 use Rattle.markdown_base.specs.declared.event.Point.{Point}
-use Rattle.markdown_base.specs.Virtual.{Seat, point, tab_width, in_tab, virtual_from, virtual, begins_with_lf, line_feed, plain}
-use Rattle.markdown_base.specs.Places.{stands_before, shown, IsShown}
-use Rattle.markdown.specs.Cursor.{rest_at, Bounds, end_at}
+use Rattle.markdown_base.specs.Virtual.{Seat, point, tab_width, in_tab, end_in_tab, virtual_from, virtual, begins_with_lf, line_feed, plain, end_after, document_end}
+use Rattle.markdown_base.specs.Places.{stands_before, shown, follows_cr, IsShown}
+use Rattle.markdown.specs.Cursor.{rest_at, Every, Bounds, end_at}
 use Rattle.markdown.specs.Orders.{is-not, not-number, is-number, before-self, below-before, more-before, above-later}
 use Rattle.markdown.specs.Seats.{width-pos, drop-at}
 
@@ -25,9 +25,9 @@ pub record Begins (t : ℕ) (bytes : List ℕ) (p : Point) (s : Seat) (rest : Li
   pub at_shown : rest_at t bytes (shown bytes s.point) ≡ s ∷ rest
   pub seat_bounds : Bounds t bytes s.point
   pub shown_bounds : Bounds t bytes (shown bytes s.point)
-  pub shown_is : shown bytes s.point ≡ p
   pub later : stands_before s.point p ≡ false
   pub shown_later : stands_before (shown bytes s.point) p ≡ false
+  pub shown_is : shown bytes s.point ≡ p
   pub ends : stands_before s.point s.end ≡ true
   pub end_is : end_at t s.byte s.point ≡ s.end
   pub inside : s.point.index < length bytes
@@ -108,9 +108,9 @@ module _ (t : ℕ) (bytes : List ℕ) (d : 0 < t) where
           at_shown = rw same at.is;
           seat_bounds = at.bounds;
           shown_bounds = rw same at.bounds;
-          shown_is = same;
           later = before-self i v;
           shown_later = rw same (before-self i v);
+          shown_is = same;
           ends = below-before i v (suc i) 0 (omega arith);
           end_is = rw (no_lf, is_tab, ends) refl;
           inside = inside;
@@ -138,9 +138,9 @@ module _ (t : ℕ) (bytes : List ℕ) (d : 0 < t) where
           at_shown = rw same at.is;
           seat_bounds = at.bounds;
           shown_bounds = rw same at.bounds;
-          shown_is = same;
           later = before-self i v;
           shown_later = rw same (before-self i v);
+          shown_is = same;
           ends = more-before i v;
           end_is = rw (no_lf, is_tab, go_on) refl;
           inside = inside;
@@ -170,9 +170,9 @@ module _ (t : ℕ) (bytes : List ℕ) (d : 0 < t) where
           at_shown = rw same at.is;
           seat_bounds = at.bounds;
           shown_bounds = rw same at.bounds;
-          shown_is = same;
           later = before-self i 0;
           shown_later = rw same (before-self i 0);
+          shown_is = same;
           ends = below-before i 0 end.index end.vs below;
           end_is = ends;
           inside = inside;
@@ -195,9 +195,9 @@ module _ (t : ℕ) (bytes : List ℕ) (d : 0 < t) where
           at_shown = rw same at.is;
           seat_bounds = record { inside = omega arith; lines = omega (arith, b.lines); columns = omega (arith, b.columns); first = b.first; spaces = d; tab = λ k. absurd (omega arith) };
           shown_bounds = rw same at.bounds;
-          shown_is = same;
           later = above-later (suc i) 0 i 0 (omega arith);
           shown_later = rw same (before-self i 0);
+          shown_is = same;
           ends = below-before (suc i) 0 (suc (suc i)) 0 (omega arith);
           end_is = refl;
           inside = inside;

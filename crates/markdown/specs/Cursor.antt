@@ -1,8 +1,9 @@
 -- What stands at a place, in the bytes and in the virtual text.
-use Rattle.std.specs.Prelude.{◌≡◌, ℕ, suc, ◌+◌, ◌*◌, ◌%◌, ◌≤◌, ◌<◌, ◌==◌, nat_lt, ◌&&◌, ◌||◌, not, Bool, true, false, cond, List, [], ◌∷◌, ◌++◌, drop, length, filter, Option, Some, None}
+use Rattle.std.specs.Prelude.{◌≡◌, ℕ, zero, suc, ◌+◌, ◌-◌, ◌*◌, ◌%◌, ◌≤◌, ◌<◌, ◌==◌, nat_lt, ◌&&◌, ◌||◌, not, Bool, true, false, cond, List, [], ◌∷◌, ◌++◌, drop, length, filter, slice_index, Option, Some, None}
 use Rattle.markdown_base.specs.declared.event.Point.{Point}
-use Rattle.markdown_base.specs.Virtual.{Seat, point, tab_width, in_tab, virtual_from, virtual}
-use Rattle.markdown_base.specs.Places.{stands_before}
+use Rattle.markdown_base.specs.Virtual.{Seat, point, tab_width, in_tab, virtual_from, virtual, end_after}
+use Rattle.markdown_base.specs.Places.{stands_before, shown}
+use Rattle.markdown.specs.Text.{in_range}
 
 -- the virtual bytes from a place on
 abbrev pub rest_at : (t : ℕ) → List ℕ → Point → List Seat
@@ -30,6 +31,7 @@ pub record IsPlace (t : ℕ) (bytes : List ℕ) (p : Point) : Type 0 where
   pub before : List Seat
   pub splits : virtual t bytes ≡ before ++ rest_at t bytes p
   pub behind : Every (λ s. stands_before s.point p ≡ true) before
+  pub stands : shown bytes p ≡ end_after (point 1 1 0 0) before
   pub bounds : Bounds t bytes p
 
 -- the next virtual byte from a place on, and its seat
@@ -53,10 +55,6 @@ end_at t byte p =
     (cond (((byte == 9) || nat_lt 0 p.vs) && not (p.column % t == 0))
     (point p.line (suc p.column) p.index (suc p.vs))
     (point p.line (suc p.column) (suc p.index) 0))
-
--- a virtual byte is of the range from one place to another
-abbrev pub in_range : (from to : Point) → Seat → Bool
-in_range from to s = not (stands_before s.point from) && stands_before s.point to
 
 -- how many virtual bytes a range has
 abbrev pub number_of : (t : ℕ) → List ℕ → (from to : Point) → ℕ

@@ -1,3 +1,11 @@
+pub mod Text
+pub mod Configuration
+pub mod Sight
+pub mod Calls
+pub mod Reading
+pub mod Lawful
+pub mod Engine
+pub mod View
 pub mod Cursor
 pub mod Orders
 pub mod Seats
@@ -6,3 +14,4 @@ pub mod Standing
 pub mod Cursors
 pub mod Cuts
 pub mod Walks
+pub mod SeatLaws

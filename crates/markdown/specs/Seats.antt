@@ -1,14 +1,14 @@
 -- Which virtual byte stands at a place, read from the bytes.
-use Rattle.std.proofs.Common.{◌≡◌, ◌≢◌, ℕ, zero, suc, ◌+◌, ◌-◌, ◌≤◌, ◌<◌, ◌==◌, List, [], ◌∷◌, ◌++◌, Bool, true, false, cond, length, drop, Some, refl, sym, ap, ◌∙◌, arith, drop-cons, add-one}
-use Rattle.std.specs.Prelude.{slice_index, nat_lt}
+use Rattle.std.proofs.Common.{◌≡◌, ◌≢◌, ℕ, zero, suc, ◌+◌, ◌-◌, ◌*◌, ◌%◌, ◌≤◌, ◌<◌, ◌==◌, List, [], ◌∷◌, ◌++◌, Bool, true, false, cond, length, drop, Option, Some, None, refl, sym, ap, ◌∙◌, subst, arith, rules, drop-cons, add-one}
+use Rattle.std.specs.Prelude.{slice_index, nat_lt, not, ◌&&◌, ◌||◌}
 use Rattle.std.proofs.lemmas.List.{drop_all}
 use Rattle.std.proofs.lemmas.Bool.{ltb-true}
 use Rattle.std.proofs.lemmas.Bool.Decides.{nat_tests}
-use Rattle.std.proofs.Math.Nat.{mod-lt}
+use Rattle.std.proofs.Math.Nat.{mod-lt, suc-mod, mod_self, mod-eq_of_lt}
 use Rattle.markdown_base.specs.declared.event.Point.{Point}
-use Rattle.markdown_base.specs.Virtual.{Seat, point, tab_width, in_tab, end_in_tab, virtual_from, begins_with_lf}
+use Rattle.markdown_base.specs.Virtual.{Seat, point, tab_width, in_tab, end_in_tab, virtual_from, virtual, begins_with_lf, line_feed, plain}
 use Rattle.markdown_base.specs.Places.{stands_before}
-use Rattle.markdown.specs.Cursor.{rest_at, Every, IsNextSeat}
+use Rattle.markdown.specs.Cursor.{rest_at, Every, Bounds, IsPlace, IsSeatAt, IsNextSeat}
 use Rattle.markdown.specs.Orders.{every-map, every-append, every-cond, not-before, not-before-in, above-later, before-self, eq-zero, is-number, not-number}
 
 -- seats from an index on
@@ -92,17 +92,11 @@ tab-first t l c i bs d =
     let more = virtual_from t l (c + tab_width t c) (suc i) bs in
     (tail.0, tail.1 ++ more, ap (λ (xs : List Seat). xs ++ more) tail.2)
 
-lf-first : (t l c i : ℕ) (bs : List ℕ) → FirstIs t l c i 10 bs
-lf-first t l c i bs = (point (suc l) 1 (suc i) 0, virtual_from t (suc l) 1 (suc i) bs, refl)
-
-cr-first : (t l c i : ℕ) (bs : List ℕ) → begins_with_lf bs ≡ false → FirstIs t l c i 13 bs
-cr-first t l c i bs e = rw e (point (suc l) 1 (suc i) 0, virtual_from t (suc l) 1 (suc i) bs, refl)
-
 first-at : (t l c i b : ℕ) (bs : List ℕ) (x y z : Bool) → 0 < t → (b == 10) ≡ x → (b == 13) ≡ y → (b == 9) ≡ z → (b ≡ 13 → begins_with_lf bs ≡ false) → FirstIs t l c i b bs
-first-at t l c i b bs true y z d ex ey ez alone = let e = is-number b 10 ex in rw e (lf-first t l c i bs)
-first-at t l c i b bs false true z d ex ey ez alone = let e = is-number b 13 ey in let f = alone e in rw e (cr-first t l c i bs f)
+first-at t l c i b bs true y z d ex ey ez alone = let e = is-number b 10 ex in rw e (_, _, refl)
+first-at t l c i b bs false true z d ex ey ez alone = let e = is-number b 13 ey in let f = alone e in rw e (rw f (_, _, refl))
 first-at t l c i b bs false false true d ex ey ez alone = let e = is-number b 9 ez in rw e (tab-first t l c i bs d)
-first-at t l c i b bs false false false d ex ey ez alone = rw (ex, ey, ez) (point l (suc c) (suc i) 0, virtual_from t l (suc c) (suc i) bs, refl)
+first-at t l c i b bs false false false d ex ey ez alone = rw (ex, ey, ez) (_, _, refl)
 
 -- the seat of a byte that is no CR before LF
 pub seat-plain : (t : ℕ) (bytes : List ℕ) (p : Point) (b : ℕ) → 0 < t → p.vs ≡ 0 → p.index < length bytes → slice_index bytes p.index ≡ b → (b ≡ 13 → begins_with_lf (drop (suc p.index) bytes) ≡ false)

@@ -1,4 +1,13 @@
-//! The tokenizer engine: states read virtual bytes of a document and make events.
+//! The tokenizer engine: a machine of states reads a document, in ranges, and gives a list of events.
 #![tactic(auto)]
 
-pub mod cursor;
+pub mod count;
+mod cursor;
+pub mod parser;
+pub mod places;
+pub mod state;
+pub mod subtokenize;
+pub mod tokenizer;
+pub mod waiting;
+
+pub use markdown_base::{configuration, event, message, owned, unist};

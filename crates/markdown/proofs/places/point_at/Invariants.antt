@@ -1,7 +1,7 @@
 use Rattle.std.proofs.Common.{length}
 use Rattle.markdown.specs.Cursor.{rest_at}
 use Rattle.markdown.specs.Walks.{IsSearch}
-use Rattle.markdown.proofs.cursor.point_at.Given as goal
+use Rattle.markdown.proofs.places.point_at.Given as goal
 
 abbrev pub invariant-loop-byte : goal.invariant-loop-byte
 invariant-loop-byte l = IsSearch 4 l.bytes l.place l.left

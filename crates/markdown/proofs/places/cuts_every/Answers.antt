@@ -5,8 +5,8 @@ use Rattle.markdown_base.specs.declared.event.Point.{Point}
 use Rattle.markdown.specs.Cursor.{rest_at}
 use Rattle.markdown.specs.Standing.{seat-end-is}
 use Rattle.markdown.specs.Walks.{IsCutting, cutting-place, cutting-number, cutting-next, cutting-ended, walk-shorter, bounds-fit, seat-fits, cut-is, cut-not, cut-first}
-use Rattle.markdown.proofs.cursor.cuts_every.Goals.{then-number-gt0+then-number-n-eq0+in_ok-push, else-number-gt0, else-number-gt0-via-then-number-gt0+else-number-n-eq0, else-number-gt0-via-else-number-gt0}
-use Rattle.markdown.proofs.cursor.cuts_every.Goals as goal
+use Rattle.markdown.proofs.places.cuts_every.Goals.{then-number-gt0+then-number-n-eq0+in_ok-push, else-number-gt0, else-number-gt0-via-then-number-gt0+else-number-n-eq0, else-number-gt0-via-else-number-gt0}
+use Rattle.markdown.proofs.places.cuts_every.Goals as goal
 
 abbrev items_of : Vec (ℕ × ℕ) Global → List (ℕ × ℕ)
 items_of v = v.items

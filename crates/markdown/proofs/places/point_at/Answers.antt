@@ -4,7 +4,7 @@ use Rattle.markdown_base.specs.Places.{shown}
 use Rattle.markdown.specs.Cursor.{rest_at}
 use Rattle.markdown.specs.Standing.{seat-end-is}
 use Rattle.markdown.specs.Walks.{IsSearch, is_place, search-place, search-shown, search-seat, search-next, search-ended, walk-shorter, seat-fits}
-use Rattle.markdown.proofs.cursor.point_at.Goals as goal
+use Rattle.markdown.proofs.places.point_at.Goals as goal
 
 pub seat_at-requires : goal.seat_at-requires
 seat_at-requires c = record { within = (search-place 4 c.args.bytes.now (lit< tt) c.args.place c.loop-byte.left c.loop-byte.invariant).bounds.tab }

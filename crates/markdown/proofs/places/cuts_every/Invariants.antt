@@ -1,7 +1,7 @@
 use Rattle.std.proofs.Common.{length}
 use Rattle.markdown.specs.Cursor.{rest_at}
 use Rattle.markdown.specs.Walks.{IsCutting}
-use Rattle.markdown.proofs.cursor.cuts_every.Given as goal
+use Rattle.markdown.proofs.places.cuts_every.Given as goal
 
 abbrev pub invariant-loop-byte : goal.invariant-loop-byte
 invariant-loop-byte l = IsCutting 4 l.bytes l.n l.left l.number l.cuts.items
