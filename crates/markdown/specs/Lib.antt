@@ -28,3 +28,6 @@ pub mod Spliced
 pub mod Stored
 pub mod Survivors
 pub mod Woven
+pub mod Cuts
+pub mod Walks
+pub mod SeatLaws

@@ -4,6 +4,7 @@
 pub mod count;
 mod cursor;
 pub mod parser;
+pub mod places;
 pub mod state;
 pub mod subtokenize;
 pub mod tokenizer;
