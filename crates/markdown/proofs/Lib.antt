@@ -5,7 +5,7 @@ pub mod Common
 pub mod Links
 pub mod Order
 pub mod Passes
-pub mod Places
+pub mod FinalPlaces
 pub mod Puts
 pub mod Splices
 pub mod StoredLemmas

@@ -11,7 +11,7 @@ use Rattle.markdown_base.specs.Events.{relinked, with_ends}
 use Rattle.markdown.specs.Links.{next_of, previous_of}
 use Rattle.markdown.specs.Woven.{Identity, of_list, Tagged, as_listed, place_of, end_place, Change, events_at, is_removed, woven, changed}
 use Rattle.markdown.specs.Survivors.{AreNew, place_after, StaysUnlessRemoved, StaysAsItWas, KeepsOrder, KeepsLinks}
-use Rattle.markdown.proofs.Places.{HasNo, place_of-append}
+use Rattle.markdown.proofs.FinalPlaces.{HasNo, place_of-append}
 
 same_value : (a b : ℕ) → Some a ≡ Some b → a ≡ b
 same_value a b e = ap (λ o. unwrap_or o 0) e
