@@ -24,6 +24,7 @@ module _ {R D : Type 0} where
     stack = k.stack;
     local = record {
       tokenize_state = record k.local.tokenize_state { definitions = []; gfm_footnote_definitions = [] };
+      map = k.local.map;
       resolvers = k.local.resolvers;
       interrupt = k.local.interrupt;
       concrete = k.local.concrete;
