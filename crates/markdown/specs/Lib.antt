@@ -5,4 +5,9 @@ pub mod Calls
 pub mod Reading
 pub mod Lawful
 pub mod Engine
+pub mod Work
 pub mod View
+pub mod Cursor
+pub mod Orders
+pub mod Seats
+pub mod Chains

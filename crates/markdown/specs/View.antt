@@ -1,11 +1,12 @@
 -- What the fields of a tokenizer mean. An inner file: no public clause names what stands here.
-use Rattle.std.specs.Prelude.{◌≡◌, ◌≢◌, ℕ, ◌+◌, ◌*◌, ◌<◌, ◌≤◌, ◌^◌, List, [], ◌∷◌, Bool, true, false, cond, ◌&&◌, Option, None, Some, filter, length, map, take, reverse, slice_get, All}
+use Rattle.std.specs.Prelude.{◌≡◌, ◌≢◌, ℕ, ◌+◌, ◌*◌, ◌<◌, ◌≤◌, ◌^◌, List, [], ◌∷◌, Bool, true, false, cond, ◌&&◌, Option, None, Some, filter, length, map, take, reverse, unwrap_or}
 use Rattle.markdown_base.specs.declared.event.Event.{Event}
 use Rattle.markdown_base.specs.declared.event.Name.{Name}
 use Rattle.markdown_base.specs.declared.event.Point.{Point}
 use Rattle.markdown_base.specs.declared.state.State.{State}
 use Rattle.markdown_base.specs.declared.state.State.TheVariants.{Next, Ok, Nok}
-use Rattle.markdown_base.specs.Virtual.{Seat, virtual}
+use Rattle.markdown_base.specs.Virtual.{Seat, virtual, point}
+use Rattle.markdown_base.specs.Places.{point_at}
 use Rattle.markdown.specs.declared.waiting.Goal.{Goal}
 use Rattle.markdown.specs.declared.waiting.Goal.TheVariants as goal
 use Rattle.markdown.specs.declared.waiting.Mark.{Mark}
@@ -35,6 +36,10 @@ saved_for mark false = mark.saved
 abbrev pub TAB : ℕ
 TAB = 4
 
+-- the point of a place, given by index and number in a tab
+abbrev pub end_point : List ℕ → (ℕ × ℕ) → Point
+end_point bytes place = unwrap_or (point_at TAB bytes place) (point 1 1 0 0)
+
 -- the virtual bytes from one place on before another
 abbrev pub seats_between : List ℕ → Point → Point → List Seat
 seats_between bytes from to = filter (in_range from to) (virtual TAB bytes)
@@ -51,7 +56,7 @@ seen t =
     let bytes = t.parse_state.now.bytes.now in record {
       given = record { bytes = bytes; options = t.parse_state.now.options.now; tab = TAB };
       machine = t.parse_state.now.machine.now;
-      text = record { start = t.start; seats = seats_between bytes t.start t.end; end = t.end };
+      text = record { start = t.start; seats = seats_between bytes t.start (end_point bytes t.end); end = end_point bytes t.end };
       configuration = record {
         position = length (seats_between bytes t.start t.left);
         waiting = t.waits;

@@ -2,11 +2,13 @@
 #![tactic(auto)]
 
 pub mod count;
+mod cursor;
 pub mod parser;
 pub mod state;
 pub mod subtokenize;
 pub mod tokenizer;
 pub mod waiting;
+pub mod work;
 
 pub use markdown_base::configuration;
 pub use markdown_base::event;
