@@ -11,3 +11,6 @@ pub mod Cursor
 pub mod Orders
 pub mod Seats
 pub mod Chains
+pub mod Readings
+pub mod Ends
+pub mod Working

@@ -130,7 +130,10 @@ impl<'a, M: Machine> Tokenizer<'a, M> {
         self.tells();
         self.extend(from, to);
         match self.work(alloc, false, state) {
-            Ok(answer) => Ok(answer),
+            Ok(answer) => {
+                self.tells();
+                Ok(answer)
+            }
             Err(_) => {
                 self.close();
                 Err(Fault::Memory)
@@ -172,7 +175,10 @@ impl<'a, M: Machine> Tokenizer<'a, M> {
                 State::Next(_) => unreachable!(),
                 State::Retry(_) => unreachable!(),
             },
-            Err(_) => Err(Fault::Memory),
+            Err(_) => {
+                self.close();
+                Err(Fault::Memory)
+            }
         }
     }
 }
