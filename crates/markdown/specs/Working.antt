@@ -427,27 +427,17 @@ module _ {M R D : Type 0} (given : Given) (step : Sight → Configuration R D �
       let one = leads [] tt (λ _. refl) in
       subst (λ (q : Text). EndsIn given step q t.calls t.configuration t.choices a r) only.text ((one.same r).0 ends)
 
-  pub flushed : (t u : Seen M R D) (a s : State) → OnlyWorked t u → LeadsAll given step holds cost reserve true t a u s → s ≡ Ok → u.choices ≡ []
-      → IsFlushed given step t a (at_configuration u (taken u.configuration)) (found u.configuration)
-  flushed t u a s only leads ok none =
-      let r : Reading R D = record { configuration = u.configuration; answer = Ok; calls = u.calls } in record {
-        result = r;
-        ends = flush-ends t u a s only leads r (rw ok (ended-is given step u.text u.calls u.configuration u.choices none));
-        well = refl;
-        calls = refl;
-        configuration = refl;
-        definitions = refl;
-      }
+  pub flush-ok : (t u : Seen M R D) (a s : State) → OnlyWorked t u → LeadsAll given step holds cost reserve true t a u s → s ≡ Ok → u.choices ≡ []
+      → EndsIn given step t.text t.calls t.configuration t.choices a (record { configuration = u.configuration; answer = Ok; calls = u.calls })
+  flush-ok t u a s only leads ok none =
+      flush-ends t u a s only leads (record { configuration = u.configuration; answer = Ok; calls = u.calls })
+      (rw ok (ended-is given step u.text u.calls u.configuration u.choices none))
 
-  pub refused : (t u : Seen M R D) (a s : State) (m : Message) → OnlyWorked t u → LeadsAll given step holds cost reserve true t a u s → s ≡ Error m
-      → IsRefused given step t a u m
-  refused t u a s m only leads is =
-      let r : Reading R D = record { configuration = u.configuration; answer = Error m; calls = u.calls } in record {
-        result = r;
-        ends = flush-ends t u a s only leads r (rw is (refused-is given step u.text u.calls u.configuration u.choices m));
-        message = refl;
-        calls = refl;
-      }
+  pub flush-refused : (t u : Seen M R D) (a s : State) (m : Message) → OnlyWorked t u → LeadsAll given step holds cost reserve true t a u s → s ≡ Error m
+      → EndsIn given step t.text t.calls t.configuration t.choices a (record { configuration = u.configuration; answer = Error m; calls = u.calls })
+  flush-refused t u a s m only leads is =
+      flush-ends t u a s only leads (record { configuration = u.configuration; answer = Error m; calls = u.calls })
+      (rw is (refused-is given step u.text u.calls u.configuration u.choices m))
 
   pub flush-paid : (t u : Seen M R D) (a s : State) → OnlyWorked t u → LeadsAll given step holds cost reserve true t a u s → u.calls ≤ budget cost reserve t.text t a
   flush-paid t u a s only leads =
@@ -460,3 +450,40 @@ module _ {M R D : Type 0} (given : Given) (step : Sight → Configuration R D �
 
 pub taken-formed : {R D : Type 0} (bytes : List ℕ) (k : Configuration R D) → IsWellFormed bytes k → IsWellFormed bytes (taken k)
 taken-formed bytes k h = record { balanced = h.balanced; void_tight = h.void_tight; in_order = h.in_order }
+
+pub text-extended : (given : Given) (text : Text) (piece : Piece) → IsText given text → FitsAfter given text piece → IsText given (followed_by given text piece)
+text-extended given text piece is fits = text-on given text (piece ∷ []) is (fits, tt)
+
+module _ {M R D : Type 0} (given : Given) (step : Sight → Configuration R D → Name → Step R D) (holds : Text → Configuration R D → List Choice → State → Type 0)
+    (cost : Text → Configuration R D → State → ℕ) (reserve : Text → Choice → ℕ) (starts : List Name) (laws : Laws given step holds cost reserve starts) where
+  -- before the end is fed the work stops at a state that waits for a byte, or at a message
+  stops-answers : (u : Seen M R D) (s : State) → IsText given u.text → holds u.text u.configuration u.choices s → Stops false u s → (u.configuration.ended ≡ true → ⊥)
+      → ((name : Name) × (s ≡ Next name)) ⊎ ((m : Message) × (s ≡ Error m))
+  stops-answers u (Next n) is h stops fresh = inl (n, refl)
+  stops-answers u (Retry n) is h stops fresh = absurd stops
+  stops-answers u Ok is h stops fresh = let h' = rw stops at h in absurd (fresh ((laws.ends.ok u.text u.configuration is h').0))
+  stops-answers u Nok is h stops fresh = let h' = rw stops at h in absurd (laws.ends.nok u.text u.configuration is h')
+  stops-answers u (Error m) is h stops fresh = inr (m, refl)
+
+  -- what a push leaves, once the text was extended and the work was done
+  pub is-pushed : (t u : Seen M R D) (from to : Point) (a s : State) → IsText given (followed_by given t.text (pushed from to)) → t.closed ≡ false
+      → OnlyWorked (extended t (followed_by given t.text (pushed from to))) u
+      → LeadsAll given step holds cost reserve false (extended t (followed_by given t.text (pushed from to))) a u s
+      → Stops false u s → IsInText u → IsPushed given step holds cost reserve t from to a u s
+  is-pushed t u from to a s is open_still only leads stops sound =
+      let now = (leads [] tt (λ _. refl)).kept in
+      let is_now = subst (λ (q : Text). IsText given q) (sym only.text) is in
+      let closed : u.closed ≡ false = only.closed ∙ open_still in record {
+        given = only.given;
+        machine = only.machine;
+        open_still = closed;
+        text = only.text;
+        outcome = λ rest can.
+            let k = leads rest can (λ e. absurd cc) in record { kept = k.kept; same = k.same; paid = k.paid };
+        read = λ name e.
+            let far = rw e at stops in
+            let within = sound.within in
+            let length_is : u.configuration.position ≡ length u.text.seats = omega (arith, far.1, within) in
+            (length_is, laws.keeps.unfed u.text u.configuration u.choices name is_now (rw e at now));
+        answers = stops-answers u s is_now now stops (λ e. let f : true ≡ false = sym (sound.ended e) ∙ closed in absurd cc);
+      }

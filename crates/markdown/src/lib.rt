@@ -10,8 +10,4 @@ pub mod tokenizer;
 pub mod waiting;
 pub mod work;
 
-pub use markdown_base::configuration;
-pub use markdown_base::event;
-pub use markdown_base::message;
-pub use markdown_base::owned;
-pub use markdown_base::unist;
+pub use markdown_base::{configuration, event, message, owned, unist};

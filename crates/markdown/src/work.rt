@@ -18,8 +18,7 @@ use std::alloc::{AllocError, Global};
 /// A lawful machine reads each text in one way, within its cost.
 pub fn reads_in_one_way<M: Machine>()
     ensures { (m : _) (g : _) → HasOneEnd g (M.step m g) (M.holds m g) (M.cost m g) (M.reserve m g) }
-{
-}
+{}
 
 /// Whether a state ends a choice, and how.
 fn ending(state: &State) -> Option<bool>

@@ -20,7 +20,7 @@ returns-in-Err-clause-leads g c =
     let k0 = c.loop-name.invariant in
     let is = c.requires.text in
     let k1 = kept-settled i.step i.holds i.cost i.reserve m given c.args.flush start before mid c.args.state c.loop-name.state c.settle-state.result
-        (text-worked given start before is k0.same) (sym k0.same.machine) (sym k0.same.given) k0 e.same e.waits e.leads in
+    (text-worked given start before is k0.same) (sym k0.same.machine) (sym k0.same.given) k0 e.same e.waits e.leads in
     (kept-ended i.step i.holds i.cost i.reserve m given c.args.flush start mid c.take_up.new.self c.args.state c.settle-state.result c.in-Err.answer c.in-Err.ensures k1).leads
 
 pub once-requires-clause-waits : goal.once-requires-clause-waits
@@ -32,10 +32,10 @@ once-requires-clause-waits g c =
     let k0 = c.loop-name.invariant in
     let is = c.requires.text in
     let k1 = kept-settled i.step i.holds i.cost i.reserve m given c.args.flush start before mid c.args.state c.loop-name.state c.settle-state.result
-        (text-worked given start before is k0.same) (sym k0.same.machine) (sym k0.same.given) k0 e.same e.waits e.leads in
+    (text-worked given start before is k0.same) (sym k0.same.machine) (sym k0.same.given) k0 e.same e.waits e.leads in
     let taken = c.take_up.new.self in
     let k2 = kept-taken given (i.step m given) (i.holds m given) (i.cost m given) (i.reserve m given) (i.starts m) (laws_of g m given) c.args.flush start mid taken c.args.state c.settle-state.result c.in-Ok.name
-        (text-worked given start mid is k1.same) c.in-Ok.ensures k1 in
+    (text-worked given start mid is k1.same) c.in-Ok.ensures k1 in
     let now = kept-holds i.step i.holds i.cost i.reserve m given c.args.flush start taken c.args.state (Retry c.in-Ok.name) (sym k2.same.machine) (sym k2.same.given) k2 in
     (g.met.M.Machine.invariant_kept taken.machine taken.given).waits taken.text taken.configuration taken.choices c.in-Ok.name c.tells.ensures.text now
 
@@ -48,10 +48,10 @@ once-requires-clause-holds g c =
     let k0 = c.loop-name.invariant in
     let is = c.requires.text in
     let k1 = kept-settled i.step i.holds i.cost i.reserve m given c.args.flush start before mid c.args.state c.loop-name.state c.settle-state.result
-        (text-worked given start before is k0.same) (sym k0.same.machine) (sym k0.same.given) k0 e.same e.waits e.leads in
+    (text-worked given start before is k0.same) (sym k0.same.machine) (sym k0.same.given) k0 e.same e.waits e.leads in
     let taken = c.take_up.new.self in
     let k2 = kept-taken given (i.step m given) (i.holds m given) (i.cost m given) (i.reserve m given) (i.starts m) (laws_of g m given) c.args.flush start mid taken c.args.state c.settle-state.result c.in-Ok.name
-        (text-worked given start mid is k1.same) c.in-Ok.ensures k1 in
+    (text-worked given start mid is k1.same) c.in-Ok.ensures k1 in
     let now = kept-holds i.step i.holds i.cost i.reserve m given c.args.flush start taken c.args.state (Retry c.in-Ok.name) (sym k2.same.machine) (sym k2.same.given) k2 in
     now
 
@@ -64,12 +64,12 @@ loop-name-smaller g c =
     let k0 = c.loop-name.invariant in
     let is = c.requires.text in
     let k1 = kept-settled i.step i.holds i.cost i.reserve m given c.args.flush start before mid c.args.state c.loop-name.state c.settle-state.result
-        (text-worked given start before is k0.same) (sym k0.same.machine) (sym k0.same.given) k0 e.same e.waits e.leads in
+    (text-worked given start before is k0.same) (sym k0.same.machine) (sym k0.same.given) k0 e.same e.waits e.leads in
     let taken = c.take_up.new.self in
     let k2 = kept-taken given (i.step m given) (i.holds m given) (i.cost m given) (i.reserve m given) (i.starts m) (laws_of g m given) c.args.flush start mid taken c.args.state c.settle-state.result c.in-Ok.name
-        (text-worked given start mid is k1.same) c.in-Ok.ensures k1 in
+    (text-worked given start mid is k1.same) c.in-Ok.ensures k1 in
     let k3 = kept-turn i.step i.holds i.cost i.reserve m given (i.starts m) (laws_of g m given) c.args.flush start taken c.once.new.self c.args.state c.in_ok-state.state c.in-Ok.name
-        (text-worked given start taken is k2.same) (sym k2.same.machine) (sym k2.same.given) c.tells.ensures c.in_ok-state.ensures k2 in
+    (text-worked given start taken is k2.same) (sym k2.same.machine) (sym k2.same.given) c.tells.ensures c.in_ok-state.ensures k2 in
     smaller (budget (i.cost m given) (i.reserve m given) start.text start c.args.state) before.calls c.once.new.self.calls
     (kept-calls i.step i.holds i.cost i.reserve m given c.args.flush start c.once.new.self c.args.state c.in_ok-state.state k3)
     (ap (λ t. t.calls) c.in_ok-state.ensures.became ∙ ap (λ (n : ℕ). n + 1) (taken-calls c.args.flush mid taken c.settle-state.result c.in-Ok.name c.in-Ok.ensures ∙ e.calls))
@@ -83,10 +83,10 @@ loop-name-preserved g c =
     let k0 = c.loop-name.invariant in
     let is = c.requires.text in
     let k1 = kept-settled i.step i.holds i.cost i.reserve m given c.args.flush start before mid c.args.state c.loop-name.state c.settle-state.result
-        (text-worked given start before is k0.same) (sym k0.same.machine) (sym k0.same.given) k0 e.same e.waits e.leads in
+    (text-worked given start before is k0.same) (sym k0.same.machine) (sym k0.same.given) k0 e.same e.waits e.leads in
     let taken = c.take_up.new.self in
     let k2 = kept-taken given (i.step m given) (i.holds m given) (i.cost m given) (i.reserve m given) (i.starts m) (laws_of g m given) c.args.flush start mid taken c.args.state c.settle-state.result c.in-Ok.name
-        (text-worked given start mid is k1.same) c.in-Ok.ensures k1 in
+    (text-worked given start mid is k1.same) c.in-Ok.ensures k1 in
     let k3 = kept-turn i.step i.holds i.cost i.reserve m given (i.starts m) (laws_of g m given) c.args.flush start taken c.once.new.self c.args.state c.in_ok-state.state c.in-Ok.name
-        (text-worked given start taken is k2.same) (sym k2.same.machine) (sym k2.same.given) c.tells.ensures c.in_ok-state.ensures k2 in
+    (text-worked given start taken is k2.same) (sym k2.same.machine) (sym k2.same.given) c.tells.ensures c.in_ok-state.ensures k2 in
     k3
