@@ -11,6 +11,3 @@ pub mod Cursor
 pub mod Orders
 pub mod Seats
 pub mod Chains
-pub mod Readings
-pub mod Ends
-pub mod Working

@@ -1,6 +1,6 @@
 use Rattle.std.proofs.Common.{◌≡◌}
-use Rattle.markdown.specs.Ends.{has-end}
-use Rattle.markdown.specs.Readings.{one-end}
+use Rattle.markdown.proofs.Ends.{has-end}
+use Rattle.markdown.proofs.Readings.{one-end}
 use Rattle.markdown.proofs.work.reads_in_one_way.Goals as goal
 
 pub returns : goal.returns

@@ -1,6 +1,6 @@
 use Rattle.std.proofs.Common.{◌≡◌, ap, refl, true}
 use Rattle.markdown_base.specs.declared.state.State.TheVariants.{Ok, Error}
-use Rattle.markdown.specs.Working.{flush-ok, flush-refused, flush-paid, leads-holds, text-worked, taken-formed}
+use Rattle.markdown.proofs.Working.{flush-ok, flush-refused, flush-paid, leads-holds, text-worked, taken-formed}
 use Rattle.markdown.proofs.tokenizer.Tokenizer.flush.Goals as goal
 
 pub unreachable-requires : goal.unreachable-requires

@@ -1,6 +1,6 @@
 use Rattle.std.proofs.Common.{◌≡◌, ◌∙◌, ◌∷◌, sym, refl, true, false}
 use Rattle.markdown.specs.Text.{pushed}
-use Rattle.markdown.specs.Working.{holds-on, not-true, text-extended, is-pushed}
+use Rattle.markdown.proofs.Working.{holds-on, not-true, text-extended, is-pushed}
 use Rattle.markdown.proofs.tokenizer.Tokenizer.push.Goals as goal
 
 pub work-requires-clause-text : goal.work-requires-clause-text

@@ -1,6 +1,6 @@
 use Rattle.std.proofs.Common.{◌≡◌, ◌∙◌, sym}
 use Rattle.markdown.specs.declared.waiting.Waits.TheVariants.{Nothing, End}
-use Rattle.markdown.specs.Working.{settling, only-trans, leads-for-settled}
+use Rattle.markdown.proofs.Working.{settling, only-trans, leads-for-settled}
 use Rattle.markdown.proofs.tokenizer.Tokenizer.settle.Goals as goal
 
 pub loop-ok-preserved : goal.loop-ok-preserved

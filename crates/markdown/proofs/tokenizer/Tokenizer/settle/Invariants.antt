@@ -1,7 +1,7 @@
 use Rattle.std.proofs.Common.{◌≡◌, length}
 use Rattle.markdown.specs.declared.waiting.Waits.TheVariants.{End}
 use Rattle.markdown.specs.Work.{OnlyWorked}
-use Rattle.markdown.specs.Working.{LeadsFor}
+use Rattle.markdown.proofs.Working.{LeadsFor}
 use Rattle.markdown.proofs.tokenizer.Tokenizer.settle.Given as goal
 
 abbrev pub invariant-loop-ok : goal.invariant-loop-ok

@@ -2,7 +2,7 @@ use Rattle.std.proofs.Common.{◌≡◌, ◌∙◌, sym, ap, refl, ℕ, ◌+◌}
 use Rattle.markdown_base.specs.declared.state.State.TheVariants.{Retry}
 use Rattle.markdown.specs.Text.{Given}
 use Rattle.markdown.specs.Engine.{budget}
-use Rattle.markdown.specs.Working.{Laws, kept-settled, kept-ended, kept-taken, kept-turn, kept-holds, kept-calls, text-worked, taken-calls, smaller}
+use Rattle.markdown.proofs.Working.{Laws, kept-settled, kept-ended, kept-taken, kept-turn, kept-holds, kept-calls, text-worked, taken-calls, smaller}
 use Rattle.markdown.proofs.tokenizer.Tokenizer.work.Given.{Over}
 use Rattle.markdown.proofs.tokenizer.Tokenizer.work.Goals as goal
 

@@ -1,6 +1,6 @@
 use Rattle.std.proofs.Common.{◌-◌}
 use Rattle.markdown.specs.Engine.{budget}
-use Rattle.markdown.specs.Working.{KeptBy}
+use Rattle.markdown.proofs.Working.{KeptBy}
 use Rattle.markdown.proofs.tokenizer.Tokenizer.work.Given as goal
 
 abbrev pub invariant-loop-name : goal.invariant-loop-name

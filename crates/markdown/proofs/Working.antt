@@ -24,8 +24,8 @@ use Rattle.markdown.specs.Reading.{Reading, fed, restored, settled_at, EndsIn, m
 use Rattle.markdown.specs.Lawful.{stepped, IsCalled, ConsumesOnce, EndsWhenRead, KeepsInvariant, CostPays}
 use Rattle.markdown.specs.Engine.{LeadsOn, KeepsOutcome, IsPushed, IsFlushed, IsRefused, IsWellFormed, budget, taken, found}
 use Rattle.markdown.specs.Work.{LeadsAll, HoldsAll, Stops, settled, extended, OnlyWorked, TakesUp, IsSettled, IsInText, answer_in}
-use Rattle.markdown.specs.Readings.{fed-ends, called-ends, settled-ok-ends, settled-nok-ends}
-use Rattle.markdown.specs.Ends.{error-stays}
+use Rattle.markdown.proofs.Readings.{fed-ends, called-ends, settled-ok-ends, settled-nok-ends}
+use Rattle.markdown.proofs.Ends.{error-stays}
 
 -- A text that continues another has its seats in front, and begins where it does
 pub record Continues (text w : Text) : Type 0 where

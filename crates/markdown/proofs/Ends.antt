@@ -10,7 +10,7 @@ use Rattle.markdown.specs.Configuration.{Configuration, Choice, Step}
 use Rattle.markdown.specs.Sight.{Sight, sight}
 use Rattle.markdown.specs.Reading.{Reading, fed, settled_at, more_calls, settle, after_choices, read, outcome, EndsIn}
 use Rattle.markdown.specs.Lawful.{KeepsInvariant, CostPays}
-use Rattle.markdown.specs.Readings.{fed-ends, called-ends, settled-ok-ends, settled-nok-ends}
+use Rattle.markdown.proofs.Readings.{fed-ends, called-ends, settled-ok-ends, settled-nok-ends}
 
 pub error-stays : {R D : Type 0} (f : Configuration R D → State → Option (Reading R D)) (cs : List Choice) (k : Configuration R D) (m : Message) (n : ℕ)
     → after_choices f cs (Some (record { configuration = k; answer = Error m; calls = n })) ≡ Some (record { configuration = k; answer = Error m; calls = n })

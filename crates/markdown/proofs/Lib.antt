@@ -1,0 +1,3 @@
+pub mod Readings
+pub mod Ends
+pub mod Working
