@@ -54,7 +54,6 @@ impl<'a, M: Machine> Tokenizer<'a, M> {
 
     /// Choices end, as long as the state says so.
     fn settle(&mut self, state: State) -> State
-        requires { IsText self.old.given self.old.text }
         ensures same { OnlyWorked self.old self.new }
         ensures waits { self.new.configuration.waiting ≡ End → self.old.configuration.waiting ≡ End }
         ensures leads { (text : _) → IsText self.old.given text → M.holds self.old.machine self.old.given text self.old.configuration self.old.choices state → LeadsOn self.old.given (M.step self.old.machine self.old.given) (M.holds self.old.machine self.old.given) (M.cost self.old.machine self.old.given) (M.reserve self.old.machine self.old.given) text self.old state self.new result }
