@@ -111,6 +111,9 @@ module _ {M R D : Type 0} (t : Inside M R D) (sound : IsSound t) where
       let w = made-end bytes_in t.events.items (shown bytes_in t.left) (shown bytes_in t.left) m in
       record { balanced = w.0; void_tight = w.1; in_order = w.2 }
 
+  pub stack-is : t.stack.items ≡ map (λ e. e.name) (open_events t.events.items)
+  stack-is = sym sound.made.names
+
   -- the test of the code
   pub before-end : (q : Point) (b : Bool) → b ≡ (nat_lt q.index t.end.0 || ((q.index == t.end.0) && nat_lt q.vs t.end.1)) → stands_before q end_in ≡ b
   before-end q b e = let at = point_at-is TAB bytes_in t.end end_in sound.end_at in let i = at.index in let v = at.vs in rw (i, v) (sym e)
