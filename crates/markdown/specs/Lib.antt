@@ -1,0 +1,4 @@
+pub mod Balanced
+pub mod Made
+pub mod MadeLemmas
+pub mod OpenNames

@@ -1,0 +1,2 @@
+//! The tokenizer engine of a Markdown parser.
+#![tactic(auto)]
