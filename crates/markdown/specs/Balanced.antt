@@ -1,5 +1,5 @@
 -- Balanced lists, by the stack of open names.
-use Rattle.std.proofs.Common.{◌≡◌, ℕ, Bool, true, false, cond, List, [], ◌∷◌, ◌++◌, Option, Some, None, refl, sym, ◌∙◌, ap, subst, append_assoc, append-nil}
+use Rattle.std.proofs.Common.{◌≡◌, Bool, true, false, cond, List, [], ◌∷◌, ◌++◌, Option, Some, None, refl, sym, ◌∙◌, ap, subst, append_assoc}
 use denote.Enum.Bare.{same_true, true_same}
 use Rattle.markdown_base.specs.contracts.event.Name.{the_type}
 use Rattle.markdown_base.specs.declared.event.Event.{Event}
@@ -80,18 +80,18 @@ pub IsBalanced-insert : (xs ys zs : List Event) → IsBalanced (xs ++ zs) → Is
 IsBalanced-insert xs ys zs b c = balanced_from_open (xs ++ (ys ++ zs))
     (names_after_all-append (Some []) xs (ys ++ zs) ∙ stays (names_after_all (Some []) xs) ∙ sym (names_after_all-append (Some []) xs zs) ∙ names_after_balanced b [])
   where
-  stays : (o : Option (List Name)) → names_after_all o (ys ++ zs) ≡ names_after_all o zs
-  stays None = refl
-  stays (Some st) = names_after_all-append (Some st) ys zs ∙ ap (λ o. names_after_all o zs) (names_after_balanced c st)
+    stays : (o : Option (List Name)) → names_after_all o (ys ++ zs) ≡ names_after_all o zs
+    stays None = refl
+    stays (Some st) = names_after_all-append (Some st) ys zs ∙ ap (λ o. names_after_all o zs) (names_after_balanced c st)
 
 -- a balanced list taken out of a balanced list
 pub IsBalanced-remove : (xs ys zs : List Event) → IsBalanced (xs ++ (ys ++ zs)) → IsBalanced ys → IsBalanced (xs ++ zs)
 IsBalanced-remove xs ys zs b c = balanced_from_open (xs ++ zs)
     (names_after_all-append (Some []) xs zs ∙ sym (stays (names_after_all (Some []) xs)) ∙ sym (names_after_all-append (Some []) xs (ys ++ zs)) ∙ names_after_balanced b [])
   where
-  stays : (o : Option (List Name)) → names_after_all o (ys ++ zs) ≡ names_after_all o zs
-  stays None = refl
-  stays (Some st) = names_after_all-append (Some st) ys zs ∙ ap (λ o. names_after_all o zs) (names_after_balanced c st)
+    stays : (o : Option (List Name)) → names_after_all o (ys ++ zs) ≡ names_after_all o zs
+    stays None = refl
+    stays (Some st) = names_after_all-append (Some st) ys zs ∙ ap (λ o. names_after_all o zs) (names_after_balanced c st)
 
 -- an enter and its exit
 pub IsBalanced-pair : (e f : Event) → e.kind ≡ Enter → f.kind ≡ Exit → f.name ≡ e.name → IsBalanced (e ∷ f ∷ [])

@@ -1,10 +1,10 @@
 -- What a tokenizer keeps of its events, call by call.
-use Rattle.std.proofs.Common.{◌≡◌, ℕ, zero, suc, ◌+◌, ◌-◌, ◌≤◌, ◌<◌, ◌==◌, Bool, true, false, cond, List, [], ◌∷◌, ◌++◌, Option, Some, None, length, take, map, reverse, get_or, refl, sym, ◌∙◌, ap, subst, append_assoc, arith, ◌⊎◌, inl, inr}
+use Rattle.std.proofs.Common.{◌≡◌, ℕ, zero, suc, ◌+◌, ◌-◌, ◌≤◌, ◌<◌, ◌==◌, Bool, true, false, cond, List, [], ◌∷◌, ◌++◌, Option, Some, None, length, take, map, reverse, get_or, refl, sym, ◌∙◌, ap, subst, arith, ◌⊎◌, inl, inr}
 use Rattle.std.specs.Prelude.{slice_get, nat_lt, ◌&&◌, ◌||◌, All, AllPairs}
 use Rattle.std.specs.List.{last_or}
-use Rattle.std.proofs.lemmas.Grind.{common_steps}
 use Rattle.std.proofs.lemmas.Bool.Decides.{nat_tests}
-use Rattle.std.proofs.lemmas.List.{append-nil, reverse-append, take-append-le, take-map, map-append, length-map, get_or_append_left, get_or_push, length_push, take_at, take-take, length-take, length-append}
+use Rattle.std.proofs.lemmas.List.{reverse-append, take-append-le, take-map, map-append, length-map, get_or_append_left, get_or_push, length_push, take_at, take-take, length-take, length-append}
+use Rattle.std.proofs.Math.ListN.{get_or-map}
 use Rattle.std.proofs.lemmas.List.Elements.{All-nil, All-push, All-weaker}
 use Rattle.std.proofs.lemmas.List.Quantifiers.{all_pairs_push}
 use Rattle.markdown_base.specs.declared.event.Event.{Event}
@@ -13,7 +13,7 @@ use Rattle.markdown_base.specs.declared.event.Kind.TheVariants.{Enter, Exit}
 use Rattle.markdown_base.specs.declared.event.Link.{Link}
 use Rattle.markdown_base.specs.declared.event.Name.{Name}
 use Rattle.markdown_base.specs.declared.event.Point.{Point}
-use Rattle.markdown_base.specs.Events.{IsBalanced, empty, span, is_void, open_after, open_events, open_events_from, same_name, IsInOrder, IsVoidTight}
+use Rattle.markdown_base.specs.Events.{IsBalanced, empty, span, is_void, open_after, open_events, open_events_from, same_name, unlinked, HasFrontUpToLinks, IsInOrder, IsVoidTight}
 use Rattle.markdown_base.specs.Places.{stands_before, IsShown}
 use Rattle.markdown.specs.OpenNames.{names_after, names_after_all}
 use Rattle.markdown.specs.Balanced.{names_after_all-append, same_name-refl, balanced_from_open, none_is_not_some}
@@ -24,20 +24,20 @@ use Rattle.markdown.specs.Made.{IsMade, VoidExitsFollow, last_kind}
 pub upto-upto : (p q r : Point) → stands_before q p ≡ false → stands_before r q ≡ false → stands_before r p ≡ false
 upto-upto p q r h k = numbers p.index p.vs q.index q.vs r.index r.vs h k
   where
-  numbers : (u v m n i j : ℕ) → (nat_lt m u || ((m == u) && nat_lt n v)) ≡ false → (nat_lt i m || ((i == m) && nat_lt j n)) ≡ false → (nat_lt i u || ((i == u) && nat_lt j v)) ≡ false
-  numbers u v m n i j h k = grind (arith, nat_tests)
+    numbers : (u v m n i j : ℕ) → (nat_lt m u || ((m == u) && nat_lt n v)) ≡ false → (nat_lt i m || ((i == m) && nat_lt j n)) ≡ false → (nat_lt i u || ((i == u) && nat_lt j v)) ≡ false
+    numbers u v m n i j h k = grind (arith, nat_tests)
 
 pub before-upto : (p q : Point) → stands_before p q ≡ true → stands_before q p ≡ false
 before-upto p q h = numbers p.index p.vs q.index q.vs h
   where
-  numbers : (i j m n : ℕ) → (nat_lt i m || ((i == m) && nat_lt j n)) ≡ true → (nat_lt m i || ((m == i) && nat_lt n j)) ≡ false
-  numbers i j m n h = grind (arith, nat_tests)
+    numbers : (i j m n : ℕ) → (nat_lt i m || ((i == m) && nat_lt j n)) ≡ true → (nat_lt m i || ((m == i) && nat_lt n j)) ≡ false
+    numbers i j m n h = grind (arith, nat_tests)
 
 pub upto-self : (p : Point) → stands_before p p ≡ false
 upto-self p = numbers p.index p.vs
   where
-  numbers : (i j : ℕ) → (nat_lt i i || ((i == i) && nat_lt j j)) ≡ false
-  numbers i j = grind (arith, nat_tests)
+    numbers : (i j : ℕ) → (nat_lt i i || ((i == i) && nat_lt j j)) ≡ false
+    numbers i j = grind (arith, nat_tests)
 
 -- ---- ends of lists
 
@@ -50,9 +50,9 @@ pub last_view : {A : Type 0} (xs : List A) → (xs ≡ []) ⊎ ((ys : List A) ×
 last_view [] = inl refl
 last_view (x ∷ xs) = inr (longer (last_view xs))
   where
-  longer : (xs ≡ []) ⊎ ((ys : List _) × (y : _) × (xs ≡ ys ++ y ∷ [])) → (ys : List _) × (y : _) × (x ∷ xs ≡ ys ++ y ∷ [])
-  longer (inl e) = ([], x, ap (λ l. x ∷ l) e)
-  longer (inr p) = (x ∷ p.0, p.1, ap (λ l. x ∷ l) p.2)
+    longer : (xs ≡ []) ⊎ ((ys : List _) × (y : _) × (xs ≡ ys ++ y ∷ [])) → (ys : List _) × (y : _) × (x ∷ xs ≡ ys ++ y ∷ [])
+    longer (inl e) = ([], x, ap (λ l. x ∷ l) e)
+    longer (inr p) = (x ∷ p.0, p.1, ap (λ l. x ∷ l) p.2)
 
 pub take-push : {A : Type 0} (xs : List A) (x : A) → take (length (xs ++ x ∷ []) - 1) (xs ++ x ∷ []) ≡ xs
 take-push xs x = take_at xs (x ∷ []) (length (xs ++ x ∷ []) - 1) (omega (arith, length-append xs (x ∷ [])))
@@ -61,13 +61,13 @@ take-push xs x = take_at xs (x ∷ []) (length (xs ++ x ∷ []) - 1) (omega (ari
 pub push_from_last : {A : Type 0} (xs : List A) (x : A) → last_or None xs ≡ Some x → xs ≡ take (length xs - 1) xs ++ x ∷ []
 push_from_last xs x e = cases (last_view xs)
   where
-  cases : (xs ≡ []) ⊎ ((ys : List _) × (y : _) × (xs ≡ ys ++ y ∷ [])) → xs ≡ take (length xs - 1) xs ++ x ∷ []
-  cases (inl none) = let no : None ≡ Some x = ap (last_or None) (sym none) ∙ e in cc
-  cases (inr p) =
-      let same : Some p.1 ≡ Some x = sym (last_or-push None p.0 p.1) ∙ ap (last_or None) (sym p.2) ∙ e in
-      let at : p.1 ≡ x = cc in
-      let front : take (length xs - 1) xs ≡ p.0 = ap (λ (l : List _). take (length l - 1) l) p.2 ∙ take-push p.0 p.1 in
-      p.2 ∙ ap (λ (y : _). p.0 ++ y ∷ []) at ∙ ap (λ (l : List _). l ++ x ∷ []) (sym front)
+    cases : (xs ≡ []) ⊎ ((ys : List _) × (y : _) × (xs ≡ ys ++ y ∷ [])) → xs ≡ take (length xs - 1) xs ++ x ∷ []
+    cases (inl none) = let no : None ≡ Some x = ap (last_or None) (sym none) ∙ e in cc
+    cases (inr p) =
+        let same : Some p.1 ≡ Some x = sym (last_or-push None p.0 p.1) ∙ ap (last_or None) (sym p.2) ∙ e in
+        let at : p.1 ≡ x = cc in
+        let front : take (length xs - 1) xs ≡ p.0 = ap (λ (l : List _). take (length l - 1) l) p.2 ∙ take-push p.0 p.1 in
+        p.2 ∙ ap (λ (y : _). p.0 ++ y ∷ []) at ∙ ap (λ (l : List _). l ++ x ∷ []) (sym front)
 
 pub reverse-push : {A : Type 0} (xs : List A) (x : A) → reverse (xs ++ x ∷ []) ≡ x ∷ reverse xs
 reverse-push xs x = reverse-append xs (x ∷ [])
@@ -124,9 +124,9 @@ in_order-push bytes events e h upto is =
 names-push : (events : List Event) (e : Event) (st : List Name) → names_after_all (Some []) events ≡ Some st → names_after_all (Some []) (events ++ e ∷ []) ≡ names_after e.kind e.name st
 names-push events e st h = names_after_all-append (Some []) events (e ∷ []) ∙ ap (λ o. names_after_all o (e ∷ [])) h ∙ at (names_after e.kind e.name st)
   where
-  at : (o : Option (List Name)) → names_after_all o [] ≡ o
-  at None = refl
-  at (Some st) = refl
+    at : (o : Option (List Name)) → names_after_all o [] ≡ o
+    at None = refl
+    at (Some st) = refl
 
 pub enter-is-no-exit : {P : Type 0} → Enter ≡ Exit → P
 enter-is-no-exit e = cc
@@ -149,16 +149,16 @@ upto_enter : (bytes : List ℕ) (events : List Event) (left : Point) → IsInOrd
     → ((o : Event) → last_or None (open_events events) ≡ Some o → stands_before o.point left ≡ true) → AreUpto left events
 upto_enter bytes events left order enters before = cases (last_view events)
   where
-  cases : (events ≡ []) ⊎ ((ys : List Event) × (y : Event) × (events ≡ ys ++ y ∷ [])) → AreUpto left events
-  cases (inl none) = enter-is-no-exit (sym enters ∙ ap (last_kind Exit) none)
-  cases (inr p) =
-      let k : p.1.kind ≡ Enter = sym (last_kind-append Exit p.0 (p.1 ∷ [])) ∙ ap (last_kind Exit) (sym p.2) ∙ enters in
-      let opened : open_events events ≡ open_events p.0 ++ p.1 ∷ [] = ap open_events p.2 ∙ open_events-enter p.0 p.1 k in
-      let lt : stands_before p.1.point left ≡ true = before p.1 (ap (last_or None) opened ∙ last_or-push None (open_events p.0) p.1) in
-      let upto : stands_before left p.1.point ≡ false = before-upto p.1.point left lt in
-      let pairs : AllPairs (λ (d f : Event). stands_before f.point d.point ≡ false) (p.0 ++ p.1 ∷ []) = subst (λ (es : List Event). AllPairs (λ (d f : Event). stands_before f.point d.point ≡ false) es) p.2 order.0 in
-      let front : AreUpto p.1.point p.0 = pairs-last (λ (d f : Event). stands_before f.point d.point ≡ false) p.0 p.1 pairs in
-      subst (AreUpto left) (sym p.2) (All-push (λ d. stands_before left d.point ≡ false) p.0 p.1 (AreUpto-later p.1.point left p.0 upto front) upto)
+    cases : (events ≡ []) ⊎ ((ys : List Event) × (y : Event) × (events ≡ ys ++ y ∷ [])) → AreUpto left events
+    cases (inl none) = enter-is-no-exit (sym enters ∙ ap (last_kind Exit) none)
+    cases (inr p) =
+        let k : p.1.kind ≡ Enter = sym (last_kind-append Exit p.0 (p.1 ∷ [])) ∙ ap (last_kind Exit) (sym p.2) ∙ enters in
+        let opened : open_events events ≡ open_events p.0 ++ p.1 ∷ [] = ap open_events p.2 ∙ open_events-enter p.0 p.1 k in
+        let lt : stands_before p.1.point left ≡ true = before p.1 (ap (last_or None) opened ∙ last_or-push None (open_events p.0) p.1) in
+        let upto : stands_before left p.1.point ≡ false = before-upto p.1.point left lt in
+        let pairs : AllPairs (λ (d f : Event). stands_before f.point d.point ≡ false) (p.0 ++ p.1 ∷ []) = subst (λ (es : List Event). AllPairs (λ (d f : Event). stands_before f.point d.point ≡ false) es) p.2 order.0 in
+        let front : AreUpto p.1.point p.0 = pairs-last (λ (d f : Event). stands_before f.point d.point ≡ false) p.0 p.1 pairs in
+        subst (AreUpto left) (sym p.2) (All-push (λ d. stands_before left d.point ≡ false) p.0 p.1 (AreUpto-later p.1.point left p.0 upto front) upto)
 
 module _ (bytes : List ℕ) (events : List Event) (stack : List Name) (left bound : Point) where
   -- an enter, at the place where one would stand
@@ -180,9 +180,9 @@ module _ (bytes : List ℕ) (events : List Event) (stack : List Name) (left boun
   upto_left : IsMade bytes events stack left bound → ((o : Event) → last_or None (open_events events) ≡ Some o → stands_before o.point left ≡ true) → AreUpto left events
   upto_left m before = cases (last_kind Exit events) refl
     where
-    cases : (k : Kind) → last_kind Exit events ≡ k → AreUpto left events
-    cases Enter e = upto_enter bytes events left m.in_order e before
-    cases Exit e = m.read e
+      cases : (k : Kind) → last_kind Exit events ≡ k → AreUpto left events
+      cases Enter e = upto_enter bytes events left m.in_order e before
+      cases Exit e = m.read e
 
   -- an exit of the last open name, at the place where one stands
   pub made-exit : IsMade bytes events stack left bound → (e : Event) → e.kind ≡ Exit → e.point ≡ left → last_or None stack ≡ Some e.name
@@ -210,8 +210,8 @@ module _ (bytes : List ℕ) (events : List Event) (stack : List Name) (left boun
         bound_shown = m.bound_shown;
       }
     where
-    follows : (o : Event) × (last_or None events ≡ Some o) × (o.kind ≡ Enter) → last_kind Exit events ≡ Enter
-    follows p = ap (last_kind Exit) (push_from_last events p.0 p.1) ∙ last_kind-append Exit (take (length events - 1) events) (p.0 ∷ []) ∙ p.2
+      follows : (o : Event) × (last_or None events ≡ Some o) × (o.kind ≡ Enter) → last_kind Exit events ≡ Enter
+      follows p = ap (last_kind Exit) (push_from_last events p.0 p.1) ∙ last_kind-append Exit (take (length events - 1) events) (p.0 ∷ []) ∙ p.2
 
   -- a byte is consumed: an exit stands at its end, and no event after
   pub made-consume : IsMade bytes events stack left bound → (left' bound' : Point) → stands_before left' bound ≡ false → stands_before bound' left' ≡ false → IsShown bytes left' → IsShown bytes bound'
@@ -241,6 +241,18 @@ module _ (bytes : List ℕ) (events : List Event) (stack : List Name) (left boun
     left_shown = m.left_shown;
     bound_shown = b;
   }
+
+-- an enter at the place where one stands
+pub made-enter-at : (bytes : List ℕ) (events : List Event) (stack : List Name) (left bound : Point) → IsMade bytes events stack left bound → (name : Name) (link : Option Link)
+    → IsMade bytes (events ++ record { kind = Enter; name = name; point = bound; link = link } ∷ []) (stack ++ name ∷ []) left bound
+made-enter-at bytes events stack left bound m name link =
+    made-enter bytes events stack left bound m (record { kind = Enter; name = name; point = bound; link = link }) refl (upto-self bound) (upto-self bound) m.bound_shown
+
+-- an enter where an exit would stand, where that is the same place
+pub made-enter-left : (bytes : List ℕ) (events : List Event) (stack : List Name) (left bound : Point) → IsMade bytes events stack left bound → stands_before left bound ≡ false → (name : Name) (link : Option Link)
+    → IsMade bytes (events ++ record { kind = Enter; name = name; point = left; link = link } ∷ []) (stack ++ name ∷ []) left bound
+made-enter-left bytes events stack left bound m same name link =
+    made-enter bytes events stack left bound m (record { kind = Enter; name = name; point = left; link = link }) refl same m.left_bound m.left_shown
 
 -- ---- ends
 
@@ -279,9 +291,10 @@ module _ (void : Name → Bool) where
       → (VoidExitsFollow void e.kind us → AreFollowed void us) → (VoidExitsFollow void f.kind vs → AreFollowed void vs)
       → VoidExitsFollow void e.kind (us ++ f ∷ vs) → AreFollowed void (e ∷ (us ++ f ∷ vs))
   span-followed e f us vs en ex same b inner later t =
-      let back = void_exits-back void e.kind us (f ∷ vs) t in
-      (λ _ v. subst (λ (n : Name). IsFollowed n (us ++ f ∷ vs)) same (first_after_enter b e.kind f vs (back.0 ex (ap void same ∙ v)) ex),
-      are_followed-append us (f ∷ vs) (inner (void_exits-front void e.kind us (f ∷ vs) t)) (λ fen _. enter-is-no-exit (sym fen ∙ ex), later back.1))
+      let back = void_exits-back void e.kind us (f ∷ vs) t in (
+        λ _ v. subst (λ (n : Name). IsFollowed n (us ++ f ∷ vs)) same (first_after_enter b e.kind f vs (back.0 ex (ap void same ∙ v)) ex),
+        are_followed-append us (f ∷ vs) (inner (void_exits-front void e.kind us (f ∷ vs) t)) (λ fen _. enter-is-no-exit (sym fen ∙ ex), later back.1),
+      )
 
   balanced-followed : {l : List Event} → IsBalanced l → (k : Kind) → VoidExitsFollow void k l → AreFollowed void l
   balanced-followed empty k h = tt
@@ -323,3 +336,74 @@ front-enter stack saved name front =
 -- and after an exit, where the stack is longer
 pub front-exit : (stack saved : List Name) → saved ≡ take (length saved) stack → length saved < length stack → saved ≡ take (length saved) (take (length stack - 1) stack)
 front-exit stack saved front lt = front ∙ sym (take-take (length saved) (length stack - 1) stack (omega arith))
+
+-- ---- links
+
+last_kind-unlinked : (k : Kind) (es : List Event) → last_kind k (map unlinked es) ≡ last_kind k es
+last_kind-unlinked k [] = refl
+last_kind-unlinked k (e ∷ es) = last_kind-unlinked e.kind es
+
+names_after_all-unlinked : (o : Option (List Name)) (es : List Event) → names_after_all o (map unlinked es) ≡ names_after_all o es
+names_after_all-unlinked None es = refl
+names_after_all-unlinked (Some st) [] = refl
+names_after_all-unlinked (Some st) (e ∷ es) = names_after_all-unlinked (names_after e.kind e.name st) es
+
+void_exits-unlinked : (void : Name → Bool) (k : Kind) (es : List Event) → VoidExitsFollow void k es → VoidExitsFollow void k (map unlinked es)
+void_exits-unlinked void k [] h = tt
+void_exits-unlinked void k (e ∷ es) h = (h.0, void_exits-unlinked void e.kind es h.1)
+
+void_exits-linked : (void : Name → Bool) (k : Kind) (es : List Event) → VoidExitsFollow void k (map unlinked es) → VoidExitsFollow void k es
+void_exits-linked void k [] h = tt
+void_exits-linked void k (e ∷ es) h = (h.0, void_exits-linked void e.kind es h.1)
+
+open_after-unlinked : (k : Kind) (e : Event) (before : List Event) → open_after k (unlinked e) (map unlinked before) ≡ map unlinked (open_after k e before)
+open_after-unlinked Enter e before = sym (map-append unlinked before (e ∷ []))
+open_after-unlinked Exit e before = ap (λ (n : ℕ). take (n - 1) (map unlinked before)) (length-map before unlinked) ∙ take-map unlinked (length before - 1) before
+
+open_events_from-unlinked : (before es : List Event) → open_events_from (map unlinked before) (map unlinked es) ≡ map unlinked (open_events_from before es)
+open_events_from-unlinked before [] = refl
+open_events_from-unlinked before (e ∷ es) = ap (λ (b : List Event). open_events_from b (map unlinked es)) (open_after-unlinked e.kind e before) ∙ open_events_from-unlinked (open_after e.kind e before) es
+
+names-unlinked : (es : List Event) → map (λ (e : Event). e.name) (map unlinked es) ≡ map (λ (e : Event). e.name) es
+names-unlinked [] = refl
+names-unlinked (e ∷ es) = ap (λ (ns : List Name). e.name ∷ ns) (names-unlinked es)
+
+-- the names of open enters
+open_names-unlinked : (es : List Event) → map (λ (e : Event). e.name) (open_events (map unlinked es)) ≡ map (λ (e : Event). e.name) (open_events es)
+open_names-unlinked es = ap (map (λ (e : Event). e.name)) (open_events_from-unlinked [] es) ∙ names-unlinked (open_events es)
+
+moved_point : {p q u v : Point} → stands_before q p ≡ false → p ≡ u → q ≡ v → stands_before v u ≡ false
+moved_point {p} {q} {u} {v} h e f = subst (λ (t : Point). stands_before t u ≡ false) f (subst (λ (t : Point). stands_before q t ≡ false) e h)
+
+module _ (xs ys : List Event) (same : map unlinked xs ≡ map unlinked ys) where
+  point-unlinked : (k : ℕ) (d : Event) → (get_or xs k d).point ≡ (get_or ys k d).point
+  point-unlinked k d =
+      ap (λ (e : Event). e.point) (sym (get_or-map unlinked xs k d)) ∙ ap (λ (es : List Event). (get_or es k (unlinked d)).point) same ∙ ap (λ (e : Event). e.point) (get_or-map unlinked ys k d)
+
+  length-unlinked : length ys ≡ length xs
+  length-unlinked = sym (length-map ys unlinked) ∙ sym (ap length same) ∙ length-map xs unlinked
+
+  all-unlinked : (P : Point → Type 0) → All (λ e. P e.point) xs → All (λ e. P e.point) ys
+  all-unlinked P h k d lt = subst P (point-unlinked k d) (h k d (omega (arith, length-unlinked)))
+
+  -- other links
+  pub made-linked : (bytes : List ℕ) (stack : List Name) (left bound : Point) → IsMade bytes xs stack left bound → IsMade bytes ys stack left bound
+  made-linked bytes stack left bound m = record {
+    names = sym (open_names-unlinked ys) ∙ ap (λ (es : List Event). map (λ (e : Event). e.name) (open_events es)) (sym same) ∙ open_names-unlinked xs ∙ m.names;
+    nested = sym (names_after_all-unlinked (Some []) ys) ∙ ap (names_after_all (Some [])) (sym same) ∙ names_after_all-unlinked (Some []) xs ∙ m.nested;
+    tight = void_exits-linked is_void Exit ys (subst (VoidExitsFollow is_void Exit) same (void_exits-unlinked is_void Exit xs m.tight));
+    in_order = (λ i j d lt within. moved_point (m.in_order.0 i j d lt (omega (arith, length-unlinked))) (point-unlinked i d) (point-unlinked j d), all-unlinked (IsShown bytes) m.in_order.1);
+    behind = all-unlinked (λ p. stands_before bound p ≡ false) m.behind;
+    read = λ k. all-unlinked (λ p. stands_before left p ≡ false) (m.read (sym (last_kind-unlinked Exit xs) ∙ ap (last_kind Exit) same ∙ last_kind-unlinked Exit ys ∙ k));
+    left_bound = m.left_bound;
+    left_shown = m.left_shown;
+    bound_shown = m.bound_shown;
+  }
+
+-- what was made of a front stays, where events are added and links are changed
+pub made-kept : (bytes : List ℕ) (old new : List Event) (n : ℕ) (stack : List Name) (left bound : Point) → n ≤ length old → HasFrontUpToLinks new old
+    → IsMade bytes (take n old) stack left bound → IsMade bytes (take n new) stack left bound
+made-kept bytes old new n stack left bound le front m =
+    made-linked (take n old) (take n new)
+    (sym (take-map unlinked n old) ∙ ap (take n) (sym front) ∙ take-map unlinked n (take (length old) new) ∙ ap (map unlinked) (take-take n (length old) new le))
+    bytes stack left bound m
