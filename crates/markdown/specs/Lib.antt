@@ -1,4 +1,12 @@
+pub mod Text
+pub mod Configuration
+pub mod Sight
+pub mod Calls
+pub mod Reading
+pub mod Lawful
+pub mod Engine
+pub mod View
+pub mod OpenNames
 pub mod Balanced
 pub mod Made
 pub mod MadeLemmas
-pub mod OpenNames
