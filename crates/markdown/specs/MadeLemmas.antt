@@ -1,6 +1,6 @@
 -- What a tokenizer keeps of its events, call by call.
 use Rattle.std.proofs.Common.{◌≡◌, ℕ, zero, suc, ◌+◌, ◌-◌, ◌≤◌, ◌<◌, ◌==◌, Bool, true, false, cond, List, [], ◌∷◌, ◌++◌, Option, Some, None, length, take, map, reverse, get_or, refl, sym, ◌∙◌, ap, subst, arith, ◌⊎◌, inl, inr}
-use Rattle.std.specs.Prelude.{slice_get, nat_lt, ◌&&◌, ◌||◌, All, AllPairs}
+use Rattle.std.specs.Prelude.{slice_get, slice_index, nat_lt, ◌&&◌, ◌||◌, All, AllPairs}
 use Rattle.std.specs.List.{last_or}
 use Rattle.std.proofs.lemmas.Bool.Decides.{nat_tests}
 use Rattle.std.proofs.lemmas.List.{reverse-append, take-append-le, take-map, map-append, length-map, get_or_append_left, get_or_push, length_push, take_at, take-take, length-take, length-append}
@@ -14,7 +14,7 @@ use Rattle.markdown_base.specs.declared.event.Link.{Link}
 use Rattle.markdown_base.specs.declared.event.Name.{Name}
 use Rattle.markdown_base.specs.declared.event.Point.{Point}
 use Rattle.markdown_base.specs.Events.{IsBalanced, empty, span, is_void, open_after, open_events, open_events_from, same_name, unlinked, HasFrontUpToLinks, IsInOrder, IsVoidTight}
-use Rattle.markdown_base.specs.Places.{stands_before, IsShown}
+use Rattle.markdown_base.specs.Places.{stands_before, follows_cr, shown, IsShown}
 use Rattle.markdown.specs.OpenNames.{names_after, names_after_all}
 use Rattle.markdown.specs.Balanced.{names_after_all-append, same_name-refl, balanced_from_open, none_is_not_some}
 use Rattle.markdown.specs.Made.{IsMade, VoidExitsFollow, last_kind}
@@ -254,6 +254,14 @@ pub made-enter-left : (bytes : List ℕ) (events : List Event) (stack : List Nam
 made-enter-left bytes events stack left bound m same name link =
     made-enter bytes events stack left bound m (record { kind = Enter; name = name; point = left; link = link }) refl same m.left_bound m.left_shown
 
+-- an exit of the last open name
+pub made-exit-at : (bytes : List ℕ) (events : List Event) (stack : List Name) (left bound : Point) → IsMade bytes events stack left bound → (name : Name) → last_or None stack ≡ Some name
+    → ((o : Event) → last_or None (open_events events) ≡ Some o → stands_before o.point left ≡ true)
+    → (is_void name ≡ true → (o : Event) × (last_or None events ≡ Some o) × (o.kind ≡ Enter))
+    → IsMade bytes (events ++ record { kind = Exit; name = name; point = left; link = None } ∷ []) (take (length stack - 1) stack) left bound
+made-exit-at bytes events stack left bound m name top read last =
+    made-exit bytes events stack left bound m (record { kind = Exit; name = name; point = left; link = None }) refl refl top read last
+
 -- ---- ends
 
 -- the first of these is the exit of the name
@@ -407,3 +415,60 @@ made-kept bytes old new n stack left bound le front m =
     made-linked (take n old) (take n new)
     (sym (take-map unlinked n old) ∙ ap (take n) (sym front) ∙ take-map unlinked n (take (length old) new) ∙ ap (map unlinked) (take-take n (length old) new le))
     bytes stack left bound m
+
+-- ---- shown places
+
+-- at this index stands the LF of a CR LF
+abbrev is_second : List ℕ → ℕ → Bool
+is_second bytes i = (slice_index bytes i == 10) && follows_cr bytes i
+
+abbrev shown_by : Bool → Point → Point
+shown_by b p = cond b (record { line = p.line; column = p.column; index = p.index - 1; vs = p.vs }) p
+
+after_cr : (bytes : List ℕ) (i : ℕ) (x : Bool) → (slice_index bytes i == 10) ≡ x → is_second bytes i ≡ true → (0 < i) × (slice_index bytes (i - 1) ≡ 13)
+after_cr bytes i false e h = let no : false ≡ true = ap (λ (x : Bool). x && follows_cr bytes i) (sym e) ∙ h in cc
+after_cr bytes zero true e h = let no : false ≡ true = ap (λ (x : Bool). x && false) (sym e) ∙ h in cc
+after_cr bytes (suc i) true e h =
+    let cr : (slice_index bytes i == 13) ≡ true = ap (λ (x : Bool). x && (slice_index bytes i == 13)) (sym e) ∙ h in
+    let n : suc i - 1 ≡ i = omega arith in
+    (omega arith, rw n (number (slice_index bytes i) cr))
+  where
+    number : (b : ℕ) → (b == 13) ≡ true → b ≡ 13
+    number b e = grind (arith, nat_tests)
+
+cr_before : (bytes : List ℕ) (i : ℕ) → is_second bytes i ≡ true → (0 < i) × (slice_index bytes (i - 1) ≡ 13)
+cr_before bytes i h = after_cr bytes i (slice_index bytes i == 10) refl h
+
+cr_is_first : (bytes : List ℕ) (i : ℕ) → slice_index bytes i ≡ 13 → is_second bytes i ≡ false
+cr_is_first bytes i h = ap (λ (b : ℕ). (b == 10) && follows_cr bytes i) h
+
+-- where a place is shown is shown at itself: it is no LF after a CR
+pub shown-shown : (bytes : List ℕ) (p : Point) → IsShown bytes (shown bytes p)
+shown-shown bytes p = at (is_second bytes p.index) refl
+  where
+    at : (b : Bool) → is_second bytes p.index ≡ b → IsShown bytes (shown_by b p)
+    at false e = ap (λ (b : Bool). shown_by b p) e
+    at true e =
+        let q : Point = record { line = p.line; column = p.column; index = p.index - 1; vs = p.vs } in
+        ap (λ (b : Bool). shown_by b q) (cr_is_first bytes (p.index - 1) (cr_before bytes p.index e).1)
+
+-- where one place is up to another, so are the places where they are shown; no tab stands at a CR
+pub shown-upto : (bytes : List ℕ) (p q : Point) → (slice_index bytes p.index ≡ 13 → p.vs ≡ 0) → stands_before q p ≡ false → stands_before (shown bytes q) (shown bytes p) ≡ false
+shown-upto bytes p q no_tab h = at (is_second bytes p.index) (is_second bytes q.index) refl refl
+  where
+    at : (b c : Bool) → is_second bytes p.index ≡ b → is_second bytes q.index ≡ c → stands_before (shown_by c q) (shown_by b p) ≡ false
+    at false false e f = h
+    at true false e f = shifted q.index q.vs p.index p.vs h
+      where
+        shifted : (i j m n : ℕ) → (nat_lt i m || ((i == m) && nat_lt j n)) ≡ false → (nat_lt i (m - 1) || ((i == m - 1) && nat_lt j n)) ≡ false
+        shifted i j m n h = grind (arith, nat_tests)
+    at false true e f =
+        first q.index q.vs p.index p.vs (λ k. let no : false ≡ true = sym e ∙ ap (is_second bytes) k ∙ f in cc)
+        (λ k. no_tab (ap (slice_index bytes) k ∙ (cr_before bytes q.index f).1)) h
+      where
+        first : (i j m n : ℕ) → (m ≡ i → ⊥) → (m ≡ i - 1 → n ≡ 0) → (nat_lt i m || ((i == m) && nat_lt j n)) ≡ false → (nat_lt (i - 1) m || ((i - 1 == m) && nat_lt j n)) ≡ false
+        first i j m n apart zero_there h = grind (arith, nat_tests)
+    at true true e f = both q.index q.vs p.index p.vs (cr_before bytes p.index e).0 h
+      where
+        both : (i j m n : ℕ) → 0 < m → (nat_lt i m || ((i == m) && nat_lt j n)) ≡ false → (nat_lt (i - 1) (m - 1) || ((i - 1 == m - 1) && nat_lt j n)) ≡ false
+        both i j m n l h = grind (arith, nat_tests)
