@@ -6,10 +6,7 @@ pub mod parser;
 pub mod state;
 pub mod subtokenize;
 pub mod tokenizer;
+pub mod util;
 pub mod waiting;
 
-pub use markdown_base::configuration;
-pub use markdown_base::event;
-pub use markdown_base::message;
-pub use markdown_base::owned;
-pub use markdown_base::unist;
+pub use markdown_base::{configuration, event, message, owned, unist};

@@ -1,0 +1,3 @@
+pub mod Mirrors
+pub mod Nearest
+pub mod Runs

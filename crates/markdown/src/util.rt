@@ -1,0 +1,3 @@
+//! Utilities used when tokenizing.
+
+pub mod skip;
