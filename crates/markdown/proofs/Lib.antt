@@ -1,3 +1,2 @@
 pub mod Mirrors
-pub mod Nearest
 pub mod Runs

@@ -8,6 +8,9 @@ ghost use Rattle.markdown_base.specs.Events.{IsBalanced};
 ghost use Rattle.markdown.specs.Walks.{is_wanted, HasWanted, IsFirstWanted, IsFront, IsLastWanted, IsLongestRunFrom, IsLongestRunTo};
 ghost use Rattle.markdown.specs.WalkSteps.{flip, is_stop, mirror, run_len};
 
+#[cfg(test)]
+mod tests;
+
 use markdown_base::event::{Event, Kind, Name};
 
 /// Skip whole spans of the names, forwards.
@@ -46,14 +49,11 @@ pub fn opt_back(events: &[Event], index: usize, names: &[Name]) -> usize
 pub fn to(events: &[Event], index: usize, names: &[Name]) -> usize
     ensures { IsFirstWanted names.now events.now index result }
 {
-    let mut at = index;
-    while at < events.len() {
-        if is_wanted(names, events[at].name) {
-            return at;
-        }
-        at += 1;
+    let mut first = index;
+    while first < events.len() && !is_wanted(names, events[first].name) {
+        first += 1;
     }
-    at
+    first
 }
 
 /// Skip backwards to an event, enter or exit, with one of the names.
@@ -64,14 +64,11 @@ pub fn to_back(events: &[Event], index: usize, names: &[Name]) -> usize
     ensures found { index < length events.now → IsLastWanted names.now events.now index result }
     ensures past { length events.now ≤ index → result ≡ index }
 {
-    let mut at = index;
-    while at < events.len() {
-        if is_wanted(names, events[at].name) {
-            return at;
-        }
-        at -= 1;
+    let mut last = index;
+    while last < events.len() && !is_wanted(names, events[last].name) {
+        last -= 1;
     }
-    at
+    last
 }
 
 /// Where the longest run from `index` on ends.

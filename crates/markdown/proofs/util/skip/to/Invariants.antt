@@ -3,12 +3,12 @@ use Rattle.markdown_base.specs.declared.event.Event.{Event}
 use Rattle.markdown.specs.Walks.{is_wanted}
 use Rattle.markdown.proofs.util.skip.to.Given as goal
 
-abbrev pub invariant-loop-at : goal.invariant-loop-at
-invariant-loop-at l = record {
-  order : l.index ≤ l.at;
-  within : l.at ≤ max l.index (length l.events);
-  passed : (k : ℕ) (d : Event) → l.index ≤ k → k < l.at → is_wanted l.names (get_or l.events k d).name ≡ false;
+abbrev pub invariant-loop-first : goal.invariant-loop-first
+invariant-loop-first l = record {
+  order : l.index ≤ l.first;
+  within : l.first ≤ max l.index (length l.events);
+  passed : (k : ℕ) (d : Event) → l.index ≤ k → k < l.first → is_wanted l.names (get_or l.events k d).name ≡ false;
 }
 
-abbrev pub decreases-loop-at : goal.decreases-loop-at
-decreases-loop-at l = length l.initial.events - l.at
+abbrev pub decreases-loop-first : goal.decreases-loop-first
+decreases-loop-first l = length l.initial.events - l.first

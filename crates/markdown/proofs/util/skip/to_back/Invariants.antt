@@ -3,13 +3,13 @@ use Rattle.markdown_base.specs.declared.event.Event.{Event}
 use Rattle.markdown.specs.Walks.{is_wanted}
 use Rattle.markdown.proofs.util.skip.to_back.Given as goal
 
-abbrev pub invariant-loop-at : goal.invariant-loop-at
-invariant-loop-at l = record {
-  order : l.at ≤ l.index;
-  past : length l.events ≤ l.index → l.at ≡ l.index;
-  ahead : l.index < length l.events → (k : ℕ) × (k ≤ l.at) × ((d : Event) → is_wanted l.names (get_or l.events k d).name ≡ true);
-  passed : (k : ℕ) (d : Event) → l.at < k → k ≤ l.index → is_wanted l.names (get_or l.events k d).name ≡ false;
+abbrev pub invariant-loop-last : goal.invariant-loop-last
+invariant-loop-last l = record {
+  order : l.last ≤ l.index;
+  past : length l.events ≤ l.index → l.last ≡ l.index;
+  ahead : l.index < length l.events → (k : ℕ) × (k ≤ l.last) × ((d : Event) → is_wanted l.names (get_or l.events k d).name ≡ true);
+  passed : (k : ℕ) (d : Event) → l.last < k → k ≤ l.index → is_wanted l.names (get_or l.events k d).name ≡ false;
 }
 
-abbrev pub decreases-loop-at : goal.decreases-loop-at
-decreases-loop-at l = l.at
+abbrev pub decreases-loop-last : goal.decreases-loop-last
+decreases-loop-last l = l.last
