@@ -1,4 +1,4 @@
-use Rattle.std.proofs.Common.{◌≤◌, length, arith}
+use Rattle.std.proofs.Common.{arith}
 use Rattle.markdown.proofs.Runs.{IsLongestRunFrom-walk, IsLongestRunFrom-past}
 use Rattle.markdown.proofs.util.skip.opt.Goals as goal
 

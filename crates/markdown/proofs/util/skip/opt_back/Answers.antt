@@ -1,4 +1,3 @@
-use Rattle.std.proofs.Common.{◌<◌, length, arith}
 use Rattle.markdown.proofs.Mirrors.{IsLongestRunTo-walk}
 use Rattle.markdown.proofs.util.skip.opt_back.Goals as goal
 

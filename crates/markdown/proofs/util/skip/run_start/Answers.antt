@@ -1,4 +1,4 @@
-use Rattle.std.proofs.Common.{◌≡◌, ◌≤◌, ◌<◌, ℕ, ◌+◌, ◌-◌, arith, length, take, sym, ap, ◌∙◌, true, false}
+use Rattle.std.proofs.Common.{◌≡◌, ◌+◌, ◌-◌, arith, take, sym, ap, ◌∙◌}
 use Rattle.markdown_base.specs.declared.event.Kind.{Kind}
 use Rattle.markdown.specs.WalkSteps.{depth_after, run_len, mirror}
 use Rattle.markdown.proofs.Mirrors.{back_stops, back_goes}

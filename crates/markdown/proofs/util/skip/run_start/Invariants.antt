@@ -1,4 +1,4 @@
-use Rattle.std.proofs.Common.{◌≡◌, ℕ, ◌+◌, ◌-◌, ◌≤◌, take}
+use Rattle.std.proofs.Common.{◌≡◌, ◌+◌, ◌≤◌, take}
 use Rattle.markdown.specs.WalkSteps.{run_len, mirror}
 use Rattle.markdown.proofs.util.skip.run_start.Given as goal
 
