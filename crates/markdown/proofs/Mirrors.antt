@@ -1,8 +1,7 @@
--- Lists seen from behind.
-use Rattle.std.proofs.Common.{◌≡◌, ℕ, zero, suc, ◌+◌, ◌-◌, ◌<◌, ◌≤◌, true, false, List, [], ◌∷◌, ◌++◌, length, take, drop, get_or, refl, sym, ◌∙◌, ap, subst, arith, append_assoc, append-nil, length-append, length-drop, take-append-drop}
+-- Lists seen from behind: a walk back is a walk over the mirror, and goes as far as the longest run that ends there.
+use Rattle.std.proofs.Common.{◌≡◌, ℕ, zero, suc, ◌+◌, ◌-◌, ◌<◌, ◌≤◌, true, false, cond, Some, List, [], ◌∷◌, ◌++◌, length, take, drop, get_or, refl, sym, ◌∙◌, ap, subst, arith, append_assoc, append-nil, length-append, length-drop, take-append-drop}
 use Rattle.std.proofs.lemmas.List.{length-take-le}
 use Rattle.std.specs.List.{between}
-use Rattle.std.proofs.Common.{Some, cond}
 use Rattle.markdown_base.specs.declared.event.Event.{Event}
 use Rattle.markdown_base.specs.declared.event.Kind.{Kind}
 use Rattle.markdown_base.specs.declared.event.Kind.TheVariants.{Enter, Exit}
@@ -12,7 +11,7 @@ use Rattle.markdown.specs.OpenNames.{names_after_all}
 use Rattle.markdown.specs.Walks.{IsRun, no_span, one_more, is_wanted, IsLongestRunTo, IsFront}
 use Rattle.markdown.specs.WalkSteps.{run_len, is_stop, depth_after, flip, flip_kind, mirror}
 use Rattle.markdown.specs.Balanced.{IsBalanced-append}
-use Rattle.markdown.proofs.Runs.{run_len-run, run_len-le, suffix_closes}
+use Rattle.markdown.proofs.Runs.{span_and_run, span_parts, run_len-run, run_len-le, suffix_closes}
 
 pub mirror-append : (xs ys : List Event) → mirror (xs ++ ys) ≡ mirror ys ++ mirror xs
 mirror-append [] ys = sym (append-nil (mirror ys))
@@ -54,15 +53,15 @@ IsBalanced-mirror (span e f us vs {l} is en ex same b c) =
 module _ (names : List Name) where
   IsRun-append : {xs : List Event} (ys : List Event) → IsRun names xs → IsRun names ys → IsRun names (xs ++ ys)
   IsRun-append ys no_span r = r
-  IsRun-append ys (one_more e f us vs {l} is en w ex same b c) r =
-      one_more e f us (vs ++ ys) (ap (λ t. t ++ ys) is ∙ ap (λ t. e ∷ t) (append_assoc us (f ∷ vs) ys)) en w ex same b (IsRun-append ys c r)
+  IsRun-append ys (one_more first vs is s c) r =
+      one_more first (vs ++ ys) (ap (λ t. t ++ ys) is ∙ append_assoc first vs ys) s (IsRun-append ys c r)
 
   pub IsRun-mirror : {xs : List Event} → IsRun names xs → IsRun names (mirror xs)
   IsRun-mirror no_span = no_span
-  IsRun-mirror (one_more e f us vs {l} is en w ex same b c) =
-      subst (IsRun names) (sym (ap mirror is ∙ mirror_span e f us vs))
-      (IsRun-append (flip f ∷ (mirror us ++ flip e ∷ [])) (IsRun-mirror c)
-      (one_more (flip f) (flip e) (mirror us) [] refl (flip_exit f ex) (ap (is_wanted names) same ∙ w) (flip_enter e en) (sym same) (IsBalanced-mirror b) no_span))
+  IsRun-mirror (one_more first vs is s c) =
+      subst (IsRun names) (sym (ap mirror (span_parts names first vs is s) ∙ mirror_span s.enter s.exit s.inside vs))
+      (IsRun-append (flip s.exit ∷ (mirror s.inside ++ flip s.enter ∷ [])) (IsRun-mirror c)
+          (span_and_run names (flip s.exit) (flip s.enter) (mirror s.inside) [] refl (flip_exit s.exit s.exits) (ap (is_wanted names) s.same ∙ s.wanted) (flip_enter s.enter s.enters) (sym s.same) (IsBalanced-mirror s.balanced) no_span))
 
   drop_front : (xs ys : List Event) → drop (length xs) (xs ++ ys) ≡ ys
   drop_front [] ys = refl

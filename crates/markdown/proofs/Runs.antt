@@ -1,14 +1,13 @@
 -- The walk over wanted spans goes as far as the longest run.
-use Rattle.std.proofs.Common.{◌≡◌, ℕ, suc, ◌+◌, ◌-◌, ◌≤◌, Bool, true, false, cond, List, [], ◌∷◌, ◌++◌, length, take, drop, refl, sym, ◌∙◌, ap, subst, arith, append_assoc, append-nil, length-append, take-append-drop, eqb, ◌&&◌}
+use Rattle.std.proofs.Common.{◌≡◌, ℕ, suc, ◌+◌, ◌-◌, ◌≤◌, Bool, true, false, cond, Option, Some, None, List, [], ◌∷◌, ◌++◌, length, take, drop, refl, sym, ◌∙◌, ap, subst, arith, append_assoc, append-nil, length-append, length-drop, take-append-drop, eqb, ◌&&◌}
 use Rattle.std.proofs.lemmas.Bool.{ne_eqb}
 use Rattle.std.proofs.lemmas.List.{length-take-le}
 use Rattle.markdown_base.specs.declared.event.Event.{Event}
 use Rattle.markdown_base.specs.declared.event.Kind.TheVariants.{Enter, Exit}
 use Rattle.markdown_base.specs.declared.event.Name.{Name}
 use Rattle.markdown_base.specs.Events.{IsBalanced, empty, span}
-use Rattle.markdown.specs.Walks.{IsRun, no_span, one_more, is_wanted, IsLongestRunFrom}
+use Rattle.markdown.specs.Walks.{IsSpan, IsRun, no_span, one_more, is_wanted, IsLongestRunFrom}
 use Rattle.markdown.specs.WalkSteps.{run_len, is_stop, is_enter, depth_after}
-use Rattle.std.proofs.Common.{Option, Some, None, length-drop}
 use Rattle.markdown.specs.OpenNames.{names_after_all}
 use Rattle.markdown.specs.Balanced.{Closes, all_closed, closing, closes_from_open, names_after_all-append, names_after_balanced, none_is_not_some}
 
@@ -22,6 +21,16 @@ eqb_suc : (d : ℕ) → eqb (suc d) 0 ≡ false
 eqb_suc d = let ne : suc d ≡ 0 → ⊥ = omega arith in ne_eqb (suc d) 0 ne
 
 module _ (names : List Name) where
+  -- a span in front of a run
+  pub span_and_run : (e f : Event) (xs ys : List Event) {l : List Event} → l ≡ e ∷ (xs ++ f ∷ ys) → e.kind ≡ Enter → is_wanted names e.name ≡ true → f.kind ≡ Exit → f.name ≡ e.name → IsBalanced xs → IsRun names ys → IsRun names l
+  span_and_run e f xs ys is en w ex eq b r =
+      one_more (e ∷ (xs ++ f ∷ [])) ys (is ∙ sym (ap (λ t. e ∷ t) (append_assoc xs (f ∷ []) ys)))
+      (record { enter = e; inside = xs; exit = f; whole = refl; enters = en; wanted = w; balanced = b; exits = ex; same = eq }) r
+
+  -- its parts
+  pub span_parts : (first rest : List Event) {l : List Event} → l ≡ first ++ rest → (s : IsSpan names first) → l ≡ s.enter ∷ (s.inside ++ s.exit ∷ rest)
+  span_parts first rest is s = is ∙ ap (λ t. t ++ rest) s.whole ∙ ap (λ t. s.enter ∷ t) (append_assoc s.inside (s.exit ∷ []) rest)
+
   -- one event on, inside a span
   enter_inside : (e : Event) (es : List Event) (d : ℕ) → e.kind ≡ Enter → run_len names (suc d) (e ∷ es) ≡ suc (run_len names (suc (suc d)) es)
   enter_inside e es d k =
@@ -72,12 +81,13 @@ module _ (names : List Name) where
   -- a walk goes over a run
   pub run_len-run : {r : List Event} → IsRun names r → (ys : List Event) → run_len names 0 (r ++ ys) ≡ length r + run_len names 0 ys
   run_len-run no_span ys = omega arith
-  run_len-run (one_more e f us vs {l} is en w ex same b c) ys =
-      let n : length l ≡ suc (length us + suc (length vs)) = ap length is ∙ ap suc (length-append us (f ∷ vs)) in
-      ap (λ (l : List Event). run_len names 0 (l ++ ys)) is
-      ∙ ap (λ (l : List Event). run_len names 0 (e ∷ l)) (append_assoc us (f ∷ vs) ys)
-      ∙ run_len-span e f us (vs ++ ys) en w ex b
-      ∙ ap (λ k. suc (length us + suc k)) (run_len-run c ys)
+  run_len-run (one_more first vs {l} is s c) ys =
+      let parts : l ≡ s.enter ∷ (s.inside ++ s.exit ∷ vs) = span_parts first vs is s in
+      let n : length l ≡ suc (length s.inside + suc (length vs)) = ap length parts ∙ ap suc (length-append s.inside (s.exit ∷ vs)) in
+      ap (λ (l : List Event). run_len names 0 (l ++ ys)) parts
+      ∙ ap (λ (l : List Event). run_len names 0 (s.enter ∷ l)) (append_assoc s.inside (s.exit ∷ vs) ys)
+      ∙ run_len-span s.enter s.exit s.inside (vs ++ ys) s.enters s.wanted s.exits s.balanced
+      ∙ ap (λ k. suc (length s.inside + suc k)) (run_len-run c ys)
       ∙ omega arith
 
   -- a walk over a balanced list, behind which it stops, goes over a run
@@ -93,7 +103,7 @@ module _ (names : List Name) where
       wanted_or_not true w r =
           let front : take (length us + suc (run_len names 0 (vs ++ ys))) (us ++ f ∷ (vs ++ ys)) ≡ us ++ f ∷ take (run_len names 0 (vs ++ ys)) (vs ++ ys) = take-append-add us (f ∷ (vs ++ ys)) (suc (run_len names 0 (vs ++ ys))) in
           rw (run_len-span e f us (vs ++ ys) en w ex b)
-          (one_more e f us (take (run_len names 0 (vs ++ ys)) (vs ++ ys)) (ap (λ (t : List Event). e ∷ t) front) en w ex same b r)
+          (span_and_run e f us (take (run_len names 0 (vs ++ ys)) (vs ++ ys)) (ap (λ (t : List Event). e ∷ t) front) en w ex same b r)
 
   -- what is left of a balanced list
   IsRun-closes : {st : List Name} {l : List Event} → Closes st l → IsRun names (take (run_len names 0 l) l)

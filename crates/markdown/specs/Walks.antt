@@ -10,11 +10,22 @@ use Rattle.markdown_base.specs.Events.{IsBalanced, same_name}
 abbrev pub is_wanted : List Name → Name → Bool
 is_wanted names name = list_any (λ wanted. same_name wanted name) names
 
--- a run of whole spans of wanted names: it is empty, or an enter of a wanted name, a balanced list, an exit of that name, and a run
+-- a whole span of a wanted name: an enter of it, a balanced list, and its exit
+pub record IsSpan (names : List Name) (events : List Event) : Type 0 where
+  pub enter : Event
+  pub inside : List Event
+  pub exit : Event
+  pub whole : events ≡ enter ∷ (inside ++ exit ∷ [])
+  pub enters : enter.kind ≡ Enter
+  pub wanted : is_wanted names enter.name ≡ true
+  pub balanced : IsBalanced inside
+  pub exits : exit.kind ≡ Exit
+  pub same : exit.name ≡ enter.name
+
+-- a run: whole spans of wanted names, each directly behind the one before
 pub data IsRun (names : List Name) : List Event → Type 0 where
   no_span : IsRun names []
-  one_more : (e f : Event) (xs ys : List Event) {l : List Event} → l ≡ e ∷ (xs ++ f ∷ ys) → e.kind ≡ Enter → is_wanted names e.name ≡ true
-      → f.kind ≡ Exit → f.name ≡ e.name → IsBalanced xs → IsRun names ys → IsRun names l
+  one_more : (first rest : List Event) {l : List Event} → l ≡ first ++ rest → IsSpan names first → IsRun names rest → IsRun names l
 
 -- the longest run that begins at `from` ends before `to`; it is empty where `from` is past the end
 pub record IsLongestRunFrom (names : List Name) (events : List Event) (from to : ℕ) : Type 0 where
