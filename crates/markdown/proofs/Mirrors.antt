@@ -61,7 +61,7 @@ module _ (names : List Name) where
   IsRun-mirror (one_more first vs is s c) =
       subst (IsRun names) (sym (ap mirror (span_parts names first vs is s) ∙ mirror_span s.enter s.exit s.inside vs))
       (IsRun-append (flip s.exit ∷ (mirror s.inside ++ flip s.enter ∷ [])) (IsRun-mirror c)
-          (span_and_run names (flip s.exit) (flip s.enter) (mirror s.inside) [] refl (flip_exit s.exit s.exits) (ap (is_wanted names) s.same ∙ s.wanted) (flip_enter s.enter s.enters) (sym s.same) (IsBalanced-mirror s.balanced) no_span))
+      (span_and_run names (flip s.exit) (flip s.enter) (mirror s.inside) [] refl (flip_exit s.exit s.exits) (ap (is_wanted names) s.same ∙ s.wanted) (flip_enter s.enter s.enters) (sym s.same) (IsBalanced-mirror s.balanced) no_span))
 
   drop_front : (xs ys : List Event) → drop (length xs) (xs ++ ys) ≡ ys
   drop_front [] ys = refl
