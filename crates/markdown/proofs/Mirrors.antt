@@ -9,7 +9,7 @@ use Rattle.markdown_base.specs.declared.event.Name.{Name}
 use Rattle.markdown_base.specs.Events.{IsBalanced, empty, span}
 use Rattle.markdown.specs.OpenNames.{names_after_all}
 use Rattle.markdown.specs.Walks.{IsRun, no_span, one_more, is_wanted, IsLongestRunTo, IsFront}
-use Rattle.markdown.specs.WalkSteps.{run_len, is_stop, depth_after, flip, flip_kind, mirror}
+use Rattle.markdown.specs.WalksInner.{run_len, is_stop, depth_after, flip, flip_kind, mirror}
 use Rattle.markdown.specs.Balanced.{IsBalanced-append}
 use Rattle.markdown.proofs.Runs.{span_and_run, span_parts, run_len-run, run_len-le, suffix_closes}
 
@@ -63,6 +63,7 @@ module _ (names : List Name) where
       (IsRun-append (flip s.exit ∷ (mirror s.inside ++ flip s.enter ∷ [])) (IsRun-mirror c)
       (span_and_run names (flip s.exit) (flip s.enter) (mirror s.inside) [] refl (flip_exit s.exit s.exits) (ap (is_wanted names) s.same ∙ s.wanted) (flip_enter s.enter s.enters) (sym s.same) (IsBalanced-mirror s.balanced) no_span))
 
+  -- a list behind a front
   drop_front : (xs ys : List Event) → drop (length xs) (xs ++ ys) ≡ ys
   drop_front [] ys = refl
   drop_front (x ∷ xs) ys = drop_front xs ys
@@ -75,6 +76,7 @@ module _ (names : List Name) where
       let len : length (mirror (drop n m)) ≡ length xs - n = length-mirror (drop n m) ∙ length-drop n m ∙ ap (λ k. k - n) (length-mirror xs) in
       sym (drop_front (mirror (drop n m)) (mirror (take n m))) ∙ ap (λ k. drop k (mirror (drop n m) ++ mirror (take n m))) len ∙ ap (drop (length xs - n)) whole
 
+  -- a stretch is a back of a front, or a front of a back
   drop_take : (a b : ℕ) (xs : List Event) → drop a (take b xs) ≡ take (b - a) (drop a xs)
   drop_take zero b xs = let z : b ≡ b - 0 = omega arith in ap (λ k. take k xs) z
   drop_take (suc a) zero [] = let z : 0 ≡ 0 - suc a = omega arith in ap (λ k. take {A = Event} k []) z
@@ -86,6 +88,7 @@ module _ (names : List Name) where
   drop_take (suc a) zero (x ∷ xs) = let z : 0 ≡ 0 - suc a = omega arith in ap (λ k. take k (drop a xs)) z
   drop_take (suc a) (suc b) (x ∷ xs) = let z : b - a ≡ suc b - suc a = omega arith in drop_take a b xs ∙ ap (λ k. take k (drop a xs)) z
 
+  -- the walk back from an index of a front of a balanced list
   pub IsLongestRunTo-walk : (events : List Event) (i j : ℕ) → IsFront events → i < length events → j + run_len names 0 (mirror (take (i + 1) events)) ≡ i + 1 → IsLongestRunTo names events i j
   IsLongestRunTo-walk events i j b l e =
       let f : List Event = take (i + 1) events in
@@ -111,6 +114,7 @@ module _ (names : List Name) where
           ap (run_len names 0) (ap mirror (sym (take-append-drop m f)) ∙ mirror-append (take m f) (drop m f)) ∙ over in
           omega (arith, all, length-mirror (drop m f), length-drop m f)
 
+-- one event more in front
 pub mirror_more : (xs : List Event) (i : ℕ) (d : Event) → i < length xs → mirror (take (suc i) xs) ≡ flip (get_or xs i d) ∷ mirror (take i xs)
 mirror_more [] i d l = absurd (omega arith)
 mirror_more (x ∷ xs) zero d l = refl

@@ -7,10 +7,11 @@ use Rattle.markdown_base.specs.declared.event.Kind.TheVariants.{Enter, Exit}
 use Rattle.markdown_base.specs.declared.event.Name.{Name}
 use Rattle.markdown_base.specs.Events.{IsBalanced, empty, span}
 use Rattle.markdown.specs.Walks.{IsSpan, IsRun, no_span, one_more, is_wanted, IsLongestRunFrom}
-use Rattle.markdown.specs.WalkSteps.{run_len, is_stop, is_enter, depth_after}
+use Rattle.markdown.specs.WalksInner.{run_len, is_stop, is_enter, depth_after}
 use Rattle.markdown.specs.OpenNames.{names_after_all}
 use Rattle.markdown.specs.Balanced.{Closes, all_closed, closing, closes_from_open, names_after_all-append, names_after_balanced, none_is_not_some}
 
+-- a front of two lists that takes in the first
 take-append-add : {A : Type 0} (xs ys : List A) (n : ℕ) → take (length xs + n) (xs ++ ys) ≡ xs ++ take n ys
 take-append-add [] ys n = let z : 0 + n ≡ n = omega arith in ap (λ k. take k ys) z
 take-append-add (x ∷ xs) ys n =
@@ -110,6 +111,7 @@ module _ (names : List Name) where
   IsRun-closes {l = l} (all_closed b) = subst (λ (t : List Event). IsRun names (take (run_len names 0 t) t)) (append-nil l) (IsRun-run_len [] b refl)
   IsRun-closes (closing f xs ys is ex same b c) = subst (λ (t : List Event). IsRun names (take (run_len names 0 t) t)) (sym is) (IsRun-run_len (f ∷ ys) b (exit_stops f ys ex))
 
+  -- what stands behind a front of a balanced list: a walk over it goes over a run
   pub suffix_closes : (front rest : List Event) → IsBalanced (front ++ rest) → (o : Option (List Name)) → names_after_all (Some []) front ≡ o → IsRun names (take (run_len names 0 rest) rest)
   suffix_closes front rest b None e =
       let no : None ≡ Some [] = ap (λ o. names_after_all o rest) (sym e) ∙ sym (names_after_all-append (Some []) front rest) ∙ names_after_balanced b [] in
@@ -117,6 +119,7 @@ module _ (names : List Name) where
   suffix_closes front rest b (Some st) e =
       IsRun-closes (closes_from_open rest st (ap (λ o. names_after_all o rest) (sym e) ∙ sym (names_after_all-append (Some []) front rest) ∙ names_after_balanced b []))
 
+  -- a walk stays inside its list
   pub run_len-le : (d : ℕ) (l : List Event) → run_len names d l ≤ length l
   run_len-le d [] = omega arith
   run_len-le d (e ∷ es) = step (is_stop names e d) (run_len-le (depth_after e.kind d) es)
@@ -145,6 +148,7 @@ module _ (names : List Name) where
           ap (run_len names 0) (sym (take-append-drop (m - i) (drop i events))) ∙ over in
           omega (arith, all, len)
 
+  -- past the end of a list the longest run is empty
   pub IsLongestRunFrom-past : (events : List Event) (i : ℕ) → length events ≤ i → IsLongestRunFrom names events i i
   IsLongestRunFrom-past events i l =
       let z : i - i ≡ 0 = omega arith in

@@ -11,4 +11,4 @@ pub mod Balanced
 pub mod Made
 pub mod MadeLemmas
 pub mod Walks
-pub mod WalkSteps
+pub mod WalksInner

@@ -6,7 +6,7 @@
 ghost use Rattle.std.specs.Prelude.{◌≡◌, ℕ, ◌+◌, ◌≤◌, ◌<◌, ◌-◌, length, drop, take, Any};
 ghost use Rattle.markdown_base.specs.Events.{IsBalanced};
 ghost use Rattle.markdown.specs.Walks.{is_wanted, HasWanted, IsFirstWanted, IsFront, IsLastWanted, IsLongestRunFrom, IsLongestRunTo};
-ghost use Rattle.markdown.specs.WalkSteps.{flip, is_stop, mirror, run_len};
+ghost use Rattle.markdown.specs.WalksInner.{flip, is_stop, mirror, run_len};
 
 #[cfg(test)]
 mod tests;
@@ -33,7 +33,8 @@ pub fn opt(events: &[Event], index: usize, names: &[Name]) -> usize
 /// begins at 0; `index` itself where there is none.
 pub fn opt_back(events: &[Event], index: usize, names: &[Name]) -> usize
     requires { IsFront events.now }
-    ensures skipped { index < length events.now → (start : ℕ) × IsLongestRunTo names.now events.now index start × (result ≡ start - 1) }
+    ensures skipped { index < length events.now
+        → (start : ℕ) × IsLongestRunTo names.now events.now index start × (result ≡ start - 1) }
     ensures past { length events.now ≤ index → result ≡ index }
 {
     if index < events.len() {

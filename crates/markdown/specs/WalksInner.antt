@@ -6,6 +6,7 @@ use Rattle.markdown_base.specs.declared.event.Kind.TheVariants.{Enter, Exit}
 use Rattle.markdown_base.specs.declared.event.Name.{Name}
 use Rattle.markdown.specs.Walks.{is_wanted}
 
+-- whether this begins a span
 abbrev pub is_enter : Kind → Bool
 is_enter Enter = true
 is_enter Exit = false
@@ -24,6 +25,7 @@ abbrev pub run_len : List Name → ℕ → List Event → ℕ
 run_len names depth [] = 0
 run_len names depth (e ∷ es) = if is_stop names e depth then 0 else 1 + run_len names (depth_after e.kind depth) es
 
+-- what enters, exits, seen from behind
 abbrev pub flip_kind : Kind → Kind
 flip_kind Enter = Exit
 flip_kind Exit = Enter
