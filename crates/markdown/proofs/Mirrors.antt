@@ -8,8 +8,8 @@ use Rattle.markdown_base.specs.declared.event.Kind.TheVariants.{Enter, Exit}
 use Rattle.markdown_base.specs.declared.event.Name.{Name}
 use Rattle.markdown_base.specs.Events.{IsBalanced, empty, span}
 use Rattle.markdown.specs.OpenNames.{names_after_all}
-use Rattle.markdown.specs.Walks.{IsRun, no_span, one_more, is_wanted, IsLongestRunTo, IsFront}
-use Rattle.markdown.specs.WalksInner.{run_len, is_stop, depth_after, flip, flip_kind, mirror}
+use Rattle.markdown.specs.SpanWalks.{IsRun, no_span, one_more, is_wanted, IsLongestRunTo, IsFront}
+use Rattle.markdown.specs.SpanWalksInner.{run_len, is_stop, depth_after, flip, flip_kind, mirror}
 use Rattle.markdown.specs.Balanced.{IsBalanced-append}
 use Rattle.markdown.proofs.Runs.{span_and_run, span_parts, run_len-run, run_len-le, suffix_closes}
 

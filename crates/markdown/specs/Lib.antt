@@ -10,5 +10,5 @@ pub mod OpenNames
 pub mod Balanced
 pub mod Made
 pub mod MadeLemmas
-pub mod Walks
-pub mod WalksInner
+pub mod SpanWalks
+pub mod SpanWalksInner

@@ -5,8 +5,8 @@
 
 ghost use Rattle.std.specs.Prelude.{◌≡◌, ℕ, ◌+◌, ◌≤◌, ◌<◌, ◌-◌, length, drop, take, Any};
 ghost use Rattle.markdown_base.specs.Events.{IsBalanced};
-ghost use Rattle.markdown.specs.Walks.{is_wanted, HasWanted, IsFirstWanted, IsFront, IsLastWanted, IsLongestRunFrom, IsLongestRunTo};
-ghost use Rattle.markdown.specs.WalksInner.{flip, is_stop, mirror, run_len};
+ghost use Rattle.markdown.specs.SpanWalks.{is_wanted, HasWanted, IsFirstWanted, IsFront, IsLastWanted, IsLongestRunFrom, IsLongestRunTo};
+ghost use Rattle.markdown.specs.SpanWalksInner.{flip, is_stop, mirror, run_len};
 
 #[cfg(test)]
 mod tests;

@@ -4,7 +4,7 @@ ghost use Rattle.std.specs.Prelude.{◌≡◌, [], ◌∷◌, take, Any};
 ghost use Rattle.markdown_base.specs.Events.{IsBalanced};
 ghost use Rattle.markdown_base.specs.declared.event.Kind.TheVariants.{Enter, Exit};
 ghost use Rattle.markdown_base.specs.declared.event.Name.TheVariants.{SpaceOrTab};
-ghost use Rattle.markdown.specs.Walks.{HasWanted};
+ghost use Rattle.markdown.specs.SpanWalks.{HasWanted};
 
 use crate::util::skip::{opt, opt_back, to, to_back};
 use markdown_base::event::{Event, Kind, Name, Point};

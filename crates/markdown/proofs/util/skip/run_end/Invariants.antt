@@ -1,5 +1,5 @@
 use Rattle.std.proofs.Common.{◌≡◌, ◌+◌, ◌-◌, ◌≤◌, length, drop}
-use Rattle.markdown.specs.WalksInner.{run_len}
+use Rattle.markdown.specs.SpanWalksInner.{run_len}
 use Rattle.markdown.proofs.util.skip.run_end.Given as goal
 
 abbrev pub invariant-loop-at : goal.invariant-loop-at

@@ -1,6 +1,6 @@
 use Rattle.std.proofs.Common.{◌≡◌, ◌+◌, ◌-◌, arith, take, sym, ap, ◌∙◌}
 use Rattle.markdown_base.specs.declared.event.Kind.{Kind}
-use Rattle.markdown.specs.WalksInner.{depth_after, run_len, mirror}
+use Rattle.markdown.specs.SpanWalksInner.{depth_after, run_len, mirror}
 use Rattle.markdown.proofs.Mirrors.{back_stops, back_goes}
 use Rattle.markdown.proofs.util.skip.run_start.Goals as goal
 use Rattle.markdown.proofs.util.skip.run_start.Goals.{in-Enter, in-Exit}

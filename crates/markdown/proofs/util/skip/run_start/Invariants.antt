@@ -1,5 +1,5 @@
 use Rattle.std.proofs.Common.{◌≡◌, ◌+◌, ◌≤◌, take}
-use Rattle.markdown.specs.WalksInner.{run_len, mirror}
+use Rattle.markdown.specs.SpanWalksInner.{run_len, mirror}
 use Rattle.markdown.proofs.util.skip.run_start.Given as goal
 
 abbrev pub invariant-loop-at : goal.invariant-loop-at

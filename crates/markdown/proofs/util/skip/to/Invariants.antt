@@ -1,6 +1,6 @@
 use Rattle.std.proofs.Common.{◌≡◌, ℕ, ◌-◌, ◌≤◌, ◌<◌, false, length, get_or, max}
 use Rattle.markdown_base.specs.declared.event.Event.{Event}
-use Rattle.markdown.specs.Walks.{is_wanted}
+use Rattle.markdown.specs.SpanWalks.{is_wanted}
 use Rattle.markdown.proofs.util.skip.to.Given as goal
 
 abbrev pub invariant-loop-first : goal.invariant-loop-first

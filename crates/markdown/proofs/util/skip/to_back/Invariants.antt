@@ -1,6 +1,6 @@
 use Rattle.std.proofs.Common.{◌≡◌, ℕ, ◌≤◌, ◌<◌, false, true, length, get_or}
 use Rattle.markdown_base.specs.declared.event.Event.{Event}
-use Rattle.markdown.specs.Walks.{is_wanted}
+use Rattle.markdown.specs.SpanWalks.{is_wanted}
 use Rattle.markdown.proofs.util.skip.to_back.Given as goal
 
 abbrev pub invariant-loop-last : goal.invariant-loop-last

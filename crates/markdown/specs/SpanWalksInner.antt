@@ -4,7 +4,7 @@ use Rattle.markdown_base.specs.declared.event.Event.{Event}
 use Rattle.markdown_base.specs.declared.event.Kind.{Kind}
 use Rattle.markdown_base.specs.declared.event.Kind.TheVariants.{Enter, Exit}
 use Rattle.markdown_base.specs.declared.event.Name.{Name}
-use Rattle.markdown.specs.Walks.{is_wanted}
+use Rattle.markdown.specs.SpanWalks.{is_wanted}
 
 -- whether this begins a span
 abbrev pub is_enter : Kind → Bool
