@@ -11,4 +11,6 @@ pub mod Splices
 pub mod StoredLemmas
 pub mod Survivors
 pub mod Turns
+pub mod Mirrors
 pub mod Runs
+pub mod SpanRuns

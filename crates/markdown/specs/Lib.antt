@@ -31,3 +31,5 @@ pub mod Woven
 pub mod Cuts
 pub mod Walks
 pub mod SeatLaws
+pub mod SpanWalks
+pub mod SpanWalksInner
