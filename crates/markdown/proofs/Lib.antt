@@ -14,3 +14,16 @@ pub mod Turns
 pub mod Mirrors
 pub mod Runs
 pub mod SpanRuns
+pub mod Balanced
+pub mod Chains
+pub mod Changes
+pub mod Cursors
+pub mod Fields
+pub mod MadeLemmas
+pub mod Orders
+pub mod Points
+pub mod SeatLaws
+pub mod Seats
+pub mod Standing
+pub mod Steps
+pub mod FromStart

@@ -10,7 +10,7 @@ use Rattle.markdown_base.specs.Events.{IsBalanced, empty, span}
 use Rattle.markdown.specs.OpenNames.{names_after_all}
 use Rattle.markdown.specs.SpanWalks.{IsRun, no_span, one_more, is_wanted, IsLongestRunTo, IsFront}
 use Rattle.markdown.specs.SpanWalksInner.{run_len, is_stop, depth_after, flip, flip_kind, mirror}
-use Rattle.markdown.specs.Balanced.{IsBalanced-append}
+use Rattle.markdown.proofs.Balanced.{IsBalanced-append}
 use Rattle.markdown.proofs.SpanRuns.{span_and_run, span_parts, run_len-run, run_len-le, suffix_closes}
 
 pub mirror-append : (xs ys : List Event) → mirror (xs ++ ys) ≡ mirror ys ++ mirror xs

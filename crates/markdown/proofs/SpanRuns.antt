@@ -9,7 +9,7 @@ use Rattle.markdown_base.specs.Events.{IsBalanced, empty, span}
 use Rattle.markdown.specs.SpanWalks.{IsSpan, IsRun, no_span, one_more, is_wanted, IsLongestRunFrom}
 use Rattle.markdown.specs.SpanWalksInner.{run_len, is_stop, is_enter, depth_after}
 use Rattle.markdown.specs.OpenNames.{names_after_all}
-use Rattle.markdown.specs.Balanced.{Closes, all_closed, closing, closes_from_open, names_after_all-append, names_after_balanced, none_is_not_some}
+use Rattle.markdown.proofs.Balanced.{Closes, all_closed, closing, closes_from_open, names_after_all-append, names_after_balanced, none_is_not_some}
 
 -- a front of two lists that takes in the first
 take-append-add : {A : Type 0} (xs ys : List A) (n : ℕ) → take (length xs + n) (xs ++ ys) ≡ xs ++ take n ys

@@ -1,5 +1,5 @@
 use Rattle.std.proofs.Common.{◌≡◌, ◌∙◌, sym}
-use Rattle.markdown.specs.Steps.{stack-is}
+use Rattle.markdown.proofs.Steps.{stack-is}
 use Rattle.markdown.proofs.tokenizer.Tokenizer.stack.Goals as goal
 
 pub returns-clause-open_spans : goal.returns-clause-open_spans
