@@ -1,2 +1,3 @@
 pub mod EventNames
+pub mod Lines
 pub mod Presets

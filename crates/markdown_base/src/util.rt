@@ -1,0 +1,3 @@
+//! Small helpers: characters, constants, line endings, offsets and slices.
+
+pub mod location;
