@@ -1,3 +1,6 @@
 pub mod EventNames
+pub mod Events
 pub mod Lines
+pub mod Places
 pub mod Presets
+pub mod Virtual
