@@ -1,1 +1,2 @@
-mod LineLemmas
+pub mod CharLemmas
+pub mod LineLemmas

@@ -1,3 +1,5 @@
+pub mod CharTexts
+pub mod Classes
 pub mod EventNames
 pub mod Events
 pub mod Lines

@@ -1,3 +1,4 @@
 //! Small helpers: characters, constants, line endings, offsets and slices.
 
+pub mod char;
 pub mod location;
