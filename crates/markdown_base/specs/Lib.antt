@@ -5,4 +5,5 @@ pub mod Events
 pub mod Lines
 pub mod Places
 pub mod Presets
+pub mod Slices
 pub mod Virtual

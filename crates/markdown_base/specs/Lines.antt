@@ -1,5 +1,5 @@
 -- The lines of a document, and the point of a byte offset into it.
-use Rattle.std.specs.Prelude.{◌≡◌, ℕ, zero, suc, ◌+◌, ◌-◌, ◌<◌, ◌^◌, ◌==◌, ◌&&◌, ◌||◌, not, max, nat_le, Bool, true, List, length, filter, fold, take_while, slice_index, Option, Some, None, option_map, if◌then◌else◌}
+use Rattle.std.specs.Prelude.{◌≡◌, ℕ, zero, suc, ◌+◌, ◌-◌, ◌<◌, ◌≤◌, ◌≢◌, ◌^◌, ◌==◌, ◌&&◌, ◌||◌, not, max, nat_le, Bool, true, List, length, filter, fold, take_while, slice_index, Option, Some, None, option_map, if◌then◌else◌}
 use Rattle.std.specs.List.{range_with_len, last_or}
 use Rattle.std.specs.List.Sorted.{IsNonDecreasingBy}
 use Rattle.markdown_base.specs.declared.unist.Point.{Point}
@@ -8,6 +8,10 @@ use Rattle.markdown_base.specs.declared.unist.Point.{Point}
 abbrev pub is_line_start : List ℕ → ℕ → Bool
 is_line_start bytes zero = true
 is_line_start bytes (suc k) = (slice_index bytes k == 10) || ((slice_index bytes k == 13) && not (slice_index bytes (suc k) == 10))
+
+-- no LF and no CR stands from one index up to another: both are in one line
+abbrev pub HasNoLineEnding : List ℕ → (from to : ℕ) → Type 0
+HasNoLineEnding bytes from to = (k : ℕ) → from ≤ k → k < to → (slice_index bytes k ≢ 10) × (slice_index bytes k ≢ 13)
 
 -- the byte offset of a document's end, and those at which its lines start
 pub record Lines : Type 0 where

@@ -4,8 +4,15 @@
 //! and spans nest. Events of one kind of content are joined by links, so that a later pass reads them as
 //! one text.
 
-ghost use Rattle.std.specs.Prelude.{◌≡◌};
+ghost use Rattle.std.specs.Prelude.{◌≡◌, ◌<◌, ◌≤◌, ◌+◌, ◌*◌, ◌^◌, length, Some};
 ghost use Rattle.markdown_base.specs.EventNames.{text_of};
+ghost use Rattle.markdown_base.specs.Lines.{HasNoLineEnding};
+ghost use Rattle.markdown_base.specs.Places.{IsPointOf, point_at};
+
+use crate::unist;
+
+/// How many columns lie from one tab stop to the next.
+const TAB_SIZE: usize = 4;
 
 /// Semantic label of a span.
 ///
@@ -561,6 +568,42 @@ pub struct Point {
     pub index: usize,
     /// Number of the virtual byte of a tab, from 0; 0 elsewhere.
     pub vs: usize,
+}
+
+impl Point {
+    /// This point as unist has it: the byte index is its offset.
+    pub fn to_unist(&self) -> unist::Point
+        ensures point { result ≡ record { line = self.now.line; column = self.now.column; offset = self.now.index } }
+    {
+        unist::Point::new(self.line, self.column, self.index)
+    }
+
+    /// The point at a higher byte index of the same line. The index may be the document's length.
+    pub fn shift_to(&self, bytes: &[u8], index: usize) -> Point
+        requires fits { 4 * length bytes.now + 1 < 2 ^ 64 }
+        requires place { IsPointOf 4 bytes.now self.now }
+        requires whole { self.now.vs ≡ 0 }
+        requires forward { self.now.index < index }
+        requires inside { index ≤ length bytes.now }
+        requires in_line { HasNoLineEnding bytes.now self.now.index index }
+        ensures point { point_at 4 bytes.now (index, 0) ≡ Some result }
+        ensures line { result.line ≡ self.now.line }
+    {
+        let mut column = self.column;
+        for byte in &bytes[self.index..index] {
+            column += if *byte == b'\t' {
+                TAB_SIZE - (column - 1) % TAB_SIZE
+            } else {
+                1
+            };
+        }
+        Point {
+            line: self.line,
+            column,
+            index,
+            vs: 0,
+        }
+    }
 }
 
 /// The start or the end of a span.

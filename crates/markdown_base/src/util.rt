@@ -2,3 +2,4 @@
 
 pub mod char;
 pub mod location;
+pub mod slice;
