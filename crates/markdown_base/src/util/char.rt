@@ -97,6 +97,8 @@ pub fn classify_opt<P: Fn(char) -> bool>(char: Option<char>, punctuation: &P) ->
 }
 
 /// A character as messages show it: itself, if it is visible ASCII, and its number.
+///
+/// `AllocError` where memory is refused.
 pub fn format(alloc: Global, char: char) -> Result<String, AllocError>
     ensures shown { IfOk result (λ text. string_bytes text ≡ shown char) }
 {
@@ -109,6 +111,8 @@ pub fn format(alloc: Global, char: char) -> Result<String, AllocError>
 }
 
 /// A character, or the end of the input, as messages show it.
+///
+/// `AllocError` where memory is refused.
 pub fn format_opt(alloc: Global, char: Option<char>) -> Result<String, AllocError>
     ensures shown { IfOk result (λ text. string_bytes text ≡ shown_char_opt char) }
 {
@@ -122,6 +126,8 @@ pub fn format_opt(alloc: Global, char: Option<char>) -> Result<String, AllocErro
 }
 
 /// A byte as messages show it: as the character with its number.
+///
+/// `AllocError` where memory is refused.
 pub fn format_byte(alloc: Global, byte: u8) -> Result<String, AllocError>
     ensures shown { IfOk result (λ text. string_bytes text ≡ shown byte) }
 {
@@ -129,6 +135,8 @@ pub fn format_byte(alloc: Global, byte: u8) -> Result<String, AllocError>
 }
 
 /// A byte, or the end of the input, as messages show it.
+///
+/// `AllocError` where memory is refused.
 pub fn format_byte_opt(alloc: Global, byte: Option<u8>) -> Result<String, AllocError>
     ensures shown { IfOk result (λ text. string_bytes text ≡ shown_byte_opt byte) }
 {

@@ -31,7 +31,7 @@ impl Model for Location {
 impl Location {
     /// Finds the lines of a document.
     ///
-    /// A line ends with a line feed, a carriage return, or both in this order.
+    /// A line ends with a line feed, a carriage return, or both in this order. `AllocError` where memory is refused.
     pub fn new(alloc: Global, bytes: &[u8]) -> Result<Location, AllocError>
         ensures lines { IfOk result (λ location. location ≡ lines_of bytes.now) }
     {

@@ -5,10 +5,8 @@ ghost use Rattle.markdown_base.specs.Places.{IsPointOf, stands_before};
 ghost use Rattle.markdown_base.specs.Slices.{nearest_enter, bytes_between, spaces_before, spaces_after, slice_text, first_byte, is_enter_of};
 
 use crate::event::{Event, Kind, Point};
+use crate::util::constant::TAB_SIZE;
 use std::alloc::{AllocError, Global};
-
-/// How many columns lie from one tab stop to the next.
-const TAB_SIZE: usize = 4;
 
 /// A range between two points.
 #[derive(Debug, Drop)]
@@ -120,7 +118,7 @@ impl<'a> Slice<'a> {
         }
     }
 
-    /// The spaces before, the bytes and the spaces after, as a text.
+    /// The spaces before, the bytes and the spaces after, as a text. `AllocError` where memory is refused.
     pub fn serialize(&self, alloc: Global) -> Result<String, AllocError>
         requires text { IsUtf8 self.now.bytes.now }
         requires fits { self.now.before + length self.now.bytes.now + self.now.after < 2 ^ 64 }
