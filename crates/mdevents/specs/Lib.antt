@@ -1,0 +1,4 @@
+pub mod Failure
+pub mod Printed
+pub mod Reading
+pub mod Words
