@@ -135,3 +135,31 @@ impl<T> Boxed<T> {
         &self.item
     }
 }
+
+/// Bytes of the program itself, seen as their list.
+#[derive(Drop)]
+pub struct StaticBytes {
+    bytes: &'static [u8],
+}
+
+impl Model for StaticBytes {
+    ghost Value = { List ℕ };
+
+    ghost view = { λ a. a.bytes.now };
+}
+
+impl StaticBytes {
+    /// These bytes.
+    pub fn new(bytes: &'static [u8]) -> Self
+        ensures { result ≡ bytes.now }
+    {
+        StaticBytes { bytes }
+    }
+
+    /// The bytes.
+    pub fn as_slice(&self) -> &'static [u8]
+        ensures { result.now ≡ self.now }
+    {
+        self.bytes
+    }
+}

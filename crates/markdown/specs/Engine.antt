@@ -1,0 +1,96 @@
+-- What pushing and flushing mean.
+use Rattle.std.specs.Prelude.{◌≡◌, ◌≢◌, ◌+◌, ◌≤◌, ◌⊎◌, ℕ, List, [], Bool, true, false, length, sum_by, ◌↔◌, Contains}
+use Rattle.markdown_base.specs.declared.event.Point.{Point}
+use Rattle.markdown_base.specs.declared.message.Message.{Message}
+use Rattle.markdown_base.specs.declared.state.Name.{Name}
+use Rattle.markdown_base.specs.declared.state.State.{State}
+use Rattle.markdown_base.specs.declared.state.State.TheVariants.{Next, Error, Ok}
+use Rattle.markdown_base.specs.Events.{IsBalanced, IsVoidTight, IsInOrder}
+use Rattle.markdown.specs.declared.subtokenize.Subresult.{Subresult}
+use Rattle.markdown.specs.declared.waiting.Waits.TheVariants.{Nothing}
+use Rattle.markdown.specs.Text.{Given, Text, Piece, IsText, pushed, CanFollow, followed_by, followed_by_all}
+use Rattle.markdown.specs.Configuration.{Configuration, Local, Choice, Step, Seen}
+use Rattle.markdown.specs.Sight.{Sight}
+use Rattle.markdown.specs.Reading.{Reading, EndsIn}
+
+module _ {R D : Type 0} where
+  -- the definitions that states found are taken out
+  abbrev pub taken : Configuration R D → Configuration R D
+  taken k = record {
+    position = k.position;
+    waiting = k.waiting;
+    ended = k.ended;
+    events = k.events;
+    stack = k.stack;
+    local = record {
+      tokenize_state = record k.local.tokenize_state { definitions = []; gfm_footnote_definitions = [] };
+      resolvers = k.local.resolvers;
+      interrupt = k.local.interrupt;
+      concrete = k.local.concrete;
+      pierce = k.local.pierce;
+      lazy = k.local.lazy;
+    };
+  }
+
+  -- the definitions that states found
+  abbrev pub found : Configuration R D → Subresult
+  found k = record { done = false; gfm_footnote_definitions = k.local.tokenize_state.gfm_footnote_definitions; definitions = k.local.tokenize_state.definitions }
+
+module _ {M R D : Type 0} (g : Given) (step : Sight → Configuration R D → Name → Step R D) (holds : Text → Configuration R D → List Choice → State → Type 0)
+    (cost : Text → Configuration R D → State → ℕ) (reserve : Text → Choice → ℕ) where
+  -- the calls made, and those that a state and the waiting choices may still take on a text
+  abbrev pub budget : Text → Seen M R D → State → ℕ
+  budget text t state = t.calls + (cost text t.configuration state + sum_by (reserve text) t.choices)
+
+  -- On a text, the one tokenizer with its state comes to the same end as the other with its own, calls included; the invariant
+  -- holds, and no more calls are to come
+  pub record LeadsOn (text : Text) (old : Seen M R D) (state : State) (new : Seen M R D) (answer : State) : Type 0 where
+    pub kept : holds text new.configuration new.choices answer
+    pub same : (r : Reading R D) → EndsIn g step text new.calls new.configuration new.choices answer r ↔ EndsIn g step text old.calls old.configuration old.choices state r
+    pub paid : budget text new answer ≤ budget text old state
+
+  -- For every rest that can follow the new text, reading on from the new tokenizer and its answer comes to the same end as
+  -- reading on from the old one and its state
+  abbrev pub KeepsOutcome : Seen M R D → State → Seen M R D → State → Type 0
+  KeepsOutcome old state new answer = (rest : List Piece) → CanFollow g new.text rest → LeadsOn (followed_by_all g new.text rest) old state new answer
+
+  -- What a push of a range leaves, where it succeeds: the range stands at the end of the text, the outcome is the same for every rest, and all
+  -- was read, or a message ended it
+  pub record IsPushed (old : Seen M R D) (from to : Point) (state : State) (new : Seen M R D) (answer : State) : Type 0 where
+    pub given : new.given ≡ old.given
+    pub machine : new.machine ≡ old.machine
+    pub open_still : new.closed ≡ false
+    pub text : new.text ≡ followed_by g old.text (pushed from to)
+    pub outcome : KeepsOutcome old state new answer
+    pub read : (name : Name) → answer ≡ Next name → (new.configuration.position ≡ length new.text.seats) × (new.configuration.waiting ≡ Nothing)
+    pub answers : ((name : Name) × (answer ≡ Next name)) ⊎ ((m : Message) × (answer ≡ Error m))
+
+  -- What a flush leaves, where it succeeds: the configuration in which the reading ends, without the definitions, which are answered
+  pub record IsFlushed (old : Seen M R D) (state : State) (new : Seen M R D) (sub : Subresult) : Type 0 where
+    pub result : Reading R D
+    pub ends : EndsIn g step old.text old.calls old.configuration old.choices state result
+    pub well : result.answer ≡ Ok
+    pub calls : new.calls ≡ result.calls
+    pub configuration : new.configuration ≡ taken result.configuration
+    pub definitions : sub ≡ found result.configuration
+
+  -- A flush was refused with this message, in which the reading ends
+  pub record IsRefused (old : Seen M R D) (state : State) (new : Seen M R D) (m : Message) : Type 0 where
+    pub result : Reading R D
+    pub ends : EndsIn g step old.text old.calls old.configuration old.choices state result
+    pub message : result.answer ≡ Error m
+    pub calls : new.calls ≡ result.calls
+
+module _ {R D : Type 0} (g : Given) (step : Sight → Configuration R D → Name → Step R D) (holds : Text → Configuration R D → List Choice → State → Type 0)
+    (cost : Text → Configuration R D → State → ℕ) (reserve : Text → Choice → ℕ) where
+  -- On every text at which the invariant holds, a reading comes to one end, with no more calls than its cost
+  abbrev pub HasOneEnd : Type 0
+  HasOneEnd = (text : Text) (calls : ℕ) (k : Configuration R D) (choices : List Choice) (state : State) → IsText g text → holds text k choices state
+      → (r : Reading R D) × EndsIn g step text calls k choices state r × ((q : Reading R D) → EndsIn g step text calls k choices state q → q ≡ r)
+      × (r.calls ≤ calls + (cost text k state + sum_by (reserve text) choices))
+
+-- The events are balanced, each void span is empty, and their places are in order
+pub record IsWellFormed (bytes : List ℕ) {R D : Type 0} (k : Configuration R D) : Type 0 where
+  pub balanced : IsBalanced k.events
+  pub void_tight : IsVoidTight k.events
+  pub in_order : IsInOrder bytes k.events

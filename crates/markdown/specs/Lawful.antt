@@ -1,0 +1,94 @@
+-- What a lawful machine keeps. Each law speaks of one call, one feeding, one settled choice or one piece added.
+use Rattle.std.specs.Prelude.{◌≡◌, ◌≢◌, ◌+◌, ◌≤◌, ◌⊎◌, ℕ, List, [], ◌∷◌, ◌++◌, Bool, true, false, Option, None, IfSome, All, Contains, length, take, map, sum_by}
+use Rattle.markdown_base.specs.declared.event.Event.{Event}
+use Rattle.markdown_base.specs.declared.event.Point.{Point}
+use Rattle.markdown_base.specs.declared.state.Name.{Name}
+use Rattle.markdown_base.specs.declared.state.State.{State}
+use Rattle.markdown_base.specs.declared.state.State.TheVariants.{Next, Retry, Ok, Nok}
+use Rattle.markdown_base.specs.Places.{IsPointOf}
+use Rattle.markdown.specs.declared.waiting.Waits.TheVariants.{Nothing, Byte}
+use Rattle.markdown.specs.Text.{Given, Text, Piece, IsText, FitsAfter, followed_by, empty_text}
+use Rattle.markdown.specs.Configuration.{Configuration, Local, Choice, Step, Seen, start_configuration, start_state}
+use Rattle.markdown.specs.Sight.{Sight, sight}
+use Rattle.markdown.specs.Calls.{consumed}
+use Rattle.markdown.specs.Reading.{fed, settled_at}
+
+-- the tokenizer after a call: the step's configuration, its choices above the old ones, and one call more
+abbrev pub stepped : {M R D : Type 0} → Seen M R D → Step R D → Seen M R D
+stepped t s = record {
+  given = t.given;
+  machine = t.machine;
+  text = t.text;
+  configuration = s.configuration;
+  choices = s.choices ++ t.choices;
+  calls = t.calls + 1;
+  closed = t.closed;
+}
+
+-- A call did this step
+pub record IsCalled {M R D : Type 0} (old new : Seen M R D) (s : Step R D) (answer : State) : Type 0 where
+  pub answered : answer ≡ s.answer
+  pub became : new ≡ stepped old s
+
+-- an event without its link
+abbrev pub unlinked : Event → Event
+unlinked e = record { kind = e.kind; name = e.name; point = e.point; link = None }
+
+-- as much was read, the same waits, and the end was fed or not, alike
+abbrev pub IsAsFar : {R D : Type 0} → Configuration R D → Configuration R D → Type 0
+IsAsFar a b = (a.position ≡ b.position) × (a.waiting ≡ b.waiting) × (a.ended ≡ b.ended)
+
+module _ {R D : Type 0} (g : Given) (step : Sight → Configuration R D → Name → Step R D) (holds : Text → Configuration R D → List Choice → State → Type 0) where
+  -- the step of a state where the invariant holds
+  abbrev pub ForEachCall : (Text → Configuration R D → List Choice → Name → Step R D → Type 0) → Type 0
+  ForEachCall P = (text : Text) (k : Configuration R D) (choices : List Choice) (name : Name)
+      → IsText g text → holds text k choices (Retry name) → P text k choices name (step (sight g text k) k name)
+
+  -- a call consumes at most one byte, and never the end: after it Next is answered, and Retry where it consumed none
+  abbrev pub ConsumesOnce : Type 0
+  ConsumesOnce = ForEachCall (λ text k choices name s.
+      (IsAsFar s.configuration k × ((n : Name) → s.answer ≢ Next n))
+      ⊎ ((k.waiting ≡ Byte) × IsAsFar s.configuration (consumed k) × ((n : Name) → s.answer ≢ Retry n)))
+
+  -- a call keeps the events, but for their links, and adds its own after them; it keeps the stack as far as a waiting choice saved it
+  pub record OnlyAdds : Type 0 where
+    pub events : ForEachCall (λ text k choices name s. map unlinked (take (length k.events) s.configuration.events) ≡ map unlinked k.events)
+    pub stack : ForEachCall (λ text k choices name s.
+        All (λ c. IfSome c.saved (λ saved. take (length saved.stack) s.configuration.stack ≡ take (length saved.stack) k.stack)) choices)
+
+  -- with no choice waiting the invariant never holds of Nok, and holds of Ok only once the end was fed, with each span ended
+  pub record EndsWhenRead : Type 0 where
+    pub nok : (text : Text) (k : Configuration R D) → IsText g text → holds text k [] Nok → ⊥
+    pub ok : (text : Text) (k : Configuration R D) → IsText g text → holds text k [] Ok → (k.ended ≡ true) × (k.stack ≡ [])
+
+  -- The invariant holds at each start, at every place of the document, and is kept by whatever happens
+  pub record KeepsInvariant (starts : List Name) : Type 0 where
+    pub at_starts : (p : Point) (flag : Bool) (name : Name) → IsPointOf g.tab g.bytes p → Contains starts name
+        → holds (empty_text p) (start_configuration flag) [] (Next name)
+
+    -- a byte, or the end, is fed where nothing waits, and a state is called where something does
+    pub unfed : (text : Text) (k : Configuration R D) (choices : List Choice) (name : Name) → IsText g text → holds text k choices (Next name) → k.waiting ≡ Nothing
+    pub waits : (text : Text) (k : Configuration R D) (choices : List Choice) (name : Name) → IsText g text → holds text k choices (Retry name) → k.waiting ≢ Nothing
+    pub by_feeding : (text : Text) (k : Configuration R D) (choices : List Choice) (name : Name) → IsText g text
+        → holds text k choices (Next name) → holds text (fed text k) choices (Retry name)
+    pub by_calls : ForEachCall (λ text k choices name s. holds text s.configuration (s.choices ++ choices) s.answer)
+    pub by_ok : (text : Text) (k : Configuration R D) (choice : Choice) (choices : List Choice) → IsText g text
+        → holds text k (choice ∷ choices) Ok → holds text (settled_at choice.kind choice.saved Ok k) choices choice.ok
+    pub by_nok : (text : Text) (k : Configuration R D) (choice : Choice) (choices : List Choice) → IsText g text
+        → holds text k (choice ∷ choices) Nok → holds text (settled_at choice.kind choice.saved Nok k) choices choice.nok
+
+    -- more of the document is pushed, or passed, before the end is fed
+    pub by_pieces : (text : Text) (piece : Piece) (k : Configuration R D) (choices : List Choice) (state : State) → IsText g text
+        → FitsAfter g text piece → k.ended ≡ false → holds text k choices state → holds (followed_by g text piece) k choices state
+
+  -- A call is paid for, with the cost of its answer and the reserves of the choices that it pushes; feeding costs nothing; and
+  -- what a choice goes on with costs at most its reserve
+  pub record CostPays (cost : Text → Configuration R D → State → ℕ) (reserve : Text → Choice → ℕ) : Type 0 where
+    pub for_calls : ForEachCall (λ text k choices name s.
+        1 + (cost text s.configuration s.answer + sum_by (reserve text) s.choices) ≤ cost text k (Retry name))
+    pub for_feeding : (text : Text) (k : Configuration R D) (choices : List Choice) (name : Name) → IsText g text
+        → holds text k choices (Next name) → cost text (fed text k) (Retry name) ≤ cost text k (Next name)
+    pub for_ok : (text : Text) (k : Configuration R D) (choice : Choice) (choices : List Choice) → IsText g text
+        → holds text k (choice ∷ choices) Ok → cost text (settled_at choice.kind choice.saved Ok k) choice.ok ≤ reserve text choice
+    pub for_nok : (text : Text) (k : Configuration R D) (choice : Choice) (choices : List Choice) → IsText g text
+        → holds text k (choice ∷ choices) Nok → cost text (settled_at choice.kind choice.saved Nok k) choice.nok ≤ reserve text choice

@@ -1,0 +1,102 @@
+//! What waits in a tokenizer: a byte, the end, or choices.
+
+use markdown_base::event::{self, Point};
+use markdown_base::state::{Name, State};
+
+/// What waits to be read.
+#[derive(Clone, Copy, Debug, PartialEq, Eq)]
+pub enum Waits {
+    /// Nothing: the next byte is not fed yet.
+    Nothing,
+    /// A byte.
+    Byte,
+    /// The end of the text.
+    End,
+}
+
+/// Whether a choice goes back where it ended well.
+#[derive(Clone, Copy, Debug, PartialEq, Eq)]
+pub enum AttemptKind {
+    /// It goes back only where it failed.
+    Attempt,
+    /// It always goes back.
+    Check,
+}
+
+/// What a choice goes on with.
+#[derive(Clone, Copy, Debug, PartialEq, Eq)]
+pub(crate) enum Goal {
+    /// This state, with the next byte.
+    Next(Name),
+    /// It ends well, and with it what is around it.
+    Ok,
+    /// It fails, and with it what is around it.
+    Nok,
+}
+
+impl Goal {
+    ghost use Rattle.std.specs.Prelude.{◌≡◌};
+    ghost use Rattle.markdown.specs.View.{state_of};
+
+    /// The state's answer that goes on so.
+    pub(crate) fn state(self) -> State
+        ensures { result ≡ state_of self }
+    {
+        match self {
+            Goal::Next(name) => State::Next(name),
+            Goal::Ok => State::Ok,
+            Goal::Nok => State::Nok,
+        }
+    }
+}
+
+/// How far a text was read, as a choice saves it.
+#[derive(Clone, Copy, Debug, PartialEq, Eq)]
+pub(crate) struct Progress {
+    /// The place after the byte before.
+    pub(crate) left: Point,
+    /// The byte before.
+    pub(crate) previous: Option<u8>,
+    /// Whether the end was fed.
+    pub(crate) ended: bool,
+    /// How many events there were.
+    pub(crate) events_len: usize,
+    /// How many spans were open.
+    pub(crate) stack_len: usize,
+}
+
+/// A waiting choice.
+#[derive(Clone, Copy, Debug, PartialEq, Eq)]
+pub(crate) struct Mark {
+    pub(crate) kind: AttemptKind,
+    pub(crate) ok: Goal,
+    pub(crate) nok: Goal,
+    pub(crate) saved: Option<Progress>,
+}
+
+impl Mark {
+    ghost use Rattle.std.specs.Prelude.{◌≡◌};
+    ghost use Rattle.markdown.specs.View.{goal_of, saved_for};
+
+    /// What it goes on with.
+    pub(crate) fn goal(&self, ok: bool) -> State
+        ensures { result ≡ goal_of self.now ok }
+    {
+        if ok {
+            self.ok.state()
+        } else {
+            self.nok.state()
+        }
+    }
+
+    /// What it puts back.
+    pub(crate) fn saved_for(&self, ok: bool) -> Option<Progress>
+        ensures { result ≡ saved_for self.now ok }
+    {
+        if ok && self.kind == AttemptKind::Attempt {
+            None
+        } else {
+            self.saved
+        }
+    }
+}
