@@ -6,3 +6,12 @@ pub mod Reading
 pub mod Lawful
 pub mod Engine
 pub mod View
+pub mod Cursor
+pub mod Orders
+pub mod Seats
+pub mod Chains
+pub mod Standing
+pub mod Cursors
+pub mod Cuts
+pub mod Walks
+pub mod SeatLaws

@@ -2,14 +2,12 @@
 #![tactic(auto)]
 
 pub mod count;
+mod cursor;
 pub mod parser;
+pub mod places;
 pub mod state;
 pub mod subtokenize;
 pub mod tokenizer;
 pub mod waiting;
 
-pub use markdown_base::configuration;
-pub use markdown_base::event;
-pub use markdown_base::message;
-pub use markdown_base::owned;
-pub use markdown_base::unist;
+pub use markdown_base::{configuration, event, message, owned, unist};

@@ -1,0 +1,10 @@
+use Rattle.std.proofs.Common.{length}
+use Rattle.markdown.specs.Cursor.{rest_at}
+use Rattle.markdown.specs.Walks.{IsCutting}
+use Rattle.markdown.proofs.places.cuts_every.Given as goal
+
+abbrev pub invariant-loop-byte : goal.invariant-loop-byte
+invariant-loop-byte l = IsCutting 4 l.bytes l.n l.left l.number l.cuts.items
+
+abbrev pub decreases-loop-byte : goal.decreases-loop-byte
+decreases-loop-byte l = length (rest_at 4 l.bytes l.left)

@@ -1,0 +1,102 @@
+//! Places of a document, as callers name them: byte index and number in a tab.
+
+ghost use Rattle.markdown.specs.Cuts;
+ghost use Rattle.markdown_base.specs.Places;
+ghost use Rattle.std.specs.Prelude.{◌==◌, ◌≡◌, ◌&&◌, ◌+◌, ◌*◌, ◌^◌, ◌<◌, IfOk, length};
+
+use crate::cursor::{end_of, seat_at, shown};
+use markdown_base::event::Point;
+use std::alloc::{AllocError, Global};
+
+/// The place of a document's first byte.
+const START: Point = Point {
+    line: 1,
+    column: 1,
+    index: 0,
+    vs: 0,
+};
+
+/// A point is at a place, given by byte index and number in a tab.
+fn is_at(point: Point, place: (usize, usize)) -> bool
+    ensures { result ≡ ((point.index == place.0) && (point.vs == place.1)) }
+{
+    point.index == place.0 && point.vs == place.1
+}
+
+/// The point of a place of a document, given by byte index and number in a tab:
+/// of a virtual byte, of the CR of a CR LF, or of the document's end.
+/// `None` where there is no such place. Line and virtual column are counted from the document's start.
+pub fn point_at(bytes: &[u8], place: (usize, usize)) -> Option<Point>
+    requires fits { 4 * length bytes.now + 1 < 2 ^ 64 }
+    ensures { result ≡ Places.point_at 4 bytes.now place }
+{
+    let mut left = START;
+    while let Some((byte, seat)) = seat_at(bytes, left) {
+        let first = shown(bytes, seat);
+        if is_at(first, place) {
+            return Some(first);
+        }
+        if is_at(seat, place) {
+            return Some(seat);
+        }
+        left = end_of(byte, seat);
+    }
+    if is_at(left, place) { Some(left) } else { None }
+}
+
+/// The places (byte index, number in a tab) of the virtual bytes number `n`, `2n`, `3n`, .., numbered from 0:
+/// a document can be handed over in parts there.
+pub fn cuts_every(alloc: Global, bytes: &[u8], n: usize) -> Result<Vec<(usize, usize)>, AllocError>
+    requires some { 0 < n }
+    requires fits { 4 * length bytes.now + 1 < 2 ^ 64 }
+    ensures { IfOk result (λ cuts. cuts.items ≡ Cuts.cuts_every 4 bytes.now n) }
+{
+    let mut cuts = Vec::new(alloc);
+    let mut left = START;
+    let mut number: usize = 0;
+    while let Some((byte, seat)) = seat_at(bytes, left) {
+        if number > 0 && number % n == 0 {
+            cuts.push((seat.index, seat.vs))?;
+        }
+        number += 1;
+        left = end_of(byte, seat);
+    }
+    Ok(cuts)
+}
+
+#[cfg(test)]
+mod tests {
+    use super::*;
+
+    fn at(line: usize, column: usize, index: usize, vs: usize) -> Option<Point> {
+        Some(Point {
+            line,
+            column,
+            index,
+            vs,
+        })
+    }
+
+    #[test]
+    fn points_of_places(rt: HostRuntime) {
+        let text = b"a\r\nb";
+        assert_eq!(rt; point_at(text, (1, 0)), at(1, 2, 1, 0));
+        assert_eq!(rt; point_at(text, (2, 0)), at(1, 2, 2, 0));
+        assert_eq!(rt; point_at(text, (4, 0)), at(2, 2, 4, 0));
+        assert_eq!(rt; point_at(text, (4, 1)), None);
+        assert_eq!(rt; point_at(text, (5, 0)), None);
+    }
+
+    #[test]
+    fn cuts_of_a_text(rt: HostRuntime) -> Result<(), AllocError> {
+        let text = b"a\tb\r\n\tc";
+        let cuts = cuts_every(rt.alloc(), text, 3)?;
+        assert_eq!(rt; cuts.as_slice(), [(1, 2), (5, 0), (5, 3)].as_slice());
+        let each = cuts_every(rt.alloc(), text, 1)?;
+        assert_eq!(rt; each.len(), 10);
+        assert_eq!(rt; each[4], (4, 0));
+        assert_eq!(rt; cuts_every(rt.alloc(), text, 11)?.len(), 0);
+        assert_eq!(rt; cuts_every(rt.alloc(), b"abc\td", 1)?.len(), 4);
+        Ok(())
+    }
+}
