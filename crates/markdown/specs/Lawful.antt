@@ -65,7 +65,6 @@ module _ {R D : Type 0} (g : Given) (step : Sight → Configuration R D → Name
   pub record KeepsInvariant (starts : List Name) : Type 0 where
     pub at_starts : (p : Point) (flag : Bool) (name : Name) → IsPointOf g.tab g.bytes p → Contains starts name
         → holds (empty_text p) (start_configuration flag) [] (Next name)
-
     -- a byte, or the end, is fed where nothing waits, and a state is called where something does
     pub unfed : (text : Text) (k : Configuration R D) (choices : List Choice) (name : Name) → IsText g text → holds text k choices (Next name) → k.waiting ≡ Nothing
     pub waits : (text : Text) (k : Configuration R D) (choices : List Choice) (name : Name) → IsText g text → holds text k choices (Retry name) → k.waiting ≢ Nothing
@@ -76,7 +75,6 @@ module _ {R D : Type 0} (g : Given) (step : Sight → Configuration R D → Name
         → holds text k (choice ∷ choices) Ok → holds text (settled_at choice.kind choice.saved Ok k) choices choice.ok
     pub by_nok : (text : Text) (k : Configuration R D) (choice : Choice) (choices : List Choice) → IsText g text
         → holds text k (choice ∷ choices) Nok → holds text (settled_at choice.kind choice.saved Nok k) choices choice.nok
-
     -- more of the document is pushed, or passed, before the end is fed
     pub by_pieces : (text : Text) (piece : Piece) (k : Configuration R D) (choices : List Choice) (state : State) → IsText g text
         → FitsAfter g text piece → k.ended ≡ false → holds text k choices state → holds (followed_by g text piece) k choices state

@@ -15,3 +15,4 @@ pub mod Cursors
 pub mod Cuts
 pub mod Walks
 pub mod SeatLaws
+pub mod TextOrder

@@ -1,9 +1,8 @@
 //! States, and what a machine of states is.
 
 use crate::tokenizer::Tokenizer;
-use std::alloc::{AllocError, Global};
-
 pub use markdown_base::state::{Name, State};
+use std::alloc::{AllocError, Global};
 
 /// The types that a machine brings.
 pub trait MachineTypes {

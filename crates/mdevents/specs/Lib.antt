@@ -1,4 +1,7 @@
 pub mod Failure
+pub mod Lines
+pub mod LinesLaws
 pub mod Printed
 pub mod Reading
+pub mod Tables
 pub mod Words
