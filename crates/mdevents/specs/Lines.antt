@@ -14,10 +14,10 @@ use Rattle.markdown_base.specs.Events.{open_events}
 use Rattle.markdown.specs.declared.waiting.Waits.{Waits}
 use Rattle.markdown.specs.declared.waiting.Waits.TheVariants.{Nothing, Byte, End}
 use Rattle.markdown.specs.Text.{Given, Text}
-use Rattle.markdown.specs.Configuration.{Configuration, Choice, Step}
+use Rattle.markdown.specs.Configuration.{Configuration, Choice, Step, Seen}
 use Rattle.markdown.specs.Sight.{Sight, sight}
 use Rattle.markdown.specs.Calls.{consumed, entered, exited}
-use Rattle.mdevents.specs.Tables.{same_state, Waiting, at_end, at_line_ending, at_other, waiting_of, gives, counted}
+use Rattle.mdevents.specs.Tables.{same_state, Waiting, at_end, at_line_ending, at_other, waiting_of, gives, counted, sight_seen}
 
 -- Its states: before a line, and in one
 pub data LinesState : Type 0 where
@@ -80,10 +80,15 @@ IsWaiting Nothing position ended text = ⊥
 IsWaiting Byte position ended text = position < length text.seats
 IsWaiting End position ended text = ended ≡ true
 
+-- a byte that waits begins before it ends
+abbrev pub IsAhead : Waits → Sight → Type 0
+IsAhead waits s = waits ≡ Byte → stands_before s.here s.next ≡ true
+
 -- the invariant at a state
 abbrev pub LinesHoldAt : Given → Text → Configuration Unit Unit → State → Type 0
 LinesHoldAt g text k (Next name) = (k.waiting ≡ Nothing) × IsOpenAt (lines_state name) (sight g text k).left k
-LinesHoldAt g text k (Retry name) = IsWaiting k.waiting k.position k.ended text × IsOpenAt (lines_state name) (began_before (waiting_of (sight g text k).current) (sight g text k)) k
+LinesHoldAt g text k (Retry name) =
+    IsWaiting k.waiting k.position k.ended text × IsAhead k.waiting (sight g text k) × IsOpenAt (lines_state name) (began_before (waiting_of (sight g text k).current) (sight g text k)) k
 LinesHoldAt g text k Ok = (k.stack ≡ []) × (k.ended ≡ true)
 LinesHoldAt g text k Nok = ⊥
 LinesHoldAt g text k (Error message) = ⊥
@@ -117,3 +122,10 @@ lines_reserve g text choice = 0
 
 abbrev pub lines_starts : List Name
 lines_starts = FlowStart ∷ []
+
+-- A state can be called: no choice waits, something does, and the open spans are those of the state
+pub record IsCallable {M : Type 0} (state : LinesState) (t : Seen M Unit Unit) : Type 0 where
+  pub choices : t.choices ≡ []
+  pub waiting : IsWaiting t.configuration.waiting t.configuration.position t.configuration.ended t.text
+  pub ahead : IsAhead t.configuration.waiting (sight_seen t)
+  pub spans : IsOpenAt (Some state) (began_before (waiting_of (sight_seen t).current) (sight_seen t)) t.configuration

@@ -26,7 +26,7 @@ use Rattle.markdown.specs.Calls.{consumed}
 use Rattle.markdown.specs.Reading.{fed}
 use Rattle.markdown.specs.Lawful.{unlinked, IsAsFar, ConsumesOnce, OnlyAdds, EndsWhenRead, KeepsInvariant, CostPays}
 use Rattle.mdevents.specs.Tables.{Waiting, at_end, at_line_ending, at_other, waiting_of, gives, counted}
-use Rattle.mdevents.specs.Lines.{LinesState, flow_start, paragraph_inside, lines_state, lines_table, lines_step_at, lines_step, InFlow, InParagraph, IsOpenAt, began_before, IsWaiting, LinesHoldAt, lines_holds, twice_left, lines_call_cost, lines_cost, lines_reserve, lines_starts}
+use Rattle.mdevents.specs.Lines.{LinesState, flow_start, paragraph_inside, lines_state, lines_table, lines_step_at, lines_step, InFlow, InParagraph, IsOpenAt, began_before, IsWaiting, IsAhead, LinesHoldAt, lines_holds, twice_left, lines_call_cost, lines_cost, lines_reserve, lines_starts}
 use Rattle.markdown.specs.TextOrder.{begins-before_end, began-before_next}
 
 -- What a kind of byte says of the configuration: the end waits, or a byte of the text
@@ -95,7 +95,7 @@ pub consumes_once : (g : Given) → ConsumesOnce g (lines_step g) (lines_holds g
 consumes_once g text k choices name is h =
     let s = sight g text k in
     let P : Step Unit Unit → Type 0 = λ q. (IsAsFar q.configuration k × ((n : Name) → q.answer ≢ Next n)) ⊎ ((k.waiting ≡ Byte) × IsAsFar q.configuration (consumed k) × ((n : Name) → q.answer ≢ Retry n)) in
-    each P (lines_state name) (began_before (waiting_of s.current) s) s k h.2.1 (λ state o. once-at state (waiting_of s.current) s text k (is-seen g text k h.2.0))
+    each P (lines_state name) (began_before (waiting_of s.current) s) s k h.2.2 (λ state o. once-at state (waiting_of s.current) s text k (is-seen g text k h.2.0))
 
 -- A call only adds events
 kept : (es : List Event) (e f : Event) → map unlinked (take (length es) ((es ++ e ∷ []) ++ f ∷ [])) ≡ map unlinked es
@@ -115,7 +115,7 @@ only_adds g = record {
   events = λ text k choices name is h.
       let s = sight g text k in
       let P : Step Unit Unit → Type 0 = λ q. map unlinked (take (length k.events) q.configuration.events) ≡ map unlinked k.events in
-      each P (lines_state name) (began_before (waiting_of s.current) s) s k h.2.1 (λ state o. adds-at state (waiting_of s.current) s k);
+      each P (lines_state name) (began_before (waiting_of s.current) s) s k h.2.2 (λ state o. adds-at state (waiting_of s.current) s k);
   stack = λ text k choices name is h. rw h.0 (λ i d l. absurd (omega arith));
 }
 
@@ -128,16 +128,17 @@ next-left g text p w h = let (s, is) = seat-at text p h in rw (add-one, is) refl
 
 -- The invariant is kept by a call
 kept-at : (state : LinesState) (w : Waiting) (g : Given) (text : Text) (k : Configuration Unit Unit) → IsText g text → k.position ≤ length text.seats
-    → IsWaiting k.waiting k.position k.ended text → IsSeen w text k → waiting_of (sight g text k).current ≡ w → IsOpenAt (Some state) (began_before w (sight g text k)) k
+    → IsWaiting k.waiting k.position k.ended text → IsAhead k.waiting (sight g text k) → IsSeen w text k → waiting_of (sight g text k).current ≡ w → IsOpenAt (Some state) (began_before w (sight g text k)) k
     → let q = lines_table state w (sight g text k) (counted k) in lines_holds g text q.configuration (q.choices ++ []) q.answer
-kept-at flow_start at_end g text k is p waits seen e o = (refl, p, (o.stack, seen))
-kept-at flow_start at_line_ending g text k is p waits seen e o = (refl, omega arith, (refl, record { stack = rw o.stack refl; spans = opened-ended k.events _ _ refl refl o.spans }))
-kept-at flow_start at_other g text k is p waits seen e o =
-    let later : stands_before (sight g text k).here (sight g text k).next ≡ true = rw seen.0 (begins-before_end g text k.position is seen.1) in (
+kept-at flow_start at_end g text k is p waits ahead seen e o = (refl, p, (o.stack, seen))
+kept-at flow_start at_line_ending g text k is p waits ahead seen e o = (refl, omega arith, (refl, record { stack = rw o.stack refl; spans = opened-ended k.events _ _ refl refl o.spans }))
+kept-at flow_start at_other g text k is p waits ahead seen e o =
+    let later = ahead seen.0 in (
       refl,
       p,
       (
         waits,
+        ahead,
         rw e (record {
           paragraph = record { kind = Enter; name = Paragraph; point = (sight g text k).here; link = None };
           inner = record { kind = Enter; name = Data; point = (sight g text k).here; link = None };
@@ -150,9 +151,9 @@ kept-at flow_start at_other g text k is p waits seen e o =
         }),
       ),
     )
-kept-at paragraph_inside at_end g text k is p waits seen e o = (refl, p, (rw o.stack refl, seen))
-kept-at paragraph_inside at_line_ending g text k is p waits seen e o = (refl, p, (waits, record { stack = rw o.stack refl; spans = ended-twice k.events _ _ _ _ refl refl o.spans }))
-kept-at paragraph_inside at_other g text k is p waits seen e o =
+kept-at paragraph_inside at_end g text k is p waits ahead seen e o = (refl, p, (rw o.stack refl, seen))
+kept-at paragraph_inside at_line_ending g text k is p waits ahead seen e o = (refl, p, (waits, ahead, record { stack = rw o.stack refl; spans = ended-twice k.events _ _ _ _ refl refl o.spans }))
+kept-at paragraph_inside at_other g text k is p waits ahead seen e o =
     let same : (sight g text k).next ≡ (sight_of g text (k.position + 1) Nothing).left = rw seen.0 (next-left g text k.position Nothing seen.1) in (
       refl,
       omega arith,
@@ -172,11 +173,11 @@ kept-at paragraph_inside at_other g text k is p waits seen e o =
     )
 
 kept-in : (o : Option LinesState) (g : Given) (text : Text) (k : Configuration Unit Unit) → IsText g text → k.position ≤ length text.seats
-    → IsWaiting k.waiting k.position k.ended text → IsOpenAt o (began_before (waiting_of (sight g text k).current) (sight g text k)) k
+    → IsWaiting k.waiting k.position k.ended text → IsAhead k.waiting (sight g text k) → IsOpenAt o (began_before (waiting_of (sight g text k).current) (sight g text k)) k
     → let q = lines_step_at o (sight g text k) (counted k) in lines_holds g text q.configuration (q.choices ++ []) q.answer
-kept-in None g text k is p waits h = absurd h
-kept-in (Some flow_start) g text k is p waits h = kept-at flow_start (waiting_of (sight g text k).current) g text k is p waits (is-seen g text k waits) refl h
-kept-in (Some paragraph_inside) g text k is p waits h = kept-at paragraph_inside (waiting_of (sight g text k).current) g text k is p waits (is-seen g text k waits) refl h
+kept-in None g text k is p waits ahead h = absurd h
+kept-in (Some flow_start) g text k is p waits ahead h = kept-at flow_start (waiting_of (sight g text k).current) g text k is p waits ahead (is-seen g text k waits) refl h
+kept-in (Some paragraph_inside) g text k is p waits ahead h = kept-at paragraph_inside (waiting_of (sight g text k).current) g text k is p waits ahead (is-seen g text k waits) refl h
 
 -- the same spans are open, and they began before another place
 moved : (o : Option LinesState) (here there : Point) (k : Configuration Unit Unit) (waits : Waits) (ended : Bool)
@@ -207,10 +208,14 @@ fed-at : (b : Bool) (g : Given) (text : Text) (k : Configuration Unit Unit) (nam
 fed-at true g text k name is e h =
     let inside = ltb-true k.position (length text.seats) e in
     let s = sight_of g text k.position Byte in
-    rw e (inside, moved (lines_state name) s.left (began_before (waiting_of s.current) s) k Byte k.ended (λ q before. began-before (waiting_of s.current) g text k.position q is inside before) h.1)
+    rw e (
+      inside,
+      λ waits. begins-before_end g text k.position is inside,
+      moved (lines_state name) s.left (began_before (waiting_of s.current) s) k Byte k.ended (λ q before. began-before (waiting_of s.current) g text k.position q is inside before) h.1,
+    )
 fed-at false g text k name is e h =
     let s = sight_of g text k.position End in
-    rw e (refl, moved (lines_state name) s.left s.left k End true (λ q before. before) h.1)
+    rw e (refl, λ waits. absurd (cc), moved (lines_state name) s.left s.left k End true (λ q before. before) h.1)
 
 fed-position : (text : Text) (k : Configuration Unit Unit) → (fed text k).position ≡ k.position
 fed-position text k = elim (nat_lt k.position (length text.seats)) as (λ b. (cond {A = Configuration Unit Unit} b (record { position = k.position; waiting = Byte; ended = k.ended; events = k.events; stack = k.stack; local = k.local }) (record { position = k.position; waiting = End; ended = true; events = k.events; stack = k.stack; local = k.local })).position ≡ k.position) [ true ↦ refl | false ↦ refl ]
@@ -259,22 +264,25 @@ sight-kept g text longer (suc q) e h =
     let (s, is) = seat-at text (suc q) h in
     rw (same, is, before, e.start) refl
 
-waits-longer : (g : Given) (text longer : Text) (k : Configuration Unit Unit) (w : Waits) (name : Name) → Extends text longer → k.ended ≡ false → k.waiting ≡ w
-    → IsWaiting w k.position k.ended text → IsOpenAt (lines_state name) (began_before (waiting_of (sight_of g text k.position w).current) (sight_of g text k.position w)) k
-    → IsWaiting w k.position k.ended longer × IsOpenAt (lines_state name) (began_before (waiting_of (sight_of g longer k.position w).current) (sight_of g longer k.position w)) k
-waits-longer g text longer k Nothing name e fresh is waits h = absurd waits
-waits-longer g text longer k Byte name e fresh is waits h = (
-  omega (arith, ap length e.seats, length-append text.seats e.more),
-  subst (λ s. IsOpenAt (lines_state name) (began_before (waiting_of s.current) s) k) (sym (sight-kept g text longer k.position e waits)) h,
-)
-waits-longer g text longer k End name e fresh is waits h = absurd (let c : true ≡ false = sym waits ∙ fresh in cc)
+waits-longer : (g : Given) (text longer : Text) (k : Configuration Unit Unit) (w : Waits) (name : Name) → Extends text longer → k.ended ≡ false → IsWaiting w k.position k.ended text
+    → IsAhead w (sight_of g text k.position w) → IsOpenAt (lines_state name) (began_before (waiting_of (sight_of g text k.position w).current) (sight_of g text k.position w)) k
+    → IsWaiting w k.position k.ended longer × IsAhead w (sight_of g longer k.position w)
+    × IsOpenAt (lines_state name) (began_before (waiting_of (sight_of g longer k.position w).current) (sight_of g longer k.position w)) k
+waits-longer g text longer k Nothing name e fresh waits ahead h = absurd waits
+waits-longer g text longer k Byte name e fresh waits ahead h =
+    let same = sym (sight-kept g text longer k.position e waits) in (
+      omega (arith, ap length e.seats, length-append text.seats e.more),
+      subst (λ s. IsAhead Byte s) same ahead,
+      subst (λ s. IsOpenAt (lines_state name) (began_before (waiting_of s.current) s) k) same h,
+    )
+waits-longer g text longer k End name e fresh waits ahead h = absurd (let c : true ≡ false = sym waits ∙ fresh in cc)
 
 -- The invariant is kept by a piece
 longer-at : (g : Given) (text longer : Text) (k : Configuration Unit Unit) (state : State) → Extends text longer → k.ended ≡ false → k.position ≤ length text.seats
     → LinesHoldAt g text k state → LinesHoldAt g longer k state
 longer-at g text longer k (Next name) e fresh p h =
     (h.0, subst (λ q. IsOpenAt (lines_state name) (shown g.bytes q) k) (sym (left-kept text longer k.position e p)) h.1)
-longer-at g text longer k (Retry name) e fresh p h = waits-longer g text longer k k.waiting name e fresh refl h.0 h.1
+longer-at g text longer k (Retry name) e fresh p h = waits-longer g text longer k k.waiting name e fresh h.0 h.1 h.2
 longer-at g text longer k Ok e fresh p h = h
 longer-at g text longer k Nok e fresh p h = h
 longer-at g text longer k (Error message) e fresh p h = h
@@ -295,7 +303,7 @@ invariant_kept g = record {
   unfed = λ text k choices name is h. h.2.0;
   waits = λ text k choices name is h. λ e. rw e at h.2.0;
   by_feeding = by-feeding g;
-  by_calls = λ text k choices name is h. rw h.0 (kept-in (lines_state name) g text k is h.1 h.2.0 h.2.1);
+  by_calls = λ text k choices name is h. rw h.0 (kept-in (lines_state name) g text k is h.1 h.2.0 h.2.1 h.2.2);
   by_ok = λ text k choice choices is h. absurd (let e : choice ∷ choices ≡ [] = h.0 in cc);
   by_nok = λ text k choice choices is h. absurd h.2;
   by_pieces = λ text piece k choices state is fits fresh h. by-pieces g text piece k choices state fresh h;
@@ -335,7 +343,7 @@ fed-cost g text k name =
 
 pub cost_pays : (g : Given) → CostPays g (lines_step g) (lines_holds g) (lines_cost g) (lines_reserve g)
 cost_pays g = record {
-  for_calls = λ text k choices name is h. paid-in (lines_state name) g text k _ h.2.1 h.2.0;
+  for_calls = λ text k choices name is h. paid-in (lines_state name) g text k _ h.2.2 h.2.0;
   for_feeding = λ text k choices name is h. fed-cost g text k name;
   for_ok = λ text k choice choices is h. absurd (let e : choice ∷ choices ≡ [] = h.0 in cc);
   for_nok = λ text k choice choices is h. absurd h.2;

@@ -4,6 +4,7 @@
 mod failure;
 #[cfg(test)]
 mod fakes;
+mod lines;
 mod print;
 mod read;
 mod words;
