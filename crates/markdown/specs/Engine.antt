@@ -36,18 +36,19 @@ module _ {R D : Type 0} where
   abbrev pub found : Configuration R D → Subresult
   found k = record { done = false; gfm_footnote_definitions = k.local.tokenize_state.gfm_footnote_definitions; definitions = k.local.tokenize_state.definitions }
 
-module _ {M R D : Type 0} (g : Given) (step : Sight → Configuration R D → Name → Step R D) (holds : Text → Configuration R D → List Choice → State → Type 0)
-    (cost : Text → Configuration R D → State → ℕ) (reserve : Text → Choice → ℕ) where
+module _ {M R D : Type 0} (cost : Text → Configuration R D → State → ℕ) (reserve : Text → Choice → ℕ) where
   -- the calls made, and those that a state and the waiting choices may still take on a text
   abbrev pub budget : Text → Seen M R D → State → ℕ
   budget text t state = t.calls + (cost text t.configuration state + sum_by (reserve text) t.choices)
 
+module _ {M R D : Type 0} (g : Given) (step : Sight → Configuration R D → Name → Step R D) (holds : Text → Configuration R D → List Choice → State → Type 0)
+    (cost : Text → Configuration R D → State → ℕ) (reserve : Text → Choice → ℕ) where
   -- On a text, the one tokenizer with its state comes to the same end as the other with its own, calls included; the invariant
   -- holds, and no more calls are to come
   pub record LeadsOn (text : Text) (old : Seen M R D) (state : State) (new : Seen M R D) (answer : State) : Type 0 where
     pub kept : holds text new.configuration new.choices answer
     pub same : (r : Reading R D) → EndsIn g step text new.calls new.configuration new.choices answer r ↔ EndsIn g step text old.calls old.configuration old.choices state r
-    pub paid : budget text new answer ≤ budget text old state
+    pub paid : budget cost reserve text new answer ≤ budget cost reserve text old state
 
   -- For every rest that can follow the new text, reading on from the new tokenizer and its answer comes to the same end as
   -- reading on from the old one and its state
@@ -65,6 +66,7 @@ module _ {M R D : Type 0} (g : Given) (step : Sight → Configuration R D → Na
     pub read : (name : Name) → answer ≡ Next name → (new.configuration.position ≡ length new.text.seats) × (new.configuration.waiting ≡ Nothing)
     pub answers : ((name : Name) × (answer ≡ Next name)) ⊎ ((m : Message) × (answer ≡ Error m))
 
+module _ {M R D : Type 0} (g : Given) (step : Sight → Configuration R D → Name → Step R D) where
   -- What a flush leaves, where it succeeds: the configuration in which the reading ends, without the definitions, which are answered
   pub record IsFlushed (old : Seen M R D) (state : State) (new : Seen M R D) (sub : Subresult) : Type 0 where
     pub result : Reading R D

@@ -1,11 +1,14 @@
 -- What the fields of a tokenizer mean. An inner file: no public clause names what stands here.
-use Rattle.std.specs.Prelude.{◌≡◌, ◌≢◌, ℕ, ◌+◌, ◌*◌, ◌<◌, ◌≤◌, ◌^◌, List, [], ◌∷◌, Bool, true, false, cond, ◌&&◌, Option, None, Some, filter, length, map, take, reverse, slice_get, All}
+use Rattle.std.specs.Prelude.{◌≡◌, ◌≢◌, ℕ, ◌+◌, ◌*◌, ◌<◌, ◌≤◌, ◌^◌, List, [], ◌∷◌, Bool, true, false, cond, ◌&&◌, Option, None, Some, filter, length, map, take, reverse, unwrap_or, IfSome}
 use Rattle.markdown_base.specs.declared.event.Event.{Event}
 use Rattle.markdown_base.specs.declared.event.Name.{Name}
 use Rattle.markdown_base.specs.declared.event.Point.{Point}
 use Rattle.markdown_base.specs.declared.state.State.{State}
 use Rattle.markdown_base.specs.declared.state.State.TheVariants.{Next, Ok, Nok}
-use Rattle.markdown_base.specs.Virtual.{Seat, virtual}
+use Rattle.markdown_base.specs.Virtual.{Seat, virtual, point}
+use Rattle.markdown_base.specs.Places.{point_at, shown, stands_before, is_upto}
+use Rattle.markdown.specs.declared.waiting.Waits.{Waits}
+use Rattle.markdown.specs.declared.waiting.Waits.TheVariants.{Nothing, Byte, End}
 use Rattle.markdown.specs.declared.waiting.Goal.{Goal}
 use Rattle.markdown.specs.declared.waiting.Goal.TheVariants as goal
 use Rattle.markdown.specs.declared.waiting.Mark.{Mark}
@@ -15,6 +18,9 @@ use Rattle.markdown.specs.declared.waiting.AttemptKind.TheVariants.{Attempt, Che
 use Rattle.markdown.specs.declared.tokenizer.Tokenizer.TheInside.{Inside}
 use Rattle.markdown.specs.Text.{Given, Text, IsText, in_range}
 use Rattle.markdown.specs.Configuration.{Configuration, Choice, Saved, Seen}
+use Rattle.markdown.specs.Sight.{seat_before, byte_of, end_place}
+use Rattle.markdown.specs.Cursor.{IsPlace, IsSeatAt}
+use Rattle.markdown.specs.Made.{IsMade}
 
 abbrev pub state_of : Goal → State
 state_of (goal.Next name) = Next name
@@ -35,6 +41,10 @@ saved_for mark false = mark.saved
 abbrev pub TAB : ℕ
 TAB = 4
 
+-- the point of a place, given by index and number in a tab
+abbrev pub end_point : List ℕ → (ℕ × ℕ) → Point
+end_point bytes place = unwrap_or (point_at TAB bytes place) (point 1 1 0 0)
+
 -- the virtual bytes from one place on before another
 abbrev pub seats_between : List ℕ → Point → Point → List Seat
 seats_between bytes from to = filter (in_range from to) (virtual TAB bytes)
@@ -51,7 +61,7 @@ seen t =
     let bytes = t.parse_state.now.bytes.now in record {
       given = record { bytes = bytes; options = t.parse_state.now.options.now; tab = TAB };
       machine = t.parse_state.now.machine.now;
-      text = record { start = t.start; seats = seats_between bytes t.start t.end; end = t.end };
+      text = record { start = t.start; seats = seats_between bytes t.start (end_point bytes t.end); end = end_point bytes t.end };
       configuration = record {
         position = length (seats_between bytes t.start t.left);
         waiting = t.waits;
@@ -72,6 +82,66 @@ seen t =
       closed = t.closed;
     }
 
+-- the text that was pushed
+abbrev pub text_of : {M R D : Type 0} → Inside M R D → Text
+text_of t = (seen t).text
+
+-- A text was read up to a place: it is where the byte before ends, or the start, and that byte is known
+pub record IsReadTo (bytes : List ℕ) (text : Text) (left : Point) (previous : Option ℕ) : Type 0 where
+  pub place : IsPlace TAB bytes left
+  pub from : is_upto TAB bytes text.start left ≡ true
+  pub upto : is_upto TAB bytes left text.end ≡ true
+  pub back : left ≡ end_place text (length (seats_between bytes text.start left))
+  pub previous_is : previous ≡ byte_of (seat_before text (length (seats_between bytes text.start left)))
+
+-- What waits is the next virtual byte
+pub record ByteWaits (bytes : List ℕ) (left end point : Point) (current : Option ℕ) : Type 0 where
+  pub seat : Seat
+  pub at : IsSeatAt TAB bytes left seat
+  pub before : stands_before seat.point end ≡ true
+  pub here : seat.point ≡ point
+  pub is : current ≡ Some seat.byte
+
+-- What waits is the end of the text, all of which was read
+pub record EndWaits (end point : Point) (current : Option ℕ) (closed : Bool) (position size : ℕ) : Type 0 where
+  pub here : point ≡ end
+  pub none : current ≡ None
+  pub closed_too : closed ≡ true
+  pub all : size ≤ position
+
+-- what waits, and where it stands
+abbrev pub IsWaiting : List ℕ → Text → Point → Point → Option ℕ → Bool → Waits → Type 0
+IsWaiting bytes text left point current closed Nothing = (point ≡ left) × (current ≡ None)
+IsWaiting bytes text left point current closed Byte = ByteWaits bytes left text.end point current
+IsWaiting bytes text left point current closed End = EndWaits text.end point current closed (length (seats_between bytes text.start left)) (length text.seats)
+
+-- What a choice saved: a place up to which the text was read, with the events and the stack that were there
+pub record IsProgress (bytes : List ℕ) (text : Text) (events : List Event) (stack : List Name) (closed : Bool) (p : Progress) : Type 0 where
+  pub read : IsReadTo bytes text p.left p.previous
+  pub ended : p.ended ≡ true → closed ≡ true
+  pub made : IsMade bytes (take p.events_len events) (take p.stack_len stack) (shown bytes p.left) (shown bytes p.left)
+
+abbrev pub events_of : ℕ → Option Progress → ℕ
+events_of n None = n
+events_of n (Some p) = p.events_len
+
+abbrev pub stack_of : ℕ → Option Progress → ℕ
+stack_of n None = n
+stack_of n (Some p) = p.stack_len
+
+-- what choices saved, the last first: each no more events and open spans than the one after it
+abbrev pub AreNested : (Progress → Type 0) → (events stack : ℕ) → List Mark → Type 0
+AreNested P events stack [] = Unit {0}
+AreNested P events stack (mark ∷ marks) =
+    IfSome mark.saved (λ p. (p.events_len ≤ events) × (p.stack_len ≤ stack) × P p) × AreNested P (events_of events mark.saved) (stack_of stack mark.saved) marks
+
 -- what holds of the fields
 pub record IsSound {M R D : Type 0} (t : Inside M R D) : Type 0 where
   pub limit : 4 * length t.parse_state.now.bytes.now + 1 < 2 ^ 64
+  pub end_at : point_at TAB t.parse_state.now.bytes.now t.end ≡ Some (text_of t).end
+  pub text : IsText (seen t).given (text_of t)
+  pub read : IsReadTo t.parse_state.now.bytes.now (text_of t) t.left t.previous
+  pub waiting : IsWaiting t.parse_state.now.bytes.now (text_of t) t.left t.point t.current t.closed t.waits
+  pub ended : t.ended ≡ true → t.closed ≡ true
+  pub made : IsMade t.parse_state.now.bytes.now t.events.items t.stack.items (shown t.parse_state.now.bytes.now t.left) (shown t.parse_state.now.bytes.now t.left)
+  pub marks : AreNested (IsProgress t.parse_state.now.bytes.now (text_of t) t.events.items t.stack.items t.closed) (length t.events.items) (length t.stack.items) (reverse t.marks.items)

@@ -8,6 +8,8 @@ pub mod places;
 pub mod state;
 pub mod subtokenize;
 pub mod tokenizer;
+pub mod util;
 pub mod waiting;
+pub mod work;
 
 pub use markdown_base::{configuration, event, message, owned, unist};

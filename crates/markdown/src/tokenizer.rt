@@ -1,14 +1,17 @@
 //! The tokenizer: it feeds the virtual bytes of a document to the states of a machine.
 
 use crate::count::Calls;
+use crate::cursor::{end_of, is_before, seat_at, shown};
 use crate::parser::ParseState;
-use crate::state::{Machine, MachineTypes, State};
+use crate::state::{MachineTypes, State};
+use crate::subtokenize::Subresult;
 use crate::waiting::{Mark, Waits};
-use markdown_base::event::{Content, Event, Name, Point};
+use markdown_base::event::{Content, Event, Kind, Link, Name, Point};
 use markdown_base::message::Message;
 use markdown_base::owned::{Items, OwnedText, StaticBytes};
 use std::alloc::{AllocError, Global};
 use std::marker::Model;
+use std::mem::replace;
 
 /// The kind of a container.
 #[derive(Clone, Copy, Debug, PartialEq, Eq)]
@@ -178,7 +181,7 @@ pub struct Tokenizer<'a, M: MachineTypes> {
     pub lazy: bool,
     parse_state: &'a ParseState<'a, M>,
     start: Point,
-    end: Point,
+    end: (usize, usize),
     left: Point,
     point: Point,
     waits: Waits,
@@ -203,4 +206,378 @@ impl<'a, M: MachineTypes> Model for Tokenizer<'a, M> {
     ghost view = { seen };
 
     ghost invariant = { IsSound };
+}
+
+ghost use Rattle.std.specs.Prelude.{◌≡◌, ◌≢◌, ◌+◌, ◌*◌, ◌^◌, ◌++◌, ◌∷◌, ◌<◌, ◌≤◌, [], List, false, true, length, IfOk, OnOk, OnErr, None, Some, IsTrue};
+ghost use Rattle.std.specs.Bool.{OnTrue, OnFalse};
+ghost use Rattle.markdown_base.specs.Places.{IsPointOf, point_at};
+ghost use Rattle.markdown.specs.Text.{FitsAfter, followed_by, pushed, empty_text};
+ghost use Rattle.markdown.specs.Configuration.{at_configuration, start_state, start_seen};
+ghost use Rattle.markdown.specs.Sight.{sight};
+ghost use Rattle.markdown.specs.Calls.{consumed, entered, exited, CanExit};
+ghost use Rattle.markdown.specs.Reading.{fed};
+ghost use Rattle.markdown.specs.Engine.{found, taken, IsWellFormed};
+ghost use Rattle.markdown.specs.Work.{IsInText, IsSettled, extended};
+
+impl<D: Drop> TokenizeState<D> {
+    /// What states share before any was called. Takes no memory.
+    pub fn new(alloc: Global) -> Self
+        ensures { result ≡ start_state }
+    {
+        TokenizeState {
+            document: None,
+            document_child_state: None,
+            document_container_stack: Items::new(alloc),
+            document_continued: 0,
+            document_data_index: None,
+            document_exits: Items::new(alloc),
+            document_lazy_accepting_before: false,
+            document_at_first_paragraph_of_list_item: false,
+            space_or_tab_eol_content: None,
+            space_or_tab_eol_connect: false,
+            space_or_tab_eol_ok: false,
+            space_or_tab_connect: false,
+            space_or_tab_content: None,
+            space_or_tab_min: 0,
+            space_or_tab_max: 0,
+            space_or_tab_size: 0,
+            space_or_tab_token: Name::SpaceOrTab,
+            label_starts: Items::new(alloc),
+            label_starts_loose: Items::new(alloc),
+            labels: Items::new(alloc),
+            definitions: Items::new(alloc),
+            gfm_footnote_definitions: Items::new(alloc),
+            connect: false,
+            marker: 0,
+            marker_b: 0,
+            markers: StaticBytes::new(b""),
+            seen: false,
+            size: 0,
+            size_b: 0,
+            size_c: 0,
+            start: 0,
+            end: 0,
+            token_1: Name::Data,
+            token_2: Name::Data,
+            token_3: Name::Data,
+            token_4: Name::Data,
+            token_5: Name::Data,
+            token_6: Name::Data,
+        }
+    }
+}
+
+impl<'a, M: MachineTypes> Tokenizer<'a, M> {
+    /// A tokenizer that has read nothing, from this place of the document on. Takes no memory.
+    ///
+    /// The point is that of a place; four times the document's length, and one more, fits `usize`.
+    pub fn new(alloc: Global, point: Point, parse_state: &'a ParseState<'a, M>) -> Self
+        requires place { IsPointOf 4 parse_state.now.bytes.now point }
+        requires limit { 4 * length parse_state.now.bytes.now + 1 < 2 ^ 64 }
+        ensures { result ≡ start_seen (record { bytes = parse_state.now.bytes.now; options = parse_state.now.options.now; tab = 4 }) parse_state.now.machine.now (empty_text point) }
+    {
+        let tokenize_state = TokenizeState::new(alloc);
+        let events = Vec::new(alloc);
+        let stack = Vec::new(alloc);
+        let resolvers = Vec::new(alloc);
+        let marks = Vec::new(alloc);
+        let calls = Calls::new();
+        Tokenizer {
+            tokenize_state,
+            interrupt: false,
+            concrete: false,
+            pierce: false,
+            lazy: false,
+            parse_state,
+            start: point,
+            end: (point.index, point.vs),
+            left: point,
+            point,
+            waits: Waits::Nothing,
+            ended: false,
+            previous: None,
+            current: None,
+            events,
+            stack,
+            resolvers,
+            marks,
+            closed: false,
+            calls,
+        }
+    }
+
+    /// Counts a call. The count takes no bytes, and contracts alone see it.
+    pub fn tick(&mut self)
+        ensures { self.new ≡ record self.old { calls = self.old.calls + 1 } }
+    {
+        self.calls = self.calls.next();
+    }
+
+    /// The events so far.
+    pub fn events(&self) -> &[Event]
+        ensures { result.now ≡ self.now.configuration.events }
+    {
+        self.events.as_slice()
+    }
+
+    /// The names of the open spans, the innermost last.
+    pub fn stack(&self) -> &[Name]
+        ensures { result.now ≡ self.now.configuration.stack }
+    {
+        self.stack.as_slice()
+    }
+
+    /// The place of the byte that waits, of the text's end while that waits, and else the place after the byte before.
+    pub fn point(&self) -> Point
+        ensures { result ≡ (sight self.now.given self.now.text self.now.configuration).point }
+    {
+        self.point
+    }
+
+    /// The byte before, if one was read. A byte that a gap passes is never there.
+    pub fn previous(&self) -> Option<u8>
+        ensures { result ≡ (sight self.now.given self.now.text self.now.configuration).previous }
+    {
+        self.previous
+    }
+
+    /// The byte that waits, if one does.
+    pub fn current(&self) -> Option<u8>
+        ensures { result ≡ (sight self.now.given self.now.text self.now.configuration).current }
+    {
+        self.current
+    }
+
+    /// The document, the options and the machine.
+    pub fn parse_state(&self) -> &'a ParseState<'a, M>
+        ensures bytes { result.now.bytes.now ≡ self.now.given.bytes }
+        ensures options { result.now.options.now ≡ self.now.given.options }
+        ensures machine { result.now.machine.now ≡ self.now.machine }
+    {
+        self.parse_state
+    }
+
+    /// The events, and no tokenizer any more. Takes no memory.
+    pub fn into_events(self) -> Vec<Event>
+        ensures { result.items ≡ self.entry.configuration.events }
+    {
+        let Tokenizer {
+            tokenize_state: _,
+            interrupt: _,
+            concrete: _,
+            pierce: _,
+            lazy: _,
+            parse_state: _,
+            start: _,
+            end: _,
+            left: _,
+            point: _,
+            waits: _,
+            ended: _,
+            previous: _,
+            current: _,
+            events,
+            stack: _,
+            resolvers: _,
+            marks: _,
+            closed: _,
+            calls: _,
+        } = self;
+        events
+    }
+
+    /// Consumes the byte that waits. Takes no memory.
+    pub fn consume(&mut self)
+        requires { self.old.configuration.waiting ≡ Waits.Byte }
+        ensures { self.new ≡ at_configuration self.old (consumed self.old.configuration) }
+    {
+        let left = end_of(self.current.unwrap_or(0), self.point);
+        self.left = left;
+        self.point = left;
+        self.previous = self.current;
+        self.current = None;
+        self.ended = false;
+        self.waits = Waits::Nothing;
+    }
+
+    /// Begins a span: an enter at the place where one stands. Where memory is refused, events and stack stay as they were.
+    pub fn enter(&mut self, name: Name) -> Result<(), AllocError>
+        ensures ok { OnOk result (self.new ≡ at_configuration self.old (entered name None (sight self.old.given self.old.text self.old.configuration).here self.old.configuration)) }
+        ensures err { OnErr result (self.new ≡ self.old) }
+    {
+        self.begin(name, None)
+    }
+
+    /// As `enter`, with a link. Where memory is refused, events and stack stay as they were.
+    pub fn enter_link(&mut self, name: Name, link: Link) -> Result<(), AllocError>
+        ensures ok { OnOk result (self.new ≡ at_configuration self.old (entered name (Some link) (sight self.old.given self.old.text self.old.configuration).here self.old.configuration)) }
+        ensures err { OnErr result (self.new ≡ self.old) }
+    {
+        self.begin(name, Some(link))
+    }
+
+    fn begin(&mut self, name: Name, link: Option<Link>) -> Result<(), AllocError>
+        ensures ok { OnOk result (self.new ≡ at_configuration self.old (entered name link (sight self.old.given self.old.text self.old.configuration).here self.old.configuration)) }
+        ensures err { OnErr result (self.new ≡ self.old) }
+    {
+        let point = shown(self.parse_state.bytes, self.point);
+        let open_len = self.stack.len();
+        self.stack.push(name)?;
+        let event = Event {
+            kind: Kind::Enter,
+            name,
+            point,
+            link,
+        };
+        match self.events.push(event) {
+            Ok(()) => Ok(()),
+            Err(_) => {
+                self.stack.truncate(open_len);
+                Err(AllocError)
+            }
+        }
+    }
+
+    /// Ends the innermost span: an exit at the place after the byte before.
+    ///
+    /// The name is that of the innermost span, a byte was consumed since it began, and a void span holds no event. Where
+    /// memory is refused, events and stack stay as they were.
+    pub fn exit(&mut self, name: Name) -> Result<(), AllocError>
+        requires { CanExit name self.old }
+        ensures ok { OnOk result (self.new ≡ at_configuration self.old (exited name (sight self.old.given self.old.text self.old.configuration).left self.old.configuration)) }
+        ensures err { OnErr result (self.new ≡ self.old) }
+    {
+        let point = shown(self.parse_state.bytes, self.left);
+        self.events.push(Event {
+            kind: Kind::Exit,
+            name,
+            point,
+            link: None,
+        })?;
+        let _ = self.stack.pop();
+        Ok(())
+    }
+
+    /// The next byte waits, if there is one.
+    pub(crate) fn feed(&mut self) -> bool
+        ensures fed { OnTrue result (self.new ≡ at_configuration self.old (fed self.old.text self.old.configuration)) }
+        ensures more { OnTrue result (self.old.configuration.position < length self.old.text.seats) }
+        ensures same { OnFalse result (self.new ≡ self.old) }
+        ensures end { OnFalse result (length self.old.text.seats ≤ self.old.configuration.position) }
+    {
+        match seat_at(self.parse_state.bytes, self.left) {
+            None => false,
+            Some((byte, seat)) => {
+                if is_before(seat, self.end) {
+                    self.point = seat;
+                    self.current = Some(byte);
+                    self.waits = Waits::Byte;
+                    true
+                } else {
+                    false
+                }
+            }
+        }
+    }
+
+    /// The end waits.
+    pub(crate) fn feed_end(&mut self)
+        requires read { length self.old.text.seats ≤ self.old.configuration.position }
+        requires closed { self.old.closed ≡ true }
+        ensures { self.new ≡ at_configuration self.old (fed self.old.text self.old.configuration) }
+    {
+        self.point = Point {
+            line: self.left.line,
+            column: self.left.column,
+            index: self.end.0,
+            vs: self.end.1,
+        };
+        self.waits = Waits::End;
+        self.current = None;
+        self.ended = true;
+    }
+
+    /// A tokenizer has read no more than its text.
+    pub(crate) fn tells(&self)
+        ensures { IsInText self.now }
+    {
+        let _ = &self.point;
+    }
+
+    /// Where no span is open, the events are well formed.
+    pub(crate) fn tells_events(&self)
+        ensures { self.now.configuration.stack ≡ [] → IsWellFormed self.now.given.bytes self.now.configuration }
+    {
+        let _ = &self.point;
+    }
+
+    /// Nothing more is pushed.
+    pub(crate) fn close(&mut self)
+        ensures { self.new ≡ record self.old { closed = true } }
+    {
+        self.closed = true;
+    }
+
+    /// Whether nothing more is pushed.
+    pub(crate) fn is_closed(&self) -> bool
+        ensures { result ≡ self.now.closed }
+    {
+        self.closed
+    }
+
+    /// The text ends later.
+    pub(crate) fn extend(&mut self, from: (usize, usize), to: (usize, usize))
+        requires range { (f : Point) × (t : Point) × (point_at 4 self.old.given.bytes from ≡ Some f) × (point_at 4 self.old.given.bytes to ≡ Some t) × FitsAfter self.old.given self.old.text (pushed f t) }
+        requires open_still { self.old.closed ≡ false }
+        ensures { (f t : Point) → point_at 4 self.old.given.bytes from ≡ Some f → point_at 4 self.old.given.bytes to ≡ Some t → self.new ≡ extended self.old (followed_by self.old.given self.old.text (pushed f t)) }
+    {
+        self.end = to;
+    }
+
+    /// The last choice ends.
+    pub(crate) fn settle_last(&mut self, ok: bool) -> Option<State>
+        ensures { IsSettled self.old self.new ok result }
+    {
+        let mark = match self.marks.pop() {
+            Some(mark) => mark,
+            None => return None,
+        };
+        let state = mark.goal(ok);
+        match mark.saved_for(ok) {
+            Some(saved) => {
+                self.left = saved.left;
+                self.point = saved.left;
+                self.previous = saved.previous;
+                self.ended = saved.ended;
+                self.events.truncate(saved.events_len);
+                self.stack.truncate(saved.stack_len);
+                self.waits = Waits::Nothing;
+                self.current = None;
+                Some(state)
+            }
+            None => {
+                self.point = self.left;
+                self.waits = Waits::Nothing;
+                self.current = None;
+                Some(state)
+            }
+        }
+    }
+
+    /// The definitions that states found are taken out. Takes no memory.
+    pub(crate) fn take_definitions(&mut self, alloc: Global) -> Subresult
+        ensures answer { result ≡ found self.old.configuration }
+        ensures rest { self.new ≡ at_configuration self.old (taken self.old.configuration) }
+    {
+        let definitions = replace(&mut self.tokenize_state.definitions, Items::new(alloc));
+        let gfm_footnote_definitions = replace(
+            &mut self.tokenize_state.gfm_footnote_definitions,
+            Items::new(alloc),
+        );
+        Subresult {
+            done: false,
+            gfm_footnote_definitions,
+            definitions,
+        }
+    }
 }

@@ -1,7 +1,7 @@
 -- Lists of events.
 --
 -- An event enters or exits a span of the document (the crate's comment on events); spans nest.
-use Rattle.std.specs.Prelude.{◌≡◌, ℕ, ◌+◌, ◌-◌, ◌<◌, Bool, true, false, List, [], ◌∷◌, ◌++◌, length, take, Option, Some, IfSome, option_map, option_and_then, All, AllPairs, slice_get}
+use Rattle.std.specs.Prelude.{◌≡◌, ℕ, ◌+◌, ◌-◌, ◌<◌, Bool, true, false, List, [], ◌∷◌, ◌++◌, length, take, map, Option, Some, None, IfSome, option_map, option_and_then, All, AllPairs, slice_get}
 use Rattle.std.specs.List.{list_any}
 use denote.Enum.Bare.{sameb}
 use Rattle.markdown_base.specs.contracts.event.Name.{the_type}
@@ -36,6 +36,14 @@ EachEnd P l = IfSome l.previous P × IfSome l.next P
 -- each end of the event's link, where it has one, is an index below n
 abbrev pub EndsBelow : ℕ → Event → Type 0
 EndsBelow n e = IfSome e.link (EachEnd (λ k. k < n))
+
+-- the event without its link
+abbrev pub unlinked : Event → Event
+unlinked e = record e { link = None }
+
+-- the new list begins with the old one, up to links
+abbrev pub HasFrontUpToLinks : List Event → List Event → Type 0
+HasFrontUpToLinks new old = map unlinked (take (length old) new) ≡ map unlinked old
 
 -- a list is balanced: it is empty, or an enter of a name, a balanced list, an exit of that name, and a balanced list
 pub data IsBalanced : List Event → Type 0 where

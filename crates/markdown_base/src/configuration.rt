@@ -1,75 +1,83 @@
-//! Options: which constructs a document may use, and how they are read.
+//! Options: which constructs a document may use, how they are read, and how HTML is made of them.
+
+ghost use Rattle.std.specs.Prelude.{◌≡◌, IfOk};
+ghost use Rattle.markdown_base.specs.Presets.{gfm_constructs, mdx_constructs, gfm_parse_options, mdx_parse_options};
+ghost use Rattle.markdown_base.specs.Presets.{gfm_compile_options, gfm_options};
+
+use crate::owned::OwnedText;
+use crate::util::line_ending::LineEnding;
+use std::alloc::{AllocError, Global};
 
 /// Which constructs are on.
 #[derive(Clone, Copy, Debug, PartialEq, Eq)]
 pub struct Constructs {
-    /// Attention.
+    /// Emphasis and strong emphasis.
     pub attention: bool,
-    /// Autolink.
+    /// Autolinks, `<https://example.com>`.
     pub autolink: bool,
-    /// Block quote.
+    /// Block quotes, `> a`.
     pub block_quote: bool,
-    /// Character escape.
+    /// Character escapes, `\*`.
     pub character_escape: bool,
-    /// Character reference.
+    /// Character references, `&amp;`.
     pub character_reference: bool,
-    /// Code indented.
+    /// Indented code.
     pub code_indented: bool,
-    /// Code fenced.
+    /// Fenced code.
     pub code_fenced: bool,
-    /// Code text.
+    /// Code spans.
     pub code_text: bool,
-    /// Definition.
+    /// Link reference definitions.
     pub definition: bool,
-    /// Frontmatter.
+    /// Frontmatter at the start of a document; no part of CommonMark.
     pub frontmatter: bool,
-    /// GFM autolink literal.
+    /// GFM: links with no markers, `https://example.com`.
     pub gfm_autolink_literal: bool,
-    /// GFM footnote definition.
+    /// GFM: footnote definitions, `[^a]: b`.
     pub gfm_footnote_definition: bool,
-    /// GFM label start footnote.
+    /// GFM: calls of footnotes, `[^a]`.
     pub gfm_label_start_footnote: bool,
-    /// GFM strikethrough.
+    /// GFM: strikethrough, `~~a~~`.
     pub gfm_strikethrough: bool,
-    /// GFM table.
+    /// GFM: tables.
     pub gfm_table: bool,
-    /// GFM task list item.
+    /// GFM: checks of list items, `[x]`.
     pub gfm_task_list_item: bool,
-    /// Hard break escape.
+    /// Hard breaks by a backslash.
     pub hard_break_escape: bool,
-    /// Hard break trailing.
+    /// Hard breaks by trailing spaces.
     pub hard_break_trailing: bool,
-    /// Heading atx.
+    /// Headings that begin with `#`.
     pub heading_atx: bool,
-    /// Heading setext.
+    /// Headings that are underlined.
     pub heading_setext: bool,
-    /// HTML flow.
+    /// Blocks of HTML.
     pub html_flow: bool,
-    /// HTML text.
+    /// HTML within text.
     pub html_text: bool,
-    /// Label start image.
+    /// Starts of image labels, `![`.
     pub label_start_image: bool,
-    /// Label start link.
+    /// Starts of link labels, `[`.
     pub label_start_link: bool,
-    /// Label end.
+    /// Ends of labels, with what follows them.
     pub label_end: bool,
-    /// List item.
+    /// List items.
     pub list_item: bool,
-    /// Math flow.
+    /// Blocks of math; no part of CommonMark.
     pub math_flow: bool,
-    /// Math text.
+    /// Math within text; no part of CommonMark.
     pub math_text: bool,
-    /// MDX esm.
+    /// MDX: imports and exports.
     pub mdx_esm: bool,
-    /// MDX expression flow.
+    /// MDX: expressions as blocks.
     pub mdx_expression_flow: bool,
-    /// MDX expression text.
+    /// MDX: expressions within text.
     pub mdx_expression_text: bool,
-    /// MDX jsx flow.
+    /// MDX: JSX as blocks.
     pub mdx_jsx_flow: bool,
-    /// MDX jsx text.
+    /// MDX: JSX within text.
     pub mdx_jsx_text: bool,
-    /// Thematic break.
+    /// Thematic breaks, `***`.
     pub thematic_break: bool,
 }
 
@@ -120,6 +128,42 @@ impl Default for Constructs {
     }
 }
 
+impl Constructs {
+    /// The constructs of GitHub flavored Markdown: those of CommonMark, and the six that GFM adds.
+    pub fn gfm() -> Self
+        ensures { result ≡ gfm_constructs }
+    {
+        Constructs {
+            gfm_autolink_literal: true,
+            gfm_footnote_definition: true,
+            gfm_label_start_footnote: true,
+            gfm_strikethrough: true,
+            gfm_table: true,
+            gfm_task_list_item: true,
+            ..Constructs::default()
+        }
+    }
+
+    /// The constructs of MDX: those of CommonMark without autolinks, indented code and HTML, and the five that
+    /// MDX adds.
+    pub fn mdx() -> Self
+        ensures { result ≡ mdx_constructs }
+    {
+        Constructs {
+            autolink: false,
+            code_indented: false,
+            html_flow: false,
+            html_text: false,
+            mdx_esm: true,
+            mdx_expression_flow: true,
+            mdx_expression_text: true,
+            mdx_jsx_flow: true,
+            mdx_jsx_text: true,
+            ..Constructs::default()
+        }
+    }
+}
+
 /// How a document is read.
 #[derive(Clone, Copy, Debug, PartialEq, Eq)]
 pub struct ParseOptions {
@@ -144,5 +188,211 @@ impl Default for ParseOptions {
             gfm_strikethrough_single_tilde: true,
             math_text_single_dollar: true,
         }
+    }
+}
+
+impl ParseOptions {
+    /// The options of GitHub flavored Markdown.
+    pub fn gfm() -> Self
+        ensures { result ≡ gfm_parse_options }
+    {
+        ParseOptions {
+            constructs: Constructs::gfm(),
+            ..ParseOptions::default()
+        }
+    }
+
+    /// The options of MDX.
+    pub fn mdx() -> Self
+        ensures { result ≡ mdx_parse_options }
+    {
+        ParseOptions {
+            constructs: Constructs::mdx(),
+            ..ParseOptions::default()
+        }
+    }
+}
+
+/// How HTML is made of a document.
+#[derive(Debug, Drop)]
+pub struct CompileOptions {
+    /// Whether images may have any address, whatever its protocol.
+    pub allow_any_img_src: bool,
+    /// Whether HTML in the document is kept as HTML. Where it is not, it is shown as text.
+    pub allow_dangerous_html: bool,
+    /// Whether links and images may have addresses of any protocol.
+    pub allow_dangerous_protocol: bool,
+    /// The line ending to write where the document gives none.
+    pub default_line_ending: LineEnding,
+    /// What the link back from a footnote is called; `Back to content` where none is given.
+    pub gfm_footnote_back_label: Option<OwnedText>,
+    /// What stands before the `id` of a footnote; `user-content-` where none is given.
+    pub gfm_footnote_clobber_prefix: Option<OwnedText>,
+    /// The attributes of the heading of footnotes; `class="sr-only"` where none are given.
+    pub gfm_footnote_label_attributes: Option<OwnedText>,
+    /// The name of the element that is the heading of footnotes; `h2` where none is given.
+    pub gfm_footnote_label_tag_name: Option<OwnedText>,
+    /// The heading of footnotes; `Footnotes` where none is given.
+    pub gfm_footnote_label: Option<OwnedText>,
+    /// Whether a reader may tick the boxes of task list items.
+    pub gfm_task_list_item_checkable: bool,
+    /// Whether GFM's filter of tags is applied, where HTML is kept.
+    pub gfm_tagfilter: bool,
+}
+
+impl Default for CompileOptions {
+    ghost use Rattle.std.specs.Prelude.{◌≡◌};
+    ghost use Rattle.markdown_base.specs.Presets.{default_compile_options};
+
+    ghost is_default = { λ x. x ≡ default_compile_options };
+
+    /// Safe HTML, with labels in English.
+    fn default() -> Self {
+        CompileOptions {
+            allow_any_img_src: false,
+            allow_dangerous_html: false,
+            allow_dangerous_protocol: false,
+            default_line_ending: LineEnding::default(),
+            gfm_footnote_back_label: None,
+            gfm_footnote_clobber_prefix: None,
+            gfm_footnote_label_attributes: None,
+            gfm_footnote_label_tag_name: None,
+            gfm_footnote_label: None,
+            gfm_task_list_item_checkable: false,
+            gfm_tagfilter: false,
+        }
+    }
+}
+
+impl CompileOptions {
+    /// The defaults, with GFM's filter of tags.
+    pub fn gfm() -> Self
+        ensures { result ≡ gfm_compile_options }
+    {
+        CompileOptions {
+            gfm_tagfilter: true,
+            ..CompileOptions::default()
+        }
+    }
+
+    /// The same options, in memory of their own.
+    pub fn try_clone(&self, alloc: Global) -> Result<CompileOptions, AllocError>
+        ensures { IfOk result (λ copy. copy ≡ self.now) }
+    {
+        Ok(CompileOptions {
+            allow_any_img_src: self.allow_any_img_src,
+            allow_dangerous_html: self.allow_dangerous_html,
+            allow_dangerous_protocol: self.allow_dangerous_protocol,
+            default_line_ending: self.default_line_ending,
+            gfm_footnote_back_label: given_text(&self.gfm_footnote_back_label, alloc)?,
+            gfm_footnote_clobber_prefix: given_text(&self.gfm_footnote_clobber_prefix, alloc)?,
+            gfm_footnote_label_attributes: given_text(&self.gfm_footnote_label_attributes, alloc)?,
+            gfm_footnote_label_tag_name: given_text(&self.gfm_footnote_label_tag_name, alloc)?,
+            gfm_footnote_label: given_text(&self.gfm_footnote_label, alloc)?,
+            gfm_task_list_item_checkable: self.gfm_task_list_item_checkable,
+            gfm_tagfilter: self.gfm_tagfilter,
+        })
+    }
+}
+
+/// A text, if it is given, in memory of its own.
+fn given_text(text: &Option<OwnedText>, alloc: Global) -> Result<Option<OwnedText>, AllocError>
+    ensures { IfOk result (λ copy. copy ≡ text.now) }
+{
+    match text {
+        Some(text) => Ok(Some(text.try_clone(alloc)?)),
+        None => Ok(None),
+    }
+}
+
+/// How a document is read, and how HTML is made of it.
+#[derive(Debug, Drop)]
+pub struct Options {
+    /// How the document is read.
+    pub parse: ParseOptions,
+    /// How HTML is made of it.
+    pub compile: CompileOptions,
+}
+
+impl Default for Options {
+    ghost use Rattle.std.specs.Prelude.{◌≡◌};
+    ghost use Rattle.markdown_base.specs.Presets.{default_options};
+
+    ghost is_default = { λ x. x ≡ default_options };
+
+    /// CommonMark, made into safe HTML.
+    fn default() -> Self {
+        Options {
+            parse: ParseOptions::default(),
+            compile: CompileOptions::default(),
+        }
+    }
+}
+
+impl Options {
+    /// GitHub flavored Markdown, made into safe HTML.
+    pub fn gfm() -> Self
+        ensures { result ≡ gfm_options }
+    {
+        Options {
+            parse: ParseOptions::gfm(),
+            compile: CompileOptions::gfm(),
+        }
+    }
+}
+
+#[cfg(test)]
+mod tests {
+    use super::*;
+    use std::test::Fail;
+
+    #[test]
+    fn shows_options(rt: HostRuntime) -> Result<(), Fail> {
+        let shown = format!(in rt.alloc(); "{:?}", ParseOptions::default())?;
+        let want =
+            "ParseOptions { constructs: Constructs { attention: true, autolink: true, block_quote: true, \
+            character_escape: true, character_reference: true, code_indented: true, code_fenced: true, \
+            code_text: true, definition: true, frontmatter: false, gfm_autolink_literal: false, \
+            gfm_footnote_definition: false, gfm_label_start_footnote: false, gfm_strikethrough: false, \
+            gfm_table: false, gfm_task_list_item: false, hard_break_escape: true, hard_break_trailing: true, \
+            heading_atx: true, heading_setext: true, html_flow: true, html_text: true, label_start_image: true, \
+            label_start_link: true, label_end: true, list_item: true, math_flow: false, math_text: false, \
+            mdx_esm: false, mdx_expression_flow: false, mdx_expression_text: false, mdx_jsx_flow: false, \
+            mdx_jsx_text: false, thematic_break: true }, gfm_strikethrough_single_tilde: true, \
+            math_text_single_dollar: true }";
+        assert_eq!(rt; shown.as_str(), want);
+        Ok(())
+    }
+
+    #[test]
+    fn clones_are_equal(rt: HostRuntime) -> Result<(), Fail> {
+        let label = OwnedText::from_string(String::from_str(rt.alloc(), "Notes de bas de page")?);
+        let options = CompileOptions {
+            gfm_footnote_label: Some(label),
+            ..CompileOptions::gfm()
+        };
+        let copy = options.try_clone(rt.alloc())?;
+        assert!(rt; copy.gfm_footnote_label == options.gfm_footnote_label);
+        assert!(rt; copy.gfm_footnote_label.is_some());
+        assert!(rt; copy.gfm_footnote_back_label.is_none());
+        assert!(rt; copy.gfm_tagfilter);
+        assert!(rt; !copy.allow_dangerous_html);
+        assert_eq!(rt; copy.default_line_ending, LineEnding::LineFeed);
+        Ok(())
+    }
+
+    #[test]
+    fn presets_differ_where_they_say(rt: HostRuntime) {
+        let common = Options::default();
+        let github = Options::gfm();
+        assert!(rt; !common.parse.constructs.gfm_table);
+        assert!(rt; github.parse.constructs.gfm_table);
+        assert!(rt; github.parse.constructs.html_flow);
+        assert!(rt; !common.compile.gfm_tagfilter);
+        assert!(rt; github.compile.gfm_tagfilter);
+        assert!(rt; ParseOptions::mdx().constructs == Constructs::mdx());
+        assert!(rt; Constructs::mdx().mdx_jsx_text);
+        assert!(rt; !Constructs::mdx().html_text);
+        assert!(rt; Constructs::gfm() != Constructs::default());
     }
 }

@@ -7,295 +7,295 @@
 ghost use Rattle.std.specs.Prelude.{◌≡◌};
 ghost use Rattle.markdown_base.specs.EventNames.{text_of};
 
-/// Semantic label of a span.
+/// What a span is.
 ///
 /// A *void* name is that of a span that holds no other events: its enter is directly followed by its exit.
 /// [`VOID_EVENTS`] lists these.
 #[derive(Clone, Copy, Debug, PartialEq, Eq, Hash)]
 pub enum Name {
-    /// Attention sequence (void).
+    /// Run of `*`, `_` or `~` that may open or close emphasis, strong emphasis or strikethrough (void).
     AttentionSequence,
-    /// Autolink.
+    /// Autolink, with its `<` and `>`.
     Autolink,
-    /// Autolink email (void).
+    /// Email address in an autolink (void).
     AutolinkEmail,
-    /// Autolink marker (void).
+    /// The `<` or `>` of an autolink (void).
     AutolinkMarker,
-    /// Autolink protocol (void).
+    /// URL in an autolink, from its scheme on (void).
     AutolinkProtocol,
-    /// Blank line ending (void).
+    /// Line ending of a blank line (void).
     BlankLineEnding,
-    /// Block quote.
+    /// Block quote, with all its lines.
     BlockQuote,
-    /// Block quote marker (void).
+    /// The `>` of a block quote (void).
     BlockQuoteMarker,
-    /// Block quote prefix.
+    /// The `>` of a block quote and the space or tab after it.
     BlockQuotePrefix,
-    /// Byte order mark (void).
+    /// Byte order mark at the start of a document (void).
     ByteOrderMark,
-    /// Character escape.
+    /// Character escape: a backslash and what it escapes.
     CharacterEscape,
-    /// Character escape marker (void).
+    /// The backslash of a character escape (void).
     CharacterEscapeMarker,
-    /// Character escape value (void).
+    /// The character that is escaped (void).
     CharacterEscapeValue,
-    /// Character reference.
+    /// Character reference, from `&` to `;`.
     CharacterReference,
-    /// Character reference marker (void).
+    /// The `&` of a character reference (void).
     CharacterReferenceMarker,
-    /// Character reference marker hexadecimal (void).
+    /// The `x` or `X` of a hexadecimal character reference (void).
     CharacterReferenceMarkerHexadecimal,
-    /// Character reference marker numeric (void).
+    /// The `#` of a numeric character reference (void).
     CharacterReferenceMarkerNumeric,
-    /// Character reference marker semi (void).
+    /// The `;` of a character reference (void).
     CharacterReferenceMarkerSemi,
-    /// Character reference value (void).
+    /// The name or the digits of a character reference (void).
     CharacterReferenceValue,
-    /// Code fenced.
+    /// Fenced code, with its fences.
     CodeFenced,
-    /// Code fenced fence.
+    /// A whole fence of fenced code, with its info and meta.
     CodeFencedFence,
-    /// Code fenced fence info.
+    /// First word after the opening fence of fenced code.
     CodeFencedFenceInfo,
-    /// Code fenced fence meta.
+    /// What follows the info of an opening fence of fenced code.
     CodeFencedFenceMeta,
-    /// Code fenced fence sequence (void).
+    /// The markers of a fence of fenced code (void).
     CodeFencedFenceSequence,
-    /// Code flow chunk (void).
+    /// A line of fenced or indented code (void).
     CodeFlowChunk,
-    /// Code indented.
+    /// Indented code.
     CodeIndented,
-    /// Code text.
+    /// Code span, with its markers.
     CodeText,
-    /// Code text data (void).
+    /// Text of a code span (void).
     CodeTextData,
-    /// Code text sequence (void).
+    /// The run of backticks that opens or closes a code span (void).
     CodeTextSequence,
-    /// Content.
+    /// Lines that hold definitions, a setext heading or a paragraph.
     Content,
-    /// Data (void).
+    /// Plain text (void).
     Data,
-    /// Definition.
+    /// Link reference definition.
     Definition,
-    /// Definition destination.
+    /// Destination of a definition.
     DefinitionDestination,
-    /// Definition destination literal.
+    /// Destination of a definition between `<` and `>`.
     DefinitionDestinationLiteral,
-    /// Definition destination literal marker (void).
+    /// The `<` or `>` of a definition's destination (void).
     DefinitionDestinationLiteralMarker,
-    /// Definition destination raw.
+    /// Destination of a definition with no `<` and `>`.
     DefinitionDestinationRaw,
-    /// Definition destination string.
+    /// Text of a definition's destination.
     DefinitionDestinationString,
-    /// Definition label.
+    /// Label of a definition, with its brackets.
     DefinitionLabel,
-    /// Definition label marker (void).
+    /// The `[` or `]` of a definition's label (void).
     DefinitionLabelMarker,
-    /// Definition label string.
+    /// Text of a definition's label.
     DefinitionLabelString,
-    /// Definition marker (void).
+    /// The `:` of a definition (void).
     DefinitionMarker,
-    /// Definition title.
+    /// Title of a definition, with its markers.
     DefinitionTitle,
-    /// Definition title marker (void).
+    /// What opens or closes a definition's title: a quote or a parenthesis (void).
     DefinitionTitleMarker,
-    /// Definition title string.
+    /// Text of a definition's title.
     DefinitionTitleString,
-    /// Emphasis.
+    /// Emphasis, with its markers.
     Emphasis,
-    /// Emphasis sequence (void).
+    /// The marker that opens or closes emphasis (void).
     EmphasisSequence,
-    /// Emphasis text.
+    /// What is emphasized.
     EmphasisText,
-    /// Frontmatter.
+    /// Frontmatter, with its fences.
     Frontmatter,
-    /// Frontmatter chunk (void).
+    /// A line of frontmatter (void).
     FrontmatterChunk,
-    /// Frontmatter fence.
+    /// A whole fence of frontmatter.
     FrontmatterFence,
-    /// Frontmatter sequence (void).
+    /// The markers of a fence of frontmatter (void).
     FrontmatterSequence,
-    /// GFM autolink literal email (void).
+    /// Email address that is a link by itself, in GFM (void).
     GfmAutolinkLiteralEmail,
-    /// GFM autolink literal mailto.
+    /// Link by itself that begins with `mailto:`, in GFM.
     GfmAutolinkLiteralMailto,
-    /// GFM autolink literal protocol (void).
+    /// Link by itself that begins with a protocol, in GFM (void).
     GfmAutolinkLiteralProtocol,
-    /// GFM autolink literal www (void).
+    /// Link by itself that begins with `www.`, in GFM (void).
     GfmAutolinkLiteralWww,
-    /// GFM autolink literal xmpp.
+    /// Link by itself that begins with `xmpp:`, in GFM.
     GfmAutolinkLiteralXmpp,
-    /// GFM footnote call.
+    /// Call of a footnote, in GFM.
     GfmFootnoteCall,
-    /// GFM footnote call label.
+    /// Start of a footnote call's label, `[^`.
     GfmFootnoteCallLabel,
-    /// GFM footnote call marker (void).
+    /// The `^` of a footnote call (void).
     GfmFootnoteCallMarker,
-    /// GFM footnote definition.
+    /// Footnote definition, with all its lines, in GFM.
     GfmFootnoteDefinition,
-    /// GFM footnote definition prefix.
+    /// What stands before the content of a footnote definition: its label, `:` and whitespace.
     GfmFootnoteDefinitionPrefix,
-    /// GFM footnote definition label.
+    /// Label of a footnote definition, with its brackets.
     GfmFootnoteDefinitionLabel,
-    /// GFM footnote definition label marker (void).
+    /// The `[` or `]` of a footnote definition's label (void).
     GfmFootnoteDefinitionLabelMarker,
-    /// GFM footnote definition label string.
+    /// Text of a footnote definition's label.
     GfmFootnoteDefinitionLabelString,
-    /// GFM footnote definition marker (void).
+    /// The `^` of a footnote definition (void).
     GfmFootnoteDefinitionMarker,
-    /// GFM strikethrough.
+    /// Strikethrough, with its markers, in GFM.
     GfmStrikethrough,
-    /// GFM strikethrough sequence (void).
+    /// The markers that open or close strikethrough (void).
     GfmStrikethroughSequence,
-    /// GFM strikethrough text.
+    /// What is struck through.
     GfmStrikethroughText,
-    /// GFM table.
+    /// Table, in GFM.
     GfmTable,
-    /// GFM table body.
+    /// The rows of a table below its delimiter row.
     GfmTableBody,
-    /// GFM table cell.
+    /// A cell of a table, with the markers and the whitespace around its text.
     GfmTableCell,
-    /// GFM table cell text.
+    /// Text of a table's cell.
     GfmTableCellText,
-    /// GFM table cell divider (void).
+    /// The `|` between cells of a table (void).
     GfmTableCellDivider,
-    /// GFM table delimiter row.
+    /// The row of a table that gives the alignment of its columns.
     GfmTableDelimiterRow,
-    /// GFM table delimiter marker (void).
+    /// The `:` of a delimiter cell (void).
     GfmTableDelimiterMarker,
-    /// GFM table delimiter cell.
+    /// A cell of the delimiter row, with the markers and the whitespace around it.
     GfmTableDelimiterCell,
-    /// GFM table delimiter cell value.
+    /// The `-` and `:` of a delimiter cell.
     GfmTableDelimiterCellValue,
-    /// GFM table delimiter filler (void).
+    /// The run of `-` of a delimiter cell (void).
     GfmTableDelimiterFiller,
-    /// GFM table head.
+    /// The head of a table: its first row and its delimiter row.
     GfmTableHead,
-    /// GFM table row.
+    /// A row of a table.
     GfmTableRow,
-    /// GFM task list item check.
+    /// The check of a task list item, with its brackets, in GFM.
     GfmTaskListItemCheck,
-    /// GFM task list item marker (void).
+    /// The `[` or `]` of a check (void).
     GfmTaskListItemMarker,
-    /// GFM task list item value checked (void).
+    /// The `x` or `X` of a check that is set (void).
     GfmTaskListItemValueChecked,
-    /// GFM task list item value unchecked (void).
+    /// The whitespace of a check that is not set (void).
     GfmTaskListItemValueUnchecked,
-    /// Hard break escape (void).
+    /// The backslash of a hard break (void).
     HardBreakEscape,
-    /// Hard break trailing (void).
+    /// The trailing spaces of a hard break (void).
     HardBreakTrailing,
-    /// Heading atx.
+    /// Heading that begins with `#`.
     HeadingAtx,
-    /// Heading atx sequence (void).
+    /// The run of `#` that opens or closes a heading (void).
     HeadingAtxSequence,
-    /// Heading atx text.
+    /// Text of a heading that begins with `#`.
     HeadingAtxText,
-    /// Heading setext.
+    /// Heading that is underlined.
     HeadingSetext,
-    /// Heading setext text.
+    /// Text of a heading that is underlined.
     HeadingSetextText,
-    /// Heading setext underline.
+    /// The line under a heading.
     HeadingSetextUnderline,
-    /// Heading setext underline sequence (void).
+    /// The run of `=` or `-` under a heading (void).
     HeadingSetextUnderlineSequence,
-    /// HTML flow.
+    /// Block of HTML.
     HtmlFlow,
-    /// HTML flow data (void).
+    /// A line of a block of HTML (void).
     HtmlFlowData,
-    /// HTML text.
+    /// HTML within text.
     HtmlText,
-    /// HTML text data (void).
+    /// A line of HTML within text (void).
     HtmlTextData,
-    /// Image.
+    /// Image, with its label and what it refers to.
     Image,
-    /// Label.
+    /// Label of a link, an image or a footnote, with its brackets.
     Label,
-    /// Label end.
+    /// End of a label, `]`.
     LabelEnd,
-    /// Label image.
+    /// Start of an image's label, `![`.
     LabelImage,
-    /// Label image marker (void).
+    /// The `!` of an image's label (void).
     LabelImageMarker,
-    /// Label link.
+    /// Start of a link's label, `[`.
     LabelLink,
-    /// Label marker (void).
+    /// The `[` or `]` of a label (void).
     LabelMarker,
-    /// Label text.
+    /// Text of a label.
     LabelText,
     /// Line ending (void).
     LineEnding,
-    /// Link.
+    /// Link, with its label and what it refers to.
     Link,
-    /// List item.
+    /// List item, with all its lines.
     ListItem,
-    /// List item marker (void).
+    /// What marks a list item: `*`, `+`, `-`, or the `.` or `)` after a number (void).
     ListItemMarker,
-    /// List item prefix.
+    /// The marker of a list item, its number and the whitespace after them.
     ListItemPrefix,
-    /// List item value (void).
+    /// The number of a list item (void).
     ListItemValue,
-    /// List ordered.
+    /// List of numbered items.
     ListOrdered,
-    /// List unordered.
+    /// List of items with no numbers.
     ListUnordered,
-    /// Math flow.
+    /// Block of math, with its fences.
     MathFlow,
-    /// Math flow fence.
+    /// A whole fence of a block of math, with its meta.
     MathFlowFence,
-    /// Math flow fence meta.
+    /// What follows the opening fence of a block of math.
     MathFlowFenceMeta,
-    /// Math flow fence sequence (void).
+    /// The markers of a fence of a block of math (void).
     MathFlowFenceSequence,
-    /// Math flow chunk (void).
+    /// A line of a block of math (void).
     MathFlowChunk,
-    /// Math text.
+    /// Math within text, with its markers.
     MathText,
-    /// Math text data (void).
+    /// Text of math within text (void).
     MathTextData,
-    /// Math text sequence (void).
+    /// The run of `$` that opens or closes math within text (void).
     MathTextSequence,
-    /// Paragraph.
+    /// Paragraph, with all its lines.
     Paragraph,
-    /// Reference.
+    /// Reference to a definition, `[]` with or without a label, after the label of a link or an image.
     Reference,
-    /// Reference marker (void).
+    /// The `[` or `]` of a reference (void).
     ReferenceMarker,
-    /// Reference string.
+    /// Label in a reference.
     ReferenceString,
-    /// Resource.
+    /// Resource, with its parentheses, after the label of a link or an image.
     Resource,
-    /// Resource destination.
+    /// Destination of a resource.
     ResourceDestination,
-    /// Resource destination literal.
+    /// Destination of a resource between `<` and `>`.
     ResourceDestinationLiteral,
-    /// Resource destination literal marker.
+    /// The `<` or `>` of a resource's destination.
     ResourceDestinationLiteralMarker,
-    /// Resource destination raw.
+    /// Destination of a resource with no `<` and `>`.
     ResourceDestinationRaw,
-    /// Resource destination string.
+    /// Text of a resource's destination.
     ResourceDestinationString,
-    /// Resource marker (void).
+    /// The `(` or `)` of a resource (void).
     ResourceMarker,
-    /// Resource title.
+    /// Title of a resource, with its markers.
     ResourceTitle,
-    /// Resource title marker (void).
+    /// What opens or closes a resource's title: a quote or a parenthesis (void).
     ResourceTitleMarker,
-    /// Resource title string.
+    /// Text of a resource's title.
     ResourceTitleString,
-    /// Space or tab (void).
+    /// Spaces and tabs (void).
     SpaceOrTab,
-    /// Strong.
+    /// Strong emphasis, with its markers.
     Strong,
-    /// Strong sequence (void).
+    /// The markers that open or close strong emphasis (void).
     StrongSequence,
-    /// Strong text.
+    /// What is strongly emphasized.
     StrongText,
-    /// Thematic break.
+    /// Thematic break, with its markers and whitespace.
     ThematicBreak,
-    /// Thematic break sequence (void).
+    /// A run of markers of a thematic break (void).
     ThematicBreakSequence,
-    /// Line prefix.
+    /// Whitespace at the start of a line.
     LinePrefix,
 }
 

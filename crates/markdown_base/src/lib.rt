@@ -7,3 +7,4 @@ pub mod message;
 pub mod owned;
 pub mod state;
 pub mod unist;
+pub mod util;

@@ -3,9 +3,12 @@
 //! Contracts compare what a `Vec`, a `String` or a `Box` holds, not where it holds it. Each type here is one of
 //! these, seen as its contents alone; it is made from what it wraps, and gives it back, without taking memory.
 
-ghost use Rattle.std.specs.Prelude.{◌≡◌, ◌++◌, ◌∷◌, [], List, ℕ, OnOk, OnErr, string_bytes, length};
+ghost use Rattle.std.specs.Prelude.{◌≡◌, ◌++◌, ◌∷◌, [], List, ℕ, IfOk, OnOk, OnErr, bytes_eq, string_bytes, length};
+ghost use Rattle.std.specs.Cmp.{partial_equiv_from_equiv};
+ghost use Rattle.std.specs.Cmp.Lexicographic.{pointwise, lists_per, lists_equiv, nat_list_eq_equiv};
 
 use std::alloc::{AllocError, Global};
+use std::fmt;
 use std::marker::Model;
 
 /// A `Vec`, seen as the list of its items.
@@ -64,6 +67,26 @@ impl<T: Drop> Items<T> {
     }
 }
 
+impl<T: PartialEq> PartialEq for Items<T> {
+    ghost eq = { pointwise T.eq };
+
+    ghost laws = { lists_per T.laws };
+
+    fn eq(&self, other: &Self) -> bool {
+        self.items == other.items
+    }
+}
+
+impl<T: Eq> Eq for Items<T> {
+    ghost laws = { lists_equiv T.Eq.laws };
+}
+
+impl<T: fmt::Debug> fmt::Debug for Items<T> {
+    fn fmt<W: fmt::Write>(&self, f: &mut fmt::Formatter<W>) -> fmt::Result {
+        fmt::Debug::fmt(&self.items, f)
+    }
+}
+
 /// A `String`, seen as its bytes.
 #[derive(Drop)]
 pub struct OwnedText {
@@ -97,6 +120,37 @@ impl OwnedText {
         ensures { result.now ≡ self.now }
     {
         self.text.as_str()
+    }
+}
+
+impl OwnedText {
+    /// The same text, in memory of its own.
+    pub fn try_clone(&self, alloc: Global) -> Result<Self, AllocError>
+        ensures { IfOk result (λ copy. copy ≡ self.now) }
+    {
+        Ok(OwnedText {
+            text: String::from_str(alloc, self.as_str())?,
+        })
+    }
+}
+
+impl PartialEq for OwnedText {
+    ghost eq = { bytes_eq };
+
+    ghost laws = { partial_equiv_from_equiv nat_list_eq_equiv };
+
+    fn eq(&self, other: &Self) -> bool {
+        self.as_str() == other.as_str()
+    }
+}
+
+impl Eq for OwnedText {
+    ghost laws = { nat_list_eq_equiv };
+}
+
+impl fmt::Debug for OwnedText {
+    fn fmt<W: fmt::Write>(&self, f: &mut fmt::Formatter<W>) -> fmt::Result {
+        fmt::Debug::fmt(&self.text, f)
     }
 }
 
@@ -136,6 +190,26 @@ impl<T> Boxed<T> {
     }
 }
 
+impl<T: PartialEq> PartialEq for Boxed<T> {
+    ghost eq = { T.eq };
+
+    ghost laws = { T.laws };
+
+    fn eq(&self, other: &Self) -> bool {
+        self.item == other.item
+    }
+}
+
+impl<T: Eq> Eq for Boxed<T> {
+    ghost laws = { T.Eq.laws };
+}
+
+impl<T: fmt::Debug> fmt::Debug for Boxed<T> {
+    fn fmt<W: fmt::Write>(&self, f: &mut fmt::Formatter<W>) -> fmt::Result {
+        fmt::Debug::fmt(&self.item, f)
+    }
+}
+
 /// Bytes of the program itself, seen as their list.
 #[derive(Drop)]
 pub struct StaticBytes {
@@ -161,5 +235,50 @@ impl StaticBytes {
         ensures { result.now ≡ self.now }
     {
         self.bytes
+    }
+}
+
+#[cfg(test)]
+mod tests {
+    use super::*;
+    use std::test::Fail;
+
+    #[test]
+    fn items_go_in_and_come_out(rt: HostRuntime) -> Result<(), Fail> {
+        let mut items = Items::new(rt.alloc());
+        items.push(4)?;
+        items.push(2)?;
+        assert_eq!(rt; items.as_slice(), [4, 2].as_slice());
+        let same = Items::from_vec(vec![in rt.alloc(); 4, 2]?);
+        assert!(rt; items == same);
+        assert!(rt; items != Items::from_vec(vec![in rt.alloc(); 4]?));
+        let items: Vec<i32> = items.into_vec();
+        assert_eq!(rt; items.as_slice(), [4, 2].as_slice());
+        Ok(())
+    }
+
+    #[test]
+    fn text_goes_in_and_comes_out(rt: HostRuntime) -> Result<(), Fail> {
+        let text = OwnedText::from_string(String::from_str(rt.alloc(), "a\u{e9}")?);
+        let copy = text.try_clone(rt.alloc())?;
+        assert!(rt; copy == text);
+        assert_eq!(rt; copy.as_str(), "a\u{e9}");
+        let string = text.into_string();
+        assert_eq!(rt; string.as_str(), "a\u{e9}");
+        Ok(())
+    }
+
+    #[test]
+    fn box_gives_back_what_it_holds(rt: HostRuntime) -> Result<(), Fail> {
+        let boxed = Boxed::from_box(Box::new(rt.alloc(), 7)?);
+        assert_eq!(rt; *boxed.as_ref(), 7);
+        assert!(rt; boxed == Boxed::from_box(Box::new(rt.alloc(), 7)?));
+        assert_eq!(rt; Box::into_inner(boxed.into_box()), 7);
+        Ok(())
+    }
+
+    #[test]
+    fn bytes_of_the_program_are_kept(rt: HostRuntime) {
+        assert_eq!(rt; StaticBytes::new(b"*_~").as_slice(), b"*_~".as_slice());
     }
 }

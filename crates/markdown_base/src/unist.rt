@@ -1,6 +1,7 @@
 //! Points and positions of [unist](https://github.com/syntax-tree/unist), the syntax tree format.
 
-ghost use Rattle.std.specs.Prelude.{◌≡◌};
+ghost use Rattle.std.specs.Prelude.{◌≡◌, Some};
+ghost use Rattle.markdown_base.specs.Shown.{point_debug_text, position_debug_text};
 
 use std::fmt;
 
@@ -58,12 +59,16 @@ impl Position {
 }
 
 impl fmt::Debug for Point {
+    ghost debug_output = { λ p. Some (point_debug_text p) };
+
     fn fmt<W: fmt::Write>(&self, f: &mut fmt::Formatter<W>) -> fmt::Result {
         write!(f, "{}:{} ({})", self.line, self.column, self.offset)
     }
 }
 
 impl fmt::Debug for Position {
+    ghost debug_output = { λ p. Some (position_debug_text p) };
+
     fn fmt<W: fmt::Write>(&self, f: &mut fmt::Formatter<W>) -> fmt::Result {
         write!(
             f,
@@ -75,5 +80,20 @@ impl fmt::Debug for Position {
             self.start.offset,
             self.end.offset
         )
+    }
+}
+
+#[cfg(test)]
+mod tests {
+    use super::*;
+    use std::test::Fail;
+
+    #[test]
+    fn shows_points_and_positions(rt: HostRuntime) -> Result<(), Fail> {
+        let point = format!(in rt.alloc(); "{:?}", Point::new(1, 1, 0))?;
+        assert_eq!(rt; point.as_str(), "1:1 (0)");
+        let position = format!(in rt.alloc(); "{:?}", Position::new(1, 1, 0, 1, 3, 2))?;
+        assert_eq!(rt; position.as_str(), "1:1-1:3 (0-2)");
+        Ok(())
     }
 }

@@ -1,0 +1,13 @@
+pub mod Readings
+pub mod Ends
+pub mod Working
+pub mod Common
+pub mod Links
+pub mod Order
+pub mod Passes
+pub mod FinalPlaces
+pub mod Puts
+pub mod Splices
+pub mod StoredLemmas
+pub mod Survivors
+pub mod Turns

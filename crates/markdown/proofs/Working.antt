@@ -1,0 +1,489 @@
+-- Each step of the work leads on.
+use Rattle.std.proofs.Common.{◌≡◌, ◌≢◌, ◌+◌, ◌≤◌, ◌<◌, ℕ, zero, suc, List, [], ◌∷◌, ◌++◌, Bool, true, false, cond, Option, Some, None, length, sum_by, ◌↔◌, ◌⊎◌, inl, inr, refl, sym, ap, ◌∙◌, arith, subst, append_assoc, length-append, ◌-◌, add-zero, rules}
+use Rattle.std.proofs.lemmas.Bool.{lt-ltb}
+use Rattle.std.proofs.lemmas.List.Sums.{sum_by-append, sum_by-cons}
+use Rattle.std.proofs.lemmas.List.{append-nil}
+use Rattle.std.specs.Prelude.{filter, slice_get, nat_lt}
+use Rattle.std.specs.declared.result.Result.TheVariants as result
+use Rattle.markdown_base.specs.declared.event.Point.{Point}
+use Rattle.markdown_base.specs.declared.message.Message.{Message}
+use Rattle.markdown_base.specs.declared.state.Name.{Name}
+use Rattle.markdown_base.specs.declared.state.State.{State}
+use Rattle.markdown_base.specs.declared.state.State.TheVariants.{Next, Retry, Ok, Nok, Error}
+use Rattle.markdown_base.specs.Virtual.{Seat, virtual}
+use Rattle.markdown_base.specs.Places.{IsPointOf, denotes_same}
+use Rattle.markdown.specs.declared.subtokenize.Subresult.{Subresult}
+use Rattle.markdown.specs.declared.waiting.AttemptKind.{AttemptKind}
+use Rattle.markdown.specs.declared.waiting.AttemptKind.TheVariants.{Attempt, Check}
+use Rattle.markdown.specs.declared.waiting.Waits.{Waits}
+use Rattle.markdown.specs.declared.waiting.Waits.TheVariants.{Nothing, Byte, End}
+use Rattle.markdown.specs.Text.{Given, Text, Piece, pushed, passed, in_range, empty_text, followed_by, followed_by_all, FitsAfter, CanFollow, IsText}
+use Rattle.markdown.specs.Configuration.{Configuration, Choice, Step, Seen, Saved, at_configuration}
+use Rattle.markdown.specs.Sight.{Sight, sight, sight_of, seat_before}
+use Rattle.markdown.specs.Reading.{Reading, fed, restored, settled_at, EndsIn, more_calls, read}
+use Rattle.markdown.specs.Lawful.{stepped, IsCalled, ConsumesOnce, EndsWhenRead, KeepsInvariant, CostPays}
+use Rattle.markdown.specs.Engine.{LeadsOn, KeepsOutcome, IsPushed, IsFlushed, IsRefused, IsWellFormed, budget, taken, found}
+use Rattle.markdown.specs.Work.{LeadsAll, HoldsAll, Stops, settled, extended, OnlyWorked, TakesUp, IsSettled, IsInText, answer_in}
+use Rattle.markdown.proofs.Readings.{fed-ends, called-ends, settled-ok-ends, settled-nok-ends}
+use Rattle.markdown.proofs.Ends.{error-stays}
+
+-- A text that continues another has its seats in front, and begins where it does
+pub record Continues (text w : Text) : Type 0 where
+  pub starts : w.start ≡ text.start
+  pub more : List Seat
+  pub seats : w.seats ≡ text.seats ++ more
+
+passed_or : (b : Bool) (text : Text) (p : Point) → Continues text (cond b text (record { start = text.start; seats = text.seats; end = p }))
+passed_or true text p = record { starts = refl; more = []; seats = sym (append-nil text.seats) }
+passed_or false text p = record { starts = refl; more = []; seats = sym (append-nil text.seats) }
+
+continues-piece : (given : Given) (text : Text) (piece : Piece) → Continues text (followed_by given text piece)
+continues-piece given text (pushed from to) = record { starts = refl; more = filter (in_range from to) (virtual given.tab given.bytes); seats = refl }
+continues-piece given text (passed p) = passed_or (denotes_same given.tab given.bytes p text.end) text p
+
+pub continues-all : (given : Given) (text : Text) (rest : List Piece) → Continues text (followed_by_all given text rest)
+continues-all given text [] = record { starts = refl; more = []; seats = sym (append-nil text.seats) }
+continues-all given text (piece ∷ rest) =
+    let one = continues-piece given text piece in
+    let all = continues-all given (followed_by given text piece) rest in
+    record {
+      starts = all.starts ∙ one.starts;
+      more = one.more ++ all.more;
+      seats = all.seats ∙ ap (λ (s : List Seat). s ++ all.more) one.seats ∙ append_assoc text.seats one.more all.more;
+    }
+
+follow-append : (given : Given) (text : Text) (xs ys : List Piece) → CanFollow given text xs → CanFollow given (followed_by_all given text xs) ys → CanFollow given text (xs ++ ys)
+follow-append given text [] ys h can = can
+follow-append given text (x ∷ xs) ys h can = (h.0, follow-append given (followed_by given text x) xs ys h.1 can)
+
+followed-append : (given : Given) (text : Text) (xs ys : List Piece) → followed_by_all given text (xs ++ ys) ≡ followed_by_all given (followed_by_all given text xs) ys
+followed-append given text [] ys = refl
+followed-append given text (x ∷ xs) ys = followed-append given (followed_by given text x) xs ys
+
+-- a text with pieces put at its end is a text
+pub text-on : (given : Given) (text : Text) (rest : List Piece) → IsText given text → CanFollow given text rest → IsText given (followed_by_all given text rest)
+text-on given text rest h can =
+    let all = followed_by_all given text rest in
+    let back = sym ((continues-all given text rest).starts) in
+    record {
+      starts = subst (λ (p : Point). IsPointOf given.tab given.bytes p) back h.starts;
+      pieces = h.pieces ++ rest;
+      follow = subst (λ (p : Point). CanFollow given (empty_text p) (h.pieces ++ rest)) back
+          (follow-append given (empty_text text.start) h.pieces rest h.follow (subst (λ (q : Text). CanFollow given q rest) h.is can));
+      is = subst (λ (p : Point). all ≡ followed_by_all given (empty_text p) (h.pieces ++ rest)) back
+          (ap (λ (q : Text). followed_by_all given q rest) h.is ∙ sym (followed-append given (empty_text text.start) h.pieces rest));
+    }
+
+get-front : {A : Type 0} (xs ys : List A) (i : ℕ) → i < length xs → slice_get (xs ++ ys) i ≡ slice_get xs i
+get-front [] ys i h = absurd (omega arith)
+get-front (x ∷ xs) ys zero h = refl
+get-front (x ∷ xs) ys (suc i) h = get-front xs ys i (omega arith)
+
+lt-is : (a b : ℕ) → a < b → nat_lt a b ≡ true
+lt-is a b h = search (rules, lt-ltb)
+
+get-some : {A : Type 0} (xs : List A) (i : ℕ) → i < length xs → (x : A) × (slice_get xs i ≡ Some x)
+get-some [] i h = absurd (omega arith)
+get-some (x ∷ xs) zero h = (x, refl)
+get-some (x ∷ xs) (suc i) h = get-some xs i (omega arith)
+
+module _ (text w : Text) (c : Continues text w) where
+  fed-same : {R D : Type 0} (k : Configuration R D) → k.position < length text.seats → fed w k ≡ fed text k
+  fed-same k h =
+      let longer : k.position < length w.seats = omega (arith, ap length c.seats, length-append text.seats c.more) in
+      rw (lt-is k.position (length w.seats) longer, lt-is k.position (length text.seats) h) refl
+
+  before-same : (p : ℕ) → p ≤ length text.seats → seat_before w p ≡ seat_before text p
+  before-same zero h = refl
+  before-same (suc q) h = ap (λ (s : List Seat). slice_get s q) c.seats ∙ get-front text.seats c.more q (omega arith)
+
+  -- where no end waits, a state sees the same of both
+  sight-same : (given : Given) (p : ℕ) (waits : Waits) → p ≤ length text.seats → (waits ≡ Byte → p < length text.seats) → waits ≢ End
+      → sight_of given w p waits ≡ sight_of given text p waits
+  sight-same given p Nothing h b e =
+      let before = before-same p h in let starts = c.starts in
+      rw (before, starts) refl
+  sight-same given p Byte h b e =
+      let before = before-same p h in let starts = c.starts in
+      let front = ap (λ (s : List Seat). slice_get s p) c.seats ∙ get-front text.seats c.more p (b refl) in
+      let some = get-some text.seats p (b refl) in
+      let is = some.1 in
+      rw (before, starts, front, is) refl
+  sight-same given p End h b e = absurd (e refl)
+
+module _ {M R D : Type 0} (given : Given) (step : Sight → Configuration R D → Name → Step R D) (holds : Text → Configuration R D → List Choice → State → Type 0)
+    (cost : Text → Configuration R D → State → ℕ) (reserve : Text → Choice → ℕ) where
+  leads-refl : (w : Text) (t : Seen M R D) (s : State) → holds w t.configuration t.choices s → LeadsOn given step holds cost reserve w t s t s
+  leads-refl w t s h = record { kept = h; same = λ r. ((λ e. e), (λ e. e)); paid = omega arith }
+
+  leads-trans : (w : Text) (t u v : Seen M R D) (a b d : State) → LeadsOn given step holds cost reserve w t a u b → LeadsOn given step holds cost reserve w u b v d → LeadsOn given step holds cost reserve w t a v d
+  leads-trans w t u v a b d h k = record {
+    kept = k.kept;
+    same = λ r. ((λ e. (h.same r).0 ((k.same r).0 e)), (λ e. (k.same r).1 ((h.same r).1 e)));
+    paid = omega (arith, h.paid, k.paid);
+  }
+
+-- the laws of a machine, which the steps of the work cite
+pub record Laws {R D : Type 0} (given : Given) (step : Sight → Configuration R D → Name → Step R D) (holds : Text → Configuration R D → List Choice → State → Type 0)
+    (cost : Text → Configuration R D → State → ℕ) (reserve : Text → Choice → ℕ) (starts : List Name) : Type 0 where
+  pub consumes : ConsumesOnce given step holds
+  pub ends : EndsWhenRead given step holds
+  pub keeps : KeepsInvariant given step holds starts
+  pub pays : CostPays given step holds cost reserve
+
+module _ {M R D : Type 0} (given : Given) (step : Sight → Configuration R D → Name → Step R D) (holds : Text → Configuration R D → List Choice → State → Type 0)
+    (cost : Text → Configuration R D → State → ℕ) (reserve : Text → Choice → ℕ) (starts : List Name) (laws : Laws given step holds cost reserve starts) where
+  leads-fed : (w : Text) → IsText given w → (t : Seen M R D) (n : Name) → holds w t.configuration t.choices (Next n)
+      → LeadsOn given step holds cost reserve w t (Next n) (at_configuration t (fed w t.configuration)) (Retry n)
+  leads-fed w is t n h =
+      let pays = laws.pays.for_feeding w t.configuration t.choices n is h in record {
+        kept = laws.keeps.by_feeding w t.configuration t.choices n is h;
+        same = λ r. fed-ends given step w t.calls t.configuration t.choices n r;
+        paid = omega (arith, pays);
+      }
+
+  leads-called : (w : Text) → IsText given w → (t : Seen M R D) (n : Name) → holds w t.configuration t.choices (Retry n)
+      → let s = step (sight given w t.configuration) t.configuration n in LeadsOn given step holds cost reserve w t (Retry n) (stepped t s) s.answer
+  leads-called w is t n h =
+      let s = step (sight given w t.configuration) t.configuration n in
+      let pays = laws.pays.for_calls w t.configuration t.choices n is h in record {
+        kept = laws.keeps.by_calls w t.configuration t.choices n is h;
+        same = λ r. called-ends given step w t.calls t.configuration t.choices n r;
+        paid = omega (arith, pays, sum_by-append (reserve w) s.choices t.choices);
+      }
+
+  leads-ok : (w : Text) → IsText given w → (t : Seen M R D) (c : Choice) (cs : List Choice) → t.choices ≡ c ∷ cs → holds w t.configuration t.choices Ok
+      → LeadsOn given step holds cost reserve w t Ok (settled t c cs Ok) c.ok
+  leads-ok w is t c cs e h =
+      let h' = rw e at h in
+      let pays = laws.pays.for_ok w t.configuration c cs is h' in record {
+        kept = laws.keeps.by_ok w t.configuration c cs is h';
+        same = rw e (λ r. settled-ok-ends given step w t.calls t.configuration c cs r);
+        paid = rw e (omega (arith, pays, sum_by-cons (reserve w) c cs));
+      }
+
+  leads-nok : (w : Text) → IsText given w → (t : Seen M R D) (c : Choice) (cs : List Choice) → t.choices ≡ c ∷ cs → holds w t.configuration t.choices Nok
+      → LeadsOn given step holds cost reserve w t Nok (settled t c cs Nok) c.nok
+  leads-nok w is t c cs e h =
+      let h' = rw e at h in
+      let pays = laws.pays.for_nok w t.configuration c cs is h' in record {
+        kept = laws.keeps.by_nok w t.configuration c cs is h';
+        same = rw e (λ r. settled-nok-ends given step w t.calls t.configuration c cs r);
+        paid = rw e (omega (arith, pays, sum_by-cons (reserve w) c cs));
+      }
+
+  leads-settled : (w : Text) → IsText given w → (t u : Seen M R D) (s : State) (ok : Bool) (next : State) → answer_in s ≡ Some ok → IsSettled t u ok (Some next)
+      → holds w t.configuration t.choices s → LeadsOn given step holds cost reserve w t s u next
+  leads-settled w is t u Ok true next e h k = rw (h.3, h.4) (leads-ok w is t h.0 h.1 h.2 k)
+  leads-settled w is t u Nok false next e h k = rw (h.3, h.4) (leads-nok w is t h.0 h.1 h.2 k)
+  leads-settled w is t u Ok false next e h k = absurd cc
+  leads-settled w is t u Nok true next e h k = absurd cc
+  leads-settled w is t u (Next n) ok next e h k = absurd cc
+  leads-settled w is t u (Retry n) ok next e h k = absurd cc
+  leads-settled w is t u (Error n) ok next e h k = absurd cc
+
+restored-waits : {R D : Type 0} (saved : Option Saved) (k : Configuration R D) → (restored saved k).waiting ≡ Nothing
+restored-waits None k = refl
+restored-waits (Some p) k = refl
+
+settled-waits : {R D : Type 0} (kind : AttemptKind) (saved : Option Saved) (answer : State) (k : Configuration R D) → (settled_at kind saved answer k).waiting ≡ Nothing
+settled-waits Check saved answer k = restored-waits saved k
+settled-waits Attempt saved Nok k = restored-waits saved k
+settled-waits Attempt saved Ok k = refl
+settled-waits Attempt saved (Next n) k = refl
+settled-waits Attempt saved (Retry n) k = refl
+settled-waits Attempt saved (Error n) k = refl
+
+only-by : {M R D : Type 0} (t u v : Seen M R D) → u ≡ v → OnlyWorked t v → OnlyWorked t u
+only-by t u v e h = rw e h
+
+-- what a settled choice leaves
+pub record Settling {M R D : Type 0} (t u : Seen M R D) : Type 0 where
+  pub same : OnlyWorked t u
+  pub waits : u.configuration.waiting ≡ Nothing
+  pub calls : u.calls ≡ t.calls
+
+settling-by : {M R D : Type 0} (t u : Seen M R D) (c : Choice) (cs : List Choice) (answer : State) → u ≡ settled t c cs answer → Settling t u
+settling-by t u c cs answer e = rw e (record {
+  same = record { given = refl; machine = refl; text = refl; closed = refl };
+  waits = settled-waits c.kind c.saved answer t.configuration;
+  calls = refl;
+})
+
+pub settling : {M R D : Type 0} (t u : Seen M R D) (ok : Bool) (next : State) → IsSettled t u ok (Some next) → Settling t u
+settling t u true next h = settling-by t u h.0 h.1 Ok h.3
+settling t u false next h = settling-by t u h.0 h.1 Nok h.3
+
+pub only-trans : {M R D : Type 0} (t u v : Seen M R D) → OnlyWorked t u → OnlyWorked u v → OnlyWorked t v
+only-trans t u v a b = record { given = b.given ∙ a.given; machine = b.machine ∙ a.machine; text = b.text ∙ a.text; closed = b.closed ∙ a.closed }
+
+fed-byte : {R D : Type 0} (text : Text) (k : Configuration R D) → k.position < length text.seats → (fed text k).waiting ≡ End → Byte ≡ End
+fed-byte text k h e = let lt = lt-is k.position (length text.seats) h in rw lt at e
+
+-- a text followed by more is fed and seen like the text alone, where no end is fed, and else nothing follows
+fed-agrees : {R D : Type 0} (given : Given) (text : Text) (rest : List Piece) (flush : Bool) (k : Configuration R D)
+    → (flush ≡ true → rest ≡ []) → (flush ≡ false → k.position < length text.seats) → fed (followed_by_all given text rest) k ≡ fed text k
+fed-agrees given text rest true k only more = rw (only refl) refl
+fed-agrees given text rest false k only more = fed-same text (followed_by_all given text rest) (continues-all given text rest) k (more refl)
+
+sight-agrees : {R D : Type 0} (given : Given) (text : Text) (rest : List Piece) (flush : Bool) (k : Configuration R D)
+    → (flush ≡ true → rest ≡ []) → k.position ≤ length text.seats → (k.waiting ≡ Byte → k.position < length text.seats) → (flush ≡ false → k.waiting ≢ End)
+    → sight given (followed_by_all given text rest) k ≡ sight given text k
+sight-agrees given text rest true k only within byte no_end = rw (only refl) refl
+sight-agrees given text rest false k only within byte no_end =
+    sight-same text (followed_by_all given text rest) (continues-all given text rest) given k.position k.waiting within byte (no_end refl)
+
+-- a call lets no end wait that did not before
+no-feeding : {R D : Type 0} (given : Given) (step : Sight → Configuration R D → Name → Step R D) (holds : Text → Configuration R D → List Choice → State → Type 0)
+    → ConsumesOnce given step holds → (text : Text) (k : Configuration R D) (choices : List Choice) (n : Name) → IsText given text → holds text k choices (Retry n)
+    → (step (sight given text k) k n).configuration.waiting ≡ End → k.waiting ≡ End
+no-feeding given step holds consumes text k choices n is h e =
+    elim (consumes text k choices n is h) [
+      | inl same ↦ sym same.0.1 ∙ e
+      | inr consumed ↦ let f : Nothing ≡ End = sym consumed.1.1 ∙ e in absurd cc
+    ]
+
+-- what the work keeps from turn to turn
+pub record Kept {M R D : Type 0} (given : Given) (step : Sight → Configuration R D → Name → Step R D) (holds : Text → Configuration R D → List Choice → State → Type 0)
+    (cost : Text → Configuration R D → State → ℕ) (reserve : Text → Choice → ℕ) (flush : Bool) (old : Seen M R D) (state : State) (new : Seen M R D) (answer : State) : Type 0 where
+  pub same : OnlyWorked old new
+  pub waits : flush ≡ false → new.configuration.waiting ≢ End
+  pub leads : LeadsAll given step holds cost reserve flush old state new answer
+
+module _ {M R D : Type 0} (given : Given) (step : Sight → Configuration R D → Name → Step R D) (holds : Text → Configuration R D → List Choice → State → Type 0)
+    (cost : Text → Configuration R D → State → ℕ) (reserve : Text → Choice → ℕ) (starts : List Name) (laws : Laws given step holds cost reserve starts) where
+  -- taking up a state
+  pub kept-taken : (flush : Bool) (t u v : Seen M R D) (a s : State) (n : Name) → IsText given u.text → TakesUp flush u v s (result.Ok n)
+      → Kept given step holds cost reserve flush t a u s → Kept given step holds cost reserve flush t a v (Retry n)
+  kept-taken flush t u v a (Next m) n is h k = rw (h.1, h.0) (record {
+    same = record { given = k.same.given; machine = k.same.machine; text = k.same.text; closed = k.same.closed };
+    waits = λ f e. let e' : Byte ≡ End = fed-byte u.text u.configuration (h.2 f) e in absurd cc;
+    leads = λ rest can only.
+        let w = followed_by_all given u.text rest in
+        let first = k.leads rest can only in
+        leads-trans given step holds cost reserve w t u (at_configuration u (fed u.text u.configuration)) a (Next m) (Retry m) first
+        (subst (λ (q : Configuration R D). LeadsOn given step holds cost reserve w u (Next m) (at_configuration u q) (Retry m))
+        (fed-agrees given u.text rest flush u.configuration only h.2)
+        (leads-fed given step holds cost reserve starts laws w (text-on given u.text rest is can) u m first.kept));
+  })
+  kept-taken flush t u v a (Retry m) n is h k = rw (h.1, h.0) k
+  kept-taken flush t u v a Ok n is h k = absurd h
+  kept-taken flush t u v a Nok n is h k = absurd h
+  kept-taken flush t u v a (Error e) n is h k = absurd h
+
+  -- a call
+  pub kept-called : (flush : Bool) (t u v : Seen M R D) (a s : State) (n : Name) → IsText given u.text → IsInText u
+      → IsCalled u v (step (sight given u.text u.configuration) u.configuration n) s
+      → Kept given step holds cost reserve flush t a u (Retry n) → Kept given step holds cost reserve flush t a v s
+  kept-called flush t u v a s n is sound h k =
+      let st = step (sight given u.text u.configuration) u.configuration n in
+      let now = (k.leads [] tt (λ _. refl)).kept in rw (h.became, h.answered) (record {
+        same = record { given = k.same.given; machine = k.same.machine; text = k.same.text; closed = k.same.closed };
+        waits = λ f e. k.waits f (no-feeding given step holds laws.consumes u.text u.configuration u.choices n is now e);
+        leads = λ rest can only.
+            let w = followed_by_all given u.text rest in
+            let first = k.leads rest can only in
+            leads-trans given step holds cost reserve w t u (stepped u st) a (Retry n) st.answer first
+            (subst (λ (q : Sight). LeadsOn given step holds cost reserve w u (Retry n) (stepped u (step q u.configuration n)) (step q u.configuration n).answer)
+            (sight-agrees given u.text rest flush u.configuration only sound.within sound.byte k.waits)
+            (leads-called given step holds cost reserve starts laws w (text-on given u.text rest is can) u n first.kept));
+      })
+
+-- One turn of the work, for a machine and a document that are part of what is seen
+module _ {M R D : Type 0} (step : M → Given → Sight → Configuration R D → Name → Step R D) (holds : M → Given → Text → Configuration R D → List Choice → State → Type 0)
+    (cost : M → Given → Text → Configuration R D → State → ℕ) (reserve : M → Given → Text → Choice → ℕ) where
+  abbrev pub KeptBy : M → Given → Bool → Seen M R D → State → Seen M R D → State → Type 0
+  KeptBy m given = Kept given (step m given) (holds m given) (cost m given) (reserve m given)
+
+  abbrev pub LeadsBy : M → Given → Text → Seen M R D → State → Seen M R D → State → Type 0
+  LeadsBy m given = LeadsOn given (step m given) (holds m given) (cost m given) (reserve m given)
+
+  -- what a change of choices alone leads on to, on each text
+  abbrev pub LeadsFor : M → Given → Seen M R D → State → Seen M R D → State → Type 0
+  LeadsFor m given u s v next = (w : Text) → IsText given w → holds m given w u.configuration u.choices s → LeadsBy m given w u s v next
+
+  abbrev LawsBy : M → Given → List Name → Type 0
+  LawsBy m given starts = Laws given (step m given) (holds m given) (cost m given) (reserve m given) starts
+
+  pub leads-for-refl : (m : M) (given : Given) (u : Seen M R D) (s : State) → LeadsFor m given u s u s
+  leads-for-refl m given u s w is h = leads-refl given (step m given) (holds m given) (cost m given) (reserve m given) w u s h
+
+  -- a choice more ends
+  pub leads-for-settled : (m : M) (given : Given) (starts : List Name) → LawsBy m given starts → (t u v : Seen M R D) (a s next : State) (ok : Bool)
+      → LeadsFor m given t a u s → answer_in s ≡ Some ok → IsSettled u v ok (Some next) → LeadsFor m given t a v next
+  leads-for-settled m given starts laws t u v a s next ok so_far e h w is holds_first =
+      let first = so_far w is holds_first in
+      leads-trans given (step m given) (holds m given) (cost m given) (reserve m given) w t u v a s next first
+      (leads-settled given (step m given) (holds m given) (cost m given) (reserve m given) starts laws w is u v s ok next e h first.kept)
+
+  settled-same : (m : M) (given : Given) (flush : Bool) (t u v : Seen M R D) (a s next : State) → IsText given u.text → KeptBy m given flush t a u s → OnlyWorked u v
+      → (v.configuration.waiting ≡ End → u.configuration.waiting ≡ End) → LeadsFor m given u s v next
+      → KeptBy m given flush t a v next
+  settled-same m given flush t u v a s next is k only waits leads = record {
+    same = only-trans t u v k.same only;
+    waits = λ f e. k.waits f (waits e);
+    leads = λ rest can one.
+        let can' = subst (λ (q : Text). CanFollow given q rest) only.text can in
+        let w = followed_by_all given u.text rest in
+        let same : w ≡ followed_by_all given v.text rest = ap (λ (q : Text). followed_by_all given q rest) (sym only.text) in
+        let first = k.leads rest can' one in
+        subst (λ (q : Text). LeadsBy m given q t a v next) same
+        (leads-trans given (step m given) (holds m given) (cost m given) (reserve m given) w t u v a s next first (leads w (text-on given u.text rest is can') first.kept));
+  }
+
+  pub kept-settled : (m : M) (given : Given) (flush : Bool) (t u v : Seen M R D) (a s next : State) → IsText given u.text → m ≡ u.machine → given ≡ u.given
+      → KeptBy m given flush t a u s → OnlyWorked u v
+      → (v.configuration.waiting ≡ End → u.configuration.waiting ≡ End) → LeadsFor u.machine u.given u s v next
+      → KeptBy m given flush t a v next
+  kept-settled m given flush t u v a s next is e f k only waits leads =
+      settled-same m given flush t u v a s next is k only waits
+      (subst (λ (q : M). LeadsFor q given u s v next) (sym e) (subst (λ (q : Given). LeadsFor u.machine q u s v next) (sym f) leads))
+
+  pub kept-ended : (m : M) (given : Given) (flush : Bool) (t u v : Seen M R D) (a s answer : State) → TakesUp flush u v s (result.Err answer)
+      → KeptBy m given flush t a u s → KeptBy m given flush t a v answer
+  kept-ended m given flush t u v a (Next n) answer h k = rw (h.0, h.1) k
+  kept-ended m given flush t u v a (Retry n) answer h k = absurd h
+  kept-ended m given flush t u v a Ok answer h k = rw (h.0, h.1) k
+  kept-ended m given flush t u v a Nok answer h k = rw (h.0, h.1) k
+  kept-ended m given flush t u v a (Error n) answer h k = rw (h.0, h.1) k
+
+  abbrev CalledBy : M → Given → Seen M R D → Seen M R D → Name → State → Type 0
+  CalledBy m given u v n s = IsCalled u v (step m given (sight given u.text u.configuration) u.configuration n) s
+
+  pub kept-turn : (m : M) (given : Given) (starts : List Name) → LawsBy m given starts → (flush : Bool) (t u v : Seen M R D) (a s : State) (n : Name)
+      → IsText given u.text → m ≡ u.machine → given ≡ u.given → IsInText u → CalledBy u.machine u.given u v n s
+      → KeptBy m given flush t a u (Retry n) → KeptBy m given flush t a v s
+  kept-turn m given starts laws flush t u v a s n is e f sound called k =
+      kept-called given (step m given) (holds m given) (cost m given) (reserve m given) starts laws flush t u v a s n is sound
+      (subst (λ (q : M). CalledBy q given u v n s) (sym e) (subst (λ (q : Given). CalledBy u.machine q u v n s) (sym f) called)) k
+
+  -- the invariant at the call
+  pub kept-holds : (m : M) (given : Given) (flush : Bool) (t u : Seen M R D) (a s : State) → m ≡ u.machine → given ≡ u.given → KeptBy m given flush t a u s
+      → holds u.machine u.given u.text u.configuration u.choices s
+  kept-holds m given flush t u a s e f k =
+      subst (λ (q : M). holds q u.given u.text u.configuration u.choices s) e
+      (subst (λ (q : Given). holds m q u.text u.configuration u.choices s) f ((k.leads [] tt (λ _. refl)).kept))
+
+  -- no more calls than the budget
+  pub kept-calls : (m : M) (given : Given) (flush : Bool) (t u : Seen M R D) (a s : State) → KeptBy m given flush t a u s
+      → u.calls ≤ budget (cost m given) (reserve m given) t.text t a
+  kept-calls m given flush t u a s k =
+      let paid = (k.leads [] tt (λ _. refl)).paid in
+      let e = k.same.text in
+      let paid' = rw e at paid in
+      omega (arith, paid')
+
+pub smaller : (b p q : ℕ) → q ≤ b → q ≡ p + 1 → b - q < b - p
+smaller b p q h e = omega arith
+
+pub taken-calls : {M R D : Type 0} (flush : Bool) (u v : Seen M R D) (s : State) (n : Name) → TakesUp flush u v s (result.Ok n) → v.calls ≡ u.calls
+taken-calls flush u v (Next m) n h = ap (λ w. w.calls) h.1
+taken-calls flush u v (Retry m) n h = ap (λ w. w.calls) h.1
+taken-calls flush u v Ok n h = absurd h
+taken-calls flush u v Nok n h = absurd h
+taken-calls flush u v (Error e) n h = absurd h
+
+-- a text stands where only work was done
+pub text-worked : {M R D : Type 0} (given : Given) (t u : Seen M R D) → IsText given t.text → OnlyWorked t u → IsText given u.text
+text-worked given t u is only = subst (λ (q : Text). IsText given q) (sym only.text) is
+
+-- the invariant holds on every text that continues, before the end is fed
+pub holds-on : {R D : Type 0} (given : Given) (step : Sight → Configuration R D → Name → Step R D) (holds : Text → Configuration R D → List Choice → State → Type 0) (starts : List Name)
+    → KeepsInvariant given step holds starts
+    → (text : Text) (rest : List Piece) (k : Configuration R D) (cs : List Choice) (s : State)
+    → IsText given text → CanFollow given text rest → k.ended ≡ false → holds text k cs s → holds (followed_by_all given text rest) k cs s
+holds-on given step holds starts keeps text [] k cs s is can fresh h = h
+holds-on given step holds starts keeps text (piece ∷ rest) k cs s is can fresh h =
+    holds-on given step holds starts keeps (followed_by given text piece) rest k cs s (text-on given text (piece ∷ []) is (can.0, tt)) can.1 fresh
+    (keeps.by_pieces text piece k cs s is can.0 fresh h)
+
+pub not-true : (b : Bool) → (b ≡ true → ⊥) → b ≡ false
+not-true true h = absurd (h refl)
+not-true false h = refl
+
+-- an ended reading, with no choice waiting, is its own outcome
+ended-is : {R D : Type 0} (given : Given) (step : Sight → Configuration R D → Name → Step R D) (text : Text) (calls : ℕ) (k : Configuration R D) (cs : List Choice) → cs ≡ []
+    → EndsIn given step text calls k cs Ok (record { configuration = k; answer = Ok; calls = calls })
+ended-is given step text calls k cs e = record {
+  bound = zero;
+  is = rw e (ap (λ (n : ℕ). Some (record { configuration = k; answer = Ok; calls = n })) (add-zero calls));
+}
+
+-- a message is its own outcome
+refused-is : {R D : Type 0} (given : Given) (step : Sight → Configuration R D → Name → Step R D) (text : Text) (calls : ℕ) (k : Configuration R D) (cs : List Choice) (m : Message)
+    → EndsIn given step text calls k cs (Error m) (record { configuration = k; answer = Error m; calls = calls })
+refused-is given step text calls k cs m = record {
+  bound = zero;
+  is = ap (more_calls calls) (error-stays (read given step text zero) cs k m 0)
+      ∙ ap (λ (n : ℕ). Some (record { configuration = k; answer = Error m; calls = n })) (add-zero calls);
+}
+
+-- what flushing leaves
+module _ {M R D : Type 0} (given : Given) (step : Sight → Configuration R D → Name → Step R D) (holds : Text → Configuration R D → List Choice → State → Type 0)
+    (cost : Text → Configuration R D → State → ℕ) (reserve : Text → Choice → ℕ) where
+  flush-ends : (t u : Seen M R D) (a s : State) → OnlyWorked t u → LeadsAll given step holds cost reserve true t a u s → (r : Reading R D)
+      → EndsIn given step u.text u.calls u.configuration u.choices s r → EndsIn given step t.text t.calls t.configuration t.choices a r
+  flush-ends t u a s only leads r ends =
+      let one = leads [] tt (λ _. refl) in
+      subst (λ (q : Text). EndsIn given step q t.calls t.configuration t.choices a r) only.text ((one.same r).0 ends)
+
+  pub flush-ok : (t u : Seen M R D) (a s : State) → OnlyWorked t u → LeadsAll given step holds cost reserve true t a u s → s ≡ Ok → u.choices ≡ []
+      → EndsIn given step t.text t.calls t.configuration t.choices a (record { configuration = u.configuration; answer = Ok; calls = u.calls })
+  flush-ok t u a s only leads ok none =
+      flush-ends t u a s only leads (record { configuration = u.configuration; answer = Ok; calls = u.calls })
+      (rw ok (ended-is given step u.text u.calls u.configuration u.choices none))
+
+  pub flush-refused : (t u : Seen M R D) (a s : State) (m : Message) → OnlyWorked t u → LeadsAll given step holds cost reserve true t a u s → s ≡ Error m
+      → EndsIn given step t.text t.calls t.configuration t.choices a (record { configuration = u.configuration; answer = Error m; calls = u.calls })
+  flush-refused t u a s m only leads is =
+      flush-ends t u a s only leads (record { configuration = u.configuration; answer = Error m; calls = u.calls })
+      (rw is (refused-is given step u.text u.calls u.configuration u.choices m))
+
+  pub flush-paid : (t u : Seen M R D) (a s : State) → OnlyWorked t u → LeadsAll given step holds cost reserve true t a u s → u.calls ≤ budget cost reserve t.text t a
+  flush-paid t u a s only leads =
+      let paid = (leads [] tt (λ _. refl)).paid in
+      let e = only.text in let paid' = rw e at paid in
+      omega (arith, paid')
+
+  pub leads-holds : (flush : Bool) (t u : Seen M R D) (a s : State) → LeadsAll given step holds cost reserve flush t a u s → u.choices ≡ [] → holds u.text u.configuration [] s
+  leads-holds flush t u a s leads none = rw none at ((leads [] tt (λ _. refl)).kept)
+
+pub taken-formed : {R D : Type 0} (bytes : List ℕ) (k : Configuration R D) → IsWellFormed bytes k → IsWellFormed bytes (taken k)
+taken-formed bytes k h = record { balanced = h.balanced; void_tight = h.void_tight; in_order = h.in_order }
+
+pub text-extended : (given : Given) (text : Text) (piece : Piece) → IsText given text → FitsAfter given text piece → IsText given (followed_by given text piece)
+text-extended given text piece is fits = text-on given text (piece ∷ []) is (fits, tt)
+
+module _ {M R D : Type 0} (given : Given) (step : Sight → Configuration R D → Name → Step R D) (holds : Text → Configuration R D → List Choice → State → Type 0)
+    (cost : Text → Configuration R D → State → ℕ) (reserve : Text → Choice → ℕ) (starts : List Name) (laws : Laws given step holds cost reserve starts) where
+  -- before the end is fed the work stops at a state that waits for a byte, or at a message
+  stops-answers : (u : Seen M R D) (s : State) → IsText given u.text → holds u.text u.configuration u.choices s → Stops false u s → (u.configuration.ended ≡ true → ⊥)
+      → ((name : Name) × (s ≡ Next name)) ⊎ ((m : Message) × (s ≡ Error m))
+  stops-answers u (Next n) is h stops fresh = inl (n, refl)
+  stops-answers u (Retry n) is h stops fresh = absurd stops
+  stops-answers u Ok is h stops fresh = let h' = rw stops at h in absurd (fresh ((laws.ends.ok u.text u.configuration is h').0))
+  stops-answers u Nok is h stops fresh = let h' = rw stops at h in absurd (laws.ends.nok u.text u.configuration is h')
+  stops-answers u (Error m) is h stops fresh = inr (m, refl)
+
+  -- what a push leaves, once the text was extended and the work was done
+  pub is-pushed : (t u : Seen M R D) (from to : Point) (a s : State) → IsText given (followed_by given t.text (pushed from to)) → t.closed ≡ false
+      → OnlyWorked (extended t (followed_by given t.text (pushed from to))) u
+      → LeadsAll given step holds cost reserve false (extended t (followed_by given t.text (pushed from to))) a u s
+      → Stops false u s → IsInText u → IsPushed given step holds cost reserve t from to a u s
+  is-pushed t u from to a s is open_still only leads stops sound =
+      let now = (leads [] tt (λ _. refl)).kept in
+      let is_now = subst (λ (q : Text). IsText given q) (sym only.text) is in
+      let closed : u.closed ≡ false = only.closed ∙ open_still in record {
+        given = only.given;
+        machine = only.machine;
+        open_still = closed;
+        text = only.text;
+        outcome = λ rest can.
+            let k = leads rest can (λ e. absurd cc) in record { kept = k.kept; same = k.same; paid = k.paid };
+        read = λ name e.
+            let far = rw e at stops in
+            let within = sound.within in
+            let length_is : u.configuration.position ≡ length u.text.seats = omega (arith, far.1, within) in
+            (length_is, laws.keeps.unfed u.text u.configuration u.choices name is_now (rw e at now));
+        answers = stops-answers u s is_now now stops (λ e. let f : true ≡ false = sym (sound.ended e) ∙ closed in absurd cc);
+      }

@@ -1,0 +1,43 @@
+use Rattle.std.proofs.Common.{◌≡◌, ◌∙◌, ◌++◌, ◌∷◌, [], take, length, List, ℕ, ap, sym, refl}
+use Rattle.markdown_base.specs.declared.event.Name.{Name}
+use Rattle.markdown.specs.Changes.{entered-made, entered-marks, entered-choices, entered-at, take-pushed}
+use Rattle.markdown.proofs.tokenizer.Tokenizer.begin.Goals as goal
+
+pub invariant_of-self-in-Ok : goal.invariant_of-self-in-Ok
+invariant_of-self-in-Ok g c =
+    let t = c.self.inside in let sound = c.self.invariant in
+    record {
+      limit = sound.limit;
+      end_at = sound.end_at;
+      text = sound.text;
+      read = sound.read;
+      waiting = sound.waiting;
+      ended = sound.ended;
+      made = entered-made t sound c.args.name c.args.link c.shown-point.result c.shown-point.ensures c.push-2.new.self.items c.push.new.self.items c.in-Ok.ensures.items c.in_ok-push.ensures.items;
+      marks = entered-marks t sound c.args.name c.args.link c.shown-point.result c.shown-point.ensures c.push-2.new.self.items c.push.new.self.items c.in-Ok.ensures.items c.in_ok-push.ensures.items;
+    }
+
+pub invariant_of-self-in-Err : goal.invariant_of-self-in-Err
+invariant_of-self-in-Err g c =
+    let t = c.self.inside in let sound = c.self.invariant in
+    let events = c.in-Err.ensures.items in
+    let stack = c.truncate.ensures.items ∙ ap (λ (xs : List Name). take c.len-open_len.result xs) c.in_ok-push.ensures.items ∙ take-pushed t.stack.items c.args.name c.len-open_len.result (c.len-open_len.ensures ∙ t.stack.ok.0) in
+    record {
+      limit = sound.limit;
+      end_at = sound.end_at;
+      text = sound.text;
+      read = sound.read;
+      waiting = sound.waiting;
+      ended = sound.ended;
+      made = rw (events, stack) sound.made;
+      marks = rw (events, stack) sound.marks;
+    }
+
+pub returns-in-Ok-clause-ok : goal.returns-in-Ok-clause-ok
+returns-in-Ok-clause-ok g c =
+    let t = c.self.inside in let sound = c.self.invariant in
+    let events = c.in-Ok.ensures.items in
+    let stack = c.in_ok-push.ensures.items in
+    let choices = entered-choices t sound c.args.name c.args.link c.shown-point.result c.shown-point.ensures c.push-2.new.self.items c.push.new.self.items events stack in
+    let at = entered-at t sound c.args.name c.args.link c.shown-point.result c.shown-point.ensures c.push-2.new.self.items c.push.new.self.items events stack in
+    rw (← c.self.view_is) (rw (choices, events, stack, at) refl)

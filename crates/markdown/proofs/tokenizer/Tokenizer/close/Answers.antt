@@ -1,0 +1,5 @@
+use Rattle.markdown.specs.Fields.{closed-sound}
+use Rattle.markdown.proofs.tokenizer.Tokenizer.close.Goals as goal
+
+pub invariant_of-self : goal.invariant_of-self
+invariant_of-self g c = closed-sound c.self.inside c.self.invariant

@@ -1,0 +1,38 @@
+use Rattle.std.proofs.Common.{◌≡◌, ◌∙◌, ap, sym, refl}
+use Rattle.markdown.specs.Fields.{read-start}
+use Rattle.markdown.specs.Changes.{start-end, start-empty, start-found, start-text, start-made}
+use Rattle.markdown.proofs.tokenizer.Tokenizer.new.Goals as goal
+
+pub invariant_of-result : goal.invariant_of-result
+invariant_of-result g c =
+    let bytes = c.args.parse_state.now.bytes.now in
+    let p = c.args.point in
+    let here = start-end bytes p c.requires.place in
+    let none = start-empty bytes p c.requires.place in
+    let events = c.new-events.ensures.items in
+    let stack = c.new-stack.ensures.items in
+    let marks = c.new-marks.ensures.items in
+    record {
+      limit = c.requires.limit;
+      end_at = rw here (start-found bytes p c.requires.place);
+      text = rw (here, none) (start-text bytes p c.requires.place c.args.parse_state.now.options.now);
+      read = rw here (read-start bytes p c.requires.place);
+      waiting = (refl, refl);
+      ended = λ h. absurd cc;
+      made = rw (events, stack) (start-made bytes p c.requires.place);
+      marks = rw marks tt;
+    }
+
+pub returns : goal.returns
+returns g c =
+    let bytes = c.args.parse_state.now.bytes.now in
+    let p = c.args.point in
+    let here = start-end bytes p c.requires.place in
+    let none = start-empty bytes p c.requires.place in
+    let events = c.new-events.ensures.items in
+    let stack = c.new-stack.ensures.items in
+    let resolvers = c.new-resolvers.ensures.items in
+    let marks = c.new-marks.ensures.items in
+    let state = c.new-tokenize_state.ensures in
+    let calls = c.new-calls.ensures in
+    rw (here, none, events, stack, resolvers, marks, state, calls) refl

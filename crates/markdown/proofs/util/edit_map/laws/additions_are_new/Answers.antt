@@ -1,0 +1,5 @@
+use Rattle.markdown.proofs.Splices.{AreNew-edits}
+use Rattle.markdown.proofs.util.edit_map.laws.additions_are_new.Goals as goal
+
+pub returns : goal.returns
+returns c = AreNew-edits

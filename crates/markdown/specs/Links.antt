@@ -1,0 +1,70 @@
+-- Links between the events of a list.
+use Rattle.std.specs.Prelude.{◌≡◌, ℕ, zero, suc, ◌+◌, ◌<◌, true, List, [], ◌∷◌, length, Option, Some, IsSome, option_map, option_and_then, slice_get, slice_index_or}
+use Rattle.markdown_base.specs.declared.event.Event.{Event}
+use Rattle.markdown_base.specs.declared.event.Link.{Link}
+use Rattle.markdown_base.specs.declared.event.Content.{Content}
+use Rattle.markdown_base.specs.declared.event.Kind.TheVariants.{Enter, Exit}
+use Rattle.markdown_base.specs.Events.{is_void}
+
+-- the event begins a void span and has a link
+pub record IsLinkedEnter (e : Event) : Type 0 where
+  pub enter : e.kind ≡ Enter
+  pub void : is_void e.name ≡ true
+  pub linked : IsSome e.link
+
+-- the span that `enter` begins ends with `exit`
+pub record IsEndedBy (enter exit : Event) : Type 0 where
+  pub exits : exit.kind ≡ Exit
+  pub same : exit.name ≡ enter.name
+
+-- what the text of the event's chain is read as
+abbrev pub content_of : Event → Option Content
+content_of e = option_map (λ (l : Link). l.content) e.link
+
+-- the event at `next` can follow the one at `previous` in a chain: both are linked enters of void spans, of one content,
+-- and the first one's span ends directly behind it (what the crate asserts in `link_to`, and that chains lead forward)
+pub record CanLink (events : List Event) (previous next : ℕ) : Type 0 where
+  pub order : previous < next
+  pub within : next < length events
+  pub first : (d : Event) → IsLinkedEnter (slice_index_or events previous d)
+  pub ended : (d : Event) → IsEndedBy (slice_index_or events previous d) (slice_index_or events (previous + 1) d)
+  pub second : (d : Event) → IsLinkedEnter (slice_index_or events next d)
+  pub one_content : (d : Event) → content_of (slice_index_or events previous d) ≡ content_of (slice_index_or events next d)
+
+-- the link with its next end set
+abbrev pub next_set : ℕ → Link → Link
+next_set n l = record l { next = Some n }
+
+-- the link with its previous end set
+abbrev pub previous_set : ℕ → Link → Link
+previous_set n l = record l { previous = Some n }
+
+-- the event with its link's next end set
+abbrev pub with_next : ℕ → Event → Event
+with_next n e = record e { link = option_map (next_set n) e.link }
+
+-- the event with its link's previous end set
+abbrev pub with_previous : ℕ → Event → Event
+with_previous n e = record e { link = option_map (previous_set n) e.link }
+
+-- the list with its event at an index changed by f
+abbrev pub updated_at : ℕ → (Event → Event) → List Event → List Event
+updated_at i f [] = []
+updated_at zero f (e ∷ es) = f e ∷ es
+updated_at (suc i) f (e ∷ es) = e ∷ updated_at i f es
+
+-- the list with its events at `previous` and `next` made neighbours in a chain
+abbrev pub linked_to : ℕ → ℕ → List Event → List Event
+linked_to previous next events = updated_at next (with_previous previous) (updated_at previous (with_next next) events)
+
+-- where the link of the event at an index leads on, if it does
+abbrev pub next_of : List Event → ℕ → Option ℕ
+next_of events i = option_and_then (λ (e : Event). option_and_then (λ (l : Link). l.next) e.link) (slice_get events i)
+
+-- where the link of the event at an index leads back, if it does
+abbrev pub previous_of : List Event → ℕ → Option ℕ
+previous_of events i = option_and_then (λ (e : Event). option_and_then (λ (l : Link). l.previous) e.link) (slice_get events i)
+
+-- two events are neighbours in a chain: the first one's link leads on to the second, and the second one's back to the first
+abbrev pub AreNeighbours : List Event → ℕ → ℕ → Type 0
+AreNeighbours events i j = (next_of events i ≡ Some j) × (previous_of events j ≡ Some i)

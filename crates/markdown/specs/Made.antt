@@ -1,0 +1,35 @@
+-- What a tokenizer keeps of the events that it makes.
+use Rattle.std.specs.Prelude.{◌≡◌, ℕ, Bool, true, false, List, [], ◌∷◌, map, reverse, Some, All}
+use Rattle.markdown_base.specs.declared.event.Event.{Event}
+use Rattle.markdown_base.specs.declared.event.Kind.{Kind}
+use Rattle.markdown_base.specs.declared.event.Kind.TheVariants.{Enter, Exit}
+use Rattle.markdown_base.specs.declared.event.Name.{Name}
+use Rattle.markdown_base.specs.declared.event.Point.{Point}
+use Rattle.markdown_base.specs.Events.{is_void, open_events, IsInOrder}
+use Rattle.markdown_base.specs.Places.{stands_before, IsShown}
+use Rattle.markdown.specs.OpenNames.{names_after_all}
+
+-- the kind of the last event, or this one where there is none
+abbrev pub last_kind : Kind → List Event → Kind
+last_kind k [] = k
+last_kind k (e ∷ es) = last_kind e.kind es
+
+-- each exit of a void name directly follows an enter, where the event before them all is of this kind
+abbrev pub VoidExitsFollow : (Name → Bool) → Kind → List Event → Type 0
+VoidExitsFollow void k [] = Unit {0}
+VoidExitsFollow void k (e ∷ es) = (e.kind ≡ Exit → void e.name ≡ true → k ≡ Enter) × VoidExitsFollow void e.kind es
+
+-- `left` is where an exit would stand, `bound` where an enter would
+pub record IsMade (bytes : List ℕ) (events : List Event) (stack : List Name) (left bound : Point) : Type 0 where
+  -- the stack has the names of the open enters
+  pub names : map (λ e. e.name) (open_events events) ≡ stack
+  -- each exit ended the last of them
+  pub nested : names_after_all (Some []) events ≡ Some (reverse stack)
+  pub tight : VoidExitsFollow is_void Exit events
+  pub in_order : IsInOrder bytes events
+  -- no event is after `bound`, nor after `left` where the last one is no enter
+  pub behind : All (λ e. stands_before bound e.point ≡ false) events
+  pub read : last_kind Exit events ≡ Exit → All (λ e. stands_before left e.point ≡ false) events
+  pub left_bound : stands_before bound left ≡ false
+  pub left_shown : IsShown bytes left
+  pub bound_shown : IsShown bytes bound

@@ -1,0 +1,91 @@
+-- How the work of a tokenizer goes on, turn by turn. An inner file: private functions alone cite it.
+use Rattle.std.specs.Prelude.{◌≡◌, ◌≢◌, ◌+◌, ◌≤◌, ◌<◌, ℕ, List, [], ◌∷◌, Bool, true, false, Option, Some, None, length, Result}
+use Rattle.std.specs.declared.result.Result.TheVariants as result
+use Rattle.markdown_base.specs.declared.state.Name.{Name}
+use Rattle.markdown_base.specs.declared.state.State.{State}
+use Rattle.markdown_base.specs.declared.state.State.TheVariants.{Next, Retry, Ok, Nok, Error}
+use Rattle.markdown.specs.declared.waiting.Waits.TheVariants.{Byte, End}
+use Rattle.markdown.specs.Text.{Given, Text, IsText, Piece, CanFollow, followed_by_all}
+use Rattle.markdown.specs.Configuration.{Configuration, Choice, Step, Seen, at_configuration}
+use Rattle.markdown.specs.Sight.{Sight}
+use Rattle.markdown.specs.Reading.{fed, settled_at}
+use Rattle.markdown.specs.Engine.{LeadsOn}
+
+-- what the tokenizer becomes where a choice ends by this answer
+abbrev pub settled : {M R D : Type 0} → Seen M R D → Choice → List Choice → State → Seen M R D
+settled t c cs answer = record {
+  given = t.given;
+  machine = t.machine;
+  text = t.text;
+  configuration = settled_at c.kind c.saved answer t.configuration;
+  choices = cs;
+  calls = t.calls;
+  closed = t.closed;
+}
+
+-- the text is another one
+abbrev pub extended : {M R D : Type 0} → Seen M R D → Text → Seen M R D
+extended t text = record { given = t.given; machine = t.machine; text = text; configuration = t.configuration; choices = t.choices; calls = t.calls; closed = t.closed }
+
+abbrev pub answer_of : Bool → State
+answer_of true = Ok
+answer_of false = Nok
+
+abbrev pub answer_in : State → Option Bool
+answer_in Ok = Some true
+answer_in Nok = Some false
+answer_in _ = None
+
+-- no more is read than the text, and the end is fed to a closed tokenizer alone
+pub record IsInText {M R D : Type 0} (t : Seen M R D) : Type 0 where
+  pub text : IsText t.given t.text
+  pub within : t.configuration.position ≤ length t.text.seats
+  pub byte : t.configuration.waiting ≡ Byte → t.configuration.position < length t.text.seats
+  pub end : t.configuration.waiting ≡ End → t.closed ≡ true
+  pub ended : t.configuration.ended ≡ true → t.closed ≡ true
+
+-- only the configuration, the choices and the count are others
+pub record OnlyWorked {M R D : Type 0} (old new : Seen M R D) : Type 0 where
+  pub given : new.given ≡ old.given
+  pub machine : new.machine ≡ old.machine
+  pub text : new.text ≡ old.text
+  pub closed : new.closed ≡ old.closed
+
+-- where the work ends: at the text's end, or at an answer with no choice waiting
+abbrev pub Stops : {M R D : Type 0} → Bool → Seen M R D → State → Type 0
+Stops flush t (Next name) = (flush ≡ false) × (length t.text.seats ≤ t.configuration.position)
+Stops flush t (Retry name) = ⊥
+Stops flush t Ok = t.choices ≡ []
+Stops flush t Nok = t.choices ≡ []
+Stops flush t (Error message) = Unit {0}
+
+-- what is fed to which state, or where the work ends
+abbrev pub TakesUp : {M R D : Type 0} → Bool → Seen M R D → Seen M R D → State → Result Name State → Type 0
+TakesUp flush old new (Next name) (result.Ok n) = (n ≡ name) × (new ≡ at_configuration old (fed old.text old.configuration)) × (flush ≡ false → old.configuration.position < length old.text.seats)
+TakesUp flush old new (Retry name) (result.Ok n) = (n ≡ name) × (new ≡ old)
+TakesUp flush old new Ok (result.Ok n) = ⊥
+TakesUp flush old new Nok (result.Ok n) = ⊥
+TakesUp flush old new (Error message) (result.Ok n) = ⊥
+TakesUp flush old new (Next name) (result.Err answer) = (new ≡ old) × (answer ≡ Next name) × (flush ≡ false) × (length old.text.seats ≤ old.configuration.position)
+TakesUp flush old new (Retry name) (result.Err answer) = ⊥
+TakesUp flush old new Ok (result.Err answer) = (new ≡ old) × (answer ≡ Ok)
+TakesUp flush old new Nok (result.Err answer) = (new ≡ old) × (answer ≡ Nok)
+TakesUp flush old new (Error message) (result.Err answer) = (new ≡ old) × (answer ≡ Error message)
+
+-- the last choice ended, or there was none
+abbrev pub IsSettled : {M R D : Type 0} → Seen M R D → Seen M R D → Bool → Option State → Type 0
+IsSettled old new ok None = (new ≡ old) × (old.choices ≡ [])
+IsSettled old new true (Some state) = (c : Choice) × (cs : List Choice) × (old.choices ≡ c ∷ cs) × (new ≡ settled old c cs Ok) × (state ≡ c.ok)
+IsSettled old new false (Some state) = (c : Choice) × (cs : List Choice) × (old.choices ≡ c ∷ cs) × (new ≡ settled old c cs Nok) × (state ≡ c.nok)
+
+-- the invariant holds on every text that continues the tokenizer's, or on this alone where the end is fed
+abbrev pub HoldsAll : {M R D : Type 0} → (Text → Configuration R D → List Choice → State → Type 0) → Bool → Seen M R D → State → Type 0
+HoldsAll holds flush t state = (rest : List Piece) → CanFollow t.given t.text rest → (flush ≡ true → rest ≡ [])
+    → holds (followed_by_all t.given t.text rest) t.configuration t.choices state
+
+module _ {M R D : Type 0} (g : Given) (step : Sight → Configuration R D → Name → Step R D) (holds : Text → Configuration R D → List Choice → State → Type 0)
+    (cost : Text → Configuration R D → State → ℕ) (reserve : Text → Choice → ℕ) where
+  -- the one leads on to the other on every text that continues the tokenizer's, or on this alone where the end is fed
+  abbrev pub LeadsAll : Bool → Seen M R D → State → Seen M R D → State → Type 0
+  LeadsAll flush old state new answer = (rest : List Piece) → CanFollow g new.text rest → (flush ≡ true → rest ≡ [])
+      → LeadsOn g step holds cost reserve (followed_by_all g new.text rest) old state new answer

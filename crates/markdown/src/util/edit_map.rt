@@ -1,0 +1,129 @@
+//! Edits of a list of events, gathered first and then all made at once.
+//!
+//! An edit made by itself would move what stands behind it, and links would have to follow each time. So a map holds
+//! edits at indices into the events as they are, and every event and link end is moved once.
+
+ghost use Rattle.std.specs.Prelude.{◌≡◌, ◌+◌, ◌<◌, ◌^◌, [], length, OnOk, OnErr, IsOk, All, IsTrue};
+ghost use Rattle.markdown_base.specs.Events.{EndsBelow};
+ghost use Rattle.markdown.specs.Edits.{edit_at, is_no_edit, added_after, added_before, removal_at, AreDisjoint};
+ghost use Rattle.markdown.specs.Edited.{edited};
+
+pub mod laws;
+#[cfg(test)]
+mod tests;
+
+use crate::util::splice::spliced_events;
+use crate::util::stored::{Stored, position_of};
+use markdown_base::event::Event;
+use std::alloc::{AllocError, Global};
+use std::marker::Model;
+
+/// Edits of a list of events, to be made at once: at an index, how many events go, and which come in their place.
+#[derive(Drop)]
+pub struct EditMap {
+    edits: Vec<Stored>,
+}
+
+impl Model for EditMap {
+    ghost use Rattle.std.specs.Prelude.{List};
+    ghost use Rattle.markdown.specs.Edits.{Edit};
+
+    ghost Value = { List Edit };
+
+    ghost use Rattle.markdown.specs.Stored.{by_index, HasNoTwins};
+
+    ghost view = { λ m. by_index m.edits.items };
+
+    ghost invariant = { λ m. HasNoTwins m.edits.items };
+}
+
+impl EditMap {
+    /// No edits. Takes no memory.
+    pub fn new(alloc: Global) -> Self
+        ensures { result ≡ [] }
+    {
+        EditMap {
+            edits: Vec::new(alloc),
+        }
+    }
+
+    /// Adds an edit: at `index` (into the events as they are) `remove` events go, and `additions` come in their place.
+    ///
+    /// Where the index has an edit the two become one: their removals add up, and these additions come behind those
+    /// that are there. No removal with no addition is no edit, and takes no memory. Where memory is refused the map
+    /// stays as it was, and the additions are dropped.
+    pub fn add(
+        &mut self,
+        index: usize,
+        remove: usize,
+        additions: Vec<Event>,
+    ) -> Result<(), AllocError>
+        requires sum_fits { 0 < remove → removal_at self.old index + remove < 2 ^ 64 }
+        ensures ok { OnOk result (self.new ≡ added_after self.old (edit_at index remove additions.items)) }
+        ensures err { OnErr result (self.new ≡ self.old) }
+        ensures no_edit { IsTrue (is_no_edit (edit_at index remove additions.items)) → IsOk result }
+    {
+        if remove == 0 && additions.is_empty() {
+            return Ok(());
+        }
+        match position_of(&self.edits, index) {
+            Some(at) => self.edits[at].append(remove, &additions)?,
+            None => self.edits.push(Stored {
+                index,
+                remove,
+                additions,
+            })?,
+        }
+        Ok(())
+    }
+
+    /// Adds an edit as [`EditMap::add`] does, but with these additions in front of those that are there.
+    pub fn add_before(
+        &mut self,
+        index: usize,
+        remove: usize,
+        additions: Vec<Event>,
+    ) -> Result<(), AllocError>
+        requires sum_fits { 0 < remove → removal_at self.old index + remove < 2 ^ 64 }
+        ensures ok { OnOk result (self.new ≡ added_before self.old (edit_at index remove additions.items)) }
+        ensures err { OnErr result (self.new ≡ self.old) }
+        ensures no_edit { IsTrue (is_no_edit (edit_at index remove additions.items)) → IsOk result }
+    {
+        if remove == 0 && additions.is_empty() {
+            return Ok(());
+        }
+        match position_of(&self.edits, index) {
+            Some(at) => self.edits[at].prepend(remove, additions)?,
+            None => self.edits.push(Stored {
+                index,
+                remove,
+                additions,
+            })?,
+        }
+        Ok(())
+    }
+
+    /// Makes all edits at once, and leaves the map empty.
+    ///
+    /// At each place come the additions, and then the event there, unless it is removed. A link between events that
+    /// stay joins the same two, by both ends; an end whose event was removed becomes `None`; link ends inside
+    /// additions stand for places in the new list. Each edit ends at or before the index of the next, and inside the
+    /// list. An empty map takes no memory. Where memory is refused map and events stay as they were.
+    pub fn consume(&mut self, events: &mut Vec<Event>) -> Result<(), AllocError>
+        requires disjoint { AreDisjoint 0 self.old (length events.old.items) }
+        requires links { All (EndsBelow (length events.old.items)) events.old.items }
+        ensures ok { OnOk result (events.new.items ≡ edited self.old events.old.items) }
+        ensures emptied { OnOk result (self.new ≡ []) }
+        ensures err { OnErr result ((events.new.items ≡ events.old.items) × (self.new ≡ self.old)) }
+        ensures empty { self.old ≡ [] → IsOk result }
+    {
+        if self.edits.is_empty() {
+            return Ok(());
+        }
+        self.edits.sort_unstable_by_key(|edit| edit.index);
+        let alloc = *events.allocator();
+        *events = spliced_events(alloc, &self.edits, events.as_slice())?;
+        self.edits.clear();
+        Ok(())
+    }
+}

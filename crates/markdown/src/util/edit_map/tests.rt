@@ -1,0 +1,149 @@
+//! Edits of small lists, with answers worked by hand.
+
+ghost use Rattle.std.specs.Prelude.{◌≡◌, None, IfSome};
+
+use crate::util::edit_map::EditMap;
+use markdown_base::event::{Content, Event, Kind, Link, Name, Point};
+use std::alloc::{AllocError, Global};
+
+/// An event without a link, told by its column.
+fn event_at(column: usize) -> Event
+    ensures { result.link ≡ None }
+{
+    let point = Point {
+        line: 1,
+        column,
+        index: 0,
+        vs: 0,
+    };
+    Event {
+        kind: Kind::Enter,
+        name: Name::Data,
+        point,
+        link: None,
+    }
+}
+
+/// An event with a link.
+fn linked(previous: Option<usize>, next: Option<usize>) -> Event
+    ensures { IfSome result.link (λ l. (l.previous ≡ previous) × (l.next ≡ next)) }
+{
+    let content = Content::Text;
+    let link = Some(Link {
+        previous,
+        next,
+        content,
+    });
+    Event {
+        link,
+        ..event_at(1)
+    }
+}
+
+fn columns(alloc: Global, events: &[Event]) -> Result<Vec<usize>, AllocError> {
+    let mut out = Vec::new(alloc);
+    for event in events {
+        out.push(event.point.column)?;
+    }
+    Ok(out)
+}
+
+/// Six events, with three edits at index 2.
+fn edits_at_one_index(alloc: Global) -> Result<Vec<Event>, AllocError> {
+    let mut events = Vec::from_array(
+        alloc,
+        [
+            event_at(1),
+            event_at(2),
+            event_at(3),
+            event_at(4),
+            event_at(5),
+            event_at(6),
+        ],
+    )?;
+    let mut map = EditMap::new(alloc);
+    map.add(2, 2, vec![in alloc; event_at(91)]?)?;
+    map.add(2, 0, vec![in alloc; event_at(92)]?)?;
+    map.add_before(2, 0, vec![in alloc; event_at(93)]?)?;
+    map.consume(&mut events)?;
+    Ok(events)
+}
+
+#[test]
+fn edits_at_one_index_merge(rt: HostRuntime) {
+    let events = edits_at_one_index(rt.alloc()).expect(&rt, "memory");
+    let columns = columns(rt.alloc(), &events).expect(&rt, "memory");
+    assert!(rt; columns.as_slice() == [1, 2, 93, 91, 92, 5, 6].as_slice());
+}
+
+/// Two chains, one within the stretch of the other, with two events added in front of most.
+fn chains_moved(alloc: Global) -> Result<Vec<Event>, AllocError> {
+    let mut events = Vec::from_array(
+        alloc,
+        [
+            linked(None, Some(4)),
+            event_at(2),
+            linked(None, Some(6)),
+            event_at(4),
+            linked(Some(0), None),
+            event_at(6),
+            linked(Some(2), None),
+            event_at(8),
+        ],
+    )?;
+    let mut map = EditMap::new(alloc);
+    map.add(1, 0, vec![in alloc; event_at(91), event_at(92)]?)?;
+    map.consume(&mut events)?;
+    Ok(events)
+}
+
+#[test]
+fn interleaved_chains_are_moved(rt: HostRuntime) {
+    let events = chains_moved(rt.alloc()).expect(&rt, "memory");
+    assert!(rt; events.len() == 10);
+    assert!(rt; events[0].link == linked(None, Some(6)).link);
+    assert!(rt; events[4].link == linked(None, Some(8)).link);
+    assert!(rt; events[6].link == linked(Some(0), None).link);
+    assert!(rt; events[8].link == linked(Some(4), None).link);
+}
+
+/// Two chunks in a chain, the second of which goes.
+fn end_removed(alloc: Global) -> Result<Vec<Event>, AllocError> {
+    let mut events = Vec::from_array(
+        alloc,
+        [
+            linked(None, Some(2)),
+            event_at(2),
+            linked(Some(0), None),
+            event_at(4),
+        ],
+    )?;
+    let mut map = EditMap::new(alloc);
+    map.add(2, 2, Vec::new(alloc))?;
+    map.consume(&mut events)?;
+    Ok(events)
+}
+
+#[test]
+fn removed_end_is_none(rt: HostRuntime) {
+    let events = end_removed(rt.alloc()).expect(&rt, "memory");
+    assert!(rt; events.len() == 2);
+    assert!(rt; events[0].link == linked(None, None).link);
+}
+
+/// An addition at the end, and an edit that is none.
+fn added_at_end(alloc: Global) -> Result<Vec<Event>, AllocError> {
+    let mut events = Vec::from_array(alloc, [event_at(1), event_at(2)])?;
+    let mut map = EditMap::new(alloc);
+    map.add(0, 0, Vec::new(alloc))?;
+    map.add(2, 0, vec![in alloc; event_at(91)]?)?;
+    map.consume(&mut events)?;
+    Ok(events)
+}
+
+#[test]
+fn addition_at_end_is_last(rt: HostRuntime) {
+    let events = added_at_end(rt.alloc()).expect(&rt, "memory");
+    let columns = columns(rt.alloc(), &events).expect(&rt, "memory");
+    assert!(rt; columns.as_slice() == [1, 2, 91].as_slice());
+}

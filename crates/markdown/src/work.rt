@@ -1,0 +1,182 @@
+//! The work of a tokenizer: states are called until a range is used up, or until the reading has ended.
+
+ghost use Rattle.std.specs.Prelude.{◌≡◌, ◌≢◌, ◌+◌, ◌≤◌, List, [], false, true, IfOk, IfErr, IsErrOf, IsSome, IsTrue};
+ghost use Rattle.markdown_base.specs.declared.event.Point.{Point};
+ghost use Rattle.markdown_base.specs.Places.{point_at};
+ghost use Rattle.markdown.specs.declared.waiting.Waits.TheVariants.{Nothing, End};
+ghost use Rattle.markdown.specs.Text.{FitsAfter, pushed, IsText};
+ghost use Rattle.markdown.specs.Sight.{sight};
+ghost use Rattle.markdown.specs.Lawful.{IsCalled};
+ghost use Rattle.markdown.specs.Engine.{LeadsOn, IsPushed, IsFlushed, IsRefused, IsWellFormed, HasOneEnd, budget};
+ghost use Rattle.markdown.specs.Work.{answer_in, HoldsAll, LeadsAll, OnlyWorked, Stops, TakesUp};
+
+use crate::state::{Machine, Name, State};
+use crate::subtokenize::Subresult;
+use crate::tokenizer::{Fault, Tokenizer};
+use std::alloc::{AllocError, Global};
+
+/// A lawful machine reads each text in one way, within its cost.
+pub fn reads_in_one_way<M: Machine>()
+    ensures { (m : _) (g : _) → HasOneEnd g (M.step m g) (M.holds m g) (M.cost m g) (M.reserve m g) }
+{}
+
+/// Whether a state ends a choice, and how.
+fn ending(state: &State) -> Option<bool>
+    ensures { result ≡ answer_in state.now }
+{
+    match state {
+        State::Ok => Some(true),
+        State::Nok => Some(false),
+        _ => None,
+    }
+}
+
+impl<'a, M: Machine> Tokenizer<'a, M> {
+    /// Which state is called next, with what it is fed; or the state at which the work ends.
+    fn take_up(&mut self, flush: bool, state: State) -> Result<Name, State>
+        requires { flush ≡ true → self.old.closed ≡ true }
+        ensures { TakesUp flush self.old self.new state result }
+    {
+        match state {
+            State::Next(name) => {
+                if !self.feed() {
+                    if !flush {
+                        return Err(State::Next(name));
+                    }
+                    self.feed_end();
+                }
+                Ok(name)
+            }
+            State::Retry(name) => Ok(name),
+            other => Err(other),
+        }
+    }
+
+    /// Choices end, as long as the state says so.
+    fn settle(&mut self, state: State) -> State
+        ensures same { OnlyWorked self.old self.new }
+        ensures waits { self.new.configuration.waiting ≡ End → self.old.configuration.waiting ≡ End }
+        ensures leads { (text : _) → IsText self.old.given text → M.holds self.old.machine self.old.given text self.old.configuration self.old.choices state → LeadsOn self.old.given (M.step self.old.machine self.old.given) (M.holds self.old.machine self.old.given) (M.cost self.old.machine self.old.given) (M.reserve self.old.machine self.old.given) text self.old state self.new result }
+        ensures calls { self.new.calls ≡ self.old.calls }
+        ensures ended { IsSome (answer_in result) → self.new.choices ≡ [] }
+    {
+        let mut state = state;
+        loop {
+            let Some(ok) = ending(&state) else {
+                return state;
+            };
+            match self.settle_last(ok) {
+                Some(next) => state = next,
+                None => return state,
+            }
+        }
+    }
+
+    /// One state is called.
+    fn once(&mut self, alloc: Global, name: Name) -> Result<State, AllocError>
+        requires waits { self.old.configuration.waiting ≢ Nothing }
+        requires holds { M.holds self.old.machine self.old.given self.old.text self.old.configuration self.old.choices (State.Retry name) }
+        ensures { IfOk result (IsCalled self.old self.new (M.step self.old.machine self.old.given (sight self.old.given self.old.text self.old.configuration) self.old.configuration name)) }
+    {
+        self.parse_state().machine.call(alloc, self, name)
+    }
+
+    /// States are called until the text is used up, or until the reading has ended.
+    fn work(&mut self, alloc: Global, flush: bool, state: State) -> Result<State, AllocError>
+        requires text { IsText self.old.given self.old.text }
+        requires holds { HoldsAll (M.holds self.old.machine self.old.given) flush self.old state }
+        requires closed { flush ≡ true → self.old.closed ≡ true }
+        requires waits { flush ≡ false → self.old.configuration.waiting ≢ End }
+        ensures same { IfOk result (λ _. OnlyWorked self.old self.new) }
+        ensures leads { IfOk result (λ answer. LeadsAll self.old.given (M.step self.old.machine self.old.given) (M.holds self.old.machine self.old.given) (M.cost self.old.machine self.old.given) (M.reserve self.old.machine self.old.given) flush self.old state self.new answer) }
+        ensures stops { IfOk result (λ answer. Stops flush self.new answer) }
+    {
+        let mut state = state;
+        loop {
+            state = self.settle(state);
+            let name = match self.take_up(flush, state) {
+                Ok(name) => name,
+                Err(answer) => return Ok(answer),
+            };
+            self.tells();
+            state = self.once(alloc, name)?;
+        }
+    }
+
+    /// Puts a range of the document at the end of the text, and reads until it is used up.
+    ///
+    /// `from` and `to` are places, each an index and a number in a tab. `from` denotes the text's end, and `to` is not before it.
+    /// The state is one with which the machine may start, or what the last push answered. The answer is the state that
+    /// waits for the next byte, or a message, which later pushes answer again. After `Memory` the tokenizer has failed;
+    /// `Failed` is answered where it had before, or was flushed, and then nothing changes.
+    pub fn push(
+        &mut self,
+        alloc: Global,
+        from: (usize, usize),
+        to: (usize, usize),
+        state: State,
+    ) -> Result<State, Fault>
+        requires range { self.old.closed ≡ false → (f : Point) × (t : Point) × (point_at 4 self.old.given.bytes from ≡ Some f) × (point_at 4 self.old.given.bytes to ≡ Some t) × FitsAfter self.old.given self.old.text (pushed f t) }
+        requires holds { self.old.closed ≡ false → M.holds self.old.machine self.old.given self.old.text self.old.configuration self.old.choices state }
+        ensures failed { IsTrue self.old.closed → IsErrOf result Fault.Failed × (self.new ≡ self.old) }
+        ensures ok { IfOk result (λ answer. (f t : Point) → point_at 4 self.old.given.bytes from ≡ Some f → point_at 4 self.old.given.bytes to ≡ Some t → IsPushed self.old.given (M.step self.old.machine self.old.given) (M.holds self.old.machine self.old.given) (M.cost self.old.machine self.old.given) (M.reserve self.old.machine self.old.given) self.old f t state self.new answer) }
+        ensures err { self.old.closed ≡ false → IfErr result (λ fault. (fault ≡ Fault.Memory) × (self.new.closed ≡ true)) }
+    {
+        if self.is_closed() {
+            return Err(Fault::Failed);
+        }
+        self.tells();
+        self.extend(from, to);
+        match self.work(alloc, false, state) {
+            Ok(answer) => {
+                self.tells();
+                Ok(answer)
+            }
+            Err(_) => {
+                self.close();
+                Err(Fault::Memory)
+            }
+        }
+    }
+
+    /// Feeds the end, and reads until the reading has ended.
+    ///
+    /// The state is as for `push`. `resolve` is false. What is answered are the definitions that states found; `done` is false.
+    /// `Message` is answered exactly where the reading ends in that message. Afterwards, in each case, nothing more is
+    /// pushed or flushed.
+    pub fn flush(&mut self, alloc: Global, state: State, resolve: bool) -> Result<Subresult, Fault>
+        requires resolve { resolve ≡ false }
+        requires holds { self.old.closed ≡ false → M.holds self.old.machine self.old.given self.old.text self.old.configuration self.old.choices state }
+        ensures failed { IsTrue self.old.closed → IsErrOf result Fault.Failed × (self.new ≡ self.old) }
+        ensures closed { self.new.closed ≡ true }
+        ensures ok { IfOk result (λ sub. IsFlushed self.old.given (M.step self.old.machine self.old.given) self.old state self.new sub) }
+        ensures message { (m : _) → IsErrOf result (Fault.Message m) → IsRefused self.old.given (M.step self.old.machine self.old.given) self.old state self.new m }
+        ensures err { self.old.closed ≡ false → IfErr result (λ fault. fault ≢ Fault.Failed) }
+        ensures paid { self.old.closed ≡ false → IfOk result (λ _. self.new.calls ≤ budget (M.cost self.old.machine self.old.given) (M.reserve self.old.machine self.old.given) self.old.text self.old state) }
+        ensures same { IfOk result (λ _. (self.new.given ≡ self.old.given) × (self.new.machine ≡ self.old.machine) × (self.new.text ≡ self.old.text)) }
+        ensures well_formed { IfOk result (λ _. IsWellFormed self.new.given.bytes self.new.configuration) }
+    {
+        if self.is_closed() {
+            return Err(Fault::Failed);
+        }
+        self.tells();
+        self.close();
+        let _ = resolve;
+        match self.work(alloc, true, state) {
+            Ok(answer) => match answer {
+                State::Error(message) => Err(Fault::Message(message)),
+                State::Ok => {
+                    self.tells_events();
+                    Ok(self.take_definitions(alloc))
+                }
+                State::Nok => unreachable!(),
+                State::Next(_) => unreachable!(),
+                State::Retry(_) => unreachable!(),
+            },
+            Err(_) => {
+                self.close();
+                Err(Fault::Memory)
+            }
+        }
+    }
+}
