@@ -123,7 +123,7 @@ pub ends_when_read : (g : Given) → EndsWhenRead g (lines_step g) (lines_holds 
 ends_when_read g = record { nok = λ text k is h. h.2; ok = λ text k is h. (h.2.1, h.2.0) }
 
 -- where the next byte is, the byte that waits ends
-next-left : (g : Given) (text : Text) (p : ℕ) (w : Waits) → p < length text.seats → (sight_of g text p Byte).next ≡ (sight_of g text (p + 1) w).left
+pub next-left : (g : Given) (text : Text) (p : ℕ) (w : Waits) → p < length text.seats → (sight_of g text p Byte).next ≡ (sight_of g text (p + 1) w).left
 next-left g text p w h = let (s, is) = seat-at text p h in rw (add-one, is) refl
 
 -- The invariant is kept by a call

@@ -44,7 +44,7 @@ impl Machine for Lines {
         match name {
             Name::FlowStart => flow_start(t),
             Name::ParagraphInside => paragraph_inside(t),
-            _ => Ok(State::Nok),
+            _ => unreachable!(),
         }
     }
 
