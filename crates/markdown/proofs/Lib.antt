@@ -11,3 +11,4 @@ pub mod Splices
 pub mod StoredLemmas
 pub mod Survivors
 pub mod Turns
+pub mod Runs

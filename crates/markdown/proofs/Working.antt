@@ -113,10 +113,10 @@ module _ (text w : Text) (c : Continues text w) where
 
 module _ {M R D : Type 0} (given : Given) (step : Sight → Configuration R D → Name → Step R D) (holds : Text → Configuration R D → List Choice → State → Type 0)
     (cost : Text → Configuration R D → State → ℕ) (reserve : Text → Choice → ℕ) where
-  leads-refl : (w : Text) (t : Seen M R D) (s : State) → holds w t.configuration t.choices s → LeadsOn given step holds cost reserve w t s t s
+  pub leads-refl : (w : Text) (t : Seen M R D) (s : State) → holds w t.configuration t.choices s → LeadsOn given step holds cost reserve w t s t s
   leads-refl w t s h = record { kept = h; same = λ r. ((λ e. e), (λ e. e)); paid = omega arith }
 
-  leads-trans : (w : Text) (t u v : Seen M R D) (a b d : State) → LeadsOn given step holds cost reserve w t a u b → LeadsOn given step holds cost reserve w u b v d → LeadsOn given step holds cost reserve w t a v d
+  pub leads-trans : (w : Text) (t u v : Seen M R D) (a b d : State) → LeadsOn given step holds cost reserve w t a u b → LeadsOn given step holds cost reserve w u b v d → LeadsOn given step holds cost reserve w t a v d
   leads-trans w t u v a b d h k = record {
     kept = k.kept;
     same = λ r. ((λ e. (h.same r).0 ((k.same r).0 e)), (λ e. (k.same r).1 ((h.same r).1 e)));

@@ -14,6 +14,7 @@ use Rattle.markdown.specs.declared.waiting.Waits.TheVariants.{Nothing}
 use Rattle.markdown.specs.declared.waiting.AttemptKind.TheVariants.{Attempt, Check}
 use Rattle.markdown.specs.Configuration.{Configuration, Local, Saved, Choice, Seen}
 use Rattle.markdown.specs.Sight.{sight}
+use Rattle.markdown.specs.Links.{linked_to}
 
 -- one byte is consumed
 abbrev pub consumed : {R D : Type 0} → Configuration R D → Configuration R D
@@ -38,6 +39,17 @@ exited name point k = record {
   ended = k.ended;
   events = k.events ++ record { kind = Exit; name = name; point = point; link = None } ∷ [];
   stack = take (length k.stack - 1) k.stack;
+  local = k.local;
+}
+
+-- two events are made neighbours in a chain
+abbrev pub linked : {R D : Type 0} → (previous next : ℕ) → Configuration R D → Configuration R D
+linked previous next k = record {
+  position = k.position;
+  waiting = k.waiting;
+  ended = k.ended;
+  events = linked_to previous next k.events;
+  stack = k.stack;
   local = k.local;
 }
 

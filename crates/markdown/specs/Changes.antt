@@ -31,7 +31,10 @@ use Rattle.markdown.specs.Standing.{place-of-point, shown-shown}
 use Rattle.markdown.specs.Cursors.{upto-self, upto-upto, upto-same, same-upto, same-back, range-empty, range-same, same-self, end-upto}
 use Rattle.markdown.specs.Points.{point_at-point, point_at-is}
 use Rattle.markdown.specs.Made.{IsMade}
-use Rattle.markdown.specs.MadeLemmas.{made-new, made-enter-at, made-exit-at, made-front, upto-self as upto-self-point}
+use Rattle.markdown.specs.MadeLemmas.{made-new, made-enter-at, made-exit-at, made-front, made-linked, made-kept, upto-self as upto-self-point}
+use Rattle.markdown_base.specs.Events.{unlinked, HasFrontUpToLinks}
+use Rattle.markdown.specs.Links.{linked_to, updated_at, with_next, with_previous}
+use Rattle.std.proofs.lemmas.List.{length-map}
 use Rattle.markdown.specs.Fields.{four, text_between, read-start, within, next-more, read-extended, extended-seats, nested-map, nested-wider, nested-front}
 use Rattle.markdown.specs.Sight.{sight}
 use Rattle.markdown.specs.Steps.{end-place-in, here-left, here-is, left-is}
@@ -58,9 +61,11 @@ text-more g text piece h fits = record {
     gap-start : (b : Bool) (w : Text) → w.start ≡ text.start → (cond b text w).start ≡ text.start
     gap-start true w e = refl
     gap-start false w e = e
+
     start-same : (p : Piece) → (followed_by g text p).start ≡ text.start
     start-same (pushed from to) = refl
     start-same (passed p) = gap-start (denotes_same g.tab g.bytes p text.end) (record { start = text.start; seats = text.seats; end = p }) refl
+
     starts-same : (p : Piece) → IsPointOf g.tab g.bytes text.start → IsPointOf g.tab g.bytes (followed_by g text p).start
     starts-same p s = subst (IsPointOf g.tab g.bytes) (sym (start-same p)) s
 
@@ -371,3 +376,39 @@ module _ (bytes : List ℕ) (p : Point) (h : IsPointOf TAB bytes p) where
 
   pub start-made : IsMade bytes [] [] (shown bytes p) (shown bytes p)
   start-made = made-new bytes (shown bytes p) (shown bytes p) (upto-self-point (shown bytes p)) (shown-shown TAB bytes p) (shown-shown TAB bytes p)
+
+-- links are no part of what was made
+updated-unlinked : (i : ℕ) (f : Event → Event) → ((e : Event) → unlinked (f e) ≡ unlinked e) → (events : List Event) → map unlinked (updated_at i f events) ≡ map unlinked events
+updated-unlinked i f same [] = refl
+updated-unlinked zero f same (e ∷ es) = ap (λ (x : Event). x ∷ map unlinked es) (same e)
+updated-unlinked (suc i) f same (e ∷ es) = ap (λ (xs : List Event). unlinked e ∷ xs) (updated-unlinked i f same es)
+
+pub linked-unlinked : (previous next : ℕ) (events : List Event) → map unlinked (linked_to previous next events) ≡ map unlinked events
+linked-unlinked previous next events =
+    updated-unlinked next (with_previous previous) (λ e. refl) (updated_at previous (with_next next) events) ∙ updated-unlinked previous (with_next next) (λ e. refl) events
+
+module _ {M R D : Type 0} (t : Inside M R D) (sound : IsSound t) (previous next : ℕ) (events : List Event) (is : events ≡ linked_to previous next t.events.items) where
+  events-unlinked : map unlinked events ≡ map unlinked t.events.items
+  events-unlinked = ap (map unlinked) is ∙ linked-unlinked previous next t.events.items
+
+  same-length : length events ≡ length t.events.items
+  same-length = sym (length-map events unlinked) ∙ ap length events-unlinked ∙ length-map t.events.items unlinked
+
+  pub linked-made : IsMade t.parse_state.now.bytes.now events t.stack.items (shown t.parse_state.now.bytes.now t.left) (shown t.parse_state.now.bytes.now t.left)
+  linked-made = made-linked t.events.items events (sym events-unlinked) t.parse_state.now.bytes.now t.stack.items (shown t.parse_state.now.bytes.now t.left) (shown t.parse_state.now.bytes.now t.left) sound.made
+
+  front-kept : HasFrontUpToLinks events t.events.items
+  front-kept = ap (λ (xs : List Event). map unlinked xs) (take_all (length t.events.items) events (omega (arith, same-length))) ∙ events-unlinked
+
+  pub linked-marks : AreNested (IsProgress t.parse_state.now.bytes.now (text_of t) events t.stack.items t.closed) (length events) (length t.stack.items) (reverse t.marks.items)
+  linked-marks =
+      let P = IsProgress t.parse_state.now.bytes.now (text_of t) t.events.items t.stack.items t.closed in
+      let Q = IsProgress t.parse_state.now.bytes.now (text_of t) events t.stack.items t.closed in
+      nested-wider Q (length t.events.items) (length t.stack.items) (length events) (length t.stack.items) (reverse t.marks.items) (omega (arith, same-length)) (omega arith)
+      (nested-map P Q (length t.events.items) (length t.stack.items) (reverse t.marks.items)
+      (λ p a b h. record {
+        read = h.read;
+        ended = h.ended;
+        made = made-kept t.parse_state.now.bytes.now t.events.items events p.events_len (take p.stack_len t.stack.items)
+            (shown t.parse_state.now.bytes.now p.left) (shown t.parse_state.now.bytes.now p.left) a front-kept h.made;
+      }) sound.marks)

@@ -9,10 +9,12 @@ use Rattle.markdown.specs.declared.waiting.Waits.{Waits}
 use Rattle.markdown.specs.declared.waiting.Waits.TheVariants.{Nothing}
 use Rattle.markdown.specs.declared.waiting.AttemptKind.{AttemptKind}
 use Rattle.markdown.specs.Text.{Given, Text}
+use Rattle.markdown.specs.Edits.{Edit}
 
 -- What states may write, beside events and stack
 pub record Local (R D : Type 0) : Type 0 where
   pub tokenize_state : TokenizeState D
+  pub map : List Edit
   pub resolvers : List R
   pub interrupt : Bool
   pub concrete : Bool
@@ -111,6 +113,7 @@ start_configuration flag = record {
   stack = [];
   local = record {
     tokenize_state = record start_state { document_at_first_paragraph_of_list_item = flag };
+    map = [];
     resolvers = [];
     interrupt = false;
     concrete = false;

@@ -1,15 +1,19 @@
 -- What pushing and flushing mean.
-use Rattle.std.specs.Prelude.{◌≡◌, ◌≢◌, ◌+◌, ◌≤◌, ◌⊎◌, ℕ, List, [], Bool, true, false, length, sum_by, ◌↔◌, Contains}
+use Rattle.std.specs.Prelude.{◌≡◌, ◌≢◌, ◌+◌, ◌≤◌, ◌⊎◌, ℕ, List, [], ◌∷◌, Option, Some, Bool, true, false, length, sum_by, ◌↔◌, Contains}
+use Rattle.markdown_base.specs.declared.configuration.ParseOptions.{ParseOptions}
+use Rattle.markdown_base.specs.declared.event.Event.{Event}
 use Rattle.markdown_base.specs.declared.event.Point.{Point}
 use Rattle.markdown_base.specs.declared.message.Message.{Message}
 use Rattle.markdown_base.specs.declared.state.Name.{Name}
 use Rattle.markdown_base.specs.declared.state.State.{State}
 use Rattle.markdown_base.specs.declared.state.State.TheVariants.{Next, Error, Ok}
+use Rattle.markdown_base.specs.Virtual.{point, virtual, document_end}
+use Rattle.markdown_base.specs.Places.{is_upto, point_at}
 use Rattle.markdown_base.specs.Events.{IsBalanced, IsVoidTight, IsInOrder}
 use Rattle.markdown.specs.declared.subtokenize.Subresult.{Subresult}
 use Rattle.markdown.specs.declared.waiting.Waits.TheVariants.{Nothing}
 use Rattle.markdown.specs.Text.{Given, Text, Piece, IsText, pushed, CanFollow, followed_by, followed_by_all}
-use Rattle.markdown.specs.Configuration.{Configuration, Local, Choice, Step, Seen}
+use Rattle.markdown.specs.Configuration.{Configuration, Local, Choice, Step, Seen, start_configuration}
 use Rattle.markdown.specs.Sight.{Sight}
 use Rattle.markdown.specs.Reading.{Reading, EndsIn}
 
@@ -24,6 +28,7 @@ module _ {R D : Type 0} where
     stack = k.stack;
     local = record {
       tokenize_state = record k.local.tokenize_state { definitions = []; gfm_footnote_definitions = [] };
+      map = k.local.map;
       resolvers = k.local.resolvers;
       interrupt = k.local.interrupt;
       concrete = k.local.concrete;
@@ -96,3 +101,41 @@ pub record IsWellFormed (bytes : List ℕ) {R D : Type 0} (k : Configuration R D
   pub balanced : IsBalanced k.events
   pub void_tight : IsVoidTight k.events
   pub in_order : IsInOrder bytes k.events
+
+-- what a machine may read of a document: tab stops stand at every 4 columns
+abbrev pub given_by : List ℕ → ParseOptions → Given
+given_by bytes options = record { bytes = bytes; options = options; tab = 4 }
+
+-- the whole virtual text of the document
+abbrev pub whole_text : Given → Text
+whole_text g = record { start = point 1 1 0 0; seats = virtual g.tab g.bytes; end = document_end g.tab g.bytes }
+
+-- places of the document, given by index and number in a tab, none before the one in front of it, and the first not before this place
+abbrev pub FollowInOrder : (t : ℕ) → List ℕ → Point → List (ℕ × ℕ) → Type 0
+FollowInOrder t bytes p [] = Unit {0}
+FollowInOrder t bytes p (place ∷ places) = (q : Point) × (point_at t bytes place ≡ Some q) × (is_upto t bytes p q ≡ true) × FollowInOrder t bytes q places
+
+-- places at which a document can be cut, in order
+abbrev pub AreCuts : (t : ℕ) → List ℕ → List (ℕ × ℕ) → Type 0
+AreCuts t bytes cuts = FollowInOrder t bytes (point 1 1 0 0) cuts
+
+module _ {R D : Type 0} (g : Given) (step : Sight → Configuration R D → Name → Step R D) where
+  -- reading the whole text from the start, with a start name, ends in this
+  abbrev pub StartEndsIn : Name → Reading R D → Type 0
+  StartEndsIn start r = EndsIn g step (whole_text g) 0 (start_configuration false) [] (Next start) r
+
+  -- What a run answers: events and definitions of the one reading of the whole text, which takes no more calls than its cost
+  pub record IsRun (cost : Text → Configuration R D → State → ℕ) (start : Name) (list : List Event) (sub : Subresult) : Type 0 where
+    pub result : Reading R D
+    pub ends : StartEndsIn start result
+    pub well : result.answer ≡ Ok
+    pub events : list ≡ result.configuration.events
+    pub well_formed : IsWellFormed g.bytes result.configuration
+    pub definitions : sub ≡ found result.configuration
+    pub within : result.calls ≤ cost (whole_text g) (start_configuration false) (Next start)
+
+  -- A run was refused with this message, in which the reading of the whole text ends
+  pub record IsRunRefused (start : Name) (m : Message) : Type 0 where
+    pub result : Reading R D
+    pub ends : StartEndsIn start result
+    pub message : result.answer ≡ Error m

@@ -70,6 +70,7 @@ seen t =
         stack = t.stack.items;
         local = record {
           tokenize_state = t.tokenize_state;
+          map = t.map;
           resolvers = t.resolvers.items;
           interrupt = t.interrupt;
           concrete = t.concrete;

@@ -1,10 +1,13 @@
 //! The tokenizer: it feeds the virtual bytes of a document to the states of a machine.
 
+mod reading;
+
 use crate::count::Calls;
 use crate::cursor::{end_of, is_before, seat_at, shown};
 use crate::parser::ParseState;
 use crate::state::{MachineTypes, State};
-use crate::subtokenize::Subresult;
+use crate::subtokenize::{self, Subresult};
+use crate::util::edit_map::EditMap;
 use crate::waiting::{Mark, Waits};
 use markdown_base::event::{Content, Event, Kind, Link, Name, Point};
 use markdown_base::message::Message;
@@ -179,6 +182,8 @@ pub struct Tokenizer<'a, M: MachineTypes> {
     pub pierce: bool,
     /// Whether the line is lazy.
     pub lazy: bool,
+    /// Edits of the events, which wait until they are consumed.
+    pub map: EditMap,
     parse_state: &'a ParseState<'a, M>,
     start: Point,
     end: (usize, usize),
@@ -208,13 +213,14 @@ impl<'a, M: MachineTypes> Model for Tokenizer<'a, M> {
     ghost invariant = { IsSound };
 }
 
-ghost use Rattle.std.specs.Prelude.{◌≡◌, ◌≢◌, ◌+◌, ◌*◌, ◌^◌, ◌++◌, ◌∷◌, ◌<◌, ◌≤◌, [], List, false, true, length, IfOk, OnOk, OnErr, None, Some, IsTrue};
+ghost use Rattle.std.specs.Prelude.{◌≡◌, ◌≢◌, ◌+◌, ◌-◌, ◌*◌, ◌^◌, ◌++◌, ◌∷◌, ◌<◌, ◌≤◌, [], List, false, true, length, IfOk, OnOk, OnErr, None, Some, IsTrue};
 ghost use Rattle.std.specs.Bool.{OnTrue, OnFalse};
 ghost use Rattle.markdown_base.specs.Places.{IsPointOf, point_at};
 ghost use Rattle.markdown.specs.Text.{FitsAfter, followed_by, pushed, empty_text};
 ghost use Rattle.markdown.specs.Configuration.{at_configuration, start_state, start_seen};
 ghost use Rattle.markdown.specs.Sight.{sight};
-ghost use Rattle.markdown.specs.Calls.{consumed, entered, exited, CanExit};
+ghost use Rattle.markdown.specs.Links.{CanLink, linked_to};
+ghost use Rattle.markdown.specs.Calls.{consumed, entered, exited, linked, CanExit};
 ghost use Rattle.markdown.specs.Reading.{fed};
 ghost use Rattle.markdown.specs.Engine.{found, taken, IsWellFormed};
 ghost use Rattle.markdown.specs.Work.{IsInText, IsSettled, extended};
@@ -267,6 +273,14 @@ impl<D: Drop> TokenizeState<D> {
     }
 }
 
+/// As `link_to`, on a `Vec`.
+fn link_items(events: &mut Vec<Event>, previous: usize, next: usize)
+    requires can_link { CanLink events.old.items previous next }
+    ensures { events.new.items ≡ linked_to previous next events.old.items }
+{
+    subtokenize::link_to(events.as_mut_slice(), previous, next);
+}
+
 impl<'a, M: MachineTypes> Tokenizer<'a, M> {
     /// A tokenizer that has read nothing, from this place of the document on. Takes no memory.
     ///
@@ -277,6 +291,7 @@ impl<'a, M: MachineTypes> Tokenizer<'a, M> {
         ensures { result ≡ start_seen (record { bytes = parse_state.now.bytes.now; options = parse_state.now.options.now; tab = 4 }) parse_state.now.machine.now (empty_text point) }
     {
         let tokenize_state = TokenizeState::new(alloc);
+        let map = EditMap::new(alloc);
         let events = Vec::new(alloc);
         let stack = Vec::new(alloc);
         let resolvers = Vec::new(alloc);
@@ -288,6 +303,7 @@ impl<'a, M: MachineTypes> Tokenizer<'a, M> {
             concrete: false,
             pierce: false,
             lazy: false,
+            map,
             parse_state,
             start: point,
             end: (point.index, point.vs),
@@ -311,79 +327,6 @@ impl<'a, M: MachineTypes> Tokenizer<'a, M> {
         ensures { self.new ≡ record self.old { calls = self.old.calls + 1 } }
     {
         self.calls = self.calls.next();
-    }
-
-    /// The events so far.
-    pub fn events(&self) -> &[Event]
-        ensures { result.now ≡ self.now.configuration.events }
-    {
-        self.events.as_slice()
-    }
-
-    /// The names of the open spans, the innermost last.
-    pub fn stack(&self) -> &[Name]
-        ensures { result.now ≡ self.now.configuration.stack }
-    {
-        self.stack.as_slice()
-    }
-
-    /// The place of the byte that waits, of the text's end while that waits, and else the place after the byte before.
-    pub fn point(&self) -> Point
-        ensures { result ≡ (sight self.now.given self.now.text self.now.configuration).point }
-    {
-        self.point
-    }
-
-    /// The byte before, if one was read. A byte that a gap passes is never there.
-    pub fn previous(&self) -> Option<u8>
-        ensures { result ≡ (sight self.now.given self.now.text self.now.configuration).previous }
-    {
-        self.previous
-    }
-
-    /// The byte that waits, if one does.
-    pub fn current(&self) -> Option<u8>
-        ensures { result ≡ (sight self.now.given self.now.text self.now.configuration).current }
-    {
-        self.current
-    }
-
-    /// The document, the options and the machine.
-    pub fn parse_state(&self) -> &'a ParseState<'a, M>
-        ensures bytes { result.now.bytes.now ≡ self.now.given.bytes }
-        ensures options { result.now.options.now ≡ self.now.given.options }
-        ensures machine { result.now.machine.now ≡ self.now.machine }
-    {
-        self.parse_state
-    }
-
-    /// The events, and no tokenizer any more. Takes no memory.
-    pub fn into_events(self) -> Vec<Event>
-        ensures { result.items ≡ self.entry.configuration.events }
-    {
-        let Tokenizer {
-            tokenize_state: _,
-            interrupt: _,
-            concrete: _,
-            pierce: _,
-            lazy: _,
-            parse_state: _,
-            start: _,
-            end: _,
-            left: _,
-            point: _,
-            waits: _,
-            ended: _,
-            previous: _,
-            current: _,
-            events,
-            stack: _,
-            resolvers: _,
-            marks: _,
-            closed: _,
-            calls: _,
-        } = self;
-        events
     }
 
     /// Consumes the byte that waits. Takes no memory.
@@ -456,6 +399,25 @@ impl<'a, M: MachineTypes> Tokenizer<'a, M> {
         })?;
         let _ = self.stack.pop();
         Ok(())
+    }
+
+    /// Links the event at `index`, an index into the events, to the one two places before it, as `link_to` does. Takes no memory.
+    pub fn link(&mut self, index: usize)
+        requires behind { 2 ≤ index }
+        requires can_link { CanLink self.old.configuration.events (index - 2) index }
+        ensures { self.new ≡ at_configuration self.old (linked (index - 2) index self.old.configuration) }
+    {
+        self.link_to(index - 2, index);
+    }
+
+    /// Links two events, given by their indices: `next` becomes the next of `previous`, and that one its previous. Takes no memory.
+    ///
+    /// Both are enters of void spans with links of one content, and `previous` is before `next` and directly followed by its exit.
+    pub fn link_to(&mut self, previous: usize, next: usize)
+        requires can_link { CanLink self.old.configuration.events previous next }
+        ensures { self.new ≡ at_configuration self.old (linked previous next self.old.configuration) }
+    {
+        link_items(&mut self.events, previous, next);
     }
 
     /// The next byte waits, if there is one.

@@ -1,24 +1,65 @@
 //! The work of a tokenizer: states are called until a range is used up, or until the reading has ended.
 
-ghost use Rattle.std.specs.Prelude.{◌≡◌, ◌≢◌, ◌+◌, ◌≤◌, List, [], false, true, IfOk, IfErr, IsErrOf, IsSome, IsTrue};
+ghost use Rattle.std.specs.Prelude.{◌≡◌, ◌≢◌, ◌+◌, ◌*◌, ◌^◌, ◌≤◌, ◌<◌, Contains, length, List, [], false, true, IfOk, IfErr, IsErrOf, IsSome, IsTrue};
 ghost use Rattle.markdown_base.specs.declared.event.Point.{Point};
 ghost use Rattle.markdown_base.specs.Places.{point_at};
 ghost use Rattle.markdown.specs.declared.waiting.Waits.TheVariants.{Nothing, End};
 ghost use Rattle.markdown.specs.Text.{FitsAfter, pushed, IsText};
 ghost use Rattle.markdown.specs.Sight.{sight};
 ghost use Rattle.markdown.specs.Lawful.{IsCalled};
-ghost use Rattle.markdown.specs.Engine.{LeadsOn, IsPushed, IsFlushed, IsRefused, IsWellFormed, HasOneEnd, budget};
+ghost use Rattle.markdown.specs.Engine.{LeadsOn, IsPushed, IsFlushed, IsRefused, IsWellFormed, HasOneEnd, budget, AreCuts, IsRun, IsRunRefused, given_by};
 ghost use Rattle.markdown.specs.Work.{answer_in, HoldsAll, LeadsAll, OnlyWorked, Stops, TakesUp};
 
+use crate::parser::ParseState;
 use crate::state::{Machine, Name, State};
 use crate::subtokenize::Subresult;
 use crate::tokenizer::{Fault, Tokenizer};
+use markdown_base::event::{Event, Point};
 use std::alloc::{AllocError, Global};
 
 /// A lawful machine reads each text in one way, within its cost.
 pub fn reads_in_one_way<M: Machine>()
     ensures { (m : _) (g : _) → HasOneEnd g (M.step m g) (M.holds m g) (M.cost m g) (M.reserve m g) }
 {}
+
+/// Reads a whole document, cut at these places: pushes one range up to each, and one up to the end, and flushes.
+///
+/// `start` is a state with which the machine may start. The cuts are places, each an index and a number in a tab, in an
+/// order that never decreases. `resolve` is false. The answer has no trace of the cuts. `Message` is answered exactly
+/// where the reading ends in that message; `Failed` never.
+pub fn run<M: Machine>(
+    alloc: Global,
+    parse_state: &ParseState<M>,
+    start: Name,
+    cuts: &[(usize, usize)],
+    resolve: bool,
+) -> Result<(Vec<Event>, Subresult), Fault>
+    requires limit { 4 * length parse_state.now.bytes.now + 1 < 2 ^ 64 }
+    requires start { Contains (M.starts parse_state.now.machine.now) start }
+    requires cuts { AreCuts 4 parse_state.now.bytes.now cuts.now }
+    requires resolve { resolve ≡ false }
+    ensures ok { IfOk result (λ answer. let g = given_by parse_state.now.bytes.now parse_state.now.options.now in IsRun g (M.step parse_state.now.machine.now g) (M.cost parse_state.now.machine.now g) start answer.0.items answer.1) }
+    ensures message { (m : _) → IsErrOf result (Fault.Message m) → let g = given_by parse_state.now.bytes.now parse_state.now.options.now in IsRunRefused g (M.step parse_state.now.machine.now g) start m }
+    ensures err { IfErr result (λ fault. fault ≢ Fault.Failed) }
+{
+    let point = Point {
+        line: 1,
+        column: 1,
+        index: 0,
+        vs: 0,
+    };
+    let mut tokenizer = Tokenizer::new(alloc, point, parse_state);
+    let mut state = State::Next(start);
+    let mut from = (0, 0);
+    for cut in cuts {
+        state = tokenizer.push(alloc, from, *cut, state)?;
+        from = *cut;
+    }
+    let end = (parse_state.bytes.len(), 0);
+    let state = tokenizer.push(alloc, from, end, state)?;
+    let sub = tokenizer.flush(alloc, state, resolve)?;
+    Ok((tokenizer.into_events(), sub))
+}
 
 /// Whether a state ends a choice, and how.
 fn ending(state: &State) -> Option<bool>

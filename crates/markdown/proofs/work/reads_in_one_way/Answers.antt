@@ -1,4 +1,3 @@
-use Rattle.std.proofs.Common.{◌≡◌}
 use Rattle.markdown.proofs.Ends.{has-end}
 use Rattle.markdown.proofs.Readings.{one-end}
 use Rattle.markdown.proofs.work.reads_in_one_way.Goals as goal

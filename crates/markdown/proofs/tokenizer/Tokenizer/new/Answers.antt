@@ -33,6 +33,7 @@ returns g c =
     let stack = c.new-stack.ensures.items in
     let resolvers = c.new-resolvers.ensures.items in
     let marks = c.new-marks.ensures.items in
+    let map = c.new-map.ensures in
     let state = c.new-tokenize_state.ensures in
     let calls = c.new-calls.ensures in
-    rw (here, none, events, stack, resolvers, marks, state, calls) refl
+    rw (here, none, events, stack, resolvers, marks, map, state, calls) refl

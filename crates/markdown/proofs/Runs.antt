@@ -1,0 +1,367 @@
+-- A run over the whole document: where it begins and ends, and what it leads on to at each cut.
+use Rattle.std.proofs.Common.{◌≡◌, ◌≢◌, ◌+◌, ◌≤◌, ◌<◌, ◌==◌, ◌-◌, ℕ, zero, suc, List, [], ◌∷◌, ◌++◌, Bool, true, false, cond, Option, Some, None, length, ◌⊎◌, inl, inr, refl, sym, ap, ◌∙◌, arith, subst}
+use Rattle.std.specs.Prelude.{filter, find, slice_get, slice_index, nat_lt, ◌&&◌, ◌||◌, drop, get_or, Contains, Result, IsErrAnd, IfErr}
+use Rattle.std.specs.declared.result.Result.TheVariants as result
+use Rattle.std.specs.List.{flat_map}
+use Rattle.std.proofs.lemmas.Bool.Decides.{nat_tests}
+use Rattle.std.proofs.lemmas.Bool.{cases_lt}
+use Rattle.std.proofs.lemmas.List.{append-nil}
+use Rattle.markdown_base.specs.declared.event.Point.{Point}
+use Rattle.markdown_base.specs.declared.state.Name.{Name}
+use Rattle.markdown_base.specs.declared.state.State.{State}
+use Rattle.markdown_base.specs.declared.state.State.TheVariants.{Next}
+use Rattle.markdown_base.specs.Virtual.{Seat, point, virtual, begins_with_lf, end_after, document_end}
+use Rattle.markdown_base.specs.Places.{stands_before, shown, follows_cr, points, point_at, IsPointOf, is_upto, denotes_same}
+use Rattle.markdown.specs.Text.{Given, Text, Piece, pushed, in_range, empty_text, followed_by, followed_by_all, FitsAfter, CanFollow, IsText}
+use Rattle.markdown.specs.Configuration.{Configuration, Choice, Step, Seen, start_configuration, start_seen}
+use Rattle.markdown.specs.Sight.{Sight}
+use Rattle.markdown.specs.Lawful.{KeepsInvariant}
+use Rattle.markdown.specs.Engine.{LeadsOn, KeepsOutcome, IsPushed, IsFlushed, IsRefused, IsWellFormed, IsRun, IsRunRefused, AreCuts, budget, given_by, taken, whole_text, FollowInOrder}
+use Rattle.markdown.specs.Reading.{Reading, EndsIn}
+use Rattle.markdown.specs.declared.subtokenize.Subresult.{Subresult}
+use Rattle.markdown_base.specs.declared.configuration.ParseOptions.{ParseOptions}
+use Rattle.markdown_base.specs.declared.event.Event.{Event}
+use Rattle.markdown_base.specs.declared.message.Message.{Message}
+use Rattle.markdown.specs.Cursor.{rest_at, Every, IsPlace, IsNextSeat, Bounds}
+use Rattle.markdown.specs.Orders.{every-map, filter-every}
+use Rattle.markdown.specs.Seats.{seat-in-tab, seat-other, seat-cr, seat-crlf, rest-later}
+use Rattle.markdown.specs.Chains.{IsChain, whole-chain}
+use Rattle.markdown.specs.Standing.{end-place, place-of-point, rest-after}
+use Rattle.markdown.specs.SeatLaws.{end-is-point}
+use Rattle.markdown.specs.Cursors.{upto-order, upto-self, same-self, range-empty, range-extended}
+use Rattle.markdown.proofs.Working.{leads-trans, leads-refl, text-on, holds-on}
+
+-- where a search comes to, among places of seats that it does not want
+abbrev is_at : ℕ × ℕ → Point → Bool
+is_at place p = (p.index == place.0) && (p.vs == place.1)
+
+find-contains : {A : Type 0} (f : A → Bool) (xs : List A) (x : A) → find f xs ≡ Some x → Contains xs x
+find-contains f [] x e = absurd (cc)
+find-contains f (y ∷ ys) x e = elim (f y) as (λ b. cond b (Some y) (find f ys) ≡ Some x → Contains (y ∷ ys) x) [
+  | true ↦ λ h. (0, omega arith, (cc))
+  | false ↦ λ h. let c = find-contains f ys x h in let lt = c.1 in (suc c.0, omega arith, c.2)
+] e
+
+-- a place that is found is one of the document
+pub found-place : (t : ℕ) (bytes : List ℕ) (place : ℕ × ℕ) (p : Point) → point_at t bytes place ≡ Some p → IsPointOf t bytes p
+found-place t bytes place p e = find-contains (is_at place) (points t bytes) p e
+
+start-found : (bytes : List ℕ) (xs : List Seat) → IsChain 4 bytes (point 1 1 0 0) xs
+    → find (is_at (0, 0)) (flat_map (λ s. shown bytes s.point ∷ s.point ∷ []) xs ++ end_after (point 1 1 0 0) xs ∷ []) ≡ Some (point 1 1 0 0)
+start-found bytes [] c = refl
+start-found bytes (s ∷ ss) c =
+    let is = c.1.shown_is in
+    rw is refl
+
+-- a document begins at its first place
+pub start-at : (bytes : List ℕ) → point_at 4 bytes (0, 0) ≡ Some (point 1 1 0 0)
+start-at bytes = start-found bytes (virtual 4 bytes) (whole-chain 4 bytes (omega arith))
+
+pub start-upto : (bytes : List ℕ) (p : Point) → is_upto 4 bytes (point 1 1 0 0) p ≡ true
+start-upto bytes p = upto-order 4 bytes (point 1 1 0 0) p (grind (arith, nat_tests))
+
+some-seat : (bytes : List ℕ) (p : Point) (r : ℕ × Point) → IsNextSeat 4 bytes p (Some r) → rest_at 4 bytes p ≡ [] → ⊥
+some-seat bytes p r n e = let f = sym n.1.is ∙ e in absurd (cc)
+
+cr-comes : (bytes : List ℕ) (p : Point) (y : Bool) → (slice_index bytes (suc p.index) == 10) ≡ y → p.vs ≡ 0 → p.index < length bytes → slice_index bytes p.index ≡ 13
+    → rest_at 4 bytes p ≡ [] → (suc p.index < length bytes) ⊎ (length bytes ≤ suc p.index) → ⊥
+cr-comes bytes p y f v lt cr none (inr ge) =
+    some-seat bytes p (10, p) (seat-cr 4 bytes p (omega arith) v lt cr (λ h. absurd (omega arith))) none
+cr-comes bytes p false f v lt cr none (inl more) =
+    let next : p.index + 1 ≡ suc p.index = omega arith in
+    some-seat bytes p (10, p) (seat-cr 4 bytes p (omega arith) v lt cr (λ h k. let k' : slice_index bytes (suc p.index) ≡ 10 = ap (slice_index bytes) (sym next) ∙ k in absurd (grind (arith, nat_tests)))) none
+cr-comes bytes p true f v lt cr none (inl more) =
+    let lf : slice_index bytes (suc p.index) ≡ 10 = grind (arith, nat_tests) in
+    some-seat bytes p (10, point p.line p.column (suc p.index) p.vs) (seat-crlf 4 bytes p v more cr lf) none
+
+-- inside the document a virtual byte comes
+rest-comes : (bytes : List ℕ) (p : Point) (x : Bool) (y : Bool) → (slice_index bytes p.index == 13) ≡ x → (slice_index bytes (suc p.index) == 10) ≡ y
+    → p.vs ≡ 0 → p.index < length bytes → rest_at 4 bytes p ≡ [] → ⊥
+rest-comes bytes p false y e f v lt none =
+    let not_cr : slice_index bytes p.index ≢ 13 = grind (arith, nat_tests) in
+    some-seat bytes p (slice_index bytes p.index, p) (seat-other 4 bytes p (omega arith) v lt not_cr) none
+rest-comes bytes p true y e f v lt none =
+    let cr : slice_index bytes p.index ≡ 13 = grind (arith, nat_tests) in
+    cr-comes bytes p y f v lt cr none (cases_lt (suc p.index) (length bytes))
+
+tab-comes : (bytes : List ℕ) (p : Point) → Bounds 4 bytes p → 0 < p.vs → rest_at 4 bytes p ≡ [] → ⊥
+tab-comes bytes p b v none = some-seat bytes p (32, p) (seat-in-tab 4 bytes p (omega arith) v (b.tab v)) none
+
+-- where nothing is left, a place is at the end of the bytes
+nothing-left : (bytes : List ℕ) (p : Point) → Bounds 4 bytes p → rest_at 4 bytes p ≡ [] → (p.index ≡ length bytes) × (p.vs ≡ 0)
+nothing-left bytes p b none =
+    let flat : p.vs ≡ 0 = elim (cases_lt 0 p.vs) [ inl v ↦ absurd (tab-comes bytes p b v none) | inr v ↦ omega arith ] in
+    let inside = b.inside in (
+      (elim (cases_lt p.index (length bytes)) [
+        | inl lt ↦ absurd (rest-comes bytes p (slice_index bytes p.index == 13) (slice_index bytes (suc p.index) == 10) refl refl flat lt none)
+        | inr ge ↦ omega arith
+      ]),
+      flat,
+    )
+
+end-numbers : (bytes : List ℕ) → ((document_end 4 bytes).index ≡ length bytes) × ((document_end 4 bytes).vs ≡ 0)
+end-numbers bytes = nothing-left bytes (document_end 4 bytes) (end-place 4 bytes (omega arith)).bounds
+    (rest-after 4 bytes (omega arith) (virtual 4 bytes) [] (sym (append-nil (virtual 4 bytes))))
+
+not-shown-at-end : (bytes : List ℕ) (p : Point) (b : Bool) (n : ℕ) → p.index < n → is_at (n, 0) (cond b (record { line = p.line; column = p.column; index = p.index - 1; vs = p.vs }) p) ≡ false
+not-shown-at-end bytes p true n lt = grind (arith, nat_tests)
+not-shown-at-end bytes p false n lt = grind (arith, nat_tests)
+
+not-at-end : (p : Point) (n : ℕ) → p.index < n → is_at (n, 0) p ≡ false
+not-at-end p n lt = grind (arith, nat_tests)
+
+end-found-at : (bytes : List ℕ) (n : ℕ) (e : Point) (p : Point) (xs : List Seat) → n ≡ length bytes → is_at (n, 0) e ≡ true → IsChain 4 bytes p xs
+    → find (is_at (n, 0)) (flat_map (λ s. shown bytes s.point ∷ s.point ∷ []) xs ++ e ∷ []) ≡ Some e
+end-found-at bytes n e p [] is at c = rw at refl
+end-found-at bytes n e p (s ∷ ss) is at c =
+    let inside = c.1.inside in
+    let lt : s.point.index < n = omega arith in
+    let one = not-shown-at-end bytes s.point ((slice_index bytes s.point.index == 10) && follows_cr bytes s.point.index) n lt in
+    let two = not-at-end s.point n lt in
+    rw (one, two) (end-found-at bytes n e s.end ss is at c.2)
+
+at-numbers : (p : Point) (n : ℕ) → (p.index ≡ n) → (p.vs ≡ 0) → is_at (n, 0) p ≡ true
+at-numbers p n e f = grind (arith, nat_tests)
+
+-- a document ends at its last place
+pub end-at : (bytes : List ℕ) → point_at 4 bytes (length bytes, 0) ≡ Some (document_end 4 bytes)
+end-at bytes =
+    let numbers = end-numbers bytes in
+    end-found-at bytes (length bytes) (document_end 4 bytes) (point 1 1 0 0) (virtual 4 bytes) refl (at-numbers (document_end 4 bytes) (length bytes) numbers.0 numbers.1) (whole-chain 4 bytes (omega arith))
+
+not-after-end : (i v n w : ℕ) (p : ℕ) (q : ℕ) → p ≡ n → q ≡ 0 → i ≤ n → v ≡ v → (0 < v → i < n) → (nat_lt p i || ((p == i) && nat_lt q v)) ≡ false
+not-after-end i v n w p q e f le g lt = elim (cases_lt 0 v) [ inl h ↦ (let k = lt h in grind (arith, nat_tests)) | inr h ↦ grind (arith, nat_tests) ]
+
+pub end-upto : (bytes : List ℕ) (p : Point) → IsPointOf 4 bytes p → is_upto 4 bytes p (document_end 4 bytes) ≡ true
+end-upto bytes p h =
+    let b = (place-of-point 4 bytes (omega arith) p h).bounds in
+    let numbers = end-numbers bytes in
+    let e = document_end 4 bytes in
+    upto-order 4 bytes p e (not-after-end p.index p.vs (length bytes) 0 e.index e.vs numbers.0 numbers.1 b.inside refl b.tab)
+
+-- the text up to a place
+abbrev pub text_upto : Given → Point → Text
+text_upto given p = record { start = point 1 1 0 0; seats = filter (in_range (point 1 1 0 0) p) (virtual given.tab given.bytes); end = p }
+
+first-in : (s : Seat) (e : Point) → stands_before s.point e ≡ true → in_range (point 1 1 0 0) e s ≡ true
+first-in s e h = let first : stands_before s.point (point 1 1 0 0) ≡ false = grind (arith, nat_tests) in rw (first, h) refl
+
+-- every place of a document with tab stops at every 4 columns
+module _ (given : Given) (four : given.tab ≡ 4) where
+  place-on : (p : Point) → IsPointOf given.tab given.bytes p → IsPlace given.tab given.bytes p
+  place-on p h = place-of-point given.tab given.bytes (omega (arith, four)) p h
+
+  pub start-is-point : IsPointOf given.tab given.bytes (point 1 1 0 0)
+  start-is-point = found-place given.tab given.bytes (0, 0) (point 1 1 0 0) (subst (λ (t : ℕ). point_at t given.bytes (0, 0) ≡ Some (point 1 1 0 0)) (sym four) (start-at given.bytes))
+
+  start-upto-on : (p : Point) → is_upto given.tab given.bytes (point 1 1 0 0) p ≡ true
+  start-upto-on p = subst (λ (t : ℕ). is_upto t given.bytes (point 1 1 0 0) p ≡ true) (sym four) (start-upto given.bytes p)
+
+  start-text : empty_text (point 1 1 0 0) ≡ text_upto given (point 1 1 0 0)
+  start-text = ap (λ (s : List Seat). record { start = point 1 1 0 0; seats = s; end = point 1 1 0 0 }) (sym (range-empty given.tab given.bytes (point 1 1 0 0)))
+
+  upto-fits : (p q : Point) → IsPointOf given.tab given.bytes p → IsPointOf given.tab given.bytes q → is_upto given.tab given.bytes p q ≡ true → FitsAfter given (text_upto given p) (pushed p q)
+  upto-fits p q h k e = (h, k, same-self given.tab given.bytes p, e)
+
+  upto-text : (p q : Point) → IsPointOf given.tab given.bytes p → is_upto given.tab given.bytes p q ≡ true → followed_by given (text_upto given p) (pushed p q) ≡ text_upto given q
+  upto-text p q h e = ap (λ (s : List Seat). record { start = point 1 1 0 0; seats = s; end = q }) (sym (range-extended given.tab given.bytes (point 1 1 0 0) p q (place-on p h) (start-upto-on p) e))
+
+  whole-is : text_upto given (document_end given.tab given.bytes) ≡ whole_text given
+  whole-is =
+      let e = document_end given.tab given.bytes in
+      let place = end-place given.tab given.bytes (omega (arith, four)) in
+      let none = rest-after given.tab given.bytes (omega (arith, four)) (virtual given.tab given.bytes) [] (sym (append-nil (virtual given.tab given.bytes))) in
+      let all : virtual given.tab given.bytes ≡ place.before = place.splits ∙ ap (λ (ys : List Seat). place.before ++ ys) none ∙ append-nil place.before in
+      let behind = subst (Every (λ s. stands_before s.point e ≡ true)) (sym all) place.behind in
+      ap (λ (s : List Seat). record { start = point 1 1 0 0; seats = s; end = e })
+      (filter-every (in_range (point 1 1 0 0) e) (virtual given.tab given.bytes)
+      (every-map (λ s. stands_before s.point e ≡ true) (λ s. in_range (point 1 1 0 0) e s ≡ true) (λ s h. first-in s e h) (virtual given.tab given.bytes) behind))
+
+drop-get : {A : Type 0} (xs : List A) (n : ℕ) (d : A) → n < length xs → drop n xs ≡ get_or xs n d ∷ drop (suc n) xs
+drop-get [] n d lt = absurd (omega arith)
+drop-get (y ∷ ys) zero d lt = refl
+drop-get (y ∷ ys) (suc n) d lt = drop-get ys n d (omega arith)
+
+pub err-if : {T E : Type 0} (r : Result T E) (P Q : E → Type 0) → ((e : E) → P e → Q e) → IsErrAnd r P → IfErr r Q
+err-if (result.Ok v) P Q f h = tt
+err-if (result.Err e) P Q f h = f e h
+
+untaken-formed : {R D : Type 0} (bytes : List ℕ) (k : Configuration R D) → IsWellFormed bytes (taken k) → IsWellFormed bytes k
+untaken-formed bytes k h = record { balanced = h.balanced; void_tight = h.void_tight; in_order = h.in_order }
+
+-- where a run stands, with which cuts to come
+pub record Runs {M R D : Type 0} (bytes : List ℕ) (options : ParseOptions) (m : M) (step : Sight → Configuration R D → Name → Step R D) (holds : Text → Configuration R D → List Choice → State → Type 0)
+    (cost : Text → Configuration R D → State → ℕ) (reserve : Text → Choice → ℕ) (start : Name) (from : ℕ × ℕ) (cuts : List (ℕ × ℕ)) (t : Seen M R D) (state : State) : Type 0 where
+  pub same_given : t.given ≡ given_by bytes options
+  pub machine : t.machine ≡ m
+  pub open_still : t.closed ≡ false
+  pub place : Point
+  pub place_is : point_at 4 bytes from ≡ Some place
+  pub text : t.text ≡ text_upto (given_by bytes options) place
+  pub outcome : KeepsOutcome (given_by bytes options) step holds cost reserve (start_seen (given_by bytes options) m (empty_text (point 1 1 0 0))) (Next start) t state
+  pub order : FollowInOrder 4 bytes place cuts
+
+module _ {M R D : Type 0} (step : M → Given → Sight → Configuration R D → Name → Step R D) (holds : M → Given → Text → Configuration R D → List Choice → State → Type 0)
+    (cost : M → Given → Text → Configuration R D → State → ℕ) (reserve : M → Given → Text → Choice → ℕ) where
+  abbrev pub RunsBy : List ℕ → ParseOptions → M → Name → ℕ × ℕ → List (ℕ × ℕ) → Seen M R D → State → Type 0
+  RunsBy bytes options m = let given = given_by bytes options in Runs bytes options m (step m given) (holds m given) (cost m given) (reserve m given)
+
+  abbrev StartsWith : List ℕ → ParseOptions → M → Seen M R D
+  StartsWith bytes options m = start_seen (given_by bytes options) m (empty_text (point 1 1 0 0))
+
+  abbrev LeadsIn : M → Given → Text → Seen M R D → State → Seen M R D → State → Type 0
+  LeadsIn m given = LeadsOn given (step m given) (holds m given) (cost m given) (reserve m given)
+
+  abbrev PushedBy : M → Given → Seen M R D → ℕ × ℕ → ℕ × ℕ → State → Seen M R D → State → Type 0
+  PushedBy m given t from to state u answer = (f q : Point) → point_at 4 given.bytes from ≡ Some f → point_at 4 given.bytes to ≡ Some q
+      → IsPushed given (step m given) (holds m given) (cost m given) (reserve m given) t f q state u answer
+
+  pub run-start : (bytes : List ℕ) (options : ParseOptions) (m : M) (starts : List Name) → (let given = given_by bytes options in KeepsInvariant given (step m given) (holds m given) starts)
+      → (start : Name) → Contains starts start → (cuts : List (ℕ × ℕ)) → AreCuts 4 bytes cuts → (t : Seen M R D) → t ≡ StartsWith bytes options m
+      → RunsBy bytes options m start (0, 0) cuts t (Next start)
+  run-start bytes options m starts keeps start among cuts order t e =
+      let given = given_by bytes options in
+      let first = start-is-point given refl in
+      let p = point 1 1 0 0 in
+      rw e (record {
+        same_given = refl;
+        machine = refl;
+        open_still = refl;
+        place = p;
+        place_is = start-at bytes;
+        text = start-text given refl;
+        outcome = λ rest can.
+            leads-refl given (step m given) (holds m given) (cost m given) (reserve m given) (followed_by_all given (empty_text p) rest) (StartsWith bytes options m) (Next start)
+            (holds-on given (step m given) (holds m given) starts keeps (empty_text p) rest (start_configuration false) [] (Next start)
+            (record { starts = first; pieces = []; follow = tt; is = refl }) can refl (keeps.at_starts p false start first among));
+        order = order;
+      })
+
+  -- the next cut is the first of those that are left
+  pub run-at : (bytes : List ℕ) (options : ParseOptions) (m : M) (start : Name) (from : ℕ × ℕ) (cuts : List (ℕ × ℕ)) (n : ℕ) (d : ℕ × ℕ) (t : Seen M R D) (state : State)
+      → n < length cuts → RunsBy bytes options m start from (drop n cuts) t state → RunsBy bytes options m start from (get_or cuts n d ∷ drop (n + 1) cuts) t state
+  run-at bytes options m start from cuts n d t state lt r =
+      let next : suc n ≡ n + 1 = omega arith in record {
+        same_given = r.same_given;
+        machine = r.machine;
+        open_still = r.open_still;
+        place = r.place;
+        place_is = r.place_is;
+        text = r.text;
+        outcome = r.outcome;
+        order = subst (λ (cs : List (ℕ × ℕ)). FollowInOrder 4 bytes r.place cs) (drop-get cuts n d lt ∙ ap (λ (k : ℕ). get_or cuts n d ∷ drop k cuts) next) r.order;
+      }
+
+  -- the last range ends at the document's end
+  pub run-last : (bytes : List ℕ) (options : ParseOptions) (m : M) (start : Name) (from : ℕ × ℕ) (cuts : List (ℕ × ℕ)) (t : Seen M R D) (state : State)
+      → RunsBy bytes options m start from cuts t state → RunsBy bytes options m start from ((length bytes, 0) ∷ []) t state
+  run-last bytes options m start from cuts t state r = record {
+    same_given = r.same_given;
+    machine = r.machine;
+    open_still = r.open_still;
+    place = r.place;
+    place_is = r.place_is;
+    text = r.text;
+    outcome = r.outcome;
+    order = (document_end 4 bytes, end-at bytes, end-upto bytes r.place (found-place 4 bytes from r.place r.place_is), tt);
+  }
+
+  module _ (bytes : List ℕ) (options : ParseOptions) (m : M) (start : Name) (from cut : ℕ × ℕ) (cuts : List (ℕ × ℕ)) (t : Seen M R D) (state : State)
+      (r : RunsBy bytes options m start from (cut ∷ cuts) t state) where
+    run-fits : FitsAfter (given_by bytes options) (text_upto (given_by bytes options) r.place) (pushed r.place r.order.0)
+    run-fits = upto-fits (given_by bytes options) refl r.place r.order.0 (found-place 4 bytes from r.place r.place_is) (found-place 4 bytes cut r.order.0 r.order.1) r.order.2
+
+    pub run-range : (f : Point) × (q : Point) × (point_at 4 t.given.bytes from ≡ Some f) × (point_at 4 t.given.bytes cut ≡ Some q) × FitsAfter t.given t.text (pushed f q)
+    run-range =
+        let e = r.same_given in let x = r.text in
+        rw (e, x) (r.place, r.order.0, r.place_is, r.order.1, run-fits)
+
+    run-text : (u : Seen M R D) → u.text ≡ followed_by (given_by bytes options) t.text (pushed r.place r.order.0) → u.text ≡ text_upto (given_by bytes options) r.order.0
+    run-text u e =
+        let given = given_by bytes options in
+        e ∙ ap (λ (x : Text). followed_by given x (pushed r.place r.order.0)) r.text
+        ∙ upto-text given refl r.place r.order.0 (found-place 4 bytes from r.place r.place_is) r.order.2
+
+    run-pushed-in : (u : Seen M R D) (answer : State) → PushedBy m (given_by bytes options) t from cut state u answer → RunsBy bytes options m start cut cuts u answer
+    run-pushed-in u answer pushes =
+        let given = given_by bytes options in
+        let q = r.order.0 in let piece = pushed r.place q in
+        let p = pushes r.place q r.place_is r.order.1 in
+        let mid = followed_by given t.text piece in
+        let fits = subst (λ (x : Text). FitsAfter given x piece) (sym r.text) run-fits in record {
+          same_given = p.given ∙ r.same_given;
+          machine = p.machine ∙ r.machine;
+          open_still = p.open_still;
+          place = q;
+          place_is = r.order.1;
+          text = run-text u p.text;
+          outcome = λ rest can.
+              let can_mid = subst (λ (x : Text). CanFollow given x rest) p.text can in
+              let first = r.outcome (piece ∷ rest) (fits, can_mid) in
+              let second = subst (λ (x : Text). LeadsIn m given (followed_by_all given x rest) t state u answer) p.text (p.outcome rest can) in
+              subst (λ (x : Text). LeadsIn m given (followed_by_all given x rest) (StartsWith bytes options m) (Next start) u answer) (sym p.text)
+              (leads-trans given (step m given) (holds m given) (cost m given) (reserve m given) (followed_by_all given mid rest) (StartsWith bytes options m) t u (Next start) state answer first second);
+          order = r.order.3;
+        }
+
+    pub run-pushed : (u : Seen M R D) (answer : State) → PushedBy t.machine t.given t from cut state u answer → RunsBy bytes options m start cut cuts u answer
+    run-pushed u answer pushes =
+        run-pushed-in u answer
+        (subst (λ (x : Given). PushedBy m x t from cut state u answer) r.same_given (subst (λ (x : M). PushedBy x t.given t from cut state u answer) r.machine pushes))
+
+  module _ (bytes : List ℕ) (options : ParseOptions) (m : M) (start : Name) (from : ℕ × ℕ) (cuts : List (ℕ × ℕ)) (t : Seen M R D) (state : State)
+      (r : RunsBy bytes options m start from cuts t state) where
+    pub run-holds : holds t.machine t.given t.text t.configuration t.choices state
+    run-holds =
+        subst (λ (x : M). holds x t.given t.text t.configuration t.choices state) (sym r.machine)
+        (subst (λ (x : Given). holds m x t.text t.configuration t.choices state) (sym r.same_given) ((r.outcome [] tt).kept))
+
+    -- what a reading ends in from here on, it ends in from the start on
+    run-ends : (q : Reading R D) → EndsIn t.given (step t.machine t.given) t.text t.calls t.configuration t.choices state q
+        → EndsIn (given_by bytes options) (step m (given_by bytes options)) t.text 0 (start_configuration false) [] (Next start) q
+    run-ends q e =
+        let given = given_by bytes options in
+        ((r.outcome [] tt).same q).0
+        (subst (λ (x : Given). EndsIn x (step m x) t.text t.calls t.configuration t.choices state q) r.same_given
+        (subst (λ (x : M). EndsIn t.given (step x t.given) t.text t.calls t.configuration t.choices state q) r.machine e))
+
+  module _ (bytes : List ℕ) (options : ParseOptions) (m : M) (start : Name) (t : Seen M R D) (state : State)
+      (r : RunsBy bytes options m start (length bytes, 0) [] t state) where
+    run-whole : t.text ≡ whole_text (given_by bytes options)
+    run-whole =
+        let given = given_by bytes options in
+        let last : Some r.place ≡ Some (document_end 4 bytes) = sym r.place_is ∙ end-at bytes in
+        let is : r.place ≡ document_end 4 bytes = (cc) in
+        r.text ∙ ap (text_upto given) is ∙ whole-is given refl
+
+    pub run-flushed : (v : Seen M R D) (list : List Event) (sub : Subresult) → IsFlushed t.given (step t.machine t.given) t state v sub
+        → v.calls ≤ budget (cost t.machine t.given) (reserve t.machine t.given) t.text t state → v.given ≡ t.given → IsWellFormed v.given.bytes v.configuration
+        → list ≡ v.configuration.events → IsRun (given_by bytes options) (step m (given_by bytes options)) (cost m (given_by bytes options)) start list sub
+    run-flushed v list sub f paid same formed events =
+        let given = given_by bytes options in
+        let whole = run-whole in
+        let paid_here = subst (λ (x : Given). v.calls ≤ budget (cost m x) (reserve m x) t.text t state) r.same_given
+        (subst (λ (x : M). v.calls ≤ budget (cost x t.given) (reserve x t.given) t.text t state) r.machine paid) in
+        let before = (r.outcome [] tt).paid in
+        let calls = f.calls in
+        let within : f.result.calls ≤ cost m given t.text (start_configuration false) (Next start) = omega (arith, before, paid_here, calls) in
+        let formed_taken = subst (λ (k : Configuration R D). IsWellFormed bytes k) f.configuration (subst (λ (x : Given). IsWellFormed x.bytes v.configuration) (same ∙ r.same_given) formed) in record {
+          result = f.result;
+          ends = subst (λ (x : Text). EndsIn given (step m given) x 0 (start_configuration false) [] (Next start) f.result) whole
+              (run-ends bytes options m start (length bytes, 0) [] t state r f.result f.ends);
+          well = f.well;
+          events = events ∙ ap (λ (k : Configuration R D). k.events) f.configuration;
+          well_formed = untaken-formed bytes f.result.configuration formed_taken;
+          definitions = f.definitions;
+          within = subst (λ (x : Text). f.result.calls ≤ cost m given x (start_configuration false) (Next start)) whole within;
+        }
+
+    pub run-refused : (v : Seen M R D) (message : Message) → IsRefused t.given (step t.machine t.given) t state v message
+        → IsRunRefused (given_by bytes options) (step m (given_by bytes options)) start message
+    run-refused v message f =
+        let given = given_by bytes options in record {
+          result = f.result;
+          ends = subst (λ (x : Text). EndsIn given (step m given) x 0 (start_configuration false) [] (Next start) f.result) run-whole
+              (run-ends bytes options m start (length bytes, 0) [] t state r f.result f.ends);
+          message = f.message;
+        }

@@ -1,0 +1,16 @@
+use Rattle.markdown.specs.Changes.{linked-made, linked-marks}
+use Rattle.markdown.proofs.tokenizer.Tokenizer.link_to.Goals as goal
+
+pub invariant_of-self : goal.invariant_of-self
+invariant_of-self g c =
+    let t = c.self.inside in let sound = c.self.invariant in
+    record {
+      limit = sound.limit;
+      end_at = sound.end_at;
+      text = sound.text;
+      read = sound.read;
+      waiting = sound.waiting;
+      ended = sound.ended;
+      made = linked-made t sound c.args.previous c.args.next c.link_items.new.events.items c.link_items.ensures;
+      marks = linked-marks t sound c.args.previous c.args.next c.link_items.new.events.items c.link_items.ensures;
+    }

@@ -1,0 +1,8 @@
+use Rattle.std.specs.Prelude.{drop}
+use Rattle.markdown.proofs.Runs.{RunsBy}
+use Rattle.markdown.proofs.work.run.Given as goal
+
+abbrev pub invariant-loop-cut : goal.invariant-loop-cut
+invariant-loop-cut g l =
+    let i = g.M.Machine in
+    RunsBy i.step i.holds i.cost i.reserve l.fn.parse_state.bytes.now l.fn.parse_state.options.now l.fn.parse_state.machine.now l.fn.start l.from (drop l.cut-index l.cuts) l.tokenizer l.state

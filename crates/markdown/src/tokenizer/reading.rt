@@ -1,0 +1,85 @@
+//! The calls that read a tokenizer.
+
+ghost use Rattle.std.specs.Prelude.{◌≡◌};
+ghost use Rattle.markdown.specs.Sight.{sight};
+
+use super::Tokenizer;
+use crate::parser::ParseState;
+use crate::state::MachineTypes;
+use markdown_base::event::{Event, Name, Point};
+
+impl<'a, M: MachineTypes> Tokenizer<'a, M> {
+    /// The events so far.
+    pub fn events(&self) -> &[Event]
+        ensures { result.now ≡ self.now.configuration.events }
+    {
+        self.events.as_slice()
+    }
+
+    /// The names of the open spans, the innermost last.
+    pub fn stack(&self) -> &[Name]
+        ensures { result.now ≡ self.now.configuration.stack }
+    {
+        self.stack.as_slice()
+    }
+
+    /// The place of the byte that waits, of the text's end while that waits, and else the place after the byte before.
+    pub fn point(&self) -> Point
+        ensures { result ≡ (sight self.now.given self.now.text self.now.configuration).point }
+    {
+        self.point
+    }
+
+    /// The byte before, if one was read. A byte that a gap passes is never there.
+    pub fn previous(&self) -> Option<u8>
+        ensures { result ≡ (sight self.now.given self.now.text self.now.configuration).previous }
+    {
+        self.previous
+    }
+
+    /// The byte that waits, if one does.
+    pub fn current(&self) -> Option<u8>
+        ensures { result ≡ (sight self.now.given self.now.text self.now.configuration).current }
+    {
+        self.current
+    }
+
+    /// The document, the options and the machine.
+    pub fn parse_state(&self) -> &'a ParseState<'a, M>
+        ensures bytes { result.now.bytes.now ≡ self.now.given.bytes }
+        ensures options { result.now.options.now ≡ self.now.given.options }
+        ensures machine { result.now.machine.now ≡ self.now.machine }
+    {
+        self.parse_state
+    }
+
+    /// The events, and no tokenizer any more. Takes no memory.
+    pub fn into_events(self) -> Vec<Event>
+        ensures { result.items ≡ self.entry.configuration.events }
+    {
+        let Tokenizer {
+            tokenize_state: _,
+            interrupt: _,
+            concrete: _,
+            pierce: _,
+            lazy: _,
+            map: _,
+            parse_state: _,
+            start: _,
+            end: _,
+            left: _,
+            point: _,
+            waits: _,
+            ended: _,
+            previous: _,
+            current: _,
+            events,
+            stack: _,
+            resolvers: _,
+            marks: _,
+            closed: _,
+            calls: _,
+        } = self;
+        events
+    }
+}
