@@ -20,3 +20,4 @@ pub mod Woven
 pub mod Cuts
 pub mod SpanWalks
 pub mod SpanWalksInner
+pub mod TextOrder

@@ -1,0 +1,62 @@
+//! Why the program fails.
+
+ghost use Rattle.std.specs.Prelude.{◌≡◌, Some};
+ghost use Rattle.mdevents.specs.Failure.{failure_text};
+ghost use Rattle.mdevents.specs.declared.failure.Failure.TheVariants.{Memory};
+
+use std::alloc::AllocError;
+use std::fmt;
+
+/// Why nothing, or not all, was written. Each is shown as one line.
+#[derive(Drop)]
+pub enum Failure {
+    /// Memory was refused.
+    Memory,
+    /// The reader failed.
+    Read,
+    /// The writer failed, or took nothing.
+    Write,
+    /// Four times the length of the input, and one more, do not fit `usize`.
+    TooLong,
+}
+
+impl fmt::Display for Failure {
+    ghost output = { λ failure. Some (failure_text failure) };
+
+    fn fmt<W: fmt::Write>(&self, f: &mut fmt::Formatter<W>) -> fmt::Result {
+        match self {
+            Failure::Memory => write!(f, "out of memory"),
+            Failure::Read => write!(f, "cannot read input"),
+            Failure::Write => write!(f, "cannot write output"),
+            Failure::TooLong => write!(f, "input too long"),
+        }
+    }
+}
+
+impl From<AllocError> for Failure {
+    ghost from_gives = { λ _ failure. failure ≡ Memory };
+
+    fn from(_error: AllocError) -> Failure {
+        Failure::Memory
+    }
+}
+
+#[cfg(test)]
+mod tests {
+    use super::*;
+    use std::test::Fail;
+
+    #[test]
+    fn shows_lines(rt: HostRuntime) -> Result<(), Fail> {
+        for (failure, line) in [
+            (Failure::from(AllocError), "out of memory"),
+            (Failure::Read, "cannot read input"),
+            (Failure::Write, "cannot write output"),
+            (Failure::TooLong, "input too long"),
+        ] {
+            let text = failure.to_string(rt.alloc())?;
+            assert_eq!(rt; text.as_str(), line);
+        }
+        Ok(())
+    }
+}
