@@ -1,15 +1,15 @@
 -- The virtual bytes of a document, one after another: each begins at the place where the one before it ends.
-use Rattle.std.proofs.Common.{◌≡◌, ◌≢◌, ℕ, zero, suc, ◌+◌, ◌-◌, ◌*◌, ◌%◌, ◌≤◌, ◌<◌, ◌==◌, List, [], ◌∷◌, ◌++◌, Bool, true, false, cond, length, drop, refl, sym, ap, ◌∙◌, subst, arith, rules, add-one, append_assoc, ◌⊎◌, inl, inr}
-use Rattle.std.specs.Prelude.{slice_index, nat_lt, not, ◌&&◌, ◌||◌}
+use Rattle.std.proofs.Common.{◌≡◌, ◌≢◌, ℕ, zero, suc, ◌+◌, ◌-◌, ◌%◌, ◌≤◌, ◌<◌, ◌==◌, List, [], ◌∷◌, ◌++◌, Bool, true, false, cond, length, drop, refl, sym, ap, ◌∙◌, subst, arith, add-one, ◌⊎◌, inl, inr}
+use Rattle.std.specs.Prelude.{slice_index, nat_lt, ◌&&◌, ◌||◌}
 use Rattle.std.proofs.lemmas.Bool.Decides.{nat_tests}
 use Rattle.std.proofs.lemmas.Bool.{cases_lt}
 use Rattle.std.proofs.lemmas.List.{drop_all}
 use Rattle.std.proofs.Math.ListN.{get_or-eq_default}
 use Rattle.std.proofs.Math.Nat.{mod-lt, suc-mod, mod_self, mod-eq_of_lt}
 use Rattle.markdown_base.specs.declared.event.Point.{Point}
-use Rattle.markdown_base.specs.Virtual.{Seat, point, tab_width, in_tab, end_in_tab, virtual_from, virtual, begins_with_lf, line_feed, plain, end_after, document_end}
-use Rattle.markdown_base.specs.Places.{stands_before, shown, follows_cr, IsShown}
-use Rattle.markdown.specs.Cursor.{rest_at, Every, Bounds, end_at}
+use Rattle.markdown_base.specs.Virtual.{Seat, point, tab_width, in_tab, virtual_from, virtual, begins_with_lf, line_feed, plain}
+use Rattle.markdown_base.specs.Places.{stands_before, shown, IsShown}
+use Rattle.markdown.specs.Cursor.{rest_at, Bounds, end_at}
 use Rattle.markdown.proofs.Orders.{is-not, not-number, is-number, before-self, below-before, more-before, above-later}
 use Rattle.markdown.proofs.Seats.{width-pos, drop-at}
 

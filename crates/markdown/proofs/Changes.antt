@@ -1,8 +1,8 @@
 -- Each call that changes a text, the events or the choices of a tokenizer keeps what holds of its fields.
-use Rattle.std.proofs.Common.{◌≡◌, ◌≢◌, ℕ, zero, suc, ◌+◌, ◌-◌, ◌*◌, ◌^◌, ◌≤◌, ◌<◌, List, [], ◌∷◌, ◌++◌, Bool, true, false, cond, Option, Some, None, length, refl, sym, ap, ◌∙◌, subst, arith, rules, length-append, add-one, take, ◌==◌, append_assoc, length-take}
-use Rattle.std.specs.Prelude.{filter, slice_get, not, ◌&&◌, ◌||◌, map, reverse, nat_lt, IfSome, All, unwrap_or, slice_index_or}
+use Rattle.std.proofs.Common.{◌≡◌, ℕ, zero, suc, ◌-◌, ◌≤◌, ◌<◌, List, [], ◌∷◌, ◌++◌, Bool, true, false, cond, Option, Some, None, length, refl, sym, ap, ◌∙◌, subst, arith, length-append, take, length-take}
+use Rattle.std.specs.Prelude.{map, reverse, IfSome, All, unwrap_or}
 use Rattle.std.specs.List.{last_or}
-use Rattle.std.proofs.lemmas.List.{take-append-le, take-take, append-nil, reverse-append, take_all}
+use Rattle.std.proofs.lemmas.List.{take-append-le, take-take, reverse-append, take_all}
 use Rattle.markdown_base.specs.declared.event.Point.{Point}
 use Rattle.markdown_base.specs.declared.event.Event.{Event}
 use Rattle.markdown_base.specs.declared.event.Link.{Link}
@@ -11,7 +11,7 @@ use Rattle.markdown_base.specs.declared.event.Kind.TheVariants.{Enter, Exit}
 use Rattle.markdown_base.specs.declared.state.State.{State}
 use Rattle.markdown_base.specs.declared.configuration.ParseOptions.{ParseOptions}
 use Rattle.markdown_base.specs.Virtual.{Seat, point}
-use Rattle.markdown_base.specs.Places.{shown, stands_before, is_upto, denotes_same, IsPointOf, IsShown, point_at}
+use Rattle.markdown_base.specs.Places.{shown, stands_before, is_upto, denotes_same, IsPointOf, point_at}
 use Rattle.markdown.specs.declared.waiting.Waits.{Waits}
 use Rattle.markdown.specs.declared.waiting.Waits.TheVariants.{Nothing, Byte, End}
 use Rattle.markdown.specs.declared.waiting.AttemptKind.{AttemptKind}
@@ -21,21 +21,21 @@ use Rattle.markdown.specs.declared.waiting.Mark.{Mark}
 use Rattle.markdown.specs.declared.waiting.Progress.{Progress}
 use Rattle.markdown.specs.declared.tokenizer.Tokenizer.TheInside.{Inside}
 use Rattle.markdown.specs.Text.{Given, Text, Piece, pushed, passed, IsText, CanFollow, FitsAfter, followed_by, followed_by_all, empty_text}
-use Rattle.markdown.specs.Configuration.{Seen, Configuration, Choice, Saved, at_configuration}
-use Rattle.markdown.specs.Calls.{entered, exited, CanExit}
+use Rattle.markdown.specs.Configuration.{Seen, Configuration, Choice}
+use Rattle.markdown.specs.Calls.{CanExit}
 use Rattle.markdown.specs.Work.{extended, settled, IsSettled, answer_of}
 use Rattle.markdown.specs.Reading.{settled_at, restored}
-use Rattle.markdown.specs.View.{TAB, seen, text_of, end_point, seats_between, choice_of, saved_of, saved_for, goal_of, state_of, IsReadTo, ByteWaits, EndWaits, IsWaiting, IsProgress, AreNested, events_of, stack_of, IsSound}
-use Rattle.markdown.specs.Cursor.{IsPlace, IsSeatAt}
-use Rattle.markdown.proofs.Standing.{place-of-point, shown-shown}
-use Rattle.markdown.proofs.Cursors.{upto-self, upto-upto, upto-same, same-upto, same-back, range-empty, range-same, same-self, end-upto}
-use Rattle.markdown.proofs.Points.{point_at-point, point_at-is}
+use Rattle.markdown.specs.View.{TAB, seen, text_of, end_point, seats_between, choice_of, saved_of, saved_for, goal_of, IsReadTo, IsWaiting, IsProgress, AreNested, events_of, stack_of, IsSound}
+use Rattle.markdown.specs.Cursor.{IsSeatAt}
+use Rattle.markdown.proofs.Standing.{shown-shown}
+use Rattle.markdown.proofs.Cursors.{upto-upto, upto-same, same-upto, range-empty, range-same, same-self, end-upto}
+use Rattle.markdown.proofs.Points.{point_at-point}
 use Rattle.markdown.specs.Made.{IsMade}
-use Rattle.markdown.proofs.MadeLemmas.{made-new, made-enter-at, made-exit-at, made-front, made-linked, made-kept, upto-self as upto-self-point}
+use Rattle.markdown.proofs.MadeLemmas.{made-new, made-enter-at, made-exit-at, made-linked, made-kept, upto-self as upto-self-point}
 use Rattle.markdown_base.specs.Events.{unlinked, HasFrontUpToLinks}
 use Rattle.markdown.specs.Links.{linked_to, updated_at, with_next, with_previous}
 use Rattle.std.proofs.lemmas.List.{length-map}
-use Rattle.markdown.proofs.Fields.{four, text_between, read-start, within, next-more, read-extended, extended-seats, nested-map, nested-wider, nested-front}
+use Rattle.markdown.proofs.Fields.{four, text_between, next-more, read-extended, extended-seats, nested-map, nested-wider, nested-front}
 use Rattle.markdown.specs.Sight.{sight}
 use Rattle.markdown.proofs.Steps.{end-place-in, here-left, here-is, left-is}
 

@@ -1,18 +1,17 @@
 -- Laws of the cursor: what was read and what is left, with the order of places up to CR and LF of one CR LF.
-use Rattle.std.proofs.Common.{◌≡◌, ◌≢◌, ℕ, zero, suc, ◌+◌, ◌-◌, ◌*◌, ◌%◌, ◌≤◌, ◌<◌, ◌==◌, List, [], ◌∷◌, ◌++◌, Bool, true, false, cond, Option, Some, None, length, drop, refl, sym, ap, ◌∙◌, subst, arith, rules, append_assoc, length-append, ◌⊎◌, inl, inr}
-use Rattle.std.specs.Prelude.{filter, slice_get, slice_index, nat_lt, not, ◌&&◌, ◌||◌}
+use Rattle.std.proofs.Common.{◌≡◌, ℕ, ◌+◌, ◌-◌, ◌≤◌, ◌<◌, List, [], ◌∷◌, ◌++◌, Bool, true, false, Some, length, refl, sym, ap, ◌∙◌, subst, arith, length-append}
+use Rattle.std.specs.Prelude.{filter, slice_get, not, ◌&&◌, ◌||◌}
 use Rattle.std.specs.List.{list_all}
 use Rattle.std.proofs.lemmas.List.Elements.{filter-append}
 use Rattle.std.proofs.lemmas.List.{append-nil, append_cancel_left}
-use Rattle.std.proofs.lemmas.Bool.Decides.{nat_tests}
 use Rattle.markdown_base.specs.declared.event.Point.{Point}
 use Rattle.markdown_base.specs.Virtual.{Seat, virtual}
-use Rattle.markdown_base.specs.Places.{stands_before, shown, is_upto, denotes_same}
+use Rattle.markdown_base.specs.Places.{stands_before, is_upto, denotes_same}
 use Rattle.markdown.specs.Cursor.{rest_at, Every, IsPlace, IsSeatAt, number_of}
 use Rattle.markdown.specs.Text.{in_range}
-use Rattle.markdown.proofs.Orders.{before-later, later-later, after-before, before-self, before-upto, every-map, every-both, every-append, every-front, every-back, every-all, filter-none, filter-every, filter-same}
+use Rattle.markdown.proofs.Orders.{later-later, before-self, before-upto, every-map, every-both, every-append, every-front, every-back, every-all, filter-none, filter-every, filter-same}
 use Rattle.markdown.proofs.Seats.{rest-later}
-use Rattle.markdown.proofs.Standing.{seat-splits, next-begins, seat-place, end-seat-place, seat-rest, seat-passes}
+use Rattle.markdown.proofs.Standing.{seat-splits, next-begins, seat-rest, seat-passes}
 
 module _ {A : Type 0} (f : A → Bool) where
   list-every : (xs : List A) → list_all f xs ≡ true → Every (λ x. f x ≡ true) xs

@@ -1,5 +1,5 @@
 -- For a lawful machine each reading has an end, within its cost.
-use Rattle.std.proofs.Common.{◌≡◌, ◌+◌, ◌≤◌, ◌<◌, ℕ, zero, suc, List, [], ◌∷◌, ◌++◌, Bool, Option, Some, None, sum_by, ◌↔◌, refl, sym, ap, ◌∙◌, arith, zero-add}
+use Rattle.std.proofs.Common.{◌≡◌, ◌+◌, ◌≤◌, ℕ, zero, suc, List, [], ◌∷◌, ◌++◌, Option, Some, sum_by, refl, ap, arith}
 use Rattle.std.proofs.lemmas.List.Sums.{sum_by-append, sum_by-cons}
 use Rattle.markdown_base.specs.declared.message.Message.{Message}
 use Rattle.markdown_base.specs.declared.state.Name.{Name}
@@ -8,7 +8,7 @@ use Rattle.markdown_base.specs.declared.state.State.TheVariants.{Next, Retry, Ok
 use Rattle.markdown.specs.Text.{Given, Text, IsText}
 use Rattle.markdown.specs.Configuration.{Configuration, Choice, Step}
 use Rattle.markdown.specs.Sight.{Sight, sight}
-use Rattle.markdown.specs.Reading.{Reading, fed, settled_at, more_calls, settle, after_choices, read, outcome, EndsIn}
+use Rattle.markdown.specs.Reading.{Reading, fed, settled_at, more_calls, after_choices, read, EndsIn}
 use Rattle.markdown.specs.Lawful.{KeepsInvariant, CostPays}
 use Rattle.markdown.proofs.Readings.{fed-ends, called-ends, settled-ok-ends, settled-nok-ends}
 

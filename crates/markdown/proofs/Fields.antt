@@ -1,28 +1,22 @@
 -- What the steps of the code do to the fields of a tokenizer, and what that means.
-use Rattle.std.proofs.Common.{◌≡◌, ◌≢◌, ℕ, zero, suc, ◌+◌, ◌*◌, ◌^◌, ◌≤◌, ◌<◌, List, [], ◌∷◌, ◌++◌, Bool, true, false, cond, Option, Some, None, length, refl, sym, ap, ◌∙◌, subst, arith, rules, length-append, add-one, take, ◌⊎◌, inl, inr}
-use Rattle.std.specs.Prelude.{filter, slice_get, not, ◌&&◌, map, reverse, nat_lt, IfSome}
+use Rattle.std.proofs.Common.{◌≡◌, ℕ, zero, suc, ◌≤◌, ◌<◌, List, [], ◌∷◌, ◌++◌, Bool, true, false, Option, Some, None, length, refl, sym, ap, ◌∙◌, subst, arith, add-one, ◌⊎◌, inl, inr}
+use Rattle.std.specs.Prelude.{slice_get, reverse, IfSome}
 use Rattle.std.proofs.lemmas.Option.{slice_get_within}
-use Rattle.std.proofs.lemmas.Bool.{lt-ltb}
 use Rattle.markdown_base.specs.declared.event.Point.{Point}
-use Rattle.markdown_base.specs.declared.event.Event.{Event}
-use Rattle.markdown_base.specs.declared.event.Name.{Name}
-use Rattle.markdown_base.specs.Virtual.{Seat, virtual}
-use Rattle.markdown_base.specs.Places.{shown, stands_before, is_upto, denotes_same, IsPointOf, IsShown, point_at}
+use Rattle.markdown_base.specs.Virtual.{Seat}
+use Rattle.markdown_base.specs.Places.{shown, stands_before, is_upto, denotes_same, IsPointOf}
 use Rattle.markdown.specs.declared.waiting.Waits.{Waits}
 use Rattle.markdown.specs.declared.waiting.Waits.TheVariants.{Nothing, Byte, End}
 use Rattle.markdown.specs.declared.tokenizer.Tokenizer.TheInside.{Inside}
-use Rattle.markdown.specs.Text.{Text, IsText, in_range, empty_text}
-use Rattle.markdown.specs.Configuration.{Seen, Configuration, at_configuration}
-use Rattle.markdown.specs.Sight.{sight, seat_before, byte_of, end_place, point_or, end_or}
-use Rattle.markdown.specs.Reading.{fed}
-use Rattle.markdown.specs.Work.{IsInText}
-use Rattle.markdown.specs.View.{TAB, seen, text_of, seats_between, IsReadTo, ByteWaits, EndWaits, IsWaiting, IsProgress, AreNested, events_of, stack_of, IsSound}
+use Rattle.markdown.specs.Text.{Text}
+use Rattle.markdown.specs.Sight.{seat_before, byte_of, end_or}
+use Rattle.markdown.specs.View.{TAB, text_of, seats_between, IsReadTo, IsWaiting, IsProgress, AreNested, events_of, stack_of, IsSound}
 use Rattle.markdown.specs.declared.waiting.Mark.{Mark}
 use Rattle.markdown.specs.declared.waiting.Progress.{Progress}
 use Rattle.markdown.specs.Cursor.{Every, IsPlace, IsSeatAt, rest_at}
 use Rattle.markdown.proofs.Seats.{rest-later}
-use Rattle.markdown.proofs.Standing.{seat-begins, place-of-point, next-begins, end-seat-place, seat-shown, shown-shown}
-use Rattle.markdown.proofs.Cursors.{upto-self, upto-upto, upto-same, number-self, range-empty, next-is, next-none, next-nothing, read-within, after-upto, upto-after, after-number, end-upto, same-upto, same-back, range-continued, rest-none}
+use Rattle.markdown.proofs.Standing.{seat-begins, place-of-point, next-begins, end-seat-place}
+use Rattle.markdown.proofs.Cursors.{upto-self, upto-upto, upto-same, number-self, next-is, next-none, next-nothing, read-within, after-upto, upto-after, after-number, end-upto, same-upto, same-back, range-continued, rest-none}
 use Rattle.markdown.proofs.Points.{same-shown}
 
 slice_get-front : {A : Type 0} (xs ys : List A) (i : ℕ) → i < length xs → slice_get (xs ++ ys) i ≡ slice_get xs i

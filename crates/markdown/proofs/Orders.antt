@@ -1,10 +1,7 @@
 -- The order of places, and lists of seats.
-use Rattle.std.proofs.Common.{◌≡◌, ◌≢◌, ℕ, zero, suc, ◌+◌, ◌-◌, ◌*◌, ◌%◌, ◌≤◌, ◌<◌, ◌==◌, List, [], ◌∷◌, ◌++◌, Bool, true, false, cond, refl, sym, ap, ◌∙◌, subst, arith, rules}
-use Rattle.std.specs.Prelude.{filter, nat_lt, not, ◌&&◌, ◌||◌}
+use Rattle.std.proofs.Common.{◌≡◌, ◌≢◌, ℕ, suc, ◌≤◌, ◌<◌, ◌==◌, List, [], ◌∷◌, ◌++◌, Bool, true, false, cond, refl, ap, arith}
+use Rattle.std.specs.Prelude.{filter, nat_lt, ◌&&◌, ◌||◌}
 use Rattle.std.proofs.lemmas.Bool.Decides.{nat_tests}
-use Rattle.markdown_base.specs.declared.event.Point.{Point}
-use Rattle.markdown_base.specs.Virtual.{Seat}
-use Rattle.markdown_base.specs.Places.{stands_before}
 use Rattle.markdown.specs.Cursor.{Every}
 
 pub before-later : (i j m n u v : ℕ) → (nat_lt i m || ((i == m) && nat_lt j n)) ≡ true → (nat_lt u m || ((u == m) && nat_lt v n)) ≡ false → (nat_lt i u || ((i == u) && nat_lt j v)) ≡ true

@@ -1,6 +1,6 @@
 -- A run over the whole document: where it begins and ends, and what it leads on to at each cut.
-use Rattle.std.proofs.Common.{◌≡◌, ◌≢◌, ◌+◌, ◌≤◌, ◌<◌, ◌==◌, ◌-◌, ℕ, zero, suc, List, [], ◌∷◌, ◌++◌, Bool, true, false, cond, Option, Some, None, length, ◌⊎◌, inl, inr, refl, sym, ap, ◌∙◌, arith, subst}
-use Rattle.std.specs.Prelude.{filter, find, slice_get, slice_index, nat_lt, ◌&&◌, ◌||◌, drop, get_or, Contains, Result, IsErrAnd, IfErr}
+use Rattle.std.proofs.Common.{◌≡◌, ◌≢◌, ◌+◌, ◌≤◌, ◌<◌, ◌==◌, ◌-◌, ℕ, zero, suc, List, [], ◌∷◌, ◌++◌, Bool, true, false, cond, Some, length, ◌⊎◌, inl, inr, refl, sym, ap, ◌∙◌, arith, subst}
+use Rattle.std.specs.Prelude.{filter, find, slice_index, nat_lt, ◌&&◌, ◌||◌, drop, get_or, Contains, Result, IsErrAnd, IfErr}
 use Rattle.std.specs.declared.result.Result.TheVariants as result
 use Rattle.std.specs.List.{flat_map}
 use Rattle.std.proofs.lemmas.Bool.Decides.{nat_tests}
@@ -10,9 +10,9 @@ use Rattle.markdown_base.specs.declared.event.Point.{Point}
 use Rattle.markdown_base.specs.declared.state.Name.{Name}
 use Rattle.markdown_base.specs.declared.state.State.{State}
 use Rattle.markdown_base.specs.declared.state.State.TheVariants.{Next}
-use Rattle.markdown_base.specs.Virtual.{Seat, point, virtual, begins_with_lf, end_after, document_end}
-use Rattle.markdown_base.specs.Places.{stands_before, shown, follows_cr, points, point_at, IsPointOf, is_upto, denotes_same}
-use Rattle.markdown.specs.Text.{Given, Text, Piece, pushed, in_range, empty_text, followed_by, followed_by_all, FitsAfter, CanFollow, IsText}
+use Rattle.markdown_base.specs.Virtual.{Seat, point, virtual, end_after, document_end}
+use Rattle.markdown_base.specs.Places.{stands_before, shown, follows_cr, points, point_at, IsPointOf, is_upto}
+use Rattle.markdown.specs.Text.{Given, Text, pushed, in_range, empty_text, followed_by, followed_by_all, FitsAfter, CanFollow}
 use Rattle.markdown.specs.Configuration.{Configuration, Choice, Step, Seen, start_configuration, start_seen}
 use Rattle.markdown.specs.Sight.{Sight}
 use Rattle.markdown.specs.Lawful.{KeepsInvariant}
@@ -24,12 +24,11 @@ use Rattle.markdown_base.specs.declared.event.Event.{Event}
 use Rattle.markdown_base.specs.declared.message.Message.{Message}
 use Rattle.markdown.specs.Cursor.{rest_at, Every, IsPlace, IsNextSeat, Bounds}
 use Rattle.markdown.proofs.Orders.{every-map, filter-every}
-use Rattle.markdown.proofs.Seats.{seat-in-tab, seat-other, seat-cr, seat-crlf, rest-later}
+use Rattle.markdown.proofs.Seats.{seat-in-tab, seat-other, seat-cr, seat-crlf}
 use Rattle.markdown.proofs.Chains.{IsChain, whole-chain}
 use Rattle.markdown.proofs.Standing.{end-place, place-of-point, rest-after}
-use Rattle.markdown.proofs.SeatLaws.{end-is-point}
-use Rattle.markdown.proofs.Cursors.{upto-order, upto-self, same-self, range-empty, range-extended}
-use Rattle.markdown.proofs.Working.{leads-trans, leads-refl, text-on, holds-on}
+use Rattle.markdown.proofs.Cursors.{upto-order, same-self, range-empty, range-extended}
+use Rattle.markdown.proofs.Working.{leads-trans, leads-refl, holds-on}
 
 -- where a search comes to, among places of seats that it does not want
 abbrev is_at : ℕ × ℕ → Point → Bool

@@ -1,14 +1,14 @@
 -- Which virtual byte stands at a place, read from the bytes.
-use Rattle.std.proofs.Common.{◌≡◌, ◌≢◌, ℕ, zero, suc, ◌+◌, ◌-◌, ◌*◌, ◌%◌, ◌≤◌, ◌<◌, ◌==◌, List, [], ◌∷◌, ◌++◌, Bool, true, false, cond, length, drop, Option, Some, None, refl, sym, ap, ◌∙◌, subst, arith, rules, drop-cons, add-one}
-use Rattle.std.specs.Prelude.{slice_index, nat_lt, not, ◌&&◌, ◌||◌}
+use Rattle.std.proofs.Common.{◌≡◌, ◌≢◌, ℕ, zero, suc, ◌+◌, ◌-◌, ◌≤◌, ◌<◌, ◌==◌, List, [], ◌∷◌, ◌++◌, Bool, true, false, cond, length, drop, Some, refl, sym, ap, ◌∙◌, arith, drop-cons, add-one}
+use Rattle.std.specs.Prelude.{slice_index, nat_lt}
 use Rattle.std.proofs.lemmas.List.{drop_all}
 use Rattle.std.proofs.lemmas.Bool.{ltb-true}
 use Rattle.std.proofs.lemmas.Bool.Decides.{nat_tests}
-use Rattle.std.proofs.Math.Nat.{mod-lt, suc-mod, mod_self, mod-eq_of_lt}
+use Rattle.std.proofs.Math.Nat.{mod-lt}
 use Rattle.markdown_base.specs.declared.event.Point.{Point}
-use Rattle.markdown_base.specs.Virtual.{Seat, point, tab_width, in_tab, end_in_tab, virtual_from, virtual, begins_with_lf, line_feed, plain}
+use Rattle.markdown_base.specs.Virtual.{Seat, point, tab_width, in_tab, end_in_tab, virtual_from, begins_with_lf}
 use Rattle.markdown_base.specs.Places.{stands_before}
-use Rattle.markdown.specs.Cursor.{rest_at, Every, Bounds, IsPlace, IsSeatAt, IsNextSeat}
+use Rattle.markdown.specs.Cursor.{rest_at, Every, IsNextSeat}
 use Rattle.markdown.proofs.Orders.{every-map, every-append, every-cond, not-before, not-before-in, above-later, before-self, eq-zero, is-number, not-number}
 
 -- seats from an index on

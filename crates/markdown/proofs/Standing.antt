@@ -1,15 +1,15 @@
 -- Places of a document: where each virtual byte begins, is shown and ends, and what is left there.
-use Rattle.std.proofs.Common.{◌≡◌, ◌≢◌, ℕ, zero, suc, ◌+◌, ◌-◌, ◌*◌, ◌%◌, ◌≤◌, ◌<◌, ◌==◌, List, [], ◌∷◌, ◌++◌, Bool, true, false, cond, Option, Some, None, length, drop, refl, sym, ap, ◌∙◌, subst, arith, rules, append_assoc, ◌⊎◌, inl, inr}
-use Rattle.std.specs.Prelude.{slice_index, slice_index_or, slice_get, nat_lt, not, ◌&&◌, ◌||◌, Contains, filter}
+use Rattle.std.proofs.Common.{◌≡◌, ◌≢◌, ℕ, zero, suc, ◌-◌, ◌<◌, ◌==◌, List, [], ◌∷◌, ◌++◌, Bool, true, false, cond, refl, sym, ap, ◌∙◌, subst, arith, append_assoc, ◌⊎◌, inl, inr}
+use Rattle.std.specs.Prelude.{slice_index, nat_lt, ◌&&◌, ◌||◌, Contains, filter}
 use Rattle.std.specs.List.{flat_map}
 use Rattle.std.proofs.lemmas.Bool.Decides.{nat_tests}
 use Rattle.std.proofs.lemmas.List.{append-nil}
 use Rattle.std.proofs.lemmas.List.Elements.{Contains-append_cases}
 use Rattle.markdown_base.specs.declared.event.Point.{Point}
-use Rattle.markdown_base.specs.Virtual.{Seat, point, virtual_from, virtual, end_after, document_end}
-use Rattle.markdown_base.specs.Places.{stands_before, shown, follows_cr, IsShown, IsPointOf, points}
-use Rattle.markdown.specs.Cursor.{rest_at, Every, Bounds, IsPlace, IsSeatAt, end_at}
-use Rattle.markdown.proofs.Orders.{is-number, not-number, before-self, before-later, later-later, after-before, above-later, before-upto, upto-before, every-append, every-map, every-front, every-back, every-all}
+use Rattle.markdown_base.specs.Virtual.{Seat, point, virtual, end_after, document_end}
+use Rattle.markdown_base.specs.Places.{stands_before, shown, follows_cr, IsShown, IsPointOf}
+use Rattle.markdown.specs.Cursor.{rest_at, Every, IsPlace, IsSeatAt, end_at}
+use Rattle.markdown.proofs.Orders.{is-number, before-self, later-later, after-before, before-upto, every-map}
 use Rattle.markdown.proofs.Seats.{rest-later}
 use Rattle.markdown.proofs.Chains.{IsAt, Begins, IsChain, whole-chain, shown-other}
 

@@ -1,39 +1,31 @@
 -- Each call on a tokenizer keeps what holds of its fields, and does what its contract says.
-use Rattle.std.proofs.Common.{◌≡◌, ◌≢◌, ℕ, zero, suc, ◌+◌, ◌-◌, ◌*◌, ◌^◌, ◌≤◌, ◌<◌, List, [], ◌∷◌, ◌++◌, Bool, true, false, cond, Option, Some, None, length, refl, sym, ap, ◌∙◌, subst, arith, rules, length-append, add-one, take, ◌==◌}
-use Rattle.std.specs.Prelude.{filter, slice_get, not, ◌&&◌, ◌||◌, map, reverse, nat_lt, IfSome, All, unwrap_or}
-use Rattle.std.specs.List.{last_or}
+use Rattle.std.proofs.Common.{◌≡◌, ℕ, ◌+◌, ◌^◌, ◌≤◌, ◌<◌, List, [], Bool, true, false, Option, Some, None, length, refl, sym, ap, ◌∙◌, subst, arith, rules, ◌==◌}
+use Rattle.std.specs.Prelude.{◌&&◌, ◌||◌, map, nat_lt, unwrap_or}
 use Rattle.std.proofs.lemmas.Bool.{lt-ltb}
 use Rattle.std.proofs.lemmas.Bool.Decides.{nat_tests}
-use Rattle.std.proofs.lemmas.List.{take-append-le}
 use Rattle.markdown_base.specs.declared.event.Point.{Point}
-use Rattle.markdown_base.specs.declared.event.Event.{Event}
-use Rattle.markdown_base.specs.declared.event.Link.{Link}
 use Rattle.markdown_base.specs.declared.event.Name.{Name}
-use Rattle.markdown_base.specs.declared.event.Kind.TheVariants.{Enter, Exit}
-use Rattle.markdown_base.specs.Virtual.{Seat, virtual}
-use Rattle.markdown_base.specs.Places.{shown, stands_before, is_upto, denotes_same, IsPointOf, IsShown, point_at}
+use Rattle.markdown_base.specs.Virtual.{Seat}
+use Rattle.markdown_base.specs.Places.{shown, stands_before}
 use Rattle.markdown_base.specs.Events.{open_events}
 use Rattle.markdown.specs.declared.waiting.Waits.{Waits}
 use Rattle.markdown.specs.declared.waiting.Waits.TheVariants.{Nothing, Byte, End}
-use Rattle.markdown.specs.declared.waiting.Mark.{Mark}
-use Rattle.markdown.specs.declared.waiting.Progress.{Progress}
 use Rattle.markdown.specs.declared.tokenizer.Tokenizer.TheInside.{Inside}
-use Rattle.markdown.specs.Text.{Given, Text, Piece, pushed, IsText, CanFollow, FitsAfter, followed_by, followed_by_all, in_range, empty_text}
-use Rattle.markdown.specs.Configuration.{Seen, Configuration, Choice, at_configuration, start_seen}
-use Rattle.markdown.specs.Sight.{sight, seat_before, byte_of, end_place, point_of, current_of, point_or, end_or}
-use Rattle.markdown.specs.Calls.{consumed, entered, exited, CanExit}
+use Rattle.markdown.specs.Configuration.{at_configuration}
+use Rattle.markdown.specs.Sight.{sight, byte_of, point_of, current_of, point_or}
+use Rattle.markdown.specs.Calls.{consumed}
 use Rattle.markdown.specs.Reading.{fed}
 use Rattle.markdown.specs.Engine.{IsWellFormed}
-use Rattle.markdown.specs.Work.{IsInText, extended}
-use Rattle.markdown.specs.View.{TAB, seen, text_of, end_point, seats_between, choice_of, saved_of, IsReadTo, ByteWaits, EndWaits, IsWaiting, IsProgress, AreNested, events_of, stack_of, IsSound}
-use Rattle.markdown.specs.Cursor.{Every, IsPlace, IsSeatAt, rest_at, end_at}
+use Rattle.markdown.specs.Work.{IsInText}
+use Rattle.markdown.specs.View.{TAB, seen, text_of, end_point, seats_between, IsReadTo, ByteWaits, IsWaiting, IsSound}
+use Rattle.markdown.specs.Cursor.{IsPlace, IsSeatAt, rest_at, end_at}
 use Rattle.markdown.proofs.Orders.{later-later}
 use Rattle.markdown.proofs.Standing.{place-of-point, shown-shown, shown-upto, seat-place, seat-shown, seat-passes, seat-end-is}
-use Rattle.markdown.proofs.Cursors.{upto-self, upto-upto, upto-same, same-upto, range-empty, range-same, same-self, end-upto, after-number}
-use Rattle.markdown.proofs.Points.{point_at-point, point_at-is, shown-line, shown-column, one-point, same-numbers}
+use Rattle.markdown.proofs.Cursors.{after-number}
+use Rattle.markdown.proofs.Points.{point_at-is, shown-line, shown-column, same-numbers}
 use Rattle.markdown.specs.Made.{IsMade}
-use Rattle.markdown.proofs.MadeLemmas.{made-new, made-enter-at, made-exit-at, made-consume, made-end, made-front}
-use Rattle.markdown.proofs.Fields.{four, text_between, read-start, within, next-shown, next-seat, next-more, next-past, read-next, next-none-left, ends-here, end-shown, read-extended, extended-seats, nested-map, nested-wider, nested-front}
+use Rattle.markdown.proofs.MadeLemmas.{made-consume, made-end}
+use Rattle.markdown.proofs.Fields.{four, within, next-shown, next-seat, next-more, next-past, read-next, next-none-left, end-shown}
 
 nat_lt-is : (a b : ℕ) → a < b → nat_lt a b ≡ true
 nat_lt-is a b h = search (rules, lt-ltb)

@@ -1,5 +1,5 @@
 -- Each step of the work leads on.
-use Rattle.std.proofs.Common.{◌≡◌, ◌≢◌, ◌+◌, ◌≤◌, ◌<◌, ℕ, zero, suc, List, [], ◌∷◌, ◌++◌, Bool, true, false, cond, Option, Some, None, length, sum_by, ◌↔◌, ◌⊎◌, inl, inr, refl, sym, ap, ◌∙◌, arith, subst, append_assoc, length-append, ◌-◌, add-zero, rules}
+use Rattle.std.proofs.Common.{◌≡◌, ◌≢◌, ◌+◌, ◌≤◌, ◌<◌, ℕ, zero, suc, List, [], ◌∷◌, ◌++◌, Bool, true, false, cond, Option, Some, None, length, ◌⊎◌, inl, inr, refl, sym, ap, ◌∙◌, arith, subst, append_assoc, length-append, ◌-◌, add-zero, rules}
 use Rattle.std.proofs.lemmas.Bool.{lt-ltb}
 use Rattle.std.proofs.lemmas.List.Sums.{sum_by-append, sum_by-cons}
 use Rattle.std.proofs.lemmas.List.{append-nil}
@@ -12,7 +12,6 @@ use Rattle.markdown_base.specs.declared.state.State.{State}
 use Rattle.markdown_base.specs.declared.state.State.TheVariants.{Next, Retry, Ok, Nok, Error}
 use Rattle.markdown_base.specs.Virtual.{Seat, virtual}
 use Rattle.markdown_base.specs.Places.{IsPointOf, denotes_same}
-use Rattle.markdown.specs.declared.subtokenize.Subresult.{Subresult}
 use Rattle.markdown.specs.declared.waiting.AttemptKind.{AttemptKind}
 use Rattle.markdown.specs.declared.waiting.AttemptKind.TheVariants.{Attempt, Check}
 use Rattle.markdown.specs.declared.waiting.Waits.{Waits}
@@ -22,8 +21,8 @@ use Rattle.markdown.specs.Configuration.{Configuration, Choice, Step, Seen, Save
 use Rattle.markdown.specs.Sight.{Sight, sight, sight_of, seat_before}
 use Rattle.markdown.specs.Reading.{Reading, fed, restored, settled_at, EndsIn, more_calls, read}
 use Rattle.markdown.specs.Lawful.{stepped, IsCalled, ConsumesOnce, EndsWhenRead, KeepsInvariant, CostPays}
-use Rattle.markdown.specs.Engine.{LeadsOn, KeepsOutcome, IsPushed, IsFlushed, IsRefused, IsWellFormed, budget, taken, found}
-use Rattle.markdown.specs.Work.{LeadsAll, HoldsAll, Stops, settled, extended, OnlyWorked, TakesUp, IsSettled, IsInText, answer_in}
+use Rattle.markdown.specs.Engine.{LeadsOn, IsPushed, IsWellFormed, budget, taken}
+use Rattle.markdown.specs.Work.{LeadsAll, Stops, settled, extended, OnlyWorked, TakesUp, IsSettled, IsInText, answer_in}
 use Rattle.markdown.proofs.Readings.{fed-ends, called-ends, settled-ok-ends, settled-nok-ends}
 use Rattle.markdown.proofs.Ends.{error-stays}
 

@@ -1,5 +1,5 @@
 -- What pushing and flushing mean.
-use Rattle.std.specs.Prelude.{◌≡◌, ◌≢◌, ◌+◌, ◌≤◌, ◌⊎◌, ℕ, List, [], ◌∷◌, Option, Some, Bool, true, false, length, sum_by, ◌↔◌, Contains}
+use Rattle.std.specs.Prelude.{◌≡◌, ◌+◌, ◌≤◌, ◌⊎◌, ℕ, List, [], ◌∷◌, Some, true, false, length, sum_by, ◌↔◌}
 use Rattle.markdown_base.specs.declared.configuration.ParseOptions.{ParseOptions}
 use Rattle.markdown_base.specs.declared.event.Event.{Event}
 use Rattle.markdown_base.specs.declared.event.Point.{Point}
@@ -13,7 +13,7 @@ use Rattle.markdown_base.specs.Events.{IsBalanced, IsVoidTight, IsInOrder}
 use Rattle.markdown.specs.declared.subtokenize.Subresult.{Subresult}
 use Rattle.markdown.specs.declared.waiting.Waits.TheVariants.{Nothing}
 use Rattle.markdown.specs.Text.{Given, Text, Piece, IsText, pushed, CanFollow, followed_by, followed_by_all}
-use Rattle.markdown.specs.Configuration.{Configuration, Local, Choice, Step, Seen, start_configuration}
+use Rattle.markdown.specs.Configuration.{Configuration, Choice, Step, Seen, start_configuration}
 use Rattle.markdown.specs.Sight.{Sight}
 use Rattle.markdown.specs.Reading.{Reading, EndsIn}
 

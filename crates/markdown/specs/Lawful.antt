@@ -1,5 +1,5 @@
 -- What a lawful machine keeps. Each law speaks of one call, one feeding, one settled choice or one piece added.
-use Rattle.std.specs.Prelude.{◌≡◌, ◌≢◌, ◌+◌, ◌≤◌, ◌⊎◌, ℕ, List, [], ◌∷◌, ◌++◌, Bool, true, false, Option, None, IfSome, All, Contains, length, take, map, sum_by}
+use Rattle.std.specs.Prelude.{◌≡◌, ◌≢◌, ◌+◌, ◌≤◌, ◌⊎◌, ℕ, List, [], ◌∷◌, ◌++◌, Bool, true, false, None, IfSome, All, Contains, length, take, map, sum_by}
 use Rattle.markdown_base.specs.declared.event.Event.{Event}
 use Rattle.markdown_base.specs.declared.event.Point.{Point}
 use Rattle.markdown_base.specs.declared.state.Name.{Name}
@@ -8,7 +8,7 @@ use Rattle.markdown_base.specs.declared.state.State.TheVariants.{Next, Retry, Ok
 use Rattle.markdown_base.specs.Places.{IsPointOf}
 use Rattle.markdown.specs.declared.waiting.Waits.TheVariants.{Nothing, Byte}
 use Rattle.markdown.specs.Text.{Given, Text, Piece, IsText, FitsAfter, followed_by, empty_text}
-use Rattle.markdown.specs.Configuration.{Configuration, Local, Choice, Step, Seen, start_configuration, start_state}
+use Rattle.markdown.specs.Configuration.{Configuration, Choice, Step, Seen, start_configuration}
 use Rattle.markdown.specs.Sight.{Sight, sight}
 use Rattle.markdown.specs.Calls.{consumed}
 use Rattle.markdown.specs.Reading.{fed, settled_at}

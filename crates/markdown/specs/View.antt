@@ -1,5 +1,5 @@
 -- What the fields of a tokenizer mean. An inner file: no public clause names what stands here.
-use Rattle.std.specs.Prelude.{◌≡◌, ◌≢◌, ℕ, ◌+◌, ◌*◌, ◌<◌, ◌≤◌, ◌^◌, List, [], ◌∷◌, Bool, true, false, cond, ◌&&◌, Option, None, Some, filter, length, map, take, reverse, unwrap_or, IfSome}
+use Rattle.std.specs.Prelude.{◌≡◌, ℕ, ◌+◌, ◌*◌, ◌<◌, ◌≤◌, ◌^◌, List, [], ◌∷◌, Bool, true, false, Option, None, Some, filter, length, map, take, reverse, unwrap_or, IfSome}
 use Rattle.markdown_base.specs.declared.event.Event.{Event}
 use Rattle.markdown_base.specs.declared.event.Name.{Name}
 use Rattle.markdown_base.specs.declared.event.Point.{Point}
@@ -13,11 +13,10 @@ use Rattle.markdown.specs.declared.waiting.Goal.{Goal}
 use Rattle.markdown.specs.declared.waiting.Goal.TheVariants as goal
 use Rattle.markdown.specs.declared.waiting.Mark.{Mark}
 use Rattle.markdown.specs.declared.waiting.Progress.{Progress}
-use Rattle.markdown.specs.declared.waiting.AttemptKind.{AttemptKind}
 use Rattle.markdown.specs.declared.waiting.AttemptKind.TheVariants.{Attempt, Check}
 use Rattle.markdown.specs.declared.tokenizer.Tokenizer.TheInside.{Inside}
-use Rattle.markdown.specs.Text.{Given, Text, IsText, in_range}
-use Rattle.markdown.specs.Configuration.{Configuration, Choice, Saved, Seen}
+use Rattle.markdown.specs.Text.{Text, IsText, in_range}
+use Rattle.markdown.specs.Configuration.{Choice, Saved, Seen}
 use Rattle.markdown.specs.Sight.{seat_before, byte_of, end_place}
 use Rattle.markdown.specs.Cursor.{IsPlace, IsSeatAt}
 use Rattle.markdown.specs.Made.{IsMade}

@@ -1,6 +1,5 @@
-use Rattle.std.proofs.Common.{◌≡◌, ◌≢◌, ◌∙◌, ◌∷◌, ◌+◌, ℕ, [], length, get_or, ap, refl, sym}
+use Rattle.std.proofs.Common.{◌≢◌, ◌+◌, ℕ, [], length, get_or, refl}
 use Rattle.std.specs.Prelude.{drop}
-use Rattle.markdown_base.specs.declared.state.State.TheVariants.{Next}
 use Rattle.markdown.specs.declared.tokenizer.Fault.TheVariants.{Failed}
 use Rattle.markdown.specs.Engine.{given_by}
 use Rattle.markdown.proofs.Runs.{start-is-point, run-start, run-at, run-last, run-range, run-holds, run-pushed, run-flushed, run-refused, err-if}

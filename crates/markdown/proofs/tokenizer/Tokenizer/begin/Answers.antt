@@ -1,4 +1,4 @@
-use Rattle.std.proofs.Common.{◌≡◌, ◌∙◌, ◌++◌, ◌∷◌, [], take, length, List, ℕ, ap, sym, refl}
+use Rattle.std.proofs.Common.{◌∙◌, take, List, ap, refl}
 use Rattle.markdown_base.specs.declared.event.Name.{Name}
 use Rattle.markdown.proofs.Changes.{entered-made, entered-marks, entered-choices, entered-at, take-pushed}
 use Rattle.markdown.proofs.tokenizer.Tokenizer.begin.Goals as goal

@@ -1,7 +1,4 @@
-use Rattle.std.proofs.Common.{◌≡◌, ◌∙◌, ◌-◌, ◌++◌, ◌∷◌, [], take, length, List, ℕ, ap, sym, refl}
-use Rattle.markdown_base.specs.declared.event.Name.{Name}
-use Rattle.markdown.specs.Calls.{CanExit}
-use Rattle.markdown.specs.View.{seen}
+use Rattle.std.proofs.Common.{◌∙◌, ◌-◌, take, ℕ, ap, refl}
 use Rattle.markdown.proofs.Changes.{exited-made, exited-marks, exited-choices, exited-at}
 use Rattle.markdown.proofs.tokenizer.Tokenizer.exit.Goals as goal
 

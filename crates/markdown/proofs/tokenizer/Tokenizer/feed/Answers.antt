@@ -1,4 +1,3 @@
-use Rattle.std.proofs.Common.{◌≡◌, ◌∙◌, sym, ap, refl}
 use Rattle.markdown.proofs.Steps.{before-end, fed-more, fed-seen, fed-sound, fed-past, fed-none}
 use Rattle.markdown.proofs.tokenizer.Tokenizer.feed.Goals as goal
 

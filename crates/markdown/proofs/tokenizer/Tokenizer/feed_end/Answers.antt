@@ -1,4 +1,3 @@
-use Rattle.std.proofs.Common.{◌≡◌, ◌≤◌}
 use Rattle.markdown.proofs.Steps.{end-fed-sound}
 use Rattle.markdown.proofs.tokenizer.Tokenizer.feed_end.Goals as goal
 

@@ -1,4 +1,4 @@
-use Rattle.std.proofs.Common.{◌≡◌, ◌∙◌, ap, sym, refl}
+use Rattle.std.proofs.Common.{refl}
 use Rattle.markdown.proofs.Fields.{read-start}
 use Rattle.markdown.proofs.Changes.{start-end, start-empty, start-found, start-text, start-made}
 use Rattle.markdown.proofs.tokenizer.Tokenizer.new.Goals as goal

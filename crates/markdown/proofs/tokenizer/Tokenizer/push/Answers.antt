@@ -1,4 +1,4 @@
-use Rattle.std.proofs.Common.{◌≡◌, ◌∙◌, ◌∷◌, sym, refl, true, false}
+use Rattle.std.proofs.Common.{◌≡◌, ◌∙◌, ◌∷◌, sym, true, false}
 use Rattle.markdown.specs.Text.{pushed}
 use Rattle.markdown.proofs.Working.{holds-on, not-true, text-extended, is-pushed}
 use Rattle.markdown.proofs.tokenizer.Tokenizer.push.Goals as goal

@@ -1,4 +1,4 @@
-use Rattle.std.proofs.Common.{◌≡◌, ◌≢◌, ◌∙◌, ap, sym, refl}
+use Rattle.std.proofs.Common.{sym, refl}
 use Rattle.markdown.proofs.Changes.{front-marks, settled-seen, restored-progress, restored-made, restored-marks, restored-choices}
 use Rattle.markdown.proofs.tokenizer.Tokenizer.settle_last.Goals as goal
 

@@ -1,4 +1,4 @@
-use Rattle.std.proofs.Common.{◌≡◌, ◌∙◌, sym}
+use Rattle.std.proofs.Common.{◌∙◌}
 use Rattle.markdown.proofs.Steps.{stack-is}
 use Rattle.markdown.proofs.tokenizer.Tokenizer.stack.Goals as goal
 

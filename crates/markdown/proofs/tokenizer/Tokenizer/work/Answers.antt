@@ -1,4 +1,4 @@
-use Rattle.std.proofs.Common.{◌≡◌, ◌∙◌, sym, ap, refl, ℕ, ◌+◌}
+use Rattle.std.proofs.Common.{◌∙◌, sym, ap, ℕ, ◌+◌}
 use Rattle.markdown_base.specs.declared.state.State.TheVariants.{Retry}
 use Rattle.markdown.specs.Text.{Given}
 use Rattle.markdown.specs.Engine.{budget}
