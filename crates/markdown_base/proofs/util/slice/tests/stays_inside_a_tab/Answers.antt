@@ -1,9 +1,25 @@
-use Rattle.std.proofs.Common.{refl, sym, subst, lit<}
+use Rattle.std.proofs.Common.{ℕ, List, [], ◌∷◌, refl, sym, subst, lit<}
+use Rattle.markdown_base.specs.declared.event.Point.{Point}
 use Rattle.markdown_base.specs.Places.{IsPointOf}
+use Rattle.markdown_base.specs.Virtual.{point}
 use Rattle.markdown_base.proofs.util.slice.tests.stays_inside_a_tab.Goals as goal
 
+-- the bytes of the document
+abbrev document : List ℕ
+document = 62 ∷ 32 ∷ 32 ∷ 32 ∷ 32 ∷ 9 ∷ 102 ∷ 111 ∷ 111 ∷ []
+
+start_is_place : IsPointOf 4 document (point 1 7 5 1)
+start_is_place = (12, lit< tt, refl)
+
+end_is_place : IsPointOf 4 document (point 1 8 5 2)
+end_is_place = (14, lit< tt, refl)
+
 pub from_position-slice-requires-clause-start_is_place : goal.from_position-slice-requires-clause-start_is_place
-from_position-slice-requires-clause-start_is_place g c = rw c.at-start.ensures (12, lit< tt, refl)
+from_position-slice-requires-clause-start_is_place g c =
+    let P : Point → Type 0 = λ p. IsPointOf 4 document p in
+    subst P (sym c.at-start.ensures) start_is_place
 
 pub from_position-slice-requires-clause-end_is_place : goal.from_position-slice-requires-clause-end_is_place
-from_position-slice-requires-clause-end_is_place g c = rw c.at-end.ensures (14, lit< tt, refl)
+from_position-slice-requires-clause-end_is_place g c =
+    let P : Point → Type 0 = λ p. IsPointOf 4 document p in
+    subst P (sym c.at-end.ensures) end_is_place
