@@ -1,5 +1,4 @@
-use Rattle.std.proofs.Common.{refl, sym, subst, lit<}
-use Rattle.markdown_base.specs.Places.{IsPointOf}
+use Rattle.std.proofs.Common.{refl, lit<}
 use Rattle.markdown_base.proofs.util.slice.tests.ends_inside_a_tab.Goals as goal
 
 pub from_position-slice-requires-clause-end_is_place : goal.from_position-slice-requires-clause-end_is_place
