@@ -23,12 +23,12 @@ use Rattle.markdown_base.specs.declared.configuration.ParseOptions.{ParseOptions
 use Rattle.markdown_base.specs.declared.event.Event.{Event}
 use Rattle.markdown_base.specs.declared.message.Message.{Message}
 use Rattle.markdown.specs.Cursor.{rest_at, Every, IsPlace, IsNextSeat, Bounds}
-use Rattle.markdown.specs.Orders.{every-map, filter-every}
-use Rattle.markdown.specs.Seats.{seat-in-tab, seat-other, seat-cr, seat-crlf, rest-later}
-use Rattle.markdown.specs.Chains.{IsChain, whole-chain}
-use Rattle.markdown.specs.Standing.{end-place, place-of-point, rest-after}
-use Rattle.markdown.specs.SeatLaws.{end-is-point}
-use Rattle.markdown.specs.Cursors.{upto-order, upto-self, same-self, range-empty, range-extended}
+use Rattle.markdown.proofs.Orders.{every-map, filter-every}
+use Rattle.markdown.proofs.Seats.{seat-in-tab, seat-other, seat-cr, seat-crlf, rest-later}
+use Rattle.markdown.proofs.Chains.{IsChain, whole-chain}
+use Rattle.markdown.proofs.Standing.{end-place, place-of-point, rest-after}
+use Rattle.markdown.proofs.SeatLaws.{end-is-point}
+use Rattle.markdown.proofs.Cursors.{upto-order, upto-self, same-self, range-empty, range-extended}
 use Rattle.markdown.proofs.Working.{leads-trans, leads-refl, text-on, holds-on}
 
 -- where a search comes to, among places of seats that it does not want

@@ -8,19 +8,8 @@ pub mod Engine
 pub mod Work
 pub mod View
 pub mod Cursor
-pub mod Orders
-pub mod Seats
-pub mod Chains
-pub mod Standing
 pub mod OpenNames
 pub mod Made
-pub mod MadeLemmas
-pub mod Balanced
-pub mod Cursors
-pub mod Points
-pub mod Fields
-pub mod Steps
-pub mod Changes
 pub mod Edited
 pub mod Edits
 pub mod Links
@@ -32,3 +21,5 @@ pub mod Cuts
 pub mod Walks
 pub mod SeatLaws
 pub mod TextOrder
+pub mod SpanWalks
+pub mod SpanWalksInner

@@ -4,12 +4,12 @@
 pub mod count;
 mod cursor;
 pub mod parser;
-pub mod places;
+mod places;
 pub mod state;
 pub mod subtokenize;
 pub mod tokenizer;
 pub mod util;
 pub mod waiting;
-pub mod work;
+mod work;
 
 pub use markdown_base::{configuration, event, message, owned, unist};

@@ -194,6 +194,7 @@ impl<'a, M: Machine> Tokenizer<'a, M> {
         ensures message { (m : _) → IsErrOf result (Fault.Message m) → IsRefused self.old.given (M.step self.old.machine self.old.given) self.old state self.new m }
         ensures err { self.old.closed ≡ false → IfErr result (λ fault. fault ≢ Fault.Failed) }
         ensures paid { self.old.closed ≡ false → IfOk result (λ _. self.new.calls ≤ budget (M.cost self.old.machine self.old.given) (M.reserve self.old.machine self.old.given) self.old.text self.old state) }
+        ensures paid_message { (m : _) → IsErrOf result (Fault.Message m) → self.new.calls ≤ budget (M.cost self.old.machine self.old.given) (M.reserve self.old.machine self.old.given) self.old.text self.old state }
         ensures same { IfOk result (λ _. (self.new.given ≡ self.old.given) × (self.new.machine ≡ self.old.machine) × (self.new.text ≡ self.old.text)) }
         ensures well_formed { IfOk result (λ _. IsWellFormed self.new.given.bytes self.new.configuration) }
     {

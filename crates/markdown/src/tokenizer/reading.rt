@@ -1,6 +1,7 @@
 //! The calls that read a tokenizer.
 
-ghost use Rattle.std.specs.Prelude.{◌≡◌};
+ghost use Rattle.std.specs.Prelude.{◌≡◌, map};
+ghost use Rattle.markdown_base.specs.Events.{open_events};
 ghost use Rattle.markdown.specs.Sight.{sight};
 
 use super::Tokenizer;
@@ -18,7 +19,8 @@ impl<'a, M: MachineTypes> Tokenizer<'a, M> {
 
     /// The names of the open spans, the innermost last.
     pub fn stack(&self) -> &[Name]
-        ensures { result.now ≡ self.now.configuration.stack }
+        ensures stack { result.now ≡ self.now.configuration.stack }
+        ensures open_spans { result.now ≡ map (λ e. e.name) (open_events self.now.configuration.events) }
     {
         self.stack.as_slice()
     }

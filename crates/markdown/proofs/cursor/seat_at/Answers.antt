@@ -1,5 +1,5 @@
 use Rattle.std.proofs.Common.{◌≡◌, ◌<◌, arith, rules, suc, add-one, lit<}
-use Rattle.markdown.specs.Seats.{seat-in-tab, seat-other, seat-crlf, seat-cr}
+use Rattle.markdown.proofs.Seats.{seat-in-tab, seat-other, seat-crlf, seat-cr}
 use Rattle.markdown.proofs.cursor.seat_at.Goals.{else-point-bytes-2-via-then-point-bytes-2+else-bytes-point-eq10, else-point-bytes-2-via-else-point-bytes-2}
 use Rattle.markdown.proofs.cursor.seat_at.Goals as goal
 

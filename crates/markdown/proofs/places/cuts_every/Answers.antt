@@ -3,8 +3,8 @@ use Rattle.std.proofs.lemmas.List.{append-nil}
 use Rattle.markdown.specs.Cuts.{is_cut}
 use Rattle.markdown_base.specs.declared.event.Point.{Point}
 use Rattle.markdown.specs.Cursor.{rest_at}
-use Rattle.markdown.specs.Standing.{seat-end-is}
-use Rattle.markdown.specs.Walks.{IsCutting, cutting-place, cutting-number, cutting-next, cutting-ended, walk-shorter, bounds-fit, seat-fits, cut-is, cut-not, cut-first}
+use Rattle.markdown.proofs.Standing.{seat-end-is}
+use Rattle.markdown.proofs.FromStart.{IsCutting, cutting-place, cutting-number, cutting-next, cutting-ended, walk-shorter, bounds-fit, seat-fits, cut-is, cut-not, cut-first}
 use Rattle.markdown.proofs.places.cuts_every.Goals.{then-number-gt0+then-number-n-eq0+in_ok-push, else-number-gt0, else-number-gt0-via-then-number-gt0+else-number-n-eq0, else-number-gt0-via-else-number-gt0}
 use Rattle.markdown.proofs.places.cuts_every.Goals as goal
 

@@ -1,6 +1,6 @@
 use Rattle.std.proofs.Common.{length}
 use Rattle.markdown.specs.Cursor.{rest_at}
-use Rattle.markdown.specs.Walks.{IsCutting}
+use Rattle.markdown.proofs.FromStart.{IsCutting}
 use Rattle.markdown.proofs.places.cuts_every.Given as goal
 
 abbrev pub invariant-loop-byte : goal.invariant-loop-byte

@@ -2,8 +2,8 @@ use Rattle.std.proofs.Common.{◌≡◌, ◌+◌, ◌*◌, ◌<◌, ◌≤◌, B
 use Rattle.markdown_base.specs.declared.event.Point.{Point}
 use Rattle.markdown_base.specs.Places.{shown}
 use Rattle.markdown.specs.Cursor.{rest_at}
-use Rattle.markdown.specs.Standing.{seat-end-is}
-use Rattle.markdown.specs.Walks.{IsSearch, is_place, search-place, search-shown, search-seat, search-next, search-ended, walk-shorter, seat-fits}
+use Rattle.markdown.proofs.Standing.{seat-end-is}
+use Rattle.markdown.proofs.FromStart.{IsSearch, is_place, search-place, search-shown, search-seat, search-next, search-ended, walk-shorter, seat-fits}
 use Rattle.markdown.proofs.places.point_at.Goals as goal
 
 pub seat_at-requires : goal.seat_at-requires

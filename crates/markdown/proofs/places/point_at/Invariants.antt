@@ -1,6 +1,6 @@
 use Rattle.std.proofs.Common.{length}
 use Rattle.markdown.specs.Cursor.{rest_at}
-use Rattle.markdown.specs.Walks.{IsSearch}
+use Rattle.markdown.proofs.FromStart.{IsSearch}
 use Rattle.markdown.proofs.places.point_at.Given as goal
 
 abbrev pub invariant-loop-byte : goal.invariant-loop-byte

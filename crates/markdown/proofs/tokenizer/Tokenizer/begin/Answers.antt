@@ -1,6 +1,6 @@
 use Rattle.std.proofs.Common.{◌≡◌, ◌∙◌, ◌++◌, ◌∷◌, [], take, length, List, ℕ, ap, sym, refl}
 use Rattle.markdown_base.specs.declared.event.Name.{Name}
-use Rattle.markdown.specs.Changes.{entered-made, entered-marks, entered-choices, entered-at, take-pushed}
+use Rattle.markdown.proofs.Changes.{entered-made, entered-marks, entered-choices, entered-at, take-pushed}
 use Rattle.markdown.proofs.tokenizer.Tokenizer.begin.Goals as goal
 
 pub invariant_of-self-in-Ok : goal.invariant_of-self-in-Ok

@@ -1,4 +1,4 @@
-use Rattle.markdown.specs.Fields.{closed-sound}
+use Rattle.markdown.proofs.Fields.{closed-sound}
 use Rattle.markdown.proofs.tokenizer.Tokenizer.close.Goals as goal
 
 pub invariant_of-self : goal.invariant_of-self

@@ -1,5 +1,5 @@
 use Rattle.std.proofs.Common.{◌≡◌}
-use Rattle.markdown.specs.Steps.{byte-waits, consumed-line, consumed-column, consumed-index, consumed-spaces, consumed-sound, consumed-seen, byte-of-seat}
+use Rattle.markdown.proofs.Steps.{byte-waits, consumed-line, consumed-column, consumed-index, consumed-spaces, consumed-sound, consumed-seen, byte-of-seat}
 use Rattle.markdown.proofs.tokenizer.Tokenizer.consume.Goals as goal
 
 pub end_of-left-requires-clause-line : goal.end_of-left-requires-clause-line

@@ -1,4 +1,4 @@
-use Rattle.markdown.specs.Steps.{current-is}
+use Rattle.markdown.proofs.Steps.{current-is}
 use Rattle.markdown.proofs.tokenizer.Tokenizer.current.Goals as goal
 
 pub returns : goal.returns

@@ -2,7 +2,7 @@ use Rattle.std.proofs.Common.{◌≡◌, ◌∙◌, ◌-◌, ◌++◌, ◌∷◌
 use Rattle.markdown_base.specs.declared.event.Name.{Name}
 use Rattle.markdown.specs.Calls.{CanExit}
 use Rattle.markdown.specs.View.{seen}
-use Rattle.markdown.specs.Changes.{exited-made, exited-marks, exited-choices, exited-at}
+use Rattle.markdown.proofs.Changes.{exited-made, exited-marks, exited-choices, exited-at}
 use Rattle.markdown.proofs.tokenizer.Tokenizer.exit.Goals as goal
 
 pub invariant_of-self-2 : goal.invariant_of-self-2

@@ -1,5 +1,5 @@
 use Rattle.std.proofs.Common.{◌≡◌, ◌∙◌, sym, subst}
-use Rattle.markdown.specs.Changes.{extended-sound, extended-seen, same-some, ExtendedAt}
+use Rattle.markdown.proofs.Changes.{extended-sound, extended-seen, same-some, ExtendedAt}
 use Rattle.markdown_base.specs.declared.event.Point.{Point}
 use Rattle.markdown.proofs.tokenizer.Tokenizer.extend.Goals as goal
 

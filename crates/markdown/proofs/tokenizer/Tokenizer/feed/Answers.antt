@@ -1,5 +1,5 @@
 use Rattle.std.proofs.Common.{◌≡◌, ◌∙◌, sym, ap, refl}
-use Rattle.markdown.specs.Steps.{before-end, fed-more, fed-seen, fed-sound, fed-past, fed-none}
+use Rattle.markdown.proofs.Steps.{before-end, fed-more, fed-seen, fed-sound, fed-past, fed-none}
 use Rattle.markdown.proofs.tokenizer.Tokenizer.feed.Goals as goal
 
 pub seat_at-requires : goal.seat_at-requires

@@ -1,5 +1,5 @@
 use Rattle.std.proofs.Common.{◌≡◌, ◌≤◌}
-use Rattle.markdown.specs.Steps.{end-fed-sound}
+use Rattle.markdown.proofs.Steps.{end-fed-sound}
 use Rattle.markdown.proofs.tokenizer.Tokenizer.feed_end.Goals as goal
 
 pub invariant_of-self : goal.invariant_of-self

@@ -67,3 +67,11 @@ returns-in-Ok-answer-clause-well_formed g c =
     let h' = rw c.in-Ok-answer.is at h in
     let none_open = ((g.met.M.Machine.ends_when_read m given).ok u.text u.configuration is h').1 in
     rw c.take_definitions.ensures.rest (taken-formed u.given.bytes u.configuration (c.tells_events.ensures none_open))
+
+pub returns-in-Error-clause-paid_message : goal.returns-in-Error-clause-paid_message
+returns-in-Error-clause-paid_message g c message is =
+    let i = g.M.Machine in
+    let old = c.close.new.self in let m = old.machine in let given = old.given in
+    let u = c.work.new.self in
+    let e = c.in-Ok.ensures in
+    rw c.close.ensures at (flush-paid given (i.step m given) (i.holds m given) (i.cost m given) (i.reserve m given) old u c.args.state c.in-Ok.answer e.same e.leads)

@@ -1,4 +1,4 @@
-use Rattle.markdown.specs.Changes.{linked-made, linked-marks}
+use Rattle.markdown.proofs.Changes.{linked-made, linked-marks}
 use Rattle.markdown.proofs.tokenizer.Tokenizer.link_to.Goals as goal
 
 pub invariant_of-self : goal.invariant_of-self

@@ -1,6 +1,6 @@
 use Rattle.std.proofs.Common.{◌≡◌, ◌∙◌, ap, sym, refl}
-use Rattle.markdown.specs.Fields.{read-start}
-use Rattle.markdown.specs.Changes.{start-end, start-empty, start-found, start-text, start-made}
+use Rattle.markdown.proofs.Fields.{read-start}
+use Rattle.markdown.proofs.Changes.{start-end, start-empty, start-found, start-text, start-made}
 use Rattle.markdown.proofs.tokenizer.Tokenizer.new.Goals as goal
 
 pub invariant_of-result : goal.invariant_of-result

@@ -1,4 +1,4 @@
-use Rattle.markdown.specs.Steps.{point-is}
+use Rattle.markdown.proofs.Steps.{point-is}
 use Rattle.markdown.proofs.tokenizer.Tokenizer.point.Goals as goal
 
 pub returns : goal.returns

@@ -1,5 +1,5 @@
 use Rattle.std.proofs.Common.{◌≡◌, ◌≢◌, ◌∙◌, ap, sym, refl}
-use Rattle.markdown.specs.Changes.{front-marks, settled-seen, restored-progress, restored-made, restored-marks, restored-choices}
+use Rattle.markdown.proofs.Changes.{front-marks, settled-seen, restored-progress, restored-made, restored-marks, restored-choices}
 use Rattle.markdown.proofs.tokenizer.Tokenizer.settle_last.Goals as goal
 
 pub invariant_of-self-in-Some-saved_for : goal.invariant_of-self-in-Some-saved_for

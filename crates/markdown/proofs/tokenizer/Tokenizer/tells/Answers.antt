@@ -1,4 +1,4 @@
-use Rattle.markdown.specs.Steps.{in-text}
+use Rattle.markdown.proofs.Steps.{in-text}
 use Rattle.markdown.proofs.tokenizer.Tokenizer.tells.Goals as goal
 
 pub returns : goal.returns

@@ -1,4 +1,4 @@
-use Rattle.markdown.specs.Steps.{well-formed}
+use Rattle.markdown.proofs.Steps.{well-formed}
 use Rattle.markdown.proofs.tokenizer.Tokenizer.tells_events.Goals as goal
 
 pub returns : goal.returns

@@ -9,9 +9,9 @@ use Rattle.markdown_base.specs.declared.event.Point.{Point}
 use Rattle.markdown_base.specs.Virtual.{Seat, point, virtual_from, virtual, end_after, document_end}
 use Rattle.markdown_base.specs.Places.{stands_before, shown, follows_cr, IsShown, IsPointOf, points}
 use Rattle.markdown.specs.Cursor.{rest_at, Every, Bounds, IsPlace, IsSeatAt, end_at}
-use Rattle.markdown.specs.Orders.{is-number, not-number, before-self, before-later, later-later, after-before, above-later, before-upto, upto-before, every-append, every-map, every-front, every-back, every-all}
-use Rattle.markdown.specs.Seats.{rest-later}
-use Rattle.markdown.specs.Chains.{IsAt, Begins, IsChain, whole-chain, shown-other}
+use Rattle.markdown.proofs.Orders.{is-number, not-number, before-self, before-later, later-later, after-before, above-later, before-upto, upto-before, every-append, every-map, every-front, every-back, every-all}
+use Rattle.markdown.proofs.Seats.{rest-later}
+use Rattle.markdown.proofs.Chains.{IsAt, Begins, IsChain, whole-chain, shown-other}
 
 module _ (t : ℕ) (bytes : List ℕ) where
   pub chain-at : (p : Point) (xs : List Seat) → IsChain t bytes p xs → IsAt t bytes p xs

@@ -6,9 +6,9 @@ use Rattle.markdown_base.specs.declared.event.Point.{Point}
 use Rattle.markdown_base.specs.Virtual.{point, end_after}
 use Rattle.markdown_base.specs.Places.{stands_before, shown, follows_cr, is_upto, denotes_same, IsPointOf, points, point_at}
 use Rattle.markdown.specs.Cursor.{IsPlace}
-use Rattle.markdown.specs.Orders.{is-number}
-use Rattle.markdown.specs.Standing.{place-of-point}
-use Rattle.markdown.specs.Cursors.{same-behind, upto-order, upto-same}
+use Rattle.markdown.proofs.Orders.{is-number}
+use Rattle.markdown.proofs.Standing.{place-of-point}
+use Rattle.markdown.proofs.Cursors.{same-behind, upto-order, upto-same}
 
 line-of : (b : Bool) (p q : Point) → q.line ≡ p.line → (cond b q p).line ≡ p.line
 line-of true p q e = e

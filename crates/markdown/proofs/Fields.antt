@@ -20,10 +20,10 @@ use Rattle.markdown.specs.View.{TAB, seen, text_of, seats_between, IsReadTo, Byt
 use Rattle.markdown.specs.declared.waiting.Mark.{Mark}
 use Rattle.markdown.specs.declared.waiting.Progress.{Progress}
 use Rattle.markdown.specs.Cursor.{Every, IsPlace, IsSeatAt, rest_at}
-use Rattle.markdown.specs.Seats.{rest-later}
-use Rattle.markdown.specs.Standing.{seat-begins, place-of-point, next-begins, end-seat-place, seat-shown, shown-shown}
-use Rattle.markdown.specs.Cursors.{upto-self, upto-upto, upto-same, number-self, range-empty, next-is, next-none, next-nothing, read-within, after-upto, upto-after, after-number, end-upto, same-upto, same-back, range-continued, rest-none}
-use Rattle.markdown.specs.Points.{same-shown}
+use Rattle.markdown.proofs.Seats.{rest-later}
+use Rattle.markdown.proofs.Standing.{seat-begins, place-of-point, next-begins, end-seat-place, seat-shown, shown-shown}
+use Rattle.markdown.proofs.Cursors.{upto-self, upto-upto, upto-same, number-self, range-empty, next-is, next-none, next-nothing, read-within, after-upto, upto-after, after-number, end-upto, same-upto, same-back, range-continued, rest-none}
+use Rattle.markdown.proofs.Points.{same-shown}
 
 slice_get-front : {A : Type 0} (xs ys : List A) (i : ℕ) → i < length xs → slice_get (xs ++ ys) i ≡ slice_get xs i
 slice_get-front [] ys i h = absurd (omega arith)

@@ -27,17 +27,17 @@ use Rattle.markdown.specs.Work.{extended, settled, IsSettled, answer_of}
 use Rattle.markdown.specs.Reading.{settled_at, restored}
 use Rattle.markdown.specs.View.{TAB, seen, text_of, end_point, seats_between, choice_of, saved_of, saved_for, goal_of, state_of, IsReadTo, ByteWaits, EndWaits, IsWaiting, IsProgress, AreNested, events_of, stack_of, IsSound}
 use Rattle.markdown.specs.Cursor.{IsPlace, IsSeatAt}
-use Rattle.markdown.specs.Standing.{place-of-point, shown-shown}
-use Rattle.markdown.specs.Cursors.{upto-self, upto-upto, upto-same, same-upto, same-back, range-empty, range-same, same-self, end-upto}
-use Rattle.markdown.specs.Points.{point_at-point, point_at-is}
+use Rattle.markdown.proofs.Standing.{place-of-point, shown-shown}
+use Rattle.markdown.proofs.Cursors.{upto-self, upto-upto, upto-same, same-upto, same-back, range-empty, range-same, same-self, end-upto}
+use Rattle.markdown.proofs.Points.{point_at-point, point_at-is}
 use Rattle.markdown.specs.Made.{IsMade}
-use Rattle.markdown.specs.MadeLemmas.{made-new, made-enter-at, made-exit-at, made-front, made-linked, made-kept, upto-self as upto-self-point}
+use Rattle.markdown.proofs.MadeLemmas.{made-new, made-enter-at, made-exit-at, made-front, made-linked, made-kept, upto-self as upto-self-point}
 use Rattle.markdown_base.specs.Events.{unlinked, HasFrontUpToLinks}
 use Rattle.markdown.specs.Links.{linked_to, updated_at, with_next, with_previous}
 use Rattle.std.proofs.lemmas.List.{length-map}
-use Rattle.markdown.specs.Fields.{four, text_between, read-start, within, next-more, read-extended, extended-seats, nested-map, nested-wider, nested-front}
+use Rattle.markdown.proofs.Fields.{four, text_between, read-start, within, next-more, read-extended, extended-seats, nested-map, nested-wider, nested-front}
 use Rattle.markdown.specs.Sight.{sight}
-use Rattle.markdown.specs.Steps.{end-place-in, here-left, here-is, left-is}
+use Rattle.markdown.proofs.Steps.{end-place-in, here-left, here-is, left-is}
 
 -- pieces that can follow one after another
 can-follow-more : (g : Given) (text : Text) (pieces : List Piece) (piece : Piece) → CanFollow g text pieces → FitsAfter g (followed_by_all g text pieces) piece → CanFollow g text (pieces ++ piece ∷ [])

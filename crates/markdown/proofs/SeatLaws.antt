@@ -9,8 +9,8 @@ use Rattle.markdown_base.specs.declared.event.Point.{Point}
 use Rattle.markdown_base.specs.Virtual.{Seat, point, virtual, end_after, document_end}
 use Rattle.markdown_base.specs.Places.{stands_before, shown, IsPointOf, points}
 use Rattle.markdown.specs.Cursor.{Every, IsSeatAt}
-use Rattle.markdown.specs.Orders.{before-self, every-back}
-use Rattle.markdown.specs.Standing.{IsAmong, Ascends, seat-begins}
+use Rattle.markdown.proofs.Orders.{before-self, every-back}
+use Rattle.markdown.proofs.Standing.{IsAmong, Ascends, seat-begins}
 
 append-one : (xs : List Seat) (s : Seat) (ys : List Seat) → xs ++ s ∷ ys ≡ (xs ++ s ∷ []) ++ ys
 append-one xs s ys = sym (append_assoc xs (s ∷ []) ys)

@@ -27,13 +27,13 @@ use Rattle.markdown.specs.Engine.{IsWellFormed}
 use Rattle.markdown.specs.Work.{IsInText, extended}
 use Rattle.markdown.specs.View.{TAB, seen, text_of, end_point, seats_between, choice_of, saved_of, IsReadTo, ByteWaits, EndWaits, IsWaiting, IsProgress, AreNested, events_of, stack_of, IsSound}
 use Rattle.markdown.specs.Cursor.{Every, IsPlace, IsSeatAt, rest_at, end_at}
-use Rattle.markdown.specs.Orders.{later-later}
-use Rattle.markdown.specs.Standing.{place-of-point, shown-shown, shown-upto, seat-place, seat-shown, seat-passes, seat-end-is}
-use Rattle.markdown.specs.Cursors.{upto-self, upto-upto, upto-same, same-upto, range-empty, range-same, same-self, end-upto, after-number}
-use Rattle.markdown.specs.Points.{point_at-point, point_at-is, shown-line, shown-column, one-point, same-numbers}
+use Rattle.markdown.proofs.Orders.{later-later}
+use Rattle.markdown.proofs.Standing.{place-of-point, shown-shown, shown-upto, seat-place, seat-shown, seat-passes, seat-end-is}
+use Rattle.markdown.proofs.Cursors.{upto-self, upto-upto, upto-same, same-upto, range-empty, range-same, same-self, end-upto, after-number}
+use Rattle.markdown.proofs.Points.{point_at-point, point_at-is, shown-line, shown-column, one-point, same-numbers}
 use Rattle.markdown.specs.Made.{IsMade}
-use Rattle.markdown.specs.MadeLemmas.{made-new, made-enter-at, made-exit-at, made-consume, made-end, made-front}
-use Rattle.markdown.specs.Fields.{four, text_between, read-start, within, next-shown, next-seat, next-more, next-past, read-next, next-none-left, ends-here, end-shown, read-extended, extended-seats, nested-map, nested-wider, nested-front}
+use Rattle.markdown.proofs.MadeLemmas.{made-new, made-enter-at, made-exit-at, made-consume, made-end, made-front}
+use Rattle.markdown.proofs.Fields.{four, text_between, read-start, within, next-shown, next-seat, next-more, next-past, read-next, next-none-left, ends-here, end-shown, read-extended, extended-seats, nested-map, nested-wider, nested-front}
 
 nat_lt-is : (a b : ℕ) → a < b → nat_lt a b ≡ true
 nat_lt-is a b h = search (rules, lt-ltb)
@@ -110,6 +110,9 @@ module _ {M R D : Type 0} (t : Inside M R D) (sound : IsSound t) where
       let m = subst (λ (stack : List Name). IsMade bytes_in t.events.items stack (shown bytes_in t.left) (shown bytes_in t.left)) e sound.made in
       let w = made-end bytes_in t.events.items (shown bytes_in t.left) (shown bytes_in t.left) m in
       record { balanced = w.0; void_tight = w.1; in_order = w.2 }
+
+  pub stack-is : t.stack.items ≡ map (λ e. e.name) (open_events t.events.items)
+  stack-is = sym sound.made.names
 
   -- the test of the code
   pub before-end : (q : Point) (b : Bool) → b ≡ (nat_lt q.index t.end.0 || ((q.index == t.end.0) && nat_lt q.vs t.end.1)) → stands_before q end_in ≡ b

@@ -10,9 +10,9 @@ use Rattle.markdown_base.specs.Virtual.{Seat, virtual}
 use Rattle.markdown_base.specs.Places.{stands_before, shown, is_upto, denotes_same}
 use Rattle.markdown.specs.Cursor.{rest_at, Every, IsPlace, IsSeatAt, number_of}
 use Rattle.markdown.specs.Text.{in_range}
-use Rattle.markdown.specs.Orders.{before-later, later-later, after-before, before-self, before-upto, every-map, every-both, every-append, every-front, every-back, every-all, filter-none, filter-every, filter-same}
-use Rattle.markdown.specs.Seats.{rest-later}
-use Rattle.markdown.specs.Standing.{seat-splits, next-begins, seat-place, end-seat-place, seat-rest, seat-passes}
+use Rattle.markdown.proofs.Orders.{before-later, later-later, after-before, before-self, before-upto, every-map, every-both, every-append, every-front, every-back, every-all, filter-none, filter-every, filter-same}
+use Rattle.markdown.proofs.Seats.{rest-later}
+use Rattle.markdown.proofs.Standing.{seat-splits, next-begins, seat-place, end-seat-place, seat-rest, seat-passes}
 
 module _ {A : Type 0} (f : A → Bool) where
   list-every : (xs : List A) → list_all f xs ≡ true → Every (λ x. f x ≡ true) xs

@@ -9,7 +9,7 @@ use Rattle.markdown_base.specs.declared.event.Point.{Point}
 use Rattle.markdown_base.specs.Virtual.{Seat, point, tab_width, in_tab, end_in_tab, virtual_from, virtual, begins_with_lf, line_feed, plain}
 use Rattle.markdown_base.specs.Places.{stands_before}
 use Rattle.markdown.specs.Cursor.{rest_at, Every, Bounds, IsPlace, IsSeatAt, IsNextSeat}
-use Rattle.markdown.specs.Orders.{every-map, every-append, every-cond, not-before, not-before-in, above-later, before-self, eq-zero, is-number, not-number}
+use Rattle.markdown.proofs.Orders.{every-map, every-append, every-cond, not-before, not-before-in, above-later, before-self, eq-zero, is-number, not-number}
 
 -- seats from an index on
 abbrev FromIndex : ℕ → Seat → Type 0
