@@ -6,6 +6,7 @@ mod failure;
 mod fakes;
 mod lines;
 mod print;
+mod program;
 mod read;
 mod words;
 mod write;
