@@ -18,8 +18,6 @@ pub mod Stored
 pub mod Survivors
 pub mod Woven
 pub mod Cuts
-pub mod Walks
-pub mod SeatLaws
-pub mod TextOrder
 pub mod SpanWalks
 pub mod SpanWalksInner
+pub mod TextOrder

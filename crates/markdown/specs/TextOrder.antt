@@ -13,11 +13,11 @@ use Rattle.markdown.specs.declared.waiting.Waits.TheVariants.{Byte}
 use Rattle.markdown.specs.Text.{Given, Text, Piece, pushed, passed, IsText, empty_text, followed_by, followed_by_all, FitsAfter, CanFollow, in_range}
 use Rattle.markdown.specs.Sight.{sight_of}
 use Rattle.markdown.specs.Cursor.{Every}
-use Rattle.markdown.specs.Orders.{before-self, above-later, below-before, more-before, not-before, not-before-in, is-number, is-not, later-later, after-before, before-upto, upto-before, every-append, every-map, every-both, every-all}
-use Rattle.markdown.specs.Seats.{virtual-index}
-use Rattle.markdown.specs.Chains.{shown-other, shown-after}
-use Rattle.markdown.specs.Standing.{shown-upto}
-use Rattle.markdown.specs.Cursors.{same-before}
+use Rattle.markdown.proofs.Orders.{before-self, above-later, below-before, more-before, not-before, not-before-in, is-number, is-not, later-later, after-before, before-upto, upto-before, every-append, every-map, every-both, every-all}
+use Rattle.markdown.proofs.Seats.{virtual-index}
+use Rattle.markdown.proofs.Chains.{shown-other, shown-after}
+use Rattle.markdown.proofs.Standing.{shown-upto}
+use Rattle.markdown.proofs.Cursors.{same-before}
 
 -- a virtual byte begins before it ends, at a place that is shown at itself
 abbrev pub IsGood : List ℕ → Seat → Type 0

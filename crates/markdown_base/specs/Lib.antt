@@ -1,8 +1,12 @@
+pub mod CharTexts
+pub mod Classes
 pub mod EventNames
 pub mod Events
 pub mod LineEndings
+pub mod Lines
 pub mod Places
 pub mod Presets
 pub mod Shown
+pub mod Slices
 pub mod States
 pub mod Virtual

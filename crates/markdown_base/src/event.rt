@@ -4,8 +4,13 @@
 //! and spans nest. Events of one kind of content are joined by links, so that a later pass reads them as
 //! one text.
 
-ghost use Rattle.std.specs.Prelude.{◌≡◌};
+ghost use Rattle.std.specs.Prelude.{◌≡◌, ◌<◌, ◌≤◌, ◌+◌, ◌*◌, ◌^◌, length, Some};
 ghost use Rattle.markdown_base.specs.EventNames.{text_of};
+ghost use Rattle.markdown_base.specs.Lines.{HasNoLineEnding};
+ghost use Rattle.markdown_base.specs.Places.{IsPointOf, point_at};
+
+use crate::unist;
+use crate::util::constant::TAB_SIZE;
 
 /// What a span is.
 ///
@@ -563,6 +568,42 @@ pub struct Point {
     pub vs: usize,
 }
 
+impl Point {
+    /// This point as unist has it: the byte index is its offset.
+    pub fn to_unist(&self) -> unist::Point
+        ensures point { result ≡ record { line = self.now.line; column = self.now.column; offset = self.now.index } }
+    {
+        unist::Point::new(self.line, self.column, self.index)
+    }
+
+    /// The point at a higher byte index of the same line. The index may be the document's length.
+    pub fn shift_to(&self, bytes: &[u8], index: usize) -> Point
+        requires fits { 4 * length bytes.now + 1 < 2 ^ 64 }
+        requires place { IsPointOf 4 bytes.now self.now }
+        requires whole { self.now.vs ≡ 0 }
+        requires forward { self.now.index < index }
+        requires inside { index ≤ length bytes.now }
+        requires in_line { HasNoLineEnding bytes.now self.now.index index }
+        ensures point { point_at 4 bytes.now (index, 0) ≡ Some result }
+        ensures line { result.line ≡ self.now.line }
+    {
+        let mut column = self.column;
+        for byte in &bytes[self.index..index] {
+            column += if *byte == b'\t' {
+                TAB_SIZE - (column - 1) % TAB_SIZE
+            } else {
+                1
+            };
+        }
+        Point {
+            line: self.line,
+            column,
+            index,
+            vs: 0,
+        }
+    }
+}
+
 /// The start or the end of a span.
 #[derive(Clone, Copy, Debug, PartialEq, Eq)]
 pub struct Event {
@@ -574,4 +615,23 @@ pub struct Event {
     pub point: Point,
     /// Where the event joins a chain, if it does.
     pub link: Option<Link>,
+}
+
+#[cfg(test)]
+mod tests {
+    use super::*;
+
+    #[test]
+    fn shifts_over_a_tab(rt: HostRuntime) {
+        let start = Point {
+            line: 1,
+            column: 1,
+            index: 0,
+            vs: 0,
+        };
+        let shifted = start.shift_to(b"a\tb", 2);
+        assert_eq!(rt; (shifted.line, shifted.column), (1, 5));
+        assert_eq!(rt; (shifted.index, shifted.vs), (2, 0));
+        assert_eq!(rt; shifted.to_unist(), unist::Point::new(1, 5, 2));
+    }
 }

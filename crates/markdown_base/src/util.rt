@@ -1,4 +1,7 @@
 //! Small helpers: characters, constants, line endings, offsets and slices.
 
+pub mod char;
 pub mod constant;
 pub mod line_ending;
+pub mod location;
+pub mod slice;

@@ -1,0 +1,137 @@
+-- Lemmas on the characters of a part of a text, and on how a code point is shown.
+use Rattle.std.proofs.Common.{◌≡◌, ℕ, zero, suc, ◌+◌, ◌-◌, ◌<◌, ◌≤◌, ◌^◌, Bool, true, false, List, [], ◌∷◌, ◌++◌, length, take, drop, get_or, refl, sym, ap, ◌∙◌, arith, subst, rules, tests, drop-cons, lt-ltb}
+use Rattle.std.specs.Prelude.{Option, Some, None, slice_get, nat_lt, IsUtf8, IsCharBoundary, replicate, codes, String, string_bytes, Result, Ok, Err, IfOk, IfSome, option_map}
+use Rattle.std.specs.List.{last_or}
+use Rattle.std.specs.Fmt.{digits, padded_integral, format_spec, char_count, digits_output, styled_digits_output, option_append}
+use Rattle.markdown_base.specs.CharTexts.{code_point}
+use Rattle.std.proofs.lemmas.Str.{IsCharBoundary-start, IsUtf8-between, IsUtf8-take, chars-append, chars-nil, encodes-chars, IsCharBoundary-after_ascii}
+use Rattle.std.specs.Str.{encode_utf8_all, chars}
+use Rattle.std.proofs.Math.Seq.{take-add, drop-length}
+use native.Mathlib.Numerals.{unary_clauses}
+use Rattle.std.proofs.lemmas.List.{take-append-drop, drop-drop, length-take, length-drop, append-nil}
+use Rattle.markdown_base.specs.Classes.{char_before, char_after, class_of, class_of_opt}
+use Rattle.std.specs.Char.{is_ascii_whitespace, is_whitespace, is_ascii_punctuation, is_ascii_alphanumeric}
+use Rattle.markdown_base.specs.declared.util.char.Kind.TheVariants.{Whitespace, Punctuation, Other}
+
+-- a byte that goes on with a character is not the first
+pub some_before : (bs : List ℕ) (i : ℕ) → IsUtf8 bs → i < length bs → 128 ≤ get_or bs i 0 → get_or bs i 0 < 192 → 1 ≤ i
+some_before bs zero text within low high =
+    let leads = (IsCharBoundary-start bs text).1 within low in
+    absurd (omega (arith, leads, high))
+some_before bs (suc i) text within low high = omega arith
+
+-- a part, and what comes before it
+front_is : (bs : List ℕ) (i j : ℕ) → i ≤ j → take j bs ≡ take i bs ++ take (j - i) (drop i bs)
+front_is bs i j le =
+    let e : j ≡ i + (j - i) = omega arith in
+    ap (λ n. take n bs) e ∙ take-add i (j - i) bs
+
+-- a part, and what follows it
+rest_is : (bs : List ℕ) (i j : ℕ) → i ≤ j → drop i bs ≡ take (j - i) (drop i bs) ++ drop j bs
+rest_is bs i j le =
+    let e : i + (j - i) ≡ j = omega arith in
+    sym (take-append-drop (j - i) (drop i bs)) ∙ ap (λ ds. take (j - i) (drop i bs) ++ ds) (drop-drop (j - i) i bs ∙ ap (λ n. drop n bs) e)
+
+last_of_both : (o : Option ℕ) (xs ys : List ℕ) → 0 < length ys → last_or o (xs ++ ys) ≡ last_or None ys
+last_of_both o [] [] some = absurd (omega arith)
+last_of_both o [] (y ∷ ys) some = refl
+last_of_both o (x ∷ xs) ys some = last_of_both (Some x) xs ys some
+
+first_of_both : (xs ys : List ℕ) → 0 < length xs → slice_get (xs ++ ys) 0 ≡ slice_get xs 0
+first_of_both [] ys some = absurd (omega arith)
+first_of_both (x ∷ xs) ys some = refl
+
+some_char : (bs : List ℕ) → IsUtf8 bs → 0 < length bs → 0 < length (chars bs)
+some_char bs text some = go (chars bs) (encodes-chars bs text)
+  where
+    go : (cs : List ℕ) → encode_utf8_all cs ≡ bs → 0 < length cs
+    go [] e = absurd (omega (arith, ap length e))
+    go (c ∷ cs) e = omega arith
+
+-- the last character before an index is that of a part that ends there
+pub char_before_part : (bs : List ℕ) (i j : ℕ) → IsUtf8 bs → i < j → j ≤ length bs → IsCharBoundary bs i → IsCharBoundary bs j
+    → char_before bs j ≡ last_or None (chars (take (j - i) (drop i bs)))
+char_before_part bs i j text lt within starts ends =
+    let part = IsUtf8-between bs i j text (omega arith) starts ends in
+    let long : 0 < length (take (j - i) (drop i bs)) = grind (arith, length-take, length-drop) in
+    ap (λ xs. last_or None (chars xs)) (front_is bs i j (omega arith))
+    ∙ ap (λ cs. last_or None cs) (chars-append (take i bs) (take (j - i) (drop i bs)) (IsUtf8-take bs i text starts))
+    ∙ last_of_both None (chars (take i bs)) (chars (take (j - i) (drop i bs))) (some_char (take (j - i) (drop i bs)) part long)
+
+-- the first character from an index on is that of a part that begins there
+pub char_after_part : (bs : List ℕ) (i j : ℕ) → IsUtf8 bs → i < j → j ≤ length bs → IsCharBoundary bs i → IsCharBoundary bs j
+    → char_after bs i ≡ slice_get (chars (take (j - i) (drop i bs))) 0
+char_after_part bs i j text lt within starts ends =
+    let part = IsUtf8-between bs i j text (omega arith) starts ends in
+    let long : 0 < length (take (j - i) (drop i bs)) = grind (arith, length-take, length-drop) in
+    ap (λ xs. slice_get (chars xs) 0) (rest_is bs i j (omega arith))
+    ∙ ap (λ cs. slice_get cs 0) (chars-append (take (j - i) (drop i bs)) (drop j bs) part)
+    ∙ first_of_both (chars (take (j - i) (drop i bs))) (chars (drop j bs)) (some_char (take (j - i) (drop i bs)) part long)
+
+-- what `{n:04X}` writes
+pub hexadecimal_is : (n : ℕ) → padded_integral (format_spec 32 0 4 4 (2 ^ 64 - 1)) false [] (digits 16 true n) ≡ replicate (4 - length (digits 16 true n)) 48 ++ digits 16 true n
+unfolding padded_integral char_count
+hexadecimal_is n = simp (unary_clauses, append-nil)
+
+-- what `format!` makes of `U+{n:04X}`
+pub code_point_written : {Z E : Type 0} (made : Result (String Z) E) (d : _) (spec : _) (n : ℕ) → digits_output d ≡ Some (digits 16 true n) → spec ≡ format_spec 32 0 4 4 (2 ^ 64 - 1)
+    → IfOk made (λ s. IfSome (option_append (Some (codes "U+")) (styled_digits_output d spec)) (λ bs. string_bytes s ≡ bs)) → IfOk made (λ s. string_bytes s ≡ code_point n)
+code_point_written (Err e) d spec n shows plain ok = tt
+code_point_written (Ok s) d spec n shows plain ok =
+    let written : IfSome (option_append (Some (codes "U+")) (option_map (padded_integral (format_spec 32 0 4 4 (2 ^ 64 - 1)) false []) (Some (digits 16 true n)))) (λ bs. string_bytes s ≡ bs) = rw (shows, plain) at ok in
+    written ∙ ap (λ ds. codes "U+" ++ ds) (hexadecimal_is n)
+
+-- nothing stands before a text's start, nor after its end
+pub none_before : (bs : List ℕ) (i : ℕ) → i ≡ 0 → char_before bs i ≡ None
+none_before bs i e = rw (e, chars-nil) refl
+
+pub none_after : (bs : List ℕ) (i : ℕ) → i ≡ length bs → char_after bs i ≡ None
+none_after bs i e = rw (e, drop-length, chars-nil) refl
+
+chars-ascii : (b : ℕ) → b < 128 → chars (b ∷ []) ≡ b ∷ []
+unfolding chars
+chars-ascii b small =
+    let less : nat_lt b 128 ≡ true = lt-ltb b 128 small in
+    rw less refl
+
+-- the character that begins with an ASCII byte is that byte
+pub char_after_ascii : (bs : List ℕ) (i : ℕ) → IsUtf8 bs → IsCharBoundary bs i → i < length bs → get_or bs i 0 < 128 → char_after bs i ≡ Some (get_or bs i 0)
+char_after_ascii bs i text starts within small =
+    let part = char_after_part bs i (i + 1) text (omega arith) (omega arith) starts (IsCharBoundary-after_ascii bs i text within small) in
+    let one : i + 1 - i ≡ 1 = omega arith in
+    let byte : take 1 (drop i bs) ≡ get_or bs i 0 ∷ [] = rw (drop-cons bs i 0) refl in
+    part ∙ ap (λ n. slice_get (chars (take n (drop i bs))) 0) one ∙ ap (λ xs. slice_get (chars xs) 0) byte ∙ ap (λ cs. slice_get cs 0) (chars-ascii (get_or bs i 0) small)
+
+white_is_white : (b : ℕ) → is_ascii_whitespace b ≡ true → is_whitespace b ≡ true
+white_is_white b white = search (rules, tests)
+
+visible_is_not_white : (b : ℕ) → 33 ≤ b → b < 128 → is_whitespace b ≡ false
+visible_is_not_white b low high = search (rules, tests)
+
+punctuation_is_visible : (b : ℕ) → is_ascii_punctuation b ≡ true → (33 ≤ b) × (b < 128)
+punctuation_is_visible b is = search (rules, tests)
+
+alphanumeric_is_visible : (b : ℕ) → is_ascii_alphanumeric b ≡ true → (33 ≤ b) × (b < 128) × (is_ascii_punctuation b ≡ false)
+alphanumeric_is_visible b is = search (rules, tests)
+
+-- the classes that need no predicate
+module _ (p : ℕ → Bool) (bs : List ℕ) (i b : ℕ) (text : IsUtf8 bs) (starts : IsCharBoundary bs i) (within : i < length bs) (is : b ≡ get_or bs i 0) where
+  ascii_here : b < 128 → class_of_opt p (char_after bs i) ≡ class_of p b
+  ascii_here small =
+      let here = char_after_ascii bs i text starts within (subst (λ n. n < 128) is small) in
+      rw (here, ← is) refl
+
+  pub class_of_white : is_ascii_whitespace b ≡ true → Whitespace ≡ class_of_opt p (char_after bs i)
+  class_of_white white =
+      let small : b < 128 = search (rules, tests) in
+      rw (ascii_here small, white_is_white b white) refl
+
+  pub class_of_punctuation : is_ascii_punctuation b ≡ true → Punctuation ≡ class_of_opt p (char_after bs i)
+  class_of_punctuation punctuation =
+      let visible = punctuation_is_visible b punctuation in
+      rw (ascii_here visible.1, visible_is_not_white b visible.0 visible.1, punctuation) refl
+
+  pub class_of_alphanumeric : is_ascii_alphanumeric b ≡ true → p b ≡ false → Other ≡ class_of_opt p (char_after bs i)
+  class_of_alphanumeric alphanumeric fails =
+      let visible = alphanumeric_is_visible b alphanumeric in
+      rw (ascii_here visible.1, visible_is_not_white b visible.0 visible.1, visible.2, fails) refl

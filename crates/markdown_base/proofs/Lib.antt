@@ -1,0 +1,6 @@
+pub mod CharLemmas
+pub mod Cuts
+pub mod LineLemmas
+pub mod PointAt
+pub mod Scans
+pub mod SliceLemmas

@@ -1,0 +1,7 @@
+use Rattle.std.proofs.Common.{◌+◌}
+use Rattle.markdown_base.proofs.Scans.{IsReached}
+use Rattle.markdown_base.proofs.event.Point.shift_to.Given as goal
+
+-- the virtual text reaches this column after the bytes passed
+abbrev pub invariant-loop-byte : goal.invariant-loop-byte
+invariant-loop-byte l = IsReached 4 l.bytes l.self.line l.column (l.self.index + l.byte-index)

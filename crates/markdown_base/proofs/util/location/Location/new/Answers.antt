@@ -1,0 +1,19 @@
+use Rattle.std.proofs.Common.{◌≡◌, ◌+◌, sym, ◌∙◌, ap, arith, ◌<◌, ◌^◌, length, subst}
+use Rattle.std.specs.List.{filter, range_with_len}
+use Rattle.markdown_base.proofs.LineLemmas.{passing_pushed, passing_kept, lines_are_kept}
+use Rattle.markdown_base.specs.Lines.{is_line_start, IsKept}
+use Rattle.markdown_base.proofs.util.location.Location.new.Goals as goal
+use Rattle.markdown_base.proofs.util.location.Location.new.Goals.{then-starts_line+in_ok-push, else-starts_line}
+
+pub loop-index-preserved : goal.loop-index-preserved
+loop-index-preserved c = elim c.if-starts_line.branch [
+  | then-starts_line+in_ok-push w ↦ passing_pushed (is_line_start c.args.bytes.now) c.loop-index.index c.loop-index.starts.items c.if-starts_line.starts.items c.loop-index.invariant (cc) (cc (w.in_ok-push.ensures.items))
+  | else-starts_line w ↦ rw w.starts-is (passing_kept (is_line_start c.args.bytes.now) c.loop-index.index c.loop-index.starts.items c.loop-index.invariant (cc))
+]
+
+pub invariant_of-result : goal.invariant_of-result
+invariant_of-result c =
+    let all : c.loop-index.index ≡ length c.args.bytes.now + 1 = omega arith in
+    let fits : length c.args.bytes.now + 1 < 2 ^ 64 = omega arith in
+    let items : c.loop-index.starts.items ≡ filter (is_line_start c.args.bytes.now) (range_with_len 0 (length c.args.bytes.now + 1)) = c.loop-index.invariant ∙ ap (λ n. filter (is_line_start c.args.bytes.now) (range_with_len 0 n)) all in
+    subst (IsKept (length c.args.bytes.now)) (sym items) (lines_are_kept c.args.bytes.now fits)

@@ -1,0 +1,32 @@
+use Rattle.std.proofs.Common.{◌≡◌, ◌∙◌, ap, sym, take, get_or, rules, tests, Bor}
+use Rattle.std.specs.Prelude.{option_map}
+use Rattle.std.proofs.lemmas.Bool.{false≢true}
+use Rattle.std.proofs.lemmas.Option.{slice_get-get_or}
+use Rattle.std.proofs.lemmas.Iterator.Search.{find_from_yields_List}
+use Rattle.std.proofs.lemmas.Iterator.Adapters.{YieldsList-from_rev_slice}
+use Rattle.markdown_base.specs.declared.event.Event.{Event}
+use Rattle.markdown_base.specs.Slices.{is_enter_of, nearest_enter}
+use Rattle.markdown_base.proofs.SliceLemmas.{filler, nearest_is, exit_inside}
+use Rattle.markdown_base.proofs.util.slice.Position.from_exit_event.Goals as goal
+use Rattle.markdown_base.proofs.util.slice.Position.from_exit_event.Goals.{After-find}
+
+-- what the search answers
+found : (c : After-find) → option_map (λ y. y.now) c.find.result ≡ nearest_enter c.args.events.now c.args.index
+found c =
+    let exit = get_or c.args.events.now c.args.index filler in
+    let rest = ap (λ i. i.rest.now) c.rev-before.ensures.source ∙ c.iter.ensures.rest in
+    find_from_yields_List (λ e. is_enter_of e exit) _ _ c.find.result c.find.ensures.ran (YieldsList-from_rev_slice (take c.args.index c.args.events.now) rest) (λ x b q k. search (rules, tests))
+    ∙ sym (nearest_is c.args.events.now c.args.index filler (exit_inside c.args.events.now c.args.index c.requires.opened))
+
+pub unreachable-requires : goal.unreachable-requires
+unreachable-requires c =
+    let none = ap (λ o. option_map (λ (y : Bor Event). y.now) o) (sym c.in-None.is) ∙ found (goal.at.unreachable-requires c).After-find in
+    false≢true (rw (← none) at c.requires.opened)
+
+pub returns-clause-start : goal.returns-clause-start
+returns-clause-start c =
+    let is = ap (λ o. option_map (λ (y : Bor Event). y.now) o) (sym c.in-Some.is) ∙ found (goal.at.returns-clause-start c).After-find in
+    ap (λ o. option_map (λ (e : Event). e.point) o) (sym is)
+
+pub returns-clause-end : goal.returns-clause-end
+returns-clause-end c = ap (λ o. option_map (λ (e : Event). e.point) o) (slice_get-get_or c.args.events.now c.args.index filler (exit_inside c.args.events.now c.args.index c.requires.opened))

@@ -1,0 +1,53 @@
+-- Slices of a document: the bytes between two places, and what lies between of the tabs that the places cut.
+use Rattle.std.specs.Prelude.{ℕ, suc, ◌==◌, ◌&&◌, not, nat_lt, Bool, true, false, List, ◌++◌, length, filter, find, reverse, take, replicate, slice_get, slice_range, Option, option_and_then, if◌then◌else◌}
+use Rattle.markdown_base.specs.declared.event.Event.{Event}
+use Rattle.markdown_base.specs.declared.event.Kind.{Kind}
+use Rattle.markdown_base.specs.declared.event.Kind.TheVariants.{Enter, Exit}
+use Rattle.markdown_base.specs.declared.event.Point.{Point}
+use Rattle.markdown_base.specs.Events.{same_name}
+use Rattle.markdown_base.specs.Virtual.{Seat, virtual}
+use Rattle.markdown_base.specs.Places.{stands_before}
+
+-- a virtual byte does not stand before one place, and does before another
+abbrev pub lies_between : Point → Point → Seat → Bool
+lies_between p q s = not (stands_before s.point p) && stands_before s.point q
+
+-- how many virtual bytes between two places belong to the tab at an index; its first is the tab byte, and does not count
+abbrev pub spaces_between : (t : ℕ) → List ℕ → (index : ℕ) → Point → Point → ℕ
+spaces_between t bytes index p q = length (filter (λ s. (s.point.index == index) && (nat_lt 0 s.point.vs && lies_between p q s)) (virtual t bytes))
+
+-- a place cuts a tab: it stands behind the tab byte
+abbrev pub cuts_tab : Point → Bool
+cuts_tab p = nat_lt 0 p.vs
+
+-- the index of the first byte that does not stand before a place
+abbrev pub first_byte : Point → ℕ
+first_byte p = if cuts_tab p then suc p.index else p.index
+
+-- the bytes between two places
+abbrev pub bytes_between : List ℕ → Point → Point → List ℕ
+bytes_between bytes p q = slice_range bytes (first_byte p) (first_byte q)
+
+-- the virtual bytes between of a tab that the start cuts: its tab byte does not lie between
+abbrev pub spaces_before : (t : ℕ) → List ℕ → Point → Point → ℕ
+spaces_before t bytes p q = if cuts_tab p then spaces_between t bytes p.index p q else 0
+
+-- the virtual bytes between of a tab that only the end cuts, but its tab byte
+abbrev pub spaces_after : (t : ℕ) → List ℕ → Point → Point → ℕ
+spaces_after t bytes p q = if cuts_tab q && not (cuts_tab p && (p.index == q.index)) then spaces_between t bytes q.index p q else 0
+
+-- a slice as a text: its spaces before, its bytes, its spaces after
+abbrev pub slice_text : ℕ → List ℕ → ℕ → List ℕ
+slice_text before bytes after = replicate before 32 ++ (bytes ++ replicate after 32)
+
+-- an event enters a span of another event's name
+abbrev pub is_enter : Kind → Bool
+is_enter Enter = true
+is_enter Exit = false
+
+abbrev pub is_enter_of : Event → Event → Bool
+is_enter_of event exit = is_enter event.kind && same_name event.name exit.name
+
+-- the nearest enter before an exit with its name
+abbrev pub nearest_enter : List Event → ℕ → Option Event
+nearest_enter events index = option_and_then (λ exit. find (λ event. is_enter_of event exit) (reverse (take index events))) (slice_get events index)

@@ -1,0 +1,257 @@
+//! Characters: which one stands at an index of a text's bytes, what class it is of, and how to show it.
+
+ghost use Rattle.std.specs.Prelude.{◌≡◌, ◌<◌, ◌≤◌, ℕ, Bool, length, MatchBool, IsUtf8, IsCharBoundary, IfOk, slice_index, string_bytes};
+ghost use Rattle.markdown_base.specs.Classes.{IsPunctuationTest, char_before, char_after, class_of, class_of_opt};
+ghost use Rattle.markdown_base.specs.CharTexts.{code_point, shown, shown_char_opt, shown_byte_opt};
+
+use std::alloc::{AllocError, Global};
+
+/// The class of a character.
+#[derive(Debug, Drop, PartialEq, Eq)]
+pub enum Kind {
+    /// White space, or no character.
+    Whitespace,
+    /// Punctuation.
+    Punctuation,
+    /// Any other character.
+    Other,
+}
+
+/// The character that ends at an index into the bytes of a text, if it is not the text's start.
+pub fn before_index(bytes: &[u8], index: usize) -> Option<char>
+    requires text { IsUtf8 bytes.now }
+    requires boundary { IsCharBoundary bytes.now index }
+    ensures character { result ≡ char_before bytes.now index }
+{
+    if index == 0 {
+        return None;
+    }
+    let start = char_start(bytes, index);
+    match str::from_utf8(&bytes[start..index]) {
+        Ok(text) => text.chars().last(),
+        Err(_) => None,
+    }
+}
+
+/// The character that begins at an index into the bytes of a text, if it is not the text's end.
+pub fn after_index(bytes: &[u8], index: usize) -> Option<char>
+    requires text { IsUtf8 bytes.now }
+    requires boundary { IsCharBoundary bytes.now index }
+    ensures character { result ≡ char_after bytes.now index }
+{
+    if index == bytes.len() {
+        return None;
+    }
+    let end = char_end(bytes, index);
+    match str::from_utf8(&bytes[index..end]) {
+        Ok(text) => text.chars().next(),
+        Err(_) => None,
+    }
+}
+
+/// The class of the character that begins at an index into the bytes of a text.
+///
+/// `punctuation` tells which characters past ASCII are punctuation. It is false of ASCII letters and digits.
+pub fn kind_after_index<P: Fn(char) -> bool>(bytes: &[u8], index: usize, punctuation: &P) -> Kind
+    requires text { IsUtf8 bytes.now }
+    requires boundary { IsCharBoundary bytes.now index }
+    requires callable { P.IsAlwaysCallable punctuation.now }
+    ensures class { (p : ℕ → Bool) → IsPunctuationTest (P.post punctuation.now) p → result ≡ class_of_opt p (char_after bytes.now index) }
+{
+    match bytes.get(index) {
+        None => Kind::Whitespace,
+        Some(byte) if byte.is_ascii_whitespace() => Kind::Whitespace,
+        Some(byte) if byte.is_ascii_punctuation() => Kind::Punctuation,
+        Some(byte) if byte.is_ascii_alphanumeric() => Kind::Other,
+        Some(_) => classify_opt(after_index(bytes, index), punctuation),
+    }
+}
+
+/// The class of a character: white space, else punctuation, else other.
+///
+/// `punctuation` tells which characters past ASCII are punctuation. It is false of ASCII letters and digits.
+pub fn classify<P: Fn(char) -> bool>(char: char, punctuation: &P) -> Kind
+    requires callable { P.IsAlwaysCallable punctuation.now }
+    ensures class { (p : ℕ → Bool) → IsPunctuationTest (P.post punctuation.now) p → result ≡ class_of p char }
+{
+    if char.is_whitespace() {
+        Kind::Whitespace
+    } else if char.is_ascii_punctuation() || punctuation(char) {
+        Kind::Punctuation
+    } else {
+        Kind::Other
+    }
+}
+
+/// The class of a character, or of the end of a text, which counts as white space.
+///
+/// `punctuation` tells which characters past ASCII are punctuation. It is false of ASCII letters and digits.
+pub fn classify_opt<P: Fn(char) -> bool>(char: Option<char>, punctuation: &P) -> Kind
+    requires callable { P.IsAlwaysCallable punctuation.now }
+    ensures class { (p : ℕ → Bool) → IsPunctuationTest (P.post punctuation.now) p → result ≡ class_of_opt p char }
+{
+    match char {
+        None => Kind::Whitespace,
+        Some(char) => classify(char, punctuation),
+    }
+}
+
+/// A character as messages show it: itself, if it is visible ASCII, and its number.
+///
+/// `AllocError` where memory is refused.
+pub fn format(alloc: Global, char: char) -> Result<String, AllocError>
+    ensures shown { IfOk result (λ text. string_bytes text ≡ shown char) }
+{
+    let code = code_point(alloc, char as u32)?;
+    match char {
+        '`' => format!(in alloc; "`` ` `` ({code})"),
+        '!'..='~' => format!(in alloc; "`{char}` ({code})"),
+        _ => Ok(code),
+    }
+}
+
+/// A character, or the end of the input, as messages show it.
+///
+/// `AllocError` where memory is refused.
+pub fn format_opt(alloc: Global, char: Option<char>) -> Result<String, AllocError>
+    ensures shown { IfOk result (λ text. string_bytes text ≡ shown_char_opt char) }
+{
+    match char {
+        None => String::from_str(alloc, "end of file"),
+        Some(char) => {
+            let shown = format(alloc, char)?;
+            format!(in alloc; "character {shown}")
+        }
+    }
+}
+
+/// A byte as messages show it: as the character with its number.
+///
+/// `AllocError` where memory is refused.
+pub fn format_byte(alloc: Global, byte: u8) -> Result<String, AllocError>
+    ensures shown { IfOk result (λ text. string_bytes text ≡ shown byte) }
+{
+    format(alloc, char::from(byte))
+}
+
+/// A byte, or the end of the input, as messages show it.
+///
+/// `AllocError` where memory is refused.
+pub fn format_byte_opt(alloc: Global, byte: Option<u8>) -> Result<String, AllocError>
+    ensures shown { IfOk result (λ text. string_bytes text ≡ shown_byte_opt byte) }
+{
+    match byte {
+        None => String::from_str(alloc, "end of file"),
+        Some(byte) => {
+            let shown = format_byte(alloc, byte)?;
+            format!(in alloc; "byte {shown}")
+        }
+    }
+}
+
+/// The number of a character as a code point.
+fn code_point(alloc: Global, number: u32) -> Result<String, AllocError>
+    ensures shown { IfOk result (λ text. string_bytes text ≡ code_point number) }
+{
+    format!(in alloc; "U+{number:04X}")
+}
+
+/// The index at which the character that ends at an index begins.
+fn char_start(bytes: &[u8], index: usize) -> usize
+    requires text { IsUtf8 bytes.now }
+    requires some { 0 < index }
+    requires inside { index ≤ length bytes.now }
+    ensures before { result < index }
+    ensures boundary { IsCharBoundary bytes.now result }
+{
+    let mut start = index - 1;
+    while is_continuation(bytes[start]) {
+        start -= 1;
+    }
+    start
+}
+
+/// The index at which the character that begins at an index ends.
+fn char_end(bytes: &[u8], index: usize) -> usize
+    requires inside { index < length bytes.now }
+    ensures after { index < result }
+    ensures inside { result ≤ length bytes.now }
+    ensures boundary { IsCharBoundary bytes.now result }
+{
+    let mut end = index + 1;
+    while end < bytes.len() && is_continuation(bytes[end]) {
+        end += 1;
+    }
+    end
+}
+
+/// Whether a byte goes on with a character of UTF-8, and does not begin one.
+fn is_continuation(byte: u8) -> bool
+    ensures cases { MatchBool result ((128 ≤ byte) × (byte < 192)) (128 ≤ byte → 192 ≤ byte) }
+{
+    matches!(byte, 0x80..=0xbf)
+}
+
+#[cfg(test)]
+mod tests {
+    use super::*;
+    use std::test::Fail;
+
+    /// Holds of the ideographic comma alone.
+    fn is_comma(char: char) -> bool {
+        char == '\u{3001}'
+    }
+
+    #[test]
+    fn decodes_the_character_at_an_index(rt: HostRuntime) {
+        assert_eq!(rt; before_index("é".as_bytes(), 2), Some('é'));
+        assert_eq!(rt; after_index("é".as_bytes(), 0), Some('é'));
+        assert_eq!(rt; before_index("é".as_bytes(), 0), None);
+        assert_eq!(rt; after_index("é".as_bytes(), 2), None);
+    }
+
+    #[test]
+    fn classifies(rt: HostRuntime) {
+        assert_eq!(rt;
+            kind_after_index("é".as_bytes(), 2, &is_comma),
+            Kind::Whitespace
+        );
+        assert_eq!(rt; kind_after_index(b"\x0b", 0, &is_comma), Kind::Whitespace);
+        assert_eq!(rt; classify(' ', &is_comma), Kind::Whitespace);
+        assert_eq!(rt; classify('a', &is_comma), Kind::Other);
+        assert_eq!(rt; classify('.', &is_comma), Kind::Punctuation);
+        assert_eq!(rt; classify('\u{3001}', &is_comma), Kind::Punctuation);
+        assert_eq!(rt; classify('\u{3001}', &|_| false), Kind::Other);
+        assert_eq!(rt; classify_opt(None, &is_comma), Kind::Whitespace);
+    }
+
+    #[test]
+    fn shows_characters(rt: HostRuntime) -> Result<(), Fail> {
+        let alloc = rt.alloc();
+        for (char, shown) in [
+            ('!', "`!` (U+0021)"),
+            (' ', "U+0020"),
+            ('`', "`` ` `` (U+0060)"),
+        ] {
+            assert_eq!(rt; format(alloc, char)?.as_str(), shown);
+        }
+        for (byte, shown) in [
+            (b'!', "`!` (U+0021)"),
+            (b' ', "U+0020"),
+            (b'`', "`` ` `` (U+0060)"),
+        ] {
+            assert_eq!(rt; format_byte(alloc, byte)?.as_str(), shown);
+        }
+        assert_eq!(rt; format_opt(alloc, None)?.as_str(), "end of file");
+        assert_eq!(rt;
+            format_opt(alloc, Some('!'))?.as_str(),
+            "character `!` (U+0021)"
+        );
+        assert_eq!(rt; format_byte_opt(alloc, None)?.as_str(), "end of file");
+        assert_eq!(rt;
+            format_byte_opt(alloc, Some(b'!'))?.as_str(),
+            "byte `!` (U+0021)"
+        );
+        Ok(())
+    }
+}

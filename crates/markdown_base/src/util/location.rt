@@ -1,0 +1,150 @@
+//! Places in a document: from byte offsets to lines and columns, and from offsets into a text that was put
+//! together of several parts of a document to offsets into the document.
+
+ghost use Rattle.std.specs.Prelude.{◌≡◌, ◌<◌, ◌^◌, ◌+◌, IfOk, IfSome, option_and_then};
+ghost use Rattle.markdown_base.specs.Lines.{Lines, lines_of, point_in, is_line_start, absolute_offset, IsKept};
+
+use crate::unist::Point;
+use std::alloc::{AllocError, Global};
+use std::marker::Model;
+
+/// Where a part of a text begins: the byte offset into the text, and the byte offset into the document.
+pub type Stop = (usize, usize);
+
+/// The lines of a document.
+#[derive(Debug, Drop)]
+pub struct Location {
+    /// Byte offset of the document's end.
+    end: usize,
+    /// Byte offsets at which lines start, ascending.
+    starts: Vec<usize>,
+}
+
+impl Model for Location {
+    ghost Value = { Lines };
+
+    ghost view = { λ a. record { end = a.end; starts = a.starts.items } };
+
+    ghost invariant = { λ a. IsKept a.end a.starts.items };
+}
+
+impl Location {
+    /// Finds the lines of a document.
+    ///
+    /// A line ends with a line feed, a carriage return, or both in this order. `AllocError` where memory is refused.
+    pub fn new(alloc: Global, bytes: &[u8]) -> Result<Location, AllocError>
+        ensures lines { IfOk result (λ location. location ≡ lines_of bytes.now) }
+    {
+        let mut starts = Vec::new(alloc);
+        for index in 0..bytes.len() + 1 {
+            if starts_line(bytes, index) {
+                starts.push(index)?;
+            }
+        }
+        Ok(Location {
+            end: bytes.len(),
+            starts,
+        })
+    }
+
+    /// The line, the column and the offset of a byte offset into the document, columns counted in bytes.
+    ///
+    /// The offset of the document's end has a point too. Past it there is none.
+    pub fn to_point(&self, offset: usize) -> Option<Point>
+        ensures point { result ≡ point_in self.now offset }
+    {
+        if offset > self.end {
+            return None;
+        }
+        let line = self.starts.partition_point(|start| *start <= offset);
+        Some(Point::new(line, offset - self.starts[line - 1] + 1, offset))
+    }
+
+    /// The point of a byte offset into a text that was put together of parts of the document.
+    ///
+    /// There is none where the text has no part, or where the offset into the document is past its end.
+    pub fn relative_to_point(&self, stops: &[Stop], relative: usize) -> Option<Point>
+        requires fits { IfSome (absolute_offset stops.now relative) (λ offset. offset < 2 ^ 64) }
+        ensures point { result ≡ option_and_then (point_in self.now) (absolute_offset stops.now relative) }
+    {
+        Location::relative_to_absolute(stops, relative).and_then(|absolute| self.to_point(absolute))
+    }
+
+    /// The byte offset into the document of a byte offset into a text that was put together of its parts.
+    ///
+    /// There is none where the text has no part.
+    pub fn relative_to_absolute(stops: &[Stop], relative: usize) -> Option<usize>
+        requires fits { IfSome (absolute_offset stops.now relative) (λ offset. offset < 2 ^ 64) }
+        ensures offset { result ≡ absolute_offset stops.now relative }
+    {
+        let mut last = None;
+        for stop in stops {
+            if stop.0 > relative {
+                break;
+            }
+            last = Some(*stop);
+        }
+        let (start, absolute) = last?;
+        Some(absolute + (relative - start))
+    }
+}
+
+/// Whether a line starts at an index, of at most the length.
+fn starts_line(bytes: &[u8], index: usize) -> bool
+    ensures { result ≡ is_line_start bytes.now index }
+{
+    if index == 0 {
+        return true;
+    }
+    match bytes.get(index - 1) {
+        Some(b'\n') => true,
+        Some(b'\r') => bytes.get(index) != Some(&b'\n'),
+        _ => false,
+    }
+}
+
+#[cfg(test)]
+mod tests {
+    use super::*;
+    use std::test::Fail;
+
+    #[test]
+    fn finds_points(rt: HostRuntime) -> Result<(), Fail> {
+        let crlf = Location::new(rt.alloc(), b"a\r\nb")?;
+        for (offset, line, column) in [(0, 1, 1), (1, 1, 2), (2, 1, 3), (3, 2, 1), (4, 2, 2)] {
+            assert_eq!(rt;
+                crlf.to_point(offset),
+                Some(Point::new(line, column, offset))
+            );
+        }
+        assert_eq!(rt; crlf.to_point(5), None);
+        let lf = Location::new(rt.alloc(), b"ab\nc")?;
+        for (offset, line, column) in [(0, 1, 1), (1, 1, 2), (2, 1, 3), (3, 2, 1), (4, 2, 2)] {
+            assert_eq!(rt; lf.to_point(offset), Some(Point::new(line, column, offset)));
+        }
+        assert_eq!(rt; lf.to_point(5), None);
+        let cr = Location::new(rt.alloc(), b"a\rb")?;
+        for (offset, line, column) in [(0, 1, 1), (1, 1, 2), (2, 2, 1)] {
+            assert_eq!(rt; cr.to_point(offset), Some(Point::new(line, column, offset)));
+        }
+        Ok(())
+    }
+
+    #[test]
+    fn finds_points_of_parts(rt: HostRuntime) -> Result<(), Fail> {
+        let empty = Location::new(rt.alloc(), b"")?;
+        assert_eq!(rt; empty.to_point(0), Some(Point::new(1, 1, 0)));
+        assert_eq!(rt; empty.relative_to_point(&[], 0), None);
+        assert_eq!(rt; Location::relative_to_absolute(&[], 0), None);
+        assert_eq!(rt;
+            Location::relative_to_absolute(&[(0, 10), (3, 20)], 4),
+            Some(21)
+        );
+        let text = Location::new(rt.alloc(), b"> a\n> b")?;
+        assert_eq!(rt;
+            text.relative_to_point(&[(0, 2), (2, 6)], 2),
+            Some(Point::new(2, 3, 6))
+        );
+        Ok(())
+    }
+}

@@ -1,0 +1,311 @@
+//! Parts of a document between two places.
+
+ghost use Rattle.std.specs.Prelude.{◌≡◌, ◌<◌, ◌≤◌, ◌^◌, ◌+◌, ◌++◌, ℕ, List, false, length, slice_get, slice_range, option_map, IsSome, Some, IsUtf8, IfOk, OnOk, replicate, string_bytes};
+ghost use Rattle.markdown_base.specs.Places.{IsPointOf, stands_before};
+ghost use Rattle.markdown_base.specs.Slices.{nearest_enter, bytes_between, spaces_before, spaces_after, slice_text, first_byte, is_enter_of};
+
+use crate::event::{Event, Kind, Point};
+use crate::util::constant::TAB_SIZE;
+use std::alloc::{AllocError, Global};
+
+/// A range between two points.
+#[derive(Debug, Drop)]
+pub struct Position<'a> {
+    /// Where the range begins.
+    pub start: &'a Point,
+    /// Where the range ends: before this point.
+    pub end: &'a Point,
+}
+
+impl<'a> Position<'a> {
+    /// The range of a span, of which the exit is given: from the nearest earlier enter of its name.
+    ///
+    /// A span that holds a span of its own name is not supported.
+    pub fn from_exit_event(events: &'a [Event], index: usize) -> Position<'a>
+        requires opened { IsSome (nearest_enter events.now index) }
+        ensures start { option_map (λ event. event.point) (nearest_enter events.now index) ≡ Some result.start.now }
+        ensures end { option_map (λ event. event.point) (slice_get events.now index) ≡ Some result.end.now }
+    {
+        let exit = &events[index];
+        let mut before = events[..index].iter().rev();
+        let start = match before.find(|event| is_enter_of(event, exit)) {
+            Some(enter) => &enter.point,
+            None => unreachable!(),
+        };
+        Position {
+            start,
+            end: &exit.point,
+        }
+    }
+
+    /// The byte indices of the range's points.
+    pub fn to_indices(&self) -> (usize, usize)
+        ensures indices { result ≡ (self.now.start.now.index, self.now.end.now.index) }
+    {
+        (self.start.index, self.end.index)
+    }
+}
+
+/// Bytes of a document, with virtual spaces on both sides.
+///
+/// A tab is as many virtual bytes as it takes to reach the next tab stop, and a range may begin or end inside it.
+#[derive(Debug, Drop)]
+pub struct Slice<'a> {
+    /// The bytes.
+    pub bytes: &'a [u8],
+    /// Number of virtual spaces before the bytes.
+    pub before: usize,
+    /// Number of virtual spaces after the bytes.
+    pub after: usize,
+}
+
+impl<'a> Slice<'a> {
+    /// The part of a document in a range.
+    ///
+    /// Where the range begins inside a tab, what is left of the tab is spaces before the bytes. Where it ends inside
+    /// a tab, the tab is the last byte, and what else is covered of it is spaces after the bytes. Where both ends lie
+    /// inside one tab, there are no bytes, and the spaces between are before.
+    pub fn from_position(bytes: &'a [u8], position: &Position) -> Slice<'a>
+        requires start_is_place { IsPointOf 4 bytes.now position.now.start.now }
+        requires end_is_place { IsPointOf 4 bytes.now position.now.end.now }
+        requires ordered { stands_before position.now.end.now position.now.start.now ≡ false }
+        ensures bytes { result.bytes.now ≡ bytes_between bytes.now position.now.start.now position.now.end.now }
+        ensures before { result.before ≡ spaces_before 4 bytes.now position.now.start.now position.now.end.now }
+        ensures after { result.after ≡ spaces_after 4 bytes.now position.now.start.now position.now.end.now }
+    {
+        let start = position.start;
+        let end = position.end;
+        let from = first_byte(start);
+        let to = first_byte(end);
+        Slice {
+            bytes: &bytes[from..to],
+            before: spaces_before(start, end),
+            after: spaces_after(start, end),
+        }
+    }
+
+    /// The part of a document between two byte indices, with no spaces.
+    pub fn from_indices(bytes: &'a [u8], start: usize, end: usize) -> Slice<'a>
+        requires ordered { start ≤ end }
+        requires inside { end ≤ length bytes.now }
+        ensures bytes { result.bytes.now ≡ slice_range bytes.now start end }
+        ensures before { result.before ≡ 0 }
+        ensures after { result.after ≡ 0 }
+    {
+        Slice {
+            bytes: &bytes[start..end],
+            before: 0,
+            after: 0,
+        }
+    }
+
+    /// The number of bytes and of spaces.
+    pub fn len(&self) -> usize
+        requires fits { self.now.before + length self.now.bytes.now + self.now.after < 2 ^ 64 }
+        ensures all { result ≡ self.now.before + length self.now.bytes.now + self.now.after }
+    {
+        self.before + self.bytes.len() + self.after
+    }
+
+    /// The bytes as a text, without the spaces.
+    pub fn as_str(&self) -> &str
+        requires text { IsUtf8 self.now.bytes.now }
+        ensures bytes { result.now ≡ self.now.bytes.now }
+    {
+        match str::from_utf8(self.bytes) {
+            Ok(text) => text,
+            Err(_) => "",
+        }
+    }
+
+    /// The spaces before, the bytes and the spaces after, as a text. `AllocError` where memory is refused.
+    pub fn serialize(&self, alloc: Global) -> Result<String, AllocError>
+        requires text { IsUtf8 self.now.bytes.now }
+        requires fits { self.now.before + length self.now.bytes.now + self.now.after < 2 ^ 64 }
+        ensures text { IfOk result (λ text. string_bytes text ≡ slice_text self.now.before self.now.bytes.now self.now.after) }
+    {
+        let mut text = String::new(alloc);
+        push_spaces(&mut text, self.before)?;
+        text.push_str(self.as_str())?;
+        push_spaces(&mut text, self.after)?;
+        Ok(text)
+    }
+}
+
+/// Puts spaces at the end of a text.
+fn push_spaces(text: &mut String, count: usize) -> Result<(), AllocError>
+    ensures spaces { OnOk result (string_bytes text.new ≡ string_bytes text.old ++ replicate count 32) }
+{
+    for _i in 0..count {
+        text.push(' ')?;
+    }
+    Ok(())
+}
+
+/// Whether an event enters a span of another event's name.
+fn is_enter_of(event: &Event, exit: &Event) -> bool
+    ensures { result ≡ is_enter_of event.now exit.now }
+{
+    matches!(event.kind, Kind::Enter) && event.name == exit.name
+}
+
+/// The index of the first byte that does not stand before a place.
+fn first_byte(point: &Point) -> usize
+    requires fits { point.now.index + 1 < 2 ^ 64 }
+    ensures { result ≡ first_byte point.now }
+{
+    if point.vs > 0 {
+        point.index + 1
+    } else {
+        point.index
+    }
+}
+
+/// The number of virtual bytes in a range that belong to a tab which the range's start cuts.
+fn spaces_before(start: &Point, end: &Point) -> usize
+    requires column { 0 < start.now.vs → 1 ≤ start.now.column }
+    requires ordered { stands_before end.now start.now ≡ false }
+    ensures { (bytes : List ℕ) → IsPointOf 4 bytes start.now → IsPointOf 4 bytes end.now → result ≡ spaces_before 4 bytes start.now end.now }
+{
+    if start.vs == 0 {
+        0
+    } else if start.index == end.index {
+        end.vs - start.vs
+    } else {
+        TAB_SIZE - (start.column - 1) % TAB_SIZE
+    }
+}
+
+/// The number of virtual bytes in a range that belong to a tab which only the range's end cuts, but its tab byte.
+fn spaces_after(start: &Point, end: &Point) -> usize
+    requires ordered { stands_before end.now start.now ≡ false }
+    ensures { (bytes : List ℕ) → IsPointOf 4 bytes start.now → IsPointOf 4 bytes end.now → result ≡ spaces_after 4 bytes start.now end.now }
+{
+    if end.vs == 0 {
+        return 0;
+    }
+    if start.vs == 0 || start.index != end.index {
+        end.vs - 1
+    } else {
+        0
+    }
+}
+
+#[cfg(test)]
+mod tests {
+    use super::*;
+    use crate::event::Name;
+    use std::test::Fail;
+
+    const fn at(column: usize, index: usize, vs: usize) -> Point
+        ensures { result ≡ record { line = 1; column = column; index = index; vs = vs } }
+    {
+        Point {
+            line: 1,
+            column,
+            index,
+            vs,
+        }
+    }
+
+    fn event(kind: Kind, name: Name, point: Point) -> Event
+        ensures { result ≡ record { kind = kind; name = name; point = point; link = None } }
+    {
+        Event {
+            kind,
+            name,
+            point,
+            link: None,
+        }
+    }
+
+    #[test]
+    fn begins_inside_a_tab(rt: HostRuntime) -> Result<(), Fail> {
+        let start = at(7, 5, 1);
+        let end = at(12, 9, 0);
+        let slice = Slice::from_position(
+            b">    \tfoo",
+            &Position {
+                start: &start,
+                end: &end,
+            },
+        );
+        assert_eq!(rt; slice.before, 2);
+        assert_eq!(rt; slice.bytes, b"foo".as_slice());
+        assert_eq!(rt; slice.after, 0);
+        Ok(())
+    }
+
+    #[test]
+    fn stays_inside_a_tab(rt: HostRuntime) -> Result<(), Fail> {
+        let start = at(7, 5, 1);
+        let end = at(8, 5, 2);
+        let slice = Slice::from_position(
+            b">    \tfoo",
+            &Position {
+                start: &start,
+                end: &end,
+            },
+        );
+        assert_eq!(rt; slice.before, 1);
+        assert_eq!(rt; slice.bytes.len(), 0);
+        assert_eq!(rt; slice.after, 0);
+        Ok(())
+    }
+
+    #[test]
+    fn ends_inside_a_tab(rt: HostRuntime) -> Result<(), Fail> {
+        let start = at(1, 0, 0);
+        let end = at(4, 1, 2);
+        let position = Position {
+            start: &start,
+            end: &end,
+        };
+        assert_eq!(rt; position.to_indices(), (0, 1));
+        let slice = Slice::from_position(b"a\tb", &position);
+        assert_eq!(rt; slice.before, 0);
+        assert_eq!(rt; slice.bytes, b"a\t".as_slice());
+        assert_eq!(rt; slice.after, 1);
+        Ok(())
+    }
+
+    #[test]
+    fn writes_spaces_and_bytes(rt: HostRuntime) -> Result<(), Fail> {
+        for (bytes, before, after, shown) in [
+            (b"foo".as_slice(), 2, 0, "  foo"),
+            (b"".as_slice(), 1, 0, " "),
+            (b"a\t".as_slice(), 0, 1, "a\t "),
+        ] {
+            let slice = Slice {
+                bytes,
+                before,
+                after,
+            };
+            assert!(rt;
+                str::from_utf8(slice.bytes).is_ok()
+                    && slice.bytes.len() < 4
+                    && before < 3
+                    && after < 3
+            );
+            assert_eq!(rt; slice.len(), shown.len());
+            assert_eq!(rt; slice.serialize(rt.alloc())?.as_str(), shown);
+        }
+        let slice = Slice::from_indices(b"abc", 1, 2);
+        assert_eq!(rt; slice.before, 0);
+        assert_eq!(rt; slice.bytes, b"b".as_slice());
+        assert_eq!(rt; slice.after, 0);
+        Ok(())
+    }
+
+    #[test]
+    fn finds_the_enter_of_an_exit(rt: HostRuntime) {
+        let events = [
+            event(Kind::Enter, Name::Paragraph, at(1, 0, 0)),
+            event(Kind::Enter, Name::Data, at(2, 1, 0)),
+            event(Kind::Exit, Name::Data, at(3, 2, 0)),
+            event(Kind::Exit, Name::Paragraph, at(3, 2, 0)),
+        ];
+        assert_eq!(rt; Position::from_exit_event(&events, 3).to_indices(), (0, 2));
+        assert_eq!(rt; Position::from_exit_event(&events, 2).to_indices(), (1, 2));
+    }
+}
