@@ -27,3 +27,4 @@ pub mod Seats
 pub mod Standing
 pub mod Steps
 pub mod FromStart
+pub mod TextOrder

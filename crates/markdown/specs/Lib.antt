@@ -20,4 +20,3 @@ pub mod Woven
 pub mod Cuts
 pub mod SpanWalks
 pub mod SpanWalksInner
-pub mod TextOrder

@@ -6,14 +6,14 @@ use Rattle.markdown_base.specs.declared.event.Point.{Point}
 use Rattle.markdown_base.specs.Virtual.{Seat, point, virtual}
 use Rattle.markdown_base.specs.Places.{stands_before, IsPointOf}
 use Rattle.markdown.specs.Cursor.{Every}
-use Rattle.markdown.specs.Orders.{after-before, not-before, every-map, every-all}
-use Rattle.markdown.specs.Standing.{IsAmong}
-use Rattle.markdown.specs.SeatLaws.{seat-is-point}
-use Rattle.markdown.specs.Points.{point_at-point}
-use Rattle.markdown.specs.Cursors.{upto-order}
+use Rattle.markdown.proofs.Orders.{after-before, not-before, every-map, every-all}
+use Rattle.markdown.proofs.Standing.{IsAmong}
+use Rattle.markdown.proofs.SeatLaws.{seat-is-point}
+use Rattle.markdown.proofs.Points.{point_at-point}
+use Rattle.markdown.proofs.Cursors.{upto-order}
 use Rattle.markdown.specs.Cuts.{place_of, is_cut, cuts_every}
 use Rattle.markdown.specs.Engine.{FollowInOrder, AreCuts}
-use Rattle.markdown.specs.TextOrder.{AreInOrder, Follows, virtual-order}
+use Rattle.markdown.proofs.TextOrder.{AreInOrder, Follows, virtual-order}
 
 every-among : (P : Seat → Type 0) (all xs : List Seat) → ((s : Seat) → IsAmong s xs → P s) → Every P xs
 every-among P all [] h = tt

@@ -27,7 +27,7 @@ use Rattle.markdown.specs.Reading.{fed}
 use Rattle.markdown.specs.Lawful.{unlinked, IsAsFar, ConsumesOnce, OnlyAdds, EndsWhenRead, KeepsInvariant, CostPays}
 use Rattle.mdevents.specs.Tables.{Waiting, at_end, at_line_ending, at_other, waiting_of, gives, counted}
 use Rattle.mdevents.specs.Lines.{LinesState, flow_start, paragraph_inside, lines_state, lines_table, lines_step_at, lines_step, InFlow, InParagraph, IsOpenAt, began_before, IsWaiting, IsAhead, LinesHoldAt, lines_holds, twice_left, lines_call_cost, lines_cost, lines_reserve, lines_starts}
-use Rattle.markdown.specs.TextOrder.{begins-before_end, began-before_next}
+use Rattle.markdown.proofs.TextOrder.{begins-before_end, began-before_next}
 
 -- What a kind of byte says of the configuration: the end waits, or a byte of the text
 abbrev pub IsSeen : Waiting → Text → Configuration Unit Unit → Type 0

@@ -1,5 +1,5 @@
 -- What the program writes.
-use Rattle.std.specs.Prelude.{◌≡◌, ℕ, ◌≤◌, List, Option, IfSome, take}
+use Rattle.std.specs.Prelude.{◌≡◌, ℕ, List, Option, take}
 use Rattle.std.specs.Io.KnownBytes.{Consumes, IsAtEnd, Appends}
 use Rattle.markdown_base.specs.declared.event.Event.{Event}
 use Rattle.markdown_base.specs.declared.message.Message.{Message}
@@ -9,7 +9,6 @@ use Rattle.markdown_base.specs.Presets.{default_parse_options}
 use Rattle.markdown.specs.Text.{Given}
 use Rattle.markdown.specs.Reading.{Reading}
 use Rattle.markdown.specs.Engine.{given_by, StartEndsIn}
-use Rattle.mdevents.specs.declared.words.Choice.{Choice}
 use Rattle.mdevents.specs.Lines.{lines_step}
 use Rattle.mdevents.specs.Printed.{printed_events}
 
@@ -33,10 +32,6 @@ pub record IsRefusedBy (bytes : List ℕ) (m : Message) : Type 0 where
   pub result : Reading Unit Unit
   pub ends : LinesEndIn bytes result
   pub message : result.answer ≡ Error m
-
--- a cut is at least 1
-abbrev pub CanCut : Choice → Type 0
-CanCut choice = IfSome choice.cut (λ n. 1 ≤ n)
 
 -- A reader was read to its end
 pub record IsReadToEnd (old new : Option (List ℕ)) (bytes : List ℕ) : Type 0 where

@@ -1,5 +1,5 @@
 -- The words that the program is called with.
-use Rattle.std.specs.Prelude.{ℕ, ◌^◌, ◌&&◌, List, [], ◌∷◌, Option, Some, None, option_map, codes, nat_lt, cond}
+use Rattle.std.specs.Prelude.{ℕ, ◌≤◌, IfSome, ◌^◌, ◌&&◌, List, [], ◌∷◌, Option, Some, None, option_map, codes, nat_lt, cond}
 use Rattle.std.specs.Char.{is_ascii_digit}
 use Rattle.std.specs.List.{list_all}
 use Rattle.std.specs.Str.{bytes_eq}
@@ -15,3 +15,7 @@ abbrev pub chosen : List (List ℕ) → Option Choice
 chosen [] = Some (record { cut = None })
 chosen (option ∷ number ∷ []) = cond (bytes_eq option (codes "--cut")) (option_map (λ n. record { cut = Some n }) (number_of number)) None
 chosen words = None
+
+-- a cut is at least 1
+abbrev pub CanCut : Choice → Type 0
+CanCut choice = IfSome choice.cut (λ n. 1 ≤ n)

@@ -4,8 +4,9 @@ ghost use Rattle.std.specs.Prelude.{◌≡◌, ◌≢◌, ℕ, List, IfOk, IfErr
 ghost use Rattle.std.specs.Io.KnownBytes.{Consumes, Keeps};
 ghost use Rattle.markdown.specs.Engine.{AreCuts};
 ghost use Rattle.mdevents.specs.Failure.{IsOfMaking};
-ghost use Rattle.mdevents.specs.Program.{AreEventsOf, IsRefusedBy, IsReadToEnd, CanCut, Prints, PrintsFront};
+ghost use Rattle.mdevents.specs.Program.{AreEventsOf, IsRefusedBy, IsReadToEnd, Prints, PrintsFront};
 ghost use Rattle.mdevents.specs.Reading.{IsWithinLimit};
+ghost use Rattle.mdevents.specs.Words.{CanCut};
 
 use crate::failure::Failure;
 use crate::lines::Lines;
@@ -14,10 +15,8 @@ use crate::read::read_to_end;
 use crate::words::Choice;
 use crate::write::write_all;
 use markdown::parser::ParseState;
-use markdown::places::cuts_every;
 use markdown::state::Name;
-use markdown::tokenizer::Fault;
-use markdown::work::run;
+use markdown::tokenizer::{Fault, cuts_every, run};
 use markdown_base::configuration::ParseOptions;
 use markdown_base::event::Event;
 use std::alloc::{AllocError, Global};
@@ -79,5 +78,76 @@ fn cuts_of(alloc: Global, bytes: &[u8], choice: &Choice) -> Result<Vec<(usize, u
     match choice.cut {
         Some(n) => cuts_every(alloc, bytes, n),
         None => Ok(Vec::new(alloc)),
+    }
+}
+
+#[cfg(test)]
+mod tests {
+    use super::*;
+    use crate::fakes::{FailingReader, FailingWriter};
+    use std::test::Fail;
+
+    const TWO_LINES: &str =
+        "enter Paragraph 1:1 (0+0)\nenter Data 1:1 (0+0)\nexit Data 1:2 (1+0)\nexit Paragraph 1:2 (1+0)\nenter LineEnding 1:2 (1+0)\nexit LineEnding 2:1 (3+0)\nenter Paragraph 2:1 (3+0)\nenter Data 2:1 (3+0)\nexit Data 2:2 (4+0)\nexit Paragraph 2:2 (4+0)\n";
+
+    const AFTER_TAB: &str =
+        "enter Paragraph 1:1 (0+0)\nenter Data 1:1 (0+0)\nexit Data 1:6 (2+0)\nexit Paragraph 1:6 (2+0)\n";
+
+    #[test]
+    fn writes_the_events(rt: HostRuntime) -> Result<(), Fail> {
+        for (document, cut, want) in [
+            ("a\r\nb", None, TWO_LINES),
+            ("a\r\nb", Some(1), TWO_LINES),
+            ("a\r\nb", Some(2), TWO_LINES),
+            ("", None, ""),
+            ("", Some(1), ""),
+            ("\ta", None, AFTER_TAB),
+            ("\ta", Some(2), AFTER_TAB),
+        ] {
+            let mut reader = document.as_bytes();
+            let mut written = Vec::new(rt.alloc());
+            let choice = Choice { cut };
+            let result = write_events(rt.alloc(), &mut reader, &mut written, &choice);
+            assert!(rt; result.is_ok());
+            assert_eq!(rt; written.as_slice(), want.as_bytes());
+        }
+        Ok(())
+    }
+
+    #[test]
+    fn answers_the_first_failure(rt: HostRuntime) -> Result<(), Fail> {
+        for (good_reads, good_writes) in [(0, 9), (1, 9), (2, 9), (2, 0)] {
+            let mut reader = FailingReader {
+                rest: b"a\r\nb",
+                good_reads,
+            };
+            let mut writer = FailingWriter {
+                written: Vec::new(rt.alloc()),
+                most: 100,
+                good_writes,
+            };
+            match write_events(rt.alloc(), &mut reader, &mut writer, &Choice { cut: None }) {
+                Err(Failure::Read) => assert!(rt; good_reads < 3),
+                _ => assert!(rt; false, "after {good_reads} reads"),
+            }
+            assert!(rt; writer.written.is_empty());
+        }
+        for good_writes in 0..5 {
+            let mut reader = b"a\r\nb".as_slice();
+            let mut writer = FailingWriter {
+                written: Vec::new(rt.alloc()),
+                most: 100,
+                good_writes,
+            };
+            match write_events(rt.alloc(), &mut reader, &mut writer, &Choice { cut: None }) {
+                Ok(()) => assert!(rt; good_writes >= 3),
+                Err(Failure::Write) => assert!(rt; good_writes < 3),
+                Err(_) => assert!(rt; false, "after {good_writes} writes"),
+            }
+            let written = writer.written.as_slice();
+            assert_eq!(rt; written.len(), TWO_LINES.len().min(100 * good_writes));
+            assert!(rt; TWO_LINES.as_bytes().starts_with(written));
+        }
+        Ok(())
     }
 }

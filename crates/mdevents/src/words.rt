@@ -1,6 +1,6 @@
 //! The words that the program is called with.
 
-ghost use Rattle.std.specs.Prelude.{◌≡◌, map, string_bytes};
+ghost use Rattle.std.specs.Prelude.{◌≡◌, ◌≤◌, IfSome, map, string_bytes};
 ghost use Rattle.std.specs.Char.{is_ascii_digit};
 ghost use Rattle.std.specs.List.{list_all};
 
@@ -14,11 +14,12 @@ pub struct Choice {
     pub cut: Option<usize>,
 }
 
-ghost use Rattle.mdevents.specs.Words.{chosen, number_of};
+ghost use Rattle.mdevents.specs.Words.{chosen, number_of, CanCut};
 
 /// What the words after the program's name choose: nothing, or `--cut` and a number. None asks for [`USAGE`].
 pub fn read_words(words: &[String]) -> Option<Choice>
-    ensures { result ≡ chosen (map string_bytes words.now) }
+    ensures chosen { result ≡ chosen (map string_bytes words.now) }
+    ensures cut { IfSome result CanCut }
 {
     match words {
         [] => Some(Choice { cut: None }),
@@ -32,7 +33,8 @@ pub fn read_words(words: &[String]) -> Option<Choice>
 
 /// The number of a word of decimal digits, if it is at least 1 and fits.
 fn read_number(word: &str) -> Option<usize>
-    ensures { result ≡ number_of word.now }
+    ensures number { result ≡ number_of word.now }
+    ensures some { IfSome result (λ n. 1 ≤ n) }
 {
     if !is_decimal(word) {
         return None;

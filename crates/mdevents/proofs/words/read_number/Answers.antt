@@ -34,15 +34,15 @@ refused word decimal never =
     let v = digits_value 10 word in
     rw decimal (sym (tested v (nat_lt 0 v && nat_lt v (2 ^ 64)) refl (λ above fits. absurd (never (not-empty word above, fits)))))
 
-pub returns-in-Ok : goal.returns-in-Ok
-returns-in-Ok c =
+pub returns-in-Ok-clause-number : goal.returns-in-Ok-clause-number
+returns-in-Ok-clause-number c =
     let word = c.args.word.now in
     let decimal = sym c.is_decimal.ensures ∙ c.if-not-is_decimal.false in
     let (fits, is) = parse_digits digits {E = ℕ} 64 word (Ok c.in-Ok.number) c.in-Ok.ensures.value.0 decimal in
     c.then_some.ensures ∙ found word c.in-Ok.number decimal is (omega (arith, fits.1, is))
 
-pub returns-in-Err : goal.returns-in-Err
-returns-in-Err c =
+pub returns-in-Err-clause-number : goal.returns-in-Err-clause-number
+returns-in-Err-clause-number c =
     let word = c.args.word.now in
     let decimal = sym c.is_decimal.ensures ∙ c.if-not-is_decimal.false in
     refused word decimal (parse_digits digits 64 word (Err c.in-Err.field-0) c.in-Err.ensures.value.0 decimal)

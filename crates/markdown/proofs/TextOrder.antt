@@ -1,10 +1,9 @@
 -- The virtual bytes of a text stand in order: each begins before it ends, and none begins before the one before it ends.
-use Rattle.std.proofs.Common.{◌≡◌, ◌≢◌, ◌-◌, ℕ, zero, suc, ◌+◌, ◌<◌, ◌≤◌, List, [], ◌∷◌, ◌++◌, Bool, true, false, cond, Some, None, length, refl, sym, ap, ◌∙◌, subst, arith, ◌⊎◌, inl, inr}
+use Rattle.std.proofs.Common.{◌≡◌, ◌≢◌, ℕ, zero, suc, ◌+◌, ◌<◌, ◌≤◌, List, [], ◌∷◌, ◌++◌, Bool, true, false, cond, Some, length, refl, sym, ap, ◌∙◌, subst, arith, inl, inr}
 use Rattle.std.specs.Prelude.{slice_get, slice_index, drop, ◌==◌, nat_lt, not, ◌&&◌, ◌||◌, filter}
 use Rattle.std.specs.List.{list_all}
 use Rattle.std.proofs.lemmas.Bool.{ltb-true}
 use Rattle.std.proofs.lemmas.Bool.Decides.{nat_tests}
-use Rattle.std.proofs.lemmas.List.{append-nil}
 use Rattle.std.proofs.lemmas.Option.{slice_get_cases}
 use Rattle.markdown_base.specs.declared.event.Point.{Point}
 use Rattle.markdown_base.specs.Virtual.{Seat, point, tab_width, in_tab, end_in_tab, line_feed, plain, begins_with_lf, virtual_from, virtual}
@@ -13,7 +12,7 @@ use Rattle.markdown.specs.declared.waiting.Waits.TheVariants.{Byte}
 use Rattle.markdown.specs.Text.{Given, Text, Piece, pushed, passed, IsText, empty_text, followed_by, followed_by_all, FitsAfter, CanFollow, in_range}
 use Rattle.markdown.specs.Sight.{sight_of}
 use Rattle.markdown.specs.Cursor.{Every}
-use Rattle.markdown.proofs.Orders.{before-self, above-later, below-before, more-before, not-before, not-before-in, is-number, is-not, later-later, after-before, before-upto, upto-before, every-append, every-map, every-both, every-all}
+use Rattle.markdown.proofs.Orders.{before-self, above-later, below-before, more-before, not-before, not-before-in, is-number, is-not, after-before, before-upto, upto-before, every-append, every-map, every-both, every-all}
 use Rattle.markdown.proofs.Seats.{virtual-index}
 use Rattle.markdown.proofs.Chains.{shown-other, shown-after}
 use Rattle.markdown.proofs.Standing.{shown-upto}
