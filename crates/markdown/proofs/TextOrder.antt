@@ -178,7 +178,7 @@ module _ (t : ℕ) (bytes : List ℕ) where
   from-order l c i (b ∷ bs) e = byte-order l c i b bs (b == 10) (b == 13) (begins_with_lf bs) (b == 9) refl refl refl refl e ((at-drop i bytes b bs e).0)
       (λ m n. from-order m n (suc i) bs ((at-drop i bytes b bs e).1))
 
-  virtual-order : AreInOrder bytes (virtual t bytes)
+  pub virtual-order : AreInOrder bytes (virtual t bytes)
   virtual-order = from-order 1 1 0 bytes refl
 
   -- of two virtual bytes, the one that begins later follows the other

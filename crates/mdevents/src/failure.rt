@@ -4,6 +4,7 @@ ghost use Rattle.std.specs.Prelude.{◌≡◌, Some};
 ghost use Rattle.mdevents.specs.Failure.{failure_text};
 ghost use Rattle.mdevents.specs.declared.failure.Failure.TheVariants.{Memory};
 
+use markdown_base::message::Message;
 use std::alloc::AllocError;
 use std::fmt;
 
@@ -18,6 +19,8 @@ pub enum Failure {
     Write,
     /// Four times the length of the input, and one more, do not fit `usize`.
     TooLong,
+    /// The document is refused.
+    Message(Message),
 }
 
 impl fmt::Display for Failure {
@@ -29,6 +32,7 @@ impl fmt::Display for Failure {
             Failure::Read => write!(f, "cannot read input"),
             Failure::Write => write!(f, "cannot write output"),
             Failure::TooLong => write!(f, "input too long"),
+            Failure::Message(message) => write!(f, "{message}"),
         }
     }
 }

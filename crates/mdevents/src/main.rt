@@ -1,13 +1,64 @@
 //! Prints the events of a document: reads standard input to its end and writes a line for each event.
+//!
+//! `mdevents [--cut n]`: with `--cut` the document is read in parts, cut after each n virtual bytes, which changes nothing
+//! in what is written. The status is 0; where something fails, a line says what on standard error and the status is 1;
+//! other words are answered by a line on how to call the program, and the status is 2.
 #![tactic(auto)]
+
+ghost use Rattle.std.specs.Prelude.{IfOk, IfSome};
+ghost use Rattle.mdevents.specs.Words.{CanCut};
 
 mod failure;
 #[cfg(test)]
 mod fakes;
 mod lines;
 mod print;
+mod program;
 mod read;
 mod words;
 mod write;
 
-fn main() {}
+use failure::Failure;
+use program::write_events;
+use std::env;
+use std::io::ErrorKind;
+use std::process::ExitCode;
+use std::rt::Env;
+use words::{Choice, USAGE, read_words};
+
+fn main(rt: HostRuntime) -> ExitCode {
+    match choice_of(&rt) {
+        Ok(Some(choice)) => {
+            match write_events(rt.alloc(), &mut rt.stdin(), &mut rt.stdout(), &choice) {
+                Ok(()) => ExitCode::SUCCESS,
+                Err(failure) => failed(&rt, failure),
+            }
+        }
+        Ok(None) => {
+            let _ = rt.eprintln(USAGE);
+            ExitCode::from(2)
+        }
+        Err(failure) => failed(&rt, failure),
+    }
+}
+
+/// Shows a failure on standard error.
+fn failed(rt: &impl Eprint, failure: Failure) -> ExitCode {
+    let _ = rt.eprintln(failure);
+    ExitCode::FAILURE
+}
+
+/// What the words after the program's name choose. A word that is not UTF-8 chooses nothing.
+fn choice_of(rt: &(impl Env + AllocGlobal)) -> Result<Option<Choice>, Failure>
+    ensures { IfOk result (λ choice. IfSome choice CanCut) }
+{
+    match env::args(rt) {
+        Ok(mut arguments) => {
+            let _ = arguments.next();
+            let words: Vec<String> = arguments.collect(rt.alloc())?;
+            Ok(read_words(words.as_slice()))
+        }
+        Err(error) if error.kind() == ErrorKind::InvalidData => Ok(None),
+        Err(_) => Err(Failure::Memory),
+    }
+}

@@ -1,0 +1,13 @@
+use Rattle.std.proofs.Common.{IfOk, Result, Ok, Err, sym, subst}
+use Rattle.markdown.specs.Engine.{AreCuts}
+use Rattle.mdevents.specs.CutPlaces.{cuts_every-cuts}
+use Rattle.mdevents.proofs.program.cuts_of.Goals as goal
+
+-- what holds of a result holds where it follows
+if-ok : {T E : Type 0} (r : Result T E) (P Q : T → Type 0) → ((x : T) → P x → Q x) → IfOk r P → IfOk r Q
+if-ok (Ok x) P Q f h = f x h
+if-ok (Err e) P Q f h = h
+
+pub returns-in-Some : goal.returns-in-Some
+returns-in-Some c =
+    if-ok c.cuts_every.result _ _ (λ cuts same. subst (AreCuts 4 c.args.bytes.now) (sym same) (cuts_every-cuts c.args.bytes.now c.in-Some.n)) c.cuts_every.ensures

@@ -1,0 +1,153 @@
+//! What the program does, over any reader and writer.
+
+ghost use Rattle.std.specs.Prelude.{◌≡◌, ◌≢◌, ℕ, List, IfOk, IfErr, OnOk, IsErrOf};
+ghost use Rattle.std.specs.Io.KnownBytes.{Consumes, Keeps};
+ghost use Rattle.markdown.specs.Engine.{AreCuts};
+ghost use Rattle.mdevents.specs.Failure.{IsOfMaking};
+ghost use Rattle.mdevents.specs.Program.{AreEventsOf, IsRefusedBy, IsReadToEnd, Prints, PrintsFront};
+ghost use Rattle.mdevents.specs.Reading.{IsWithinLimit};
+ghost use Rattle.mdevents.specs.Words.{CanCut};
+
+use crate::failure::Failure;
+use crate::lines::Lines;
+use crate::print::printed;
+use crate::read::read_to_end;
+use crate::words::Choice;
+use crate::write::write_all;
+use markdown::parser::ParseState;
+use markdown::state::Name;
+use markdown::tokenizer::{Fault, cuts_every, run};
+use markdown_base::configuration::ParseOptions;
+use markdown_base::event::Event;
+use std::alloc::{AllocError, Global};
+use std::io::{Read, Write};
+
+/// Reads a document to its end and writes its events, a line for each, once all are there.
+///
+/// A cut in the choice is at least 1. The first failure met is answered, in the order of reading, length, making the
+/// events, and writing. Where it is not that of the writer nothing was written; where it is, a beginning of the lines.
+pub fn write_events<R: Read, W: Write>(
+    alloc: Global,
+    reader: &mut R,
+    writer: &mut W,
+    choice: &Choice,
+) -> Result<(), Failure>
+    requires { CanCut choice.now }
+    ensures written { OnOk result (Prints (R.remaining reader.old) (R.remaining reader.new) (W.contents writer.old) (W.contents writer.new)) }
+    ensures too_long { IsErrOf result Failure.TooLong → (bytes : List ℕ) × Consumes (R.remaining reader.old) (R.remaining reader.new) bytes × ¬ IsWithinLimit bytes }
+    ensures message { (m : _) → IsErrOf result (Failure.Message m) → (bytes : List ℕ) × IsReadToEnd (R.remaining reader.old) (R.remaining reader.new) bytes × IsRefusedBy bytes m }
+    ensures cut_short { IsErrOf result Failure.Write → PrintsFront (R.remaining reader.old) (R.remaining reader.new) (W.contents writer.old) (W.contents writer.new) }
+    ensures nothing { IfErr result (λ failure. failure ≢ Failure.Write → Keeps (W.contents writer.old) (W.contents writer.new)) }
+{
+    let bytes = read_to_end(alloc, reader)?;
+    let events = events_of(alloc, bytes.as_slice(), choice)?;
+    let text = printed(alloc, events.as_slice())?;
+    write_all(writer, text.as_bytes())
+}
+
+/// The events of a document, which have no trace of the cuts.
+fn events_of(alloc: Global, bytes: &[u8], choice: &Choice) -> Result<Vec<Event>, Failure>
+    requires limit { IsWithinLimit bytes.now }
+    requires cut { CanCut choice.now }
+    ensures events { IfOk result (λ events. AreEventsOf bytes.now events.items) }
+    ensures message { (m : _) → IsErrOf result (Failure.Message m) → IsRefusedBy bytes.now m }
+    ensures cause { IfErr result IsOfMaking }
+{
+    let options = ParseOptions::default();
+    let machine = Lines {};
+    let parse_state = ParseState {
+        bytes,
+        options: &options,
+        machine: &machine,
+    };
+    let cuts = cuts_of(alloc, bytes, choice)?;
+    match run(alloc, &parse_state, Name::FlowStart, cuts.as_slice(), false) {
+        Ok((events, _)) => Ok(events),
+        Err(Fault::Memory) => Err(Failure::Memory),
+        Err(Fault::Message(message)) => Err(Failure::Message(message)),
+        Err(Fault::Failed) => unreachable!(),
+    }
+}
+
+/// Where a document is cut.
+fn cuts_of(alloc: Global, bytes: &[u8], choice: &Choice) -> Result<Vec<(usize, usize)>, AllocError>
+    requires limit { IsWithinLimit bytes.now }
+    requires cut { CanCut choice.now }
+    ensures { IfOk result (λ cuts. AreCuts 4 bytes.now cuts.items) }
+{
+    match choice.cut {
+        Some(n) => cuts_every(alloc, bytes, n),
+        None => Ok(Vec::new(alloc)),
+    }
+}
+
+#[cfg(test)]
+mod tests {
+    use super::*;
+    use crate::fakes::{FailingReader, FailingWriter};
+    use std::test::Fail;
+
+    const TWO_LINES: &str =
+        "enter Paragraph 1:1 (0+0)\nenter Data 1:1 (0+0)\nexit Data 1:2 (1+0)\nexit Paragraph 1:2 (1+0)\nenter LineEnding 1:2 (1+0)\nexit LineEnding 2:1 (3+0)\nenter Paragraph 2:1 (3+0)\nenter Data 2:1 (3+0)\nexit Data 2:2 (4+0)\nexit Paragraph 2:2 (4+0)\n";
+
+    const AFTER_TAB: &str =
+        "enter Paragraph 1:1 (0+0)\nenter Data 1:1 (0+0)\nexit Data 1:6 (2+0)\nexit Paragraph 1:6 (2+0)\n";
+
+    #[test]
+    fn writes_the_events(rt: HostRuntime) -> Result<(), Fail> {
+        for (document, cut, want) in [
+            ("a\r\nb", None, TWO_LINES),
+            ("a\r\nb", Some(1), TWO_LINES),
+            ("a\r\nb", Some(2), TWO_LINES),
+            ("", None, ""),
+            ("", Some(1), ""),
+            ("\ta", None, AFTER_TAB),
+            ("\ta", Some(2), AFTER_TAB),
+        ] {
+            let mut reader = document.as_bytes();
+            let mut written = Vec::new(rt.alloc());
+            let choice = Choice { cut };
+            let result = write_events(rt.alloc(), &mut reader, &mut written, &choice);
+            assert!(rt; result.is_ok());
+            assert_eq!(rt; written.as_slice(), want.as_bytes());
+        }
+        Ok(())
+    }
+
+    #[test]
+    fn answers_the_first_failure(rt: HostRuntime) -> Result<(), Fail> {
+        for (good_reads, good_writes) in [(0, 9), (1, 9), (2, 9), (2, 0)] {
+            let mut reader = FailingReader {
+                rest: b"a\r\nb",
+                good_reads,
+            };
+            let mut writer = FailingWriter {
+                written: Vec::new(rt.alloc()),
+                most: 100,
+                good_writes,
+            };
+            match write_events(rt.alloc(), &mut reader, &mut writer, &Choice { cut: None }) {
+                Err(Failure::Read) => assert!(rt; good_reads < 3),
+                _ => assert!(rt; false, "after {good_reads} reads"),
+            }
+            assert!(rt; writer.written.is_empty());
+        }
+        for good_writes in 0..5 {
+            let mut reader = b"a\r\nb".as_slice();
+            let mut writer = FailingWriter {
+                written: Vec::new(rt.alloc()),
+                most: 100,
+                good_writes,
+            };
+            match write_events(rt.alloc(), &mut reader, &mut writer, &Choice { cut: None }) {
+                Ok(()) => assert!(rt; good_writes >= 3),
+                Err(Failure::Write) => assert!(rt; good_writes < 3),
+                Err(_) => assert!(rt; false, "after {good_writes} writes"),
+            }
+            let written = writer.written.as_slice();
+            assert_eq!(rt; written.len(), TWO_LINES.len().min(100 * good_writes));
+            assert!(rt; TWO_LINES.as_bytes().starts_with(written));
+        }
+        Ok(())
+    }
+}
