@@ -1,8 +1,6 @@
-pub mod CutPlaces
 pub mod Failure
 pub mod Lines
 pub mod LinesLaws
-pub mod LinesCalls
 pub mod Printed
 pub mod Program
 pub mod Reading

@@ -3,7 +3,7 @@ use Rattle.markdown_base.specs.declared.event.Name.TheVariants.{LineEnding}
 use Rattle.markdown.specs.Configuration.{at_configuration}
 use Rattle.markdown.specs.Calls.{consumed, CanExit}
 use Rattle.mdevents.specs.Tables.{waiting_of, at_line_ending, sight_seen}
-use Rattle.mdevents.specs.LinesCalls.{line-exit, line-done}
+use Rattle.mdevents.proofs.LinesCalls.{line-exit, line-done}
 use Rattle.mdevents.proofs.lines.flow_start.Goals as goal
 
 pub exit-requires : goal.exit-requires

@@ -3,7 +3,7 @@ use Rattle.markdown_base.specs.declared.event.Name.TheVariants.{Paragraph}
 use Rattle.markdown.specs.Calls.{CanExit}
 use Rattle.mdevents.specs.Tables.{waiting_of, sight_seen}
 use Rattle.mdevents.specs.Lines.{began_before}
-use Rattle.mdevents.specs.LinesCalls.{paragraph-exit}
+use Rattle.mdevents.proofs.LinesCalls.{paragraph-exit}
 use Rattle.mdevents.proofs.lines.paragraph_inside.Goals as goal
 
 pub exit-requires-in-None : goal.exit-requires-in-None

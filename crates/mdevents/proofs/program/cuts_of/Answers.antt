@@ -1,6 +1,6 @@
 use Rattle.std.proofs.Common.{IfOk, Result, Ok, Err, sym, subst}
 use Rattle.markdown.specs.Engine.{AreCuts}
-use Rattle.mdevents.specs.CutPlaces.{cuts_every-cuts}
+use Rattle.mdevents.proofs.CutPlaces.{cuts_every-cuts}
 use Rattle.mdevents.proofs.program.cuts_of.Goals as goal
 
 -- what holds of a result holds where it follows
