@@ -67,11 +67,18 @@ mod tests {
                 rest: b"a\r\nb",
                 good_reads,
             };
-            let result = read_to_end(rt.alloc(), &mut reader);
-            match result {
-                Ok(all) => assert!(rt; good_reads >= 3 && all.as_slice() == b"a\r\nb".as_slice()),
-                Err(Failure::Read) => assert!(rt; good_reads < 3),
-                Err(_) => assert!(rt; false, "after {good_reads} reads"),
+            match read_to_end(rt.alloc(), &mut reader) {
+                Ok(all) => {
+                    assert!(rt; good_reads >= 3);
+                    assert_eq!(rt; all.as_slice(), b"a\r\nb".as_slice());
+                }
+                Err(failure) => {
+                    assert!(rt; good_reads < 3);
+                    assert!(rt;
+                        matches!(&failure, Failure::Read),
+                        "after {good_reads} reads"
+                    );
+                }
             }
         }
         Ok(())
