@@ -1,5 +1,5 @@
 -- A document can be cut at every n-th of its virtual bytes.
-use Rattle.std.proofs.Common.{◌≡◌, ℕ, suc, ◌+◌, ◌<◌, List, [], ◌∷◌, ◌++◌, Bool, true, false, cond, refl, arith, sym, ap}
+use Rattle.std.proofs.Common.{◌≡◌, ℕ, ◌+◌, ◌<◌, List, [], ◌∷◌, true, false, cond, refl, arith, ap}
 use Rattle.std.specs.Prelude.{filter, map}
 use Rattle.std.specs.List.{enumerate_from}
 use Rattle.markdown_base.specs.declared.event.Point.{Point}

@@ -1,5 +1,5 @@
 -- What the calls of the states of lines need, and what they come to.
-use Rattle.std.proofs.Common.{◌≡◌, ℕ, ◌+◌, ◌-◌, ◌<◌, List, [], ◌∷◌, ◌++◌, Bool, true, false, Option, Some, None, length, refl, sym, ap, ◌∙◌, subst, arith, take}
+use Rattle.std.proofs.Common.{◌≡◌, ◌-◌, [], ◌∷◌, ◌++◌, true, Some, None, length, refl, sym, ap, ◌∙◌, subst, arith, take}
 use Rattle.std.specs.List.{last_or}
 use Rattle.markdown_base.specs.declared.event.Event.{Event}
 use Rattle.markdown_base.specs.declared.event.Kind.TheVariants.{Enter, Exit}
@@ -8,12 +8,11 @@ use Rattle.markdown_base.specs.declared.state.State.TheVariants.{Next}
 use Rattle.markdown_base.specs.declared.state.TheConstants.Name.{FlowStart}
 use Rattle.markdown_base.specs.Places.{stands_before}
 use Rattle.markdown_base.specs.Events.{open_events}
-use Rattle.markdown.specs.declared.waiting.Waits.TheVariants.{Nothing, Byte}
-use Rattle.markdown.specs.Configuration.{Configuration, Seen, at_configuration}
-use Rattle.markdown.specs.Sight.{sight_of}
+use Rattle.markdown.specs.declared.waiting.Waits.TheVariants.{Nothing}
+use Rattle.markdown.specs.Configuration.{Seen, at_configuration}
 use Rattle.markdown.specs.Calls.{consumed, entered, exited, CanExit}
-use Rattle.mdevents.specs.Tables.{Waiting, at_end, at_line_ending, at_other, waiting_of, sight_seen, Does}
-use Rattle.mdevents.specs.Lines.{LinesState, flow_start, paragraph_inside, lines_table, IsOpenAt, began_before, IsCallable}
+use Rattle.mdevents.specs.Tables.{at_line_ending, waiting_of, sight_seen, Does}
+use Rattle.mdevents.specs.Lines.{flow_start, paragraph_inside, lines_table, began_before, IsCallable}
 use Rattle.mdevents.specs.LinesLaws.{IsSeen, is-seen, open-more, last-more, next-left}
 
 -- a line ending after it was entered and consumed

@@ -9,7 +9,7 @@ use Rattle.markdown_base.specs.declared.state.Name.{Name}
 use Rattle.markdown_base.specs.declared.state.TheConstants.Name.{FlowStart, ParagraphInside}
 use Rattle.markdown_base.specs.declared.state.State.{State}
 use Rattle.markdown_base.specs.declared.state.State.TheVariants.{Next, Retry, Ok, Nok, Error}
-use Rattle.markdown_base.specs.Places.{stands_before, shown}
+use Rattle.markdown_base.specs.Places.{stands_before}
 use Rattle.markdown_base.specs.Events.{open_events}
 use Rattle.markdown.specs.declared.waiting.Waits.{Waits}
 use Rattle.markdown.specs.declared.waiting.Waits.TheVariants.{Nothing, Byte, End}

@@ -1,32 +1,31 @@
 -- The laws of the machine of lines.
-use Rattle.std.proofs.Common.{◌≡◌, ◌≢◌, ℕ, zero, suc, ◌+◌, ◌-◌, ◌*◌, ◌≤◌, ◌<◌, ◌==◌, List, [], ◌∷◌, ◌++◌, Bool, true, false, cond, Option, Some, None, length, refl, sym, ap, ◌∙◌, subst, arith, rules, ◌⊎◌, inl, inr, length-append, sum_by, take, append_assoc, add-one, get_or}
+use Rattle.std.proofs.Common.{◌≡◌, ◌≢◌, ℕ, zero, suc, ◌+◌, ◌-◌, ◌*◌, ◌≤◌, ◌<◌, ◌==◌, List, [], ◌∷◌, ◌++◌, Bool, true, false, cond, Option, Some, None, length, refl, sym, ap, ◌∙◌, subst, arith, ◌⊎◌, inl, inr, length-append, sum_by, take, append_assoc, add-one}
 use Rattle.std.specs.Prelude.{slice_get, nat_lt, map, filter, Contains}
 use Rattle.std.specs.List.{last_or}
 use Rattle.std.proofs.lemmas.Bool.{ltb-true}
-use Rattle.std.proofs.lemmas.Bool.Decides.{nat_tests}
-use Rattle.std.proofs.lemmas.Option.{slice_get_cases, slice_get-get_or}
-use Rattle.std.proofs.lemmas.List.{get_or_append_left, append-nil}
+use Rattle.std.proofs.lemmas.Option.{slice_get_cases}
+use Rattle.std.proofs.lemmas.List.{append-nil}
 use Rattle.std.proofs.Math.Seq.{take-append_seam, take-length}
 use Rattle.markdown_base.specs.declared.event.Event.{Event}
 use Rattle.markdown_base.specs.declared.event.Kind.TheVariants.{Enter, Exit}
-use Rattle.markdown_base.specs.declared.event.Name.TheVariants.{Paragraph, Data, LineEnding}
+use Rattle.markdown_base.specs.declared.event.Name.TheVariants.{Paragraph, Data}
 use Rattle.markdown_base.specs.declared.event.Point.{Point}
 use Rattle.markdown_base.specs.declared.state.Name.{Name}
 use Rattle.markdown_base.specs.declared.state.State.{State}
 use Rattle.markdown_base.specs.declared.state.State.TheVariants.{Next, Retry, Ok, Nok, Error}
 use Rattle.markdown_base.specs.Virtual.{Seat, virtual}
-use Rattle.markdown_base.specs.Places.{stands_before, shown, denotes_same, IsPointOf}
+use Rattle.markdown_base.specs.Places.{stands_before, shown, denotes_same}
 use Rattle.markdown_base.specs.Events.{open_after, open_events_from, open_events}
 use Rattle.markdown.specs.declared.waiting.Waits.{Waits}
 use Rattle.markdown.specs.declared.waiting.Waits.TheVariants.{Nothing, Byte, End}
 use Rattle.markdown.specs.Text.{Given, Text, Piece, pushed, passed, IsText, empty_text, followed_by, in_range}
 use Rattle.markdown.specs.Configuration.{Configuration, Choice, Step, start_configuration}
-use Rattle.markdown.specs.Sight.{Sight, sight, sight_of, byte_of, end_or, current_of, next_of, end_place, seat_before}
+use Rattle.markdown.specs.Sight.{Sight, sight, sight_of, current_of, end_place}
 use Rattle.markdown.specs.Calls.{consumed}
 use Rattle.markdown.specs.Reading.{fed}
 use Rattle.markdown.specs.Lawful.{unlinked, IsAsFar, ConsumesOnce, OnlyAdds, EndsWhenRead, KeepsInvariant, CostPays}
-use Rattle.mdevents.specs.Tables.{Waiting, at_end, at_line_ending, at_other, waiting_of, gives, counted}
-use Rattle.mdevents.specs.Lines.{LinesState, flow_start, paragraph_inside, lines_state, lines_table, lines_step_at, lines_step, InFlow, InParagraph, IsOpenAt, began_before, IsWaiting, IsAhead, LinesHoldAt, lines_holds, twice_left, lines_call_cost, lines_cost, lines_reserve, lines_starts}
+use Rattle.mdevents.specs.Tables.{Waiting, at_end, at_line_ending, at_other, waiting_of, counted}
+use Rattle.mdevents.specs.Lines.{LinesState, flow_start, paragraph_inside, lines_state, lines_table, lines_step_at, lines_step, IsOpenAt, began_before, IsWaiting, IsAhead, LinesHoldAt, lines_holds, twice_left, lines_call_cost, lines_cost, lines_reserve, lines_starts}
 use Rattle.markdown.proofs.TextOrder.{begins-before_end, began-before_next}
 
 -- What a kind of byte says of the configuration: the end waits, or a byte of the text

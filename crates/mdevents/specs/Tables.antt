@@ -1,8 +1,8 @@
 -- Words of the tables that define machines.
-use Rattle.std.specs.Prelude.{◌≡◌, ℕ, ◌+◌, ◌-◌, ◌^◌, ◌==◌, List, [], Bool, cond, Option, Some, None, min}
+use Rattle.std.specs.Prelude.{◌≡◌, ℕ, ◌+◌, ◌-◌, ◌^◌, ◌==◌, [], Bool, cond, Option, Some, None, min}
 use Rattle.markdown_base.specs.declared.state.Name.{Name}
 use Rattle.markdown_base.specs.declared.state.State.{State}
-use Rattle.markdown.specs.Configuration.{Configuration, Local, Step, Seen, at_configuration}
+use Rattle.markdown.specs.Configuration.{Configuration, Step, Seen, at_configuration}
 use Rattle.markdown.specs.Sight.{Sight, sight}
 use Rattle.markdown.specs.Calls.{with_local}
 

@@ -1,6 +1,4 @@
 use Rattle.std.proofs.Common.{◌≡◌}
-use Rattle.markdown_base.specs.declared.message.Message.{Message}
-use Rattle.mdevents.specs.Program.{IsRefusedBy}
 use Rattle.mdevents.proofs.program.events_of.Goals as goal
 
 pub returns-in-Err-Message-clause-message : goal.returns-in-Err-Message-clause-message
