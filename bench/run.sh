@@ -1,6 +1,7 @@
 #!/usr/bin/env bash
-# Builds the program and prints, for three kinds of document at three sizes, the instructions per byte (callgrind) and the
-# bytes per second of a whole run: reading, making the events, printing them. Needs valgrind and python3.
+# Builds the program and prints, for three kinds of document at three sizes, the instructions per byte (callgrind) of a whole
+# run (reading, making the events, printing them) and of the engine's functions in it, and the bytes per second of a whole
+# run. Needs valgrind and python3.
 set -eu
 cd "$(dirname "$0")/../crates/mdevents"
 rt run </dev/null >/dev/null 2>&1 || true
@@ -21,18 +22,31 @@ for kind, line in kinds.items():
         open(f"{sys.argv[1]}/{kind}-{size}", "w").write(text)
 PY
 
+# all instructions of a run, and those of the engine
 instructions() {
-    valgrind --tool=callgrind --callgrind-out-file=/dev/null "$program" <"$1" 2>&1 >/dev/null | sed -n 's/.*Collected : \([0-9]*\).*/\1/p'
+    valgrind --tool=callgrind --callgrind-out-file="$folder/counts" "$program" <"$1" >/dev/null 2>&1
+    callgrind_annotate --threshold=100 "$folder/counts" | python3 -c '
+import re, sys
+whole = engine = 0
+for line in sys.stdin:
+    found = re.match(r" *([0-9,]+) \([ 0-9.]+%\)  (.*)", line)
+    if found:
+        count = int(found.group(1).replace(",", ""))
+        if "PROGRAM TOTALS" in found.group(2):
+            whole = count
+        elif "markdown::" in found.group(2):
+            engine += count
+print(whole, engine)'
 }
 
 empty=$folder/empty
 : >"$empty"
-base=$(instructions "$empty")
-printf '%-6s %8s %18s %14s\n' kind bytes 'instructions/byte' 'bytes/second'
+read -r base _ <<<"$(instructions "$empty")"
+printf '%-6s %8s %12s %12s %14s\n' kind bytes 'whole/byte' 'engine/byte' 'bytes/second'
 for kind in plain tabs short; do
     for size in 1000 100000 1000000; do
         file=$folder/$kind-$size
-        count=$(instructions "$file")
+        read -r count engine <<<"$(instructions "$file")"
         best=$(python3 - "$program" "$file" <<'PY'
 import subprocess, sys, time
 best = 1e9
@@ -44,6 +58,6 @@ for _ in range(5):
 print(best)
 PY
 )
-        python3 -c "print('%-6s %8d %18.1f %14.0f' % ('$kind', $size, ($count - $base) / $size, $size / $best))"
+        python3 -c "print('%-6s %8d %12.1f %12.1f %14.0f' % ('$kind', $size, ($count - $base) / $size, $engine / $size, $size / $best))"
     done
 done
