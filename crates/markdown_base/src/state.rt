@@ -12,10 +12,11 @@ use std::alloc::{AllocError, Global};
 /// The name of a state.
 ///
 /// There are more names than an enum may have variants, so that each is a constant; they stand in
-/// expressions and in patterns as variants would.
+/// expressions and in patterns as variants would. The number is a word wide, so that a [`State`] that holds
+/// a name is moved by words.
 #[derive(Clone, Copy, Debug, PartialEq, Eq)]
 pub struct Name {
-    number: u16,
+    number: u64,
 }
 
 #[allow(non_upper_case_globals)]
