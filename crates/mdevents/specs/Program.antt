@@ -1,5 +1,6 @@
 -- What the program writes.
-use Rattle.std.specs.Prelude.{◌≡◌, ℕ, List, Option, take}
+use Rattle.std.specs.Prelude.{[], ◌≡◌, ℕ, List, Option, take}
+use Rattle.std.specs.Option.{option_map_or}
 use Rattle.std.specs.Io.KnownBytes.{Consumes, IsAtEnd, Appends}
 use Rattle.markdown_base.specs.declared.event.Event.{Event}
 use Rattle.markdown_base.specs.declared.message.Message.{Message}
@@ -9,6 +10,8 @@ use Rattle.markdown_base.specs.Presets.{default_parse_options}
 use Rattle.markdown.specs.Text.{Given}
 use Rattle.markdown.specs.Reading.{Reading}
 use Rattle.markdown.specs.Engine.{given_by, StartEndsIn}
+use Rattle.markdown.specs.Cuts.{cuts_every}
+use Rattle.mdevents.specs.declared.words.Choice.{Choice}
 use Rattle.mdevents.specs.Lines.{lines_step}
 use Rattle.mdevents.specs.Printed.{printed_events}
 
@@ -19,6 +22,10 @@ document bytes = given_by bytes default_parse_options
 -- the one reading of a whole document by lines ends in this
 abbrev pub LinesEndIn : List ℕ → Reading Unit Unit → Type 0
 LinesEndIn bytes r = StartEndsIn (document bytes) (lines_step (document bytes)) FlowStart r
+
+-- where a document is cut: nowhere, or at every n-th of its virtual bytes
+abbrev pub cut_places : Choice → List ℕ → List (ℕ × ℕ)
+cut_places choice bytes = option_map_or (cuts_every 4 bytes) choice.cut []
 
 -- These are the events of a document: those in which its one reading by lines ends
 pub record AreEventsOf (bytes : List ℕ) (events : List Event) : Type 0 where

@@ -5,7 +5,7 @@
 //! other words are answered by a line on how to call the program, and the status is 2.
 #![tactic(auto)]
 
-ghost use Rattle.std.specs.Prelude.{IfOk, IfSome};
+ghost use Rattle.std.specs.Prelude.{IfOk, IfSome, IsOkUnless};
 ghost use Rattle.mdevents.specs.Words.{CanCut};
 
 mod failure;
@@ -50,7 +50,8 @@ fn failed(rt: &impl Eprint, failure: Failure) -> ExitCode {
 
 /// What the words after the program's name choose. A word that is not UTF-8 chooses nothing.
 fn choice_of(rt: &(impl Env + AllocGlobal)) -> Result<Option<Choice>, Failure>
-    ensures { IfOk result (λ choice. IfSome choice CanCut) }
+    ensures cut { IfOk result (λ choice. IfSome choice CanCut) }
+    ensures cause { IsOkUnless result Failure.Memory }
 {
     match env::args(rt) {
         Ok(mut arguments) => {

@@ -4,7 +4,7 @@ ghost use Rattle.std.specs.Prelude.{◌≡◌, ◌≢◌, ℕ, List, IfOk, IfErr
 ghost use Rattle.std.specs.Io.KnownBytes.{Consumes, Keeps};
 ghost use Rattle.markdown.specs.Engine.{AreCuts};
 ghost use Rattle.mdevents.specs.Failure.{IsOfMaking};
-ghost use Rattle.mdevents.specs.Program.{AreEventsOf, IsRefusedBy, IsReadToEnd, Prints, PrintsFront};
+ghost use Rattle.mdevents.specs.Program.{cut_places, AreEventsOf, IsRefusedBy, IsReadToEnd, Prints, PrintsFront};
 ghost use Rattle.mdevents.specs.Reading.{IsWithinLimit};
 ghost use Rattle.mdevents.specs.Words.{CanCut};
 
@@ -73,7 +73,8 @@ fn events_of(alloc: Global, bytes: &[u8], choice: &Choice) -> Result<Vec<Event>,
 fn cuts_of(alloc: Global, bytes: &[u8], choice: &Choice) -> Result<Vec<(usize, usize)>, AllocError>
     requires limit { IsWithinLimit bytes.now }
     requires cut { CanCut choice.now }
-    ensures { IfOk result (λ cuts. AreCuts 4 bytes.now cuts.items) }
+    ensures places { IfOk result (λ cuts. cuts.items ≡ cut_places choice.now bytes.now) }
+    ensures cuts { IfOk result (λ cuts. AreCuts 4 bytes.now cuts.items) }
 {
     match choice.cut {
         Some(n) => cuts_every(alloc, bytes, n),

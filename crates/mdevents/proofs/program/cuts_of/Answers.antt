@@ -8,6 +8,6 @@ if-ok : {T E : Type 0} (r : Result T E) (P Q : T → Type 0) → ((x : T) → P 
 if-ok (Ok x) P Q f h = f x h
 if-ok (Err e) P Q f h = h
 
-pub returns-in-Some : goal.returns-in-Some
-returns-in-Some c =
+pub returns-in-Some-clause-cuts : goal.returns-in-Some-clause-cuts
+returns-in-Some-clause-cuts c =
     if-ok c.cuts_every.result _ _ (λ cuts same. subst (AreCuts 4 c.args.bytes.now) (sym same) (cuts_every-cuts c.args.bytes.now c.in-Some.n)) c.cuts_every.ensures
