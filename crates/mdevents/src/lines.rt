@@ -102,3 +102,6 @@ fn paragraph_inside<'a>(t: &mut Tokenizer<'a, Lines>) -> Result<State, AllocErro
         }
     }
 }
+
+#[cfg(test)]
+mod tests;
