@@ -1,5 +1,5 @@
 #!/usr/bin/env bash
-# Builds the program and prints, for three kinds of document at three sizes, the instructions per byte (callgrind) of a whole
+# Builds the program and prints, for four kinds of document at three sizes, the instructions per byte (callgrind) of a whole
 # run (reading, making the events, printing them) and of the engine's functions in it, and the bytes per second of a whole
 # run. Needs valgrind and python3.
 set -eu
@@ -13,7 +13,8 @@ python3 - "$folder" <<'PY'
 import sys
 kinds = {
     "plain": ("The quick brown fox jumps over the lazy dog, and does so once more, slowly.\n"),
-    "tabs": ("a\tbc\t\tdef\t\t\tg\th\n"),
+    "tabs": ("name\tvalue\tother\tlast\n"),
+    "dense": ("a\tbc\t\tdef\t\t\tg\th\n"),
     "short": ("ab\n"),
 }
 for kind, line in kinds.items():
@@ -43,7 +44,7 @@ empty=$folder/empty
 : >"$empty"
 read -r base _ <<<"$(instructions "$empty")"
 printf '%-6s %8s %12s %12s %14s\n' kind bytes 'whole/byte' 'engine/byte' 'bytes/second'
-for kind in plain tabs short; do
+for kind in plain tabs dense short; do
     for size in 1000 100000 1000000; do
         file=$folder/$kind-$size
         read -r count engine <<<"$(instructions "$file")"
