@@ -13,8 +13,8 @@ python3 - "$folder" <<'PY'
 import sys
 kinds = {
     "plain": ("The quick brown fox jumps over the lazy dog, and does so once more, slowly.\n"),
-    "tabs": ("name\tvalue\tother\tlast\n"),
-    "dense": ("a\tbc\t\tdef\t\t\tg\th\n"),
+    "tabs": ("a\tbc\t\tdef\t\t\tg\th\n"),
+    "columns": ("name\tvalue\tother\tlast\n"),
     "short": ("ab\n"),
 }
 for kind, line in kinds.items():
@@ -43,8 +43,8 @@ print(whole, engine)'
 empty=$folder/empty
 : >"$empty"
 read -r base _ <<<"$(instructions "$empty")"
-printf '%-6s %8s %12s %12s %14s\n' kind bytes 'whole/byte' 'engine/byte' 'bytes/second'
-for kind in plain tabs dense short; do
+printf '%-7s %8s %12s %12s %14s\n' kind bytes 'whole/byte' 'engine/byte' 'bytes/second'
+for kind in plain tabs columns short; do
     for size in 1000 100000 1000000; do
         file=$folder/$kind-$size
         read -r count engine <<<"$(instructions "$file")"
@@ -59,6 +59,6 @@ for _ in range(5):
 print(best)
 PY
 )
-        python3 -c "print('%-6s %8d %12.1f %12.1f %14.0f' % ('$kind', $size, ($count - $base) / $size, $engine / $size, $size / $best))"
+        python3 -c "print('%-7s %8d %12.1f %12.1f %14.0f' % ('$kind', $size, ($count - $base) / $size, $engine / $size, $size / $best))"
     done
 done
