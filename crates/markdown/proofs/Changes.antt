@@ -37,7 +37,7 @@ use Rattle.markdown.specs.Links.{linked_to, updated_at, with_next, with_previous
 use Rattle.std.proofs.lemmas.List.{length-map}
 use Rattle.markdown.proofs.Fields.{four, text_between, next-more, read-extended, extended-seats, nested-map, nested-wider, nested-front}
 use Rattle.markdown.specs.Sight.{sight}
-use Rattle.markdown.proofs.Steps.{end-place-in, here-left, here-is, left-is}
+use Rattle.markdown.proofs.Steps.{end-place-in, here-is, left-is}
 
 -- pieces that can follow one after another
 can-follow-more : (g : Given) (text : Text) (pieces : List Piece) (piece : Piece) → CanFollow g text pieces → FitsAfter g (followed_by_all g text pieces) piece → CanFollow g text (pieces ++ piece ∷ [])
@@ -94,9 +94,9 @@ module _ {M R D : Type 0} (t : Inside M R D) (sound : IsSound t) where
         let more = next-more bytes_in t.start end_in t.left t.previous sound.read seat at h in
         absurd (omega (arith, ap length same))
 
-    waiting-longer : (w : Waits) → t.waits ≡ w → IsWaiting bytes_in (text_of t) t.left t.point t.current t.closed w → IsWaiting bytes_in (text_between bytes_in t.start u) t.left t.point t.current t.closed w
+    waiting-longer : (w : Waits) → t.waits ≡ w → IsWaiting bytes_in (text_of t) t.left t.current t.closed w → IsWaiting bytes_in (text_between bytes_in t.start u) t.left t.current t.closed w
     waiting-longer Nothing e h = h
-    waiting-longer Byte e h = record { seat = h.seat; at = h.at; before = still-before h.seat h.at (stands_before h.seat.point u) h.before refl; here = h.here; is = h.is }
+    waiting-longer Byte e h = record { seat = h.seat; at = h.at; before = still-before h.seat h.at (stands_before h.seat.point u) h.before refl; is = h.is }
     waiting-longer End e h = absurd (let no : true ≡ false = sym h.closed_too ∙ open_still in cc)
 
     text-longer : followed_by (seen t).given (text_of t) (pushed f u) ≡ text_between bytes_in t.start u
@@ -155,15 +155,14 @@ same-choices bytes start a b P events stack (mark ∷ marks) same h =
 
 module _ {M R D : Type 0} (t : Inside M R D) (sound : IsSound t) where
   -- a span begins
-  module _ (name : Name) (link : Option Link) (here : Point) (is : here ≡ shown t.parse_state.now.bytes.now t.point) (events : List Event) (stack : List Name)
+  module _ (name : Name) (link : Option Link) (here : Point) (is : here ≡ shown t.parse_state.now.bytes.now t.left) (events : List Event) (stack : List Name)
       (put : events ≡ t.events.items ++ record { kind = Enter; name = name; point = here; link = link } ∷ []) (top : stack ≡ t.stack.items ++ name ∷ []) where
     abbrev left_in : Point
     left_in = shown t.parse_state.now.bytes.now t.left
 
     pub entered-made : IsMade t.parse_state.now.bytes.now events stack left_in left_in
     entered-made =
-        let at = is ∙ here-left t sound in
-        rw (put, top, at) (made-enter-at t.parse_state.now.bytes.now t.events.items t.stack.items left_in left_in sound.made name link)
+        rw (put, top, is) (made-enter-at t.parse_state.now.bytes.now t.events.items t.stack.items left_in left_in sound.made name link)
 
     entered-front : (n : ℕ) → n ≤ length t.stack.items → take n stack ≡ take n t.stack.items
     entered-front n le = rw top (take-append-le n t.stack.items (name ∷ []) le)
@@ -194,7 +193,7 @@ pub take-pushed : (xs : List Name) (x : Name) (n : ℕ) → n ≡ length xs → 
 take-pushed xs x n e = rw e (take-append-le (length xs) xs (x ∷ []) (omega arith) ∙ take_all (length xs) xs (omega arith))
 
 -- the last of some choices
-reverse-last : (items ms : List Mark) (mark : Mark) → items ≡ ms ++ mark ∷ [] → reverse items ≡ mark ∷ reverse ms
+pub reverse-last : (items ms : List Mark) (mark : Mark) → items ≡ ms ++ mark ∷ [] → reverse items ≡ mark ∷ reverse ms
 reverse-last items ms mark e = rw e (reverse-append ms (mark ∷ []))
 
 module _ (bytes : List ℕ) (start : Point) (stack : List Name) (P : Progress → Type 0) where

@@ -172,11 +172,11 @@ pub nested-front : (P : Progress → Type 0) (events stack : ℕ) (mark : Mark) 
 nested-front P events stack mark marks h = narrow-mark P events stack mark.saved marks h.0 h.1
 
 module _ {M R D : Type 0} (t : Inside M R D) (sound : IsSound t) where
-  waiting-closed : (bytes : List ℕ) (text : Text) (left point : Point) (current : Option ℕ) (closed : Bool) (waits : Waits)
-      → IsWaiting bytes text left point current closed waits → IsWaiting bytes text left point current true waits
-  waiting-closed bytes text left point current closed Nothing h = h
-  waiting-closed bytes text left point current closed Byte h = h
-  waiting-closed bytes text left point current closed End h = record { here = h.here; none = h.none; closed_too = refl; all = h.all }
+  waiting-closed : (bytes : List ℕ) (text : Text) (left : Point) (current : Option ℕ) (closed : Bool) (waits : Waits)
+      → IsWaiting bytes text left current closed waits → IsWaiting bytes text left current true waits
+  waiting-closed bytes text left current closed Nothing h = h
+  waiting-closed bytes text left current closed Byte h = h
+  waiting-closed bytes text left current closed End h = record { none = h.none; closed_too = refl; all = h.all }
 
   pub closed-sound : IsSound (record t { closed = true })
   closed-sound =
@@ -186,7 +186,7 @@ module _ {M R D : Type 0} (t : Inside M R D) (sound : IsSound t) where
         end_at = sound.end_at;
         text = sound.text;
         read = sound.read;
-        waiting = waiting-closed bytes (text_of t) t.left t.point t.current t.closed t.waits sound.waiting;
+        waiting = waiting-closed bytes (text_of t) t.left t.current t.closed t.waits sound.waiting;
         ended = λ _. refl;
         made = sound.made;
         marks = nested-map (IsProgress bytes (text_of t) t.events.items t.stack.items t.closed) (IsProgress bytes (text_of t) t.events.items t.stack.items true) (length t.events.items) (length t.stack.items) (reverse t.marks.items)

@@ -1,5 +1,5 @@
 -- Walks over the virtual bytes of a document, from its start.
-use Rattle.std.proofs.Common.{◌≡◌, ◌≢◌, ℕ, suc, ◌+◌, ◌*◌, ◌%◌, ◌≤◌, ◌<◌, ◌==◌, List, [], ◌∷◌, ◌++◌, Bool, true, false, cond, Option, Some, None, length, refl, sym, ap, ◌∙◌, subst, arith, append_assoc, length-append, lit<, ◌⊎◌, inl, inr}
+use Rattle.std.proofs.Common.{◌≡◌, ◌≢◌, ℕ, suc, ◌+◌, ◌*◌, ◌%◌, ◌≤◌, ◌<◌, ◌==◌, List, [], ◌∷◌, ◌++◌, Bool, true, false, cond, Option, Some, None, length, refl, sym, ap, ◌∙◌, subst, arith, append_assoc, length-append, ◌⊎◌, inl, inr}
 use Rattle.std.specs.Prelude.{filter, nat_lt, ◌&&◌, ◌||◌, find, map}
 use Rattle.std.specs.List.{flat_map, enumerate_from}
 use Rattle.std.specs.Option.{option_or}
@@ -17,7 +17,7 @@ use Rattle.markdown.specs.Cursor.{rest_at, IsPlace, IsSeatAt, Bounds}
 use Rattle.markdown.specs.Cuts.{place_of, is_cut, cuts_every}
 use Rattle.markdown.proofs.Orders.{upto-before}
 use Rattle.markdown.proofs.Chains.{IsChain, Begins, whole-chain}
-use Rattle.markdown.proofs.Standing.{seat-place, place-after, seat-begins, chain-at, after-rest}
+use Rattle.markdown.proofs.Standing.{place-after, seat-begins, chain-at, after-rest}
 
 -- a walk stands at a place, and has passed these virtual bytes
 pub record IsWalk (t : ℕ) (bytes : List ℕ) (p : Point) (passed : List Seat) : Type 0 where
@@ -216,11 +216,3 @@ bounds-fit-at bytes p b (inr h) = omega (arith, b.inside)
 -- a place is no further than the bytes allow
 pub bounds-fit : (bytes : List ℕ) (p : Point) → Bounds 4 bytes p → 4 * p.index + p.vs ≤ 4 * length bytes
 bounds-fit bytes p b = bounds-fit-at bytes p b (cases_lt 0 p.vs)
-
--- the numbers of a seat leave room for those of its end
-pub seat-fits : (bytes : List ℕ) (p : Point) (seat : Seat) → IsPlace 4 bytes p → IsSeatAt 4 bytes p seat
-    → (seat.point.line + 1 ≤ 4 * length bytes + 1) × (seat.point.column + 1 ≤ 4 * length bytes + 1) × (seat.point.vs + 1 ≤ 4 * length bytes + 1)
-seat-fits bytes p seat place n =
-    let b = (seat-place 4 bytes (lit< tt) p seat place n).bounds in
-    let i = n.inside in
-    (omega (arith, b.lines), omega (arith, b.columns, b.spaces), omega (arith, b.spaces))

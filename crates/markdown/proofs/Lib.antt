@@ -17,6 +17,7 @@ pub mod SpanRuns
 pub mod Balanced
 pub mod Chains
 pub mod Changes
+pub mod Choices
 pub mod Cursors
 pub mod Fields
 pub mod MadeLemmas

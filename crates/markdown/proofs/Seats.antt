@@ -1,15 +1,15 @@
 -- Which virtual byte stands at a place, read from the bytes.
-use Rattle.std.proofs.Common.{◌≡◌, ◌≢◌, ℕ, zero, suc, ◌+◌, ◌-◌, ◌≤◌, ◌<◌, ◌==◌, List, [], ◌∷◌, ◌++◌, Bool, true, false, cond, length, drop, Some, refl, sym, ap, ◌∙◌, arith, drop-cons, add-one}
-use Rattle.std.specs.Prelude.{slice_index, nat_lt}
+use Rattle.std.proofs.Common.{◌≡◌, ◌≢◌, ℕ, zero, suc, ◌+◌, ◌-◌, ◌≤◌, ◌<◌, ◌==◌, List, [], ◌∷◌, ◌++◌, Bool, true, false, cond, length, drop, Some, ◌⊎◌, inl, inr, refl, sym, ap, ◌∙◌, arith, drop-cons, add-one, rules}
+use Rattle.std.specs.Prelude.{slice_index, nat_lt, ◌&&◌}
 use Rattle.std.proofs.lemmas.List.{drop_all}
-use Rattle.std.proofs.lemmas.Bool.{ltb-true}
+use Rattle.std.proofs.lemmas.Bool.{ltb-true, lt-ltb}
 use Rattle.std.proofs.lemmas.Bool.Decides.{nat_tests}
 use Rattle.std.proofs.Math.Nat.{mod-lt}
 use Rattle.markdown_base.specs.declared.event.Point.{Point}
 use Rattle.markdown_base.specs.Virtual.{Seat, point, tab_width, in_tab, end_in_tab, virtual_from, begins_with_lf}
 use Rattle.markdown_base.specs.Places.{stands_before}
-use Rattle.markdown.specs.Cursor.{rest_at, Every, IsNextSeat}
-use Rattle.markdown.proofs.Orders.{every-map, every-append, every-cond, not-before, not-before-in, above-later, before-self, eq-zero, is-number, not-number}
+use Rattle.markdown.specs.Cursor.{rest_at, begins_pair, Every, IsSeatAt, IsNextSeat}
+use Rattle.markdown.proofs.Orders.{every-map, every-append, every-cond, not-before, not-before-in, above-later, before-self, eq-zero, is-number, is-not, not-number}
 
 -- seats from an index on
 abbrev FromIndex : ℕ → Seat → Type 0
@@ -155,3 +155,77 @@ no-lf bytes i alone = no-lf-at bytes i (nat_lt i (length bytes)) refl alone
 
 pub seat-cr : (t : ℕ) (bytes : List ℕ) (p : Point) → 0 < t → p.vs ≡ 0 → p.index < length bytes → slice_index bytes p.index ≡ 13 → (p.index + 1 < length bytes → slice_index bytes (p.index + 1) ≢ 10) → IsNextSeat t bytes p (Some (10, p))
 seat-cr t bytes p d h i cr alone = seat-plain t bytes p 13 d h i cr (λ k. no-lf bytes (suc p.index) (λ l e. alone (omega arith) (rw add-one e)))
+
+-- the next virtual byte is one
+pub one-seat : (t : ℕ) (bytes : List ℕ) (p : Point) (a b : Seat) → IsSeatAt t bytes p a → IsSeatAt t bytes p b → a ≡ b
+one-seat t bytes p a b h k = let e : a ∷ h.after ≡ b ∷ k.after = sym h.is ∙ k.is in cc
+
+and-parts : (a b : Bool) → (a && b) ≡ true → (a ≡ true) × (b ≡ true)
+and-parts true b h = (refl, h)
+and-parts false b h = absurd cc
+
+and-no : (a b : Bool) → b ≡ false → (a && b) ≡ false
+and-no true b e = e
+and-no false b e = refl
+
+-- a CR LF begins at an index
+pub pair-is : (bytes : List ℕ) (i : ℕ) → begins_pair bytes i ≡ true → (i + 1 < length bytes) × (slice_index bytes i ≡ 13) × (slice_index bytes (i + 1) ≡ 10)
+pair-is bytes i h =
+    let a = and-parts (nat_lt (i + 1) (length bytes)) ((slice_index bytes i == 13) && (slice_index bytes (i + 1) == 10)) h in
+    let b = and-parts (slice_index bytes i == 13) (slice_index bytes (i + 1) == 10) a.1 in
+    (ltb-true (i + 1) (length bytes) a.0, is-number (slice_index bytes i) 13 b.0, is-number (slice_index bytes (i + 1)) 10 b.1)
+
+-- a CR begins none
+pub no-pair-is : (bytes : List ℕ) (i : ℕ) → slice_index bytes i ≡ 13 → begins_pair bytes i ≡ false → i + 1 < length bytes → slice_index bytes (i + 1) ≢ 10
+no-pair-is bytes i cr h l lf =
+    let e : nat_lt (i + 1) (length bytes) ≡ true = search (rules, lt-ltb) in
+    let f : begins_pair bytes i ≡ true = rw (e, cr, lf) refl in
+    let g = sym f ∙ h in absurd cc
+
+-- The next virtual byte from a place on stands there, or it is the LF of a CR LF there
+abbrev pub StandsThere : List ℕ → Point → Seat → Type 0
+StandsThere bytes p seat =
+    ((seat.point ≡ p) × (seat.byte ≡ 10 → begins_pair bytes p.index ≡ false)) ⊎ ((begins_pair bytes p.index ≡ true) × (seat.byte ≡ 10) × (seat.point ≡ point p.line p.column (suc p.index) p.vs))
+
+module _ (t : ℕ) (bytes : List ℕ) (p : Point) (seat : Seat) (d : 0 < t) (tab : 0 < p.vs → p.index < length bytes) (n : IsSeatAt t bytes p seat) where
+  same-seat : (byte : ℕ) (q : Point) → IsNextSeat t bytes p (Some (byte, q)) → (seat.byte ≡ byte) × (seat.point ≡ q)
+  same-seat byte q s = let e = one-seat t bytes p seat (record { byte = byte; point = q; end = s.0 }) n s.1 in (ap (λ (r : Seat). r.byte) e, ap (λ (r : Seat). r.point) e)
+
+  within-at : p.vs ≡ 0 → (b : Bool) → nat_lt p.index (length bytes) ≡ b → p.index < length bytes
+  within-at h true e = ltb-true p.index (length bytes) e
+  within-at h false e =
+      let past : length bytes ≤ p.index = grind (arith, nat_tests) in
+      let f = sym (seat-none t bytes p h past) ∙ n.is in absurd cc
+
+  within-bytes : p.vs ≡ 0 → p.index < length bytes
+  within-bytes h = within-at h (nat_lt p.index (length bytes)) refl
+
+  -- by whether a byte follows, and whether that is LF
+  there-cr : p.vs ≡ 0 → slice_index bytes p.index ≡ 13 → (b c : Bool) → nat_lt (p.index + 1) (length bytes) ≡ b → (slice_index bytes (p.index + 1) == 10) ≡ c → StandsThere bytes p seat
+  there-cr h cr true true e f =
+      let l = ltb-true (p.index + 1) (length bytes) e in
+      let lf = is-number (slice_index bytes (p.index + 1)) 10 f in
+      let s = same-seat 10 (point p.line p.column (suc p.index) p.vs) (seat-crlf t bytes p h (rw add-one at l) cr (rw add-one at lf)) in
+      inr (rw (e, cr, f) refl, s.0, s.1)
+  there-cr h cr true false e f =
+      let s = same-seat 10 p (seat-cr t bytes p d h (within-bytes h) cr (λ l. is-not (slice_index bytes (p.index + 1)) 10 f)) in
+      inl (s.1, λ _. rw (e, cr, f) refl)
+  there-cr h cr false c e f =
+      let past : length bytes ≤ p.index + 1 = grind (arith, nat_tests) in
+      let s = same-seat 10 p (seat-cr t bytes p d h (within-bytes h) cr (λ l. absurd (omega arith))) in
+      inl (s.1, λ _. rw e refl)
+
+  -- by whether the place is in a tab, and whether CR stands there
+  there-at : (b c : Bool) → (p.vs == 0) ≡ b → (slice_index bytes p.index == 13) ≡ c → StandsThere bytes p seat
+  there-at true true e f = there-cr (is-number p.vs 0 e) (is-number (slice_index bytes p.index) 13 f) (nat_lt (p.index + 1) (length bytes)) (slice_index bytes (p.index + 1) == 10) refl refl
+  there-at true false e f =
+      let h = is-number p.vs 0 e in
+      let s = same-seat (slice_index bytes p.index) p (seat-other t bytes p d h (within-bytes h) (is-not (slice_index bytes p.index) 13 f)) in
+      inl (s.1, λ _. and-no (nat_lt (p.index + 1) (length bytes)) ((slice_index bytes p.index == 13) && (slice_index bytes (p.index + 1) == 10)) (rw f refl))
+  there-at false c e f =
+      let h : 0 < p.vs = grind (arith, nat_tests) in
+      let s = same-seat 32 p (seat-in-tab t bytes p d h (tab h)) in
+      inl (s.1, λ b. let g = sym s.0 ∙ b in absurd cc)
+
+  pub stands-there : StandsThere bytes p seat
+  stands-there = there-at (p.vs == 0) (slice_index bytes p.index == 13) refl refl

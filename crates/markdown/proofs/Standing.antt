@@ -1,5 +1,5 @@
 -- Places of a document: where each virtual byte begins, is shown and ends, and what is left there.
-use Rattle.std.proofs.Common.{◌≡◌, ◌≢◌, ℕ, zero, suc, ◌-◌, ◌<◌, ◌==◌, List, [], ◌∷◌, ◌++◌, Bool, true, false, cond, refl, sym, ap, ◌∙◌, subst, arith, append_assoc, ◌⊎◌, inl, inr}
+use Rattle.std.proofs.Common.{◌≡◌, ◌≢◌, ℕ, zero, suc, ◌+◌, ◌-◌, ◌<◌, ◌==◌, List, [], ◌∷◌, ◌++◌, Bool, true, false, cond, refl, sym, ap, ◌∙◌, subst, arith, append_assoc, ◌⊎◌, inl, inr}
 use Rattle.std.specs.Prelude.{slice_index, nat_lt, ◌&&◌, ◌||◌, Contains, filter}
 use Rattle.std.specs.List.{flat_map}
 use Rattle.std.proofs.lemmas.Bool.Decides.{nat_tests}
@@ -8,10 +8,13 @@ use Rattle.std.proofs.lemmas.List.Elements.{Contains-append_cases}
 use Rattle.markdown_base.specs.declared.event.Point.{Point}
 use Rattle.markdown_base.specs.Virtual.{Seat, point, virtual, end_after, document_end}
 use Rattle.markdown_base.specs.Places.{stands_before, shown, follows_cr, IsShown, IsPointOf}
-use Rattle.markdown.specs.Cursor.{rest_at, Every, IsPlace, IsSeatAt, end_at}
-use Rattle.markdown.proofs.Orders.{is-number, before-self, later-later, after-before, before-upto, every-map}
-use Rattle.markdown.proofs.Seats.{rest-later}
+use Rattle.markdown.specs.Cursor.{rest_at, Every, IsPlace, IsSeatAt, begins_pair, goes_on, end_at}
+use Rattle.markdown.proofs.Orders.{is-number, not-number, before-self, later-later, after-before, before-upto, every-map}
+use Rattle.markdown.proofs.Seats.{rest-later, StandsThere, stands-there}
 use Rattle.markdown.proofs.Chains.{IsAt, Begins, IsChain, whole-chain, shown-other}
+
+point-of-numbers : (a b c d e f : ℕ) → a ≡ b → d ≡ e → point a c d f ≡ point b c e f
+point-of-numbers a b c d e f h k = rw (h, k) refl
 
 module _ (t : ℕ) (bytes : List ℕ) where
   pub chain-at : (p : Point) (xs : List Seat) → IsChain t bytes p xs → IsAt t bytes p xs
@@ -265,3 +268,40 @@ module _ (t : ℕ) (bytes : List ℕ) (d : 0 < t) (p : Point) (seat : Seat) (pla
   -- the seat's end is after the place
   pub seat-passes : stands_before seat.end p ≡ false
   seat-passes = later-later seat.end.index seat.end.vs seat.point.index seat.point.vs p.index p.vs (after-before seat.point.index seat.point.vs seat.end.index seat.end.vs next-begins.ends) n.later
+
+  -- where the next virtual byte ends, read from the bytes
+  there : StandsThere bytes p seat
+  there = stands-there t bytes p seat d place.bounds.tab n
+
+  ends-at : (q : Point) → seat.point ≡ q → end_at t seat.byte q ≡ seat.end
+  ends-at q e = ap (end_at t seat.byte) (sym e) ∙ seat-end-is
+
+  lf-is : seat.byte ≡ 10 → (q : Point) → end_at t seat.byte q ≡ point (suc q.line) 1 (suc q.index) 0
+  lf-is b q = rw b refl
+
+  -- after a CR LF,
+  pub end-of-pair : seat.byte ≡ 10 → begins_pair bytes p.index ≡ true → point (p.line + 1) 1 (p.index + 2) 0 ≡ seat.end
+  end-of-pair b pair = elim there [
+    | inl h ↦ (let f = sym pair ∙ h.1 b in absurd cc)
+    | inr h ↦ (let q = point p.line p.column (suc p.index) p.vs in point-of-numbers (p.line + 1) (suc p.line) 1 (p.index + 2) (suc (suc p.index)) 0 (omega arith) (omega arith) ∙ sym (lf-is b q) ∙ ends-at q h.2)
+  ]
+
+  -- after another line ending,
+  pub end-of-line : seat.byte ≡ 10 → begins_pair bytes p.index ≡ false → point (p.line + 1) 1 (p.index + 1) 0 ≡ seat.end
+  end-of-line b single = elim there [
+    | inl h ↦ point-of-numbers (p.line + 1) (suc p.line) 1 (p.index + 1) (suc p.index) 0 (omega arith) (omega arith) ∙ sym (lf-is b p) ∙ ends-at p h.0
+    | inr h ↦ (let f = sym single ∙ h.0 in absurd cc)
+  ]
+
+  other-there : seat.byte ≢ 10 → seat.point ≡ p
+  other-there b = elim there [ inl h ↦ h.0 | inr h ↦ absurd (b h.1) ]
+
+  -- and after another byte
+  pub end-of-other : seat.byte ≢ 10 → (w : Bool) → goes_on t seat.byte p ≡ w → cond w (point p.line (p.column + 1) p.index (p.vs + 1)) (point p.line (p.column + 1) (p.index + 1) 0) ≡ seat.end
+  end-of-other b w e =
+      let f = not-number seat.byte 10 b in
+      let column : p.column + 1 ≡ suc p.column = omega arith in
+      let index : p.index + 1 ≡ suc p.index = omega arith in
+      let spaces : p.vs + 1 ≡ suc p.vs = omega arith in
+      let is : end_at t seat.byte p ≡ cond w (point p.line (p.column + 1) p.index (p.vs + 1)) (point p.line (p.column + 1) (p.index + 1) 0) = rw (f, e, column, index, spaces) refl in
+      sym is ∙ ends-at p (other-there b)

@@ -1,5 +1,5 @@
 -- What stands at a place, in the bytes and in the virtual text.
-use Rattle.std.specs.Prelude.{◌≡◌, ℕ, suc, ◌+◌, ◌*◌, ◌%◌, ◌≤◌, ◌<◌, ◌==◌, nat_lt, ◌&&◌, ◌||◌, not, true, false, cond, List, [], ◌∷◌, ◌++◌, drop, length, filter, Option, Some, None}
+use Rattle.std.specs.Prelude.{◌≡◌, ℕ, suc, ◌+◌, ◌*◌, ◌%◌, ◌≤◌, ◌<◌, ◌==◌, nat_lt, ◌&&◌, ◌||◌, not, Bool, true, false, cond, slice_index, List, [], ◌∷◌, ◌++◌, drop, length, filter, Option, Some, None}
 use Rattle.markdown_base.specs.declared.event.Point.{Point}
 use Rattle.markdown_base.specs.Virtual.{Seat, point, tab_width, in_tab, virtual_from, virtual, end_after}
 use Rattle.markdown_base.specs.Places.{stands_before, shown}
@@ -47,12 +47,20 @@ abbrev pub IsNextSeat : (t : ℕ) → List ℕ → Point → Option (ℕ × Poin
 IsNextSeat t bytes p None = rest_at t bytes p ≡ []
 IsNextSeat t bytes p (Some r) = (end : Point) × IsSeatAt t bytes p (record { byte = r.0; point = r.1; end = end })
 
+-- a CR LF begins at an index
+abbrev pub begins_pair : List ℕ → ℕ → Bool
+begins_pair bytes i = nat_lt (i + 1) (length bytes) && ((slice_index bytes i == 13) && (slice_index bytes (i + 1) == 10))
+
+-- the tab at a place goes on after the virtual byte there: the next column is no tab stop
+abbrev pub goes_on : (t byte : ℕ) → Point → Bool
+goes_on t byte p = ((byte == 9) || nat_lt 0 p.vs) && not (p.column % t == 0)
+
 -- the place after a virtual byte: in the tab, or at the next byte, which begins a line after LF
 abbrev pub end_at : (t byte : ℕ) → Point → Point
 end_at t byte p =
     cond (byte == 10)
     (point (suc p.line) 1 (suc p.index) 0)
-    (cond (((byte == 9) || nat_lt 0 p.vs) && not (p.column % t == 0))
+    (cond (goes_on t byte p)
     (point p.line (suc p.column) p.index (suc p.vs))
     (point p.line (suc p.column) (suc p.index) 0))
 

@@ -1,5 +1,5 @@
 -- What the fields of a tokenizer mean. An inner file: no public clause names what stands here.
-use Rattle.std.specs.Prelude.{◌≡◌, ℕ, ◌+◌, ◌*◌, ◌<◌, ◌≤◌, ◌^◌, List, [], ◌∷◌, Bool, true, false, Option, None, Some, filter, length, map, take, reverse, unwrap_or, IfSome}
+use Rattle.std.specs.Prelude.{◌≡◌, ℕ, ◌+◌, ◌*◌, ◌<◌, ◌≤◌, ◌^◌, List, [], ◌∷◌, Bool, true, false, cond, Option, None, Some, filter, length, map, take, reverse, unwrap_or, IfSome}
 use Rattle.markdown_base.specs.declared.event.Event.{Event}
 use Rattle.markdown_base.specs.declared.event.Name.{Name}
 use Rattle.markdown_base.specs.declared.event.Point.{Point}
@@ -13,10 +13,12 @@ use Rattle.markdown.specs.declared.waiting.Goal.{Goal}
 use Rattle.markdown.specs.declared.waiting.Goal.TheVariants as goal
 use Rattle.markdown.specs.declared.waiting.Mark.{Mark}
 use Rattle.markdown.specs.declared.waiting.Progress.{Progress}
+use Rattle.markdown.specs.declared.waiting.AttemptKind.{AttemptKind}
 use Rattle.markdown.specs.declared.waiting.AttemptKind.TheVariants.{Attempt, Check}
 use Rattle.markdown.specs.declared.tokenizer.Tokenizer.TheInside.{Inside}
 use Rattle.markdown.specs.Text.{Text, IsText, in_range}
-use Rattle.markdown.specs.Configuration.{Choice, Saved, Seen}
+use Rattle.markdown.specs.Configuration.{Configuration, Choice, Saved, Seen}
+use Rattle.markdown.specs.Calls.{saved_at}
 use Rattle.markdown.specs.Sight.{seat_before, byte_of, end_place}
 use Rattle.markdown.specs.Cursor.{IsPlace, IsSeatAt}
 use Rattle.markdown.specs.Made.{IsMade}
@@ -25,6 +27,10 @@ abbrev pub state_of : Goal → State
 state_of (goal.Next name) = Next name
 state_of goal.Ok = Ok
 state_of goal.Nok = Nok
+
+-- a choice that begins in a configuration, and saves it or not
+abbrev pub choice_at : {R D : Type 0} → AttemptKind → (ok nok : State) → (saves : Bool) → Configuration R D → Choice
+choice_at kind ok nok saves k = record { kind = kind; ok = ok; nok = nok; saved = cond saves (Some (saved_at k)) None }
 
 -- what a choice goes on with, by its answer
 abbrev pub goal_of : Mark → Bool → State
@@ -95,25 +101,23 @@ pub record IsReadTo (bytes : List ℕ) (text : Text) (left : Point) (previous : 
   pub previous_is : previous ≡ byte_of (seat_before text (length (seats_between bytes text.start left)))
 
 -- What waits is the next virtual byte
-pub record ByteWaits (bytes : List ℕ) (left end point : Point) (current : Option ℕ) : Type 0 where
+pub record ByteWaits (bytes : List ℕ) (left end : Point) (current : Option ℕ) : Type 0 where
   pub seat : Seat
   pub at : IsSeatAt TAB bytes left seat
   pub before : stands_before seat.point end ≡ true
-  pub here : seat.point ≡ point
   pub is : current ≡ Some seat.byte
 
 -- What waits is the end of the text, all of which was read
-pub record EndWaits (end point : Point) (current : Option ℕ) (closed : Bool) (position size : ℕ) : Type 0 where
-  pub here : point ≡ end
+pub record EndWaits (current : Option ℕ) (closed : Bool) (position size : ℕ) : Type 0 where
   pub none : current ≡ None
   pub closed_too : closed ≡ true
   pub all : size ≤ position
 
--- what waits, and where it stands
-abbrev pub IsWaiting : List ℕ → Text → Point → Point → Option ℕ → Bool → Waits → Type 0
-IsWaiting bytes text left point current closed Nothing = (point ≡ left) × (current ≡ None)
-IsWaiting bytes text left point current closed Byte = ByteWaits bytes left text.end point current
-IsWaiting bytes text left point current closed End = EndWaits text.end point current closed (length (seats_between bytes text.start left)) (length text.seats)
+-- what waits
+abbrev pub IsWaiting : List ℕ → Text → Point → Option ℕ → Bool → Waits → Type 0
+IsWaiting bytes text left current closed Nothing = current ≡ None
+IsWaiting bytes text left current closed Byte = ByteWaits bytes left text.end current
+IsWaiting bytes text left current closed End = EndWaits current closed (length (seats_between bytes text.start left)) (length text.seats)
 
 -- What a choice saved: a place up to which the text was read, with the events and the stack that were there
 pub record IsProgress (bytes : List ℕ) (text : Text) (events : List Event) (stack : List Name) (closed : Bool) (p : Progress) : Type 0 where
@@ -141,7 +145,7 @@ pub record IsSound {M R D : Type 0} (t : Inside M R D) : Type 0 where
   pub end_at : point_at TAB t.parse_state.now.bytes.now t.end ≡ Some (text_of t).end
   pub text : IsText (seen t).given (text_of t)
   pub read : IsReadTo t.parse_state.now.bytes.now (text_of t) t.left t.previous
-  pub waiting : IsWaiting t.parse_state.now.bytes.now (text_of t) t.left t.point t.current t.closed t.waits
+  pub waiting : IsWaiting t.parse_state.now.bytes.now (text_of t) t.left t.current t.closed t.waits
   pub ended : t.ended ≡ true → t.closed ≡ true
   pub made : IsMade t.parse_state.now.bytes.now t.events.items t.stack.items (shown t.parse_state.now.bytes.now t.left) (shown t.parse_state.now.bytes.now t.left)
   pub marks : AreNested (IsProgress t.parse_state.now.bytes.now (text_of t) t.events.items t.stack.items t.closed) (length t.events.items) (length t.stack.items) (reverse t.marks.items)

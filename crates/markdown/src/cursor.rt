@@ -1,13 +1,22 @@
 //! The cursor: where a reader stands in the virtual text of a document.
 
-ghost use Rattle.markdown.specs.Cursor.{end_at, IsNextSeat};
+ghost use Rattle.markdown.specs.Cursor.{goes_on, begins_pair, IsPlace, IsSeatAt, IsNextSeat};
 ghost use Rattle.markdown_base.specs.Places;
+ghost use Rattle.markdown_base.specs.Virtual.{Seat};
 ghost use Rattle.std.specs.Prelude.{◌≡◌, ◌==◌, ◌&&◌, ◌||◌, nat_lt, ◌+◌, ◌*◌, ◌^◌, ◌<◌, ◌≤◌, length};
 
 use markdown_base::event::Point;
 
 /// Tab stops stand at every so many columns.
 const TAB: usize = 4;
+
+/// Whether a CR LF begins at an index.
+fn is_pair(bytes: &[u8], index: usize) -> bool
+    requires index { index + 1 < 2 ^ 64 }
+    ensures { result ≡ begins_pair bytes.now index }
+{
+    index + 1 < bytes.len() && bytes[index] == b'\r' && bytes[index + 1] == b'\n'
+}
 
 /// The next virtual byte from a place on, and its seat: of a CR LF that of the LF.
 /// `None` at the document's end.
@@ -25,7 +34,7 @@ pub(crate) fn seat_at(bytes: &[u8], point: Point) -> Option<(u8, Point)>
     if byte != b'\r' {
         return Some((byte, point));
     }
-    if point.index + 1 < bytes.len() && bytes[point.index + 1] == b'\n' {
+    if is_pair(bytes, point.index) {
         return Some((
             b'\n',
             Point {
@@ -37,34 +46,36 @@ pub(crate) fn seat_at(bytes: &[u8], point: Point) -> Option<(u8, Point)>
     Some((b'\n', point))
 }
 
-/// The place after the virtual byte at a seat.
-pub(crate) fn end_of(byte: u8, point: Point) -> Point
-    requires line { point.line + 1 < 2 ^ 64 }
-    requires column { point.column + 1 < 2 ^ 64 }
-    requires index { point.index + 1 < 2 ^ 64 }
-    requires spaces { point.vs + 1 < 2 ^ 64 }
-    ensures { result ≡ end_at 4 byte point }
+/// Whether the tab at a place goes on after its next virtual byte, which is this one.
+fn goes_on(point: &Point, byte: u8) -> bool
+    ensures { result ≡ goes_on 4 byte point.now }
+{
+    (byte == b'\t' || point.vs > 0) && point.column % TAB != 0
+}
+
+/// Moves a place over the next virtual byte, which is this one: of a CR LF over both bytes.
+pub(crate) fn pass(bytes: &[u8], point: &mut Point, byte: u8)
+    requires limit { 4 * length bytes.now + 1 < 2 ^ 64 }
+    requires place { IsPlace 4 bytes.now point.old }
+    requires next { (seat : Seat) × IsSeatAt 4 bytes.now point.old seat × (seat.byte ≡ byte) }
+    ensures { (seat : Seat) → IsSeatAt 4 bytes.now point.old seat → point.new ≡ seat.end }
 {
     if byte == b'\n' {
-        return Point {
-            line: point.line + 1,
-            column: 1,
-            index: point.index + 1,
-            vs: 0,
-        };
-    }
-    if (byte == b'\t' || point.vs > 0) && point.column % TAB != 0 {
-        return Point {
-            column: point.column + 1,
-            vs: point.vs + 1,
-            ..point
-        };
-    }
-    Point {
-        line: point.line,
-        column: point.column + 1,
-        index: point.index + 1,
-        vs: 0,
+        point.line += 1;
+        point.column = 1;
+        point.vs = 0;
+        if is_pair(bytes, point.index) {
+            point.index += 2;
+        } else {
+            point.index += 1;
+        }
+    } else if goes_on(point, byte) {
+        point.column += 1;
+        point.vs += 1;
+    } else {
+        point.column += 1;
+        point.index += 1;
+        point.vs = 0;
     }
 }
 
@@ -72,11 +83,7 @@ pub(crate) fn end_of(byte: u8, point: Point) -> Point
 pub(crate) fn shown(bytes: &[u8], point: Point) -> Point
     ensures { result ≡ Places.shown bytes.now point }
 {
-    if point.index > 0
-        && point.index < bytes.len()
-        && bytes[point.index] == b'\n'
-        && bytes[point.index - 1] == b'\r'
-    {
+    if point.index > 0 && is_pair(bytes, point.index - 1) {
         return Point {
             index: point.index - 1,
             ..point

@@ -4,7 +4,7 @@ ghost use Rattle.markdown.specs.Cuts;
 ghost use Rattle.markdown_base.specs.Places;
 ghost use Rattle.std.specs.Prelude.{◌==◌, ◌≡◌, ◌&&◌, ◌+◌, ◌*◌, ◌^◌, ◌<◌, IfOk, length};
 
-use crate::cursor::{end_of, seat_at, shown};
+use crate::cursor::{pass, seat_at, shown};
 use markdown_base::event::Point;
 use std::alloc::{AllocError, Global};
 
@@ -39,7 +39,7 @@ pub fn point_at(bytes: &[u8], place: (usize, usize)) -> Option<Point>
         if is_at(seat, place) {
             return Some(seat);
         }
-        left = end_of(byte, seat);
+        pass(bytes, &mut left, byte);
     }
     if is_at(left, place) { Some(left) } else { None }
 }
@@ -59,7 +59,7 @@ pub fn cuts_every(alloc: Global, bytes: &[u8], n: usize) -> Result<Vec<(usize, u
             cuts.push((seat.index, seat.vs))?;
         }
         number += 1;
-        left = end_of(byte, seat);
+        pass(bytes, &mut left, byte);
     }
     Ok(cuts)
 }

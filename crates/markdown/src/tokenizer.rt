@@ -3,13 +3,13 @@
 mod reading;
 
 use crate::count::Calls;
-use crate::cursor::{end_of, is_before, seat_at, shown};
+use crate::cursor::{is_before, pass, seat_at, shown};
 use crate::parser::ParseState;
 pub use crate::places::{cuts_every, point_at};
 use crate::state::{MachineTypes, State};
 use crate::subtokenize::{self, Subresult};
 use crate::util::edit_map::EditMap;
-use crate::waiting::{Mark, Waits};
+use crate::waiting::{AttemptKind, Goal, Mark, Progress, Waits};
 pub use crate::work::{reads_in_one_way, run};
 use markdown_base::event::{Content, Event, Kind, Link, Name, Point};
 use markdown_base::message::Message;
@@ -190,7 +190,6 @@ pub struct Tokenizer<'a, M: MachineTypes> {
     start: Point,
     end: (usize, usize),
     left: Point,
-    point: Point,
     waits: Waits,
     ended: bool,
     previous: Option<u8>,
@@ -222,10 +221,11 @@ ghost use Rattle.markdown.specs.Text.{FitsAfter, followed_by, pushed, empty_text
 ghost use Rattle.markdown.specs.Configuration.{at_configuration, start_state, start_seen};
 ghost use Rattle.markdown.specs.Sight.{sight};
 ghost use Rattle.markdown.specs.Links.{CanLink, linked_to};
-ghost use Rattle.markdown.specs.Calls.{consumed, entered, exited, linked, CanExit};
+ghost use Rattle.markdown.specs.Calls.{consumed, entered, exited, linked, attempt_at, check_at, with_choice, CanExit, CanGoOn};
 ghost use Rattle.markdown.specs.Reading.{fed};
 ghost use Rattle.markdown.specs.Engine.{found, taken, IsWellFormed};
 ghost use Rattle.markdown.specs.Work.{IsInText, IsSettled, extended};
+ghost use Rattle.markdown.specs.View.{state_of, choice_at};
 
 impl<D: Drop> TokenizeState<D> {
     /// What states share before any was called. Takes no memory.
@@ -310,7 +310,6 @@ impl<'a, M: MachineTypes> Tokenizer<'a, M> {
             start: point,
             end: (point.index, point.vs),
             left: point,
-            point,
             waits: Waits::Nothing,
             ended: false,
             previous: None,
@@ -336,9 +335,11 @@ impl<'a, M: MachineTypes> Tokenizer<'a, M> {
         requires { self.old.configuration.waiting ≡ Waits.Byte }
         ensures { self.new ≡ at_configuration self.old (consumed self.old.configuration) }
     {
-        let left = end_of(self.current.unwrap_or(0), self.point);
-        self.left = left;
-        self.point = left;
+        pass(
+            self.parse_state.bytes,
+            &mut self.left,
+            self.current.unwrap_or(0),
+        );
         self.previous = self.current;
         self.current = None;
         self.ended = false;
@@ -365,7 +366,7 @@ impl<'a, M: MachineTypes> Tokenizer<'a, M> {
         ensures ok { OnOk result (self.new ≡ at_configuration self.old (entered name link (sight self.old.given self.old.text self.old.configuration).here self.old.configuration)) }
         ensures err { OnErr result (self.new ≡ self.old) }
     {
-        let point = shown(self.parse_state.bytes, self.point);
+        let point = shown(self.parse_state.bytes, self.left);
         let open_len = self.stack.len();
         self.stack.push(name)?;
         let event = Event {
@@ -422,6 +423,65 @@ impl<'a, M: MachineTypes> Tokenizer<'a, M> {
         link_items(&mut self.events, previous, next);
     }
 
+    /// Begins a choice: what is read from here on may be given up.
+    ///
+    /// The first state that answers `Ok` or `Nok` ends the last choice that waits. After `Ok` this one goes on with
+    /// `ok`, from where one then is; after `Nok` with `nok`, from here: as much is read, as many events are there and
+    /// the same spans are open as now, while what states share stays as it is. Where `nok` is [`State::Nok`] nothing is
+    /// put back, as the choice around this one fails with it and puts back what it saved. `ok` and `nok` are each
+    /// `Next`, `Ok` or `Nok`. Where memory is refused, nothing changes.
+    pub fn attempt(&mut self, ok: State, nok: State) -> Result<(), AllocError>
+        requires ok { CanGoOn ok }
+        requires nok { CanGoOn nok }
+        ensures ok { OnOk result (self.new ≡ with_choice self.old (attempt_at ok nok self.old.configuration)) }
+        ensures err { OnErr result (self.new ≡ self.old) }
+    {
+        let nok = Goal::of(nok);
+        let saves = !matches!(nok, Goal::Nok);
+        self.choose(AttemptKind::Attempt, Goal::of(ok), nok, saves)
+    }
+
+    /// As `attempt`, for a look ahead: after `Ok` too it goes on from here, as after `Nok`, and with `ok`.
+    pub fn check(&mut self, ok: State, nok: State) -> Result<(), AllocError>
+        requires ok { CanGoOn ok }
+        requires nok { CanGoOn nok }
+        ensures ok { OnOk result (self.new ≡ with_choice self.old (check_at ok nok self.old.configuration)) }
+        ensures err { OnErr result (self.new ≡ self.old) }
+    {
+        self.choose(AttemptKind::Check, Goal::of(ok), Goal::of(nok), true)
+    }
+
+    /// One more choice waits.
+    fn choose(
+        &mut self,
+        kind: AttemptKind,
+        ok: Goal,
+        nok: Goal,
+        saves: bool,
+    ) -> Result<(), AllocError>
+        ensures ok { OnOk result (self.new ≡ with_choice self.old (choice_at kind (state_of ok) (state_of nok) saves self.old.configuration)) }
+        ensures err { OnErr result (self.new ≡ self.old) }
+    {
+        let saved = if saves {
+            Some(Progress {
+                left: self.left,
+                previous: self.previous,
+                ended: self.ended,
+                events_len: self.events.len(),
+                stack_len: self.stack.len(),
+            })
+        } else {
+            None
+        };
+        self.marks.push(Mark {
+            kind,
+            ok,
+            nok,
+            saved,
+        })?;
+        Ok(())
+    }
+
     /// The next byte waits, if there is one.
     pub(crate) fn feed(&mut self) -> bool
         ensures fed { OnTrue result (self.new ≡ at_configuration self.old (fed self.old.text self.old.configuration)) }
@@ -433,7 +493,6 @@ impl<'a, M: MachineTypes> Tokenizer<'a, M> {
             None => false,
             Some((byte, seat)) => {
                 if is_before(seat, self.end) {
-                    self.point = seat;
                     self.current = Some(byte);
                     self.waits = Waits::Byte;
                     true
@@ -450,12 +509,6 @@ impl<'a, M: MachineTypes> Tokenizer<'a, M> {
         requires closed { self.old.closed ≡ true }
         ensures { self.new ≡ at_configuration self.old (fed self.old.text self.old.configuration) }
     {
-        self.point = Point {
-            line: self.left.line,
-            column: self.left.column,
-            index: self.end.0,
-            vs: self.end.1,
-        };
         self.waits = Waits::End;
         self.current = None;
         self.ended = true;
@@ -465,14 +518,14 @@ impl<'a, M: MachineTypes> Tokenizer<'a, M> {
     pub(crate) fn tells(&self)
         ensures { IsInText self.now }
     {
-        let _ = &self.point;
+        let _ = &self.left;
     }
 
     /// Where no span is open, the events are well formed.
     pub(crate) fn tells_events(&self)
         ensures { self.now.configuration.stack ≡ [] → IsWellFormed self.now.given.bytes self.now.configuration }
     {
-        let _ = &self.point;
+        let _ = &self.left;
     }
 
     /// Nothing more is pushed.
@@ -510,7 +563,6 @@ impl<'a, M: MachineTypes> Tokenizer<'a, M> {
         match mark.saved_for(ok) {
             Some(saved) => {
                 self.left = saved.left;
-                self.point = saved.left;
                 self.previous = saved.previous;
                 self.ended = saved.ended;
                 self.events.truncate(saved.events_len);
@@ -520,7 +572,6 @@ impl<'a, M: MachineTypes> Tokenizer<'a, M> {
                 Some(state)
             }
             None => {
-                self.point = self.left;
                 self.waits = Waits::Nothing;
                 self.current = None;
                 Some(state)

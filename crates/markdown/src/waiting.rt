@@ -36,7 +36,22 @@ pub(crate) enum Goal {
 
 impl Goal {
     ghost use Rattle.std.specs.Prelude.{◌≡◌};
+    ghost use Rattle.markdown.specs.Calls.{CanGoOn};
     ghost use Rattle.markdown.specs.View.{state_of};
+
+    /// What goes on with this state.
+    pub(crate) fn of(state: State) -> Goal
+        requires { CanGoOn state }
+        ensures { state_of result ≡ state }
+    {
+        match state {
+            State::Next(name) => Goal::Next(name),
+            State::Ok => Goal::Ok,
+            State::Nok => Goal::Nok,
+            State::Retry(_) => unreachable!(),
+            State::Error(_) => unreachable!(),
+        }
+    }
 
     /// The state's answer that goes on so.
     pub(crate) fn state(self) -> State

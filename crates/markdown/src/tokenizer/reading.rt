@@ -5,8 +5,10 @@ ghost use Rattle.markdown_base.specs.Events.{open_events};
 ghost use Rattle.markdown.specs.Sight.{sight};
 
 use super::Tokenizer;
+use crate::cursor::seat_at;
 use crate::parser::ParseState;
 use crate::state::MachineTypes;
+use crate::waiting::Waits;
 use markdown_base::event::{Event, Name, Point};
 
 impl<'a, M: MachineTypes> Tokenizer<'a, M> {
@@ -29,7 +31,18 @@ impl<'a, M: MachineTypes> Tokenizer<'a, M> {
     pub fn point(&self) -> Point
         ensures { result ≡ (sight self.now.given self.now.text self.now.configuration).point }
     {
-        self.point
+        match self.waits {
+            Waits::Nothing => self.left,
+            Waits::Byte => match seat_at(self.parse_state.bytes, self.left) {
+                Some((_, seat)) => seat,
+                None => self.left,
+            },
+            Waits::End => Point {
+                index: self.end.0,
+                vs: self.end.1,
+                ..self.left
+            },
+        }
     }
 
     /// The byte before, if one was read. A byte that a gap passes is never there.
@@ -70,7 +83,6 @@ impl<'a, M: MachineTypes> Tokenizer<'a, M> {
             start: _,
             end: _,
             left: _,
-            point: _,
             waits: _,
             ended: _,
             previous: _,

@@ -3,8 +3,7 @@ use Rattle.std.proofs.lemmas.List.{append-nil}
 use Rattle.markdown.specs.Cuts.{is_cut}
 use Rattle.markdown_base.specs.declared.event.Point.{Point}
 use Rattle.markdown.specs.Cursor.{rest_at}
-use Rattle.markdown.proofs.Standing.{seat-end-is}
-use Rattle.markdown.proofs.FromStart.{IsCutting, cutting-place, cutting-number, cutting-next, cutting-ended, walk-shorter, bounds-fit, seat-fits, cut-is, cut-not, cut-first}
+use Rattle.markdown.proofs.FromStart.{IsCutting, cutting-place, cutting-number, cutting-next, cutting-ended, walk-shorter, bounds-fit, cut-is, cut-not, cut-first}
 use Rattle.markdown.proofs.places.cuts_every.Goals.{then-number-gt0+then-number-n-eq0+in_ok-push, else-number-gt0, else-number-gt0-via-then-number-gt0+else-number-n-eq0, else-number-gt0-via-else-number-gt0}
 use Rattle.markdown.proofs.places.cuts_every.Goals as goal
 
@@ -21,36 +20,14 @@ overflow_add-number c =
     let e : c.loop-byte.number + 1 ≤ 4 * length c.args.bytes.now + 1 = (let k = bounds-fit c.args.bytes.now c.loop-byte.left b in omega arith) in
     omega arith
 
-pub end_of-left-requires-clause-line : goal.end_of-left-requires-clause-line
-end_of-left-requires-clause-line c =
-    let s = c.in-Some.ensures in
-    let place = cutting-place 4 c.args.bytes.now (lit< tt) c.args.n c.loop-byte.left c.loop-byte.number c.loop-byte.cuts.items c.loop-byte.invariant in
-    let fits = seat-fits c.args.bytes.now c.loop-byte.left _ place s.1 in
-    let h : c.in-Some.seat.line + 1 ≤ 4 * length c.args.bytes.now + 1 = fits.0 in
-    omega arith
-
-pub end_of-left-requires-clause-column : goal.end_of-left-requires-clause-column
-end_of-left-requires-clause-column c =
-    let s = c.in-Some.ensures in
-    let place = cutting-place 4 c.args.bytes.now (lit< tt) c.args.n c.loop-byte.left c.loop-byte.number c.loop-byte.cuts.items c.loop-byte.invariant in
-    let fits = seat-fits c.args.bytes.now c.loop-byte.left _ place s.1 in
-    let h : c.in-Some.seat.column + 1 ≤ 4 * length c.args.bytes.now + 1 = fits.1 in
-    omega arith
-
-pub end_of-left-requires-clause-spaces : goal.end_of-left-requires-clause-spaces
-end_of-left-requires-clause-spaces c =
-    let s = c.in-Some.ensures in
-    let place = cutting-place 4 c.args.bytes.now (lit< tt) c.args.n c.loop-byte.left c.loop-byte.number c.loop-byte.cuts.items c.loop-byte.invariant in
-    let fits = seat-fits c.args.bytes.now c.loop-byte.left _ place s.1 in
-    let h : c.in-Some.seat.vs + 1 ≤ 4 * length c.args.bytes.now + 1 = fits.2 in
-    omega arith
+pub pass-requires-clause-place : goal.pass-requires-clause-place
+pass-requires-clause-place c = cutting-place 4 c.args.bytes.now (lit< tt) c.args.n c.loop-byte.left c.loop-byte.number c.loop-byte.cuts.items c.loop-byte.invariant
 
 pub loop-byte-smaller : goal.loop-byte-smaller
 loop-byte-smaller c =
     let s = c.in-Some.ensures in
     let bytes = c.args.bytes.now in
-    let place = cutting-place 4 bytes (lit< tt) c.args.n c.loop-byte.left c.loop-byte.number c.loop-byte.cuts.items c.loop-byte.invariant in
-    let r : s.0 ≡ c.end_of-left.result = sym (seat-end-is 4 bytes (lit< tt) c.loop-byte.left _ place s.1) ∙ sym c.end_of-left.ensures in
+    let r : s.0 ≡ c.pass.new.point = sym (c.pass.ensures _ s.1) in
     subst (λ (q : Point). length (rest_at 4 bytes q) < length (rest_at 4 bytes c.loop-byte.left)) r
     (walk-shorter 4 bytes (lit< tt) c.loop-byte.left c.loop-byte.invariant.passed c.loop-byte.invariant.walk _ s.1)
 
@@ -58,8 +35,7 @@ pub loop-byte-preserved : goal.loop-byte-preserved
 loop-byte-preserved c =
     let s = c.in-Some.ensures in
     let bytes = c.args.bytes.now in
-    let place = cutting-place 4 bytes (lit< tt) c.args.n c.loop-byte.left c.loop-byte.number c.loop-byte.cuts.items c.loop-byte.invariant in
-    let r : s.0 ≡ c.end_of-left.result = sym (seat-end-is 4 bytes (lit< tt) c.loop-byte.left _ place s.1) ∙ sym c.end_of-left.ensures in
+    let r : s.0 ≡ c.pass.new.point = sym (c.pass.ensures _ s.1) in
     let next = cutting-next 4 bytes (lit< tt) c.args.n c.loop-byte.left c.loop-byte.number c.loop-byte.cuts.items c.loop-byte.invariant _ s.1 in
     subst (λ (q : Point). IsCutting 4 bytes c.args.n q (c.loop-byte.number + 1) c.if-number-gt0.cuts.items) r
     (elim c.if-number-gt0.branch [

@@ -1,9 +1,8 @@
-use Rattle.std.proofs.Common.{◌≡◌, ◌+◌, ◌*◌, ◌<◌, ◌≤◌, Bool, true, false, Some, None, length, arith, lit<, sym, ap, ◌∙◌, subst, cond}
+use Rattle.std.proofs.Common.{◌≡◌, ◌<◌, Bool, true, false, Some, None, length, lit<, sym, ap, ◌∙◌, subst, cond}
 use Rattle.markdown_base.specs.declared.event.Point.{Point}
 use Rattle.markdown_base.specs.Places.{shown}
 use Rattle.markdown.specs.Cursor.{rest_at}
-use Rattle.markdown.proofs.Standing.{seat-end-is}
-use Rattle.markdown.proofs.FromStart.{IsSearch, is_place, search-place, search-shown, search-seat, search-next, search-ended, walk-shorter, seat-fits}
+use Rattle.markdown.proofs.FromStart.{IsSearch, is_place, search-place, search-shown, search-seat, search-next, search-ended, walk-shorter}
 use Rattle.markdown.proofs.places.point_at.Goals as goal
 
 pub seat_at-requires : goal.seat_at-requires
@@ -24,36 +23,14 @@ returns-then-is_at-2 c =
     let f : is_place c.args.place c.in-Some.seat ≡ true = sym c.is_at-in-Some.ensures ∙ c.if-is_at-2.true in
     sym (search-seat 4 c.args.bytes.now (lit< tt) c.args.place c.loop-byte.left c.loop-byte.invariant _ s.1 e f)
 
-pub end_of-left-requires-clause-line : goal.end_of-left-requires-clause-line
-end_of-left-requires-clause-line c =
-    let s = c.in-Some.ensures in
-    let place = search-place 4 c.args.bytes.now (lit< tt) c.args.place c.loop-byte.left c.loop-byte.invariant in
-    let fits = seat-fits c.args.bytes.now c.loop-byte.left _ place s.1 in
-    let h : c.in-Some.seat.line + 1 ≤ 4 * length c.args.bytes.now + 1 = fits.0 in
-    omega arith
-
-pub end_of-left-requires-clause-column : goal.end_of-left-requires-clause-column
-end_of-left-requires-clause-column c =
-    let s = c.in-Some.ensures in
-    let place = search-place 4 c.args.bytes.now (lit< tt) c.args.place c.loop-byte.left c.loop-byte.invariant in
-    let fits = seat-fits c.args.bytes.now c.loop-byte.left _ place s.1 in
-    let h : c.in-Some.seat.column + 1 ≤ 4 * length c.args.bytes.now + 1 = fits.1 in
-    omega arith
-
-pub end_of-left-requires-clause-spaces : goal.end_of-left-requires-clause-spaces
-end_of-left-requires-clause-spaces c =
-    let s = c.in-Some.ensures in
-    let place = search-place 4 c.args.bytes.now (lit< tt) c.args.place c.loop-byte.left c.loop-byte.invariant in
-    let fits = seat-fits c.args.bytes.now c.loop-byte.left _ place s.1 in
-    let h : c.in-Some.seat.vs + 1 ≤ 4 * length c.args.bytes.now + 1 = fits.2 in
-    omega arith
+pub pass-requires-clause-place : goal.pass-requires-clause-place
+pass-requires-clause-place c = search-place 4 c.args.bytes.now (lit< tt) c.args.place c.loop-byte.left c.loop-byte.invariant
 
 pub loop-byte-smaller : goal.loop-byte-smaller
 loop-byte-smaller c =
     let s = c.in-Some.ensures in
     let bytes = c.args.bytes.now in
-    let place = search-place 4 bytes (lit< tt) c.args.place c.loop-byte.left c.loop-byte.invariant in
-    let r : s.0 ≡ c.end_of-left.result = sym (seat-end-is 4 bytes (lit< tt) c.loop-byte.left _ place s.1) ∙ sym c.end_of-left.ensures in
+    let r : s.0 ≡ c.pass.new.point = sym (c.pass.ensures _ s.1) in
     subst (λ (q : Point). length (rest_at 4 bytes q) < length (rest_at 4 bytes c.loop-byte.left)) r
     (walk-shorter 4 bytes (lit< tt) c.loop-byte.left c.loop-byte.invariant.passed c.loop-byte.invariant.walk _ s.1)
 
@@ -61,8 +38,7 @@ pub loop-byte-preserved : goal.loop-byte-preserved
 loop-byte-preserved c =
     let s = c.in-Some.ensures in
     let bytes = c.args.bytes.now in
-    let place = search-place 4 bytes (lit< tt) c.args.place c.loop-byte.left c.loop-byte.invariant in
-    let r : s.0 ≡ c.end_of-left.result = sym (seat-end-is 4 bytes (lit< tt) c.loop-byte.left _ place s.1) ∙ sym c.end_of-left.ensures in
+    let r : s.0 ≡ c.pass.new.point = sym (c.pass.ensures _ s.1) in
     let first = c.shown-first.ensures in
     let e : is_place c.args.place (shown c.args.bytes.now c.in-Some.seat) ≡ false = ap (is_place c.args.place) (sym first) ∙ sym c.is_at.ensures ∙ c.if-is_at.false in
     let f : is_place c.args.place c.in-Some.seat ≡ false = sym c.is_at-in-Some.ensures ∙ c.if-is_at-2.false in
