@@ -1,2 +1,1 @@
 pub mod CutPlaces
-pub mod LinesCalls

@@ -4,41 +4,58 @@ use Rattle.std.specs.Option.{option_map_or}
 use Rattle.std.specs.Io.KnownBytes.{Consumes, IsAtEnd, Appends}
 use Rattle.markdown_base.specs.declared.event.Event.{Event}
 use Rattle.markdown_base.specs.declared.message.Message.{Message}
-use Rattle.markdown_base.specs.declared.state.TheConstants.Name.{FlowStart}
+use Rattle.markdown_base.specs.declared.state.Name.{Name}
+use Rattle.markdown_base.specs.declared.state.TheConstants.Name.{FlowStart, TextStart, StringStart}
 use Rattle.markdown_base.specs.declared.state.State.TheVariants.{Ok, Error}
 use Rattle.markdown_base.specs.Presets.{default_parse_options}
 use Rattle.markdown.specs.Text.{Given}
+use Rattle.markdown.specs.Configuration.{Configuration, Step}
+use Rattle.markdown.specs.Sight.{Sight}
 use Rattle.markdown.specs.Reading.{Reading}
 use Rattle.markdown.specs.Engine.{given_by, StartEndsIn}
 use Rattle.markdown.specs.Cuts.{cuts_every}
 use Rattle.mdevents.specs.declared.words.Choice.{Choice}
-use Rattle.mdevents.specs.Lines.{lines_step}
+use Rattle.mdevents.specs.declared.words.Which.{Which}
+use Rattle.mdevents.specs.declared.words.Which.TheVariants.{Lines, Peek, Deep}
+use Rattle.mdconstructs.specs.Lines.{lines_step}
+use Rattle.mdconstructs.specs.Peek.{peek_step}
+use Rattle.mdconstructs.specs.Deep.{deep_step}
 use Rattle.mdevents.specs.Printed.{printed_events}
 
 -- a document, read with the default options
 abbrev pub document : List ℕ → Given
 document bytes = given_by bytes default_parse_options
 
--- the one reading of a whole document by lines ends in this
-abbrev pub LinesEndIn : List ℕ → Reading Unit Unit → Type 0
-LinesEndIn bytes r = StartEndsIn (document bytes) (lines_step (document bytes)) FlowStart r
+-- a machine with a start
+module _ {R D : Type 0} (step : Given → Sight → Configuration R D → Name → Step R D) (start : Name) (bytes : List ℕ) where
+  -- These are the events in which the machine's one reading of a document ends
+  pub record Gives (events : List Event) : Type 0 where
+    pub result : Reading R D
+    pub ends : StartEndsIn (document bytes) (step (document bytes)) start result
+    pub well : result.answer ≡ Ok
+    pub same : events ≡ result.configuration.events
+
+  -- The machine's one reading of a document ends in this message
+  pub record Refuses (m : Message) : Type 0 where
+    pub result : Reading R D
+    pub ends : StartEndsIn (document bytes) (step (document bytes)) start result
+    pub message : result.answer ≡ Error m
+
+-- the events of a document are those that its machine gives
+abbrev pub AreEventsOf : Which → List ℕ → List Event → Type 0
+AreEventsOf Lines = Gives lines_step FlowStart
+AreEventsOf Peek = Gives peek_step TextStart
+AreEventsOf Deep = Gives deep_step StringStart
+
+-- a document is refused where its machine refuses it
+abbrev pub IsRefusedBy : Which → List ℕ → Message → Type 0
+IsRefusedBy Lines = Refuses lines_step FlowStart
+IsRefusedBy Peek = Refuses peek_step TextStart
+IsRefusedBy Deep = Refuses deep_step StringStart
 
 -- where a document is cut: nowhere, or at every n-th of its virtual bytes
 abbrev pub cut_places : Choice → List ℕ → List (ℕ × ℕ)
 cut_places choice bytes = option_map_or (cuts_every 4 bytes) choice.cut []
-
--- These are the events of a document: those in which its one reading by lines ends
-pub record AreEventsOf (bytes : List ℕ) (events : List Event) : Type 0 where
-  pub result : Reading Unit Unit
-  pub ends : LinesEndIn bytes result
-  pub well : result.answer ≡ Ok
-  pub same : events ≡ result.configuration.events
-
--- A document is refused: its one reading by lines ends in this message
-pub record IsRefusedBy (bytes : List ℕ) (m : Message) : Type 0 where
-  pub result : Reading Unit Unit
-  pub ends : LinesEndIn bytes result
-  pub message : result.answer ≡ Error m
 
 -- A reader was read to its end
 pub record IsReadToEnd (old new : Option (List ℕ)) (bytes : List ℕ) : Type 0 where
@@ -46,22 +63,22 @@ pub record IsReadToEnd (old new : Option (List ℕ)) (bytes : List ℕ) : Type 0
   pub end : IsAtEnd new
 
 -- What was read to its end has these printed events
-pub record ArePrintedEvents (old new : Option (List ℕ)) (text : List ℕ) : Type 0 where
+pub record ArePrintedEvents (which : Which) (old new : Option (List ℕ)) (text : List ℕ) : Type 0 where
   pub bytes : List ℕ
   pub read : IsReadToEnd old new bytes
   pub events : List Event
-  pub are : AreEventsOf bytes events
+  pub are : AreEventsOf which bytes events
   pub lines : text ≡ printed_events events
 
 -- The printed events of what was read were written, and nothing else
-pub record Prints (reader_old reader_new writer_old writer_new : Option (List ℕ)) : Type 0 where
+pub record Prints (which : Which) (reader_old reader_new writer_old writer_new : Option (List ℕ)) : Type 0 where
   pub text : List ℕ
-  pub printed : ArePrintedEvents reader_old reader_new text
+  pub printed : ArePrintedEvents which reader_old reader_new text
   pub written : Appends writer_old writer_new text
 
 -- A beginning of the printed events of what was read was written, and nothing else
-pub record PrintsFront (reader_old reader_new writer_old writer_new : Option (List ℕ)) : Type 0 where
+pub record PrintsFront (which : Which) (reader_old reader_new writer_old writer_new : Option (List ℕ)) : Type 0 where
   pub text : List ℕ
-  pub printed : ArePrintedEvents reader_old reader_new text
+  pub printed : ArePrintedEvents which reader_old reader_new text
   pub count : ℕ
   pub written : Appends writer_old writer_new (take count text)

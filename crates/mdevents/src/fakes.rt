@@ -1,6 +1,8 @@
-//! A reader and a writer for tests, which fail on request.
+//! A reader and a writer for tests, which fail on request, and a system with given words.
 
-use std::io::{Error, ErrorKind, Read, Result, Write};
+use std::env::FillError;
+use std::io::{self, Error, ErrorKind, Read, Write};
+use std::rt::Env;
 
 /// Gives a text by at most two bytes a read, and fails once its good reads are used up.
 #[derive(Drop)]
@@ -10,7 +12,7 @@ pub struct FailingReader<'a> {
 }
 
 impl Read for FailingReader<'_> {
-    fn read(&mut self, buf: &mut [u8]) -> Result<usize> {
+    fn read(&mut self, buf: &mut [u8]) -> io::Result<usize> {
         if self.good_reads == 0 {
             return Err(Error::from(ErrorKind::Interrupted));
         }
@@ -31,7 +33,7 @@ pub struct FailingWriter {
 }
 
 impl Write for FailingWriter {
-    fn write(&mut self, buf: &[u8]) -> Result<usize> {
+    fn write(&mut self, buf: &[u8]) -> io::Result<usize> {
         if self.good_writes == 0 {
             return Err(Error::from(ErrorKind::Interrupted));
         }
@@ -41,7 +43,34 @@ impl Write for FailingWriter {
         Ok(count)
     }
 
-    fn flush(&mut self) -> Result<()> {
+    fn flush(&mut self) -> io::Result<()> {
         Ok(())
+    }
+}
+
+/// A system in which the program was called with these words, its name first, with a space between each two.
+#[derive(Drop)]
+pub struct CalledWith<'a> {
+    pub words: &'a [u8],
+}
+
+impl Env for CalledWith<'_> {
+    fn arg(&self, i: usize, buf: &mut [u8]) -> Result<usize, FillError> {
+        let Some(word) = self.words.split(|byte| *byte == b' ').nth(i) else {
+            return Err(FillError::NotPresent);
+        };
+        if word.len() > buf.len() {
+            return Err(FillError::TooLong);
+        }
+        buf[..word.len()].copy_from_slice(word);
+        Ok(word.len())
+    }
+
+    fn var(&self, _name: &str, _buf: &mut [u8]) -> Result<usize, FillError> {
+        Err(FillError::NotPresent)
+    }
+
+    fn var_at(&self, _i: usize, _buf: &mut [u8]) -> Result<usize, FillError> {
+        Err(FillError::NotPresent)
     }
 }

@@ -11,10 +11,11 @@ ghost use Rattle.mdevents.specs.Words.{CanCut};
 mod failure;
 #[cfg(test)]
 mod fakes;
-mod lines;
 mod print;
 mod program;
 mod read;
+#[cfg(test)]
+mod rows;
 mod words;
 mod write;
 
@@ -61,5 +62,34 @@ fn choice_of(rt: &(impl Env + AllocGlobal)) -> Result<Option<Choice>, Failure>
         }
         Err(error) if error.kind() == ErrorKind::InvalidData => Ok(None),
         Err(_) => Err(Failure::Memory),
+    }
+}
+
+#[cfg(test)]
+mod tests {
+    use super::*;
+    use crate::fakes::CalledWith;
+
+    /// After how many virtual bytes a call with these words cuts, if at all; `None` where they choose nothing.
+    fn chosen(rt: &HostRuntime, words: &[u8]) -> Option<Option<usize>> {
+        match choice_of(&(CalledWith { words }, rt.alloc())) {
+            Ok(Some(choice)) => Some(choice.cut),
+            _ => None,
+        }
+    }
+
+    #[test]
+    fn takes_the_words_after_the_name(rt: HostRuntime) {
+        assert_eq!(rt; chosen(&rt, b"mdevents"), Some(None));
+        assert_eq!(rt; chosen(&rt, b"--cut"), Some(None));
+        assert_eq!(rt; chosen(&rt, b"mdevents --cut 016"), Some(Some(16)));
+        assert_eq!(rt; chosen(&rt, b"--cut 2"), None);
+        assert_eq!(rt; chosen(&rt, b"mdevents --cut"), None);
+        assert_eq!(rt; chosen(&rt, b"mdevents --cut 2 --cut 2"), None);
+        assert_eq!(rt; chosen(&rt, b"mdevents --cut \xff"), None);
+        let mut long = [b'0'; 1000];
+        long[..15].copy_from_slice(b"mdevents --cut ");
+        long[999] = b'7';
+        assert_eq!(rt; chosen(&rt, &long), Some(Some(7)));
     }
 }

@@ -1,24 +1,26 @@
 //! What the program does, over any reader and writer.
 
-ghost use Rattle.std.specs.Prelude.{◌≡◌, ◌≢◌, ℕ, List, IfOk, IfErr, OnOk, IsErrOf};
+ghost use Rattle.std.specs.Prelude.{◌≡◌, ◌≢◌, ℕ, List, Contains, IfOk, IfErr, OnOk, IsErrOf};
 ghost use Rattle.std.specs.Io.KnownBytes.{Consumes, Keeps};
 ghost use Rattle.markdown.specs.Engine.{AreCuts};
 ghost use Rattle.mdevents.specs.Failure.{IsOfMaking};
-ghost use Rattle.mdevents.specs.Program.{cut_places, AreEventsOf, IsRefusedBy, IsReadToEnd, Prints, PrintsFront};
+ghost use Rattle.mdevents.specs.Program.{cut_places, Gives, Refuses, AreEventsOf, IsRefusedBy, IsReadToEnd, Prints, PrintsFront};
 ghost use Rattle.mdevents.specs.Reading.{IsWithinLimit};
 ghost use Rattle.mdevents.specs.Words.{CanCut};
 
 use crate::failure::Failure;
-use crate::lines::Lines;
 use crate::print::printed;
 use crate::read::read_to_end;
-use crate::words::Choice;
+use crate::words::{Choice, Which};
 use crate::write::write_all;
 use markdown::parser::ParseState;
-use markdown::state::Name;
+use markdown::state::{Machine, Name};
 use markdown::tokenizer::{Fault, cuts_every, run};
 use markdown_base::configuration::ParseOptions;
 use markdown_base::event::Event;
+use mdconstructs::deep::Deep;
+use mdconstructs::lines::Lines;
+use mdconstructs::peek::Peek;
 use std::alloc::{AllocError, Global};
 use std::io::{Read, Write};
 
@@ -33,10 +35,10 @@ pub fn write_events<R: Read, W: Write>(
     choice: &Choice,
 ) -> Result<(), Failure>
     requires { CanCut choice.now }
-    ensures written { OnOk result (Prints (R.remaining reader.old) (R.remaining reader.new) (W.contents writer.old) (W.contents writer.new)) }
+    ensures written { OnOk result (Prints choice.now.machine (R.remaining reader.old) (R.remaining reader.new) (W.contents writer.old) (W.contents writer.new)) }
     ensures too_long { IsErrOf result Failure.TooLong → (bytes : List ℕ) × Consumes (R.remaining reader.old) (R.remaining reader.new) bytes × ¬ IsWithinLimit bytes }
-    ensures message { (m : _) → IsErrOf result (Failure.Message m) → (bytes : List ℕ) × IsReadToEnd (R.remaining reader.old) (R.remaining reader.new) bytes × IsRefusedBy bytes m }
-    ensures cut_short { IsErrOf result Failure.Write → PrintsFront (R.remaining reader.old) (R.remaining reader.new) (W.contents writer.old) (W.contents writer.new) }
+    ensures message { (m : _) → IsErrOf result (Failure.Message m) → (bytes : List ℕ) × IsReadToEnd (R.remaining reader.old) (R.remaining reader.new) bytes × IsRefusedBy choice.now.machine bytes m }
+    ensures cut_short { IsErrOf result Failure.Write → PrintsFront choice.now.machine (R.remaining reader.old) (R.remaining reader.new) (W.contents writer.old) (W.contents writer.new) }
     ensures nothing { IfErr result (λ failure. failure ≢ Failure.Write → Keeps (W.contents writer.old) (W.contents writer.new)) }
 {
     let bytes = read_to_end(alloc, reader)?;
@@ -49,19 +51,41 @@ pub fn write_events<R: Read, W: Write>(
 fn events_of(alloc: Global, bytes: &[u8], choice: &Choice) -> Result<Vec<Event>, Failure>
     requires limit { IsWithinLimit bytes.now }
     requires cut { CanCut choice.now }
-    ensures events { IfOk result (λ events. AreEventsOf bytes.now events.items) }
-    ensures message { (m : _) → IsErrOf result (Failure.Message m) → IsRefusedBy bytes.now m }
+    ensures events { IfOk result (λ events. AreEventsOf choice.now.machine bytes.now events.items) }
+    ensures message { (m : _) → IsErrOf result (Failure.Message m) → IsRefusedBy choice.now.machine bytes.now m }
+    ensures cause { IfErr result IsOfMaking }
+{
+    let cuts = cuts_of(alloc, bytes, choice)?;
+    let cuts = cuts.as_slice();
+    match choice.machine {
+        Which::Lines => read_by(alloc, &Lines {}, Name::FlowStart, bytes, cuts),
+        Which::Peek => read_by(alloc, &Peek {}, Name::TextStart, bytes, cuts),
+        Which::Deep => read_by(alloc, &Deep {}, Name::StringStart, bytes, cuts),
+    }
+}
+
+/// The events of a document, as a machine reads it from this start with the default options.
+fn read_by<M: Machine>(
+    alloc: Global,
+    machine: &M,
+    start: Name,
+    bytes: &[u8],
+    cuts: &[(usize, usize)],
+) -> Result<Vec<Event>, Failure>
+    requires limit { IsWithinLimit bytes.now }
+    requires start { Contains (M.starts machine.now) start }
+    requires cuts { AreCuts 4 bytes.now cuts.now }
+    ensures events { IfOk result (λ events. Gives (M.step machine.now) start bytes.now events.items) }
+    ensures message { (m : _) → IsErrOf result (Failure.Message m) → Refuses (M.step machine.now) start bytes.now m }
     ensures cause { IfErr result IsOfMaking }
 {
     let options = ParseOptions::default();
-    let machine = Lines {};
     let parse_state = ParseState {
         bytes,
         options: &options,
-        machine: &machine,
+        machine,
     };
-    let cuts = cuts_of(alloc, bytes, choice)?;
-    match run(alloc, &parse_state, Name::FlowStart, cuts.as_slice(), false) {
+    match run(alloc, &parse_state, start, cuts, false) {
         Ok((events, _)) => Ok(events),
         Err(Fault::Memory) => Err(Failure::Memory),
         Err(Fault::Message(message)) => Err(Failure::Message(message)),
@@ -88,26 +112,41 @@ mod tests {
     use crate::fakes::{FailingReader, FailingWriter};
     use std::test::Fail;
 
+    const UNCUT: Choice = Choice {
+        cut: None,
+        machine: Which::Lines,
+    };
+
     const TWO_LINES: &str =
         "enter Paragraph 1:1 (0+0)\nenter Data 1:1 (0+0)\nexit Data 1:2 (1+0)\nexit Paragraph 1:2 (1+0)\nenter LineEnding 1:2 (1+0)\nexit LineEnding 2:1 (3+0)\nenter Paragraph 2:1 (3+0)\nenter Data 2:1 (3+0)\nexit Data 2:2 (4+0)\nexit Paragraph 2:2 (4+0)\n";
 
     const AFTER_TAB: &str =
         "enter Paragraph 1:1 (0+0)\nenter Data 1:1 (0+0)\nexit Data 1:6 (2+0)\nexit Paragraph 1:6 (2+0)\n";
 
+    const THREE_DATA: &str =
+        "enter Data 1:1 (0+0)\nexit Data 1:2 (1+0)\nenter LineEnding 1:2 (1+0)\nexit LineEnding 2:1 (2+0)\nenter Data 2:1 (2+0)\nexit Data 2:2 (3+0)\nenter LineEnding 2:2 (3+0)\nexit LineEnding 3:1 (4+0)\nenter Data 3:1 (4+0)\nexit Data 3:2 (5+0)\n";
+
+    const ONE_DATA: &str = "enter Data 1:1 (0+0)\nexit Data 1:4 (3+0)\n";
+
     #[test]
     fn writes_the_events(rt: HostRuntime) -> Result<(), Fail> {
-        for (document, cut, want) in [
-            ("a\r\nb", None, TWO_LINES),
-            ("a\r\nb", Some(1), TWO_LINES),
-            ("a\r\nb", Some(2), TWO_LINES),
-            ("", None, ""),
-            ("", Some(1), ""),
-            ("\ta", None, AFTER_TAB),
-            ("\ta", Some(2), AFTER_TAB),
+        for (document, cut, machine, want) in [
+            ("a\r\nb", None, Which::Lines, TWO_LINES),
+            ("a\r\nb", Some(1), Which::Lines, TWO_LINES),
+            ("a\r\nb", Some(2), Which::Lines, TWO_LINES),
+            ("", None, Which::Lines, ""),
+            ("", Some(1), Which::Lines, ""),
+            ("\ta", None, Which::Lines, AFTER_TAB),
+            ("\ta", Some(2), Which::Lines, AFTER_TAB),
+            ("a\nb\nc", None, Which::Peek, THREE_DATA),
+            ("a\nb\nc", Some(1), Which::Peek, THREE_DATA),
+            ("", None, Which::Peek, ""),
+            ("abc", None, Which::Deep, ONE_DATA),
+            ("abc", Some(1), Which::Deep, ONE_DATA),
         ] {
             let mut reader = document.as_bytes();
             let mut written = Vec::new(rt.alloc());
-            let choice = Choice { cut };
+            let choice = Choice { cut, machine };
             let result = write_events(rt.alloc(), &mut reader, &mut written, &choice);
             assert!(rt; result.is_ok());
             assert_eq!(rt; written.as_slice(), want.as_bytes());
@@ -127,7 +166,7 @@ mod tests {
                 most: 100,
                 good_writes,
             };
-            match write_events(rt.alloc(), &mut reader, &mut writer, &Choice { cut: None }) {
+            match write_events(rt.alloc(), &mut reader, &mut writer, &UNCUT) {
                 Err(Failure::Read) => assert!(rt; good_reads < 3),
                 _ => assert!(rt; false, "after {good_reads} reads"),
             }
@@ -140,7 +179,7 @@ mod tests {
                 most: 100,
                 good_writes,
             };
-            match write_events(rt.alloc(), &mut reader, &mut writer, &Choice { cut: None }) {
+            match write_events(rt.alloc(), &mut reader, &mut writer, &UNCUT) {
                 Ok(()) => assert!(rt; good_writes >= 3),
                 Err(Failure::Write) => assert!(rt; good_writes < 3),
                 Err(_) => assert!(rt; false, "after {good_writes} writes"),

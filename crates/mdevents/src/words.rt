@@ -7,27 +7,72 @@ ghost use Rattle.std.specs.List.{list_all};
 /// The line that answers words which choose nothing.
 pub const USAGE: &str = "usage: mdevents [--cut n] [--deep] [--machine name]";
 
+/// A machine, by the name that the program has for it.
+#[derive(Clone, Copy, Debug, PartialEq, Eq)]
+pub enum Which {
+    /// `lines`: each line is a paragraph of data.
+    Lines,
+    /// `peek`: looks at the whole text first, and then reads each line as data.
+    Peek,
+    /// `deep`: tries something at each byte, which fails, and then reads each line as data.
+    Deep,
+}
+
 /// What the words choose.
 #[derive(Clone, Copy, Debug, PartialEq, Eq)]
 pub struct Choice {
     /// After how many virtual bytes the text is cut each time, if it is; at least 1.
     pub cut: Option<usize>,
+    /// The machine that reads.
+    pub machine: Which,
 }
 
-ghost use Rattle.mdevents.specs.Words.{chosen, number_of, CanCut};
+ghost use Rattle.mdevents.specs.Words.{chosen, chosen_after, which_of, number_of, CanCut};
 
-/// What the words after the program's name choose: nothing, or `--cut` and a number. None asks for [`USAGE`].
+/// What the words after the program's name choose: `--cut` with a number and `--machine` with a name, in any order, each
+/// at most once. The machine is that of lines where none is named. None asks for [`USAGE`].
 pub fn read_words(words: &[String]) -> Option<Choice>
     ensures chosen { result ≡ chosen (map string_bytes words.now) }
     ensures cut { IfSome result CanCut }
 {
+    read_options(words, None, None)
+}
+
+/// The rest of the words, where some options came before.
+fn read_options(words: &[String], cut: Option<usize>, machine: Option<Which>) -> Option<Choice>
+    requires cut { IfSome cut (λ n. 1 ≤ n) }
+    ensures chosen { result ≡ chosen_after cut machine (map string_bytes words.now) }
+    ensures cut { IfSome result CanCut }
+{
     match words {
-        [] => Some(Choice { cut: None }),
-        [option, number] if option.as_str() == "--cut" => {
-            let cut = read_number(number.as_str())?;
-            Some(Choice { cut: Some(cut) })
+        [] => Some(Choice {
+            cut,
+            machine: machine.unwrap_or(Which::Lines),
+        }),
+        [option, word, rest @ ..] if option.as_str() == "--cut" && cut.is_none() => {
+            let n = read_number(word.as_str())?;
+            read_options(rest, Some(n), machine)
+        }
+        [option, word, rest @ ..] if option.as_str() == "--machine" && machine.is_none() => {
+            let which = read_which(word.as_str())?;
+            read_options(rest, cut, Some(which))
         }
         _ => None,
+    }
+}
+
+/// The machine of a name.
+fn read_which(name: &str) -> Option<Which>
+    ensures { result ≡ which_of name.now }
+{
+    if name == "lines" {
+        Some(Which::Lines)
+    } else if name == "peek" {
+        Some(Which::Peek)
+    } else if name == "deep" {
+        Some(Which::Deep)
+    } else {
+        None
     }
 }
 
@@ -59,11 +104,19 @@ mod tests {
 
     #[test]
     fn answers_words(rt: HostRuntime) -> Result<(), Fail> {
+        let lines = Which::Lines;
         for (text, want) in [
-            ("", Some(None)),
-            ("--cut 2", Some(Some(2))),
-            ("--cut 016", Some(Some(16))),
-            ("--cut 18446744073709551615", Some(Some(usize::MAX))),
+            ("", Some((None, lines))),
+            ("--cut 2", Some((Some(2), lines))),
+            ("--cut 016", Some((Some(16), lines))),
+            (
+                "--cut 18446744073709551615",
+                Some((Some(usize::MAX), lines)),
+            ),
+            ("--machine lines", Some((None, lines))),
+            ("--machine peek", Some((None, Which::Peek))),
+            ("--machine deep --cut 3", Some((Some(3), Which::Deep))),
+            ("--cut 3 --machine deep", Some((Some(3), Which::Deep))),
             ("--cut 18446744073709551616", None),
             ("--cut 0", None),
             ("--cut +1", None),
@@ -71,13 +124,16 @@ mod tests {
             ("--cut=1", None),
             ("--cut 1 --cut 1", None),
             ("--deep", None),
-            ("--machine lines", None),
+            ("--machine", None),
+            ("--machine Lines", None),
+            ("--machine lines --machine lines", None),
+            ("--machine back", None),
         ] {
             let mut words = Vec::new(rt.alloc());
             for word in text.split_whitespace() {
                 words.push(String::from_str(rt.alloc(), word)?)?;
             }
-            let choice = want.map(|cut| Choice { cut });
+            let choice = want.map(|(cut, machine)| Choice { cut, machine });
             assert_eq!(rt; read_words(words.as_slice()), choice, "{text}");
         }
         let empty = String::new(rt.alloc());

@@ -1,8 +1,19 @@
-use Rattle.std.proofs.Common.{◌≡◌}
 use Rattle.mdevents.proofs.program.events_of.Goals as goal
 
-pub returns-in-Err-Message-clause-message : goal.returns-in-Err-Message-clause-message
-returns-in-Err-Message-clause-message c = λ m e.
-    let same : c.in-Err-Message.message ≡ m = cc in
-    let refused = rw c.default-options.ensures at c.in-Err-Message.ensures.message m (cc) in
-    record { result = refused.result; ends = refused.ends; message = refused.message }
+pub returns-in-Lines-clause-events : goal.returns-in-Lines-clause-events
+returns-in-Lines-clause-events c = let e = c.in-Lines.is in rw e c.read_by.ensures.events
+
+pub returns-in-Lines-clause-message : goal.returns-in-Lines-clause-message
+returns-in-Lines-clause-message c = let e = c.in-Lines.is in rw e c.read_by.ensures.message
+
+pub returns-in-Peek-clause-events : goal.returns-in-Peek-clause-events
+returns-in-Peek-clause-events c = let e = c.in-Peek.is in rw e c.read_by-in-Peek.ensures.events
+
+pub returns-in-Peek-clause-message : goal.returns-in-Peek-clause-message
+returns-in-Peek-clause-message c = let e = c.in-Peek.is in rw e c.read_by-in-Peek.ensures.message
+
+pub returns-clause-events : goal.returns-clause-events
+returns-clause-events c = let e = c.in-Deep.is in rw e c.read_by-in-Deep.ensures.events
+
+pub returns-clause-message : goal.returns-clause-message
+returns-clause-message c = let e = c.in-Deep.is in rw e c.read_by-in-Deep.ensures.message

@@ -1,0 +1,2 @@
+pub mod DataCalls
+pub mod LinesCalls

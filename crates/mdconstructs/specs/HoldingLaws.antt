@@ -1,0 +1,125 @@
+-- What holds in machines goes on to hold: lemmas for their laws.
+use Rattle.std.proofs.Common.{◌≡◌, ℕ, zero, suc, ◌+◌, ◌≤◌, ◌<◌, ◌==◌, List, [], ◌∷◌, ◌++◌, Bool, true, false, cond, Option, Some, length, refl, sym, ap, ◌∙◌, arith, inl, inr, take, append_assoc, add-one}
+use Rattle.std.specs.Prelude.{slice_get, nat_lt, map, filter}
+use Rattle.std.specs.List.{last_or}
+use Rattle.std.proofs.lemmas.Option.{slice_get_cases}
+use Rattle.std.proofs.lemmas.List.{append-nil}
+use Rattle.std.proofs.Math.Seq.{take-append_seam}
+use Rattle.markdown_base.specs.declared.event.Event.{Event}
+use Rattle.markdown_base.specs.declared.event.Kind.TheVariants.{Enter, Exit}
+use Rattle.markdown_base.specs.declared.event.Point.{Point}
+use Rattle.markdown_base.specs.Virtual.{Seat, virtual}
+use Rattle.markdown_base.specs.Places.{stands_before, denotes_same}
+use Rattle.markdown_base.specs.Events.{open_after, open_events_from, open_events}
+use Rattle.markdown.specs.declared.waiting.Waits.{Waits}
+use Rattle.markdown.specs.declared.waiting.Waits.TheVariants.{Nothing, Byte, End}
+use Rattle.markdown.specs.Text.{Given, Text, Piece, pushed, passed, IsText, followed_by, in_range}
+use Rattle.markdown.specs.Configuration.{Configuration}
+use Rattle.markdown.specs.Sight.{sight, sight_of, current_of, end_place}
+use Rattle.markdown.specs.Reading.{fed}
+use Rattle.markdown.specs.Lawful.{unlinked}
+use Rattle.mdconstructs.specs.Tables.{Waiting, at_end, at_line_ending, at_other, waiting_of}
+use Rattle.mdconstructs.specs.Holding.{began_before, IsWaiting}
+use Rattle.markdown.proofs.TextOrder.{began-before_next}
+
+-- What a kind of byte says of the configuration: the end waits, or a byte of the text
+abbrev pub IsSeen : Waiting → Text → Configuration Unit Unit → Type 0
+IsSeen at_end text k = k.ended ≡ true
+IsSeen at_line_ending text k = (k.waiting ≡ Byte) × (k.position < length text.seats)
+IsSeen at_other text k = (k.waiting ≡ Byte) × (k.position < length text.seats)
+
+pub byte-seen : (b : Bool) (text : Text) (k : Configuration Unit Unit) → k.waiting ≡ Byte → k.position < length text.seats → IsSeen (cond b at_line_ending at_other) text k
+byte-seen true text k w h = (w, h)
+byte-seen false text k w h = (w, h)
+
+-- the seat of a byte that waits
+abbrev pub SeatAt : Text → ℕ → Type 0
+SeatAt text p = (s : Seat) × (slice_get text.seats p ≡ Some s)
+
+pub seat-at : (text : Text) (p : ℕ) → p < length text.seats → SeatAt text p
+seat-at text p h = elim (slice_get_cases text.seats p).1 [ inl there ↦ (there.0, there.2) | inr past ↦ absurd (omega (arith, past.0)) ]
+
+pub seen-at : (g : Given) (text : Text) (k : Configuration Unit Unit) (w : Waits) → k.waiting ≡ w → IsWaiting w k.position k.ended text → IsSeen (waiting_of (current_of text k.position w)) text k
+seen-at g text k Nothing e h = absurd h
+seen-at g text k Byte e h = let (s, is) = seat-at text k.position h in rw is (byte-seen (s.byte == 10) text k e h)
+seen-at g text k End e h = h
+
+pub is-seen : (g : Given) (text : Text) (k : Configuration Unit Unit) → IsWaiting k.waiting k.position k.ended text → IsSeen (waiting_of (sight g text k).current) text k
+is-seen g text k h = seen-at g text k k.waiting refl h
+
+-- one more event
+pub open-more : (before es : List Event) (e : Event) → open_events_from before (es ++ e ∷ []) ≡ open_after e.kind e (open_events_from before es)
+open-more before [] e = refl
+open-more before (x ∷ es) e = open-more (open_after x.kind x before) es e
+
+pub last-more : {A : Type 0} → (o : Option A) (xs : List A) (x : A) → last_or o (xs ++ x ∷ []) ≡ Some x
+last-more o [] x = refl
+last-more o (y ∷ ys) x = last-more (Some y) ys x
+
+-- a span of one event begins and ends
+pub opened-ended : (es : List Event) (e f : Event) → e.kind ≡ Enter → f.kind ≡ Exit → open_events es ≡ [] → open_events ((es ++ e ∷ []) ++ f ∷ []) ≡ []
+opened-ended es e f enter exit h = open-more [] (es ++ e ∷ []) f ∙ rw (exit, open-more [] es e, enter, h) refl
+
+pub opened-twice : (es : List Event) (e f : Event) → e.kind ≡ Enter → f.kind ≡ Enter → open_events es ≡ [] → open_events ((es ++ e ∷ []) ++ f ∷ []) ≡ e ∷ f ∷ []
+opened-twice es e f enter enter' h = open-more [] (es ++ e ∷ []) f ∙ rw (enter', open-more [] es e, enter, h) refl
+
+pub ended-twice : (es : List Event) (p q e f : Event) → e.kind ≡ Exit → f.kind ≡ Exit → open_events es ≡ p ∷ q ∷ [] → open_events ((es ++ e ∷ []) ++ f ∷ []) ≡ []
+ended-twice es p q e f exit exit' h = open-more [] (es ++ e ∷ []) f ∙ rw (exit', open-more [] es e, exit, h) refl
+
+-- two more events keep those before
+pub kept : (es : List Event) (e f : Event) → map unlinked (take (length es) ((es ++ e ∷ []) ++ f ∷ [])) ≡ map unlinked es
+kept es e f = rw append_assoc (ap (map unlinked) (take-append_seam es (e ∷ f ∷ [])))
+
+-- where the next byte is, the byte that waits ends
+pub next-left : (g : Given) (text : Text) (p : ℕ) (w : Waits) → p < length text.seats → (sight_of g text p Byte).next ≡ (sight_of g text (p + 1) w).left
+next-left g text p w h = let (s, is) = seat-at text p h in rw (add-one, is) refl
+
+-- what began before the byte that waits began before the place from which is gone on
+pub began-before : (w : Waiting) (g : Given) (text : Text) (p : ℕ) (q : Point) → IsText g text → p < length text.seats
+    → stands_before q (sight_of g text p Byte).left ≡ true → stands_before q (began_before w (sight_of g text p Byte)) ≡ true
+began-before at_end g text p q is inside h = h
+began-before at_line_ending g text p q is inside h = h
+began-before at_other g text p q is inside h = began-before_next g text p q is inside h
+
+pub fed-position : (text : Text) (k : Configuration Unit Unit) → (fed text k).position ≡ k.position
+fed-position text k = elim (nat_lt k.position (length text.seats)) as (λ b. (cond {A = Configuration Unit Unit} b (record { position = k.position; waiting = Byte; ended = k.ended; events = k.events; stack = k.stack; local = k.local }) (record { position = k.position; waiting = End; ended = true; events = k.events; stack = k.stack; local = k.local })).position ≡ k.position) [ true ↦ refl | false ↦ refl ]
+
+-- a text that a piece was added to
+pub record Extends (text longer : Text) : Type 0 where
+  pub more : List Seat
+  pub start : longer.start ≡ text.start
+  pub seats : longer.seats ≡ text.seats ++ more
+
+pub extends-at : (b : Bool) (text : Text) (p : Point) → Extends text (cond b text (record { start = text.start; seats = text.seats; end = p }))
+extends-at true text p = record { more = []; start = refl; seats = sym (append-nil text.seats) }
+extends-at false text p = record { more = []; start = refl; seats = sym (append-nil text.seats) }
+
+pub extends : (g : Given) (text : Text) (piece : Piece) → Extends text (followed_by g text piece)
+extends g text (pushed from to) = record { more = filter (in_range from to) (virtual g.tab g.bytes); start = refl; seats = refl }
+extends g text (passed p) = extends-at (denotes_same g.tab g.bytes p text.end) text p
+
+pub seat-append : (xs ys : List Seat) (i : ℕ) → i < length xs → slice_get (xs ++ ys) i ≡ slice_get xs i
+seat-append [] ys i h = absurd (omega arith)
+seat-append (x ∷ xs) ys zero h = refl
+seat-append (x ∷ xs) ys (suc i) h = seat-append xs ys i (omega arith)
+
+pub seat-kept : (text longer : Text) (i : ℕ) → Extends text longer → i < length text.seats → slice_get longer.seats i ≡ slice_get text.seats i
+seat-kept text longer i e h = rw e.seats (seat-append text.seats e.more i h)
+
+pub left-kept : (text longer : Text) (p : ℕ) → Extends text longer → p ≤ length text.seats → end_place longer p ≡ end_place text p
+left-kept text longer zero e h = e.start
+left-kept text longer (suc q) e h =
+    let same = seat-kept text longer q e (omega arith) in
+    rw (same, e.start) refl
+
+-- what a state sees is the same where a byte waits that was there before
+pub sight-kept : (g : Given) (text longer : Text) (p : ℕ) → Extends text longer → p < length text.seats → sight_of g longer p Byte ≡ sight_of g text p Byte
+sight-kept g text longer zero e h =
+    let same = seat-kept text longer 0 e h in
+    let (s, is) = seat-at text 0 h in
+    rw (same, is, e.start) refl
+sight-kept g text longer (suc q) e h =
+    let before = seat-kept text longer q e (omega arith) in
+    let same = seat-kept text longer (suc q) e h in
+    let (s, is) = seat-at text (suc q) h in
+    rw (same, is, before, e.start) refl

@@ -1,0 +1,11 @@
+pub mod DataReading
+pub mod DataReadingLaws
+pub mod Deep
+pub mod DeepLaws
+pub mod Holding
+pub mod HoldingLaws
+pub mod Lines
+pub mod LinesLaws
+pub mod Peek
+pub mod PeekLaws
+pub mod Tables

@@ -1,0 +1,136 @@
+use Rattle.std.proofs.Common.{◌≡◌, ℕ, List, [], Some, true, false, length, refl, sym, ap, ◌∙◌, subst}
+use Rattle.std.specs.Prelude.{Contains}
+use Rattle.markdown_base.specs.declared.configuration.ParseOptions.{ParseOptions}
+use Rattle.markdown_base.specs.declared.event.Point.{Point}
+use Rattle.markdown_base.specs.declared.state.Name.{Name}
+use Rattle.markdown_base.specs.declared.state.State.{State}
+use Rattle.markdown_base.specs.declared.state.State.TheVariants.{Next}
+use Rattle.markdown_base.specs.Virtual.{point, document_end}
+use Rattle.markdown_base.specs.Places.{point_at, is_upto, denotes_same}
+use Rattle.markdown.specs.Text.{Given, Text, FitsAfter, pushed, empty_text}
+use Rattle.markdown.specs.Configuration.{Configuration, Choice, Step, Seen, start_seen}
+use Rattle.markdown.specs.Sight.{Sight}
+use Rattle.markdown.specs.Lawful.{KeepsInvariant}
+use Rattle.markdown.specs.Engine.{IsPushed, given_by}
+use Rattle.markdown.proofs.Cursors.{same-self}
+use Rattle.markdown.proofs.Runs.{start-is-point, start-at, end-at, end-upto, found-place}
+use Rattle.mdevents.proofs.rows.read_in_three.Goals as goal
+
+module _ {M R D : Type 0} (step : M → Given → Sight → Configuration R D → Name → Step R D) (holds : M → Given → Text → Configuration R D → List Choice → State → Type 0)
+    (cost : M → Given → Text → Configuration R D → State → ℕ) (reserve : M → Given → Text → Choice → ℕ) where
+  -- an open tokenizer of this document, whose text ends at this place
+  record Stands (bytes : List ℕ) (place : Point) (t : Seen M R D) (state : State) : Type 0 where
+    pub options : ParseOptions
+    pub given : t.given ≡ given_by bytes options
+    pub open_still : t.closed ≡ false
+    pub end : t.text.end ≡ place
+    pub held : holds t.machine t.given t.text t.configuration t.choices state
+
+  -- a new tokenizer stands at the document's start
+  stands-first : (bytes : List ℕ) (options : ParseOptions) (m : M) (starts : List Name) → KeepsInvariant (given_by bytes options) (step m (given_by bytes options)) (holds m (given_by bytes options)) starts
+      → (start : Name) → Contains starts start → (t : Seen M R D) → t ≡ start_seen (given_by bytes options) m (empty_text (point 1 1 0 0)) → Stands bytes (point 1 1 0 0) t (Next start)
+  stands-first bytes options m starts keeps start starts_so t e =
+      let given = given_by bytes options in
+      rw e (record {
+        options = options;
+        given = refl;
+        open_still = refl;
+        end = refl;
+        held = keeps.at_starts (point 1 1 0 0) false start (start-is-point given refl) starts_so;
+      })
+
+  module _ (bytes : List ℕ) (from to : ℕ × ℕ) (p f q : Point) (t : Seen M R D) (state : State) (s : Stands bytes p t state) (first : point_at 4 bytes from ≡ Some f)
+      (last : point_at 4 bytes to ≡ Some q) where
+    -- a range that begins where the text ends fits
+    stands-range : denotes_same 4 bytes f p ≡ true → is_upto 4 bytes f q ≡ true
+        → (a : Point) × (b : Point) × (point_at 4 t.given.bytes from ≡ Some a) × (point_at 4 t.given.bytes to ≡ Some b) × FitsAfter t.given t.text (pushed a b)
+    stands-range same upto =
+        let e = s.given in
+        let same_end = subst (λ (x : Point). denotes_same 4 bytes f x ≡ true) (sym s.end) same in
+        rw e (f, q, first, last, (found-place 4 bytes from f first, found-place 4 bytes to q last, same_end, upto))
+
+    -- after a push the tokenizer stands at the range's end
+    stands-next : (u : Seen M R D) (answer : State)
+        → ((a b : Point) → point_at 4 t.given.bytes from ≡ Some a → point_at 4 t.given.bytes to ≡ Some b
+        → IsPushed t.given (step t.machine t.given) (holds t.machine t.given) (cost t.machine t.given) (reserve t.machine t.given) t a b state u answer) → Stands bytes q u answer
+    stands-next u answer pushes =
+        let first_here = subst (λ (x : Given). point_at 4 x.bytes from ≡ Some f) (sym s.given) first in
+        let last_here = subst (λ (x : Given). point_at 4 x.bytes to ≡ Some q) (sym s.given) last in
+        let h = pushes f q first_here last_here in
+        let by_given = subst (λ (x : Given). holds t.machine x u.text u.configuration u.choices answer) (sym h.given) ((h.outcome [] tt).kept) in
+        record {
+          options = s.options;
+          given = h.given ∙ s.given;
+          open_still = h.open_still;
+          end = ap (λ (x : Text). x.end) h.text;
+          held = subst (λ (x : M). holds x u.given u.text u.configuration u.choices answer) (sym h.machine) by_given;
+        }
+
+pub new-tokenizer-requires-clause-place : goal.new-tokenizer-requires-clause-place
+new-tokenizer-requires-clause-place g c = start-is-point (given_by c.args.parse_state.now.bytes.now c.args.parse_state.now.options.now) refl
+
+pub push-requires-clause-range : goal.push-requires-clause-range
+push-requires-clause-range g c =
+    let i = g.M.Machine in
+    let bytes = c.args.parse_state.now.bytes.now in let options = c.args.parse_state.now.options.now in let m = c.args.parse_state.now.machine.now in let start = c.args.start in
+    let t = c.new-tokenizer.result in let r = c.requires.ranges in let p = point 1 1 0 0 in
+    let s = stands-first i.step i.holds i.cost i.reserve bytes options m (i.starts m) (g.met.M.Machine.invariant_kept m (given_by bytes options)) start c.requires.start t c.new-tokenizer.ensures in
+    λ _. stands-range i.step i.holds i.cost i.reserve bytes (0, 0) c.args.cut p p r.first t (Next start) s (start-at bytes) r.first_at (same-self 4 bytes p) r.after_start
+
+pub push-requires-clause-holds : goal.push-requires-clause-holds
+push-requires-clause-holds g c =
+    let i = g.M.Machine in
+    let bytes = c.args.parse_state.now.bytes.now in let options = c.args.parse_state.now.options.now in let m = c.args.parse_state.now.machine.now in let start = c.args.start in
+    let t = c.new-tokenizer.result in let r = c.requires.ranges in let p = point 1 1 0 0 in
+    let s = stands-first i.step i.holds i.cost i.reserve bytes options m (i.starts m) (g.met.M.Machine.invariant_kept m (given_by bytes options)) start c.requires.start t c.new-tokenizer.ensures in
+    λ _. s.held
+
+pub push-requires-2-clause-range : goal.push-requires-2-clause-range
+push-requires-2-clause-range g c =
+    let i = g.M.Machine in
+    let bytes = c.args.parse_state.now.bytes.now in let options = c.args.parse_state.now.options.now in let m = c.args.parse_state.now.machine.now in let start = c.args.start in
+    let t = c.new-tokenizer.result in let r = c.requires.ranges in let p = point 1 1 0 0 in
+    let s = stands-first i.step i.holds i.cost i.reserve bytes options m (i.starts m) (g.met.M.Machine.invariant_kept m (given_by bytes options)) start c.requires.start t c.new-tokenizer.ensures in
+    let s1 = stands-next i.step i.holds i.cost i.reserve bytes (0, 0) c.args.cut p p r.first t (Next start) s (start-at bytes) r.first_at c.push.new.self c.in-Ok.state c.in-Ok.ensures.ok in
+    λ _. stands-range i.step i.holds i.cost i.reserve bytes c.args.from c.args.to r.first r.second r.third c.push.new.self c.in-Ok.state s1 r.second_at r.third_at r.same r.in_order
+
+pub push-requires-2-clause-holds : goal.push-requires-2-clause-holds
+push-requires-2-clause-holds g c =
+    let i = g.M.Machine in
+    let bytes = c.args.parse_state.now.bytes.now in let options = c.args.parse_state.now.options.now in let m = c.args.parse_state.now.machine.now in let start = c.args.start in
+    let t = c.new-tokenizer.result in let r = c.requires.ranges in let p = point 1 1 0 0 in
+    let s = stands-first i.step i.holds i.cost i.reserve bytes options m (i.starts m) (g.met.M.Machine.invariant_kept m (given_by bytes options)) start c.requires.start t c.new-tokenizer.ensures in
+    let s1 = stands-next i.step i.holds i.cost i.reserve bytes (0, 0) c.args.cut p p r.first t (Next start) s (start-at bytes) r.first_at c.push.new.self c.in-Ok.state c.in-Ok.ensures.ok in
+    λ _. s1.held
+
+pub push-requires-3-clause-range : goal.push-requires-3-clause-range
+push-requires-3-clause-range g c =
+    let i = g.M.Machine in
+    let bytes = c.args.parse_state.now.bytes.now in let options = c.args.parse_state.now.options.now in let m = c.args.parse_state.now.machine.now in let start = c.args.start in
+    let t = c.new-tokenizer.result in let r = c.requires.ranges in let p = point 1 1 0 0 in
+    let s = stands-first i.step i.holds i.cost i.reserve bytes options m (i.starts m) (g.met.M.Machine.invariant_kept m (given_by bytes options)) start c.requires.start t c.new-tokenizer.ensures in
+    let s1 = stands-next i.step i.holds i.cost i.reserve bytes (0, 0) c.args.cut p p r.first t (Next start) s (start-at bytes) r.first_at c.push.new.self c.in-Ok.state c.in-Ok.ensures.ok in
+    let s2 = stands-next i.step i.holds i.cost i.reserve bytes c.args.from c.args.to r.first r.second r.third c.push.new.self c.in-Ok.state s1 r.second_at r.third_at c.push-2.new.self c.in-Ok-push.state c.in-Ok-push.ensures.ok in
+    λ _. stands-range i.step i.holds i.cost i.reserve bytes c.args.to (length bytes, 0) r.third r.third (document_end 4 bytes) c.push-2.new.self c.in-Ok-push.state s2 r.third_at (end-at bytes) (same-self 4 bytes r.third)
+    (end-upto bytes r.third (found-place 4 bytes c.args.to r.third r.third_at))
+
+pub push-requires-3-clause-holds : goal.push-requires-3-clause-holds
+push-requires-3-clause-holds g c =
+    let i = g.M.Machine in
+    let bytes = c.args.parse_state.now.bytes.now in let options = c.args.parse_state.now.options.now in let m = c.args.parse_state.now.machine.now in let start = c.args.start in
+    let t = c.new-tokenizer.result in let r = c.requires.ranges in let p = point 1 1 0 0 in
+    let s = stands-first i.step i.holds i.cost i.reserve bytes options m (i.starts m) (g.met.M.Machine.invariant_kept m (given_by bytes options)) start c.requires.start t c.new-tokenizer.ensures in
+    let s1 = stands-next i.step i.holds i.cost i.reserve bytes (0, 0) c.args.cut p p r.first t (Next start) s (start-at bytes) r.first_at c.push.new.self c.in-Ok.state c.in-Ok.ensures.ok in
+    let s2 = stands-next i.step i.holds i.cost i.reserve bytes c.args.from c.args.to r.first r.second r.third c.push.new.self c.in-Ok.state s1 r.second_at r.third_at c.push-2.new.self c.in-Ok-push.state c.in-Ok-push.ensures.ok in
+    λ _. s2.held
+
+pub flush-requires-clause-holds : goal.flush-requires-clause-holds
+flush-requires-clause-holds g c =
+    let i = g.M.Machine in
+    let bytes = c.args.parse_state.now.bytes.now in let options = c.args.parse_state.now.options.now in let m = c.args.parse_state.now.machine.now in let start = c.args.start in
+    let t = c.new-tokenizer.result in let r = c.requires.ranges in let p = point 1 1 0 0 in
+    let s = stands-first i.step i.holds i.cost i.reserve bytes options m (i.starts m) (g.met.M.Machine.invariant_kept m (given_by bytes options)) start c.requires.start t c.new-tokenizer.ensures in
+    let s1 = stands-next i.step i.holds i.cost i.reserve bytes (0, 0) c.args.cut p p r.first t (Next start) s (start-at bytes) r.first_at c.push.new.self c.in-Ok.state c.in-Ok.ensures.ok in
+    let s2 = stands-next i.step i.holds i.cost i.reserve bytes c.args.from c.args.to r.first r.second r.third c.push.new.self c.in-Ok.state s1 r.second_at r.third_at c.push-2.new.self c.in-Ok-push.state c.in-Ok-push.ensures.ok in
+    let s3 = stands-next i.step i.holds i.cost i.reserve bytes c.args.to (length bytes, 0) r.third r.third (document_end 4 bytes) c.push-2.new.self c.in-Ok-push.state s2 r.third_at (end-at bytes) c.push-3.new.self c.in-Ok-push-2.state c.in-Ok-push-2.ensures.ok in
+    λ _. s3.held
