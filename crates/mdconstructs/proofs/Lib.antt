@@ -1,2 +1,3 @@
-pub mod DataCalls
+pub mod DataNames
+pub mod LineEndingCalls
 pub mod LinesCalls

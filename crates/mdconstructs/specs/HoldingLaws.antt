@@ -1,5 +1,5 @@
 -- What holds in machines goes on to hold: lemmas for their laws.
-use Rattle.std.proofs.Common.{◌≡◌, ℕ, zero, suc, ◌+◌, ◌≤◌, ◌<◌, ◌==◌, List, [], ◌∷◌, ◌++◌, Bool, true, false, cond, Option, Some, length, refl, sym, ap, ◌∙◌, arith, inl, inr, take, append_assoc, add-one}
+use Rattle.std.proofs.Common.{◌≡◌, ℕ, zero, suc, ◌+◌, ◌≤◌, ◌<◌, ◌==◌, List, [], ◌∷◌, ◌++◌, Bool, true, false, cond, Option, Some, length, refl, sym, ap, ◌∙◌, arith, inl, inr, take, append_assoc, add-one, length-append}
 use Rattle.std.specs.Prelude.{slice_get, nat_lt, map, filter}
 use Rattle.std.specs.List.{last_or}
 use Rattle.std.proofs.lemmas.Option.{slice_get_cases}
@@ -113,7 +113,7 @@ left-kept text longer (suc q) e h =
     rw (same, e.start) refl
 
 -- what a state sees is the same where a byte waits that was there before
-pub sight-kept : (g : Given) (text longer : Text) (p : ℕ) → Extends text longer → p < length text.seats → sight_of g longer p Byte ≡ sight_of g text p Byte
+sight-kept : (g : Given) (text longer : Text) (p : ℕ) → Extends text longer → p < length text.seats → sight_of g longer p Byte ≡ sight_of g text p Byte
 sight-kept g text longer zero e h =
     let same = seat-kept text longer 0 e h in
     let (s, is) = seat-at text 0 h in
@@ -123,3 +123,9 @@ sight-kept g text longer (suc q) e h =
     let same = seat-kept text longer (suc q) e h in
     let (s, is) = seat-at text (suc q) h in
     rw (same, is, before, e.start) refl
+
+-- where a piece is added before the end is fed, the same waits, and a state sees the same
+pub waits-longer : (g : Given) (text longer : Text) (p : ℕ) (ended : Bool) (w : Waits) → Extends text longer → ended ≡ false → IsWaiting w p ended text → IsWaiting w p ended longer × (sight_of g longer p w ≡ sight_of g text p w)
+waits-longer g text longer p ended Nothing e fresh waits = absurd waits
+waits-longer g text longer p ended Byte e fresh waits = (omega (arith, ap length e.seats, length-append text.seats e.more), sight-kept g text longer p e waits)
+waits-longer g text longer p ended End e fresh waits = absurd (let c : true ≡ false = sym waits ∙ fresh in cc)

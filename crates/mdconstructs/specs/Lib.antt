@@ -1,3 +1,5 @@
+pub mod Back
+pub mod BackLaws
 pub mod DataReading
 pub mod DataReadingLaws
 pub mod Deep
@@ -8,4 +10,6 @@ pub mod Lines
 pub mod LinesLaws
 pub mod Peek
 pub mod PeekLaws
+pub mod Save
+pub mod SaveLaws
 pub mod Tables

@@ -1,5 +1,5 @@
 -- The laws of the machine of lines.
-use Rattle.std.proofs.Common.{◌≡◌, ◌≢◌, ℕ, zero, suc, ◌+◌, ◌-◌, ◌*◌, ◌≤◌, List, [], ◌∷◌, ◌++◌, Bool, true, false, Option, Some, None, length, refl, sym, ap, ◌∙◌, subst, arith, ◌⊎◌, inl, inr, length-append, sum_by, take}
+use Rattle.std.proofs.Common.{◌≡◌, ◌≢◌, ℕ, zero, suc, ◌+◌, ◌-◌, ◌*◌, ◌≤◌, List, [], ◌∷◌, ◌++◌, Bool, true, false, Option, Some, None, length, refl, sym, ap, subst, arith, ◌⊎◌, inl, inr, length-append, sum_by, take}
 use Rattle.std.specs.Prelude.{nat_lt, map, Contains}
 use Rattle.std.proofs.lemmas.Bool.{ltb-true}
 use Rattle.std.proofs.Math.Seq.{take-length}
@@ -21,7 +21,7 @@ use Rattle.markdown.specs.Lawful.{unlinked, IsAsFar, ConsumesOnce, OnlyAdds, End
 use Rattle.mdconstructs.specs.Tables.{Waiting, at_end, at_line_ending, at_other, waiting_of, counted}
 use Rattle.mdconstructs.specs.Lines.{LinesState, flow_start, paragraph_inside, lines_state, lines_table, lines_step_at, lines_step, IsOpenAt, LinesHoldAt, lines_holds, lines_call_cost, lines_cost, lines_reserve, lines_starts}
 use Rattle.mdconstructs.specs.Holding.{began_before, IsWaiting, IsAhead, twice_left}
-use Rattle.mdconstructs.specs.HoldingLaws.{IsSeen, is-seen, last-more, opened-ended, opened-twice, ended-twice, kept, next-left, began-before, fed-position, Extends, extends, left-kept, sight-kept}
+use Rattle.mdconstructs.specs.HoldingLaws.{IsSeen, is-seen, last-more, opened-ended, opened-twice, ended-twice, kept, next-left, began-before, fed-position, Extends, extends, left-kept, waits-longer}
 use Rattle.markdown.proofs.TextOrder.{begins-before_end}
 
 -- A call consumes at most one byte
@@ -159,25 +159,14 @@ by-feeding : (g : Given) (text : Text) (k : Configuration Unit Unit) (choices : 
     → lines_holds g text k choices (Next name) → lines_holds g text (fed text k) choices (Retry name)
 by-feeding g text k choices name is h = (h.0, omega (arith, fed-position text k, h.1), fed-at (nat_lt k.position (length text.seats)) g text k name is refl h.2)
 
-waits-longer : (g : Given) (text longer : Text) (k : Configuration Unit Unit) (w : Waits) (name : Name) → Extends text longer → k.ended ≡ false → IsWaiting w k.position k.ended text
-    → IsAhead w (sight_of g text k.position w) → IsOpenAt (lines_state name) (began_before (waiting_of (sight_of g text k.position w).current) (sight_of g text k.position w)) k
-    → IsWaiting w k.position k.ended longer × IsAhead w (sight_of g longer k.position w)
-    × IsOpenAt (lines_state name) (began_before (waiting_of (sight_of g longer k.position w).current) (sight_of g longer k.position w)) k
-waits-longer g text longer k Nothing name e fresh waits ahead h = absurd waits
-waits-longer g text longer k Byte name e fresh waits ahead h =
-    let same = sym (sight-kept g text longer k.position e waits) in (
-      omega (arith, ap length e.seats, length-append text.seats e.more),
-      subst (λ s. IsAhead Byte s) same ahead,
-      subst (λ s. IsOpenAt (lines_state name) (began_before (waiting_of s.current) s) k) same h,
-    )
-waits-longer g text longer k End name e fresh waits ahead h = absurd (let c : true ≡ false = sym waits ∙ fresh in cc)
-
 -- The invariant is kept by a piece
 longer-at : (g : Given) (text longer : Text) (k : Configuration Unit Unit) (state : State) → Extends text longer → k.ended ≡ false → k.position ≤ length text.seats
     → LinesHoldAt g text k state → LinesHoldAt g longer k state
 longer-at g text longer k (Next name) e fresh p h =
     (h.0, subst (λ q. IsOpenAt (lines_state name) (shown g.bytes q) k) (sym (left-kept text longer k.position e p)) h.1)
-longer-at g text longer k (Retry name) e fresh p h = waits-longer g text longer k k.waiting name e fresh h.0 h.1 h.2
+longer-at g text longer k (Retry name) e fresh p h =
+    let (waits, seen) = waits-longer g text longer k.position k.ended k.waiting e fresh h.0 in
+    (waits, subst (λ s. IsAhead k.waiting s) (sym seen) h.1, subst (λ s. IsOpenAt (lines_state name) (began_before (waiting_of s.current) s) k) (sym seen) h.2)
 longer-at g text longer k Ok e fresh p h = h
 longer-at g text longer k Nok e fresh p h = h
 longer-at g text longer k (Error message) e fresh p h = h

@@ -7,17 +7,16 @@ use Rattle.markdown_base.specs.declared.event.Point.{Point}
 use Rattle.markdown_base.specs.declared.state.Name.{Name}
 use Rattle.markdown_base.specs.declared.state.State.{State}
 use Rattle.markdown_base.specs.declared.state.State.TheVariants.{Next, Retry, Ok, Nok, Error}
-use Rattle.markdown.specs.declared.waiting.Waits.{Waits}
-use Rattle.markdown.specs.declared.waiting.Waits.TheVariants.{Nothing, Byte, End}
+use Rattle.markdown.specs.declared.waiting.Waits.TheVariants.{Byte}
 use Rattle.markdown.specs.Text.{Given, Text, Piece, IsText, empty_text, followed_by}
 use Rattle.markdown.specs.Configuration.{Configuration, Choice, Step, start_configuration}
-use Rattle.markdown.specs.Sight.{Sight, sight, sight_of}
+use Rattle.markdown.specs.Sight.{Sight, sight}
 use Rattle.markdown.specs.Calls.{consumed}
 use Rattle.markdown.specs.Reading.{fed, settled_at}
 use Rattle.markdown.specs.Lawful.{unlinked, IsAsFar, ConsumesOnce, OnlyAdds, EndsWhenRead, KeepsInvariant, CostPays}
 use Rattle.mdconstructs.specs.Tables.{Waiting, at_end, at_line_ending, at_other, waiting_of, counted}
 use Rattle.mdconstructs.specs.Holding.{began_before, IsWaiting, IsAhead, IsBare, twice_left}
-use Rattle.mdconstructs.specs.HoldingLaws.{IsSeen, is-seen, fed-position, Extends, extends, sight-kept}
+use Rattle.mdconstructs.specs.HoldingLaws.{IsSeen, is-seen, fed-position, Extends, extends, waits-longer}
 use Rattle.mdconstructs.specs.DataReading.{DataState, data_state, data_table, IsDataOpen, IsDataOpenAt, DataHoldAt, data_call_cost, data_cost_at, data_cost}
 use Rattle.mdconstructs.specs.DataReadingLaws.{data-once, data-adds, data-kept, data-fed, data-longer, data-paid, data-fed-cost}
 use Rattle.mdconstructs.specs.Peek.{PeekState, text_start, text_before, peek_state, peek_table, peek_step_at, peek_step, look_from, IsLooking, IsLookAt, IsPeekAt, PeekHoldAt, peek_holds, look_cost, peek_cost_at, peek_cost, peek_reserve, peek_starts}
@@ -193,13 +192,6 @@ by-feeding g text k choices name is h =
     ]
 
 -- The invariant is kept by a piece
-waits-longer : (g : Given) (text longer : Text) (k : Configuration Unit Unit) (w : Waits) → Extends text longer → k.ended ≡ false → IsWaiting w k.position k.ended text
-    → IsAhead w (sight_of g text k.position w) → IsWaiting w k.position k.ended longer × IsAhead w (sight_of g longer k.position w)
-waits-longer g text longer k Nothing e fresh waits ahead = absurd waits
-waits-longer g text longer k Byte e fresh waits ahead =
-    (omega (arith, ap length e.seats, length-append text.seats e.more), subst (λ s. IsAhead Byte s) (sym (sight-kept g text longer k.position e waits)) ahead)
-waits-longer g text longer k End e fresh waits ahead = absurd (let c : true ≡ false = sym waits ∙ fresh in cc)
-
 longer-at : (g : Given) (text longer : Text) (k : Configuration Unit Unit) (choices : List Choice) (state : State) → Extends text longer → k.ended ≡ false → k.position ≤ length text.seats
     → PeekHoldAt g text k choices state → PeekHoldAt g longer k choices state
 longer-at g text longer k choices (Next name) e fresh p h =
@@ -211,8 +203,8 @@ longer-at g text longer k choices (Retry name) e fresh p h =
     elim (phase (data_state name) (peek_state name) _ k choices h.2) [
       | in_data none o ↦ data-on g longer k choices (Retry name) none (data-longer g text longer k (Retry name) e fresh p (h.0, h.1, o))
       | in_look is o ↦
-          let w = waits-longer g text longer k k.waiting e fresh h.0 h.1 in
-          (w.0, w.1, look-holds (data_state name) (peek_state name) _ k choices is o)
+          let (waits, seen) = waits-longer g text longer k.position k.ended k.waiting e fresh h.0 in
+          (waits, subst (λ s. IsAhead k.waiting s) (sym seen) h.1, look-holds (data_state name) (peek_state name) _ k choices is o)
     ]
 longer-at g text longer k choices Ok e fresh p h = h
 longer-at g text longer k choices Nok e fresh p h = h

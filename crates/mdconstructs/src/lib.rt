@@ -1,7 +1,9 @@
 //! Machines of states for the tokenizer, each proved lawful.
 #![tactic(auto)]
 
+pub mod back;
 mod data;
 pub mod deep;
 pub mod lines;
 pub mod peek;
+pub mod save;

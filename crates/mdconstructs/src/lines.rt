@@ -10,6 +10,8 @@ use markdown_base::event;
 use std::alloc::{AllocError, Global};
 
 /// Reads each line as a paragraph of data.
+///
+/// It takes at most 2 n + 1 calls for n virtual bytes.
 #[derive(Drop)]
 pub struct Lines {}
 

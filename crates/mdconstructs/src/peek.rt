@@ -11,6 +11,8 @@ use markdown::tokenizer::Tokenizer;
 use std::alloc::{AllocError, Global};
 
 /// Looks at the whole text, and then reads each line as data.
+///
+/// It takes at most 3 n + 3 calls for n virtual bytes.
 #[derive(Drop)]
 pub struct Peek {}
 

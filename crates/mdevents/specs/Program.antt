@@ -16,10 +16,12 @@ use Rattle.markdown.specs.Engine.{given_by, StartEndsIn}
 use Rattle.markdown.specs.Cuts.{cuts_every}
 use Rattle.mdevents.specs.declared.words.Choice.{Choice}
 use Rattle.mdevents.specs.declared.words.Which.{Which}
-use Rattle.mdevents.specs.declared.words.Which.TheVariants.{Lines, Peek, Deep}
+use Rattle.mdevents.specs.declared.words.Which.TheVariants.{Lines, Peek, Deep, Back, Save}
 use Rattle.mdconstructs.specs.Lines.{lines_step}
 use Rattle.mdconstructs.specs.Peek.{peek_step}
 use Rattle.mdconstructs.specs.Deep.{deep_step}
+use Rattle.mdconstructs.specs.Back.{back_step}
+use Rattle.mdconstructs.specs.Save.{save_step}
 use Rattle.mdevents.specs.Printed.{printed_events}
 
 -- a document, read with the default options
@@ -46,12 +48,16 @@ abbrev pub AreEventsOf : Which → List ℕ → List Event → Type 0
 AreEventsOf Lines = Gives lines_step FlowStart
 AreEventsOf Peek = Gives peek_step TextStart
 AreEventsOf Deep = Gives deep_step StringStart
+AreEventsOf Back = Gives back_step TextStart
+AreEventsOf Save = Gives save_step TextStart
 
 -- a document is refused where its machine refuses it
 abbrev pub IsRefusedBy : Which → List ℕ → Message → Type 0
 IsRefusedBy Lines = Refuses lines_step FlowStart
 IsRefusedBy Peek = Refuses peek_step TextStart
 IsRefusedBy Deep = Refuses deep_step StringStart
+IsRefusedBy Back = Refuses back_step TextStart
+IsRefusedBy Save = Refuses save_step TextStart
 
 -- where a document is cut: nowhere, or at every n-th of its virtual bytes
 abbrev pub cut_places : Choice → List ℕ → List (ℕ × ℕ)

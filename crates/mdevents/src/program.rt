@@ -18,9 +18,11 @@ use markdown::state::{Machine, Name};
 use markdown::tokenizer::{Fault, cuts_every, run};
 use markdown_base::configuration::ParseOptions;
 use markdown_base::event::Event;
+use mdconstructs::back::Back;
 use mdconstructs::deep::Deep;
 use mdconstructs::lines::Lines;
 use mdconstructs::peek::Peek;
+use mdconstructs::save::Save;
 use std::alloc::{AllocError, Global};
 use std::io::{Read, Write};
 
@@ -61,6 +63,8 @@ fn events_of(alloc: Global, bytes: &[u8], choice: &Choice) -> Result<Vec<Event>,
         Which::Lines => read_by(alloc, &Lines {}, Name::FlowStart, bytes, cuts),
         Which::Peek => read_by(alloc, &Peek {}, Name::TextStart, bytes, cuts),
         Which::Deep => read_by(alloc, &Deep {}, Name::StringStart, bytes, cuts),
+        Which::Back => read_by(alloc, &Back {}, Name::TextStart, bytes, cuts),
+        Which::Save => read_by(alloc, &Save {}, Name::TextStart, bytes, cuts),
     }
 }
 
@@ -128,6 +132,13 @@ mod tests {
 
     const ONE_DATA: &str = "enter Data 1:1 (0+0)\nexit Data 1:4 (3+0)\n";
 
+    const SHORT_DATA: &str = "enter Data 1:1 (0+0)\nexit Data 1:3 (2+0)\n";
+
+    const FIRST_AND_REST: &str =
+        "enter Data 1:1 (0+0)\nexit Data 2:1 (2+0)\nenter Data 2:1 (2+0)\nexit Data 3:2 (5+0)\n";
+
+    const SECOND_LINE: &str = "enter Data 2:1 (2+0)\nexit Data 2:4 (5+0)\n";
+
     #[test]
     fn writes_the_events(rt: HostRuntime) -> Result<(), Fail> {
         for (document, cut, machine, want) in [
@@ -143,6 +154,11 @@ mod tests {
             ("", None, Which::Peek, ""),
             ("abc", None, Which::Deep, ONE_DATA),
             ("abc", Some(1), Which::Deep, ONE_DATA),
+            ("ab", None, Which::Deep, SHORT_DATA),
+            ("a\nb\nc", None, Which::Back, FIRST_AND_REST),
+            ("a\nb\nc", Some(1), Which::Back, FIRST_AND_REST),
+            ("a\n> b", None, Which::Save, SECOND_LINE),
+            ("a\n", None, Which::Save, ""),
         ] {
             let mut reader = document.as_bytes();
             let mut written = Vec::new(rt.alloc());

@@ -13,6 +13,7 @@ use markdown_base::event::{Event, Point};
 use mdconstructs::deep::Deep;
 use mdconstructs::lines::Lines;
 use mdconstructs::peek::Peek;
+use mdconstructs::save::Save;
 use std::alloc::{AllocError, Global};
 use std::test::Fail;
 
@@ -233,5 +234,46 @@ fn attempts_go_back_one_by_one(rt: HostRuntime) -> Result<(), Fail> {
         text.as_str(),
         "enter Data 1:1 (0+0)\nexit Data 1:4 (3+0)\n"
     );
+    Ok(())
+}
+
+#[test]
+fn attempts_at_two_bytes(rt: HostRuntime) -> Result<(), Fail> {
+    let options = ParseOptions::default();
+    let parse_state = ParseState {
+        bytes: b"ab",
+        options: &options,
+        machine: &Deep {},
+    };
+    let alloc = rt.alloc();
+    let seen = read_in_three(
+        alloc,
+        &parse_state,
+        Name::StringStart,
+        (1, 0),
+        (1, 0),
+        (2, 0),
+    )?;
+    assert_eq!(rt; seen.all, 9);
+    let text = printed(rt.alloc(), seen.events.as_slice())?;
+    assert_eq!(rt;
+        text.as_str(),
+        "enter Data 1:1 (0+0)\nexit Data 1:3 (2+0)\n"
+    );
+    Ok(())
+}
+
+#[test]
+fn place_is_saved_at_the_end(rt: HostRuntime) -> Result<(), Fail> {
+    let options = ParseOptions::default();
+    let parse_state = ParseState {
+        bytes: b"a\n",
+        options: &options,
+        machine: &Save {},
+    };
+    let alloc = rt.alloc();
+    let seen = read_in_three(alloc, &parse_state, Name::TextStart, (1, 0), (1, 0), (2, 0))?;
+    assert!(rt; seen.events.is_empty());
+    assert_eq!(rt; seen.all, 4);
     Ok(())
 }

@@ -16,6 +16,10 @@ pub enum Which {
     Peek,
     /// `deep`: tries something at each byte, which fails, and then reads each line as data.
     Deep,
+    /// `back`: reads the first line as data, looks over the next line, goes back, and reads the rest as one more data.
+    Back,
+    /// `save`: passes the first line, tries something after it, which fails, and reads each line of the rest as data.
+    Save,
 }
 
 /// What the words choose.
@@ -71,6 +75,10 @@ fn read_which(name: &str) -> Option<Which>
         Some(Which::Peek)
     } else if name == "deep" {
         Some(Which::Deep)
+    } else if name == "back" {
+        Some(Which::Back)
+    } else if name == "save" {
+        Some(Which::Save)
     } else {
         None
     }
@@ -117,6 +125,8 @@ mod tests {
             ("--machine peek", Some((None, Which::Peek))),
             ("--machine deep --cut 3", Some((Some(3), Which::Deep))),
             ("--cut 3 --machine deep", Some((Some(3), Which::Deep))),
+            ("--machine back", Some((None, Which::Back))),
+            ("--machine save", Some((None, Which::Save))),
             ("--cut 18446744073709551616", None),
             ("--cut 0", None),
             ("--cut +1", None),
@@ -127,7 +137,7 @@ mod tests {
             ("--machine", None),
             ("--machine Lines", None),
             ("--machine lines --machine lines", None),
-            ("--machine back", None),
+            ("--machine forth", None),
         ] {
             let mut words = Vec::new(rt.alloc());
             for word in text.split_whitespace() {

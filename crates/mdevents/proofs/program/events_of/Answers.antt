@@ -12,8 +12,20 @@ returns-in-Peek-clause-events c = let e = c.in-Peek.is in rw e c.read_by-in-Peek
 pub returns-in-Peek-clause-message : goal.returns-in-Peek-clause-message
 returns-in-Peek-clause-message c = let e = c.in-Peek.is in rw e c.read_by-in-Peek.ensures.message
 
+pub returns-in-Deep-clause-events : goal.returns-in-Deep-clause-events
+returns-in-Deep-clause-events c = let e = c.in-Deep.is in rw e c.read_by-in-Deep.ensures.events
+
+pub returns-in-Deep-clause-message : goal.returns-in-Deep-clause-message
+returns-in-Deep-clause-message c = let e = c.in-Deep.is in rw e c.read_by-in-Deep.ensures.message
+
+pub returns-in-Back-clause-events : goal.returns-in-Back-clause-events
+returns-in-Back-clause-events c = let e = c.in-Back.is in rw e c.read_by-in-Back.ensures.events
+
+pub returns-in-Back-clause-message : goal.returns-in-Back-clause-message
+returns-in-Back-clause-message c = let e = c.in-Back.is in rw e c.read_by-in-Back.ensures.message
+
 pub returns-clause-events : goal.returns-clause-events
-returns-clause-events c = let e = c.in-Deep.is in rw e c.read_by-in-Deep.ensures.events
+returns-clause-events c = let e = c.in-Save.is in rw e c.read_by-in-Save.ensures.events
 
 pub returns-clause-message : goal.returns-clause-message
-returns-clause-message c = let e = c.in-Deep.is in rw e c.read_by-in-Deep.ensures.message
+returns-clause-message c = let e = c.in-Save.is in rw e c.read_by-in-Save.ensures.message

@@ -1,17 +1,11 @@
 use Rattle.std.proofs.Common.{◌≡◌, ◌≢◌, ◌==◌, false, None, arith, refl}
 use Rattle.std.proofs.lemmas.Bool.Decides.{nat_tests}
 use Rattle.markdown_base.specs.declared.state.Name.{Name}
-use Rattle.mdconstructs.specs.DataReading.{data_state}
 use Rattle.mdconstructs.specs.Peek.{peek_state}
+use Rattle.mdconstructs.proofs.DataNames.{no-data}
 use Rattle.mdconstructs.proofs.peek.PeekMachine.call.Goals as goal
 
 -- any other name is no state of the machine
-no-data : (name : Name) → name.number ≢ 36 → name.number ≢ 37 → data_state name ≡ None
-no-data name first second =
-    let not_first : (name.number == 36) ≡ false = grind (arith, nat_tests) in
-    let not_second : (name.number == 37) ≡ false = grind (arith, nat_tests) in
-    rw (not_first, not_second) refl
-
 no-look : (name : Name) → name.number ≢ 300 → name.number ≢ 301 → peek_state name ≡ None
 no-look name first second =
     let not_first : (name.number == 300) ≡ false = grind (arith, nat_tests) in
