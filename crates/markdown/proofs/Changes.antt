@@ -1,7 +1,8 @@
 -- Each call that changes a text, the events or the choices of a tokenizer keeps what holds of its fields.
-use Rattle.std.proofs.Common.{◌≡◌, ℕ, zero, suc, ◌-◌, ◌≤◌, ◌<◌, List, [], ◌∷◌, ◌++◌, Bool, true, false, cond, Option, Some, None, length, refl, sym, ap, ◌∙◌, subst, arith, length-append, take, length-take}
+use Rattle.std.proofs.Common.{◌≡◌, ℕ, zero, suc, ◌-◌, ◌≤◌, ◌⊎◌, inl, inr, ◌<◌, List, [], ◌∷◌, ◌++◌, Bool, true, false, cond, Option, Some, None, length, refl, sym, ap, ◌∙◌, subst, arith, length-append, take, length-take}
 use Rattle.std.specs.Prelude.{map, reverse, IfSome, All, unwrap_or}
 use Rattle.std.specs.List.{last_or}
+use Rattle.std.specs.Global.{Vec}
 use Rattle.std.proofs.lemmas.List.{take-append-le, take-take, reverse-append, take_all}
 use Rattle.markdown_base.specs.declared.event.Point.{Point}
 use Rattle.markdown_base.specs.declared.event.Event.{Event}
@@ -23,19 +24,21 @@ use Rattle.markdown.specs.declared.tokenizer.Tokenizer.TheInside.{Inside}
 use Rattle.markdown.specs.Text.{Given, Text, Piece, pushed, passed, IsText, CanFollow, FitsAfter, followed_by, followed_by_all, empty_text}
 use Rattle.markdown.specs.Configuration.{Seen, Configuration, Choice}
 use Rattle.markdown.specs.Calls.{CanExit}
-use Rattle.markdown.specs.Work.{extended, settled, IsSettled, answer_of}
-use Rattle.markdown.specs.Reading.{settled_at, restored}
-use Rattle.markdown.specs.View.{TAB, seen, text_of, end_point, seats_between, choice_of, saved_of, saved_for, goal_of, IsReadTo, IsWaiting, IsProgress, AreNested, events_of, stack_of, IsSound}
-use Rattle.markdown.specs.Cursor.{IsSeatAt}
-use Rattle.markdown.proofs.Standing.{shown-shown}
-use Rattle.markdown.proofs.Cursors.{upto-upto, upto-same, same-upto, range-empty, range-same, same-self, end-upto}
-use Rattle.markdown.proofs.Points.{point_at-point}
+use Rattle.markdown.specs.Work.{extended}
+use Rattle.markdown.specs.Gaps.{resumed, IsSkip}
+use Rattle.markdown.specs.View.{TAB, seen, text_of, end_point, seats_between, position_from, standing, reach, can_feed, choice_of, saved_of, IsReadTo, ByteWaits, IsWaiting, IsProgress, AreNested, events_of, stack_of, IsSound}
+use Rattle.markdown.specs.Cursor.{Every, IsPlace, IsSeatAt, is_after_pair}
+use Rattle.markdown.proofs.Standing.{shown-shown, place-of-point}
+use Rattle.markdown.proofs.Orders.{after-before}
+use Rattle.markdown.proofs.GapLaws.{same-not_before, other-before}
+use Rattle.markdown.proofs.Cursors.{upto-order, upto-upto, same-upto}
+use Rattle.markdown.proofs.Points.{point_at-point, point_at-is}
 use Rattle.markdown.specs.Made.{IsMade}
-use Rattle.markdown.proofs.MadeLemmas.{made-new, made-enter-at, made-exit-at, made-linked, made-kept, upto-self as upto-self-point}
+use Rattle.markdown.proofs.MadeLemmas.{made-new, made-bound, made-enter-at, made-exit-at, made-linked, made-kept, upto-self as upto-self-point}
 use Rattle.markdown_base.specs.Events.{unlinked, HasFrontUpToLinks}
 use Rattle.markdown.specs.Links.{linked_to, updated_at, with_next, with_previous}
 use Rattle.std.proofs.lemmas.List.{length-map}
-use Rattle.markdown.proofs.Fields.{four, text_between, next-more, read-extended, extended-seats, nested-map, nested-wider, nested-front}
+use Rattle.markdown.proofs.Fields.{four, text_between, next-more, kept-empty, passed-seats, passed-position, passed-skips, read-passed, passed-shown, passed-resumed, still-before, read-extended, extended-seats, extended-skips, extended-more, made-more, can-feed-more, nested-map, nested-wider}
 use Rattle.markdown.specs.Sight.{sight}
 use Rattle.markdown.proofs.Steps.{end-place-in, here-is, left-is}
 
@@ -69,6 +72,21 @@ text-more g text piece h fits = record {
     starts-same : (p : Piece) → IsPointOf g.tab g.bytes text.start → IsPointOf g.tab g.bytes (followed_by g text p).start
     starts-same p s = subst (IsPointOf g.tab g.bytes) (sym (start-same p)) s
 
+-- what choices saved, as a list of choices, with the same positions
+position-mark : (f g : Point → ℕ) (stack : List Name) (kind : AttemptKind) (ok nok : Goal) (P : Progress → Type 0) (events open_len : ℕ) (saved : Option Progress)
+    → ((p : Progress) → P p → f p.left ≡ g p.left) → IfSome saved (λ p. (p.events_len ≤ events) × (p.stack_len ≤ open_len) × P p)
+    → choice_of f stack (record { kind = kind; ok = ok; nok = nok; saved = saved }) ≡ choice_of g stack (record { kind = kind; ok = ok; nok = nok; saved = saved })
+position-mark f g stack kind ok nok P events open_len None same h = refl
+position-mark f g stack kind ok nok P events open_len (Some p) same h = let e = same p h.2 in rw e refl
+
+same-positions : (f g : Point → ℕ) (stack : List Name) (P : Progress → Type 0) → ((p : Progress) → P p → f p.left ≡ g p.left) → (events open_len : ℕ) (marks : List Mark) → AreNested P events open_len marks
+    → map (choice_of f stack) marks ≡ map (choice_of g stack) marks
+same-positions f g stack P same events open_len [] h = refl
+same-positions f g stack P same events open_len (mark ∷ marks) h =
+    let first = position-mark f g stack mark.kind mark.ok mark.nok P events open_len mark.saved same h.0 in
+    let others = same-positions f g stack P same (events_of events mark.saved) (stack_of open_len mark.saved) marks h.1 in
+    ap (λ (c : Choice). c ∷ map (choice_of f stack) marks) first ∙ ap (λ (cs : List Choice). choice_of g stack mark ∷ cs) others
+
 module _ {M R D : Type 0} (t : Inside M R D) (sound : IsSound t) where
   abbrev bytes_in : List ℕ
   bytes_in = t.parse_state.now.bytes.now
@@ -76,32 +94,54 @@ module _ {M R D : Type 0} (t : Inside M R D) (sound : IsSound t) where
   abbrev end_in : Point
   end_in = end_point bytes_in t.end
 
+  abbrev skips_in : List Point
+  skips_in = t.skips.items
+
+  abbrev size_in : ℕ
+  size_in = length (seats_between bytes_in skips_in t.start end_in)
+
+  starts-upto : is_upto TAB bytes_in t.start end_in ≡ true
+  starts-upto = upto-upto TAB bytes_in t.start t.left end_in sound.read.from sound.read.upto
+
+  -- what waits in another text
+  waiting-on : (w : Waits) (skips : List Point) (text : Text) → (ByteWaits bytes_in skips_in t.left end_in t.current → ByteWaits bytes_in skips t.left text.end t.current)
+      → (t.closed ≡ true → size_in ≤ position_from bytes_in skips_in t.start t.left → length text.seats ≤ position_from bytes_in skips text.start t.left)
+      → IsWaiting bytes_in skips_in (text_of t) t.left t.current t.closed w → IsWaiting bytes_in skips text t.left t.current t.closed w
+  waiting-on Nothing skips text byte end h = h
+  waiting-on Byte skips text byte end h = byte h
+  waiting-on End skips text byte end h = record { none = h.none; closed_too = h.closed_too; all = end h.closed_too h.all }
+
   -- the text ends later
   module _ (to : ℕ × ℕ) (f u : Point) (found : point_at TAB bytes_in to ≡ Some u) (fits : FitsAfter (seen t).given (text_of t) (pushed f u)) (open_still : t.closed ≡ false) where
-    starts-upto : is_upto TAB bytes_in t.start end_in ≡ true
-    starts-upto = upto-upto TAB bytes_in t.start t.left end_in sound.read.from sound.read.upto
+    longer : (left : Point) (previous : Option ℕ) → IsReadTo bytes_in skips_in (text_of t) left previous → IsReadTo bytes_in skips_in (text_between bytes_in skips_in t.start u) left previous
+    longer left previous read = read-extended bytes_in skips_in t.start end_in f u left previous sound.skips read (end-place-in t sound) starts-upto fits.2 fits.3
 
-    longer : (left : Point) (previous : Option ℕ) → IsReadTo bytes_in (text_of t) left previous → IsReadTo bytes_in (text_between bytes_in t.start u) left previous
-    longer left previous read = read-extended bytes_in t.start end_in f u left previous read (end-place-in t sound) starts-upto fits.2 fits.3
+    more-bytes : size_in ≤ length (seats_between bytes_in skips_in t.start u)
+    more-bytes = extended-more bytes_in skips_in t.start end_in f u t.left t.previous sound.skips sound.read (end-place-in t sound) starts-upto fits.2 fits.3
 
-    still-before : (seat : Seat) (at : IsSeatAt TAB bytes_in t.left seat) (b : Bool) → stands_before seat.point end_in ≡ true → stands_before seat.point u ≡ b → stands_before seat.point u ≡ true
-    still-before seat at true h e = e
-    still-before seat at false h e =
-        let back = end-upto TAB bytes_in t.left seat sound.read.place at u e in
-        let on = upto-upto TAB bytes_in end_in f u (same-upto TAB bytes_in f end_in fits.2).1 fits.3 in
-        let here = upto-upto TAB bytes_in end_in u t.left on back in
-        let same = range-same TAB bytes_in t.start end_in t.start t.left (same-self TAB bytes_in t.start) (upto-same TAB bytes_in end_in t.left here sound.read.upto) in
-        let more = next-more bytes_in t.start end_in t.left t.previous sound.read seat at h in
-        absurd (omega (arith, ap length same))
+    later-skips : Every (IsSkip TAB bytes_in u) skips_in
+    later-skips = extended-skips bytes_in skips_in t.start end_in f u t.left t.previous sound.skips sound.read (end-place-in t sound) starts-upto fits.2 fits.3
 
-    waiting-longer : (w : Waits) → t.waits ≡ w → IsWaiting bytes_in (text_of t) t.left t.current t.closed w → IsWaiting bytes_in (text_between bytes_in t.start u) t.left t.current t.closed w
-    waiting-longer Nothing e h = h
-    waiting-longer Byte e h = record { seat = h.seat; at = h.at; before = still-before h.seat h.at (stands_before h.seat.point u) h.before refl; is = h.is }
-    waiting-longer End e h = absurd (let no : true ≡ false = sym h.closed_too ∙ open_still in cc)
+    later-end : is_upto TAB bytes_in end_in u ≡ true
+    later-end = upto-upto TAB bytes_in end_in f u (same-upto TAB bytes_in f end_in fits.2).1 fits.3
 
-    text-longer : followed_by (seen t).given (text_of t) (pushed f u) ≡ text_between bytes_in t.start u
+    still-waits : ByteWaits bytes_in skips_in t.left end_in t.current → ByteWaits bytes_in skips_in t.left u t.current
+    still-waits w = record { seat = w.seat; at = w.at; before = still-before bytes_in skips_in t.start end_in u t.left t.previous sound.skips sound.read w.seat w.at later-end w.before; is = w.is }
+
+    longer-saved : (p : Progress) → IsProgress bytes_in skips_in (text_of t) t.events.items t.stack.items t.closed p
+        → IsProgress bytes_in skips_in (text_between bytes_in skips_in t.start u) t.events.items t.stack.items t.closed p
+    longer-saved p h =
+        let position = position_from bytes_in skips_in t.start p.left in
+        record {
+          read = longer p.left p.previous h.read;
+          ended = h.ended;
+          made = made-more bytes_in skips_in t.start end_in p.left p.previous sound.skips h.read (take p.events_len t.events.items) (take p.stack_len t.stack.items)
+              (can_feed position size_in t.closed) (can_feed position (length (seats_between bytes_in skips_in t.start u)) t.closed) (can-feed-more position size_in (length (seats_between bytes_in skips_in t.start u)) t.closed more-bytes) h.made;
+        }
+
+    text-longer : followed_by (seen t).given (text_of t) (pushed f u) ≡ text_between bytes_in skips_in t.start u
     text-longer = ap (λ (seats : List Seat). record { start = t.start; seats = seats; end = u })
-        (sym (extended-seats bytes_in t.start end_in f u t.left t.previous sound.read (end-place-in t sound) starts-upto fits.2 fits.3))
+        (sym (extended-seats bytes_in skips_in t.start end_in f u t.left t.previous sound.skips sound.read (end-place-in t sound) starts-upto fits.2 fits.3))
 
     end-found : end_point bytes_in to ≡ u
     end-found = ap (λ (o : Option Point). unwrap_or o (point 1 1 0 0)) found
@@ -113,17 +153,170 @@ module _ {M R D : Type 0} (t : Inside M R D) (sound : IsSound t) where
           limit = sound.limit;
           end_at = rw e found;
           text = rw e (subst (IsText (seen t).given) text-longer (text-more (seen t).given (text_of t) (pushed f u) sound.text fits));
+          skips = rw e later-skips;
           read = rw e (longer t.left t.previous sound.read);
-          waiting = rw e (waiting-longer t.waits refl sound.waiting);
+          waiting = rw e (waiting-on t.waits skips_in (text_between bytes_in skips_in t.start u) still-waits (λ c all. absurd (let no : true ≡ false = sym c ∙ open_still in cc)) sound.waiting);
           ended = sound.ended;
           made = sound.made;
-          marks = rw e (nested-map (IsProgress bytes_in (text_of t) t.events.items t.stack.items t.closed) (IsProgress bytes_in (text_between bytes_in t.start u) t.events.items t.stack.items t.closed)
-              (length t.events.items) (length t.stack.items) (reverse t.marks.items)
-              (λ p a b h. record { read = longer p.left p.previous h.read; ended = h.ended; made = h.made }) sound.marks);
+          marks = rw e (nested-map (IsProgress bytes_in skips_in (text_of t) t.events.items t.stack.items t.closed)
+              (IsProgress bytes_in skips_in (text_between bytes_in skips_in t.start u) t.events.items t.stack.items t.closed)
+              (length t.events.items) (length t.stack.items) (reverse t.marks.items) (λ p a b h. longer-saved p h) sound.marks);
         }
 
-    pub extended-seen : seen (record t { end = to }) ≡ extended (seen t) (followed_by (seen t).given (text_of t) (pushed f u))
+    pub extended-seen : seen (record t { end = to }) ≡ extended (seen t) (followed_by (seen t).given (seen t).text (pushed f u))
     extended-seen = let e = end-found in let l = text-longer in rw (e, l) refl
+
+  -- a gap is passed, or none is there
+  module _ (q : Point) (fits : FitsAfter (seen t).given (text_of t) (passed q)) where
+    passed-place : IsPlace TAB bytes_in q
+    passed-place = place-of-point TAB bytes_in four q fits.0
+
+    -- what the test of the code tells
+    after-end : is_after_pair (shown bytes_in q) t.end ≡ stands_before end_in (shown bytes_in q)
+    after-end = let at = point_at-is TAB bytes_in t.end end_in sound.end_at in let i = at.index in let v = at.vs in rw (i, v) refl
+
+    pub passes-none : is_after_pair (shown bytes_in q) t.end ≡ false → denotes_same TAB bytes_in q end_in ≡ true
+    passes-none e = elim fits.1 [
+      | inl same ↦ same
+      | inr f ↦ elim (denotes_same TAB bytes_in q end_in) as (λ b. (denotes_same TAB bytes_in q end_in ≡ b) → b ≡ true) [
+        | true ↦ λ same. refl
+        | false ↦ λ other. absurd (let g : true ≡ false = sym (other-before TAB bytes_in four q end_in passed-place (end-place-in t sound) f.2 other) ∙ sym after-end ∙ e in cc)
+      ] refl
+    ]
+
+    -- a gap there is
+    pub record IsPassed : Type 0 where
+      pub other : denotes_same TAB bytes_in q end_in ≡ false
+      pub first : end_in.column ≡ 1
+      pub line : q.line ≡ end_in.line
+      pub before : stands_before end_in q ≡ true
+
+    same-not : is_after_pair (shown bytes_in q) t.end ≡ true → denotes_same TAB bytes_in q end_in ≡ true → ⊥
+    same-not e same = (let g : true ≡ false = sym e ∙ after-end ∙ same-not_before TAB bytes_in four q end_in passed-place (end-place-in t sound) same in cc)
+
+    is-other : is_after_pair (shown bytes_in q) t.end ≡ true → denotes_same TAB bytes_in q end_in ≡ false
+    is-other e = elim (denotes_same TAB bytes_in q end_in) as (λ b. (denotes_same TAB bytes_in q end_in ≡ b) → b ≡ false) [ true ↦ λ same. absurd (same-not e same) | false ↦ λ other. refl ] refl
+
+    pub passes : is_after_pair (shown bytes_in q) t.end ≡ true → IsPassed
+    passes e = elim fits.1 [
+      | inl same ↦ absurd (same-not e same)
+      | inr f ↦ record { other = is-other e; first = f.0; line = f.1; before = f.2 }
+    ]
+
+    pub passed-nothing : is_after_pair (shown bytes_in q) t.end ≡ false → seen t ≡ extended (seen t) (followed_by (seen t).given (seen t).text (passed q))
+    passed-nothing e = let same = passes-none e in rw same refl
+
+    module _ (is : IsPassed) where
+      abbrev added : List Point
+      added = skips_in ++ q ∷ []
+
+      abbrev text_added : Text
+      text_added = text_between bytes_in added t.start q
+
+      size-same : length text_added.seats ≡ size_in
+      size-same = ap length (passed-seats bytes_in skips_in t.start end_in q t.left t.previous sound.skips sound.read (end-place-in t sound) passed-place starts-upto is.first is.line is.before is.other)
+
+      position-same : (left : Point) (previous : Option ℕ) → IsReadTo bytes_in skips_in (text_of t) left previous → position_from bytes_in added t.start left ≡ position_from bytes_in skips_in t.start left
+      position-same left previous read = passed-position bytes_in skips_in t.start end_in q left previous sound.skips read (end-place-in t sound) passed-place starts-upto is.first is.line is.before is.other
+
+      pub text-passed : followed_by (seen t).given (text_of t) (passed q) ≡ text_added
+      text-passed =
+          let o = is.other in
+          let seats = passed-seats bytes_in skips_in t.start end_in q t.left t.previous sound.skips sound.read (end-place-in t sound) passed-place starts-upto is.first is.line is.before is.other in
+          rw o (ap (λ (xs : List Seat). record { start = t.start; seats = xs; end = q }) (sym seats))
+
+      passed-later : is_upto TAB bytes_in end_in q ≡ true
+      passed-later = upto-order TAB bytes_in end_in q (after-before end_in.index end_in.vs q.index q.vs is.before)
+
+      read-on : (left : Point) (previous : Option ℕ) → IsReadTo bytes_in skips_in (text_of t) left previous → IsReadTo bytes_in added text_added left previous
+      read-on left previous read = read-passed bytes_in skips_in t.start end_in q left previous sound.skips read (end-place-in t sound) passed-place starts-upto is.first is.line is.before is.other
+
+      shown-on : (left : Point) (previous : Option ℕ) → IsReadTo bytes_in skips_in (text_of t) left previous → stands_before (shown bytes_in (resumed added left)) (shown bytes_in (resumed skips_in left)) ≡ false
+      shown-on left previous read = passed-shown bytes_in skips_in t.start end_in q left previous sound.skips read (end-place-in t sound) passed-place starts-upto is.first is.line is.before is.other
+
+      byte-on : ByteWaits bytes_in skips_in t.left end_in t.current → ByteWaits bytes_in added t.left q t.current
+      byte-on w =
+          let more = next-more bytes_in skips_in t.start end_in t.left t.previous sound.skips sound.read w.seat w.at w.before in
+          let same = passed-resumed bytes_in skips_in t.start end_in q t.left t.previous sound.skips sound.read (end-place-in t sound) passed-place starts-upto is.first is.line is.before is.other more in
+          record {
+            seat = w.seat;
+            at = subst (λ (p : Point). IsSeatAt TAB bytes_in p w.seat) (sym same) w.at;
+            before = still-before bytes_in skips_in t.start end_in q t.left t.previous sound.skips sound.read w.seat w.at passed-later w.before;
+            is = w.is;
+          }
+
+      waits-on : IsWaiting bytes_in added text_added t.left t.current t.closed t.waits
+      waits-on =
+          let p = position-same t.left t.previous sound.read in
+          waiting-on t.waits added text_added byte-on (λ c all. omega (arith, all, size-same, p)) sound.waiting
+
+      module _ (events : List Event) (stack : List Name) (left : Point) (previous : Option ℕ) (read : IsReadTo bytes_in skips_in (text_of t) left previous) where
+        resumed-on : IsMade bytes_in events stack (shown bytes_in left) (shown bytes_in (resumed skips_in left)) → IsMade bytes_in events stack (shown bytes_in left) (shown bytes_in (resumed added left))
+        resumed-on m = made-bound bytes_in events stack (shown bytes_in left) (shown bytes_in (resumed skips_in left)) m (shown bytes_in (resumed added left)) (shown-on left previous read) (shown-shown TAB bytes_in (resumed added left))
+
+        standing-on : (w : Waits) → IsMade bytes_in events stack (shown bytes_in left) (shown bytes_in (standing skips_in left w)) → IsMade bytes_in events stack (shown bytes_in left) (shown bytes_in (standing added left w))
+        standing-on Nothing m = m
+        standing-on Byte m = resumed-on m
+        standing-on End m = resumed-on m
+
+        reach-on : (more : Bool) → IsMade bytes_in events stack (shown bytes_in left) (shown bytes_in (reach skips_in left more)) → IsMade bytes_in events stack (shown bytes_in left) (shown bytes_in (reach added left more))
+        reach-on true m = resumed-on m
+        reach-on false m = m
+
+      saved-on : (p : Progress) → IsProgress bytes_in skips_in (text_of t) t.events.items t.stack.items t.closed p → IsProgress bytes_in added text_added t.events.items t.stack.items t.closed p
+      saved-on p h =
+          let position = position-same p.left p.previous h.read in
+          let size = size-same in
+          record {
+            read = read-on p.left p.previous h.read;
+            ended = h.ended;
+            made = rw (position, size) (reach-on (take p.events_len t.events.items) (take p.stack_len t.stack.items) p.left p.previous h.read (can_feed (position_from bytes_in skips_in t.start p.left) size_in t.closed) h.made);
+          }
+
+      passed-end : end_point bytes_in (q.index, q.vs) ≡ q
+      passed-end = ap (λ (o : Option Point). unwrap_or o (point 1 1 0 0)) (point_at-point TAB bytes_in four q fits.0)
+
+      module _ (list : List Point) (put : list ≡ added) where
+        pub added-end_at : point_at TAB bytes_in (q.index, q.vs) ≡ Some (end_point bytes_in (q.index, q.vs))
+        added-end_at = let e = passed-end in rw e (point_at-point TAB bytes_in four q fits.0)
+
+        pub added-text_is : IsText (seen t).given (text_between bytes_in list t.start (end_point bytes_in (q.index, q.vs)))
+        added-text_is = let e = passed-end in rw (put, e) (subst (IsText (seen t).given) text-passed (text-more (seen t).given (text_of t) (passed q) sound.text fits))
+
+        pub added-skips_are : Every (IsSkip TAB bytes_in (end_point bytes_in (q.index, q.vs))) list
+        added-skips_are =
+            let e = passed-end in rw (put, e) (passed-skips bytes_in skips_in t.start end_in q t.left t.previous sound.skips sound.read (end-place-in t sound) passed-place starts-upto is.first is.line is.before is.other)
+
+        pub added-read_to : IsReadTo bytes_in list (text_between bytes_in list t.start (end_point bytes_in (q.index, q.vs))) t.left t.previous
+        added-read_to = let e = passed-end in rw (put, e) (read-on t.left t.previous sound.read)
+
+        pub added-waiting : IsWaiting bytes_in list (text_between bytes_in list t.start (end_point bytes_in (q.index, q.vs))) t.left t.current t.closed t.waits
+        added-waiting = let e = passed-end in rw (put, e) waits-on
+
+        pub added-made : IsMade bytes_in t.events.items t.stack.items (shown bytes_in t.left) (shown bytes_in (standing list t.left t.waits))
+        added-made = rw put (standing-on t.events.items t.stack.items t.left t.previous sound.read t.waits sound.made)
+
+        pub added-marks : AreNested (IsProgress bytes_in list (text_between bytes_in list t.start (end_point bytes_in (q.index, q.vs))) t.events.items t.stack.items t.closed) (length t.events.items) (length t.stack.items) (reverse t.marks.items)
+        added-marks =
+            let e = passed-end in
+            rw (put, e) (nested-map (IsProgress bytes_in skips_in (text_of t) t.events.items t.stack.items t.closed) (IsProgress bytes_in added text_added t.events.items t.stack.items t.closed)
+            (length t.events.items) (length t.stack.items) (reverse t.marks.items) (λ p a b h. saved-on p h) sound.marks)
+
+        added-text_seen : text_between bytes_in list t.start (end_point bytes_in (q.index, q.vs)) ≡ followed_by (seen t).given (text_of t) (passed q)
+        added-text_seen = let e = passed-end in rw (put, e) (sym text-passed)
+
+        added-position : position_from bytes_in list t.start t.left ≡ position_from bytes_in skips_in t.start t.left
+        added-position = rw put (position-same t.left t.previous sound.read)
+
+        added-choices : map (choice_of (position_from bytes_in list t.start) t.stack.items) (reverse t.marks.items) ≡ map (choice_of (position_from bytes_in skips_in t.start) t.stack.items) (reverse t.marks.items)
+        added-choices =
+            rw put (same-positions (position_from bytes_in added t.start) (position_from bytes_in skips_in t.start) t.stack.items (IsProgress bytes_in skips_in (text_of t) t.events.items t.stack.items t.closed)
+            (λ p h. position-same p.left p.previous h.read) (length t.events.items) (length t.stack.items) (reverse t.marks.items) sound.marks)
+
+      pub added-seen : (skips : Vec Point) (put : skips.items ≡ added) → seen (record t { skips = skips; end = (q.index, q.vs) }) ≡ extended (seen t) (followed_by (seen t).given (seen t).text (passed q))
+      added-seen skips put =
+          let text = added-text_seen skips.items put in let position = added-position skips.items put in let choices = added-choices skips.items put in
+          rw (text, position, choices) refl
 
 pub same-some : {A : Type 0} {x y : A} → Some x ≡ Some y → x ≡ y
 same-some e = cc
@@ -132,11 +325,11 @@ abbrev pub ExtendedAt : {M R D : Type 0} → Inside M R D → (ℕ × ℕ) → P
 ExtendedAt t to f u = seen (record t { end = to }) ≡ extended (seen t) (followed_by (seen t).given (seen t).text (pushed f u))
 
 -- what choices saved, as a list of choices, with another stack that has the same front
-choice-mark : (bytes : List ℕ) (start : Point) (a b : List Name) (stack : ℕ) (kind : AttemptKind) (ok nok : Goal) (P : Progress → Type 0) (events : ℕ) (saved : Option Progress)
+choice-mark : (position : Point → ℕ) (a b : List Name) (stack : ℕ) (kind : AttemptKind) (ok nok : Goal) (P : Progress → Type 0) (events : ℕ) (saved : Option Progress)
     → ((n : ℕ) → n ≤ stack → take n a ≡ take n b) → IfSome saved (λ p. (p.events_len ≤ events) × (p.stack_len ≤ stack) × P p)
-    → choice_of bytes start a (record { kind = kind; ok = ok; nok = nok; saved = saved }) ≡ choice_of bytes start b (record { kind = kind; ok = ok; nok = nok; saved = saved })
-choice-mark bytes start a b stack kind ok nok P events None same h = refl
-choice-mark bytes start a b stack kind ok nok P events (Some p) same h = let e = same p.stack_len h.1 in rw e refl
+    → choice_of position a (record { kind = kind; ok = ok; nok = nok; saved = saved }) ≡ choice_of position b (record { kind = kind; ok = ok; nok = nok; saved = saved })
+choice-mark position a b stack kind ok nok P events None same h = refl
+choice-mark position a b stack kind ok nok P events (Some p) same h = let e = same p.stack_len h.1 in rw e refl
 
 narrower : (a b : List Name) (stack : ℕ) (P : Progress → Type 0) (events : ℕ) (saved : Option Progress)
     → ((n : ℕ) → n ≤ stack → take n a ≡ take n b) → IfSome saved (λ p. (p.events_len ≤ events) × (p.stack_len ≤ stack) × P p)
@@ -144,25 +337,33 @@ narrower : (a b : List Name) (stack : ℕ) (P : Progress → Type 0) (events : �
 narrower a b stack P events None same h n le = same n le
 narrower a b stack P events (Some p) same h n le = same n (omega (arith, h.1))
 
-pub same-choices : (bytes : List ℕ) (start : Point) (a b : List Name) (P : Progress → Type 0) (events stack : ℕ) (marks : List Mark)
+pub same-choices : (position : Point → ℕ) (a b : List Name) (P : Progress → Type 0) (events stack : ℕ) (marks : List Mark)
     → ((n : ℕ) → n ≤ stack → take n a ≡ take n b) → AreNested P events stack marks
-    → map (choice_of bytes start a) marks ≡ map (choice_of bytes start b) marks
-same-choices bytes start a b P events stack [] same h = refl
-same-choices bytes start a b P events stack (mark ∷ marks) same h =
-    let first = choice-mark bytes start a b stack mark.kind mark.ok mark.nok P events mark.saved same h.0 in
-    let others = same-choices bytes start a b P (events_of events mark.saved) (stack_of stack mark.saved) marks (narrower a b stack P events mark.saved same h.0) h.1 in
-    ap (λ (c : Choice). c ∷ map (choice_of bytes start a) marks) first ∙ ap (λ (cs : List Choice). choice_of bytes start b mark ∷ cs) others
+    → map (choice_of position a) marks ≡ map (choice_of position b) marks
+same-choices position a b P events stack [] same h = refl
+same-choices position a b P events stack (mark ∷ marks) same h =
+    let first = choice-mark position a b stack mark.kind mark.ok mark.nok P events mark.saved same h.0 in
+    let others = same-choices position a b P (events_of events mark.saved) (stack_of stack mark.saved) marks (narrower a b stack P events mark.saved same h.0) h.1 in
+    ap (λ (c : Choice). c ∷ map (choice_of position a) marks) first ∙ ap (λ (cs : List Choice). choice_of position b mark ∷ cs) others
+
+-- the code's place, from its list of gaps
+pub entered-here : {M R D : Type 0} (t : Inside M R D) (slice : List Point) (place here : Point) → slice ≡ t.skips.items → place ≡ standing slice t.left t.waits
+    → here ≡ shown t.parse_state.now.bytes.now place → here ≡ shown t.parse_state.now.bytes.now (standing t.skips.items t.left t.waits)
+entered-here t slice place here e f g = g ∙ ap (shown t.parse_state.now.bytes.now) (f ∙ ap (λ (skips : List Point). standing skips t.left t.waits) e)
 
 module _ {M R D : Type 0} (t : Inside M R D) (sound : IsSound t) where
   -- a span begins
-  module _ (name : Name) (link : Option Link) (here : Point) (is : here ≡ shown t.parse_state.now.bytes.now t.left) (events : List Event) (stack : List Name)
+  module _ (name : Name) (link : Option Link) (here : Point) (is : here ≡ shown t.parse_state.now.bytes.now (standing t.skips.items t.left t.waits)) (events : List Event) (stack : List Name)
       (put : events ≡ t.events.items ++ record { kind = Enter; name = name; point = here; link = link } ∷ []) (top : stack ≡ t.stack.items ++ name ∷ []) where
     abbrev left_in : Point
     left_in = shown t.parse_state.now.bytes.now t.left
 
-    pub entered-made : IsMade t.parse_state.now.bytes.now events stack left_in left_in
+    abbrev bound_in : Point
+    bound_in = shown t.parse_state.now.bytes.now (standing t.skips.items t.left t.waits)
+
+    pub entered-made : IsMade t.parse_state.now.bytes.now events stack left_in bound_in
     entered-made =
-        rw (put, top, is) (made-enter-at t.parse_state.now.bytes.now t.events.items t.stack.items left_in left_in sound.made name link)
+        rw (put, top, is) (made-enter-at t.parse_state.now.bytes.now t.events.items t.stack.items left_in bound_in sound.made name link)
 
     entered-front : (n : ℕ) → n ≤ length t.stack.items → take n stack ≡ take n t.stack.items
     entered-front n le = rw top (take-append-le n t.stack.items (name ∷ []) le)
@@ -170,10 +371,10 @@ module _ {M R D : Type 0} (t : Inside M R D) (sound : IsSound t) where
     entered-events : (n : ℕ) → n ≤ length t.events.items → take n events ≡ take n t.events.items
     entered-events n le = rw put (take-append-le n t.events.items (record { kind = Enter; name = name; point = here; link = link } ∷ []) le)
 
-    pub entered-marks : AreNested (IsProgress t.parse_state.now.bytes.now (text_of t) events stack t.closed) (length events) (length stack) (reverse t.marks.items)
+    pub entered-marks : AreNested (IsProgress t.parse_state.now.bytes.now t.skips.items (text_of t) events stack t.closed) (length events) (length stack) (reverse t.marks.items)
     entered-marks =
-        let P = IsProgress t.parse_state.now.bytes.now (text_of t) t.events.items t.stack.items t.closed in
-        let Q = IsProgress t.parse_state.now.bytes.now (text_of t) events stack t.closed in
+        let P = IsProgress t.parse_state.now.bytes.now t.skips.items (text_of t) t.events.items t.stack.items t.closed in
+        let Q = IsProgress t.parse_state.now.bytes.now t.skips.items (text_of t) events stack t.closed in
         nested-wider Q (length t.events.items) (length t.stack.items) (length events) (length stack) (reverse t.marks.items)
         (omega (arith, ap length put, length-append t.events.items (record { kind = Enter; name = name; point = here; link = link } ∷ [])))
         (omega (arith, ap length top, length-append t.stack.items (name ∷ [])))
@@ -181,9 +382,9 @@ module _ {M R D : Type 0} (t : Inside M R D) (sound : IsSound t) where
         (λ p a b h. let e = entered-events p.events_len a in let s = entered-front p.stack_len b in
         record { read = h.read; ended = h.ended; made = rw (e, s) h.made }) sound.marks)
 
-    pub entered-choices : map (choice_of t.parse_state.now.bytes.now t.start stack) (reverse t.marks.items) ≡ map (choice_of t.parse_state.now.bytes.now t.start t.stack.items) (reverse t.marks.items)
+    pub entered-choices : map (choice_of (position_from t.parse_state.now.bytes.now t.skips.items t.start) stack) (reverse t.marks.items) ≡ map (choice_of (position_from t.parse_state.now.bytes.now t.skips.items t.start) t.stack.items) (reverse t.marks.items)
     entered-choices =
-        same-choices t.parse_state.now.bytes.now t.start stack t.stack.items (IsProgress t.parse_state.now.bytes.now (text_of t) t.events.items t.stack.items t.closed)
+        same-choices (position_from t.parse_state.now.bytes.now t.skips.items t.start) stack t.stack.items (IsProgress t.parse_state.now.bytes.now t.skips.items (text_of t) t.events.items t.stack.items t.closed)
         (length t.events.items) (length t.stack.items) (reverse t.marks.items) entered-front sound.marks
 
     pub entered-at : here ≡ (sight (seen t).given (seen t).text (seen t).configuration).here
@@ -192,21 +393,17 @@ module _ {M R D : Type 0} (t : Inside M R D) (sound : IsSound t) where
 pub take-pushed : (xs : List Name) (x : Name) (n : ℕ) → n ≡ length xs → take n (xs ++ x ∷ []) ≡ xs
 take-pushed xs x n e = rw e (take-append-le (length xs) xs (x ∷ []) (omega arith) ∙ take_all (length xs) xs (omega arith))
 
--- the last of some choices
-pub reverse-last : (items ms : List Mark) (mark : Mark) → items ≡ ms ++ mark ∷ [] → reverse items ≡ mark ∷ reverse ms
-reverse-last items ms mark e = rw e (reverse-append ms (mark ∷ []))
-
-module _ (bytes : List ℕ) (start : Point) (stack : List Name) (P : Progress → Type 0) where
+module _ (position : Point → ℕ) (stack : List Name) (P : Progress → Type 0) where
   abbrev IsAbove : Choice → Type 0
   IsAbove c = IfSome c.saved (λ s. length s.stack < length stack)
 
-  first-above : (mark : Mark) (marks : List Mark) → All IsAbove (map (choice_of bytes start stack) (mark ∷ marks)) → IsAbove (choice_of bytes start stack mark)
-  first-above mark marks h = h 0 (choice_of bytes start stack mark) (omega arith)
+  first-above : (mark : Mark) (marks : List Mark) → All IsAbove (map (choice_of position stack) (mark ∷ marks)) → IsAbove (choice_of position stack mark)
+  first-above mark marks h = h 0 (choice_of position stack mark) (omega arith)
 
-  rest-above : (mark : Mark) (marks : List Mark) → All IsAbove (map (choice_of bytes start stack) (mark ∷ marks)) → All IsAbove (map (choice_of bytes start stack) marks)
+  rest-above : (mark : Mark) (marks : List Mark) → All IsAbove (map (choice_of position stack) (mark ∷ marks)) → All IsAbove (map (choice_of position stack) marks)
   rest-above mark marks h = λ k d lt. h (suc k) d (omega arith)
 
-  below-mark : (events : ℕ) (saved : Option Progress) (marks : List Mark) → IfSome (saved_of bytes start stack saved) (λ s. length s.stack < length stack)
+  below-mark : (events : ℕ) (saved : Option Progress) (marks : List Mark) → IfSome (saved_of position stack saved) (λ s. length s.stack < length stack)
       → (AreNested P events (length stack) marks → AreNested P events (length stack - 1) marks)
       → IfSome saved (λ p. (p.events_len ≤ events) × (p.stack_len ≤ length stack) × P p) → AreNested P (events_of events saved) (stack_of (length stack) saved) marks
       → IfSome saved (λ p. (p.events_len ≤ events) × (p.stack_len ≤ length stack - 1) × P p) × AreNested P (events_of events saved) (stack_of (length stack - 1) saved) marks
@@ -214,7 +411,7 @@ module _ (bytes : List ℕ) (start : Point) (stack : List Name) (P : Progress �
   below-mark events (Some p) marks a more h k = let l = length-take p.stack_len stack in ((h.0, omega (arith, a, h.1), h.2), k)
 
   -- waiting choices that saved a smaller stack are nested in a stack that is one smaller
-  pub nested-below : (events : ℕ) (marks : List Mark) → All IsAbove (map (choice_of bytes start stack) marks)
+  pub nested-below : (events : ℕ) (marks : List Mark) → All IsAbove (map (choice_of position stack) marks)
       → AreNested P events (length stack) marks → AreNested P events (length stack - 1) marks
   nested-below events [] a h = tt
   nested-below events (mark ∷ marks) a h = below-mark events mark.saved marks (first-above mark marks a) (nested-below events marks (rest-above mark marks a)) h.0 h.1
@@ -230,10 +427,13 @@ module _ {M R D : Type 0} (t : Inside M R D) (sound : IsSound t) (name : Name) (
   abbrev left_at : Point
   left_at = shown t.parse_state.now.bytes.now t.left
 
-  pub exited-made : IsMade t.parse_state.now.bytes.now events stack left_at left_at
+  abbrev bound_at : Point
+  bound_at = shown t.parse_state.now.bytes.now (standing t.skips.items t.left t.waits)
+
+  pub exited-made : IsMade t.parse_state.now.bytes.now events stack left_at bound_at
   exited-made =
       let l = left-is t sound in
-      rw (put, top, is) (made-exit-at t.parse_state.now.bytes.now t.events.items t.stack.items left_at left_at sound.made name can.top
+      rw (put, top, is) (made-exit-at t.parse_state.now.bytes.now t.events.items t.stack.items left_at bound_at sound.made name can.top
       (λ o e. rw l (can.read o e)) can.void)
 
   exited-front : (n : ℕ) → n ≤ length t.stack.items - 1 → take n stack ≡ take n t.stack.items
@@ -242,15 +442,15 @@ module _ {M R D : Type 0} (t : Inside M R D) (sound : IsSound t) (name : Name) (
   exited-events : (n : ℕ) → n ≤ length t.events.items → take n events ≡ take n t.events.items
   exited-events n le = rw put (take-append-le n t.events.items (record { kind = Exit; name = name; point = here; link = None } ∷ []) le)
 
-  exited-nested : AreNested (IsProgress t.parse_state.now.bytes.now (text_of t) t.events.items t.stack.items t.closed) (length t.events.items) (length t.stack.items - 1) (reverse t.marks.items)
+  exited-nested : AreNested (IsProgress t.parse_state.now.bytes.now t.skips.items (text_of t) t.events.items t.stack.items t.closed) (length t.events.items) (length t.stack.items - 1) (reverse t.marks.items)
   exited-nested =
-      nested-below t.parse_state.now.bytes.now t.start t.stack.items (IsProgress t.parse_state.now.bytes.now (text_of t) t.events.items t.stack.items t.closed)
+      nested-below (position_from t.parse_state.now.bytes.now t.skips.items t.start) t.stack.items (IsProgress t.parse_state.now.bytes.now t.skips.items (text_of t) t.events.items t.stack.items t.closed)
       (length t.events.items) (reverse t.marks.items) can.above sound.marks
 
-  pub exited-marks : AreNested (IsProgress t.parse_state.now.bytes.now (text_of t) events stack t.closed) (length events) (length stack) (reverse t.marks.items)
+  pub exited-marks : AreNested (IsProgress t.parse_state.now.bytes.now t.skips.items (text_of t) events stack t.closed) (length events) (length stack) (reverse t.marks.items)
   exited-marks =
-      let P = IsProgress t.parse_state.now.bytes.now (text_of t) t.events.items t.stack.items t.closed in
-      let Q = IsProgress t.parse_state.now.bytes.now (text_of t) events stack t.closed in
+      let P = IsProgress t.parse_state.now.bytes.now t.skips.items (text_of t) t.events.items t.stack.items t.closed in
+      let Q = IsProgress t.parse_state.now.bytes.now t.skips.items (text_of t) events stack t.closed in
       let m = length t.stack.items - 1 in
       nested-wider Q (length t.events.items) m (length events) (length stack) (reverse t.marks.items)
       (omega (arith, ap length put, length-append t.events.items (record { kind = Exit; name = name; point = here; link = None } ∷ [])))
@@ -259,113 +459,21 @@ module _ {M R D : Type 0} (t : Inside M R D) (sound : IsSound t) (name : Name) (
       (λ p a b h. let e = exited-events p.events_len a in let s = exited-front p.stack_len b in
       record { read = h.read; ended = h.ended; made = rw (e, s) h.made }) exited-nested)
 
-  pub exited-choices : map (choice_of t.parse_state.now.bytes.now t.start stack) (reverse t.marks.items) ≡ map (choice_of t.parse_state.now.bytes.now t.start t.stack.items) (reverse t.marks.items)
+  pub exited-choices : map (choice_of (position_from t.parse_state.now.bytes.now t.skips.items t.start) stack) (reverse t.marks.items) ≡ map (choice_of (position_from t.parse_state.now.bytes.now t.skips.items t.start) t.stack.items) (reverse t.marks.items)
   exited-choices =
-      same-choices t.parse_state.now.bytes.now t.start stack t.stack.items (IsProgress t.parse_state.now.bytes.now (text_of t) t.events.items t.stack.items t.closed)
+      same-choices (position_from t.parse_state.now.bytes.now t.skips.items t.start) stack t.stack.items (IsProgress t.parse_state.now.bytes.now t.skips.items (text_of t) t.events.items t.stack.items t.closed)
       (length t.events.items) (length t.stack.items - 1) (reverse t.marks.items) exited-front exited-nested
 
   pub exited-at : here ≡ (sight (seen t).given (seen t).text (seen t).configuration).left
   exited-at = is ∙ left-is t sound
-
-saved-by : (kind : AttemptKind) (ok nok : Goal) (saved : Option Progress) (b : Bool) (p : Progress) → saved_for (record { kind = kind; ok = ok; nok = nok; saved = saved }) b ≡ Some p → saved ≡ Some p
-saved-by Attempt ok nok saved true p e = absurd cc
-saved-by Check ok nok saved true p e = e
-saved-by Attempt ok nok saved false p e = e
-saved-by Check ok nok saved false p e = e
-
-settled-restores : {R D : Type 0} (bytes : List ℕ) (start : Point) (stack : List Name) (kind : AttemptKind) (ok nok : Goal) (saved : Option Progress) (b : Bool) (k : Configuration R D)
-    → settled_at kind (saved_of bytes start stack saved) (answer_of b) k ≡ restored (saved_of bytes start stack (saved_for (record { kind = kind; ok = ok; nok = nok; saved = saved }) b)) k
-settled-restores bytes start stack Attempt ok nok saved true k = refl
-settled-restores bytes start stack Check ok nok saved true k = refl
-settled-restores bytes start stack Attempt ok nok saved false k = refl
-settled-restores bytes start stack Check ok nok saved false k = refl
-
-settled-by : {M R D : Type 0} (old new : Seen M R D) (b : Bool) (bytes : List ℕ) (start : Point) (stack : List Name) (mark : Mark) (cs : List Choice) (state : State)
-    → old.choices ≡ choice_of bytes start stack mark ∷ cs → new ≡ settled old (choice_of bytes start stack mark) cs (answer_of b) → state ≡ goal_of mark b → IsSettled old new b (Some state)
-settled-by old new true bytes start stack mark cs state e f g = (choice_of bytes start stack mark, cs, e, f, g)
-settled-by old new false bytes start stack mark cs state e f g = (choice_of bytes start stack mark, cs, e, f, g)
-
--- the last choice ends
-module _ {M R D : Type 0} (t : Inside M R D) (sound : IsSound t) (mark : Mark) (ms : List Mark) (last : t.marks.items ≡ ms ++ mark ∷ []) (ok : Bool) where
-  abbrev Kept : Progress → Type 0
-  Kept = IsProgress t.parse_state.now.bytes.now (text_of t) t.events.items t.stack.items t.closed
-
-  marks-last : AreNested Kept (length t.events.items) (length t.stack.items) (mark ∷ reverse ms)
-  marks-last = let e = reverse-last t.marks.items ms mark last in rw e at sound.marks
-
-  -- where nothing is put back
-  pub front-marks : AreNested Kept (length t.events.items) (length t.stack.items) (reverse ms)
-  front-marks = nested-front Kept (length t.events.items) (length t.stack.items) mark (reverse ms) marks-last
-
-  abbrev old_choices : List Choice
-  old_choices = map (choice_of t.parse_state.now.bytes.now t.start t.stack.items) (reverse ms)
-
-  pub settled-seen : (new old : Seen M R D) → seen t ≡ old → (state : State) → state ≡ goal_of mark ok
-      → new ≡ record {
-        given = (seen t).given;
-        machine = (seen t).machine;
-        text = (seen t).text;
-        configuration = restored (saved_of t.parse_state.now.bytes.now t.start t.stack.items (saved_for mark ok)) (seen t).configuration;
-        choices = old_choices;
-        calls = (seen t).calls;
-        closed = (seen t).closed;
-      }
-      → IsSettled old new ok (Some state)
-  settled-seen new old v state g e =
-      let back = settled-restores t.parse_state.now.bytes.now t.start t.stack.items mark.kind mark.ok mark.nok mark.saved ok (seen t).configuration in
-      let f = ap (map (choice_of t.parse_state.now.bytes.now t.start t.stack.items)) (reverse-last t.marks.items ms mark last) in
-      subst (λ (q : Seen M R D). IsSettled q new ok (Some state)) v
-      (settled-by (seen t) new ok t.parse_state.now.bytes.now t.start t.stack.items mark old_choices state f
-      (e ∙ ap (λ (q : Configuration R D). record {
-        given = (seen t).given;
-        machine = (seen t).machine;
-        text = (seen t).text;
-        configuration = q;
-        choices = old_choices;
-        calls = (seen t).calls;
-        closed = (seen t).closed;
-      }) (sym back)) g)
-
-  module _ (p : Progress) (saved : saved_for mark ok ≡ Some p) where
-    is-saved : mark.saved ≡ Some p
-    is-saved = saved-by mark.kind mark.ok mark.nok mark.saved ok p saved
-
-    saved-all : ((p.events_len ≤ length t.events.items) × (p.stack_len ≤ length t.stack.items) × Kept p) × AreNested Kept p.events_len p.stack_len (reverse ms)
-    saved-all = let e = is-saved in rw e at marks-last
-
-    pub restored-progress : Kept p
-    restored-progress = saved-all.0.2
-
-    module _ (events : List Event) (stack : List Name) (cut : events ≡ take p.events_len t.events.items) (top : stack ≡ take p.stack_len t.stack.items) where
-      pub restored-made : IsMade t.parse_state.now.bytes.now events stack (shown t.parse_state.now.bytes.now p.left) (shown t.parse_state.now.bytes.now p.left)
-      restored-made = rw (cut, top) restored-progress.made
-
-      restored-events : (n : ℕ) → n ≤ p.events_len → take n events ≡ take n t.events.items
-      restored-events n le = rw cut (take-take n p.events_len t.events.items le)
-
-      restored-stack : (n : ℕ) → n ≤ p.stack_len → take n stack ≡ take n t.stack.items
-      restored-stack n le = rw top (take-take n p.stack_len t.stack.items le)
-
-      pub restored-marks : AreNested (IsProgress t.parse_state.now.bytes.now (text_of t) events stack t.closed) (length events) (length stack) (reverse ms)
-      restored-marks =
-          let Q = IsProgress t.parse_state.now.bytes.now (text_of t) events stack t.closed in
-          nested-wider Q p.events_len p.stack_len (length events) (length stack) (reverse ms)
-          (omega (arith, saved-all.0.0, ap length cut, length-take p.events_len t.events.items))
-          (omega (arith, saved-all.0.1, ap length top, length-take p.stack_len t.stack.items))
-          (nested-map Kept Q p.events_len p.stack_len (reverse ms)
-          (λ q a b h. let e = restored-events q.events_len a in let s = restored-stack q.stack_len b in
-          record { read = h.read; ended = h.ended; made = rw (e, s) h.made }) saved-all.1)
-
-      pub restored-choices : map (choice_of t.parse_state.now.bytes.now t.start stack) (reverse ms) ≡ old_choices
-      restored-choices = same-choices t.parse_state.now.bytes.now t.start stack t.stack.items Kept p.events_len p.stack_len (reverse ms) restored-stack saved-all.1
 
 -- a tokenizer that has read nothing
 module _ (bytes : List ℕ) (p : Point) (h : IsPointOf TAB bytes p) where
   pub start-end : end_point bytes (p.index, p.vs) ≡ p
   start-end = ap (λ (o : Option Point). unwrap_or o (point 1 1 0 0)) (point_at-point TAB bytes four p h)
 
-  pub start-empty : seats_between bytes p p ≡ []
-  start-empty = range-empty TAB bytes p
+  pub start-empty : seats_between bytes [] p p ≡ []
+  start-empty = kept-empty bytes p
 
   pub start-found : point_at TAB bytes (p.index, p.vs) ≡ Some p
   start-found = point_at-point TAB bytes four p h
@@ -393,21 +501,23 @@ module _ {M R D : Type 0} (t : Inside M R D) (sound : IsSound t) (previous next 
   same-length : length events ≡ length t.events.items
   same-length = sym (length-map events unlinked) ∙ ap length events-unlinked ∙ length-map t.events.items unlinked
 
-  pub linked-made : IsMade t.parse_state.now.bytes.now events t.stack.items (shown t.parse_state.now.bytes.now t.left) (shown t.parse_state.now.bytes.now t.left)
-  linked-made = made-linked t.events.items events (sym events-unlinked) t.parse_state.now.bytes.now t.stack.items (shown t.parse_state.now.bytes.now t.left) (shown t.parse_state.now.bytes.now t.left) sound.made
+  pub linked-made : IsMade t.parse_state.now.bytes.now events t.stack.items (shown t.parse_state.now.bytes.now t.left) (shown t.parse_state.now.bytes.now (standing t.skips.items t.left t.waits))
+  linked-made = made-linked t.events.items events (sym events-unlinked) t.parse_state.now.bytes.now t.stack.items (shown t.parse_state.now.bytes.now t.left)
+      (shown t.parse_state.now.bytes.now (standing t.skips.items t.left t.waits)) sound.made
 
   front-kept : HasFrontUpToLinks events t.events.items
   front-kept = ap (λ (xs : List Event). map unlinked xs) (take_all (length t.events.items) events (omega (arith, same-length))) ∙ events-unlinked
 
-  pub linked-marks : AreNested (IsProgress t.parse_state.now.bytes.now (text_of t) events t.stack.items t.closed) (length events) (length t.stack.items) (reverse t.marks.items)
+  pub linked-marks : AreNested (IsProgress t.parse_state.now.bytes.now t.skips.items (text_of t) events t.stack.items t.closed) (length events) (length t.stack.items) (reverse t.marks.items)
   linked-marks =
-      let P = IsProgress t.parse_state.now.bytes.now (text_of t) t.events.items t.stack.items t.closed in
-      let Q = IsProgress t.parse_state.now.bytes.now (text_of t) events t.stack.items t.closed in
+      let P = IsProgress t.parse_state.now.bytes.now t.skips.items (text_of t) t.events.items t.stack.items t.closed in
+      let Q = IsProgress t.parse_state.now.bytes.now t.skips.items (text_of t) events t.stack.items t.closed in
       nested-wider Q (length t.events.items) (length t.stack.items) (length events) (length t.stack.items) (reverse t.marks.items) (omega (arith, same-length)) (omega arith)
       (nested-map P Q (length t.events.items) (length t.stack.items) (reverse t.marks.items)
       (λ p a b h. record {
         read = h.read;
         ended = h.ended;
         made = made-kept t.parse_state.now.bytes.now t.events.items events p.events_len (take p.stack_len t.stack.items)
-            (shown t.parse_state.now.bytes.now p.left) (shown t.parse_state.now.bytes.now p.left) a front-kept h.made;
+            (shown t.parse_state.now.bytes.now p.left)
+            (shown t.parse_state.now.bytes.now (reach t.skips.items p.left (can_feed (position_from t.parse_state.now.bytes.now t.skips.items t.start p.left) (length (text_of t).seats) t.closed))) a front-kept h.made;
       }) sound.marks)

@@ -1,6 +1,7 @@
 -- A choice begins.
-use Rattle.std.proofs.Common.{◌≡◌, ℕ, List, [], ◌∷◌, ◌++◌, Bool, true, false, cond, Option, Some, None, length, refl, ap, arith, take}
-use Rattle.std.specs.Prelude.{map, reverse}
+use Rattle.std.proofs.Common.{◌≡◌, ℕ, ◌<◌, List, [], ◌∷◌, ◌++◌, Bool, true, false, cond, Option, Some, None, length, refl, ap, arith, take}
+use Rattle.std.specs.Prelude.{map, reverse, nat_lt}
+use Rattle.std.proofs.lemmas.Bool.Decides.{nat_tests}
 use Rattle.std.proofs.lemmas.List.{take_all}
 use Rattle.markdown.specs.declared.waiting.AttemptKind.{AttemptKind}
 use Rattle.markdown.specs.declared.waiting.Goal.{Goal}
@@ -8,8 +9,14 @@ use Rattle.markdown.specs.declared.waiting.Mark.{Mark}
 use Rattle.markdown.specs.declared.waiting.Progress.{Progress}
 use Rattle.markdown.specs.declared.tokenizer.Tokenizer.TheInside.{Inside}
 use Rattle.markdown.specs.Configuration.{Choice}
-use Rattle.markdown.specs.View.{seen, text_of, state_of, choice_at, choice_of, IsProgress, AreNested, IsSound}
-use Rattle.markdown.proofs.Changes.{reverse-last}
+use Rattle.markdown_base.specs.declared.event.Point.{Point}
+use Rattle.markdown_base.specs.Places.{shown}
+use Rattle.markdown.specs.declared.waiting.Waits.{Waits}
+use Rattle.markdown.specs.declared.waiting.Waits.TheVariants.{Nothing, Byte, End}
+use Rattle.markdown.specs.Made.{IsMade}
+use Rattle.markdown.specs.View.{seen, text_of, state_of, choice_at, choice_of, position_from, standing, reach, can_feed, IsWaiting, IsProgress, AreNested, IsSound}
+use Rattle.markdown.proofs.Fields.{next-more, made-more, or-true}
+use Rattle.markdown.proofs.Unwinding.{reverse-last}
 
 -- how far a tokenizer has read
 abbrev pub progress_of : {M R D : Type 0} → Inside M R D → Progress
@@ -18,12 +25,18 @@ progress_of t = record { left = t.left; previous = t.previous; ended = t.ended; 
 abbrev pub saved_if : {M R D : Type 0} → Bool → Inside M R D → Option Progress
 saved_if saves t = cond saves (Some (progress_of t)) None
 
+pub byte-more : (position size : ℕ) (closed : Bool) → position < size → can_feed position size closed ≡ true
+byte-more position size closed h = grind (arith, nat_tests)
+
+pub closed-more : (position size : ℕ) (closed : Bool) → closed ≡ true → can_feed position size closed ≡ true
+closed-more position size closed e = rw e (or-true (nat_lt position size))
+
 module _ {M R D : Type 0} (t : Inside M R D) (sound : IsSound t) where
   abbrev bytes_in : List ℕ
   bytes_in = t.parse_state.now.bytes.now
 
   abbrev Saves : Progress → Type 0
-  Saves = IsProgress bytes_in (text_of t) t.events.items t.stack.items t.closed
+  Saves = IsProgress bytes_in t.skips.items (text_of t) t.events.items t.stack.items t.closed
 
   all-events : take (length t.events.items) t.events.items ≡ t.events.items
   all-events = take_all (length t.events.items) t.events.items (omega arith)
@@ -31,8 +44,27 @@ module _ {M R D : Type 0} (t : Inside M R D) (sound : IsSound t) where
   all-stack : take (length t.stack.items) t.stack.items ≡ t.stack.items
   all-stack = take_all (length t.stack.items) t.stack.items (omega arith)
 
-  saves-here : Saves (progress_of t)
-  saves-here = let e = all-events in let s = all-stack in record { read = sound.read; ended = sound.ended; made = rw (e, s) sound.made }
+  abbrev MadeUpto : Point → Type 0
+  MadeUpto p = IsMade bytes_in t.events.items t.stack.items (shown bytes_in t.left) (shown bytes_in p)
+
+  abbrev position_in : ℕ
+  position_in = position_from bytes_in t.skips.items t.start t.left
+
+  abbrev can_feed_in : Bool
+  can_feed_in = can_feed position_in (length (text_of t).seats) t.closed
+
+  reach-by : (a b : Bool) → (a ≡ true → b ≡ true) → MadeUpto (reach t.skips.items t.left a) → MadeUpto (reach t.skips.items t.left b)
+  reach-by a b f m = made-more bytes_in t.skips.items t.start (text_of t).end t.left t.previous sound.skips sound.read t.events.items t.stack.items a b f m
+
+  -- where something waits more can be fed
+  waits-more : (w : Waits) → IsWaiting bytes_in t.skips.items (text_of t) t.left t.current t.closed w → MadeUpto (standing t.skips.items t.left w) → MadeUpto (reach t.skips.items t.left can_feed_in)
+  waits-more Nothing h m = reach-by false can_feed_in (λ e. absurd (cc)) m
+  waits-more Byte h m = reach-by true can_feed_in (λ e. byte-more position_in (length (text_of t).seats) t.closed
+      (next-more bytes_in t.skips.items t.start (text_of t).end t.left t.previous sound.skips sound.read h.seat h.at h.before)) m
+  waits-more End h m = reach-by true can_feed_in (λ e. closed-more position_in (length (text_of t).seats) t.closed h.closed_too) m
+
+  pub saves-here : Saves (progress_of t)
+  saves-here = let e = all-events in let s = all-stack in record { read = sound.read; ended = sound.ended; made = rw (e, s) (waits-more t.waits sound.waiting sound.made) }
 
   module _ (kind : AttemptKind) (ok nok : Goal) where
     abbrev mark_if : Bool → Mark
@@ -42,7 +74,7 @@ module _ {M R D : Type 0} (t : Inside M R D) (sound : IsSound t) where
     nested-one true = ((omega arith, omega arith, saves-here), sound.marks)
     nested-one false = (tt, sound.marks)
 
-    choice-one : (saves : Bool) → choice_of bytes_in t.start t.stack.items (mark_if saves) ≡ choice_at kind (state_of ok) (state_of nok) saves (seen t).configuration
+    choice-one : (saves : Bool) → choice_of (position_from bytes_in t.skips.items t.start) t.stack.items (mark_if saves) ≡ choice_at kind (state_of ok) (state_of nok) saves (seen t).configuration
     choice-one true = let s = all-stack in rw s refl
     choice-one false = refl
 
@@ -50,7 +82,7 @@ module _ {M R D : Type 0} (t : Inside M R D) (sound : IsSound t) where
       pub chosen-marks : AreNested Saves (length t.events.items) (length t.stack.items) (reverse marks)
       chosen-marks = let e = reverse-last marks t.marks.items (mark_if saves) put in rw e (nested-one saves)
 
-      pub chosen-choices : map (choice_of bytes_in t.start t.stack.items) (reverse marks) ≡ choice_at kind (state_of ok) (state_of nok) saves (seen t).configuration ∷ (seen t).choices
+      pub chosen-choices : map (choice_of (position_from bytes_in t.skips.items t.start) t.stack.items) (reverse marks) ≡ choice_at kind (state_of ok) (state_of nok) saves (seen t).configuration ∷ (seen t).choices
       chosen-choices =
           let e = reverse-last marks t.marks.items (mark_if saves) put in
-          rw e (ap (λ (c : Choice). c ∷ map (choice_of bytes_in t.start t.stack.items) (reverse t.marks.items)) (choice-one saves))
+          rw e (ap (λ (c : Choice). c ∷ map (choice_of (position_from bytes_in t.skips.items t.start) t.stack.items) (reverse t.marks.items)) (choice-one saves))

@@ -57,7 +57,7 @@ not-and : (b : Bool) → (not b && b) ≡ false
 not-and true = refl
 not-and false = refl
 
-get-after : {A : Type 0} (xs ys : List A) → slice_get (xs ++ ys) (length xs) ≡ slice_get ys 0
+pub get-after : {A : Type 0} (xs ys : List A) → slice_get (xs ++ ys) (length xs) ≡ slice_get ys 0
 get-after [] ys = refl
 get-after (x ∷ xs) ys = get-after xs ys
 
@@ -257,16 +257,20 @@ module _ (t : ℕ) (bytes : List ℕ) (p : Point) (seat : Seat) (place : IsPlace
     pub upto-after : is_upto t bytes p seat.end ≡ true
     upto-after = upto-order t bytes p seat.end (seat-passes t bytes d p seat place n)
 
-    -- one more was read
-    pub after-number : (start : Point) → is_upto t bytes start p ≡ true → number_of t bytes start seat.end ≡ number_of t bytes start p + 1
-    after-number start from =
+    -- it alone stands from the place on before its end
+    pub next-only : left_of t bytes p seat.end ≡ seat ∷ []
+    next-only =
         let begins = next-begins t bytes d p seat place n in
-        let read = filter (in_range start p) (virtual t bytes) in
         let f = λ (s : Seat). stands_before s.point seat.end in
         let past : Every (λ s. stands_before s.point seat.end ≡ false) n.after = subst (Every (λ s. stands_before s.point seat.end ≡ false)) (seat-rest t bytes d p seat place n) (rest-later t bytes seat.end) in
         let ends = begins.ends in
-        let left : left_of t bytes p seat.end ≡ seat ∷ [] = ap (filter f) n.is ∙ (rw ends (ap (λ (ys : List Seat). seat ∷ ys) (filter-none f n.after past))) in
-        ap length (text-splits t bytes start p seat.end place from upto-after ∙ ap (λ (ys : List Seat). read ++ ys) left) ∙ length-append read (seat ∷ [])
+        ap (filter f) n.is ∙ (rw ends (ap (λ (ys : List Seat). seat ∷ ys) (filter-none f n.after past)))
+
+    -- one more was read
+    pub after-number : (start : Point) → is_upto t bytes start p ≡ true → number_of t bytes start seat.end ≡ number_of t bytes start p + 1
+    after-number start from =
+        let read = filter (in_range start p) (virtual t bytes) in
+        ap length (text-splits t bytes start p seat.end place from upto-after ∙ ap (λ (ys : List Seat). read ++ ys) next-only) ∙ length-append read (seat ∷ [])
 
     -- the virtual byte before the place after it is itself
     pub read-last : (start end : Point) → is_upto t bytes start p ≡ true → is_upto t bytes p end ≡ true → stands_before seat.point end ≡ true

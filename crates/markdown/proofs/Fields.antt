@@ -1,22 +1,31 @@
 -- What the steps of the code do to the fields of a tokenizer, and what that means.
-use Rattle.std.proofs.Common.{◌≡◌, ℕ, zero, suc, ◌≤◌, ◌<◌, List, [], ◌∷◌, ◌++◌, Bool, true, false, Option, Some, None, length, refl, sym, ap, ◌∙◌, subst, arith, add-one, ◌⊎◌, inl, inr}
-use Rattle.std.specs.Prelude.{slice_get, reverse, IfSome}
+use Rattle.std.proofs.Common.{◌≡◌, ℕ, zero, suc, ◌≤◌, ◌<◌, List, [], ◌∷◌, ◌++◌, Bool, true, false, Option, Some, None, length, refl, sym, ap, ◌∙◌, subst, arith, add-one, ◌⊎◌, inl, inr, take, length-append}
+use Rattle.std.specs.Prelude.{slice_get, reverse, IfSome, filter, nat_lt, ◌||◌}
+use Rattle.std.proofs.lemmas.Bool.Decides.{nat_tests}
 use Rattle.std.proofs.lemmas.Option.{slice_get_within}
+use Rattle.std.proofs.lemmas.List.Elements.{filter-append}
+use Rattle.markdown_base.specs.declared.event.Event.{Event}
+use Rattle.markdown_base.specs.declared.event.Name.{Name}
 use Rattle.markdown_base.specs.declared.event.Point.{Point}
-use Rattle.markdown_base.specs.Virtual.{Seat}
+use Rattle.markdown_base.specs.Virtual.{Seat, virtual}
 use Rattle.markdown_base.specs.Places.{shown, stands_before, is_upto, denotes_same, IsPointOf}
 use Rattle.markdown.specs.declared.waiting.Waits.{Waits}
 use Rattle.markdown.specs.declared.waiting.Waits.TheVariants.{Nothing, Byte, End}
 use Rattle.markdown.specs.declared.tokenizer.Tokenizer.TheInside.{Inside}
-use Rattle.markdown.specs.Text.{Text}
+use Rattle.markdown.specs.Text.{Text, in_range}
 use Rattle.markdown.specs.Sight.{seat_before, byte_of, end_or}
-use Rattle.markdown.specs.View.{TAB, text_of, seats_between, IsReadTo, IsWaiting, IsProgress, AreNested, events_of, stack_of, IsSound}
+use Rattle.markdown.specs.Gaps.{is_kept, resumed, IsSkip}
+use Rattle.markdown.specs.Made.{IsMade}
+use Rattle.markdown.specs.View.{TAB, seen, text_of, seats_between, position_from, reach, can_feed, IsReadTo, IsWaiting, IsProgress, AreNested, events_of, stack_of, IsSound}
 use Rattle.markdown.specs.declared.waiting.Mark.{Mark}
 use Rattle.markdown.specs.declared.waiting.Progress.{Progress}
 use Rattle.markdown.specs.Cursor.{Every, IsPlace, IsSeatAt, rest_at}
+use Rattle.markdown.proofs.Orders.{after-before}
 use Rattle.markdown.proofs.Seats.{rest-later}
-use Rattle.markdown.proofs.Standing.{seat-begins, place-of-point, next-begins, end-seat-place}
-use Rattle.markdown.proofs.Cursors.{upto-self, upto-upto, upto-same, number-self, next-is, next-none, next-nothing, read-within, after-upto, upto-after, after-number, end-upto, same-upto, same-back, range-continued, rest-none}
+use Rattle.markdown.proofs.Standing.{seat-begins, place-of-point, next-begins, end-seat-place, shown-shown}
+use Rattle.markdown.proofs.Cursors.{left_of, text-splits, range-same, range-empty, upto-order, upto-self, upto-upto, upto-same, same-self, next-only, after-upto, upto-after, end-upto, same-upto, same-back, range-continued, rest-none, get-after}
+use Rattle.markdown.proofs.GapLaws.{IsResumed, resumed-at, consumed-outside, pushed-kept, pushed-skips, added-text, added-read, added-skips, added-outside, added-shown, added-resumed}
+use Rattle.markdown.proofs.MadeLemmas.{made-bound}
 use Rattle.markdown.proofs.Points.{same-shown}
 
 slice_get-front : {A : Type 0} (xs ys : List A) (i : ℕ) → i < length xs → slice_get (xs ++ ys) i ≡ slice_get xs i
@@ -27,59 +36,40 @@ slice_get-front (x ∷ xs) ys (suc i) h = slice_get-front xs ys i (omega arith)
 pub four : 0 < 4
 four = omega arith
 
+module _ (bytes : List ℕ) (skips : List Point) where
+  -- the text is what was read and what is left
+  pub kept-splits : (start p end : Point) → IsPlace TAB bytes p → is_upto TAB bytes start p ≡ true → is_upto TAB bytes p end ≡ true
+      → seats_between bytes skips start end ≡ seats_between bytes skips start p ++ filter (is_kept skips) (left_of TAB bytes p end)
+  kept-splits start p end place from upto =
+      ap (filter (is_kept skips)) (text-splits TAB bytes start p end place from upto) ∙ filter-append (is_kept skips) (filter (in_range start p) (virtual TAB bytes)) (left_of TAB bytes p end)
+
+  pub kept-same : (a b c d : Point) → denotes_same TAB bytes a c ≡ true → denotes_same TAB bytes b d ≡ true → seats_between bytes skips a b ≡ seats_between bytes skips c d
+  kept-same a b c d h k = ap (filter (is_kept skips)) (range-same TAB bytes a b c d h k)
+
+  kept-within : (start p end : Point) → IsPlace TAB bytes p → is_upto TAB bytes start p ≡ true → is_upto TAB bytes p end ≡ true
+      → position_from bytes skips start p ≤ length (seats_between bytes skips start end)
+  kept-within start p end place from upto =
+      omega (arith, ap length (kept-splits start p end place from upto), length-append (seats_between bytes skips start p) (filter (is_kept skips) (left_of TAB bytes p end)))
+
+pub kept-empty : (bytes : List ℕ) (p : Point) → seats_between bytes [] p p ≡ []
+kept-empty bytes p = ap (filter (is_kept [])) (range-empty TAB bytes p)
+
 -- nothing was read of the empty text
-pub read-start : (bytes : List ℕ) (p : Point) → IsPointOf TAB bytes p → IsReadTo bytes (record { start = p; seats = seats_between bytes p p; end = p }) p None
+pub read-start : (bytes : List ℕ) (p : Point) → IsPointOf TAB bytes p → IsReadTo bytes [] (record { start = p; seats = seats_between bytes [] p p; end = p }) p None
 read-start bytes p h =
-    let none : length (seats_between bytes p p) ≡ 0 = number-self TAB bytes p in
+    let none : position_from bytes [] p p ≡ 0 = ap length (kept-empty bytes p) in
     record {
       place = place-of-point TAB bytes four p h;
       from = upto-self TAB bytes p;
       upto = upto-self TAB bytes p;
+      outside = λ q e. absurd cc;
       back = rw none refl;
       previous_is = rw none refl;
     }
 
 -- a text of the document between two places
-abbrev pub text_between : List ℕ → Point → Point → Text
-text_between bytes start end = record { start = start; seats = seats_between bytes start end; end = end }
-
-module _ (bytes : List ℕ) (start end left : Point) (previous : Option ℕ) (read : IsReadTo bytes (text_between bytes start end) left previous) where
-  -- no more was read than the text
-  pub within : length (seats_between bytes start left) ≤ length (seats_between bytes start end)
-  within = read-within TAB bytes start left end read.place read.from read.upto
-
-  module _ (seat : Seat) (n : IsSeatAt TAB bytes left seat) where
-    -- where the next byte is shown one stands now
-    pub next-shown : shown bytes seat.point ≡ shown bytes left
-    next-shown = (next-begins TAB bytes four left seat read.place n).shown_is ∙ sym read.place.stands
-
-    -- the next byte of the text is the next of the document, where that stands in the text
-    pub next-seat : stands_before seat.point end ≡ true → slice_get (seats_between bytes start end) (length (seats_between bytes start left)) ≡ Some seat
-    next-seat lt = next-is TAB bytes left seat read.place n start end read.from read.upto lt
-
-    pub next-more : stands_before seat.point end ≡ true → length (seats_between bytes start left) < length (seats_between bytes start end)
-    next-more lt = slice_get_within _ _ _ (next-seat lt)
-
-    -- else all was read
-    pub next-past : stands_before seat.point end ≡ false → length (seats_between bytes start end) ≤ length (seats_between bytes start left)
-    next-past lt = let e = next-none TAB bytes left seat read.place n start end read.from read.upto lt in omega arith
-
-    -- once the next byte is consumed, the text was read up to its end
-    pub read-next : stands_before seat.point end ≡ true → IsReadTo bytes (text_between bytes start end) seat.end (Some seat.byte)
-    read-next lt =
-        let number = after-number TAB bytes left seat read.place n four start read.from ∙ add-one (length (seats_between bytes start left)) in
-        let is = next-seat lt in
-        record {
-          place = end-seat-place TAB bytes four left seat read.place n;
-          from = upto-upto TAB bytes start left seat.end read.from (upto-after TAB bytes left seat read.place n four);
-          upto = after-upto TAB bytes left seat read.place n four end read.upto lt;
-          back = rw (number, is) refl;
-          previous_is = rw (number, is) refl;
-        }
-
-  -- where the document ends all was read
-  pub next-none-left : rest_at TAB bytes left ≡ [] → length (seats_between bytes start end) ≤ length (seats_between bytes start left)
-  next-none-left e = let f = next-nothing TAB bytes start left end read.place read.from read.upto e in omega arith
+abbrev pub text_between : List ℕ → List Point → Point → Point → Text
+text_between bytes skips start end = record { start = start; seats = seats_between bytes skips start end; end = end }
 
 empty-or-first : {A : Type 0} (xs : List A) → (xs ≡ []) ⊎ ((y : A) × (ys : List A) × (xs ≡ y ∷ ys))
 empty-or-first [] = inl refl
@@ -93,48 +83,219 @@ next-of-rest bytes left place seat after e =
     let later = subst (Every (λ s. stands_before s.point left ≡ false)) e (rest-later TAB bytes left) in
     record { after = after; is = e; same = begins.at_seat ∙ sym e; later = later.0; inside = begins.inside }
 
-module _ (bytes : List ℕ) (start end left : Point) (previous : Option ℕ) (read : IsReadTo bytes (text_between bytes start end) left previous) (all : length (seats_between bytes start end) ≤ length (seats_between bytes start left)) where
-  past-end : (seat : Seat) (n : IsSeatAt TAB bytes left seat) (b : Bool) → stands_before seat.point end ≡ b → is_upto TAB bytes end left ≡ true
-  past-end seat n true e = let more = next-more bytes start end left previous read seat n e in absurd (omega arith)
-  past-end seat n false e = end-upto TAB bytes left seat read.place n end e
+first-kept : (skips : List Point) (seat : Seat) (xs : List Seat) → is_kept skips seat ≡ true → filter (is_kept skips) (seat ∷ xs) ≡ seat ∷ filter (is_kept skips) xs
+first-kept skips seat xs e = rw e refl
 
-  nothing-left : rest_at TAB bytes left ≡ [] → is_upto TAB bytes end left ≡ true
-  nothing-left e = rest-none TAB bytes left end read.place e
+first-before : (end : Point) (seat : Seat) (xs : List Seat) → stands_before seat.point end ≡ true
+    → filter (λ s. stands_before s.point end) (seat ∷ xs) ≡ seat ∷ filter (λ s. stands_before s.point end) xs
+first-before end seat xs e = rw e refl
 
-  -- where all was read one stands at the end
-  pub ends-here : is_upto TAB bytes end left ≡ true
-  ends-here = elim (empty-or-first (rest_at TAB bytes left)) [
-    | inl e ↦ nothing-left e
-    | inr more ↦ (let seat = more.0 in past-end seat (next-of-rest bytes left read.place seat more.1 more.2) (stands_before seat.point end) refl)
-  ]
+module _ (bytes : List ℕ) (skips : List Point) (start end left : Point) (previous : Option ℕ) (are : Every (IsSkip TAB bytes end) skips)
+    (read : IsReadTo bytes skips (text_between bytes skips start end) left previous) where
+  abbrev here : Point
+  here = resumed skips left
 
-  pub end-shown : IsPlace TAB bytes end → shown bytes end ≡ shown bytes left
-  end-shown place = same-shown TAB bytes end left place read.place (upto-same TAB bytes end left ends-here read.upto)
+  -- the place from which the next byte is looked for
+  pub looks : IsResumed TAB bytes skips start end left here
+  looks = resumed-at TAB bytes four skips start end left are read.place read.from read.upto read.outside
+
+  -- no more was read than the text
+  pub within : position_from bytes skips start left ≤ length (seats_between bytes skips start end)
+  within = kept-within bytes skips start left end read.place read.from read.upto
+
+  here-all : is_upto TAB bytes end here ≡ true → length (seats_between bytes skips start end) ≤ position_from bytes skips start left
+  here-all e =
+      let same = kept-same bytes skips start end start here (same-self TAB bytes start) (upto-same TAB bytes end here e looks.upto) in
+      omega (arith, ap length same, ap length looks.same)
+
+  module _ (seat : Seat) (n : IsSeatAt TAB bytes here seat) where
+    -- where the next byte is shown an enter stands
+    pub next-shown : shown bytes seat.point ≡ shown bytes here
+    next-shown = (next-begins TAB bytes four here seat looks.place n).shown_is ∙ sym looks.place.stands
+
+    -- the next byte of the text is the next of the document, where that stands in the text
+    pub next-seat : stands_before seat.point end ≡ true → slice_get (seats_between bytes skips start end) (position_from bytes skips start left) ≡ Some seat
+    next-seat lt =
+        let read_here = seats_between bytes skips start here in
+        let f = λ (s : Seat). stands_before s.point end in
+        let rest = filter (is_kept skips) (filter f n.after) in
+        let left_is : filter (is_kept skips) (left_of TAB bytes here end) ≡ seat ∷ rest =
+        ap (filter (is_kept skips)) (ap (filter f) n.is ∙ first-before end seat n.after lt) ∙ first-kept skips seat (filter f n.after) (looks.fresh seat n) in
+        let splits = kept-splits bytes skips start here end looks.place looks.from looks.upto ∙ ap (λ (xs : List Seat). read_here ++ xs) left_is in
+        ap (λ (xs : List Seat). slice_get xs (position_from bytes skips start left)) splits ∙ ap (λ (k : ℕ). slice_get (read_here ++ seat ∷ rest) k) (sym (ap length looks.same)) ∙ get-after read_here (seat ∷ rest)
+
+    pub next-more : stands_before seat.point end ≡ true → position_from bytes skips start left < length (seats_between bytes skips start end)
+    next-more lt = slice_get_within _ _ _ (next-seat lt)
+
+    -- else all was read
+    pub next-past : stands_before seat.point end ≡ false → length (seats_between bytes skips start end) ≤ position_from bytes skips start left
+    next-past lt = here-all (end-upto TAB bytes here seat looks.place n end lt)
+
+    -- one more is read once it is consumed
+    pub next-number : position_from bytes skips start seat.end ≡ suc (position_from bytes skips start left)
+    next-number =
+        let read_here = seats_between bytes skips start here in
+        let only = ap (filter (is_kept skips)) (next-only TAB bytes here seat looks.place n four) ∙ first-kept skips seat [] (looks.fresh seat n) in
+        let splits = kept-splits bytes skips start here seat.end looks.place looks.from (upto-after TAB bytes here seat looks.place n four) ∙ ap (λ (xs : List Seat). read_here ++ xs) only in
+        ap length splits ∙ length-append read_here (seat ∷ []) ∙ add-one (length read_here) ∙ ap (λ (xs : List Seat). suc (length xs)) looks.same
+
+    -- once the next byte is consumed, the text was read up to its end
+    pub read-next : stands_before seat.point end ≡ true → IsReadTo bytes skips (text_between bytes skips start end) seat.end (Some seat.byte)
+    read-next lt =
+        let number = next-number in
+        let is = next-seat lt in
+        record {
+          place = end-seat-place TAB bytes four here seat looks.place n;
+          from = upto-upto TAB bytes start here seat.end looks.from (upto-after TAB bytes here seat looks.place n four);
+          upto = after-upto TAB bytes here seat looks.place n four end looks.upto lt;
+          outside = consumed-outside TAB bytes four here seat skips looks.place n (looks.fresh seat n);
+          back = rw (number, is) refl;
+          previous_is = rw (number, is) refl;
+        }
+
+  -- where the document ends all was read
+  pub next-none-left : rest_at TAB bytes here ≡ [] → length (seats_between bytes skips start end) ≤ position_from bytes skips start left
+  next-none-left e = here-all (rest-none TAB bytes here end looks.place e)
+
+  module _ (all : length (seats_between bytes skips start end) ≤ position_from bytes skips start left) where
+    past-end : (seat : Seat) (n : IsSeatAt TAB bytes here seat) (b : Bool) → stands_before seat.point end ≡ b → is_upto TAB bytes end here ≡ true
+    past-end seat n true e = let more = next-more seat n e in absurd (omega arith)
+    past-end seat n false e = end-upto TAB bytes here seat looks.place n end e
+
+    -- where all was read an enter stands at the end
+    pub ends-here : is_upto TAB bytes end here ≡ true
+    ends-here = elim (empty-or-first (rest_at TAB bytes here)) [
+      | inl e ↦ rest-none TAB bytes here end looks.place e
+      | inr more ↦ (let seat = more.0 in past-end seat (next-of-rest bytes here looks.place seat more.1 more.2) (stands_before seat.point end) refl)
+    ]
+
+    pub end-shown : IsPlace TAB bytes end → shown bytes end ≡ shown bytes here
+    end-shown place = same-shown TAB bytes end here place looks.place (upto-same TAB bytes end here ends-here looks.upto)
 
 -- the end of a longer text
-module _ (bytes : List ℕ) (start end from to left : Point) (previous : Option ℕ) (read : IsReadTo bytes (text_between bytes start end) left previous) (place : IsPlace TAB bytes end)
+module _ (bytes : List ℕ) (skips : List Point) (start end from to left : Point) (previous : Option ℕ) (are : Every (IsSkip TAB bytes end) skips)
+    (read : IsReadTo bytes skips (text_between bytes skips start end) left previous) (place : IsPlace TAB bytes end)
     (begins : is_upto TAB bytes start end ≡ true) (same : denotes_same TAB bytes from end ≡ true) (later : is_upto TAB bytes from to ≡ true) where
   end-to : is_upto TAB bytes end to ≡ true
   end-to = upto-upto TAB bytes end from to (same-upto TAB bytes from end same).1 later
 
-  pub extended-seats : seats_between bytes start to ≡ seats_between bytes start end ++ seats_between bytes from to
-  extended-seats = range-continued TAB bytes start end from to place begins end-to (same-back TAB bytes from end same)
+  pub extended-seats : seats_between bytes skips start to ≡ seats_between bytes skips start end ++ filter (in_range from to) (virtual TAB bytes)
+  extended-seats =
+      ap (filter (is_kept skips)) (range-continued TAB bytes start end from to place begins end-to (same-back TAB bytes from end same))
+      ∙ filter-append (is_kept skips) (filter (in_range start end) (virtual TAB bytes)) (filter (in_range from to) (virtual TAB bytes))
+      ∙ ap (λ (xs : List Seat). seats_between bytes skips start end ++ xs) (pushed-kept TAB bytes four skips end from to are place same later)
 
   -- the byte before is the same
-  before-extended : (n : ℕ) → n ≤ length (seats_between bytes start end) → seat_before (text_between bytes start to) n ≡ seat_before (text_between bytes start end) n
+  before-extended : (n : ℕ) → n ≤ length (seats_between bytes skips start end) → seat_before (text_between bytes skips start to) n ≡ seat_before (text_between bytes skips start end) n
   before-extended zero h = refl
-  before-extended (suc n) h = ap (λ (xs : List Seat). slice_get xs n) extended-seats ∙ slice_get-front (seats_between bytes start end) (seats_between bytes from to) n (omega arith)
+  before-extended (suc n) h = ap (λ (xs : List Seat). slice_get xs n) extended-seats ∙ slice_get-front (seats_between bytes skips start end) (filter (in_range from to) (virtual TAB bytes)) n (omega arith)
 
-  pub read-extended : IsReadTo bytes (text_between bytes start to) left previous
+  pub extended-skips : Every (IsSkip TAB bytes to) skips
+  extended-skips = pushed-skips TAB bytes four skips end from to are place same later
+
+  pub read-extended : IsReadTo bytes skips (text_between bytes skips start to) left previous
   read-extended =
-      let e = before-extended (length (seats_between bytes start left)) (within bytes start end left previous read) in
+      let e = before-extended (position_from bytes skips start left) (within bytes skips start end left previous are read) in
       record {
         place = read.place;
         from = read.from;
         upto = upto-upto TAB bytes left end to read.upto end-to;
+        outside = read.outside;
         back = read.back ∙ ap (end_or start) (sym e);
         previous_is = read.previous_is ∙ ap byte_of (sym e);
       }
+
+  -- at least as many bytes
+  pub extended-more : length (seats_between bytes skips start end) ≤ length (seats_between bytes skips start to)
+  extended-more = omega (arith, ap length extended-seats, length-append (seats_between bytes skips start end) (filter (in_range from to) (virtual TAB bytes)))
+
+-- a gap is passed at the end of a text
+module _ (bytes : List ℕ) (skips : List Point) (start end q left : Point) (previous : Option ℕ) (are : Every (IsSkip TAB bytes end) skips)
+    (read : IsReadTo bytes skips (text_between bytes skips start end) left previous) (place : IsPlace TAB bytes end) (to : IsPlace TAB bytes q) (begins : is_upto TAB bytes start end ≡ true)
+    (first : end.column ≡ 1) (line : q.line ≡ end.line) (before : stands_before end q ≡ true) (other : denotes_same TAB bytes q end ≡ false) where
+  abbrev added : List Point
+  added = skips ++ q ∷ []
+
+  -- the text has the same bytes
+  pub passed-seats : seats_between bytes added start q ≡ seats_between bytes skips start end
+  passed-seats = added-text TAB bytes four skips start end q are place to first line before other begins
+
+  -- and as many of them were read
+  pub passed-position : position_from bytes added start left ≡ position_from bytes skips start left
+  passed-position = ap length (added-read TAB bytes four skips start end q are place to first line before other left read.upto)
+
+  passed-before : (n : ℕ) → seat_before (text_between bytes added start q) n ≡ seat_before (text_between bytes skips start end) n
+  passed-before zero = refl
+  passed-before (suc n) = ap (λ (xs : List Seat). slice_get xs n) passed-seats
+
+  pub passed-skips : Every (IsSkip TAB bytes q) added
+  passed-skips = added-skips TAB bytes four skips start end q are place to first line before other
+
+  pub read-passed : IsReadTo bytes added (text_between bytes added start q) left previous
+  read-passed =
+      let n = position_from bytes skips start left in
+      let e = ap (seat_before (text_between bytes added start q)) passed-position ∙ passed-before n in
+      record {
+        place = read.place;
+        from = read.from;
+        upto = upto-upto TAB bytes left end q read.upto (upto-order TAB bytes end q (after-before end.index end.vs q.index q.vs before));
+        outside = added-outside TAB bytes four skips start end q are place to first line before other left read.place read.upto read.outside;
+        back = read.back ∙ ap (end_or start) (sym e);
+        previous_is = read.previous_is ∙ ap byte_of (sym e);
+      }
+
+  -- an enter stands where it did, or after the gap
+  pub passed-shown : stands_before (shown bytes (resumed added left)) (shown bytes (resumed skips left)) ≡ false
+  passed-shown = added-shown TAB bytes four skips start end q are place to first line before other left read.place read.upto
+
+  -- the next byte stays the next one
+  pub passed-resumed : position_from bytes skips start left < length (seats_between bytes skips start end) → resumed added left ≡ resumed skips left
+  passed-resumed more = elim (added-resumed TAB bytes four skips start end q are place to first line before other left read.place read.upto) [
+    | inl e ↦ e
+    | inr e ↦ (let same = kept-same bytes skips start left start end (same-self TAB bytes start) e.0 in absurd (omega (arith, ap length same)))
+  ]
+
+-- a byte that waits stands before a later end
+module _ (bytes : List ℕ) (skips : List Point) (start end to left : Point) (previous : Option ℕ) (are : Every (IsSkip TAB bytes end) skips)
+    (read : IsReadTo bytes skips (text_between bytes skips start end) left previous) (seat : Seat) (at : IsSeatAt TAB bytes (resumed skips left) seat) (later : is_upto TAB bytes end to ≡ true) where
+  still-before-by : (b : Bool) → stands_before seat.point end ≡ true → stands_before seat.point to ≡ b → stands_before seat.point to ≡ true
+  still-before-by true h e = e
+  still-before-by false h e =
+      let r = looks bytes skips start end left previous are read in
+      let back = end-upto TAB bytes (resumed skips left) seat r.place at to e in
+      let here_after = upto-upto TAB bytes end to (resumed skips left) later back in
+      let same = kept-same bytes skips start end start (resumed skips left) (same-self TAB bytes start) (upto-same TAB bytes end (resumed skips left) here_after r.upto) in
+      let more = next-more bytes skips start end left previous are read seat at h in
+      absurd (omega (arith, ap length same, ap length r.same))
+
+  pub still-before : stands_before seat.point end ≡ true → stands_before seat.point to ≡ true
+  still-before h = still-before-by (stands_before seat.point to) h refl
+
+-- more can be fed: an enter may stand later
+pub or-true : (a : Bool) → (a || true) ≡ true
+or-true true = refl
+or-true false = refl
+
+pub can-feed-more : (position m n : ℕ) (closed : Bool) → m ≤ n → can_feed position m closed ≡ true → can_feed position n closed ≡ true
+can-feed-more position m n true le h = or-true (nat_lt position n)
+can-feed-more position m n false le h = grind (arith, nat_tests)
+
+module _ (bytes : List ℕ) (skips : List Point) (start end left : Point) (previous : Option ℕ) (are : Every (IsSkip TAB bytes end) skips)
+    (read : IsReadTo bytes skips (text_between bytes skips start end) left previous) (events : List Event) (stack : List Name) where
+  abbrev MadeUpto : Point → Type 0
+  MadeUpto p = IsMade bytes events stack (shown bytes left) (shown bytes p)
+
+  -- an enter may stand after a gap
+  pub made-later : MadeUpto left → MadeUpto (resumed skips left)
+  made-later m =
+      let r = looks bytes skips start end left previous are read in
+      made-bound bytes events stack (shown bytes left) (shown bytes left) m (shown bytes (resumed skips left)) r.shown_later (shown-shown TAB bytes (resumed skips left))
+
+  pub made-more : (a b : Bool) → (a ≡ true → b ≡ true) → MadeUpto (reach skips left a) → MadeUpto (reach skips left b)
+  made-more true true f m = m
+  made-more false false f m = m
+  made-more false true f m = made-later m
+  made-more true false f m = absurd (let e : false ≡ true = f refl in cc)
 
 -- what a choice saved, seen in another way, and then what those before it did
 nested-mark : (P Q : Progress → Type 0) (events stack : ℕ) (saved : Option Progress) (marks : List Mark) → ((p : Progress) → p.events_len ≤ events → p.stack_len ≤ stack → P p → Q p)
@@ -172,23 +333,33 @@ pub nested-front : (P : Progress → Type 0) (events stack : ℕ) (mark : Mark) 
 nested-front P events stack mark marks h = narrow-mark P events stack mark.saved marks h.0 h.1
 
 module _ {M R D : Type 0} (t : Inside M R D) (sound : IsSound t) where
-  waiting-closed : (bytes : List ℕ) (text : Text) (left : Point) (current : Option ℕ) (closed : Bool) (waits : Waits)
-      → IsWaiting bytes text left current closed waits → IsWaiting bytes text left current true waits
-  waiting-closed bytes text left current closed Nothing h = h
-  waiting-closed bytes text left current closed Byte h = h
-  waiting-closed bytes text left current closed End h = record { none = h.none; closed_too = refl; all = h.all }
+  waiting-closed : (bytes : List ℕ) (skips : List Point) (text : Text) (left : Point) (current : Option ℕ) (closed : Bool) (waits : Waits)
+      → IsWaiting bytes skips text left current closed waits → IsWaiting bytes skips text left current true waits
+  waiting-closed bytes skips text left current closed Nothing h = h
+  waiting-closed bytes skips text left current closed Byte h = h
+  waiting-closed bytes skips text left current closed End h = record { none = h.none; closed_too = refl; all = h.all }
 
   pub closed-sound : IsSound (record t { closed = true })
   closed-sound =
       let bytes = t.parse_state.now.bytes.now in
+      let skips = t.skips.items in
+      let text = text_of t in
       record {
         limit = sound.limit;
         end_at = sound.end_at;
         text = sound.text;
+        skips = sound.skips;
         read = sound.read;
-        waiting = waiting-closed bytes (text_of t) t.left t.current t.closed t.waits sound.waiting;
+        waiting = waiting-closed bytes skips text t.left t.current t.closed t.waits sound.waiting;
         ended = λ _. refl;
         made = sound.made;
-        marks = nested-map (IsProgress bytes (text_of t) t.events.items t.stack.items t.closed) (IsProgress bytes (text_of t) t.events.items t.stack.items true) (length t.events.items) (length t.stack.items) (reverse t.marks.items)
-            (λ p a b h. record { read = h.read; ended = λ _. refl; made = h.made }) sound.marks;
+        marks = nested-map (IsProgress bytes skips text t.events.items t.stack.items t.closed) (IsProgress bytes skips text t.events.items t.stack.items true) (length t.events.items) (length t.stack.items) (reverse t.marks.items)
+            (λ p a b h.
+            let position = position_from bytes skips t.start p.left in
+            record {
+              read = h.read;
+              ended = λ _. refl;
+              made = made-more bytes skips t.start text.end p.left p.previous sound.skips h.read (take p.events_len t.events.items) (take p.stack_len t.stack.items)
+                  (can_feed position (length text.seats) t.closed) (can_feed position (length text.seats) true) (λ e. or-true _) h.made;
+            }) sound.marks;
       }

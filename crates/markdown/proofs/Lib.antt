@@ -29,3 +29,7 @@ pub mod Standing
 pub mod Steps
 pub mod FromStart
 pub mod TextOrder
+pub mod Unwinding
+pub mod GapLaws
+pub mod GoingOn
+pub mod SkipSearch

@@ -1,6 +1,6 @@
 -- Each call on a tokenizer keeps what holds of its fields, and does what its contract says.
-use Rattle.std.proofs.Common.{◌≡◌, ℕ, ◌≤◌, ◌<◌, List, [], Bool, true, false, Option, Some, None, length, refl, sym, ap, ◌∙◌, subst, arith, rules, ◌==◌}
-use Rattle.std.specs.Prelude.{◌&&◌, ◌||◌, map, nat_lt, unwrap_or}
+use Rattle.std.proofs.Common.{◌≡◌, ℕ, ◌+◌, ◌≤◌, ◌<◌, List, [], Bool, true, false, Option, Some, None, length, refl, sym, ap, ◌∙◌, subst, arith, rules, add-one, ◌⊎◌, inl, inr}
+use Rattle.std.specs.Prelude.{map, nat_lt, unwrap_or}
 use Rattle.std.proofs.lemmas.Bool.{lt-ltb}
 use Rattle.std.proofs.lemmas.Bool.Decides.{nat_tests}
 use Rattle.markdown_base.specs.declared.event.Point.{Point}
@@ -17,21 +17,22 @@ use Rattle.markdown.specs.Calls.{consumed}
 use Rattle.markdown.specs.Reading.{fed}
 use Rattle.markdown.specs.Engine.{IsWellFormed}
 use Rattle.markdown.specs.Work.{IsInText}
-use Rattle.markdown.specs.View.{TAB, seen, text_of, end_point, seats_between, IsReadTo, ByteWaits, EndWaits, IsWaiting, IsSound}
-use Rattle.markdown.specs.Cursor.{IsPlace, IsSeatAt, rest_at}
+use Rattle.markdown.specs.Gaps.{resumed}
+use Rattle.markdown.specs.View.{TAB, seen, text_of, end_point, seats_between, position_from, standing, IsReadTo, ByteWaits, EndWaits, IsWaiting, IsSound}
+use Rattle.markdown.specs.Cursor.{IsPlace, IsSeatAt, rest_at, is_before_pair, IsNextByte}
 use Rattle.markdown.proofs.Orders.{later-later}
 use Rattle.markdown.proofs.Seats.{one-seat}
 use Rattle.markdown.proofs.Standing.{place-of-point, shown-shown, shown-upto, seat-shown, seat-passes}
-use Rattle.markdown.proofs.Cursors.{after-number}
+use Rattle.markdown.proofs.GapLaws.{IsResumed}
 use Rattle.markdown.proofs.Points.{point_at-is, shown-line, shown-column, same-numbers}
 use Rattle.markdown.specs.Made.{IsMade}
 use Rattle.markdown.proofs.MadeLemmas.{made-consume, made-end}
-use Rattle.markdown.proofs.Fields.{four, within, next-shown, next-seat, next-more, next-past, read-next, next-none-left, end-shown}
+use Rattle.markdown.proofs.Fields.{four, looks, within, next-shown, next-seat, next-more, next-past, next-number, read-next, next-none-left, end-shown, made-later}
 
-nat_lt-is : (a b : ℕ) → a < b → nat_lt a b ≡ true
+pub nat_lt-is : (a b : ℕ) → a < b → nat_lt a b ≡ true
 nat_lt-is a b h = search (rules, lt-ltb)
 
-nat_lt-no : (a b : ℕ) → b ≤ a → nat_lt a b ≡ false
+pub nat_lt-no : (a b : ℕ) → b ≤ a → nat_lt a b ≡ false
 nat_lt-no a b h = grind (arith, nat_tests)
 
 module _ {M R D : Type 0} (t : Inside M R D) (sound : IsSound t) where
@@ -41,36 +42,46 @@ module _ {M R D : Type 0} (t : Inside M R D) (sound : IsSound t) where
   abbrev end_in : Point
   end_in = end_point bytes_in t.end
 
+  abbrev skips_in : List Point
+  skips_in = t.skips.items
+
+  abbrev here_in : Point
+  here_in = resumed skips_in t.left
+
   abbrev position_in : ℕ
-  position_in = length (seats_between bytes_in t.start t.left)
+  position_in = position_from bytes_in skips_in t.start t.left
+
+  -- the place from which the next byte is looked for
+  looks_in : IsResumed TAB bytes_in skips_in t.start end_in t.left here_in
+  looks_in = looks bytes_in skips_in t.start end_in t.left t.previous sound.skips sound.read
 
   pub end-place-in : IsPlace TAB bytes_in end_in
   end-place-in = place-of-point TAB bytes_in four end_in (point_at-is TAB bytes_in t.end end_in sound.end_at).is_point
 
-  bytes-wait : (w : Waits) → IsWaiting bytes_in (text_of t) t.left t.current t.closed w → w ≡ Byte → ByteWaits bytes_in t.left end_in t.current
+  bytes-wait : (w : Waits) → IsWaiting bytes_in skips_in (text_of t) t.left t.current t.closed w → w ≡ Byte → ByteWaits bytes_in skips_in t.left end_in t.current
   bytes-wait Nothing h e = absurd cc
   bytes-wait Byte h e = h
   bytes-wait End h e = absurd cc
 
-  pub byte-waits : t.waits ≡ Byte → ByteWaits bytes_in t.left end_in t.current
+  pub byte-waits : t.waits ≡ Byte → ByteWaits bytes_in skips_in t.left end_in t.current
   byte-waits e = bytes-wait t.waits sound.waiting e
 
-  ends-wait : (w : Waits) → IsWaiting bytes_in (text_of t) t.left t.current t.closed w → w ≡ End → EndWaits t.current t.closed position_in (length (seats_between bytes_in t.start end_in))
+  ends-wait : (w : Waits) → IsWaiting bytes_in skips_in (text_of t) t.left t.current t.closed w → w ≡ End → EndWaits t.current t.closed position_in (length (seats_between bytes_in skips_in t.start end_in))
   ends-wait Nothing h e = absurd cc
   ends-wait Byte h e = absurd cc
   ends-wait End h e = h
 
-  end-waits : t.waits ≡ End → EndWaits t.current t.closed position_in (length (seats_between bytes_in t.start end_in))
+  end-waits : t.waits ≡ End → EndWaits t.current t.closed position_in (length (seats_between bytes_in skips_in t.start end_in))
   end-waits e = ends-wait t.waits sound.waiting e
 
-  -- where the end is fed one stands at the end of the text
-  end-is : length (seen t).text.seats ≤ (seen t).configuration.position → record { line = t.left.line; column = t.left.column; index = t.end.0; vs = t.end.1 } ≡ end_in
+  -- where all was read one stands at the end of the text, after what is passed
+  end-is : length (seen t).text.seats ≤ (seen t).configuration.position → record { line = here_in.line; column = here_in.column; index = t.end.0; vs = t.end.1 } ≡ end_in
   end-is all =
       let at = point_at-is TAB bytes_in t.end end_in sound.end_at in
-      let s = end-shown bytes_in t.start end_in t.left t.previous sound.read all end-place-in in
-      same-numbers t.left.line t.left.column t.end.0 t.end.1 end_in.line end_in.column end_in.index end_in.vs
-      (sym (shown-line bytes_in t.left) ∙ ap (λ (p : Point). p.line) (sym s) ∙ shown-line bytes_in end_in)
-      (sym (shown-column bytes_in t.left) ∙ ap (λ (p : Point). p.column) (sym s) ∙ shown-column bytes_in end_in)
+      let s = end-shown bytes_in skips_in t.start end_in t.left t.previous sound.skips sound.read all end-place-in in
+      same-numbers here_in.line here_in.column t.end.0 t.end.1 end_in.line end_in.column end_in.index end_in.vs
+      (sym (shown-line bytes_in here_in) ∙ ap (λ (p : Point). p.line) (sym s) ∙ shown-line bytes_in end_in)
+      (sym (shown-column bytes_in here_in) ∙ ap (λ (p : Point). p.column) (sym s) ∙ shown-column bytes_in end_in)
       (sym at.index) (sym at.vs)
 
   -- where one stands: nothing waits
@@ -78,55 +89,55 @@ module _ {M R D : Type 0} (t : Inside M R D) (sound : IsSound t) where
   point-nothing e = rw e sound.read.back
 
   -- a byte waits
-  pub point-byte : t.waits ≡ Byte → (seat : Seat) → IsSeatAt TAB bytes_in t.left seat → seat.point ≡ (sight (seen t).given (seen t).text (seen t).configuration).point
+  pub point-byte : t.waits ≡ Byte → (seat : Seat) → IsSeatAt TAB bytes_in here_in seat → seat.point ≡ (sight (seen t).given (seen t).text (seen t).configuration).point
   point-byte e seat n =
       let w = byte-waits e in
-      let is = ap (point_or end_in) (next-seat bytes_in t.start end_in t.left t.previous sound.read w.seat w.at w.before) in
-      rw e (ap (λ (s : Seat). s.point) (one-seat TAB bytes_in t.left seat w.seat n w.at) ∙ sym is)
+      let is = ap (point_or end_in) (next-seat bytes_in skips_in t.start end_in t.left t.previous sound.skips sound.read w.seat w.at w.before) in
+      rw e (ap (λ (s : Seat). s.point) (one-seat TAB bytes_in here_in seat w.seat n w.at) ∙ sym is)
 
-  pub byte-is-there : t.waits ≡ Byte → rest_at TAB bytes_in t.left ≡ [] → ⊥
+  pub byte-is-there : t.waits ≡ Byte → rest_at TAB bytes_in here_in ≡ [] → ⊥
   byte-is-there e none = let w = byte-waits e in let f = sym none ∙ w.at.is in absurd cc
 
   -- the end waits
-  pub point-end : t.waits ≡ End → record { line = t.left.line; column = t.left.column; index = t.end.0; vs = t.end.1 } ≡ (sight (seen t).given (seen t).text (seen t).configuration).point
+  pub point-end : t.waits ≡ End → record { line = here_in.line; column = here_in.column; index = t.end.0; vs = t.end.1 } ≡ (sight (seen t).given (seen t).text (seen t).configuration).point
   point-end e = rw e (end-is (end-waits e).all)
 
-  current-by : (w : Waits) → IsWaiting bytes_in (text_of t) t.left t.current t.closed w → t.current ≡ current_of (text_of t) position_in w
+  current-by : (w : Waits) → IsWaiting bytes_in skips_in (text_of t) t.left t.current t.closed w → t.current ≡ current_of (text_of t) position_in w
   current-by Nothing h = h
-  current-by Byte h = h.is ∙ ap byte_of (sym (next-seat bytes_in t.start end_in t.left t.previous sound.read h.seat h.at h.before))
+  current-by Byte h = h.is ∙ ap byte_of (sym (next-seat bytes_in skips_in t.start end_in t.left t.previous sound.skips sound.read h.seat h.at h.before))
   current-by End h = h.none
 
   pub current-is : t.current ≡ (sight (seen t).given (seen t).text (seen t).configuration).current
   current-is = current-by t.waits sound.waiting
 
-  here-by : (w : Waits) → IsWaiting bytes_in (text_of t) t.left t.current t.closed w → shown bytes_in t.left ≡ shown bytes_in (point_of (text_of t) position_in w)
+  here-by : (w : Waits) → IsWaiting bytes_in skips_in (text_of t) t.left t.current t.closed w → shown bytes_in (standing skips_in t.left w) ≡ shown bytes_in (point_of (text_of t) position_in w)
   here-by Nothing h = ap (shown bytes_in) sound.read.back
   here-by Byte h =
-      sym (next-shown bytes_in t.start end_in t.left t.previous sound.read h.seat h.at)
-      ∙ ap (λ (o : Option Seat). shown bytes_in (point_or end_in o)) (sym (next-seat bytes_in t.start end_in t.left t.previous sound.read h.seat h.at h.before))
-  here-by End h = sym (end-shown bytes_in t.start end_in t.left t.previous sound.read h.all end-place-in)
+      sym (next-shown bytes_in skips_in t.start end_in t.left t.previous sound.skips sound.read h.seat h.at)
+      ∙ ap (λ (o : Option Seat). shown bytes_in (point_or end_in o)) (sym (next-seat bytes_in skips_in t.start end_in t.left t.previous sound.skips sound.read h.seat h.at h.before))
+  here-by End h = sym (end-shown bytes_in skips_in t.start end_in t.left t.previous sound.skips sound.read h.all end-place-in)
 
-  -- an enter stands where an exit would
-  pub here-is : shown bytes_in t.left ≡ (sight (seen t).given (seen t).text (seen t).configuration).here
+  -- where an enter stands
+  pub here-is : shown bytes_in (standing skips_in t.left t.waits) ≡ (sight (seen t).given (seen t).text (seen t).configuration).here
   here-is = here-by t.waits sound.waiting
 
   pub left-is : shown bytes_in t.left ≡ (sight (seen t).given (seen t).text (seen t).configuration).left
   left-is = ap (shown bytes_in) sound.read.back
 
-  closed-by : (w : Waits) → t.waits ≡ w → IsWaiting bytes_in (text_of t) t.left t.current t.closed w → w ≡ End → t.closed ≡ true
+  closed-by : (w : Waits) → t.waits ≡ w → IsWaiting bytes_in skips_in (text_of t) t.left t.current t.closed w → w ≡ End → t.closed ≡ true
   closed-by Nothing e h f = absurd cc
   closed-by Byte e h f = absurd cc
   closed-by End e h f = h.closed_too
 
-  more-by : (w : Waits) → IsWaiting bytes_in (text_of t) t.left t.current t.closed w → w ≡ Byte → position_in < length (seats_between bytes_in t.start end_in)
+  more-by : (w : Waits) → IsWaiting bytes_in skips_in (text_of t) t.left t.current t.closed w → w ≡ Byte → position_in < length (seats_between bytes_in skips_in t.start end_in)
   more-by Nothing h f = absurd cc
-  more-by Byte h f = next-more bytes_in t.start end_in t.left t.previous sound.read h.seat h.at h.before
+  more-by Byte h f = next-more bytes_in skips_in t.start end_in t.left t.previous sound.skips sound.read h.seat h.at h.before
   more-by End h f = absurd cc
 
   pub in-text : IsInText (seen t)
   in-text = record {
     text = sound.text;
-    within = within bytes_in t.start end_in t.left t.previous sound.read;
+    within = within bytes_in skips_in t.start end_in t.left t.previous sound.skips sound.read;
     byte = more-by t.waits sound.waiting;
     end = closed-by t.waits refl sound.waiting;
     ended = sound.ended;
@@ -134,43 +145,62 @@ module _ {M R D : Type 0} (t : Inside M R D) (sound : IsSound t) where
 
   pub well-formed : t.stack.items ≡ [] → IsWellFormed bytes_in (seen t).configuration
   well-formed e =
-      let m = subst (λ (stack : List Name). IsMade bytes_in t.events.items stack (shown bytes_in t.left) (shown bytes_in t.left)) e sound.made in
-      let w = made-end bytes_in t.events.items (shown bytes_in t.left) (shown bytes_in t.left) m in
+      let left = shown bytes_in t.left in let bound = shown bytes_in (standing skips_in t.left t.waits) in
+      let m = subst (λ (stack : List Name). IsMade bytes_in t.events.items stack left bound) e sound.made in
+      let w = made-end bytes_in t.events.items left bound m in
       record { balanced = w.0; void_tight = w.1; in_order = w.2 }
 
   pub stack-is : t.stack.items ≡ map (λ e. e.name) (open_events t.events.items)
   stack-is = sym sound.made.names
 
   -- the test of the code
-  pub before-end : (q : Point) (b : Bool) → b ≡ (nat_lt q.index t.end.0 || ((q.index == t.end.0) && nat_lt q.vs t.end.1)) → stands_before q end_in ≡ b
-  before-end q b e = let at = point_at-is TAB bytes_in t.end end_in sound.end_at in let i = at.index in let v = at.vs in rw (i, v) (sym e)
+  pub before-end : (q : Point) → stands_before q end_in ≡ is_before_pair q t.end
+  before-end q = let at = point_at-is TAB bytes_in t.end end_in sound.end_at in let i = at.index in let v = at.vs in rw (i, v) refl
+
+  -- an enter may stand after what is passed
+  abbrev MadeHere : Type 0
+  MadeHere = IsMade bytes_in t.events.items t.stack.items (shown bytes_in t.left) (shown bytes_in here_in)
+
+  stands-here : (w : Waits) → IsMade bytes_in t.events.items t.stack.items (shown bytes_in t.left) (shown bytes_in (standing skips_in t.left w)) → MadeHere
+  stands-here Nothing m = made-later bytes_in skips_in t.start end_in t.left t.previous sound.skips sound.read t.events.items t.stack.items m
+  stands-here Byte m = m
+  stands-here End m = m
+
+  made-here : MadeHere
+  made-here = stands-here t.waits sound.made
 
   -- the next byte is fed
-  module _ (seat : Seat) (n : IsSeatAt TAB bytes_in t.left seat) where
-    pub fed-more : stands_before seat.point end_in ≡ true → (seen t).configuration.position < length (seen t).text.seats
-    fed-more lt = next-more bytes_in t.start end_in t.left t.previous sound.read seat n lt
+  module _ (seat : Seat) (n : IsSeatAt TAB bytes_in here_in seat) where
+    pub fed-more : is_before_pair seat.point t.end ≡ true → (seen t).configuration.position < length (seen t).text.seats
+    fed-more lt = next-more bytes_in skips_in t.start end_in t.left t.previous sound.skips sound.read seat n (before-end seat.point ∙ lt)
 
-    pub fed-seen : stands_before seat.point end_in ≡ true
-        → seen (record t { waits = Byte; current = Some seat.byte }) ≡ at_configuration (seen t) (fed (seen t).text (seen t).configuration)
-    fed-seen lt = let f = nat_lt-is (seen t).configuration.position (length (seen t).text.seats) (fed-more lt) in rw f refl
+    pub fed-seen : (byte : ℕ) → is_before_pair seat.point t.end ≡ true
+        → seen (record t { waits = Byte; current = Some byte }) ≡ at_configuration (seen t) (fed (seen t).text (seen t).configuration)
+    fed-seen byte lt = let f = nat_lt-is (seen t).configuration.position (length (seen t).text.seats) (fed-more lt) in rw f refl
 
-    pub fed-sound : stands_before seat.point end_in ≡ true → IsSound (record t { waits = Byte; current = Some seat.byte })
-    fed-sound lt = record {
+    pub fed-sound : (byte : ℕ) → is_before_pair seat.point t.end ≡ true → seat.byte ≡ byte → IsSound (record t { waits = Byte; current = Some byte })
+    fed-sound byte lt e = record {
       limit = sound.limit;
       end_at = sound.end_at;
       text = sound.text;
+      skips = sound.skips;
       read = sound.read;
-      waiting = record { seat = seat; at = n; before = lt; is = refl };
+      waiting = record { seat = seat; at = n; before = before-end seat.point ∙ lt; is = ap Some (sym e) };
       ended = sound.ended;
-      made = sound.made;
+      made = made-here;
       marks = sound.marks;
     }
 
-    pub fed-past : stands_before seat.point end_in ≡ false → length (seen t).text.seats ≤ (seen t).configuration.position
-    fed-past lt = next-past bytes_in t.start end_in t.left t.previous sound.read seat n lt
+    pub fed-past : is_before_pair seat.point t.end ≡ false → length (seen t).text.seats ≤ (seen t).configuration.position
+    fed-past lt = next-past bytes_in skips_in t.start end_in t.left t.previous sound.skips sound.read seat n (before-end seat.point ∙ lt)
 
-  pub fed-none : rest_at TAB bytes_in t.left ≡ [] → length (seen t).text.seats ≤ (seen t).configuration.position
-  fed-none e = next-none-left bytes_in t.start end_in t.left t.previous sound.read e
+  fed-nothing : rest_at TAB bytes_in here_in ≡ [] → length (seen t).text.seats ≤ (seen t).configuration.position
+  fed-nothing e = next-none-left bytes_in skips_in t.start end_in t.left t.previous sound.skips sound.read e
+
+  -- no byte is left
+  pub fed-none : IsNextByte TAB bytes_in here_in t.end None → length (seen t).text.seats ≤ (seen t).configuration.position
+  fed-none (inl e) = fed-nothing e
+  fed-none (inr n) = fed-past n.0 n.1 n.2
 
   -- the end is fed
   pub end-fed-sound : length (seen t).text.seats ≤ (seen t).configuration.position → t.closed ≡ true → IsSound (record t { waits = End; current = None; ended = true })
@@ -178,29 +208,30 @@ module _ {M R D : Type 0} (t : Inside M R D) (sound : IsSound t) where
     limit = sound.limit;
     end_at = sound.end_at;
     text = sound.text;
+    skips = sound.skips;
     read = sound.read;
     waiting = record { none = refl; closed_too = closed; all = all };
     ended = λ _. closed;
-    made = sound.made;
+    made = made-here;
     marks = sound.marks;
   }
 
   -- a byte is consumed
-  module _ (waits : ByteWaits bytes_in t.left end_in t.current) where
+  module _ (waits : ByteWaits bytes_in skips_in t.left end_in t.current) where
     module _ (left : Point) (l : left ≡ waits.seat.end) where
-      pub consumed-read : IsReadTo bytes_in (text_of t) left t.current
+      pub consumed-read : IsReadTo bytes_in skips_in (text_of t) left t.current
       consumed-read =
-          let r = read-next bytes_in t.start end_in t.left t.previous sound.read waits.seat waits.at waits.before in
+          let r = read-next bytes_in skips_in t.start end_in t.left t.previous sound.skips sound.read waits.seat waits.at waits.before in
           let f = waits.is in rw (l, f) r
 
-      consumed-later : stands_before (shown bytes_in left) (shown bytes_in t.left) ≡ false
+      consumed-later : stands_before (shown bytes_in left) (shown bytes_in here_in) ≡ false
       consumed-later =
-          let s = seat-shown TAB bytes_in four t.left waits.seat sound.read.place waits.at in
-          let q = shown bytes_in t.left in
-          rw (l, s) (later-later waits.seat.end.index waits.seat.end.vs t.left.index t.left.vs q.index q.vs (seat-passes TAB bytes_in four t.left waits.seat sound.read.place waits.at) (shown-upto TAB bytes_in t.left))
+          let s = seat-shown TAB bytes_in four here_in waits.seat looks_in.place waits.at in
+          let q = shown bytes_in here_in in
+          rw (l, s) (later-later waits.seat.end.index waits.seat.end.vs here_in.index here_in.vs q.index q.vs (seat-passes TAB bytes_in four here_in waits.seat looks_in.place waits.at) (shown-upto TAB bytes_in here_in))
 
       pub consumed-made : IsMade bytes_in t.events.items t.stack.items (shown bytes_in left) (shown bytes_in left)
-      consumed-made = made-consume bytes_in t.events.items t.stack.items (shown bytes_in t.left) (shown bytes_in t.left) sound.made (shown bytes_in left) (shown bytes_in left)
+      consumed-made = made-consume bytes_in t.events.items t.stack.items (shown bytes_in t.left) (shown bytes_in here_in) made-here (shown bytes_in left) (shown bytes_in left)
           consumed-later (stands-self (shown bytes_in left)) (shown-shown TAB bytes_in left) (shown-shown TAB bytes_in left)
         where
           stands-self : (p : Point) → stands_before p p ≡ false
@@ -211,6 +242,7 @@ module _ {M R D : Type 0} (t : Inside M R D) (sound : IsSound t) where
         limit = sound.limit;
         end_at = sound.end_at;
         text = sound.text;
+        skips = sound.skips;
         read = consumed-read;
         waiting = refl;
         ended = λ h. absurd cc;
@@ -218,12 +250,50 @@ module _ {M R D : Type 0} (t : Inside M R D) (sound : IsSound t) where
         marks = sound.marks;
       }
 
-  pub consumed-seen : (waits : ByteWaits bytes_in t.left end_in t.current) (left : Point) → left ≡ waits.seat.end
+  pub consumed-seen : (waits : ByteWaits bytes_in skips_in t.left end_in t.current) (left : Point) → left ≡ waits.seat.end
       → seen (record t { left = left; previous = t.current; current = None; ended = false; waits = Nothing }) ≡ at_configuration (seen t) (consumed (seen t).configuration)
   consumed-seen waits left l =
-      let n = after-number TAB bytes_in t.left waits.seat sound.read.place waits.at four t.start sound.read.from in
+      let n = next-number bytes_in skips_in t.start end_in t.left t.previous sound.skips sound.read waits.seat waits.at ∙ sym (add-one position_in) in
       rw (l, n) refl
 
   -- the byte that is consumed is the next of the document
-  pub byte-of-seat : (waits : ByteWaits bytes_in t.left end_in t.current) (byte : ℕ) → byte ≡ unwrap_or t.current 0 → waits.seat.byte ≡ byte
-  byte-of-seat waits byte e = sym (e ∙ ap (λ (o : Option ℕ). unwrap_or o 0) waits.is)
+  pub byte-of-seat : (waits : ByteWaits bytes_in skips_in t.left end_in t.current) (byte : ℕ) → t.current ≡ Some byte → waits.seat.byte ≡ byte
+  byte-of-seat waits byte e = let same : Some waits.seat.byte ≡ Some byte = sym waits.is ∙ e in cc
+
+  pub byte-is-known : t.waits ≡ Byte → t.current ≡ None → ⊥
+  byte-is-known e none = let w = byte-waits e in let f : None ≡ Some w.seat.byte = sym none ∙ w.is in absurd cc
+
+  -- the place is that of a byte, or at the end of the document
+  pub here-within : 0 < here_in.vs → here_in.index < length bytes_in
+  here-within = looks_in.place.bounds.tab
+
+  pub here-place : IsPlace TAB bytes_in here_in
+  here-place = looks_in.place
+
+  -- the code's place, from its list of gaps
+  pub at-here : (slice : List Point) (place : Point) → slice ≡ t.skips.items → place ≡ resumed slice t.left → place ≡ here_in
+  at-here slice place e f = f ∙ ap (λ (skips : List Point). resumed skips t.left) e
+
+  pub within-at : (slice : List Point) (place : Point) → slice ≡ t.skips.items → place ≡ resumed slice t.left → 0 < place.vs → place.index < length bytes_in
+  within-at slice place e f = let is = at-here slice place e f in rw is here-within
+
+  pub byte-at : (slice : List Point) (place : Point) (o : Option ℕ) → slice ≡ t.skips.items → place ≡ resumed slice t.left → IsNextByte TAB bytes_in place t.end o → IsNextByte TAB bytes_in here_in t.end o
+  byte-at slice place o e f h = subst (λ (p : Point). IsNextByte TAB bytes_in p t.end o) (at-here slice place e f) h
+
+  pub place-at : (slice : List Point) (place : Point) → slice ≡ t.skips.items → place ≡ resumed slice t.left → IsPlace TAB bytes_in place
+  place-at slice place e f = subst (IsPlace TAB bytes_in) (sym (at-here slice place e f)) here-place
+
+  pub seat-at : (slice : List Point) (place : Point) (seat : Seat) → slice ≡ t.skips.items → place ≡ resumed slice t.left → IsSeatAt TAB bytes_in here_in seat → IsSeatAt TAB bytes_in place seat
+  seat-at slice place seat e f h = subst (λ (p : Point). IsSeatAt TAB bytes_in p seat) (sym (at-here slice place e f)) h
+
+  pub point-byte-at : (slice : List Point) (place : Point) → slice ≡ t.skips.items → place ≡ resumed slice t.left → t.waits ≡ Byte → (seat : Seat) → IsSeatAt TAB bytes_in place seat
+      → seat.point ≡ (sight (seen t).given (seen t).text (seen t).configuration).point
+  point-byte-at slice place e f w seat n = point-byte w seat (subst (λ (p : Point). IsSeatAt TAB bytes_in p seat) (at-here slice place e f) n)
+
+  pub byte-is-there-at : (slice : List Point) (place : Point) → slice ≡ t.skips.items → place ≡ resumed slice t.left → t.waits ≡ Byte → rest_at TAB bytes_in place ≡ [] → ⊥
+  byte-is-there-at slice place e f w n = byte-is-there w (subst (λ (p : Point). rest_at TAB bytes_in p ≡ []) (at-here slice place e f) n)
+
+  pub point-end-at : (slice : List Point) (place : Point) → slice ≡ t.skips.items → place ≡ resumed slice t.left → t.waits ≡ End
+      → record { line = place.line; column = place.column; index = t.end.0; vs = t.end.1 } ≡ (sight (seen t).given (seen t).text (seen t).configuration).point
+  point-end-at slice place e f w =
+      ap (λ (p : Point). record { line = p.line; column = p.column; index = t.end.0; vs = t.end.1 }) (at-here slice place e f) ∙ point-end w

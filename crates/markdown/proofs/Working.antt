@@ -3,7 +3,7 @@ use Rattle.std.proofs.Common.{◌≡◌, ◌≢◌, ◌+◌, ◌≤◌, ◌<◌,
 use Rattle.std.proofs.lemmas.Bool.{lt-ltb}
 use Rattle.std.proofs.lemmas.List.Sums.{sum_by-append, sum_by-cons}
 use Rattle.std.proofs.lemmas.List.{append-nil}
-use Rattle.std.specs.Prelude.{filter, slice_get, nat_lt}
+use Rattle.std.specs.Prelude.{filter, slice_get, nat_lt, IsSome}
 use Rattle.std.specs.declared.result.Result.TheVariants as result
 use Rattle.markdown_base.specs.declared.event.Point.{Point}
 use Rattle.markdown_base.specs.declared.message.Message.{Message}
@@ -22,9 +22,13 @@ use Rattle.markdown.specs.Sight.{Sight, sight, sight_of, seat_before}
 use Rattle.markdown.specs.Reading.{Reading, fed, restored, settled_at, EndsIn, more_calls, read}
 use Rattle.markdown.specs.Lawful.{stepped, IsCalled, ConsumesOnce, EndsWhenRead, KeepsInvariant, CostPays}
 use Rattle.markdown.specs.Engine.{LeadsOn, IsPushed, IsWellFormed, budget, taken}
-use Rattle.markdown.specs.Work.{LeadsAll, Stops, settled, extended, OnlyWorked, TakesUp, IsSettled, IsInText, answer_in}
+use Rattle.markdown.specs.Work.{LeadsAll, Stops, settled_all, settled_to, EndsClosed, extended, OnlyWorked, TakesUp, IsInText, answer_in}
 use Rattle.markdown.proofs.Readings.{fed-ends, called-ends, settled-ok-ends, settled-nok-ends}
 use Rattle.markdown.proofs.Ends.{error-stays}
+
+-- the tokenizer after one choice ended
+abbrev settled : {M R D : Type 0} → Seen M R D → Choice → List Choice → State → Seen M R D
+settled t c cs answer = settled_to t (record { configuration = settled_at c.kind c.saved answer t.configuration; choices = cs; answer = answer })
 
 -- A text that continues another has its seats in front, and begins where it does
 pub record Continues (text w : Text) : Type 0 where
@@ -171,15 +175,38 @@ module _ {M R D : Type 0} (given : Given) (step : Sight → Configuration R D �
         paid = rw e (omega (arith, pays, sum_by-cons (reserve w) c cs));
       }
 
-  leads-settled : (w : Text) → IsText given w → (t u : Seen M R D) (s : State) (ok : Bool) (next : State) → answer_in s ≡ Some ok → IsSettled t u ok (Some next)
-      → holds w t.configuration t.choices s → LeadsOn given step holds cost reserve w t s u next
-  leads-settled w is t u Ok true next e h k = rw (h.3, h.4) (leads-ok w is t h.0 h.1 h.2 k)
-  leads-settled w is t u Nok false next e h k = rw (h.3, h.4) (leads-nok w is t h.0 h.1 h.2 k)
-  leads-settled w is t u Ok false next e h k = absurd cc
-  leads-settled w is t u Nok true next e h k = absurd cc
-  leads-settled w is t u (Next n) ok next e h k = absurd cc
-  leads-settled w is t u (Retry n) ok next e h k = absurd cc
-  leads-settled w is t u (Error n) ok next e h k = absurd cc
+  -- choices end, until one goes on with a state, or none is left
+  abbrev SettlesTo : Text → Seen M R D → Configuration R D → List Choice → State → Type 0
+  SettlesTo w t k cs s =
+      let e = settled_all k cs s in
+      LeadsOn given step holds cost reserve w (settled_to t (record { configuration = k; choices = cs; answer = s })) s (settled_to t e) e.answer
+
+  pub leads-settled : (w : Text) → IsText given w → (t : Seen M R D) (k : Configuration R D) (cs : List Choice) (s : State) → holds w k cs s → SettlesTo w t k cs s
+  leads-settled w is t k cs (Next name) h = leads-refl given step holds cost reserve w (settled_to t (record { configuration = k; choices = cs; answer = Next name })) (Next name) h
+  leads-settled w is t k cs (Retry name) h = leads-refl given step holds cost reserve w (settled_to t (record { configuration = k; choices = cs; answer = Retry name })) (Retry name) h
+  leads-settled w is t k cs (Error m) h = leads-refl given step holds cost reserve w (settled_to t (record { configuration = k; choices = cs; answer = Error m })) (Error m) h
+  leads-settled w is t k [] Ok h = leads-refl given step holds cost reserve w (settled_to t (record { configuration = k; choices = []; answer = Ok })) Ok h
+  leads-settled w is t k [] Nok h = leads-refl given step holds cost reserve w (settled_to t (record { configuration = k; choices = []; answer = Nok })) Nok h
+  leads-settled w is t k (c ∷ cs) Ok h =
+      let now = settled_to t (record { configuration = k; choices = c ∷ cs; answer = Ok }) in
+      let first = leads-ok w is now c cs refl h in
+      let e = settled_all (settled_at c.kind c.saved Ok k) cs c.ok in
+      leads-trans given step holds cost reserve w now (settled now c cs Ok) (settled_to t e) Ok c.ok e.answer first (leads-settled w is t (settled_at c.kind c.saved Ok k) cs c.ok first.kept)
+  leads-settled w is t k (c ∷ cs) Nok h =
+      let now = settled_to t (record { configuration = k; choices = c ∷ cs; answer = Nok }) in
+      let first = leads-nok w is now c cs refl h in
+      let e = settled_all (settled_at c.kind c.saved Nok k) cs c.nok in
+      leads-trans given step holds cost reserve w now (settled now c cs Nok) (settled_to t e) Nok c.nok e.answer first (leads-settled w is t (settled_at c.kind c.saved Nok k) cs c.nok first.kept)
+
+-- where the reading ends no choice is left
+pub settled-ends : {R D : Type 0} (k : Configuration R D) (cs : List Choice) (s : State) → IsSome (answer_in (settled_all k cs s).answer) → (settled_all k cs s).choices ≡ []
+settled-ends k cs (Next name) h = absurd cc
+settled-ends k cs (Retry name) h = absurd cc
+settled-ends k cs (Error m) h = absurd cc
+settled-ends k [] Ok h = refl
+settled-ends k [] Nok h = refl
+settled-ends k (c ∷ cs) Ok h = settled-ends (settled_at c.kind c.saved Ok k) cs c.ok h
+settled-ends k (c ∷ cs) Nok h = settled-ends (settled_at c.kind c.saved Nok k) cs c.nok h
 
 restored-waits : {R D : Type 0} (saved : Option Saved) (k : Configuration R D) → (restored saved k).waiting ≡ Nothing
 restored-waits None k = refl
@@ -193,25 +220,18 @@ settled-waits Attempt saved (Next n) k = refl
 settled-waits Attempt saved (Retry n) k = refl
 settled-waits Attempt saved (Error n) k = refl
 
-only-by : {M R D : Type 0} (t u v : Seen M R D) → u ≡ v → OnlyWorked t v → OnlyWorked t u
-only-by t u v e h = rw e h
+-- no end waits that did not before
+pub settled-end : {R D : Type 0} (k : Configuration R D) (cs : List Choice) (s : State) → (settled_all k cs s).configuration.waiting ≡ End → k.waiting ≡ End
+settled-end k cs (Next name) h = h
+settled-end k cs (Retry name) h = h
+settled-end k cs (Error m) h = h
+settled-end k [] Ok h = h
+settled-end k [] Nok h = h
+settled-end k (c ∷ cs) Ok h = let e = settled-end (settled_at c.kind c.saved Ok k) cs c.ok h in let f : Nothing ≡ End = sym (settled-waits c.kind c.saved Ok k) ∙ e in absurd cc
+settled-end k (c ∷ cs) Nok h = let e = settled-end (settled_at c.kind c.saved Nok k) cs c.nok h in let f : Nothing ≡ End = sym (settled-waits c.kind c.saved Nok k) ∙ e in absurd cc
 
--- what a settled choice leaves
-pub record Settling {M R D : Type 0} (t u : Seen M R D) : Type 0 where
-  pub same : OnlyWorked t u
-  pub waits : u.configuration.waiting ≡ Nothing
-  pub calls : u.calls ≡ t.calls
-
-settling-by : {M R D : Type 0} (t u : Seen M R D) (c : Choice) (cs : List Choice) (answer : State) → u ≡ settled t c cs answer → Settling t u
-settling-by t u c cs answer e = rw e (record {
-  same = record { given = refl; machine = refl; text = refl; closed = refl };
-  waits = settled-waits c.kind c.saved answer t.configuration;
-  calls = refl;
-})
-
-pub settling : {M R D : Type 0} (t u : Seen M R D) (ok : Bool) (next : State) → IsSettled t u ok (Some next) → Settling t u
-settling t u true next h = settling-by t u h.0 h.1 Ok h.3
-settling t u false next h = settling-by t u h.0 h.1 Nok h.3
+pub settled-only : {M R D : Type 0} (t : Seen M R D) (s : Step R D) → OnlyWorked t (settled_to t s)
+settled-only t s = record { given = refl; machine = refl; text = refl; closed = refl }
 
 pub only-trans : {M R D : Type 0} (t u v : Seen M R D) → OnlyWorked t u → OnlyWorked u v → OnlyWorked t v
 only-trans t u v a b = record { given = b.given ∙ a.given; machine = b.machine ∙ a.machine; text = b.text ∙ a.text; closed = b.closed ∙ a.closed }
@@ -304,16 +324,26 @@ module _ {M R D : Type 0} (step : M → Given → Sight → Configuration R D �
   abbrev LawsBy : M → Given → List Name → Type 0
   LawsBy m given starts = Laws given (step m given) (holds m given) (cost m given) (reserve m given) starts
 
-  pub leads-for-refl : (m : M) (given : Given) (u : Seen M R D) (s : State) → LeadsFor m given u s u s
-  leads-for-refl m given u s w is h = leads-refl given (step m given) (holds m given) (cost m given) (reserve m given) w u s h
+  -- choices end
+  pub leads-for-settled : (m : M) (given : Given) (starts : List Name) → LawsBy m given starts → (t : Seen M R D) (s : State)
+      → let e = settled_all t.configuration t.choices s in LeadsFor m given t s (settled_to t e) e.answer
+  leads-for-settled m given starts laws t s w is h = leads-settled given (step m given) (holds m given) (cost m given) (reserve m given) starts laws w is t t.configuration t.choices s h
 
-  -- a choice more ends
-  pub leads-for-settled : (m : M) (given : Given) (starts : List Name) → LawsBy m given starts → (t u v : Seen M R D) (a s next : State) (ok : Bool)
-      → LeadsFor m given t a u s → answer_in s ≡ Some ok → IsSettled u v ok (Some next) → LeadsFor m given t a v next
-  leads-for-settled m given starts laws t u v a s next ok so_far e h w is holds_first =
-      let first = so_far w is holds_first in
-      leads-trans given (step m given) (holds m given) (cost m given) (reserve m given) w t u v a s next first
-      (leads-settled given (step m given) (holds m given) (cost m given) (reserve m given) starts laws w is u v s ok next e h first.kept)
+  -- where the reading ends no span is open
+  pub settled-closes : (m : M) (given : Given) (starts : List Name) → LawsBy m given starts → (t : Seen M R D) (s : State) → IsText given t.text → holds m given t.text t.configuration t.choices s
+      → EndsClosed (settled_all t.configuration t.choices s)
+  settled-closes m given starts laws t s is h some =
+      let e = settled_all t.configuration t.choices s in
+      let kept = (leads-for-settled m given starts laws t s t.text is h).kept in
+      let none = settled-ends t.configuration t.choices s some in
+      closed-by e.answer e.configuration some (subst (λ (cs : List Choice). holds m given t.text e.configuration cs e.answer) none kept)
+    where
+      closed-by : (answer : State) (k : Configuration R D) → IsSome (answer_in answer) → holds m given t.text k [] answer → k.stack ≡ []
+      closed-by (Next n) k some h = absurd cc
+      closed-by (Retry n) k some h = absurd cc
+      closed-by (Error n) k some h = absurd cc
+      closed-by Ok k some h = (laws.ends.ok t.text k is h).1
+      closed-by Nok k some h = absurd (laws.ends.nok t.text k is h)
 
   settled-same : (m : M) (given : Given) (flush : Bool) (t u v : Seen M R D) (a s next : State) → IsText given u.text → KeptBy m given flush t a u s → OnlyWorked u v
       → (v.configuration.waiting ≡ End → u.configuration.waiting ≡ End) → LeadsFor m given u s v next
@@ -371,6 +401,14 @@ module _ {M R D : Type 0} (step : M → Given → Sight → Configuration R D �
       let e = k.same.text in
       let paid' = rw e at paid in
       omega (arith, paid')
+
+-- where the work ends
+pub stops-there : {M R D : Type 0} (flush : Bool) (u v : Seen M R D) (s answer : State) → (IsSome (answer_in s) → u.choices ≡ []) → TakesUp flush u v s (result.Err answer) → Stops flush v answer
+stops-there flush u v (Next n) answer none h = rw (h.0, h.1) (h.2, h.3)
+stops-there flush u v (Retry n) answer none h = absurd h
+stops-there flush u v Ok answer none h = rw (h.0, h.1) (none refl)
+stops-there flush u v Nok answer none h = rw (h.0, h.1) (none refl)
+stops-there flush u v (Error m) answer none h = rw (h.0, h.1) tt
 
 pub smaller : (b p q : ℕ) → q ≤ b → q ≡ p + 1 → b - q < b - p
 smaller b p q h e = omega arith

@@ -1,5 +1,5 @@
 -- What stands at a place, in the bytes and in the virtual text.
-use Rattle.std.specs.Prelude.{◌≡◌, ℕ, suc, ◌+◌, ◌*◌, ◌%◌, ◌≤◌, ◌<◌, ◌==◌, nat_lt, ◌&&◌, ◌||◌, not, Bool, true, false, cond, slice_index, List, [], ◌∷◌, ◌++◌, drop, length, filter, Option, Some, None}
+use Rattle.std.specs.Prelude.{◌≡◌, ℕ, suc, ◌+◌, ◌*◌, ◌%◌, ◌≤◌, ◌<◌, ◌==◌, nat_lt, ◌&&◌, ◌||◌, not, Bool, true, false, cond, ◌⊎◌, slice_index, List, [], ◌∷◌, ◌++◌, drop, length, filter, Option, Some, None}
 use Rattle.markdown_base.specs.declared.event.Point.{Point}
 use Rattle.markdown_base.specs.Virtual.{Seat, point, tab_width, in_tab, virtual_from, virtual, end_after}
 use Rattle.markdown_base.specs.Places.{stands_before, shown}
@@ -46,6 +46,19 @@ pub record IsSeatAt (t : ℕ) (bytes : List ℕ) (p : Point) (seat : Seat) : Typ
 abbrev pub IsNextSeat : (t : ℕ) → List ℕ → Point → Option (ℕ × Point) → Type 0
 IsNextSeat t bytes p None = rest_at t bytes p ≡ []
 IsNextSeat t bytes p (Some r) = (end : Point) × IsSeatAt t bytes p (record { byte = r.0; point = r.1; end = end })
+
+-- a place is before another, given by index and number in a tab
+abbrev pub is_before_pair : Point → ℕ × ℕ → Bool
+is_before_pair p place = nat_lt p.index place.0 || ((p.index == place.0) && nat_lt p.vs place.1)
+
+-- a place is after another, given by index and number in a tab
+abbrev pub is_after_pair : Point → ℕ × ℕ → Bool
+is_after_pair p place = nat_lt place.0 p.index || ((place.0 == p.index) && nat_lt place.1 p.vs)
+
+-- what the search for the next virtual byte before an end tells
+abbrev pub IsNextByte : (t : ℕ) → List ℕ → Point → ℕ × ℕ → Option ℕ → Type 0
+IsNextByte t bytes p end None = (rest_at t bytes p ≡ []) ⊎ ((seat : Seat) × IsSeatAt t bytes p seat × (is_before_pair seat.point end ≡ false))
+IsNextByte t bytes p end (Some byte) = (seat : Seat) × IsSeatAt t bytes p seat × (is_before_pair seat.point end ≡ true) × (seat.byte ≡ byte)
 
 -- a CR LF begins at an index
 abbrev pub begins_pair : List ℕ → ℕ → Bool

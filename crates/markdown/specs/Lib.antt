@@ -20,3 +20,5 @@ pub mod Woven
 pub mod Cuts
 pub mod SpanWalks
 pub mod SpanWalksInner
+pub mod Gaps
+pub mod Unwound

@@ -1,11 +1,13 @@
 -- What the fields of a tokenizer mean. An inner file: no public clause names what stands here.
-use Rattle.std.specs.Prelude.{◌≡◌, ℕ, ◌+◌, ◌*◌, ◌<◌, ◌≤◌, ◌^◌, List, [], ◌∷◌, Bool, true, false, cond, Option, None, Some, filter, length, map, take, reverse, unwrap_or, IfSome}
+use Rattle.std.specs.Prelude.{◌≡◌, ℕ, ◌+◌, ◌*◌, ◌<◌, ◌≤◌, ◌^◌, List, [], ◌∷◌, Bool, true, false, cond, nat_lt, ◌||◌, Option, None, Some, length, map, take, reverse, unwrap_or, IfSome, Result}
+use Rattle.std.specs.declared.result.Result.TheVariants as result
 use Rattle.markdown_base.specs.declared.event.Event.{Event}
 use Rattle.markdown_base.specs.declared.event.Name.{Name}
+use Rattle.markdown_base.specs.declared.state.Name.{Name as StateName}
 use Rattle.markdown_base.specs.declared.event.Point.{Point}
 use Rattle.markdown_base.specs.declared.state.State.{State}
 use Rattle.markdown_base.specs.declared.state.State.TheVariants.{Next, Ok, Nok}
-use Rattle.markdown_base.specs.Virtual.{Seat, virtual, point}
+use Rattle.markdown_base.specs.Virtual.{Seat, point}
 use Rattle.markdown_base.specs.Places.{point_at, shown, stands_before, is_upto}
 use Rattle.markdown.specs.declared.waiting.Waits.{Waits}
 use Rattle.markdown.specs.declared.waiting.Waits.TheVariants.{Nothing, Byte, End}
@@ -14,13 +16,13 @@ use Rattle.markdown.specs.declared.waiting.Goal.TheVariants as goal
 use Rattle.markdown.specs.declared.waiting.Mark.{Mark}
 use Rattle.markdown.specs.declared.waiting.Progress.{Progress}
 use Rattle.markdown.specs.declared.waiting.AttemptKind.{AttemptKind}
-use Rattle.markdown.specs.declared.waiting.AttemptKind.TheVariants.{Attempt, Check}
 use Rattle.markdown.specs.declared.tokenizer.Tokenizer.TheInside.{Inside}
-use Rattle.markdown.specs.Text.{Text, IsText, in_range}
+use Rattle.markdown.specs.Text.{Text, IsText}
 use Rattle.markdown.specs.Configuration.{Configuration, Choice, Saved, Seen}
 use Rattle.markdown.specs.Calls.{saved_at}
 use Rattle.markdown.specs.Sight.{seat_before, byte_of, end_place}
-use Rattle.markdown.specs.Cursor.{IsPlace, IsSeatAt}
+use Rattle.markdown.specs.Cursor.{Every, IsPlace, IsSeatAt}
+use Rattle.markdown.specs.Gaps.{kept_between, resumed, IsSkip, IsOutside}
 use Rattle.markdown.specs.Made.{IsMade}
 
 abbrev pub state_of : Goal → State
@@ -28,19 +30,14 @@ state_of (goal.Next name) = Next name
 state_of goal.Ok = Ok
 state_of goal.Nok = Nok
 
+-- a name to go on with, or the answer at which the work ends
+abbrev pub taken_goal : Result StateName Goal → Result StateName State
+taken_goal (result.Ok name) = result.Ok name
+taken_goal (result.Err end) = result.Err (state_of end)
+
 -- a choice that begins in a configuration, and saves it or not
 abbrev pub choice_at : {R D : Type 0} → AttemptKind → (ok nok : State) → (saves : Bool) → Configuration R D → Choice
 choice_at kind ok nok saves k = record { kind = kind; ok = ok; nok = nok; saved = cond saves (Some (saved_at k)) None }
-
--- what a choice goes on with, by its answer
-abbrev pub goal_of : Mark → Bool → State
-goal_of mark true = state_of mark.ok
-goal_of mark false = state_of mark.nok
-
--- what a choice puts back, by its answer
-abbrev pub saved_for : Mark → Bool → Option Progress
-saved_for mark true = elim mark.kind [ Attempt ↦ None | Check ↦ mark.saved ]
-saved_for mark false = mark.saved
 
 -- at how many columns tab stops stand
 abbrev pub TAB : ℕ
@@ -50,25 +47,34 @@ TAB = 4
 abbrev pub end_point : List ℕ → (ℕ × ℕ) → Point
 end_point bytes place = unwrap_or (point_at TAB bytes place) (point 1 1 0 0)
 
--- the virtual bytes from one place on before another
-abbrev pub seats_between : List ℕ → Point → Point → List Seat
-seats_between bytes from to = filter (in_range from to) (virtual TAB bytes)
+-- the virtual bytes from one place on before another, without those in gaps
+abbrev pub seats_between : List ℕ → List Point → Point → Point → List Seat
+seats_between bytes skips from to = kept_between TAB bytes skips from to
 
-abbrev pub saved_of : List ℕ → Point → List Name → Option Progress → Option Saved
-saved_of bytes start stack None = None
-saved_of bytes start stack (Some p) = Some (record { position = length (seats_between bytes start p.left); ended = p.ended; events = p.events_len; stack = take p.stack_len stack })
+-- how many virtual bytes of the text stand before a place
+abbrev pub position_from : List ℕ → List Point → Point → Point → ℕ
+position_from bytes skips start p = length (seats_between bytes skips start p)
 
-abbrev pub choice_of : List ℕ → Point → List Name → Mark → Choice
-choice_of bytes start stack mark = record { kind = mark.kind; ok = state_of mark.ok; nok = state_of mark.nok; saved = saved_of bytes start stack mark.saved }
+-- what the code saved of a choice, with `position` as the number of bytes before a place, and the stack
+abbrev pub saved_at_place : (Point → ℕ) → List Name → Progress → Saved
+saved_at_place position stack p = record { position = position p.left; ended = p.ended; events = p.events_len; stack = take p.stack_len stack }
+
+abbrev pub saved_of : (Point → ℕ) → List Name → Option Progress → Option Saved
+saved_of position stack None = None
+saved_of position stack (Some p) = Some (saved_at_place position stack p)
+
+abbrev pub choice_of : (Point → ℕ) → List Name → Mark → Choice
+choice_of position stack mark = record { kind = mark.kind; ok = state_of mark.ok; nok = state_of mark.nok; saved = saved_of position stack mark.saved }
 
 abbrev pub seen : {M R D : Type 0} → Inside M R D → Seen M R D
 seen t =
-    let bytes = t.parse_state.now.bytes.now in record {
+    let bytes = t.parse_state.now.bytes.now in
+    let position = position_from bytes t.skips.items t.start in record {
       given = record { bytes = bytes; options = t.parse_state.now.options.now; tab = TAB };
       machine = t.parse_state.now.machine.now;
-      text = record { start = t.start; seats = seats_between bytes t.start (end_point bytes t.end); end = end_point bytes t.end };
+      text = record { start = t.start; seats = seats_between bytes t.skips.items t.start (end_point bytes t.end); end = end_point bytes t.end };
       configuration = record {
-        position = length (seats_between bytes t.start t.left);
+        position = position t.left;
         waiting = t.waits;
         ended = t.ended;
         events = t.events.items;
@@ -83,7 +89,7 @@ seen t =
           lazy = t.lazy;
         };
       };
-      choices = map (choice_of bytes t.start t.stack.items) (reverse t.marks.items);
+      choices = map (choice_of position t.stack.items) (reverse t.marks.items);
       calls = t.calls.made;
       closed = t.closed;
     }
@@ -93,17 +99,18 @@ abbrev pub text_of : {M R D : Type 0} → Inside M R D → Text
 text_of t = (seen t).text
 
 -- A text was read up to a place: it is where the byte before ends, or the start, and that byte is known
-pub record IsReadTo (bytes : List ℕ) (text : Text) (left : Point) (previous : Option ℕ) : Type 0 where
+pub record IsReadTo (bytes : List ℕ) (skips : List Point) (text : Text) (left : Point) (previous : Option ℕ) : Type 0 where
   pub place : IsPlace TAB bytes left
   pub from : is_upto TAB bytes text.start left ≡ true
   pub upto : is_upto TAB bytes left text.end ≡ true
-  pub back : left ≡ end_place text (length (seats_between bytes text.start left))
-  pub previous_is : previous ≡ byte_of (seat_before text (length (seats_between bytes text.start left)))
+  pub outside : IsOutside skips left
+  pub back : left ≡ end_place text (position_from bytes skips text.start left)
+  pub previous_is : previous ≡ byte_of (seat_before text (position_from bytes skips text.start left))
 
 -- What waits is the next virtual byte
-pub record ByteWaits (bytes : List ℕ) (left end : Point) (current : Option ℕ) : Type 0 where
+pub record ByteWaits (bytes : List ℕ) (skips : List Point) (left end : Point) (current : Option ℕ) : Type 0 where
   pub seat : Seat
-  pub at : IsSeatAt TAB bytes left seat
+  pub at : IsSeatAt TAB bytes (resumed skips left) seat
   pub before : stands_before seat.point end ≡ true
   pub is : current ≡ Some seat.byte
 
@@ -114,16 +121,31 @@ pub record EndWaits (current : Option ℕ) (closed : Bool) (position size : ℕ)
   pub all : size ≤ position
 
 -- what waits
-abbrev pub IsWaiting : List ℕ → Text → Point → Option ℕ → Bool → Waits → Type 0
-IsWaiting bytes text left current closed Nothing = current ≡ None
-IsWaiting bytes text left current closed Byte = ByteWaits bytes left text.end current
-IsWaiting bytes text left current closed End = EndWaits current closed (length (seats_between bytes text.start left)) (length text.seats)
+abbrev pub IsWaiting : List ℕ → List Point → Text → Point → Option ℕ → Bool → Waits → Type 0
+IsWaiting bytes skips text left current closed Nothing = current ≡ None
+IsWaiting bytes skips text left current closed Byte = ByteWaits bytes skips left text.end current
+IsWaiting bytes skips text left current closed End = EndWaits current closed (position_from bytes skips text.start left) (length text.seats)
+
+-- where an enter stands: after what is passed of a line, once something waits there
+abbrev pub standing : List Point → Point → Waits → Point
+standing skips left Nothing = left
+standing skips left Byte = resumed skips left
+standing skips left End = resumed skips left
+
+-- the furthest place at which an enter may stand before more is read: after what is passed of a line, where more can be fed
+abbrev pub reach : List Point → Point → Bool → Point
+reach skips left more = cond more (resumed skips left) left
+
+-- more can be fed than was read up to a place: a byte, or the end
+abbrev pub can_feed : (position size : ℕ) → (closed : Bool) → Bool
+can_feed position size closed = nat_lt position size || closed
 
 -- What a choice saved: a place up to which the text was read, with the events and the stack that were there
-pub record IsProgress (bytes : List ℕ) (text : Text) (events : List Event) (stack : List Name) (closed : Bool) (p : Progress) : Type 0 where
-  pub read : IsReadTo bytes text p.left p.previous
+pub record IsProgress (bytes : List ℕ) (skips : List Point) (text : Text) (events : List Event) (stack : List Name) (closed : Bool) (p : Progress) : Type 0 where
+  pub read : IsReadTo bytes skips text p.left p.previous
   pub ended : p.ended ≡ true → closed ≡ true
-  pub made : IsMade bytes (take p.events_len events) (take p.stack_len stack) (shown bytes p.left) (shown bytes p.left)
+  pub made : IsMade bytes (take p.events_len events) (take p.stack_len stack) (shown bytes p.left)
+      (shown bytes (reach skips p.left (can_feed (position_from bytes skips text.start p.left) (length text.seats) closed)))
 
 abbrev pub events_of : ℕ → Option Progress → ℕ
 events_of n None = n
@@ -144,8 +166,9 @@ pub record IsSound {M R D : Type 0} (t : Inside M R D) : Type 0 where
   pub limit : 4 * length t.parse_state.now.bytes.now + 1 < 2 ^ 64
   pub end_at : point_at TAB t.parse_state.now.bytes.now t.end ≡ Some (text_of t).end
   pub text : IsText (seen t).given (text_of t)
-  pub read : IsReadTo t.parse_state.now.bytes.now (text_of t) t.left t.previous
-  pub waiting : IsWaiting t.parse_state.now.bytes.now (text_of t) t.left t.current t.closed t.waits
+  pub skips : Every (IsSkip TAB t.parse_state.now.bytes.now (text_of t).end) t.skips.items
+  pub read : IsReadTo t.parse_state.now.bytes.now t.skips.items (text_of t) t.left t.previous
+  pub waiting : IsWaiting t.parse_state.now.bytes.now t.skips.items (text_of t) t.left t.current t.closed t.waits
   pub ended : t.ended ≡ true → t.closed ≡ true
-  pub made : IsMade t.parse_state.now.bytes.now t.events.items t.stack.items (shown t.parse_state.now.bytes.now t.left) (shown t.parse_state.now.bytes.now t.left)
-  pub marks : AreNested (IsProgress t.parse_state.now.bytes.now (text_of t) t.events.items t.stack.items t.closed) (length t.events.items) (length t.stack.items) (reverse t.marks.items)
+  pub made : IsMade t.parse_state.now.bytes.now t.events.items t.stack.items (shown t.parse_state.now.bytes.now t.left) (shown t.parse_state.now.bytes.now (standing t.skips.items t.left t.waits))
+  pub marks : AreNested (IsProgress t.parse_state.now.bytes.now t.skips.items (text_of t) t.events.items t.stack.items t.closed) (length t.events.items) (length t.stack.items) (reverse t.marks.items)

@@ -1,5 +1,5 @@
 -- How the work of a tokenizer goes on, turn by turn. An inner file: private functions alone cite it.
-use Rattle.std.specs.Prelude.{◌≡◌, ◌≤◌, ◌<◌, ℕ, List, [], ◌∷◌, Bool, true, false, Option, Some, None, length, Result}
+use Rattle.std.specs.Prelude.{◌≡◌, ◌≤◌, ◌<◌, ℕ, List, [], ◌∷◌, Bool, true, false, Option, Some, None, IsSome, length, Result}
 use Rattle.std.specs.declared.result.Result.TheVariants as result
 use Rattle.markdown_base.specs.declared.state.Name.{Name}
 use Rattle.markdown_base.specs.declared.state.State.{State}
@@ -10,18 +10,6 @@ use Rattle.markdown.specs.Configuration.{Configuration, Choice, Step, Seen, at_c
 use Rattle.markdown.specs.Sight.{Sight}
 use Rattle.markdown.specs.Reading.{fed, settled_at}
 use Rattle.markdown.specs.Engine.{LeadsOn}
-
--- what the tokenizer becomes where a choice ends by this answer
-abbrev pub settled : {M R D : Type 0} → Seen M R D → Choice → List Choice → State → Seen M R D
-settled t c cs answer = record {
-  given = t.given;
-  machine = t.machine;
-  text = t.text;
-  configuration = settled_at c.kind c.saved answer t.configuration;
-  choices = cs;
-  calls = t.calls;
-  closed = t.closed;
-}
 
 -- the text is another one
 abbrev pub extended : {M R D : Type 0} → Seen M R D → Text → Seen M R D
@@ -72,11 +60,28 @@ TakesUp flush old new Ok (result.Err answer) = (new ≡ old) × (answer ≡ Ok)
 TakesUp flush old new Nok (result.Err answer) = (new ≡ old) × (answer ≡ Nok)
 TakesUp flush old new (Error message) (result.Err answer) = (new ≡ old) × (answer ≡ Error message)
 
--- the last choice ended, or there was none
-abbrev pub IsSettled : {M R D : Type 0} → Seen M R D → Seen M R D → Bool → Option State → Type 0
-IsSettled old new ok None = (new ≡ old) × (old.choices ≡ [])
-IsSettled old new true (Some state) = (c : Choice) × (cs : List Choice) × (old.choices ≡ c ∷ cs) × (new ≡ settled old c cs Ok) × (state ≡ c.ok)
-IsSettled old new false (Some state) = (c : Choice) × (cs : List Choice) × (old.choices ≡ c ∷ cs) × (new ≡ settled old c cs Nok) × (state ≡ c.nok)
+-- choices end, the last first, until one goes on with a state, or none is left: from where, with which choices, and with what
+abbrev pub settled_all : {R D : Type 0} → Configuration R D → List Choice → State → Step R D
+settled_all k cs (Next name) = record { configuration = k; choices = cs; answer = Next name }
+settled_all k cs (Retry name) = record { configuration = k; choices = cs; answer = Retry name }
+settled_all k cs (Error message) = record { configuration = k; choices = cs; answer = Error message }
+settled_all k [] Ok = record { configuration = k; choices = []; answer = Ok }
+settled_all k [] Nok = record { configuration = k; choices = []; answer = Nok }
+settled_all k (c ∷ cs) Ok = settled_all (settled_at c.kind c.saved Ok k) cs c.ok
+settled_all k (c ∷ cs) Nok = settled_all (settled_at c.kind c.saved Nok k) cs c.nok
+
+-- the tokenizer after choices ended
+abbrev pub settled_to : {M R D : Type 0} → Seen M R D → Step R D → Seen M R D
+settled_to t s = record { given = t.given; machine = t.machine; text = t.text; configuration = s.configuration; choices = s.choices; calls = t.calls; closed = t.closed }
+
+-- where the reading ends, no span is open
+abbrev pub EndsClosed : {R D : Type 0} → Step R D → Type 0
+EndsClosed s = IsSome (answer_in s.answer) → s.configuration.stack ≡ []
+
+-- a name to go on with, or the answer at which the work ends
+abbrev pub taken_up : Option Name → State → Result Name State
+taken_up (Some name) answer = result.Ok name
+taken_up None answer = result.Err answer
 
 -- the invariant holds on every text that continues the tokenizer's, or on this alone where the end is fed
 abbrev pub HoldsAll : {M R D : Type 0} → (Text → Configuration R D → List Choice → State → Type 0) → Bool → Seen M R D → State → Type 0

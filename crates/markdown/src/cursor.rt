@@ -1,9 +1,10 @@
 //! The cursor: where a reader stands in the virtual text of a document.
 
-ghost use Rattle.markdown.specs.Cursor.{goes_on, begins_pair, IsPlace, IsSeatAt, IsNextSeat};
+ghost use Rattle.markdown.specs.Cursor.{goes_on, begins_pair, IsPlace, IsSeatAt, IsNextSeat, IsNextByte, is_before_pair, is_after_pair};
+ghost use Rattle.markdown.specs.Gaps.{skip_of, resumed};
 ghost use Rattle.markdown_base.specs.Places;
 ghost use Rattle.markdown_base.specs.Virtual.{Seat};
-ghost use Rattle.std.specs.Prelude.{◌≡◌, ◌==◌, ◌&&◌, ◌||◌, nat_lt, ◌+◌, ◌*◌, ◌^◌, ◌<◌, ◌≤◌, length};
+ghost use Rattle.std.specs.Prelude.{◌≡◌, ◌==◌, ◌&&◌, ◌||◌, nat_lt, ◌+◌, ◌*◌, ◌^◌, ◌<◌, ◌≤◌, length, unwrap_or};
 
 use markdown_base::event::Point;
 
@@ -44,6 +45,64 @@ pub(crate) fn seat_at(bytes: &[u8], point: Point) -> Option<(u8, Point)>
         ));
     }
     Some((b'\n', point))
+}
+
+/// The next virtual byte from a place on, where it stands before the end of a text.
+pub(crate) fn next_byte(bytes: &[u8], point: Point, end: (usize, usize)) -> Option<u8>
+    requires within { 0 < point.vs → point.index < length bytes.now }
+    ensures { IsNextByte 4 bytes.now point end result }
+{
+    let (byte, seat) = seat_at(bytes, point)?;
+    if is_before(seat, end) {
+        Some(byte)
+    } else {
+        None
+    }
+}
+
+/// Where the next byte is looked for from the beginning of a line on: after what is passed of it.
+#[cold]
+#[inline(never)]
+fn after_skip<'a>(skips: &'a Vec<Point>, place: &'a Point) -> &'a Point
+    ensures { result.now ≡ unwrap_or (skip_of skips.now.items place.now.line) place.now }
+{
+    for skip in skips {
+        if skip.line == place.line {
+            return skip;
+        }
+    }
+    place
+}
+
+/// Where the next byte is looked for: at the beginning of a line, after what is passed of it.
+#[inline(always)]
+pub(crate) fn resumed<'a>(skips: &'a Vec<Point>, place: &'a Point) -> &'a Point
+    ensures { result.now ≡ resumed skips.now.items place.now }
+{
+    if place.column == 1 {
+        after_skip(skips, place)
+    } else {
+        place
+    }
+}
+
+/// Moves a place at the beginning of a line to after what is passed of it.
+#[cold]
+#[inline(never)]
+fn pass_skip(skips: &Vec<Point>, place: &mut Point)
+    ensures { place.new ≡ unwrap_or (skip_of skips.now.items place.old.line) place.old }
+{
+    *place = *after_skip(skips, &*place);
+}
+
+/// Moves a place to where the next byte is looked for.
+#[inline(always)]
+pub(crate) fn resume(skips: &Vec<Point>, place: &mut Point)
+    ensures { place.new ≡ resumed skips.now.items place.old }
+{
+    if place.column == 1 {
+        pass_skip(skips, place);
+    }
 }
 
 /// Whether the tab at a place goes on after its next virtual byte, which is this one.
@@ -94,7 +153,14 @@ pub(crate) fn shown(bytes: &[u8], point: Point) -> Point
 
 /// A place, given by its point, is before another, given by byte index and number in a tab.
 pub(crate) fn is_before(point: Point, place: (usize, usize)) -> bool
-    ensures { result ≡ (nat_lt point.index place.0 || ((point.index == place.0) && nat_lt point.vs place.1)) }
+    ensures { result ≡ is_before_pair point place }
 {
     point.index < place.0 || point.index == place.0 && point.vs < place.1
+}
+
+/// A place, given by its point, is after another, given by byte index and number in a tab.
+pub(crate) fn is_after(point: Point, place: (usize, usize)) -> bool
+    ensures { result ≡ is_after_pair point place }
+{
+    place.0 < point.index || place.0 == point.index && place.1 < point.vs
 }

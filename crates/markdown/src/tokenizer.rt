@@ -3,13 +3,13 @@
 mod reading;
 
 use crate::count::Calls;
-use crate::cursor::{is_before, pass, seat_at, shown};
+use crate::cursor::{is_after, next_byte, pass, resume, resumed, shown};
 use crate::parser::ParseState;
 pub use crate::places::{cuts_every, point_at};
-use crate::state::{MachineTypes, State};
+use crate::state::{self, MachineTypes, State};
 use crate::subtokenize::{self, Subresult};
 use crate::util::edit_map::EditMap;
-use crate::waiting::{AttemptKind, Goal, Mark, Progress, Waits};
+use crate::waiting::{AttemptKind, Goal, Mark, Progress, Waits, standing, unwind};
 pub use crate::work::{reads_in_one_way, run};
 use markdown_base::event::{Content, Event, Kind, Link, Name, Point};
 use markdown_base::message::Message;
@@ -189,6 +189,7 @@ pub struct Tokenizer<'a, M: MachineTypes> {
     parse_state: &'a ParseState<'a, M>,
     start: Point,
     end: (usize, usize),
+    skips: Vec<Point>,
     left: Point,
     waits: Waits,
     ended: bool,
@@ -217,15 +218,15 @@ impl<'a, M: MachineTypes> Model for Tokenizer<'a, M> {
 ghost use Rattle.std.specs.Prelude.{◌≡◌, ◌≢◌, ◌+◌, ◌-◌, ◌*◌, ◌^◌, ◌++◌, ◌∷◌, ◌<◌, ◌≤◌, [], List, false, true, length, IfOk, OnOk, OnErr, None, Some, IsTrue};
 ghost use Rattle.std.specs.Bool.{OnTrue, OnFalse};
 ghost use Rattle.markdown_base.specs.Places.{IsPointOf, point_at};
-ghost use Rattle.markdown.specs.Text.{FitsAfter, followed_by, pushed, empty_text};
+ghost use Rattle.markdown.specs.Text.{FitsAfter, followed_by, pushed, passed, empty_text};
 ghost use Rattle.markdown.specs.Configuration.{at_configuration, start_state, start_seen};
 ghost use Rattle.markdown.specs.Sight.{sight};
 ghost use Rattle.markdown.specs.Links.{CanLink, linked_to};
 ghost use Rattle.markdown.specs.Calls.{consumed, entered, exited, linked, attempt_at, check_at, with_choice, CanExit, CanGoOn};
 ghost use Rattle.markdown.specs.Reading.{fed};
 ghost use Rattle.markdown.specs.Engine.{found, taken, IsWellFormed};
-ghost use Rattle.markdown.specs.Work.{IsInText, IsSettled, extended};
-ghost use Rattle.markdown.specs.View.{state_of, choice_at};
+ghost use Rattle.markdown.specs.Work.{IsInText, extended, answer_of, settled_all, settled_to, EndsClosed, TakesUp};
+ghost use Rattle.markdown.specs.View.{state_of, choice_at, taken_goal};
 
 impl<D: Drop> TokenizeState<D> {
     /// What states share before any was called. Takes no memory.
@@ -298,6 +299,7 @@ impl<'a, M: MachineTypes> Tokenizer<'a, M> {
         let stack = Vec::new(alloc);
         let resolvers = Vec::new(alloc);
         let marks = Vec::new(alloc);
+        let skips = Vec::new(alloc);
         let calls = Calls::new();
         Tokenizer {
             tokenize_state,
@@ -309,6 +311,7 @@ impl<'a, M: MachineTypes> Tokenizer<'a, M> {
             parse_state,
             start: point,
             end: (point.index, point.vs),
+            skips,
             left: point,
             waits: Waits::Nothing,
             ended: false,
@@ -331,15 +334,17 @@ impl<'a, M: MachineTypes> Tokenizer<'a, M> {
     }
 
     /// Consumes the byte that waits. Takes no memory.
+    #[inline(always)]
     pub fn consume(&mut self)
         requires { self.old.configuration.waiting ≡ Waits.Byte }
         ensures { self.new ≡ at_configuration self.old (consumed self.old.configuration) }
     {
-        pass(
-            self.parse_state.bytes,
-            &mut self.left,
-            self.current.unwrap_or(0),
-        );
+        let byte = match self.current {
+            Some(byte) => byte,
+            None => unreachable!(),
+        };
+        resume(&self.skips, &mut self.left);
+        pass(self.parse_state.bytes, &mut self.left, byte);
         self.previous = self.current;
         self.current = None;
         self.ended = false;
@@ -366,7 +371,8 @@ impl<'a, M: MachineTypes> Tokenizer<'a, M> {
         ensures ok { OnOk result (self.new ≡ at_configuration self.old (entered name link (sight self.old.given self.old.text self.old.configuration).here self.old.configuration)) }
         ensures err { OnErr result (self.new ≡ self.old) }
     {
-        let point = shown(self.parse_state.bytes, self.left);
+        let place = standing(&self.skips, self.left, self.waits);
+        let point = shown(self.parse_state.bytes, place);
         let open_len = self.stack.len();
         self.stack.push(name)?;
         let event = Event {
@@ -482,6 +488,23 @@ impl<'a, M: MachineTypes> Tokenizer<'a, M> {
         Ok(())
     }
 
+    /// Passes a gap: where the text ends at the beginning of a line, what comes before this later place of the line is
+    /// never read.
+    ///
+    /// Where the point denotes the text's end nothing changes, and no other point is allowed. `point` stays at the
+    /// beginning of the line until a byte, or the end, is fed. Where memory is refused, nothing changes.
+    pub fn define_skip(&mut self, point: Point) -> Result<(), AllocError>
+        requires { FitsAfter self.old.given self.old.text (passed point) }
+        ensures ok { OnOk result (self.new ≡ extended self.old (followed_by self.old.given self.old.text (passed point))) }
+        ensures err { OnErr result (self.new ≡ self.old) }
+    {
+        if is_after(shown(self.parse_state.bytes, point), self.end) {
+            self.skips.push(point)?;
+            self.end = (point.index, point.vs);
+        }
+        Ok(())
+    }
+
     /// The next byte waits, if there is one.
     pub(crate) fn feed(&mut self) -> bool
         ensures fed { OnTrue result (self.new ≡ at_configuration self.old (fed self.old.text self.old.configuration)) }
@@ -489,16 +512,13 @@ impl<'a, M: MachineTypes> Tokenizer<'a, M> {
         ensures same { OnFalse result (self.new ≡ self.old) }
         ensures end { OnFalse result (length self.old.text.seats ≤ self.old.configuration.position) }
     {
-        match seat_at(self.parse_state.bytes, self.left) {
+        let place = resumed(&self.skips, &self.left);
+        match next_byte(self.parse_state.bytes, *place, self.end) {
             None => false,
-            Some((byte, seat)) => {
-                if is_before(seat, self.end) {
-                    self.current = Some(byte);
-                    self.waits = Waits::Byte;
-                    true
-                } else {
-                    false
-                }
+            Some(byte) => {
+                self.current = Some(byte);
+                self.waits = Waits::Byte;
+                true
             }
         }
     }
@@ -512,6 +532,56 @@ impl<'a, M: MachineTypes> Tokenizer<'a, M> {
         self.waits = Waits::End;
         self.current = None;
         self.ended = true;
+    }
+
+    /// Choices end, the last first, until one goes on with a state, which is fed; or none is left, and then no span is open.
+    /// Where the work ends its answer is answered.
+    ///
+    /// This is one step, as in between an enter could stand before an event that is there.
+    #[inline(never)]
+    pub(crate) fn go_on(&mut self, flush: bool, ok: bool) -> Result<state::Name, Goal>
+        requires closed { self.old.closed ≡ flush }
+        requires ends { EndsClosed (settled_all self.old.configuration self.old.choices (answer_of ok)) }
+        ensures { let s = settled_all self.old.configuration self.old.choices (answer_of ok) in TakesUp flush (settled_to self.old s) self.new s.answer (taken_goal result) }
+    {
+        if self.marks.is_empty() {
+            let last = if ok { Goal::Ok } else { Goal::Nok };
+            return Err(last);
+        }
+        let from = Progress {
+            left: self.left,
+            previous: self.previous,
+            ended: self.ended,
+            events_len: self.events.len(),
+            stack_len: self.stack.len(),
+        };
+        let (goal, from) = unwind(&mut self.marks, ok, from);
+        self.left = from.left;
+        self.previous = from.previous;
+        self.ended = from.ended;
+        self.events.truncate(from.events_len);
+        self.stack.truncate(from.stack_len);
+        self.waits = Waits::Nothing;
+        self.current = None;
+        let name = match goal {
+            Goal::Next(name) => name,
+            Goal::Ok => return Err(Goal::Ok),
+            Goal::Nok => return Err(Goal::Nok),
+        };
+        let again = resumed(&self.skips, &self.left);
+        match next_byte(self.parse_state.bytes, *again, self.end) {
+            Some(byte) => {
+                self.current = Some(byte);
+                self.waits = Waits::Byte;
+                Ok(name)
+            }
+            None if flush => {
+                self.waits = Waits::End;
+                self.ended = true;
+                Ok(name)
+            }
+            None => Err(Goal::Next(name)),
+        }
     }
 
     /// A tokenizer has read no more than its text.
@@ -549,34 +619,6 @@ impl<'a, M: MachineTypes> Tokenizer<'a, M> {
         ensures { (f t : Point) → point_at 4 self.old.given.bytes from ≡ Some f → point_at 4 self.old.given.bytes to ≡ Some t → self.new ≡ extended self.old (followed_by self.old.given self.old.text (pushed f t)) }
     {
         self.end = to;
-    }
-
-    /// The last choice ends.
-    pub(crate) fn settle_last(&mut self, ok: bool) -> Option<State>
-        ensures { IsSettled self.old self.new ok result }
-    {
-        let mark = match self.marks.pop() {
-            Some(mark) => mark,
-            None => return None,
-        };
-        let state = mark.goal(ok);
-        match mark.saved_for(ok) {
-            Some(saved) => {
-                self.left = saved.left;
-                self.previous = saved.previous;
-                self.ended = saved.ended;
-                self.events.truncate(saved.events_len);
-                self.stack.truncate(saved.stack_len);
-                self.waits = Waits::Nothing;
-                self.current = None;
-                Some(state)
-            }
-            None => {
-                self.waits = Waits::Nothing;
-                self.current = None;
-                Some(state)
-            }
-        }
     }
 
     /// The definitions that states found are taken out. Takes no memory.

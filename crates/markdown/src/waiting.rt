@@ -1,6 +1,7 @@
 //! What waits in a tokenizer: a byte, the end, or choices.
 
-use markdown_base::event::{self, Point};
+use crate::cursor::resumed;
+use markdown_base::event::Point;
 use markdown_base::state::{Name, State};
 
 /// What waits to be read.
@@ -91,17 +92,13 @@ pub(crate) struct Mark {
 
 impl Mark {
     ghost use Rattle.std.specs.Prelude.{◌≡◌};
-    ghost use Rattle.markdown.specs.View.{goal_of, saved_for};
+    ghost use Rattle.markdown.specs.Unwound.{goal_of, saved_for};
 
     /// What it goes on with.
-    pub(crate) fn goal(&self, ok: bool) -> State
+    pub(crate) fn goal(&self, ok: bool) -> Goal
         ensures { result ≡ goal_of self.now ok }
     {
-        if ok {
-            self.ok.state()
-        } else {
-            self.nok.state()
-        }
+        if ok { self.ok } else { self.nok }
     }
 
     /// What it puts back.
@@ -112,6 +109,43 @@ impl Mark {
             None
         } else {
             self.saved
+        }
+    }
+}
+
+ghost use Rattle.std.specs.Prelude.{◌≡◌, reverse};
+ghost use Rattle.markdown.specs.View.{standing};
+ghost use Rattle.markdown.specs.Unwound.{unwound, ended_by, unwinding};
+
+/// Where an enter stands: after the byte before, or after what is passed of a line, once something waits there.
+pub(crate) fn standing(skips: &Vec<Point>, left: Point, waits: Waits) -> Point
+    ensures { result ≡ standing skips.now.items left waits }
+{
+    match waits {
+        Waits::Nothing => left,
+        Waits::Byte | Waits::End => *resumed(skips, &left),
+    }
+}
+
+/// Choices end, the last first, until one goes on with a state, or none is left. A choice that goes back does so to what
+/// it saved: the answer is what is gone on with, and from where.
+pub(crate) fn unwind(marks: &mut Vec<Mark>, ok: bool, from: Progress) -> (Goal, Progress)
+    ensures { unwinding (reverse marks.new.items) result.0 result.1 ≡ unwound (reverse marks.old.items) (ended_by ok) from }
+{
+    let mut goal = if ok { Goal::Ok } else { Goal::Nok };
+    let mut from = from;
+    loop {
+        let ok = match goal {
+            Goal::Next(_) => return (goal, from),
+            Goal::Ok => true,
+            Goal::Nok => false,
+        };
+        match marks.pop() {
+            None => return (goal, from),
+            Some(mark) => {
+                goal = mark.goal(ok);
+                from = mark.saved_for(ok).unwrap_or(from);
+            }
         }
     }
 }

@@ -1,6 +1,6 @@
 //! The work of a tokenizer: states are called until a range is used up, or until the reading has ended.
 
-ghost use Rattle.std.specs.Prelude.{◌≡◌, ◌≢◌, ◌+◌, ◌*◌, ◌^◌, ◌≤◌, ◌<◌, Contains, length, List, [], false, true, IfOk, IfErr, IsErrOf, IsSome, IsTrue};
+ghost use Rattle.std.specs.Prelude.{◌≡◌, ◌≢◌, ◌+◌, ◌*◌, ◌^◌, ◌≤◌, ◌<◌, Contains, length, List, [], false, true, IfOk, IfErr, IsErrOf, IsTrue};
 ghost use Rattle.markdown_base.specs.declared.event.Point.{Point};
 ghost use Rattle.markdown_base.specs.Places.{point_at};
 ghost use Rattle.markdown.specs.declared.waiting.Waits.TheVariants.{Nothing, End};
@@ -8,7 +8,7 @@ ghost use Rattle.markdown.specs.Text.{FitsAfter, pushed, IsText};
 ghost use Rattle.markdown.specs.Sight.{sight};
 ghost use Rattle.markdown.specs.Lawful.{IsCalled};
 ghost use Rattle.markdown.specs.Engine.{LeadsOn, IsPushed, IsFlushed, IsRefused, IsWellFormed, HasOneEnd, budget, AreCuts, IsRun, IsRunRefused, given_by};
-ghost use Rattle.markdown.specs.Work.{answer_in, HoldsAll, LeadsAll, OnlyWorked, Stops, TakesUp};
+ghost use Rattle.markdown.specs.Work.{HoldsAll, LeadsAll, OnlyWorked, Stops, settled_all, settled_to, EndsClosed, TakesUp, taken_up};
 
 use crate::parser::ParseState;
 use crate::state::{Machine, Name, State};
@@ -61,54 +61,34 @@ pub fn run<M: Machine>(
     Ok((tokenizer.into_events(), sub))
 }
 
-/// Whether a state ends a choice, and how.
-fn ending(state: &State) -> Option<bool>
-    ensures { result ≡ answer_in state.now }
-{
-    match state {
-        State::Ok => Some(true),
-        State::Nok => Some(false),
-        _ => None,
-    }
-}
-
 impl<'a, M: Machine> Tokenizer<'a, M> {
-    /// Which state is called next, with what it is fed; or the state at which the work ends.
-    fn take_up(&mut self, flush: bool, state: State) -> Result<Name, State>
-        requires { flush ≡ true → self.old.closed ≡ true }
-        ensures { TakesUp flush self.old self.new state result }
+    /// Which state is called next, with what it is fed; or `None` where the work ends, and then the state is its answer.
+    fn take_up(&mut self, flush: bool, state: &mut State) -> Option<Name>
+        requires closed { self.old.closed ≡ flush }
+        requires ends { EndsClosed (settled_all self.old.configuration self.old.choices state.old) }
+        ensures { let s = settled_all self.old.configuration self.old.choices state.old in TakesUp flush (settled_to self.old s) self.new s.answer (taken_up result state.new) }
     {
-        match state {
+        let ok = match state {
             State::Next(name) => {
+                let name = *name;
                 if !self.feed() {
                     if !flush {
-                        return Err(State::Next(name));
+                        return None;
                     }
                     self.feed_end();
                 }
-                Ok(name)
+                return Some(name);
             }
-            State::Retry(name) => Ok(name),
-            other => Err(other),
-        }
-    }
-
-    /// Choices end, as long as the state says so.
-    fn settle(&mut self, state: State) -> State
-        ensures same { OnlyWorked self.old self.new }
-        ensures waits { self.new.configuration.waiting ≡ End → self.old.configuration.waiting ≡ End }
-        ensures leads { (text : _) → IsText self.old.given text → M.holds self.old.machine self.old.given text self.old.configuration self.old.choices state → LeadsOn self.old.given (M.step self.old.machine self.old.given) (M.holds self.old.machine self.old.given) (M.cost self.old.machine self.old.given) (M.reserve self.old.machine self.old.given) text self.old state self.new result }
-        ensures calls { self.new.calls ≡ self.old.calls }
-        ensures ended { IsSome (answer_in result) → self.new.choices ≡ [] }
-    {
-        let mut state = state;
-        loop {
-            let Some(ok) = ending(&state) else {
-                return state;
-            };
-            match self.settle_last(ok) {
-                Some(next) => state = next,
-                None => return state,
+            State::Retry(name) => return Some(*name),
+            State::Error(_) => return None,
+            State::Ok => true,
+            State::Nok => false,
+        };
+        match self.go_on(flush, ok) {
+            Ok(name) => Some(name),
+            Err(end) => {
+                *state = end.state();
+                None
             }
         }
     }
@@ -126,7 +106,7 @@ impl<'a, M: Machine> Tokenizer<'a, M> {
     fn work(&mut self, alloc: Global, flush: bool, state: State) -> Result<State, AllocError>
         requires text { IsText self.old.given self.old.text }
         requires holds { HoldsAll (M.holds self.old.machine self.old.given) flush self.old state }
-        requires closed { flush ≡ true → self.old.closed ≡ true }
+        requires closed { self.old.closed ≡ flush }
         requires waits { flush ≡ false → self.old.configuration.waiting ≢ End }
         ensures same { IfOk result (λ _. OnlyWorked self.old self.new) }
         ensures leads { IfOk result (λ answer. LeadsAll self.old.given (M.step self.old.machine self.old.given) (M.holds self.old.machine self.old.given) (M.cost self.old.machine self.old.given) (M.reserve self.old.machine self.old.given) flush self.old state self.new answer) }
@@ -134,10 +114,9 @@ impl<'a, M: Machine> Tokenizer<'a, M> {
     {
         let mut state = state;
         loop {
-            state = self.settle(state);
-            let name = match self.take_up(flush, state) {
-                Ok(name) => name,
-                Err(answer) => return Ok(answer),
+            let name = match self.take_up(flush, &mut state) {
+                Some(name) => name,
+                None => return Ok(state),
             };
             self.tells();
             state = self.once(alloc, name)?;

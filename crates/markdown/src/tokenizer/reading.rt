@@ -5,7 +5,7 @@ ghost use Rattle.markdown_base.specs.Events.{open_events};
 ghost use Rattle.markdown.specs.Sight.{sight};
 
 use super::Tokenizer;
-use crate::cursor::seat_at;
+use crate::cursor::{resumed, seat_at};
 use crate::parser::ParseState;
 use crate::state::MachineTypes;
 use crate::waiting::Waits;
@@ -33,14 +33,17 @@ impl<'a, M: MachineTypes> Tokenizer<'a, M> {
     {
         match self.waits {
             Waits::Nothing => self.left,
-            Waits::Byte => match seat_at(self.parse_state.bytes, self.left) {
-                Some((_, seat)) => seat,
-                None => self.left,
-            },
+            Waits::Byte => {
+                let place = *resumed(&self.skips, &self.left);
+                match seat_at(self.parse_state.bytes, place) {
+                    Some((_, seat)) => seat,
+                    None => place,
+                }
+            }
             Waits::End => Point {
                 index: self.end.0,
                 vs: self.end.1,
-                ..self.left
+                ..*resumed(&self.skips, &self.left)
             },
         }
     }
@@ -82,6 +85,7 @@ impl<'a, M: MachineTypes> Tokenizer<'a, M> {
             parse_state: _,
             start: _,
             end: _,
+            skips: _,
             left: _,
             waits: _,
             ended: _,

@@ -1,6 +1,6 @@
 use Rattle.std.proofs.Common.{◌∙◌, take, List, ap, refl}
 use Rattle.markdown_base.specs.declared.event.Name.{Name}
-use Rattle.markdown.proofs.Changes.{entered-made, entered-marks, entered-choices, entered-at, take-pushed}
+use Rattle.markdown.proofs.Changes.{entered-made, entered-marks, entered-choices, entered-at, entered-here, take-pushed}
 use Rattle.markdown.proofs.tokenizer.Tokenizer.begin.Goals as goal
 
 pub invariant_of-self-in-Ok : goal.invariant_of-self-in-Ok
@@ -10,11 +10,12 @@ invariant_of-self-in-Ok g c =
       limit = sound.limit;
       end_at = sound.end_at;
       text = sound.text;
+      skips = sound.skips;
       read = sound.read;
       waiting = sound.waiting;
       ended = sound.ended;
-      made = entered-made t sound c.args.name c.args.link c.shown-point.result c.shown-point.ensures c.push-2.new.self.items c.push.new.self.items c.in-Ok.ensures.items c.in_ok-push.ensures.items;
-      marks = entered-marks t sound c.args.name c.args.link c.shown-point.result c.shown-point.ensures c.push-2.new.self.items c.push.new.self.items c.in-Ok.ensures.items c.in_ok-push.ensures.items;
+      made = entered-made t sound c.args.name c.args.link c.shown-point.result (entered-here t _ _ _ refl c.standing-place.ensures c.shown-point.ensures) c.push-2.new.self.items c.push.new.self.items c.in-Ok.ensures.items c.in_ok-push.ensures.items;
+      marks = entered-marks t sound c.args.name c.args.link c.shown-point.result (entered-here t _ _ _ refl c.standing-place.ensures c.shown-point.ensures) c.push-2.new.self.items c.push.new.self.items c.in-Ok.ensures.items c.in_ok-push.ensures.items;
     }
 
 pub invariant_of-self-in-Err : goal.invariant_of-self-in-Err
@@ -26,6 +27,7 @@ invariant_of-self-in-Err g c =
       limit = sound.limit;
       end_at = sound.end_at;
       text = sound.text;
+      skips = sound.skips;
       read = sound.read;
       waiting = sound.waiting;
       ended = sound.ended;
@@ -38,6 +40,6 @@ returns-in-Ok-clause-ok g c =
     let t = c.self.inside in let sound = c.self.invariant in
     let events = c.in-Ok.ensures.items in
     let stack = c.in_ok-push.ensures.items in
-    let choices = entered-choices t sound c.args.name c.args.link c.shown-point.result c.shown-point.ensures c.push-2.new.self.items c.push.new.self.items events stack in
-    let at = entered-at t sound c.args.name c.args.link c.shown-point.result c.shown-point.ensures c.push-2.new.self.items c.push.new.self.items events stack in
+    let choices = entered-choices t sound c.args.name c.args.link c.shown-point.result (entered-here t _ _ _ refl c.standing-place.ensures c.shown-point.ensures) c.push-2.new.self.items c.push.new.self.items events stack in
+    let at = entered-at t sound c.args.name c.args.link c.shown-point.result (entered-here t _ _ _ refl c.standing-place.ensures c.shown-point.ensures) c.push-2.new.self.items c.push.new.self.items events stack in
     rw (← c.self.view_is) (rw (choices, events, stack, at) refl)

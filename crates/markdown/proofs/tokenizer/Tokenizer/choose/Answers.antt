@@ -17,6 +17,7 @@ invariant_of-self-2 g c =
       limit = sound.limit;
       end_at = sound.end_at;
       text = sound.text;
+      skips = sound.skips;
       read = sound.read;
       waiting = sound.waiting;
       ended = sound.ended;

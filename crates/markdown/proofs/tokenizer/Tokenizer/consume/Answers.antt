@@ -1,4 +1,5 @@
-use Rattle.markdown.proofs.Steps.{byte-waits, consumed-sound, consumed-seen, byte-of-seat}
+use Rattle.std.proofs.Common.{refl}
+use Rattle.markdown.proofs.Steps.{byte-waits, consumed-sound, consumed-seen, byte-of-seat, place-at, seat-at}
 use Rattle.markdown.proofs.tokenizer.Tokenizer.consume.Goals as goal
 
 pub pass-requires : goal.pass-requires
@@ -6,18 +7,23 @@ pass-requires g c =
     let t = c.self.inside in let sound = c.self.invariant in
     let e = rw (← c.self.view_is) at c.requires in
     let w = byte-waits t sound e in
-    record { limit = sound.limit; place = sound.read.place; next = (w.seat, w.at, byte-of-seat t sound w c.unwrap_or.result c.unwrap_or.ensures) }
+    let place = c.resume.ensures in
+    record {
+      limit = sound.limit;
+      place = place-at t sound _ _ refl place;
+      next = (w.seat, seat-at t sound _ _ w.seat refl place w.at, byte-of-seat t sound w c.in-Some.byte c.in-Some.is);
+    }
 
 pub invariant_of-self : goal.invariant_of-self
 invariant_of-self g c =
     let t = c.self.inside in let sound = c.self.invariant in
     let e = rw (← c.self.view_is) at c.requires in
     let w = byte-waits t sound e in
-    consumed-sound t sound w c.pass.new.point (c.pass.ensures w.seat w.at)
+    consumed-sound t sound w c.pass.new.point (c.pass.ensures w.seat (seat-at t sound _ _ w.seat refl c.resume.ensures w.at))
 
 pub returns : goal.returns
 returns g c =
     let t = c.self.inside in let sound = c.self.invariant in
     let e = rw (← c.self.view_is) at c.requires in
     let w = byte-waits t sound e in
-    rw (← c.self.view_is) (consumed-seen t sound w c.pass.new.point (c.pass.ensures w.seat w.at))
+    rw (← c.self.view_is) (consumed-seen t sound w c.pass.new.point (c.pass.ensures w.seat (seat-at t sound _ _ w.seat refl c.resume.ensures w.at)))

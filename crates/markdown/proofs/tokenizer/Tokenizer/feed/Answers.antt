@@ -1,28 +1,29 @@
-use Rattle.markdown.proofs.Steps.{before-end, fed-more, fed-seen, fed-sound, fed-past, fed-none}
+use Rattle.std.proofs.Common.{refl, Some, None}
+use Rattle.markdown.proofs.Steps.{within-at, byte-at, fed-more, fed-seen, fed-sound, fed-none}
 use Rattle.markdown.proofs.tokenizer.Tokenizer.feed.Goals as goal
 
-pub seat_at-requires : goal.seat_at-requires
-seat_at-requires g c = record { within = c.self.invariant.read.place.bounds.tab }
+pub next_byte-requires : goal.next_byte-requires
+next_byte-requires g c = record { within = within-at c.self.inside c.self.invariant _ _ refl c.resumed-place.ensures }
 
 pub invariant_of-self : goal.invariant_of-self
 invariant_of-self g c =
-    let t = c.self.inside in let sound = c.self.invariant in let n = c.in-Some.ensures in
-    fed-sound t sound _ n.1 (before-end t sound c.in-Some.seat _ c.if-is_before.ensures)
+    let t = c.self.inside in let sound = c.self.invariant in
+    let n = byte-at t sound _ _ (Some c.in-Some.byte) refl c.resumed-place.ensures c.in-Some.ensures in
+    fed-sound t sound n.0 n.1 c.in-Some.byte n.2 n.3
 
 pub returns-in-None-clause-end : goal.returns-in-None-clause-end
-returns-in-None-clause-end g c = rw (← c.self.view_is) (fed-none c.self.inside c.self.invariant c.in-None.ensures)
+returns-in-None-clause-end g c =
+    let t = c.self.inside in let sound = c.self.invariant in
+    rw (← c.self.view_is) (fed-none t sound (byte-at t sound _ _ None refl c.resumed-place.ensures c.in-None.ensures))
 
-pub returns-then-is_before-clause-fed : goal.returns-then-is_before-clause-fed
-returns-then-is_before-clause-fed g c =
-    let t = c.self.inside in let sound = c.self.invariant in let n = c.in-Some.ensures in
-    rw (← c.self.view_is) (fed-seen t sound _ n.1 (before-end t sound c.in-Some.seat _ c.if-is_before.ensures))
+pub returns-in-Some-clause-fed : goal.returns-in-Some-clause-fed
+returns-in-Some-clause-fed g c =
+    let t = c.self.inside in let sound = c.self.invariant in
+    let n = byte-at t sound _ _ (Some c.in-Some.byte) refl c.resumed-place.ensures c.in-Some.ensures in
+    rw (← c.self.view_is) (fed-seen t sound n.0 n.1 c.in-Some.byte n.2)
 
-pub returns-then-is_before-clause-more : goal.returns-then-is_before-clause-more
-returns-then-is_before-clause-more g c =
-    let t = c.self.inside in let sound = c.self.invariant in let n = c.in-Some.ensures in
-    rw (← c.self.view_is) (fed-more t sound _ n.1 (before-end t sound c.in-Some.seat _ c.if-is_before.ensures))
-
-pub returns-else-is_before-clause-end : goal.returns-else-is_before-clause-end
-returns-else-is_before-clause-end g c =
-    let t = c.self.inside in let sound = c.self.invariant in let n = c.in-Some.ensures in
-    rw (← c.self.view_is) (fed-past t sound _ n.1 (before-end t sound c.in-Some.seat _ c.if-is_before.ensures))
+pub returns-in-Some-clause-more : goal.returns-in-Some-clause-more
+returns-in-Some-clause-more g c =
+    let t = c.self.inside in let sound = c.self.invariant in
+    let n = byte-at t sound _ _ (Some c.in-Some.byte) refl c.resumed-place.ensures c.in-Some.ensures in
+    rw (← c.self.view_is) (fed-more t sound n.0 n.1 n.2)

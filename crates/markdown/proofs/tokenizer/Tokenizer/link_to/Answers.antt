@@ -8,6 +8,7 @@ invariant_of-self g c =
       limit = sound.limit;
       end_at = sound.end_at;
       text = sound.text;
+      skips = sound.skips;
       read = sound.read;
       waiting = sound.waiting;
       ended = sound.ended;

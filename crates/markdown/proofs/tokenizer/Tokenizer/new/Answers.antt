@@ -12,11 +12,13 @@ invariant_of-result g c =
     let events = c.new-events.ensures.items in
     let stack = c.new-stack.ensures.items in
     let marks = c.new-marks.ensures.items in
+    let skips = c.new-skips.ensures.items in
     record {
       limit = c.requires.limit;
       end_at = rw here (start-found bytes p c.requires.place);
-      text = rw (here, none) (start-text bytes p c.requires.place c.args.parse_state.now.options.now);
-      read = rw here (read-start bytes p c.requires.place);
+      text = rw (skips, here, none) (start-text bytes p c.requires.place c.args.parse_state.now.options.now);
+      skips = rw skips tt;
+      read = rw (skips, here) (read-start bytes p c.requires.place);
       waiting = refl;
       ended = λ h. absurd cc;
       made = rw (events, stack) (start-made bytes p c.requires.place);
@@ -33,7 +35,8 @@ returns g c =
     let stack = c.new-stack.ensures.items in
     let resolvers = c.new-resolvers.ensures.items in
     let marks = c.new-marks.ensures.items in
+    let skips = c.new-skips.ensures.items in
     let map = c.new-map.ensures in
     let state = c.new-tokenize_state.ensures in
     let calls = c.new-calls.ensures in
-    rw (here, none, events, stack, resolvers, marks, map, state, calls) refl
+    rw (skips, here, none, events, stack, resolvers, marks, map, state, calls) refl

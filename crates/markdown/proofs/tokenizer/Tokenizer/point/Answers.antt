@@ -1,8 +1,9 @@
-use Rattle.markdown.proofs.Steps.{point-byte, point-end}
+use Rattle.std.proofs.Common.{refl}
+use Rattle.markdown.proofs.Steps.{point-byte-at, point-end-at}
 use Rattle.markdown.proofs.tokenizer.Tokenizer.point.Goals as goal
 
 pub returns-in-Some : goal.returns-in-Some
-returns-in-Some g c = rw (← c.self.view_is) (point-byte c.self.inside c.self.invariant c.in-Byte.is _ c.in-Some.ensures.1)
+returns-in-Some g c = rw (← c.self.view_is) (point-byte-at c.self.inside c.self.invariant _ _ refl c.resumed-place.ensures c.in-Byte.is _ c.in-Some.ensures.1)
 
 pub returns-in-End : goal.returns-in-End
-returns-in-End g c = rw (← c.self.view_is) (point-end c.self.inside c.self.invariant c.in-End.is)
+returns-in-End g c = rw (← c.self.view_is) (point-end-at c.self.inside c.self.invariant _ _ refl c.resumed.ensures c.in-End.is)

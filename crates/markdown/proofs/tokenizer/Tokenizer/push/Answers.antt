@@ -23,6 +23,13 @@ work-requires-clause-holds g c =
     holds-on given (i.step m given) (i.holds m given) (i.starts m) (g.met.M.Machine.invariant_kept m given) old.text (pushed r.0 r.1 ∷ rest) old.configuration old.choices c.args.state
     c.tells.ensures.text (r.4, can) fresh (c.requires.holds open_still))
 
+pub work-requires-clause-closed : goal.work-requires-clause-closed
+work-requires-clause-closed g c =
+    let open_still : c.args.self.now.closed ≡ false = sym c.is_closed.ensures ∙ c.if-is_closed.false in
+    let r = c.requires.range open_still in
+    let ext = c.extend.ensures r.0 r.1 r.2 r.3 in
+    rw ext open_still
+
 pub work-requires-clause-waits : goal.work-requires-clause-waits
 work-requires-clause-waits g c =
     let old = c.args.self.now in let m = old.machine in let given = old.given in
