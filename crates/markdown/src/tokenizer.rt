@@ -612,6 +612,11 @@ impl<'a, M: MachineTypes> Tokenizer<'a, M> {
         self.closed
     }
 
+    /// Where its lists have their memory from.
+    pub(crate) fn allocator(&self) -> Global {
+        *self.events.allocator()
+    }
+
     /// The text ends later.
     pub(crate) fn extend(&mut self, from: (usize, usize), to: (usize, usize))
         requires range { (f : Point) × (t : Point) × (point_at 4 self.old.given.bytes from ≡ Some f) × (point_at 4 self.old.given.bytes to ≡ Some t) × FitsAfter self.old.given self.old.text (pushed f t) }
@@ -622,10 +627,11 @@ impl<'a, M: MachineTypes> Tokenizer<'a, M> {
     }
 
     /// The definitions that states found are taken out. Takes no memory.
-    pub(crate) fn take_definitions(&mut self, alloc: Global) -> Subresult
+    pub(crate) fn take_definitions(&mut self) -> Subresult
         ensures answer { result ≡ found self.old.configuration }
         ensures rest { self.new ≡ at_configuration self.old (taken self.old.configuration) }
     {
+        let alloc = self.allocator();
         let definitions = replace(&mut self.tokenize_state.definitions, Items::new(alloc));
         let gfm_footnote_definitions = replace(
             &mut self.tokenize_state.gfm_footnote_definitions,

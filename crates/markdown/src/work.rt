@@ -52,12 +52,12 @@ pub fn run<M: Machine>(
     let mut state = State::Next(start);
     let mut from = (0, 0);
     for cut in cuts {
-        state = tokenizer.push(alloc, from, *cut, state)?;
+        state = tokenizer.push(from, *cut, state)?;
         from = *cut;
     }
     let end = (parse_state.bytes.len(), 0);
-    let state = tokenizer.push(alloc, from, end, state)?;
-    let sub = tokenizer.flush(alloc, state, resolve)?;
+    let state = tokenizer.push(from, end, state)?;
+    let sub = tokenizer.flush(state, resolve)?;
     Ok((tokenizer.into_events(), sub))
 }
 
@@ -94,16 +94,17 @@ impl<'a, M: Machine> Tokenizer<'a, M> {
     }
 
     /// One state is called.
-    fn once(&mut self, alloc: Global, name: Name) -> Result<State, AllocError>
+    fn once(&mut self, name: Name) -> Result<State, AllocError>
         requires waits { self.old.configuration.waiting ≢ Nothing }
         requires holds { M.holds self.old.machine self.old.given self.old.text self.old.configuration self.old.choices (State.Retry name) }
         ensures { IfOk result (IsCalled self.old self.new (M.step self.old.machine self.old.given (sight self.old.given self.old.text self.old.configuration) self.old.configuration name)) }
     {
+        let alloc = self.allocator();
         self.parse_state().machine.call(alloc, self, name)
     }
 
     /// States are called until the text is used up, or until the reading has ended.
-    fn work(&mut self, alloc: Global, flush: bool, state: State) -> Result<State, AllocError>
+    fn work(&mut self, flush: bool, state: State) -> Result<State, AllocError>
         requires text { IsText self.old.given self.old.text }
         requires holds { HoldsAll (M.holds self.old.machine self.old.given) flush self.old state }
         requires closed { self.old.closed ≡ flush }
@@ -119,7 +120,7 @@ impl<'a, M: Machine> Tokenizer<'a, M> {
                 None => return Ok(state),
             };
             self.tells();
-            state = self.once(alloc, name)?;
+            state = self.once(name)?;
         }
     }
 
@@ -131,7 +132,6 @@ impl<'a, M: Machine> Tokenizer<'a, M> {
     /// `Failed` is answered where it had before, or was flushed, and then nothing changes.
     pub fn push(
         &mut self,
-        alloc: Global,
         from: (usize, usize),
         to: (usize, usize),
         state: State,
@@ -147,7 +147,7 @@ impl<'a, M: Machine> Tokenizer<'a, M> {
         }
         self.tells();
         self.extend(from, to);
-        match self.work(alloc, false, state) {
+        match self.work(false, state) {
             Ok(answer) => {
                 self.tells();
                 Ok(answer)
@@ -164,7 +164,7 @@ impl<'a, M: Machine> Tokenizer<'a, M> {
     /// The state is as for `push`. `resolve` is false. What is answered are the definitions that states found; `done` is false.
     /// `Message` is answered exactly where the reading ends in that message. Afterwards, in each case, nothing more is
     /// pushed or flushed.
-    pub fn flush(&mut self, alloc: Global, state: State, resolve: bool) -> Result<Subresult, Fault>
+    pub fn flush(&mut self, state: State, resolve: bool) -> Result<Subresult, Fault>
         requires resolve { resolve ≡ false }
         requires holds { self.old.closed ≡ false → M.holds self.old.machine self.old.given self.old.text self.old.configuration self.old.choices state }
         ensures failed { IsTrue self.old.closed → IsErrOf result Fault.Failed × (self.new ≡ self.old) }
@@ -183,12 +183,12 @@ impl<'a, M: Machine> Tokenizer<'a, M> {
         self.tells();
         self.close();
         let _ = resolve;
-        match self.work(alloc, true, state) {
+        match self.work(true, state) {
             Ok(answer) => match answer {
                 State::Error(message) => Err(Fault::Message(message)),
                 State::Ok => {
                     self.tells_events();
-                    Ok(self.take_definitions(alloc))
+                    Ok(self.take_definitions())
                 }
                 State::Nok => unreachable!(),
                 State::Next(_) => unreachable!(),

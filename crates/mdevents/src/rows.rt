@@ -52,7 +52,7 @@ fn read(alloc: Global, bytes: &[u8], cuts: &[(usize, usize)]) -> Result<Seen, Al
     let mut state = State::Next(Name::FlowStart);
     let mut from = (0, 0);
     for cut in cuts {
-        state = match tokenizer.push(alloc, from, *cut, state) {
+        state = match tokenizer.push(from, *cut, state) {
             Ok(next) => next,
             Err(_) => return Err(AllocError),
         };
@@ -61,13 +61,13 @@ fn read(alloc: Global, bytes: &[u8], cuts: &[(usize, usize)]) -> Result<Seen, Al
         from = *cut;
     }
     let end = (bytes.len(), 0);
-    let state = match tokenizer.push(alloc, from, end, state) {
+    let state = match tokenizer.push(from, end, state) {
         Ok(next) => next,
         Err(_) => return Err(AllocError),
     };
     previous.push(tokenizer.previous())?;
     calls.push(tokenizer.tokenize_state.size)?;
-    if tokenizer.flush(alloc, state, false).is_err() {
+    if tokenizer.flush(state, false).is_err() {
         return Err(AllocError);
     }
     calls.push(tokenizer.tokenize_state.size)?;
@@ -105,12 +105,12 @@ fn read_in_three<M: Machine>(
     requires ranges { AreThreeRanges parse_state.now.bytes.now cut from to }
 {
     let mut tokenizer = Tokenizer::new(alloc, START, parse_state);
-    let state = match tokenizer.push(alloc, (0, 0), cut, State::Next(start)) {
+    let state = match tokenizer.push((0, 0), cut, State::Next(start)) {
         Ok(state) => state,
         Err(_) => return Err(AllocError),
     };
     let first = tokenizer.tokenize_state.size;
-    let state = match tokenizer.push(alloc, from, to, state) {
+    let state = match tokenizer.push(from, to, state) {
         Ok(state) => state,
         Err(_) => return Err(AllocError),
     };
@@ -118,11 +118,11 @@ fn read_in_three<M: Machine>(
     let previous = tokenizer.previous();
     let count = tokenizer.events().len();
     let end = (parse_state.bytes.len(), 0);
-    let state = match tokenizer.push(alloc, to, end, state) {
+    let state = match tokenizer.push(to, end, state) {
         Ok(state) => state,
         Err(_) => return Err(AllocError),
     };
-    if tokenizer.flush(alloc, state, false).is_err() {
+    if tokenizer.flush(state, false).is_err() {
         return Err(AllocError);
     }
     Ok(InThree {
