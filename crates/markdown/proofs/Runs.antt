@@ -15,8 +15,9 @@ use Rattle.markdown_base.specs.Places.{stands_before, shown, follows_cr, points,
 use Rattle.markdown.specs.Text.{Given, Text, pushed, in_range, empty_text, followed_by, followed_by_all, FitsAfter, CanFollow}
 use Rattle.markdown.specs.Configuration.{Configuration, Choice, Step, Seen, start_configuration, start_seen}
 use Rattle.markdown.specs.Sight.{Sight}
+use Rattle.markdown.specs.Rules.{Rules}
 use Rattle.markdown.specs.Lawful.{KeepsInvariant}
-use Rattle.markdown.specs.Engine.{LeadsOn, KeepsOutcome, IsPushed, IsFlushed, IsRefused, IsWellFormed, IsRun, IsRunRefused, AreCuts, budget, given_by, taken, whole_text, FollowInOrder}
+use Rattle.markdown.specs.Engine.{LeadsOn, KeepsOutcome, CanPush, IsPushed, IsFlushed, IsRefused, IsWellFormed, IsRun, IsRunRefused, AreCuts, budget, given_by, taken, whole_text, FollowInOrder}
 use Rattle.markdown.specs.Reading.{Reading, EndsIn}
 use Rattle.markdown.specs.declared.subtokenize.Subresult.{Subresult}
 use Rattle.markdown_base.specs.declared.configuration.ParseOptions.{ParseOptions}
@@ -189,37 +190,34 @@ untaken-formed : {R D : Type 0} (bytes : List ℕ) (k : Configuration R D) → I
 untaken-formed bytes k h = record { balanced = h.balanced; void_tight = h.void_tight; in_order = h.in_order }
 
 -- where a run stands, with which cuts to come
-pub record Runs {M R D : Type 0} (bytes : List ℕ) (options : ParseOptions) (m : M) (step : Sight → Configuration R D → Name → Step R D) (holds : Text → Configuration R D → List Choice → State → Type 0)
-    (cost : Text → Configuration R D → State → ℕ) (reserve : Text → Choice → ℕ) (start : Name) (from : ℕ × ℕ) (cuts : List (ℕ × ℕ)) (t : Seen M R D) (state : State) : Type 0 where
-  pub same_given : t.given ≡ given_by bytes options
+pub record Runs {M R D : Type 0} (bytes : List ℕ) (options : ParseOptions) (m : M) (rules : Rules R D) (start : Name) (from : ℕ × ℕ) (cuts : List (ℕ × ℕ)) (t : Seen M R D) (state : State) : Type 0 where
+  pub same_given : t.given ≡ given_by 4 bytes options
   pub machine : t.machine ≡ m
   pub open_still : t.closed ≡ false
   pub place : Point
   pub place_is : point_at 4 bytes from ≡ Some place
-  pub text : t.text ≡ text_upto (given_by bytes options) place
-  pub outcome : KeepsOutcome (given_by bytes options) step holds cost reserve (start_seen (given_by bytes options) m (empty_text (point 1 1 0 0))) (Next start) t state
+  pub text : t.text ≡ text_upto (given_by 4 bytes options) place
+  pub outcome : KeepsOutcome (given_by 4 bytes options) rules (start_seen (given_by 4 bytes options) m (empty_text (point 1 1 0 0))) (Next start) t state
   pub order : FollowInOrder 4 bytes place cuts
 
-module _ {M R D : Type 0} (step : M → Given → Sight → Configuration R D → Name → Step R D) (holds : M → Given → Text → Configuration R D → List Choice → State → Type 0)
-    (cost : M → Given → Text → Configuration R D → State → ℕ) (reserve : M → Given → Text → Choice → ℕ) where
+module _ {M R D : Type 0} (rules : M → Given → Rules R D) where
   abbrev pub RunsBy : List ℕ → ParseOptions → M → Name → ℕ × ℕ → List (ℕ × ℕ) → Seen M R D → State → Type 0
-  RunsBy bytes options m = let given = given_by bytes options in Runs bytes options m (step m given) (holds m given) (cost m given) (reserve m given)
+  RunsBy bytes options m = let given = given_by 4 bytes options in Runs bytes options m (rules m given)
 
   abbrev StartsWith : List ℕ → ParseOptions → M → Seen M R D
-  StartsWith bytes options m = start_seen (given_by bytes options) m (empty_text (point 1 1 0 0))
+  StartsWith bytes options m = start_seen (given_by 4 bytes options) m (empty_text (point 1 1 0 0))
 
   abbrev LeadsIn : M → Given → Text → Seen M R D → State → Seen M R D → State → Type 0
-  LeadsIn m given = LeadsOn given (step m given) (holds m given) (cost m given) (reserve m given)
+  LeadsIn m given = LeadsOn given (rules m given)
 
   abbrev PushedBy : M → Given → Seen M R D → ℕ × ℕ → ℕ × ℕ → State → Seen M R D → State → Type 0
-  PushedBy m given t from to state u answer = (f q : Point) → point_at 4 given.bytes from ≡ Some f → point_at 4 given.bytes to ≡ Some q
-      → IsPushed given (step m given) (holds m given) (cost m given) (reserve m given) t f q state u answer
+  PushedBy m given t from to state u answer = IsPushed (rules m given) t from to state u answer
 
-  pub run-start : (bytes : List ℕ) (options : ParseOptions) (m : M) (starts : List Name) → (let given = given_by bytes options in KeepsInvariant given (step m given) (holds m given) starts)
-      → (start : Name) → Contains starts start → (cuts : List (ℕ × ℕ)) → AreCuts 4 bytes cuts → (t : Seen M R D) → t ≡ StartsWith bytes options m
+  pub run-start : (bytes : List ℕ) (options : ParseOptions) (m : M) → (let given = given_by 4 bytes options in KeepsInvariant given (rules m given))
+      → (start : Name) → Contains (rules m (given_by 4 bytes options)).starts start → (cuts : List (ℕ × ℕ)) → AreCuts 4 bytes cuts → (t : Seen M R D) → t ≡ StartsWith bytes options m
       → RunsBy bytes options m start (0, 0) cuts t (Next start)
-  run-start bytes options m starts keeps start among cuts order t e =
-      let given = given_by bytes options in
+  run-start bytes options m keeps start among cuts order t e =
+      let given = given_by 4 bytes options in
       let first = start-is-point given refl in
       let p = point 1 1 0 0 in
       rw e (record {
@@ -230,8 +228,8 @@ module _ {M R D : Type 0} (step : M → Given → Sight → Configuration R D �
         place_is = start-at bytes;
         text = start-text given refl;
         outcome = λ rest can.
-            leads-refl given (step m given) (holds m given) (cost m given) (reserve m given) (followed_by_all given (empty_text p) rest) (StartsWith bytes options m) (Next start)
-            (holds-on given (step m given) (holds m given) starts keeps (empty_text p) rest (start_configuration false) [] (Next start)
+            leads-refl given (rules m given) (followed_by_all given (empty_text p) rest) (StartsWith bytes options m) (Next start)
+            (holds-on given (rules m given) keeps (empty_text p) rest (start_configuration false) [] (Next start)
             (record { starts = first; pieces = []; follow = tt; is = refl }) can refl (keeps.at_starts p false start first among));
         order = order;
       })
@@ -267,25 +265,29 @@ module _ {M R D : Type 0} (step : M → Given → Sight → Configuration R D �
 
   module _ (bytes : List ℕ) (options : ParseOptions) (m : M) (start : Name) (from cut : ℕ × ℕ) (cuts : List (ℕ × ℕ)) (t : Seen M R D) (state : State)
       (r : RunsBy bytes options m start from (cut ∷ cuts) t state) where
-    run-fits : FitsAfter (given_by bytes options) (text_upto (given_by bytes options) r.place) (pushed r.place r.order.0)
-    run-fits = upto-fits (given_by bytes options) refl r.place r.order.0 (found-place 4 bytes from r.place r.place_is) (found-place 4 bytes cut r.order.0 r.order.1) r.order.2
+    run-fits : FitsAfter (given_by 4 bytes options) (text_upto (given_by 4 bytes options) r.place) (pushed r.place r.order.0)
+    run-fits = upto-fits (given_by 4 bytes options) refl r.place r.order.0 (found-place 4 bytes from r.place r.place_is) (found-place 4 bytes cut r.order.0 r.order.1) r.order.2
 
-    pub run-range : (f : Point) × (q : Point) × (point_at 4 t.given.bytes from ≡ Some f) × (point_at 4 t.given.bytes cut ≡ Some q) × FitsAfter t.given t.text (pushed f q)
+    pub run-range : CanPush t.given t.text from cut
     run-range =
         let e = r.same_given in let x = r.text in
         rw (e, x) (r.place, r.order.0, r.place_is, r.order.1, run-fits)
 
-    run-text : (u : Seen M R D) → u.text ≡ followed_by (given_by bytes options) t.text (pushed r.place r.order.0) → u.text ≡ text_upto (given_by bytes options) r.order.0
+    run-text : (u : Seen M R D) → u.text ≡ followed_by (given_by 4 bytes options) t.text (pushed r.place r.order.0) → u.text ≡ text_upto (given_by 4 bytes options) r.order.0
     run-text u e =
-        let given = given_by bytes options in
+        let given = given_by 4 bytes options in
         e ∙ ap (λ (x : Text). followed_by given x (pushed r.place r.order.0)) r.text
         ∙ upto-text given refl r.place r.order.0 (found-place 4 bytes from r.place r.place_is) r.order.2
 
-    run-pushed-in : (u : Seen M R D) (answer : State) → PushedBy m (given_by bytes options) t from cut state u answer → RunsBy bytes options m start cut cuts u answer
+    run-pushed-in : (u : Seen M R D) (answer : State) → PushedBy m (given_by 4 bytes options) t from cut state u answer → RunsBy bytes options m start cut cuts u answer
     run-pushed-in u answer pushes =
-        let given = given_by bytes options in
+        let given = given_by 4 bytes options in
         let q = r.order.0 in let piece = pushed r.place q in
-        let p = pushes r.place q r.place_is r.order.1 in
+        let p = pushes in
+        let place_is = subst (λ (x : Given). point_at x.tab x.bytes from ≡ Some r.place) (sym r.same_given) r.place_is in
+        let cut_is = subst (λ (x : Given). point_at x.tab x.bytes cut ≡ Some q) (sym r.same_given) r.order.1 in
+        let text_is = subst (λ (x : Given). u.text ≡ followed_by x t.text piece) r.same_given (p.text r.place q place_is cut_is) in
+        let outcome = subst (λ (x : Given). KeepsOutcome x (rules m given) t state u answer) r.same_given p.outcome in
         let mid = followed_by given t.text piece in
         let fits = subst (λ (x : Text). FitsAfter given x piece) (sym r.text) run-fits in record {
           same_given = p.given ∙ r.same_given;
@@ -293,13 +295,13 @@ module _ {M R D : Type 0} (step : M → Given → Sight → Configuration R D �
           open_still = p.open_still;
           place = q;
           place_is = r.order.1;
-          text = run-text u p.text;
+          text = run-text u text_is;
           outcome = λ rest can.
-              let can_mid = subst (λ (x : Text). CanFollow given x rest) p.text can in
+              let can_mid = subst (λ (x : Text). CanFollow given x rest) text_is can in
               let first = r.outcome (piece ∷ rest) (fits, can_mid) in
-              let second = subst (λ (x : Text). LeadsIn m given (followed_by_all given x rest) t state u answer) p.text (p.outcome rest can) in
-              subst (λ (x : Text). LeadsIn m given (followed_by_all given x rest) (StartsWith bytes options m) (Next start) u answer) (sym p.text)
-              (leads-trans given (step m given) (holds m given) (cost m given) (reserve m given) (followed_by_all given mid rest) (StartsWith bytes options m) t u (Next start) state answer first second);
+              let second = subst (λ (x : Text). LeadsIn m given (followed_by_all given x rest) t state u answer) text_is (outcome rest can) in
+              subst (λ (x : Text). LeadsIn m given (followed_by_all given x rest) (StartsWith bytes options m) (Next start) u answer) (sym text_is)
+              (leads-trans given (rules m given) (followed_by_all given mid rest) (StartsWith bytes options m) t u (Next start) state answer first second);
           order = r.order.3;
         }
 
@@ -310,57 +312,64 @@ module _ {M R D : Type 0} (step : M → Given → Sight → Configuration R D �
 
   module _ (bytes : List ℕ) (options : ParseOptions) (m : M) (start : Name) (from : ℕ × ℕ) (cuts : List (ℕ × ℕ)) (t : Seen M R D) (state : State)
       (r : RunsBy bytes options m start from cuts t state) where
-    pub run-holds : holds t.machine t.given t.text t.configuration t.choices state
+    pub run-holds : (rules t.machine t.given).holds t.text t.configuration t.choices state
     run-holds =
-        subst (λ (x : M). holds x t.given t.text t.configuration t.choices state) (sym r.machine)
-        (subst (λ (x : Given). holds m x t.text t.configuration t.choices state) (sym r.same_given) ((r.outcome [] tt).kept))
+        subst (λ (x : M). (rules x t.given).holds t.text t.configuration t.choices state) (sym r.machine)
+        (subst (λ (x : Given). (rules m x).holds t.text t.configuration t.choices state) (sym r.same_given) ((r.outcome [] tt).kept))
 
     -- what a reading ends in from here on, it ends in from the start on
-    run-ends : (q : Reading R D) → EndsIn t.given (step t.machine t.given) t.text t.calls t.configuration t.choices state q
-        → EndsIn (given_by bytes options) (step m (given_by bytes options)) t.text 0 (start_configuration false) [] (Next start) q
+    run-ends : (q : Reading R D) → EndsIn t.given (rules t.machine t.given).step t.text t.calls t.configuration t.choices state q
+        → EndsIn (given_by 4 bytes options) (rules m (given_by 4 bytes options)).step t.text 0 (start_configuration false) [] (Next start) q
     run-ends q e =
-        let given = given_by bytes options in
+        let given = given_by 4 bytes options in
         ((r.outcome [] tt).same q).0
-        (subst (λ (x : Given). EndsIn x (step m x) t.text t.calls t.configuration t.choices state q) r.same_given
-        (subst (λ (x : M). EndsIn t.given (step x t.given) t.text t.calls t.configuration t.choices state q) r.machine e))
+        (subst (λ (x : Given). EndsIn x (rules m x).step t.text t.calls t.configuration t.choices state q) r.same_given
+        (subst (λ (x : M). EndsIn t.given (rules x t.given).step t.text t.calls t.configuration t.choices state q) r.machine e))
 
   module _ (bytes : List ℕ) (options : ParseOptions) (m : M) (start : Name) (t : Seen M R D) (state : State)
       (r : RunsBy bytes options m start (length bytes, 0) [] t state) where
-    run-whole : t.text ≡ whole_text (given_by bytes options)
+    run-whole : t.text ≡ whole_text (given_by 4 bytes options)
     run-whole =
-        let given = given_by bytes options in
+        let given = given_by 4 bytes options in
         let last : Some r.place ≡ Some (document_end 4 bytes) = sym r.place_is ∙ end-at bytes in
         let is : r.place ≡ document_end 4 bytes = (cc) in
         r.text ∙ ap (text_upto given) is ∙ whole-is given refl
 
-    pub run-flushed : (v : Seen M R D) (list : List Event) (sub : Subresult) → IsFlushed t.given (step t.machine t.given) t state v sub
-        → v.calls ≤ budget (cost t.machine t.given) (reserve t.machine t.given) t.text t state → v.given ≡ t.given → IsWellFormed v.given.bytes v.configuration
-        → list ≡ v.configuration.events → IsRun (given_by bytes options) (step m (given_by bytes options)) (cost m (given_by bytes options)) start list sub
-    run-flushed v list sub f paid same formed events =
-        let given = given_by bytes options in
-        let whole = run-whole in
-        let paid_here = subst (λ (x : Given). v.calls ≤ budget (cost m x) (reserve m x) t.text t state) r.same_given
-        (subst (λ (x : M). v.calls ≤ budget (cost x t.given) (reserve x t.given) t.text t state) r.machine paid) in
+    run-within : (calls : ℕ) → calls ≤ budget (rules t.machine t.given) t.text t state
+        → calls ≤ (rules m (given_by 4 bytes options)).cost (whole_text (given_by 4 bytes options)) (start_configuration false) (Next start)
+    run-within calls paid =
+        let given = given_by 4 bytes options in
+        let paid_here = subst (λ (x : Given). calls ≤ budget (rules m x) t.text t state) r.same_given
+        (subst (λ (x : M). calls ≤ budget (rules x t.given) t.text t state) r.machine paid) in
         let before = (r.outcome [] tt).paid in
-        let calls = f.calls in
-        let within : f.result.calls ≤ cost m given t.text (start_configuration false) (Next start) = omega (arith, before, paid_here, calls) in
-        let formed_taken = subst (λ (k : Configuration R D). IsWellFormed bytes k) f.configuration (subst (λ (x : Given). IsWellFormed x.bytes v.configuration) (same ∙ r.same_given) formed) in record {
+        let within : calls ≤ (rules m given).cost t.text (start_configuration false) (Next start) = omega (arith, before, paid_here) in
+        subst (λ (x : Text). calls ≤ (rules m given).cost x (start_configuration false) (Next start)) run-whole within
+
+    run-ends-whole : (q : Reading R D) → EndsIn t.given (rules t.machine t.given).step t.text t.calls t.configuration t.choices state q
+        → EndsIn (given_by 4 bytes options) (rules m (given_by 4 bytes options)).step (whole_text (given_by 4 bytes options)) 0 (start_configuration false) [] (Next start) q
+    run-ends-whole q e =
+        let given = given_by 4 bytes options in
+        subst (λ (x : Text). EndsIn given (rules m given).step x 0 (start_configuration false) [] (Next start) q) run-whole
+        (run-ends bytes options m start (length bytes, 0) [] t state r q e)
+
+    pub run-flushed : (v : Seen M R D) (list : List Event) (sub : Subresult) → IsFlushed (rules t.machine t.given) t state v sub
+        → list ≡ v.configuration.events → IsRun (given_by 4 bytes options) (rules m) start list sub
+    run-flushed v list sub f events =
+        let formed = subst (λ (k : Configuration R D). IsWellFormed bytes k) f.configuration (subst (λ (x : Given). IsWellFormed x.bytes v.configuration) r.same_given f.well_formed) in record {
           result = f.result;
-          ends = subst (λ (x : Text). EndsIn given (step m given) x 0 (start_configuration false) [] (Next start) f.result) whole
-              (run-ends bytes options m start (length bytes, 0) [] t state r f.result f.ends);
+          ends = run-ends-whole f.result f.ends;
           well = f.well;
           events = events ∙ ap (λ (k : Configuration R D). k.events) f.configuration;
-          well_formed = untaken-formed bytes f.result.configuration formed_taken;
+          well_formed = untaken-formed bytes f.result.configuration formed;
           definitions = f.definitions;
-          within = subst (λ (x : Text). f.result.calls ≤ cost m given x (start_configuration false) (Next start)) whole within;
+          within = run-within f.result.calls (subst (λ (n : ℕ). n ≤ budget (rules t.machine t.given) t.text t state) f.calls f.within);
         }
 
-    pub run-refused : (v : Seen M R D) (message : Message) → IsRefused t.given (step t.machine t.given) t state v message
-        → IsRunRefused (given_by bytes options) (step m (given_by bytes options)) start message
-    run-refused v message f =
-        let given = given_by bytes options in record {
-          result = f.result;
-          ends = subst (λ (x : Text). EndsIn given (step m given) x 0 (start_configuration false) [] (Next start) f.result) run-whole
-              (run-ends bytes options m start (length bytes, 0) [] t state r f.result f.ends);
-          message = f.message;
-        }
+    pub run-refused : (v : Seen M R D) (message : Message) → IsRefused (rules t.machine t.given) t state v message
+        → IsRunRefused (given_by 4 bytes options) (rules m) start message
+    run-refused v message f = record {
+      result = f.result;
+      ends = run-ends-whole f.result f.ends;
+      message = f.message;
+      within = run-within f.result.calls (subst (λ (n : ℕ). n ≤ budget (rules t.machine t.given) t.text t state) f.calls f.within);
+    }

@@ -20,8 +20,9 @@ use Rattle.markdown.specs.Text.{Given, Text, Piece, pushed, passed, in_range, em
 use Rattle.markdown.specs.Configuration.{Configuration, Choice, Step, Seen, Saved, at_configuration}
 use Rattle.markdown.specs.Sight.{Sight, sight, sight_of, seat_before}
 use Rattle.markdown.specs.Reading.{Reading, fed, restored, settled_at, EndsIn, more_calls, read}
+use Rattle.markdown.specs.Rules.{Rules}
 use Rattle.markdown.specs.Lawful.{stepped, IsCalled, ConsumesOnce, EndsWhenRead, KeepsInvariant, CostPays}
-use Rattle.markdown.specs.Engine.{LeadsOn, IsPushed, IsWellFormed, budget, taken}
+use Rattle.markdown.specs.Engine.{LeadsOn, ForPoints, IsPushed, IsWellFormed, budget, taken}
 use Rattle.markdown.specs.Work.{LeadsAll, Stops, settled_all, settled_to, EndsClosed, extended, OnlyWorked, TakesUp, IsInText, answer_in}
 use Rattle.markdown.proofs.Readings.{fed-ends, called-ends, settled-ok-ends, settled-nok-ends}
 use Rattle.markdown.proofs.Ends.{error-stays}
@@ -114,12 +115,11 @@ module _ (text w : Text) (c : Continues text w) where
       rw (before, starts, front, is) refl
   sight-same given p End h b e = absurd (e refl)
 
-module _ {M R D : Type 0} (given : Given) (step : Sight → Configuration R D → Name → Step R D) (holds : Text → Configuration R D → List Choice → State → Type 0)
-    (cost : Text → Configuration R D → State → ℕ) (reserve : Text → Choice → ℕ) where
-  pub leads-refl : (w : Text) (t : Seen M R D) (s : State) → holds w t.configuration t.choices s → LeadsOn given step holds cost reserve w t s t s
+module _ {M R D : Type 0} (given : Given) (rules : Rules R D) where
+  pub leads-refl : (w : Text) (t : Seen M R D) (s : State) → rules.holds w t.configuration t.choices s → LeadsOn given rules w t s t s
   leads-refl w t s h = record { kept = h; same = λ r. ((λ e. e), (λ e. e)); paid = omega arith }
 
-  pub leads-trans : (w : Text) (t u v : Seen M R D) (a b d : State) → LeadsOn given step holds cost reserve w t a u b → LeadsOn given step holds cost reserve w u b v d → LeadsOn given step holds cost reserve w t a v d
+  pub leads-trans : (w : Text) (t u v : Seen M R D) (a b d : State) → LeadsOn given rules w t a u b → LeadsOn given rules w u b v d → LeadsOn given rules w t a v d
   leads-trans w t u v a b d h k = record {
     kept = k.kept;
     same = λ r. ((λ e. (h.same r).0 ((k.same r).0 e)), (λ e. (k.same r).1 ((h.same r).1 e)));
@@ -127,76 +127,74 @@ module _ {M R D : Type 0} (given : Given) (step : Sight → Configuration R D �
   }
 
 -- the laws of a machine, which the steps of the work cite
-pub record Laws {R D : Type 0} (given : Given) (step : Sight → Configuration R D → Name → Step R D) (holds : Text → Configuration R D → List Choice → State → Type 0)
-    (cost : Text → Configuration R D → State → ℕ) (reserve : Text → Choice → ℕ) (starts : List Name) : Type 0 where
-  pub consumes : ConsumesOnce given step holds
-  pub ends : EndsWhenRead given step holds
-  pub keeps : KeepsInvariant given step holds starts
-  pub pays : CostPays given step holds cost reserve
+pub record Laws {R D : Type 0} (given : Given) (rules : Rules R D) : Type 0 where
+  pub consumes : ConsumesOnce given rules
+  pub ends : EndsWhenRead given rules
+  pub keeps : KeepsInvariant given rules
+  pub pays : CostPays given rules
 
-module _ {M R D : Type 0} (given : Given) (step : Sight → Configuration R D → Name → Step R D) (holds : Text → Configuration R D → List Choice → State → Type 0)
-    (cost : Text → Configuration R D → State → ℕ) (reserve : Text → Choice → ℕ) (starts : List Name) (laws : Laws given step holds cost reserve starts) where
-  leads-fed : (w : Text) → IsText given w → (t : Seen M R D) (n : Name) → holds w t.configuration t.choices (Next n)
-      → LeadsOn given step holds cost reserve w t (Next n) (at_configuration t (fed w t.configuration)) (Retry n)
+module _ {M R D : Type 0} (given : Given) (rules : Rules R D) (laws : Laws given rules) where
+  leads-fed : (w : Text) → IsText given w → (t : Seen M R D) (n : Name) → rules.holds w t.configuration t.choices (Next n)
+      → LeadsOn given rules w t (Next n) (at_configuration t (fed w t.configuration)) (Retry n)
   leads-fed w is t n h =
       let pays = laws.pays.for_feeding w t.configuration t.choices n is h in record {
         kept = laws.keeps.by_feeding w t.configuration t.choices n is h;
-        same = λ r. fed-ends given step w t.calls t.configuration t.choices n r;
+        same = λ r. fed-ends given rules.step w t.calls t.configuration t.choices n r;
         paid = omega (arith, pays);
       }
 
-  leads-called : (w : Text) → IsText given w → (t : Seen M R D) (n : Name) → holds w t.configuration t.choices (Retry n)
-      → let s = step (sight given w t.configuration) t.configuration n in LeadsOn given step holds cost reserve w t (Retry n) (stepped t s) s.answer
+  leads-called : (w : Text) → IsText given w → (t : Seen M R D) (n : Name) → rules.holds w t.configuration t.choices (Retry n)
+      → let s = rules.step (sight given w t.configuration) t.configuration n in LeadsOn given rules w t (Retry n) (stepped t s) s.answer
   leads-called w is t n h =
-      let s = step (sight given w t.configuration) t.configuration n in
+      let s = rules.step (sight given w t.configuration) t.configuration n in
       let pays = laws.pays.for_calls w t.configuration t.choices n is h in record {
         kept = laws.keeps.by_calls w t.configuration t.choices n is h;
-        same = λ r. called-ends given step w t.calls t.configuration t.choices n r;
-        paid = omega (arith, pays, sum_by-append (reserve w) s.choices t.choices);
+        same = λ r. called-ends given rules.step w t.calls t.configuration t.choices n r;
+        paid = omega (arith, pays, sum_by-append (rules.reserve w) s.choices t.choices);
       }
 
-  leads-ok : (w : Text) → IsText given w → (t : Seen M R D) (c : Choice) (cs : List Choice) → t.choices ≡ c ∷ cs → holds w t.configuration t.choices Ok
-      → LeadsOn given step holds cost reserve w t Ok (settled t c cs Ok) c.ok
+  leads-ok : (w : Text) → IsText given w → (t : Seen M R D) (c : Choice) (cs : List Choice) → t.choices ≡ c ∷ cs → rules.holds w t.configuration t.choices Ok
+      → LeadsOn given rules w t Ok (settled t c cs Ok) c.ok
   leads-ok w is t c cs e h =
       let h' = rw e at h in
       let pays = laws.pays.for_ok w t.configuration c cs is h' in record {
         kept = laws.keeps.by_ok w t.configuration c cs is h';
-        same = rw e (λ r. settled-ok-ends given step w t.calls t.configuration c cs r);
-        paid = rw e (omega (arith, pays, sum_by-cons (reserve w) c cs));
+        same = rw e (λ r. settled-ok-ends given rules.step w t.calls t.configuration c cs r);
+        paid = rw e (omega (arith, pays, sum_by-cons (rules.reserve w) c cs));
       }
 
-  leads-nok : (w : Text) → IsText given w → (t : Seen M R D) (c : Choice) (cs : List Choice) → t.choices ≡ c ∷ cs → holds w t.configuration t.choices Nok
-      → LeadsOn given step holds cost reserve w t Nok (settled t c cs Nok) c.nok
+  leads-nok : (w : Text) → IsText given w → (t : Seen M R D) (c : Choice) (cs : List Choice) → t.choices ≡ c ∷ cs → rules.holds w t.configuration t.choices Nok
+      → LeadsOn given rules w t Nok (settled t c cs Nok) c.nok
   leads-nok w is t c cs e h =
       let h' = rw e at h in
       let pays = laws.pays.for_nok w t.configuration c cs is h' in record {
         kept = laws.keeps.by_nok w t.configuration c cs is h';
-        same = rw e (λ r. settled-nok-ends given step w t.calls t.configuration c cs r);
-        paid = rw e (omega (arith, pays, sum_by-cons (reserve w) c cs));
+        same = rw e (λ r. settled-nok-ends given rules.step w t.calls t.configuration c cs r);
+        paid = rw e (omega (arith, pays, sum_by-cons (rules.reserve w) c cs));
       }
 
   -- choices end, until one goes on with a state, or none is left
   abbrev SettlesTo : Text → Seen M R D → Configuration R D → List Choice → State → Type 0
   SettlesTo w t k cs s =
       let e = settled_all k cs s in
-      LeadsOn given step holds cost reserve w (settled_to t (record { configuration = k; choices = cs; answer = s })) s (settled_to t e) e.answer
+      LeadsOn given rules w (settled_to t (record { configuration = k; choices = cs; answer = s })) s (settled_to t e) e.answer
 
-  pub leads-settled : (w : Text) → IsText given w → (t : Seen M R D) (k : Configuration R D) (cs : List Choice) (s : State) → holds w k cs s → SettlesTo w t k cs s
-  leads-settled w is t k cs (Next name) h = leads-refl given step holds cost reserve w (settled_to t (record { configuration = k; choices = cs; answer = Next name })) (Next name) h
-  leads-settled w is t k cs (Retry name) h = leads-refl given step holds cost reserve w (settled_to t (record { configuration = k; choices = cs; answer = Retry name })) (Retry name) h
-  leads-settled w is t k cs (Error m) h = leads-refl given step holds cost reserve w (settled_to t (record { configuration = k; choices = cs; answer = Error m })) (Error m) h
-  leads-settled w is t k [] Ok h = leads-refl given step holds cost reserve w (settled_to t (record { configuration = k; choices = []; answer = Ok })) Ok h
-  leads-settled w is t k [] Nok h = leads-refl given step holds cost reserve w (settled_to t (record { configuration = k; choices = []; answer = Nok })) Nok h
+  pub leads-settled : (w : Text) → IsText given w → (t : Seen M R D) (k : Configuration R D) (cs : List Choice) (s : State) → rules.holds w k cs s → SettlesTo w t k cs s
+  leads-settled w is t k cs (Next name) h = leads-refl given rules w (settled_to t (record { configuration = k; choices = cs; answer = Next name })) (Next name) h
+  leads-settled w is t k cs (Retry name) h = leads-refl given rules w (settled_to t (record { configuration = k; choices = cs; answer = Retry name })) (Retry name) h
+  leads-settled w is t k cs (Error m) h = leads-refl given rules w (settled_to t (record { configuration = k; choices = cs; answer = Error m })) (Error m) h
+  leads-settled w is t k [] Ok h = leads-refl given rules w (settled_to t (record { configuration = k; choices = []; answer = Ok })) Ok h
+  leads-settled w is t k [] Nok h = leads-refl given rules w (settled_to t (record { configuration = k; choices = []; answer = Nok })) Nok h
   leads-settled w is t k (c ∷ cs) Ok h =
       let now = settled_to t (record { configuration = k; choices = c ∷ cs; answer = Ok }) in
       let first = leads-ok w is now c cs refl h in
       let e = settled_all (settled_at c.kind c.saved Ok k) cs c.ok in
-      leads-trans given step holds cost reserve w now (settled now c cs Ok) (settled_to t e) Ok c.ok e.answer first (leads-settled w is t (settled_at c.kind c.saved Ok k) cs c.ok first.kept)
+      leads-trans given rules w now (settled now c cs Ok) (settled_to t e) Ok c.ok e.answer first (leads-settled w is t (settled_at c.kind c.saved Ok k) cs c.ok first.kept)
   leads-settled w is t k (c ∷ cs) Nok h =
       let now = settled_to t (record { configuration = k; choices = c ∷ cs; answer = Nok }) in
       let first = leads-nok w is now c cs refl h in
       let e = settled_all (settled_at c.kind c.saved Nok k) cs c.nok in
-      leads-trans given step holds cost reserve w now (settled now c cs Nok) (settled_to t e) Nok c.nok e.answer first (leads-settled w is t (settled_at c.kind c.saved Nok k) cs c.nok first.kept)
+      leads-trans given rules w now (settled now c cs Nok) (settled_to t e) Nok c.nok e.answer first (leads-settled w is t (settled_at c.kind c.saved Nok k) cs c.nok first.kept)
 
 -- where the reading ends no choice is left
 pub settled-ends : {R D : Type 0} (k : Configuration R D) (cs : List Choice) (s : State) → IsSome (answer_in (settled_all k cs s).answer) → (settled_all k cs s).choices ≡ []
@@ -253,37 +251,35 @@ sight-agrees given text rest false k only within byte no_end =
     sight-same text (followed_by_all given text rest) (continues-all given text rest) given k.position k.waiting within byte (no_end refl)
 
 -- a call lets no end wait that did not before
-no-feeding : {R D : Type 0} (given : Given) (step : Sight → Configuration R D → Name → Step R D) (holds : Text → Configuration R D → List Choice → State → Type 0)
-    → ConsumesOnce given step holds → (text : Text) (k : Configuration R D) (choices : List Choice) (n : Name) → IsText given text → holds text k choices (Retry n)
-    → (step (sight given text k) k n).configuration.waiting ≡ End → k.waiting ≡ End
-no-feeding given step holds consumes text k choices n is h e =
+no-feeding : {R D : Type 0} (given : Given) (rules : Rules R D)
+    → ConsumesOnce given rules → (text : Text) (k : Configuration R D) (choices : List Choice) (n : Name) → IsText given text → rules.holds text k choices (Retry n)
+    → (rules.step (sight given text k) k n).configuration.waiting ≡ End → k.waiting ≡ End
+no-feeding given rules consumes text k choices n is h e =
     elim (consumes text k choices n is h) [
       | inl same ↦ sym same.0.1 ∙ e
       | inr consumed ↦ let f : Nothing ≡ End = sym consumed.1.1 ∙ e in absurd cc
     ]
 
 -- what the work keeps from turn to turn
-pub record Kept {M R D : Type 0} (given : Given) (step : Sight → Configuration R D → Name → Step R D) (holds : Text → Configuration R D → List Choice → State → Type 0)
-    (cost : Text → Configuration R D → State → ℕ) (reserve : Text → Choice → ℕ) (flush : Bool) (old : Seen M R D) (state : State) (new : Seen M R D) (answer : State) : Type 0 where
+pub record Kept {M R D : Type 0} (given : Given) (rules : Rules R D) (flush : Bool) (old : Seen M R D) (state : State) (new : Seen M R D) (answer : State) : Type 0 where
   pub same : OnlyWorked old new
   pub waits : flush ≡ false → new.configuration.waiting ≢ End
-  pub leads : LeadsAll given step holds cost reserve flush old state new answer
+  pub leads : LeadsAll given rules flush old state new answer
 
-module _ {M R D : Type 0} (given : Given) (step : Sight → Configuration R D → Name → Step R D) (holds : Text → Configuration R D → List Choice → State → Type 0)
-    (cost : Text → Configuration R D → State → ℕ) (reserve : Text → Choice → ℕ) (starts : List Name) (laws : Laws given step holds cost reserve starts) where
+module _ {M R D : Type 0} (given : Given) (rules : Rules R D) (laws : Laws given rules) where
   -- taking up a state
   pub kept-taken : (flush : Bool) (t u v : Seen M R D) (a s : State) (n : Name) → IsText given u.text → TakesUp flush u v s (result.Ok n)
-      → Kept given step holds cost reserve flush t a u s → Kept given step holds cost reserve flush t a v (Retry n)
+      → Kept given rules flush t a u s → Kept given rules flush t a v (Retry n)
   kept-taken flush t u v a (Next m) n is h k = rw (h.1, h.0) (record {
     same = record { given = k.same.given; machine = k.same.machine; text = k.same.text; closed = k.same.closed };
     waits = λ f e. let e' : Byte ≡ End = fed-byte u.text u.configuration (h.2 f) e in absurd cc;
     leads = λ rest can only.
         let w = followed_by_all given u.text rest in
         let first = k.leads rest can only in
-        leads-trans given step holds cost reserve w t u (at_configuration u (fed u.text u.configuration)) a (Next m) (Retry m) first
-        (subst (λ (q : Configuration R D). LeadsOn given step holds cost reserve w u (Next m) (at_configuration u q) (Retry m))
+        leads-trans given rules w t u (at_configuration u (fed u.text u.configuration)) a (Next m) (Retry m) first
+        (subst (λ (q : Configuration R D). LeadsOn given rules w u (Next m) (at_configuration u q) (Retry m))
         (fed-agrees given u.text rest flush u.configuration only h.2)
-        (leads-fed given step holds cost reserve starts laws w (text-on given u.text rest is can) u m first.kept));
+        (leads-fed given rules laws w (text-on given u.text rest is can) u m first.kept));
   })
   kept-taken flush t u v a (Retry m) n is h k = rw (h.1, h.0) k
   kept-taken flush t u v a Ok n is h k = absurd h
@@ -292,53 +288,52 @@ module _ {M R D : Type 0} (given : Given) (step : Sight → Configuration R D �
 
   -- a call
   pub kept-called : (flush : Bool) (t u v : Seen M R D) (a s : State) (n : Name) → IsText given u.text → IsInText u
-      → IsCalled u v (step (sight given u.text u.configuration) u.configuration n) s
-      → Kept given step holds cost reserve flush t a u (Retry n) → Kept given step holds cost reserve flush t a v s
+      → IsCalled u v (rules.step (sight given u.text u.configuration) u.configuration n) s
+      → Kept given rules flush t a u (Retry n) → Kept given rules flush t a v s
   kept-called flush t u v a s n is sound h k =
-      let st = step (sight given u.text u.configuration) u.configuration n in
+      let st = rules.step (sight given u.text u.configuration) u.configuration n in
       let now = (k.leads [] tt (λ _. refl)).kept in rw (h.became, h.answered) (record {
         same = record { given = k.same.given; machine = k.same.machine; text = k.same.text; closed = k.same.closed };
-        waits = λ f e. k.waits f (no-feeding given step holds laws.consumes u.text u.configuration u.choices n is now e);
+        waits = λ f e. k.waits f (no-feeding given rules laws.consumes u.text u.configuration u.choices n is now e);
         leads = λ rest can only.
             let w = followed_by_all given u.text rest in
             let first = k.leads rest can only in
-            leads-trans given step holds cost reserve w t u (stepped u st) a (Retry n) st.answer first
-            (subst (λ (q : Sight). LeadsOn given step holds cost reserve w u (Retry n) (stepped u (step q u.configuration n)) (step q u.configuration n).answer)
+            leads-trans given rules w t u (stepped u st) a (Retry n) st.answer first
+            (subst (λ (q : Sight). LeadsOn given rules w u (Retry n) (stepped u (rules.step q u.configuration n)) (rules.step q u.configuration n).answer)
             (sight-agrees given u.text rest flush u.configuration only sound.within sound.byte k.waits)
-            (leads-called given step holds cost reserve starts laws w (text-on given u.text rest is can) u n first.kept));
+            (leads-called given rules laws w (text-on given u.text rest is can) u n first.kept));
       })
 
 -- One turn of the work, for a machine and a document that are part of what is seen
-module _ {M R D : Type 0} (step : M → Given → Sight → Configuration R D → Name → Step R D) (holds : M → Given → Text → Configuration R D → List Choice → State → Type 0)
-    (cost : M → Given → Text → Configuration R D → State → ℕ) (reserve : M → Given → Text → Choice → ℕ) where
+module _ {M R D : Type 0} (rules : M → Given → Rules R D) where
   abbrev pub KeptBy : M → Given → Bool → Seen M R D → State → Seen M R D → State → Type 0
-  KeptBy m given = Kept given (step m given) (holds m given) (cost m given) (reserve m given)
+  KeptBy m given = Kept given (rules m given)
 
   abbrev pub LeadsBy : M → Given → Text → Seen M R D → State → Seen M R D → State → Type 0
-  LeadsBy m given = LeadsOn given (step m given) (holds m given) (cost m given) (reserve m given)
+  LeadsBy m given = LeadsOn given (rules m given)
 
   -- what a change of choices alone leads on to, on each text
   abbrev pub LeadsFor : M → Given → Seen M R D → State → Seen M R D → State → Type 0
-  LeadsFor m given u s v next = (w : Text) → IsText given w → holds m given w u.configuration u.choices s → LeadsBy m given w u s v next
+  LeadsFor m given u s v next = (w : Text) → IsText given w → (rules m given).holds w u.configuration u.choices s → LeadsBy m given w u s v next
 
-  abbrev LawsBy : M → Given → List Name → Type 0
-  LawsBy m given starts = Laws given (step m given) (holds m given) (cost m given) (reserve m given) starts
+  abbrev LawsBy : M → Given → Type 0
+  LawsBy m given = Laws given (rules m given)
 
   -- choices end
-  pub leads-for-settled : (m : M) (given : Given) (starts : List Name) → LawsBy m given starts → (t : Seen M R D) (s : State)
+  pub leads-for-settled : (m : M) (given : Given) → LawsBy m given → (t : Seen M R D) (s : State)
       → let e = settled_all t.configuration t.choices s in LeadsFor m given t s (settled_to t e) e.answer
-  leads-for-settled m given starts laws t s w is h = leads-settled given (step m given) (holds m given) (cost m given) (reserve m given) starts laws w is t t.configuration t.choices s h
+  leads-for-settled m given laws t s w is h = leads-settled given (rules m given) laws w is t t.configuration t.choices s h
 
   -- where the reading ends no span is open
-  pub settled-closes : (m : M) (given : Given) (starts : List Name) → LawsBy m given starts → (t : Seen M R D) (s : State) → IsText given t.text → holds m given t.text t.configuration t.choices s
+  pub settled-closes : (m : M) (given : Given) → LawsBy m given → (t : Seen M R D) (s : State) → IsText given t.text → (rules m given).holds t.text t.configuration t.choices s
       → EndsClosed (settled_all t.configuration t.choices s)
-  settled-closes m given starts laws t s is h some =
+  settled-closes m given laws t s is h some =
       let e = settled_all t.configuration t.choices s in
-      let kept = (leads-for-settled m given starts laws t s t.text is h).kept in
+      let kept = (leads-for-settled m given laws t s t.text is h).kept in
       let none = settled-ends t.configuration t.choices s some in
-      closed-by e.answer e.configuration some (subst (λ (cs : List Choice). holds m given t.text e.configuration cs e.answer) none kept)
+      closed-by e.answer e.configuration some (subst (λ (cs : List Choice). (rules m given).holds t.text e.configuration cs e.answer) none kept)
     where
-      closed-by : (answer : State) (k : Configuration R D) → IsSome (answer_in answer) → holds m given t.text k [] answer → k.stack ≡ []
+      closed-by : (answer : State) (k : Configuration R D) → IsSome (answer_in answer) → (rules m given).holds t.text k [] answer → k.stack ≡ []
       closed-by (Next n) k some h = absurd cc
       closed-by (Retry n) k some h = absurd cc
       closed-by (Error n) k some h = absurd cc
@@ -357,7 +352,7 @@ module _ {M R D : Type 0} (step : M → Given → Sight → Configuration R D �
         let same : w ≡ followed_by_all given v.text rest = ap (λ (q : Text). followed_by_all given q rest) (sym only.text) in
         let first = k.leads rest can' one in
         subst (λ (q : Text). LeadsBy m given q t a v next) same
-        (leads-trans given (step m given) (holds m given) (cost m given) (reserve m given) w t u v a s next first (leads w (text-on given u.text rest is can') first.kept));
+        (leads-trans given (rules m given) w t u v a s next first (leads w (text-on given u.text rest is can') first.kept));
   }
 
   pub kept-settled : (m : M) (given : Given) (flush : Bool) (t u v : Seen M R D) (a s next : State) → IsText given u.text → m ≡ u.machine → given ≡ u.given
@@ -377,25 +372,25 @@ module _ {M R D : Type 0} (step : M → Given → Sight → Configuration R D �
   kept-ended m given flush t u v a (Error n) answer h k = rw (h.0, h.1) k
 
   abbrev CalledBy : M → Given → Seen M R D → Seen M R D → Name → State → Type 0
-  CalledBy m given u v n s = IsCalled u v (step m given (sight given u.text u.configuration) u.configuration n) s
+  CalledBy m given u v n s = IsCalled u v ((rules m given).step (sight given u.text u.configuration) u.configuration n) s
 
-  pub kept-turn : (m : M) (given : Given) (starts : List Name) → LawsBy m given starts → (flush : Bool) (t u v : Seen M R D) (a s : State) (n : Name)
+  pub kept-turn : (m : M) (given : Given) → LawsBy m given → (flush : Bool) (t u v : Seen M R D) (a s : State) (n : Name)
       → IsText given u.text → m ≡ u.machine → given ≡ u.given → IsInText u → CalledBy u.machine u.given u v n s
       → KeptBy m given flush t a u (Retry n) → KeptBy m given flush t a v s
-  kept-turn m given starts laws flush t u v a s n is e f sound called k =
-      kept-called given (step m given) (holds m given) (cost m given) (reserve m given) starts laws flush t u v a s n is sound
+  kept-turn m given laws flush t u v a s n is e f sound called k =
+      kept-called given (rules m given) laws flush t u v a s n is sound
       (subst (λ (q : M). CalledBy q given u v n s) (sym e) (subst (λ (q : Given). CalledBy u.machine q u v n s) (sym f) called)) k
 
   -- the invariant at the call
   pub kept-holds : (m : M) (given : Given) (flush : Bool) (t u : Seen M R D) (a s : State) → m ≡ u.machine → given ≡ u.given → KeptBy m given flush t a u s
-      → holds u.machine u.given u.text u.configuration u.choices s
+      → (rules u.machine u.given).holds u.text u.configuration u.choices s
   kept-holds m given flush t u a s e f k =
-      subst (λ (q : M). holds q u.given u.text u.configuration u.choices s) e
-      (subst (λ (q : Given). holds m q u.text u.configuration u.choices s) f ((k.leads [] tt (λ _. refl)).kept))
+      subst (λ (q : M). (rules q u.given).holds u.text u.configuration u.choices s) e
+      (subst (λ (q : Given). (rules m q).holds u.text u.configuration u.choices s) f ((k.leads [] tt (λ _. refl)).kept))
 
   -- no more calls than the budget
   pub kept-calls : (m : M) (given : Given) (flush : Bool) (t u : Seen M R D) (a s : State) → KeptBy m given flush t a u s
-      → u.calls ≤ budget (cost m given) (reserve m given) t.text t a
+      → u.calls ≤ budget (rules m given) t.text t a
   kept-calls m given flush t u a s k =
       let paid = (k.leads [] tt (λ _. refl)).paid in
       let e = k.same.text in
@@ -425,13 +420,13 @@ pub text-worked : {M R D : Type 0} (given : Given) (t u : Seen M R D) → IsText
 text-worked given t u is only = subst (λ (q : Text). IsText given q) (sym only.text) is
 
 -- the invariant holds on every text that continues, before the end is fed
-pub holds-on : {R D : Type 0} (given : Given) (step : Sight → Configuration R D → Name → Step R D) (holds : Text → Configuration R D → List Choice → State → Type 0) (starts : List Name)
-    → KeepsInvariant given step holds starts
+pub holds-on : {R D : Type 0} (given : Given) (rules : Rules R D)
+    → KeepsInvariant given rules
     → (text : Text) (rest : List Piece) (k : Configuration R D) (cs : List Choice) (s : State)
-    → IsText given text → CanFollow given text rest → k.ended ≡ false → holds text k cs s → holds (followed_by_all given text rest) k cs s
-holds-on given step holds starts keeps text [] k cs s is can fresh h = h
-holds-on given step holds starts keeps text (piece ∷ rest) k cs s is can fresh h =
-    holds-on given step holds starts keeps (followed_by given text piece) rest k cs s (text-on given text (piece ∷ []) is (can.0, tt)) can.1 fresh
+    → IsText given text → CanFollow given text rest → k.ended ≡ false → rules.holds text k cs s → rules.holds (followed_by_all given text rest) k cs s
+holds-on given rules keeps text [] k cs s is can fresh h = h
+holds-on given rules keeps text (piece ∷ rest) k cs s is can fresh h =
+    holds-on given rules keeps (followed_by given text piece) rest k cs s (text-on given text (piece ∷ []) is (can.0, tt)) can.1 fresh
     (keeps.by_pieces text piece k cs s is can.0 fresh h)
 
 pub not-true : (b : Bool) → (b ≡ true → ⊥) → b ≡ false
@@ -456,33 +451,32 @@ refused-is given step text calls k cs m = record {
 }
 
 -- what flushing leaves
-module _ {M R D : Type 0} (given : Given) (step : Sight → Configuration R D → Name → Step R D) (holds : Text → Configuration R D → List Choice → State → Type 0)
-    (cost : Text → Configuration R D → State → ℕ) (reserve : Text → Choice → ℕ) where
-  flush-ends : (t u : Seen M R D) (a s : State) → OnlyWorked t u → LeadsAll given step holds cost reserve true t a u s → (r : Reading R D)
-      → EndsIn given step u.text u.calls u.configuration u.choices s r → EndsIn given step t.text t.calls t.configuration t.choices a r
+module _ {M R D : Type 0} (given : Given) (rules : Rules R D) where
+  flush-ends : (t u : Seen M R D) (a s : State) → OnlyWorked t u → LeadsAll given rules true t a u s → (r : Reading R D)
+      → EndsIn given rules.step u.text u.calls u.configuration u.choices s r → EndsIn given rules.step t.text t.calls t.configuration t.choices a r
   flush-ends t u a s only leads r ends =
       let one = leads [] tt (λ _. refl) in
-      subst (λ (q : Text). EndsIn given step q t.calls t.configuration t.choices a r) only.text ((one.same r).0 ends)
+      subst (λ (q : Text). EndsIn given rules.step q t.calls t.configuration t.choices a r) only.text ((one.same r).0 ends)
 
-  pub flush-ok : (t u : Seen M R D) (a s : State) → OnlyWorked t u → LeadsAll given step holds cost reserve true t a u s → s ≡ Ok → u.choices ≡ []
-      → EndsIn given step t.text t.calls t.configuration t.choices a (record { configuration = u.configuration; answer = Ok; calls = u.calls })
+  pub flush-ok : (t u : Seen M R D) (a s : State) → OnlyWorked t u → LeadsAll given rules true t a u s → s ≡ Ok → u.choices ≡ []
+      → EndsIn given rules.step t.text t.calls t.configuration t.choices a (record { configuration = u.configuration; answer = Ok; calls = u.calls })
   flush-ok t u a s only leads ok none =
       flush-ends t u a s only leads (record { configuration = u.configuration; answer = Ok; calls = u.calls })
-      (rw ok (ended-is given step u.text u.calls u.configuration u.choices none))
+      (rw ok (ended-is given rules.step u.text u.calls u.configuration u.choices none))
 
-  pub flush-refused : (t u : Seen M R D) (a s : State) (m : Message) → OnlyWorked t u → LeadsAll given step holds cost reserve true t a u s → s ≡ Error m
-      → EndsIn given step t.text t.calls t.configuration t.choices a (record { configuration = u.configuration; answer = Error m; calls = u.calls })
+  pub flush-refused : (t u : Seen M R D) (a s : State) (m : Message) → OnlyWorked t u → LeadsAll given rules true t a u s → s ≡ Error m
+      → EndsIn given rules.step t.text t.calls t.configuration t.choices a (record { configuration = u.configuration; answer = Error m; calls = u.calls })
   flush-refused t u a s m only leads is =
       flush-ends t u a s only leads (record { configuration = u.configuration; answer = Error m; calls = u.calls })
-      (rw is (refused-is given step u.text u.calls u.configuration u.choices m))
+      (rw is (refused-is given rules.step u.text u.calls u.configuration u.choices m))
 
-  pub flush-paid : (t u : Seen M R D) (a s : State) → OnlyWorked t u → LeadsAll given step holds cost reserve true t a u s → u.calls ≤ budget cost reserve t.text t a
+  pub flush-paid : (t u : Seen M R D) (a s : State) → OnlyWorked t u → LeadsAll given rules true t a u s → u.calls ≤ budget rules t.text t a
   flush-paid t u a s only leads =
       let paid = (leads [] tt (λ _. refl)).paid in
       let e = only.text in let paid' = rw e at paid in
       omega (arith, paid')
 
-  pub leads-holds : (flush : Bool) (t u : Seen M R D) (a s : State) → LeadsAll given step holds cost reserve flush t a u s → u.choices ≡ [] → holds u.text u.configuration [] s
+  pub leads-holds : (flush : Bool) (t u : Seen M R D) (a s : State) → LeadsAll given rules flush t a u s → u.choices ≡ [] → rules.holds u.text u.configuration [] s
   leads-holds flush t u a s leads none = rw none at ((leads [] tt (λ _. refl)).kept)
 
 pub taken-formed : {R D : Type 0} (bytes : List ℕ) (k : Configuration R D) → IsWellFormed bytes k → IsWellFormed bytes (taken k)
@@ -491,10 +485,9 @@ taken-formed bytes k h = record { balanced = h.balanced; void_tight = h.void_tig
 pub text-extended : (given : Given) (text : Text) (piece : Piece) → IsText given text → FitsAfter given text piece → IsText given (followed_by given text piece)
 text-extended given text piece is fits = text-on given text (piece ∷ []) is (fits, tt)
 
-module _ {M R D : Type 0} (given : Given) (step : Sight → Configuration R D → Name → Step R D) (holds : Text → Configuration R D → List Choice → State → Type 0)
-    (cost : Text → Configuration R D → State → ℕ) (reserve : Text → Choice → ℕ) (starts : List Name) (laws : Laws given step holds cost reserve starts) where
+module _ {M R D : Type 0} (given : Given) (rules : Rules R D) (laws : Laws given rules) where
   -- before the end is fed the work stops at a state that waits for a byte, or at a message
-  stops-answers : (u : Seen M R D) (s : State) → IsText given u.text → holds u.text u.configuration u.choices s → Stops false u s → (u.configuration.ended ≡ true → ⊥)
+  stops-answers : (u : Seen M R D) (s : State) → IsText given u.text → rules.holds u.text u.configuration u.choices s → Stops false u s → (u.configuration.ended ≡ true → ⊥)
       → ((name : Name) × (s ≡ Next name)) ⊎ ((m : Message) × (s ≡ Error m))
   stops-answers u (Next n) is h stops fresh = inl (n, refl)
   stops-answers u (Retry n) is h stops fresh = absurd stops
@@ -502,19 +495,21 @@ module _ {M R D : Type 0} (given : Given) (step : Sight → Configuration R D �
   stops-answers u Nok is h stops fresh = let h' = rw stops at h in absurd (laws.ends.nok u.text u.configuration is h')
   stops-answers u (Error m) is h stops fresh = inr (m, refl)
 
+module _ {M R D : Type 0} (t : Seen M R D) (rules : Rules R D) (laws : Laws t.given rules) where
   -- what a push leaves, once the text was extended and the work was done
-  pub is-pushed : (t u : Seen M R D) (from to : Point) (a s : State) → IsText given (followed_by given t.text (pushed from to)) → t.closed ≡ false
-      → OnlyWorked (extended t (followed_by given t.text (pushed from to))) u
-      → LeadsAll given step holds cost reserve false (extended t (followed_by given t.text (pushed from to))) a u s
-      → Stops false u s → IsInText u → IsPushed given step holds cost reserve t from to a u s
-  is-pushed t u from to a s is open_still only leads stops sound =
+  pub is-pushed : (u : Seen M R D) (from to : ℕ × ℕ) (f q : Point) (a s : State) → IsText t.given (followed_by t.given t.text (pushed f q)) → t.closed ≡ false
+      → ForPoints t.given from to (λ a b. u.text ≡ followed_by t.given t.text (pushed a b))
+      → OnlyWorked (extended t (followed_by t.given t.text (pushed f q))) u
+      → LeadsAll t.given rules false (extended t (followed_by t.given t.text (pushed f q))) a u s
+      → Stops false u s → IsInText u → IsPushed rules t from to a u s
+  is-pushed u from to f q a s is open_still text only leads stops sound =
       let now = (leads [] tt (λ _. refl)).kept in
-      let is_now = subst (λ (q : Text). IsText given q) (sym only.text) is in
+      let is_now = subst (λ (q : Text). IsText t.given q) (sym only.text) is in
       let closed : u.closed ≡ false = only.closed ∙ open_still in record {
         given = only.given;
         machine = only.machine;
         open_still = closed;
-        text = only.text;
+        text = text;
         outcome = λ rest can.
             let k = leads rest can (λ e. absurd cc) in record { kept = k.kept; same = k.same; paid = k.paid };
         read = λ name e.
@@ -522,5 +517,5 @@ module _ {M R D : Type 0} (given : Given) (step : Sight → Configuration R D �
             let within = sound.within in
             let length_is : u.configuration.position ≡ length u.text.seats = omega (arith, far.1, within) in
             (length_is, laws.keeps.unfed u.text u.configuration u.choices name is_now (rw e at now));
-        answers = stops-answers u s is_now now stops (λ e. let f : true ≡ false = sym (sound.ended e) ∙ closed in absurd cc);
+        answers = stops-answers t.given rules laws u s is_now now stops (λ e. let f : true ≡ false = sym (sound.ended e) ∙ closed in absurd cc);
       }

@@ -12,9 +12,10 @@ use Rattle.markdown_base.specs.Places.{is_upto, point_at}
 use Rattle.markdown_base.specs.Events.{IsBalanced, IsVoidTight, IsInOrder}
 use Rattle.markdown.specs.declared.subtokenize.Subresult.{Subresult}
 use Rattle.markdown.specs.declared.waiting.Waits.TheVariants.{Nothing}
-use Rattle.markdown.specs.Text.{Given, Text, Piece, IsText, pushed, CanFollow, followed_by, followed_by_all}
-use Rattle.markdown.specs.Configuration.{Configuration, Choice, Step, Seen, start_configuration}
-use Rattle.markdown.specs.Sight.{Sight}
+use Rattle.markdown.specs.declared.parser.ParseState.{ParseState}
+use Rattle.markdown.specs.Text.{Given, Text, Piece, IsText, pushed, FitsAfter, CanFollow, followed_by, followed_by_all}
+use Rattle.markdown.specs.Configuration.{Configuration, Choice, Seen, start_configuration}
+use Rattle.markdown.specs.Rules.{Rules}
 use Rattle.markdown.specs.Reading.{Reading, EndsIn}
 
 module _ {R D : Type 0} where
@@ -41,60 +42,27 @@ module _ {R D : Type 0} where
   abbrev pub found : Configuration R D → Subresult
   found k = record { done = false; gfm_footnote_definitions = k.local.tokenize_state.gfm_footnote_definitions; definitions = k.local.tokenize_state.definitions }
 
-module _ {M R D : Type 0} (cost : Text → Configuration R D → State → ℕ) (reserve : Text → Choice → ℕ) where
+module _ {M R D : Type 0} (rules : Rules R D) where
   -- the calls made, and those that a state and the waiting choices may still take on a text
   abbrev pub budget : Text → Seen M R D → State → ℕ
-  budget text t state = t.calls + (cost text t.configuration state + sum_by (reserve text) t.choices)
+  budget text t state = t.calls + (rules.cost text t.configuration state + sum_by (rules.reserve text) t.choices)
 
-module _ {M R D : Type 0} (g : Given) (step : Sight → Configuration R D → Name → Step R D) (holds : Text → Configuration R D → List Choice → State → Type 0)
-    (cost : Text → Configuration R D → State → ℕ) (reserve : Text → Choice → ℕ) where
+  -- the invariant holds of a tokenizer and the state at hand
+  abbrev pub HoldsAt : Seen M R D → State → Type 0
+  HoldsAt t state = rules.holds t.text t.configuration t.choices state
+
+module _ {M R D : Type 0} (g : Given) (rules : Rules R D) where
   -- On a text, the one tokenizer with its state comes to the same end as the other with its own, calls included; the invariant
   -- holds, and no more calls are to come
   pub record LeadsOn (text : Text) (old : Seen M R D) (state : State) (new : Seen M R D) (answer : State) : Type 0 where
-    pub kept : holds text new.configuration new.choices answer
-    pub same : (r : Reading R D) → EndsIn g step text new.calls new.configuration new.choices answer r ↔ EndsIn g step text old.calls old.configuration old.choices state r
-    pub paid : budget cost reserve text new answer ≤ budget cost reserve text old state
+    pub kept : rules.holds text new.configuration new.choices answer
+    pub same : (r : Reading R D) → EndsIn g rules.step text new.calls new.configuration new.choices answer r ↔ EndsIn g rules.step text old.calls old.configuration old.choices state r
+    pub paid : budget rules text new answer ≤ budget rules text old state
 
   -- For every rest that can follow the new text, reading on from the new tokenizer and its answer comes to the same end as
   -- reading on from the old one and its state
   abbrev pub KeepsOutcome : Seen M R D → State → Seen M R D → State → Type 0
   KeepsOutcome old state new answer = (rest : List Piece) → CanFollow g new.text rest → LeadsOn (followed_by_all g new.text rest) old state new answer
-
-  -- What a push of a range leaves, where it succeeds: the range stands at the end of the text, the outcome is the same for every rest, and all
-  -- was read, or a message ended it
-  pub record IsPushed (old : Seen M R D) (from to : Point) (state : State) (new : Seen M R D) (answer : State) : Type 0 where
-    pub given : new.given ≡ old.given
-    pub machine : new.machine ≡ old.machine
-    pub open_still : new.closed ≡ false
-    pub text : new.text ≡ followed_by g old.text (pushed from to)
-    pub outcome : KeepsOutcome old state new answer
-    pub read : (name : Name) → answer ≡ Next name → (new.configuration.position ≡ length new.text.seats) × (new.configuration.waiting ≡ Nothing)
-    pub answers : ((name : Name) × (answer ≡ Next name)) ⊎ ((m : Message) × (answer ≡ Error m))
-
-module _ {M R D : Type 0} (g : Given) (step : Sight → Configuration R D → Name → Step R D) where
-  -- What a flush leaves, where it succeeds: the configuration in which the reading ends, without the definitions, which are answered
-  pub record IsFlushed (old : Seen M R D) (state : State) (new : Seen M R D) (sub : Subresult) : Type 0 where
-    pub result : Reading R D
-    pub ends : EndsIn g step old.text old.calls old.configuration old.choices state result
-    pub well : result.answer ≡ Ok
-    pub calls : new.calls ≡ result.calls
-    pub configuration : new.configuration ≡ taken result.configuration
-    pub definitions : sub ≡ found result.configuration
-
-  -- A flush was refused with this message, in which the reading ends
-  pub record IsRefused (old : Seen M R D) (state : State) (new : Seen M R D) (m : Message) : Type 0 where
-    pub result : Reading R D
-    pub ends : EndsIn g step old.text old.calls old.configuration old.choices state result
-    pub message : result.answer ≡ Error m
-    pub calls : new.calls ≡ result.calls
-
-module _ {R D : Type 0} (g : Given) (step : Sight → Configuration R D → Name → Step R D) (holds : Text → Configuration R D → List Choice → State → Type 0)
-    (cost : Text → Configuration R D → State → ℕ) (reserve : Text → Choice → ℕ) where
-  -- On every text at which the invariant holds, a reading comes to one end, with no more calls than its cost
-  abbrev pub HasOneEnd : Type 0
-  HasOneEnd = (text : Text) (calls : ℕ) (k : Configuration R D) (choices : List Choice) (state : State) → IsText g text → holds text k choices state
-      → (r : Reading R D) × EndsIn g step text calls k choices state r × ((q : Reading R D) → EndsIn g step text calls k choices state q → q ≡ r)
-      × (r.calls ≤ calls + (cost text k state + sum_by (reserve text) choices))
 
 -- The events are balanced, each void span is empty, and their places are in order
 pub record IsWellFormed (bytes : List ℕ) {R D : Type 0} (k : Configuration R D) : Type 0 where
@@ -102,9 +70,66 @@ pub record IsWellFormed (bytes : List ℕ) {R D : Type 0} (k : Configuration R D
   pub void_tight : IsVoidTight k.events
   pub in_order : IsInOrder bytes k.events
 
--- what a machine may read of a document: tab stops stand at every 4 columns
-abbrev pub given_by : List ℕ → ParseOptions → Given
-given_by bytes options = record { bytes = bytes; options = options; tab = 4 }
+-- a range of the document, given by the places of its ends, each an index and a number in a tab, can be put at the end of a text
+abbrev pub CanPush : Given → Text → (from to : ℕ × ℕ) → Type 0
+CanPush g text from to = (f : Point) × (t : Point) × (point_at g.tab g.bytes from ≡ Some f) × (point_at g.tab g.bytes to ≡ Some t) × FitsAfter g text (pushed f t)
+
+-- what holds of the points of two places
+abbrev pub ForPoints : Given → (from to : ℕ × ℕ) → (Point → Point → Type 0) → Type 0
+ForPoints g from to P = (f t : Point) → point_at g.tab g.bytes from ≡ Some f → point_at g.tab g.bytes to ≡ Some t → P f t
+
+module _ {M R D : Type 0} (rules : Rules R D) where
+  -- What a push of a range leaves, where it succeeds: the range, given by the places of its ends, stands at the end of the text, the outcome is the same for every rest, and all
+  -- was read, or a message ended it
+  pub record IsPushed (old : Seen M R D) (from to : ℕ × ℕ) (state : State) (new : Seen M R D) (answer : State) : Type 0 where
+    pub given : new.given ≡ old.given
+    pub machine : new.machine ≡ old.machine
+    pub open_still : new.closed ≡ false
+    pub text : ForPoints old.given from to (λ f t. new.text ≡ followed_by old.given old.text (pushed f t))
+    pub outcome : KeepsOutcome old.given rules old state new answer
+    pub read : (name : Name) → answer ≡ Next name → (new.configuration.position ≡ length new.text.seats) × (new.configuration.waiting ≡ Nothing)
+    pub answers : ((name : Name) × (answer ≡ Next name)) ⊎ ((m : Message) × (answer ≡ Error m))
+
+  -- What a flush leaves, where it succeeds: the configuration in which the reading ends, without the definitions, which are answered
+  pub record IsFlushed (old : Seen M R D) (state : State) (new : Seen M R D) (sub : Subresult) : Type 0 where
+    pub given : new.given ≡ old.given
+    pub machine : new.machine ≡ old.machine
+    pub text : new.text ≡ old.text
+    pub result : Reading R D
+    pub ends : EndsIn old.given rules.step old.text old.calls old.configuration old.choices state result
+    pub well : result.answer ≡ Ok
+    pub calls : new.calls ≡ result.calls
+    pub within : new.calls ≤ budget rules old.text old state
+    pub configuration : new.configuration ≡ taken result.configuration
+    pub settled : new.choices ≡ []
+    pub definitions : sub ≡ found result.configuration
+    pub well_formed : IsWellFormed old.given.bytes new.configuration
+
+  -- A flush was refused with this message, in which the reading ends
+  pub record IsRefused (old : Seen M R D) (state : State) (new : Seen M R D) (m : Message) : Type 0 where
+    pub given : new.given ≡ old.given
+    pub machine : new.machine ≡ old.machine
+    pub text : new.text ≡ old.text
+    pub result : Reading R D
+    pub ends : EndsIn old.given rules.step old.text old.calls old.configuration old.choices state result
+    pub message : result.answer ≡ Error m
+    pub calls : new.calls ≡ result.calls
+    pub within : new.calls ≤ budget rules old.text old state
+
+module _ {R D : Type 0} (g : Given) (rules : Rules R D) where
+  -- On every text at which the invariant holds, a reading comes to one end, with no more calls than its cost
+  abbrev pub HasOneEnd : Type 0
+  HasOneEnd = (text : Text) (calls : ℕ) (k : Configuration R D) (choices : List Choice) (state : State) → IsText g text → rules.holds text k choices state
+      → (r : Reading R D) × EndsIn g rules.step text calls k choices state r × ((q : Reading R D) → EndsIn g rules.step text calls k choices state q → q ≡ r)
+      × (r.calls ≤ calls + (rules.cost text k state + sum_by (rules.reserve text) choices))
+
+-- what a machine may read of a document, with tab stops at every `t` columns
+abbrev pub given_by : (t : ℕ) → List ℕ → ParseOptions → Given
+given_by t bytes options = record { bytes = bytes; options = options; tab = t }
+
+-- and of the document of a parse state
+abbrev pub given_of : {M R D : Type 0} → (t : ℕ) → ParseState M R D → Given
+given_of t p = given_by t p.bytes.now p.options.now
 
 -- the whole virtual text of the document
 abbrev pub whole_text : Given → Text
@@ -119,23 +144,24 @@ FollowInOrder t bytes p (place ∷ places) = (q : Point) × (point_at t bytes pl
 abbrev pub AreCuts : (t : ℕ) → List ℕ → List (ℕ × ℕ) → Type 0
 AreCuts t bytes cuts = FollowInOrder t bytes (point 1 1 0 0) cuts
 
-module _ {R D : Type 0} (g : Given) (step : Sight → Configuration R D → Name → Step R D) where
+module _ {R D : Type 0} (g : Given) (rules : Given → Rules R D) where
   -- reading the whole text from the start, with a start name, ends in this
   abbrev pub StartEndsIn : Name → Reading R D → Type 0
-  StartEndsIn start r = EndsIn g step (whole_text g) 0 (start_configuration false) [] (Next start) r
+  StartEndsIn start r = EndsIn g (rules g).step (whole_text g) 0 (start_configuration false) [] (Next start) r
 
   -- What a run answers: events and definitions of the one reading of the whole text, which takes no more calls than its cost
-  pub record IsRun (cost : Text → Configuration R D → State → ℕ) (start : Name) (list : List Event) (sub : Subresult) : Type 0 where
+  pub record IsRun (start : Name) (list : List Event) (sub : Subresult) : Type 0 where
     pub result : Reading R D
     pub ends : StartEndsIn start result
     pub well : result.answer ≡ Ok
     pub events : list ≡ result.configuration.events
     pub well_formed : IsWellFormed g.bytes result.configuration
     pub definitions : sub ≡ found result.configuration
-    pub within : result.calls ≤ cost (whole_text g) (start_configuration false) (Next start)
+    pub within : result.calls ≤ (rules g).cost (whole_text g) (start_configuration false) (Next start)
 
-  -- A run was refused with this message, in which the reading of the whole text ends
+  -- A run was refused with this message, in which the reading of the whole text ends, within its cost
   pub record IsRunRefused (start : Name) (m : Message) : Type 0 where
     pub result : Reading R D
     pub ends : StartEndsIn start result
     pub message : result.answer ≡ Error m
+    pub within : result.calls ≤ (rules g).cost (whole_text g) (start_configuration false) (Next start)

@@ -9,9 +9,10 @@ use Rattle.markdown_base.specs.Places.{IsPointOf}
 use Rattle.markdown.specs.declared.waiting.Waits.TheVariants.{Nothing, Byte}
 use Rattle.markdown.specs.Text.{Given, Text, Piece, IsText, FitsAfter, followed_by, empty_text}
 use Rattle.markdown.specs.Configuration.{Configuration, Choice, Step, Seen, start_configuration}
-use Rattle.markdown.specs.Sight.{Sight, sight}
+use Rattle.markdown.specs.Sight.{sight}
 use Rattle.markdown.specs.Calls.{consumed}
 use Rattle.markdown.specs.Reading.{fed, settled_at}
+use Rattle.markdown.specs.Rules.{Rules}
 
 -- the tokenizer after a call: the step's configuration, its choices above the old ones, and one call more
 abbrev pub stepped : {M R D : Type 0} → Seen M R D → Step R D → Seen M R D
@@ -38,11 +39,11 @@ unlinked e = record { kind = e.kind; name = e.name; point = e.point; link = None
 abbrev pub IsAsFar : {R D : Type 0} → Configuration R D → Configuration R D → Type 0
 IsAsFar a b = (a.position ≡ b.position) × (a.waiting ≡ b.waiting) × (a.ended ≡ b.ended)
 
-module _ {R D : Type 0} (g : Given) (step : Sight → Configuration R D → Name → Step R D) (holds : Text → Configuration R D → List Choice → State → Type 0) where
+module _ {R D : Type 0} (g : Given) (rules : Rules R D) where
   -- the step of a state where the invariant holds
   abbrev pub ForEachCall : (Text → Configuration R D → List Choice → Name → Step R D → Type 0) → Type 0
   ForEachCall P = (text : Text) (k : Configuration R D) (choices : List Choice) (name : Name)
-      → IsText g text → holds text k choices (Retry name) → P text k choices name (step (sight g text k) k name)
+      → IsText g text → rules.holds text k choices (Retry name) → P text k choices name (rules.step (sight g text k) k name)
 
   -- a call consumes at most one byte, and never the end: after it Next is answered, and Retry where it consumed none
   abbrev pub ConsumesOnce : Type 0
@@ -58,35 +59,35 @@ module _ {R D : Type 0} (g : Given) (step : Sight → Configuration R D → Name
 
   -- with no choice waiting the invariant never holds of Nok, and holds of Ok only once the end was fed, with each span ended
   pub record EndsWhenRead : Type 0 where
-    pub nok : (text : Text) (k : Configuration R D) → IsText g text → holds text k [] Nok → ⊥
-    pub ok : (text : Text) (k : Configuration R D) → IsText g text → holds text k [] Ok → (k.ended ≡ true) × (k.stack ≡ [])
+    pub nok : (text : Text) (k : Configuration R D) → IsText g text → rules.holds text k [] Nok → ⊥
+    pub ok : (text : Text) (k : Configuration R D) → IsText g text → rules.holds text k [] Ok → (k.ended ≡ true) × (k.stack ≡ [])
 
   -- The invariant holds at each start, at every place of the document, and is kept by whatever happens
-  pub record KeepsInvariant (starts : List Name) : Type 0 where
-    pub at_starts : (p : Point) (flag : Bool) (name : Name) → IsPointOf g.tab g.bytes p → Contains starts name
-        → holds (empty_text p) (start_configuration flag) [] (Next name)
+  pub record KeepsInvariant : Type 0 where
+    pub at_starts : (p : Point) (flag : Bool) (name : Name) → IsPointOf g.tab g.bytes p → Contains rules.starts name
+        → rules.holds (empty_text p) (start_configuration flag) [] (Next name)
     -- a byte, or the end, is fed where nothing waits, and a state is called where something does
-    pub unfed : (text : Text) (k : Configuration R D) (choices : List Choice) (name : Name) → IsText g text → holds text k choices (Next name) → k.waiting ≡ Nothing
-    pub waits : (text : Text) (k : Configuration R D) (choices : List Choice) (name : Name) → IsText g text → holds text k choices (Retry name) → k.waiting ≢ Nothing
+    pub unfed : (text : Text) (k : Configuration R D) (choices : List Choice) (name : Name) → IsText g text → rules.holds text k choices (Next name) → k.waiting ≡ Nothing
+    pub waits : (text : Text) (k : Configuration R D) (choices : List Choice) (name : Name) → IsText g text → rules.holds text k choices (Retry name) → k.waiting ≢ Nothing
     pub by_feeding : (text : Text) (k : Configuration R D) (choices : List Choice) (name : Name) → IsText g text
-        → holds text k choices (Next name) → holds text (fed text k) choices (Retry name)
-    pub by_calls : ForEachCall (λ text k choices name s. holds text s.configuration (s.choices ++ choices) s.answer)
+        → rules.holds text k choices (Next name) → rules.holds text (fed text k) choices (Retry name)
+    pub by_calls : ForEachCall (λ text k choices name s. rules.holds text s.configuration (s.choices ++ choices) s.answer)
     pub by_ok : (text : Text) (k : Configuration R D) (choice : Choice) (choices : List Choice) → IsText g text
-        → holds text k (choice ∷ choices) Ok → holds text (settled_at choice.kind choice.saved Ok k) choices choice.ok
+        → rules.holds text k (choice ∷ choices) Ok → rules.holds text (settled_at choice.kind choice.saved Ok k) choices choice.ok
     pub by_nok : (text : Text) (k : Configuration R D) (choice : Choice) (choices : List Choice) → IsText g text
-        → holds text k (choice ∷ choices) Nok → holds text (settled_at choice.kind choice.saved Nok k) choices choice.nok
+        → rules.holds text k (choice ∷ choices) Nok → rules.holds text (settled_at choice.kind choice.saved Nok k) choices choice.nok
     -- more of the document is pushed, or passed, before the end is fed
     pub by_pieces : (text : Text) (piece : Piece) (k : Configuration R D) (choices : List Choice) (state : State) → IsText g text
-        → FitsAfter g text piece → k.ended ≡ false → holds text k choices state → holds (followed_by g text piece) k choices state
+        → FitsAfter g text piece → k.ended ≡ false → rules.holds text k choices state → rules.holds (followed_by g text piece) k choices state
 
   -- A call is paid for, with the cost of its answer and the reserves of the choices that it pushes; feeding costs nothing; and
   -- what a choice goes on with costs at most its reserve
-  pub record CostPays (cost : Text → Configuration R D → State → ℕ) (reserve : Text → Choice → ℕ) : Type 0 where
+  pub record CostPays : Type 0 where
     pub for_calls : ForEachCall (λ text k choices name s.
-        1 + (cost text s.configuration s.answer + sum_by (reserve text) s.choices) ≤ cost text k (Retry name))
+        1 + (rules.cost text s.configuration s.answer + sum_by (rules.reserve text) s.choices) ≤ rules.cost text k (Retry name))
     pub for_feeding : (text : Text) (k : Configuration R D) (choices : List Choice) (name : Name) → IsText g text
-        → holds text k choices (Next name) → cost text (fed text k) (Retry name) ≤ cost text k (Next name)
+        → rules.holds text k choices (Next name) → rules.cost text (fed text k) (Retry name) ≤ rules.cost text k (Next name)
     pub for_ok : (text : Text) (k : Configuration R D) (choice : Choice) (choices : List Choice) → IsText g text
-        → holds text k (choice ∷ choices) Ok → cost text (settled_at choice.kind choice.saved Ok k) choice.ok ≤ reserve text choice
+        → rules.holds text k (choice ∷ choices) Ok → rules.cost text (settled_at choice.kind choice.saved Ok k) choice.ok ≤ rules.reserve text choice
     pub for_nok : (text : Text) (k : Configuration R D) (choice : Choice) (choices : List Choice) → IsText g text
-        → holds text k (choice ∷ choices) Nok → cost text (settled_at choice.kind choice.saved Nok k) choice.nok ≤ reserve text choice
+        → rules.holds text k (choice ∷ choices) Nok → rules.cost text (settled_at choice.kind choice.saved Nok k) choice.nok ≤ rules.reserve text choice

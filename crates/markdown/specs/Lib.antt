@@ -3,6 +3,7 @@ pub mod Configuration
 pub mod Sight
 pub mod Calls
 pub mod Reading
+pub mod Rules
 pub mod Lawful
 pub mod Engine
 pub mod Work

@@ -6,7 +6,7 @@ use Rattle.markdown_base.specs.Places.{shown}
 use Rattle.markdown.specs.declared.waiting.Waits.{Waits}
 use Rattle.markdown.specs.declared.waiting.Waits.TheVariants.{Nothing, Byte, End}
 use Rattle.markdown.specs.Text.{Given, Text}
-use Rattle.markdown.specs.Configuration.{Configuration}
+use Rattle.markdown.specs.Configuration.{Configuration, Seen}
 
 -- The byte before, the byte that waits, what `point` answers, where an enter stands, where an exit stands, and where both
 -- stand once what waits is consumed
@@ -67,3 +67,7 @@ sight_of g text p waits = record {
 
 abbrev pub sight : {R D : Type 0} → Given → Text → Configuration R D → Sight
 sight g text k = sight_of g text k.position k.waiting
+
+-- what a state may look at in a tokenizer
+abbrev pub sight_seen : {M R D : Type 0} → Seen M R D → Sight
+sight_seen t = sight t.given t.text t.configuration

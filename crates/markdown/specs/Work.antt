@@ -7,8 +7,8 @@ use Rattle.markdown_base.specs.declared.state.State.TheVariants.{Next, Retry, Ok
 use Rattle.markdown.specs.declared.waiting.Waits.TheVariants.{Byte, End}
 use Rattle.markdown.specs.Text.{Given, Text, IsText, Piece, CanFollow, followed_by_all}
 use Rattle.markdown.specs.Configuration.{Configuration, Choice, Step, Seen, at_configuration}
-use Rattle.markdown.specs.Sight.{Sight}
 use Rattle.markdown.specs.Reading.{fed, settled_at}
+use Rattle.markdown.specs.Rules.{Rules}
 use Rattle.markdown.specs.Engine.{LeadsOn}
 
 -- the text is another one
@@ -84,13 +84,12 @@ taken_up (Some name) answer = result.Ok name
 taken_up None answer = result.Err answer
 
 -- the invariant holds on every text that continues the tokenizer's, or on this alone where the end is fed
-abbrev pub HoldsAll : {M R D : Type 0} → (Text → Configuration R D → List Choice → State → Type 0) → Bool → Seen M R D → State → Type 0
-HoldsAll holds flush t state = (rest : List Piece) → CanFollow t.given t.text rest → (flush ≡ true → rest ≡ [])
-    → holds (followed_by_all t.given t.text rest) t.configuration t.choices state
+abbrev pub HoldsAll : {M R D : Type 0} → Rules R D → Bool → Seen M R D → State → Type 0
+HoldsAll rules flush t state = (rest : List Piece) → CanFollow t.given t.text rest → (flush ≡ true → rest ≡ [])
+    → rules.holds (followed_by_all t.given t.text rest) t.configuration t.choices state
 
-module _ {M R D : Type 0} (g : Given) (step : Sight → Configuration R D → Name → Step R D) (holds : Text → Configuration R D → List Choice → State → Type 0)
-    (cost : Text → Configuration R D → State → ℕ) (reserve : Text → Choice → ℕ) where
+module _ {M R D : Type 0} (g : Given) (rules : Rules R D) where
   -- the one leads on to the other on every text that continues the tokenizer's, or on this alone where the end is fed
   abbrev pub LeadsAll : Bool → Seen M R D → State → Seen M R D → State → Type 0
   LeadsAll flush old state new answer = (rest : List Piece) → CanFollow g new.text rest → (flush ≡ true → rest ≡ [])
-      → LeadsOn g step holds cost reserve (followed_by_all g new.text rest) old state new answer
+      → LeadsOn g rules (followed_by_all g new.text rest) old state new answer

@@ -217,14 +217,14 @@ impl<'a, M: MachineTypes> Model for Tokenizer<'a, M> {
 
 ghost use Rattle.std.specs.Prelude.{◌≡◌, ◌≢◌, ◌+◌, ◌-◌, ◌*◌, ◌^◌, ◌++◌, ◌∷◌, ◌<◌, ◌≤◌, [], List, false, true, length, IfOk, OnOk, OnErr, None, Some, IsTrue};
 ghost use Rattle.std.specs.Bool.{OnTrue, OnFalse};
-ghost use Rattle.markdown_base.specs.Places.{IsPointOf, point_at};
+ghost use Rattle.markdown_base.specs.Places.{IsPointOf};
 ghost use Rattle.markdown.specs.Text.{FitsAfter, followed_by, pushed, passed, empty_text};
 ghost use Rattle.markdown.specs.Configuration.{at_configuration, start_state, start_seen};
-ghost use Rattle.markdown.specs.Sight.{sight};
+ghost use Rattle.markdown.specs.Sight.{sight_seen};
 ghost use Rattle.markdown.specs.Links.{CanLink, linked_to};
 ghost use Rattle.markdown.specs.Calls.{consumed, entered, exited, linked, attempt_at, check_at, with_choice, CanExit, CanGoOn};
 ghost use Rattle.markdown.specs.Reading.{fed};
-ghost use Rattle.markdown.specs.Engine.{found, taken, IsWellFormed};
+ghost use Rattle.markdown.specs.Engine.{found, taken, given_of, CanPush, ForPoints, IsWellFormed};
 ghost use Rattle.markdown.specs.Work.{IsInText, extended, answer_of, settled_all, settled_to, EndsClosed, TakesUp};
 ghost use Rattle.markdown.specs.View.{state_of, choice_at, taken_goal};
 
@@ -291,7 +291,7 @@ impl<'a, M: MachineTypes> Tokenizer<'a, M> {
     pub fn new(alloc: Global, point: Point, parse_state: &'a ParseState<'a, M>) -> Self
         requires place { IsPointOf 4 parse_state.now.bytes.now point }
         requires limit { 4 * length parse_state.now.bytes.now + 1 < 2 ^ 64 }
-        ensures { result ≡ start_seen (record { bytes = parse_state.now.bytes.now; options = parse_state.now.options.now; tab = 4 }) parse_state.now.machine.now (empty_text point) }
+        ensures { result ≡ start_seen (given_of 4 parse_state.now) parse_state.now.machine.now (empty_text point) }
     {
         let tokenize_state = TokenizeState::new(alloc);
         let map = EditMap::new(alloc);
@@ -353,7 +353,7 @@ impl<'a, M: MachineTypes> Tokenizer<'a, M> {
 
     /// Begins a span: an enter at the place where one stands. Where memory is refused, events and stack stay as they were.
     pub fn enter(&mut self, name: Name) -> Result<(), AllocError>
-        ensures ok { OnOk result (self.new ≡ at_configuration self.old (entered name None (sight self.old.given self.old.text self.old.configuration).here self.old.configuration)) }
+        ensures ok { OnOk result (self.new ≡ at_configuration self.old (entered name None (sight_seen self.old).here self.old.configuration)) }
         ensures err { OnErr result (self.new ≡ self.old) }
     {
         self.begin(name, None)
@@ -361,14 +361,14 @@ impl<'a, M: MachineTypes> Tokenizer<'a, M> {
 
     /// As `enter`, with a link. Where memory is refused, events and stack stay as they were.
     pub fn enter_link(&mut self, name: Name, link: Link) -> Result<(), AllocError>
-        ensures ok { OnOk result (self.new ≡ at_configuration self.old (entered name (Some link) (sight self.old.given self.old.text self.old.configuration).here self.old.configuration)) }
+        ensures ok { OnOk result (self.new ≡ at_configuration self.old (entered name (Some link) (sight_seen self.old).here self.old.configuration)) }
         ensures err { OnErr result (self.new ≡ self.old) }
     {
         self.begin(name, Some(link))
     }
 
     fn begin(&mut self, name: Name, link: Option<Link>) -> Result<(), AllocError>
-        ensures ok { OnOk result (self.new ≡ at_configuration self.old (entered name link (sight self.old.given self.old.text self.old.configuration).here self.old.configuration)) }
+        ensures ok { OnOk result (self.new ≡ at_configuration self.old (entered name link (sight_seen self.old).here self.old.configuration)) }
         ensures err { OnErr result (self.new ≡ self.old) }
     {
         let place = standing(&self.skips, self.left, self.waits);
@@ -396,7 +396,7 @@ impl<'a, M: MachineTypes> Tokenizer<'a, M> {
     /// memory is refused, events and stack stay as they were.
     pub fn exit(&mut self, name: Name) -> Result<(), AllocError>
         requires { CanExit name self.old }
-        ensures ok { OnOk result (self.new ≡ at_configuration self.old (exited name (sight self.old.given self.old.text self.old.configuration).left self.old.configuration)) }
+        ensures ok { OnOk result (self.new ≡ at_configuration self.old (exited name (sight_seen self.old).left self.old.configuration)) }
         ensures err { OnErr result (self.new ≡ self.old) }
     {
         let point = shown(self.parse_state.bytes, self.left);
@@ -619,9 +619,9 @@ impl<'a, M: MachineTypes> Tokenizer<'a, M> {
 
     /// The text ends later.
     pub(crate) fn extend(&mut self, from: (usize, usize), to: (usize, usize))
-        requires range { (f : Point) × (t : Point) × (point_at 4 self.old.given.bytes from ≡ Some f) × (point_at 4 self.old.given.bytes to ≡ Some t) × FitsAfter self.old.given self.old.text (pushed f t) }
+        requires range { CanPush self.old.given self.old.text from to }
         requires open_still { self.old.closed ≡ false }
-        ensures { (f t : Point) → point_at 4 self.old.given.bytes from ≡ Some f → point_at 4 self.old.given.bytes to ≡ Some t → self.new ≡ extended self.old (followed_by self.old.given self.old.text (pushed f t)) }
+        ensures { ForPoints self.old.given from to (λ f t. self.new ≡ extended self.old (followed_by self.old.given self.old.text (pushed f t))) }
     {
         self.end = to;
     }

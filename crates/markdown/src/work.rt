@@ -1,13 +1,11 @@
 //! The work of a tokenizer: states are called until a range is used up, or until the reading has ended.
 
 ghost use Rattle.std.specs.Prelude.{◌≡◌, ◌≢◌, ◌+◌, ◌*◌, ◌^◌, ◌≤◌, ◌<◌, Contains, length, List, [], false, true, IfOk, IfErr, IsErrOf, IsTrue};
-ghost use Rattle.markdown_base.specs.declared.event.Point.{Point};
-ghost use Rattle.markdown_base.specs.Places.{point_at};
 ghost use Rattle.markdown.specs.declared.waiting.Waits.TheVariants.{Nothing, End};
-ghost use Rattle.markdown.specs.Text.{FitsAfter, pushed, IsText};
-ghost use Rattle.markdown.specs.Sight.{sight};
+ghost use Rattle.markdown.specs.Text.{IsText};
+ghost use Rattle.markdown.specs.Sight.{sight_seen};
 ghost use Rattle.markdown.specs.Lawful.{IsCalled};
-ghost use Rattle.markdown.specs.Engine.{LeadsOn, IsPushed, IsFlushed, IsRefused, IsWellFormed, HasOneEnd, budget, AreCuts, IsRun, IsRunRefused, given_by};
+ghost use Rattle.markdown.specs.Engine.{HoldsAt, CanPush, IsPushed, IsFlushed, IsRefused, HasOneEnd, AreCuts, IsRun, IsRunRefused, given_of};
 ghost use Rattle.markdown.specs.Work.{HoldsAll, LeadsAll, OnlyWorked, Stops, settled_all, settled_to, EndsClosed, TakesUp, taken_up};
 
 use crate::parser::ParseState;
@@ -19,7 +17,7 @@ use std::alloc::{AllocError, Global};
 
 /// A lawful machine reads each text in one way, within its cost.
 pub fn reads_in_one_way<M: Machine>()
-    ensures { (m : _) (g : _) → HasOneEnd g (M.step m g) (M.holds m g) (M.cost m g) (M.reserve m g) }
+    ensures { (m : _) (g : _) → HasOneEnd g (M.rules m g) }
 {}
 
 /// Reads a whole document, cut at these places: pushes one range up to each, and one up to the end, and flushes.
@@ -35,11 +33,11 @@ pub fn run<M: Machine>(
     resolve: bool,
 ) -> Result<(Vec<Event>, Subresult), Fault>
     requires limit { 4 * length parse_state.now.bytes.now + 1 < 2 ^ 64 }
-    requires start { Contains (M.starts parse_state.now.machine.now) start }
+    requires start { Contains (M.rules parse_state.now.machine.now (given_of 4 parse_state.now)).starts start }
     requires cuts { AreCuts 4 parse_state.now.bytes.now cuts.now }
     requires resolve { resolve ≡ false }
-    ensures ok { IfOk result (λ answer. let g = given_by parse_state.now.bytes.now parse_state.now.options.now in IsRun g (M.step parse_state.now.machine.now g) (M.cost parse_state.now.machine.now g) start answer.0.items answer.1) }
-    ensures message { (m : _) → IsErrOf result (Fault.Message m) → let g = given_by parse_state.now.bytes.now parse_state.now.options.now in IsRunRefused g (M.step parse_state.now.machine.now g) start m }
+    ensures ok { IfOk result (λ answer. IsRun (given_of 4 parse_state.now) (M.rules parse_state.now.machine.now) start answer.0.items answer.1) }
+    ensures message { (m : _) → IsErrOf result (Fault.Message m) → IsRunRefused (given_of 4 parse_state.now) (M.rules parse_state.now.machine.now) start m }
     ensures err { IfErr result (λ fault. fault ≢ Fault.Failed) }
 {
     let point = Point {
@@ -96,8 +94,8 @@ impl<'a, M: Machine> Tokenizer<'a, M> {
     /// One state is called.
     fn once(&mut self, name: Name) -> Result<State, AllocError>
         requires waits { self.old.configuration.waiting ≢ Nothing }
-        requires holds { M.holds self.old.machine self.old.given self.old.text self.old.configuration self.old.choices (State.Retry name) }
-        ensures { IfOk result (IsCalled self.old self.new (M.step self.old.machine self.old.given (sight self.old.given self.old.text self.old.configuration) self.old.configuration name)) }
+        requires holds { HoldsAt (M.rules self.old.machine self.old.given) self.old (State.Retry name) }
+        ensures { IfOk result (IsCalled self.old self.new ((M.rules self.old.machine self.old.given).step (sight_seen self.old) self.old.configuration name)) }
     {
         let alloc = self.allocator();
         self.parse_state().machine.call(alloc, self, name)
@@ -106,11 +104,11 @@ impl<'a, M: Machine> Tokenizer<'a, M> {
     /// States are called until the text is used up, or until the reading has ended.
     fn work(&mut self, flush: bool, state: State) -> Result<State, AllocError>
         requires text { IsText self.old.given self.old.text }
-        requires holds { HoldsAll (M.holds self.old.machine self.old.given) flush self.old state }
+        requires holds { HoldsAll (M.rules self.old.machine self.old.given) flush self.old state }
         requires closed { self.old.closed ≡ flush }
         requires waits { flush ≡ false → self.old.configuration.waiting ≢ End }
         ensures same { IfOk result (λ _. OnlyWorked self.old self.new) }
-        ensures leads { IfOk result (λ answer. LeadsAll self.old.given (M.step self.old.machine self.old.given) (M.holds self.old.machine self.old.given) (M.cost self.old.machine self.old.given) (M.reserve self.old.machine self.old.given) flush self.old state self.new answer) }
+        ensures leads { IfOk result (λ answer. LeadsAll self.old.given (M.rules self.old.machine self.old.given) flush self.old state self.new answer) }
         ensures stops { IfOk result (λ answer. Stops flush self.new answer) }
     {
         let mut state = state;
@@ -136,10 +134,10 @@ impl<'a, M: Machine> Tokenizer<'a, M> {
         to: (usize, usize),
         state: State,
     ) -> Result<State, Fault>
-        requires range { self.old.closed ≡ false → (f : Point) × (t : Point) × (point_at 4 self.old.given.bytes from ≡ Some f) × (point_at 4 self.old.given.bytes to ≡ Some t) × FitsAfter self.old.given self.old.text (pushed f t) }
-        requires holds { self.old.closed ≡ false → M.holds self.old.machine self.old.given self.old.text self.old.configuration self.old.choices state }
+        requires range { self.old.closed ≡ false → CanPush self.old.given self.old.text from to }
+        requires holds { self.old.closed ≡ false → HoldsAt (M.rules self.old.machine self.old.given) self.old state }
         ensures failed { IsTrue self.old.closed → IsErrOf result Fault.Failed × (self.new ≡ self.old) }
-        ensures ok { IfOk result (λ answer. (f t : Point) → point_at 4 self.old.given.bytes from ≡ Some f → point_at 4 self.old.given.bytes to ≡ Some t → IsPushed self.old.given (M.step self.old.machine self.old.given) (M.holds self.old.machine self.old.given) (M.cost self.old.machine self.old.given) (M.reserve self.old.machine self.old.given) self.old f t state self.new answer) }
+        ensures ok { IfOk result (λ answer. IsPushed (M.rules self.old.machine self.old.given) self.old from to state self.new answer) }
         ensures err { self.old.closed ≡ false → IfErr result (λ fault. (fault ≡ Fault.Memory) × (self.new.closed ≡ true)) }
     {
         if self.is_closed() {
@@ -166,16 +164,12 @@ impl<'a, M: Machine> Tokenizer<'a, M> {
     /// pushed or flushed.
     pub fn flush(&mut self, state: State, resolve: bool) -> Result<Subresult, Fault>
         requires resolve { resolve ≡ false }
-        requires holds { self.old.closed ≡ false → M.holds self.old.machine self.old.given self.old.text self.old.configuration self.old.choices state }
+        requires holds { self.old.closed ≡ false → HoldsAt (M.rules self.old.machine self.old.given) self.old state }
         ensures failed { IsTrue self.old.closed → IsErrOf result Fault.Failed × (self.new ≡ self.old) }
         ensures closed { self.new.closed ≡ true }
-        ensures ok { IfOk result (λ sub. IsFlushed self.old.given (M.step self.old.machine self.old.given) self.old state self.new sub) }
-        ensures message { (m : _) → IsErrOf result (Fault.Message m) → IsRefused self.old.given (M.step self.old.machine self.old.given) self.old state self.new m }
+        ensures ok { IfOk result (λ sub. IsFlushed (M.rules self.old.machine self.old.given) self.old state self.new sub) }
+        ensures message { (m : _) → IsErrOf result (Fault.Message m) → IsRefused (M.rules self.old.machine self.old.given) self.old state self.new m }
         ensures err { self.old.closed ≡ false → IfErr result (λ fault. fault ≢ Fault.Failed) }
-        ensures paid { self.old.closed ≡ false → IfOk result (λ _. self.new.calls ≤ budget (M.cost self.old.machine self.old.given) (M.reserve self.old.machine self.old.given) self.old.text self.old state) }
-        ensures paid_message { (m : _) → IsErrOf result (Fault.Message m) → self.new.calls ≤ budget (M.cost self.old.machine self.old.given) (M.reserve self.old.machine self.old.given) self.old.text self.old state }
-        ensures same { IfOk result (λ _. (self.new.given ≡ self.old.given) × (self.new.machine ≡ self.old.machine) × (self.new.text ≡ self.old.text)) }
-        ensures well_formed { IfOk result (λ _. IsWellFormed self.new.given.bytes self.new.configuration) }
     {
         if self.is_closed() {
             return Err(Fault::Failed);

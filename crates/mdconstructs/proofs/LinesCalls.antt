@@ -8,7 +8,8 @@ use Rattle.markdown_base.specs.Places.{stands_before}
 use Rattle.markdown_base.specs.Events.{open_events}
 use Rattle.markdown.specs.Configuration.{Seen, at_configuration}
 use Rattle.markdown.specs.Calls.{exited, CanExit}
-use Rattle.mdconstructs.specs.Tables.{waiting_of, sight_seen}
+use Rattle.markdown.specs.Sight.{sight_seen}
+use Rattle.mdconstructs.specs.Tables.{waiting_of}
 use Rattle.mdconstructs.specs.Lines.{paragraph_inside, IsCallable}
 use Rattle.mdconstructs.specs.Holding.{began_before}
 use Rattle.mdconstructs.specs.HoldingLaws.{open-more}

@@ -10,6 +10,7 @@ use Rattle.markdown.specs.declared.waiting.Waits.TheVariants.{Nothing, End}
 use Rattle.markdown.specs.declared.waiting.AttemptKind.TheVariants.{Check}
 use Rattle.markdown.specs.Text.{Given, Text}
 use Rattle.markdown.specs.Configuration.{Configuration, Saved, Choice, Step, Seen}
+use Rattle.markdown.specs.Rules.{Rules}
 use Rattle.markdown.specs.Sight.{Sight, sight, sight_of}
 use Rattle.markdown.specs.Calls.{consumed, entered, exited}
 use Rattle.mdconstructs.specs.Tables.{same_state, Waiting, at_end, at_line_ending, at_other, waiting_of, gives, counted}
@@ -154,6 +155,9 @@ back_reserve g text choice = rest_reserve text choice.saved
 
 abbrev pub back_starts : List Name
 back_starts = TextStart ∷ []
+
+abbrev pub back_rules : Given → Rules Unit Unit
+back_rules g = record { step = back_step g; holds = back_holds g; cost = back_cost g; reserve = back_reserve g; starts = back_starts }
 
 -- A state that may end the open data can be called: no choice waits, something does, and Data is open and began before this place
 pub record IsBackCallable {M : Type 0} (place : Point) (t : Seen M Unit Unit) : Type 0 where

@@ -14,9 +14,10 @@ use Rattle.markdown_base.specs.Events.{open_events}
 use Rattle.markdown.specs.declared.waiting.Waits.TheVariants.{Nothing}
 use Rattle.markdown.specs.Text.{Given, Text}
 use Rattle.markdown.specs.Configuration.{Configuration, Choice, Step, Seen}
-use Rattle.markdown.specs.Sight.{Sight, sight}
+use Rattle.markdown.specs.Rules.{Rules}
+use Rattle.markdown.specs.Sight.{Sight, sight, sight_seen}
 use Rattle.markdown.specs.Calls.{consumed, entered, exited}
-use Rattle.mdconstructs.specs.Tables.{same_state, Waiting, at_end, at_line_ending, at_other, waiting_of, gives, counted, sight_seen}
+use Rattle.mdconstructs.specs.Tables.{same_state, Waiting, at_end, at_line_ending, at_other, waiting_of, gives, counted}
 use Rattle.mdconstructs.specs.Holding.{InFlow, began_before, IsWaiting, IsAhead, twice_left}
 
 -- Its states: before a line, and in one
@@ -97,6 +98,9 @@ lines_reserve g text choice = 0
 
 abbrev pub lines_starts : List Name
 lines_starts = FlowStart ∷ []
+
+abbrev pub lines_rules : Given → Rules Unit Unit
+lines_rules g = record { step = lines_step g; holds = lines_holds g; cost = lines_cost g; reserve = lines_reserve g; starts = lines_starts }
 
 -- A state can be called: no choice waits, something does, and the open spans are those of the state
 pub record IsCallable {M : Type 0} (state : LinesState) (t : Seen M Unit Unit) : Type 0 where

@@ -19,7 +19,7 @@ use Rattle.markdown.specs.Calls.{consumed}
 use Rattle.markdown.specs.Reading.{fed}
 use Rattle.markdown.specs.Lawful.{unlinked, IsAsFar, ConsumesOnce, OnlyAdds, EndsWhenRead, KeepsInvariant, CostPays}
 use Rattle.mdconstructs.specs.Tables.{Waiting, at_end, at_line_ending, at_other, waiting_of, counted}
-use Rattle.mdconstructs.specs.Lines.{LinesState, flow_start, paragraph_inside, lines_state, lines_table, lines_step_at, lines_step, IsOpenAt, LinesHoldAt, lines_holds, lines_call_cost, lines_cost, lines_reserve, lines_starts}
+use Rattle.mdconstructs.specs.Lines.{LinesState, flow_start, paragraph_inside, lines_state, lines_table, lines_step_at, lines_step, IsOpenAt, LinesHoldAt, lines_holds, lines_call_cost, lines_cost, lines_reserve, lines_starts, lines_rules}
 use Rattle.mdconstructs.specs.Holding.{began_before, IsWaiting, IsAhead, twice_left}
 use Rattle.mdconstructs.specs.HoldingLaws.{IsSeen, is-seen, last-more, opened-ended, opened-twice, ended-twice, kept, next-left, began-before, fed-position, Extends, extends, left-kept, waits-longer}
 use Rattle.markdown.proofs.TextOrder.{begins-before_end}
@@ -42,7 +42,7 @@ each P None place s k h f = absurd h
 each P (Some flow_start) place s k h f = f flow_start h
 each P (Some paragraph_inside) place s k h f = f paragraph_inside h
 
-pub consumes_once : (g : Given) → ConsumesOnce g (lines_step g) (lines_holds g)
+pub consumes_once : (g : Given) → ConsumesOnce g (lines_rules g)
 consumes_once g text k choices name is h =
     let s = sight g text k in
     let P : Step Unit Unit → Type 0 = λ q. (IsAsFar q.configuration k × ((n : Name) → q.answer ≢ Next n)) ⊎ ((k.waiting ≡ Byte) × IsAsFar q.configuration (consumed k) × ((n : Name) → q.answer ≢ Retry n)) in
@@ -58,7 +58,7 @@ adds-at paragraph_inside at_end s k = kept k.events _ _
 adds-at paragraph_inside at_line_ending s k = kept k.events _ _
 adds-at paragraph_inside at_other s k = ap (map unlinked) (take-length k.events)
 
-pub only_adds : (g : Given) → OnlyAdds g (lines_step g) (lines_holds g)
+pub only_adds : (g : Given) → OnlyAdds g (lines_rules g)
 only_adds g = record {
   events = λ text k choices name is h.
       let s = sight g text k in
@@ -67,7 +67,7 @@ only_adds g = record {
   stack = λ text k choices name is h. rw h.0 (λ i d l. absurd (omega arith));
 }
 
-pub ends_when_read : (g : Given) → EndsWhenRead g (lines_step g) (lines_holds g)
+pub ends_when_read : (g : Given) → EndsWhenRead g (lines_rules g)
 ends_when_read g = record { nok = λ text k is h. h.2; ok = λ text k is h. (h.2.1, h.2.0) }
 
 -- The invariant is kept by a call
@@ -181,7 +181,7 @@ starts-flow : (g : Given) (p : Point) (flag : Bool) (name : Name) → Contains l
 starts-flow g p flag name (zero, below, is) = rw (← is) (refl, record { stack = refl; spans = refl })
 starts-flow g p flag name (suc i, below, is) = absurd (omega arith)
 
-pub invariant_kept : (g : Given) → KeepsInvariant g (lines_step g) (lines_holds g) lines_starts
+pub invariant_kept : (g : Given) → KeepsInvariant g (lines_rules g)
 invariant_kept g = record {
   at_starts = λ p flag name is start. (refl, omega arith, starts-flow g p flag name start);
   unfed = λ text k choices name is h. h.2.0;
@@ -225,7 +225,7 @@ fed-cost g text k name =
     let same : twice_left text (fed text k) ≡ twice_left text k = ap (λ p. 2 * (length text.seats - p)) (fed-position text k) in
     omega (arith, call-cost-le (lines_state name) (waiting_of (sight g text (fed text k)).current) (twice_left text (fed text k)), same)
 
-pub cost_pays : (g : Given) → CostPays g (lines_step g) (lines_holds g) (lines_cost g) (lines_reserve g)
+pub cost_pays : (g : Given) → CostPays g (lines_rules g)
 cost_pays g = record {
   for_calls = λ text k choices name is h. paid-in (lines_state name) g text k _ h.2.2 h.2.0;
   for_feeding = λ text k choices name is h. fed-cost g text k name;

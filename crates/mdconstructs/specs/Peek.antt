@@ -9,6 +9,7 @@ use Rattle.markdown.specs.declared.waiting.Waits.TheVariants.{Nothing}
 use Rattle.markdown.specs.declared.waiting.AttemptKind.TheVariants.{Check}
 use Rattle.markdown.specs.Text.{Given, Text}
 use Rattle.markdown.specs.Configuration.{Configuration, Saved, Choice, Step}
+use Rattle.markdown.specs.Rules.{Rules}
 use Rattle.markdown.specs.Sight.{Sight, sight}
 use Rattle.markdown.specs.Calls.{consumed, check_at}
 use Rattle.mdconstructs.specs.Tables.{same_state, Waiting, at_end, at_line_ending, at_other, waiting_of, gives, counted}
@@ -110,3 +111,6 @@ peek_reserve g text choice = reserve_at text choice.saved
 
 abbrev pub peek_starts : List Name
 peek_starts = TextStart ∷ []
+
+abbrev pub peek_rules : Given → Rules Unit Unit
+peek_rules g = record { step = peek_step g; holds = peek_holds g; cost = peek_cost g; reserve = peek_reserve g; starts = peek_starts }

@@ -19,7 +19,7 @@ use Rattle.mdconstructs.specs.Holding.{began_before, IsWaiting, IsAhead, IsBare,
 use Rattle.mdconstructs.specs.HoldingLaws.{IsSeen, is-seen, fed-position, Extends, extends, waits-longer}
 use Rattle.mdconstructs.specs.DataReading.{DataState, data_state, data_table, IsDataOpen, IsDataOpenAt, DataHoldAt, data_call_cost, data_cost_at, data_cost}
 use Rattle.mdconstructs.specs.DataReadingLaws.{data-once, data-adds, data-kept, data-fed, data-longer, data-paid, data-fed-cost}
-use Rattle.mdconstructs.specs.Peek.{PeekState, text_start, text_before, peek_state, peek_table, peek_step_at, peek_step, look_from, IsLooking, IsLookAt, IsPeekAt, PeekHoldAt, peek_holds, look_cost, peek_cost_at, peek_cost, peek_reserve, peek_starts}
+use Rattle.mdconstructs.specs.Peek.{PeekState, text_start, text_before, peek_state, peek_table, peek_step_at, peek_step, look_from, IsLooking, IsLookAt, IsPeekAt, PeekHoldAt, peek_holds, look_cost, peek_cost_at, peek_cost, peek_reserve, peek_starts, peek_rules}
 use Rattle.markdown.proofs.TextOrder.{begins-before_end}
 
 -- Where the invariant holds, data is read and no choice waits, or the look is at one of its states
@@ -57,7 +57,7 @@ once-at text_before at_end s text k h = inl ((refl, refl, refl), λ n e. cc)
 once-at text_before at_line_ending s text k h = inr (h.0, (refl, refl, refl), λ n e. cc)
 once-at text_before at_other s text k h = inr (h.0, (refl, refl, refl), λ n e. cc)
 
-pub consumes_once : (g : Given) → ConsumesOnce g (peek_step g) (peek_holds g)
+pub consumes_once : (g : Given) → ConsumesOnce g (peek_rules g)
 consumes_once g text k choices name is h =
     let s = sight g text k in
     let seen = is-seen g text k h.1.0 in
@@ -92,7 +92,7 @@ stack-kept : (state : PeekState) (w : Waiting) (s : Sight) (k : Configuration Un
 stack-kept text_start w s k choices h = none-kept k choices (peek_table text_start w s (counted k)) h.0
 stack-kept text_before w s k choices h = rw h.alone (λ i d l. look-kept _ h.position h.ended k (peek_table text_before w s (counted k)).configuration (only-one i _ d l))
 
-pub only_adds : (g : Given) → OnlyAdds g (peek_step g) (peek_holds g)
+pub only_adds : (g : Given) → OnlyAdds g (peek_rules g)
 only_adds g = record {
   events = λ text k choices name is h.
       let s = sight g text k in
@@ -102,7 +102,7 @@ only_adds g = record {
       each (Keeps k choices) (data_state name) (peek_state name) _ s k choices h.1.2 (λ state e o. none-kept k choices (data_table state (waiting_of s.current) s (counted k)) e) (λ state o. stack-kept state (waiting_of s.current) s k choices o);
 }
 
-pub ends_when_read : (g : Given) → EndsWhenRead g (peek_step g) (peek_holds g)
+pub ends_when_read : (g : Given) → EndsWhenRead g (peek_rules g)
 ends_when_read g = record { nok = λ text k is h. (let e = h.1.alone in cc); ok = λ text k is h. (h.1.2, h.1.1) }
 
 -- what holds in the look goes on to hold further on, where nothing more was made
@@ -229,7 +229,7 @@ starts-look : (g : Given) (p : Point) (flag : Bool) (name : Name) → Contains p
 starts-look g p flag name (zero, below, is) = rw (← is) (refl, (refl, record { events = refl; stack = refl }))
 starts-look g p flag name (suc i, below, is) = absurd (omega arith)
 
-pub invariant_kept : (g : Given) → KeepsInvariant g (peek_step g) (peek_holds g) peek_starts
+pub invariant_kept : (g : Given) → KeepsInvariant g (peek_rules g)
 invariant_kept g = record {
   at_starts = λ p flag name is start. (omega arith, starts-look g p flag name start);
   unfed = λ text k choices name is h. h.1.0;
@@ -291,7 +291,7 @@ fed-cost g text k name =
     ap (λ p. look_cost (peek_state name) (length text.seats - p)) (fed-position text k) in
     costs-less (data_state name) _ _ _ _ (data-fed-cost g text k name) (omega (arith, same))
 
-pub cost_pays : (g : Given) → CostPays g (peek_step g) (peek_holds g) (peek_cost g) (peek_reserve g)
+pub cost_pays : (g : Given) → CostPays g (peek_rules g)
 cost_pays g = record {
   for_calls = λ text k choices name is h. paid-in (data_state name) (peek_state name) g text k choices h.0 h.1.0 h.1.1 h.1.2;
   for_feeding = λ text k choices name is h. fed-cost g text k name;

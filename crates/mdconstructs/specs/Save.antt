@@ -9,6 +9,7 @@ use Rattle.markdown.specs.declared.waiting.Waits.TheVariants.{Nothing}
 use Rattle.markdown.specs.declared.waiting.AttemptKind.TheVariants.{Attempt}
 use Rattle.markdown.specs.Text.{Given, Text}
 use Rattle.markdown.specs.Configuration.{Configuration, Saved, Choice, Step}
+use Rattle.markdown.specs.Rules.{Rules}
 use Rattle.markdown.specs.Sight.{Sight, sight}
 use Rattle.markdown.specs.Calls.{consumed, attempt_at}
 use Rattle.mdconstructs.specs.Tables.{same_state, Waiting, at_end, at_line_ending, at_other, waiting_of, gives, counted}
@@ -111,3 +112,6 @@ save_reserve g text choice = reserve_at text choice.saved
 
 abbrev pub save_starts : List Name
 save_starts = TextStart ∷ []
+
+abbrev pub save_rules : Given → Rules Unit Unit
+save_rules g = record { step = save_step g; holds = save_holds g; cost = save_cost g; reserve = save_reserve g; starts = save_starts }

@@ -20,7 +20,7 @@ use Rattle.mdconstructs.specs.Holding.{began_before, IsWaiting, IsAhead, twice_l
 use Rattle.mdconstructs.specs.HoldingLaws.{IsSeen, is-seen, fed-position, Extends, extends, waits-longer}
 use Rattle.mdconstructs.specs.DataReading.{DataState, data_state, data_table, IsDataOpen, IsDataOpenAt, DataHoldAt, data_call_cost, data_cost_at, data_cost}
 use Rattle.mdconstructs.specs.DataReadingLaws.{data-once, data-adds, data-kept, data-fed, data-longer, data-paid, data-fed-cost}
-use Rattle.mdconstructs.specs.Save.{SaveState, text_start, text_before, save_state, save_table, save_step_at, save_step, try_from, IsTrying, IsFirstAt, IsSaveAt, SaveHoldAt, save_holds, first_cost, save_cost_at, save_cost, save_reserve, save_starts}
+use Rattle.mdconstructs.specs.Save.{SaveState, text_start, text_before, save_state, save_table, save_step_at, save_step, try_from, IsTrying, IsFirstAt, IsSaveAt, SaveHoldAt, save_holds, first_cost, save_cost_at, save_cost, save_reserve, save_starts, save_rules}
 use Rattle.markdown.proofs.TextOrder.{begins-before_end}
 
 -- Where the invariant holds, data is read and no choice waits, or the first line is passed, or what comes after it is tried
@@ -58,7 +58,7 @@ once-at text_start at_line_ending s text k h = inr (h.0, (refl, refl, refl), λ 
 once-at text_start at_other s text k h = inr (h.0, (refl, refl, refl), λ n e. cc)
 once-at text_before w s text k h = inl ((refl, refl, refl), λ n e. cc)
 
-pub consumes_once : (g : Given) → ConsumesOnce g (save_step g) (save_holds g)
+pub consumes_once : (g : Given) → ConsumesOnce g (save_rules g)
 consumes_once g text k choices name is h =
     let s = sight g text k in
     let seen = is-seen g text k h.1.0 in
@@ -93,7 +93,7 @@ stack-kept : (state : SaveState) (w : Waiting) (s : Sight) (k : Configuration Un
 stack-kept text_start w s k choices h = none-kept k choices (save_table text_start w s (counted k)) h.none
 stack-kept text_before w s k choices h = rw h (λ i d l. try-kept _ k.position k (save_table text_before w s (counted k)).configuration (only-one i _ d l))
 
-pub only_adds : (g : Given) → OnlyAdds g (save_step g) (save_holds g)
+pub only_adds : (g : Given) → OnlyAdds g (save_rules g)
 only_adds g = record {
   events = λ text k choices name is h.
       let s = sight g text k in
@@ -103,7 +103,7 @@ only_adds g = record {
       each (Keeps k choices) (data_state name) (save_state name) _ s k choices h.1.2 (λ state e o. none-kept k choices (data_table state (waiting_of s.current) s (counted k)) e) (λ state o. stack-kept state (waiting_of s.current) s k choices o);
 }
 
-pub ends_when_read : (g : Given) → EndsWhenRead g (save_step g) (save_holds g)
+pub ends_when_read : (g : Given) → EndsWhenRead g (save_rules g)
 ends_when_read g = record { nok = λ text k is h. (let e : [] ≡ try_from k.position ∷ [] = h.1 in cc); ok = λ text k is h. (h.1.2, h.1.1) }
 
 -- the invariant of data reading is the machine's, where no choice waits
@@ -208,7 +208,7 @@ starts-text : (g : Given) (p : Point) (flag : Bool) (name : Name) → Contains s
 starts-text g p flag name (zero, below, is) = rw (← is) (refl, record { none = refl; bare = record { events = refl; stack = refl } })
 starts-text g p flag name (suc i, below, is) = absurd (omega arith)
 
-pub invariant_kept : (g : Given) → KeepsInvariant g (save_step g) (save_holds g) save_starts
+pub invariant_kept : (g : Given) → KeepsInvariant g (save_rules g)
 invariant_kept g = record {
   at_starts = λ p flag name is start. (omega arith, starts-text g p flag name start);
   unfed = λ text k choices name is h. h.1.0;
@@ -270,7 +270,7 @@ fed-cost g text k name =
     ap (λ p. first_cost (save_state name) (length text.seats - p)) (fed-position text k) in
     costs-less (data_state name) _ _ _ _ (data-fed-cost g text k name) (omega (arith, same))
 
-pub cost_pays : (g : Given) → CostPays g (save_step g) (save_holds g) (save_cost g) (save_reserve g)
+pub cost_pays : (g : Given) → CostPays g (save_rules g)
 cost_pays g = record {
   for_calls = λ text k choices name is h. paid-in (data_state name) (save_state name) g text k choices h.0 h.1.0 h.1.1 h.1.2;
   for_feeding = λ text k choices name is h. fed-cost g text k name;

@@ -3,7 +3,6 @@ use Rattle.std.specs.Prelude.{◌≡◌, ℕ, ◌+◌, ◌-◌, ◌^◌, ◌==�
 use Rattle.markdown_base.specs.declared.state.Name.{Name}
 use Rattle.markdown_base.specs.declared.state.State.{State}
 use Rattle.markdown.specs.Configuration.{Configuration, Step, Seen, at_configuration}
-use Rattle.markdown.specs.Sight.{Sight, sight}
 use Rattle.markdown.specs.Calls.{with_local}
 
 -- two names of states are one
@@ -29,10 +28,6 @@ module _ {R D : Type 0} where
   -- one more call is counted in `size`, up to the greatest number there is
   abbrev pub counted : Configuration R D → Configuration R D
   counted k = with_local k (record k.local { tokenize_state = record k.local.tokenize_state { size = min (k.local.tokenize_state.size + 1) (2 ^ 64 - 1) } })
-
--- what a state may look at in a tokenizer
-abbrev pub sight_seen : {M R D : Type 0} → Seen M R D → Sight
-sight_seen t = sight t.given t.text t.configuration
 
 -- A state did a step that pushes no choice: this is its answer, and only the configuration is another one
 pub record Does {M R D : Type 0} (s : Step R D) (old new : Seen M R D) (answer : State) : Type 0 where

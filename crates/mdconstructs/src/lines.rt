@@ -2,7 +2,8 @@
 
 ghost use Rattle.std.specs.Prelude.{IfOk};
 ghost use Rattle.mdconstructs.specs.Lines.{lines_table, flow_start, paragraph_inside, IsCallable};
-ghost use Rattle.mdconstructs.specs.Tables.{waiting_of, sight_seen, Does};
+ghost use Rattle.markdown.specs.Sight.{sight_seen};
+ghost use Rattle.mdconstructs.specs.Tables.{waiting_of, Does};
 
 use markdown::state::{Machine, MachineTypes, Name, State};
 use markdown::tokenizer::Tokenizer;
@@ -22,18 +23,10 @@ impl MachineTypes for Lines {
 }
 
 impl Machine for Lines {
-    ghost use Rattle.mdconstructs.specs.Lines.{lines_step, lines_holds, lines_cost, lines_reserve, lines_starts};
+    ghost use Rattle.mdconstructs.specs.Lines.{lines_rules};
     ghost use Rattle.mdconstructs.specs.LinesLaws as laws;
 
-    ghost step = { λ _. lines_step };
-
-    ghost holds = { λ _. lines_holds };
-
-    ghost cost = { λ _. lines_cost };
-
-    ghost reserve = { λ _. lines_reserve };
-
-    ghost starts = { λ _. lines_starts };
+    ghost rules = { λ _. lines_rules };
 
     fn call<'a>(
         &self,

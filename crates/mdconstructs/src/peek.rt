@@ -3,7 +3,8 @@
 ghost use Rattle.std.specs.Prelude.{IfOk};
 ghost use Rattle.mdconstructs.specs.Holding.{IsReadable};
 ghost use Rattle.mdconstructs.specs.Peek.{peek_table, text_start, text_before};
-ghost use Rattle.mdconstructs.specs.Tables.{waiting_of, sight_seen, Does, DoesAll};
+ghost use Rattle.markdown.specs.Sight.{sight_seen};
+ghost use Rattle.mdconstructs.specs.Tables.{waiting_of, Does, DoesAll};
 
 use crate::data::{data_inside, data_start};
 use markdown::state::{Machine, MachineTypes, Name, State};
@@ -23,18 +24,10 @@ impl MachineTypes for Peek {
 }
 
 impl Machine for Peek {
-    ghost use Rattle.mdconstructs.specs.Peek.{peek_step, peek_holds, peek_cost, peek_reserve, peek_starts};
+    ghost use Rattle.mdconstructs.specs.Peek.{peek_rules};
     ghost use Rattle.mdconstructs.specs.PeekLaws as laws;
 
-    ghost step = { λ _. peek_step };
-
-    ghost holds = { λ _. peek_holds };
-
-    ghost cost = { λ _. peek_cost };
-
-    ghost reserve = { λ _. peek_reserve };
-
-    ghost starts = { λ _. peek_starts };
+    ghost rules = { λ _. peek_rules };
 
     fn call<'a>(
         &self,

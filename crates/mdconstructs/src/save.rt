@@ -4,7 +4,8 @@
 ghost use Rattle.std.specs.Prelude.{IfOk};
 ghost use Rattle.mdconstructs.specs.Holding.{IsReadable};
 ghost use Rattle.mdconstructs.specs.Save.{save_table, text_start, text_before};
-ghost use Rattle.mdconstructs.specs.Tables.{waiting_of, sight_seen, Does, DoesAll};
+ghost use Rattle.markdown.specs.Sight.{sight_seen};
+ghost use Rattle.mdconstructs.specs.Tables.{waiting_of, Does, DoesAll};
 
 use crate::data::{data_inside, data_start};
 use markdown::state::{Machine, MachineTypes, Name, State};
@@ -25,18 +26,10 @@ impl MachineTypes for Save {
 }
 
 impl Machine for Save {
-    ghost use Rattle.mdconstructs.specs.Save.{save_step, save_holds, save_cost, save_reserve, save_starts};
+    ghost use Rattle.mdconstructs.specs.Save.{save_rules};
     ghost use Rattle.mdconstructs.specs.SaveLaws as laws;
 
-    ghost step = { λ _. save_step };
-
-    ghost holds = { λ _. save_holds };
-
-    ghost cost = { λ _. save_cost };
-
-    ghost reserve = { λ _. save_reserve };
-
-    ghost starts = { λ _. save_starts };
+    ghost rules = { λ _. save_rules };
 
     fn call<'a>(
         &self,

@@ -9,55 +9,54 @@ use Rattle.markdown_base.specs.declared.state.TheConstants.Name.{FlowStart, Text
 use Rattle.markdown_base.specs.declared.state.State.TheVariants.{Ok, Error}
 use Rattle.markdown_base.specs.Presets.{default_parse_options}
 use Rattle.markdown.specs.Text.{Given}
-use Rattle.markdown.specs.Configuration.{Configuration, Step}
-use Rattle.markdown.specs.Sight.{Sight}
+use Rattle.markdown.specs.Rules.{Rules}
 use Rattle.markdown.specs.Reading.{Reading}
 use Rattle.markdown.specs.Engine.{given_by, StartEndsIn}
 use Rattle.markdown.specs.Cuts.{cuts_every}
 use Rattle.mdevents.specs.declared.words.Choice.{Choice}
 use Rattle.mdevents.specs.declared.words.Which.{Which}
 use Rattle.mdevents.specs.declared.words.Which.TheVariants.{Lines, Peek, Deep, Back, Save}
-use Rattle.mdconstructs.specs.Lines.{lines_step}
-use Rattle.mdconstructs.specs.Peek.{peek_step}
-use Rattle.mdconstructs.specs.Deep.{deep_step}
-use Rattle.mdconstructs.specs.Back.{back_step}
-use Rattle.mdconstructs.specs.Save.{save_step}
+use Rattle.mdconstructs.specs.Lines.{lines_rules}
+use Rattle.mdconstructs.specs.Peek.{peek_rules}
+use Rattle.mdconstructs.specs.Deep.{deep_rules}
+use Rattle.mdconstructs.specs.Back.{back_rules}
+use Rattle.mdconstructs.specs.Save.{save_rules}
 use Rattle.mdevents.specs.Printed.{printed_events}
 
 -- a document, read with the default options
 abbrev pub document : List ℕ → Given
-document bytes = given_by bytes default_parse_options
+document bytes = given_by 4 bytes default_parse_options
 
 -- a machine with a start
-module _ {R D : Type 0} (step : Given → Sight → Configuration R D → Name → Step R D) (start : Name) (bytes : List ℕ) where
+module _ {R D : Type 0} (rules : Given → Rules R D) (start : Name) (bytes : List ℕ) where
   -- These are the events in which the machine's one reading of a document ends
   pub record Gives (events : List Event) : Type 0 where
     pub result : Reading R D
-    pub ends : StartEndsIn (document bytes) (step (document bytes)) start result
+    pub ends : StartEndsIn (document bytes) rules start result
     pub well : result.answer ≡ Ok
     pub same : events ≡ result.configuration.events
 
   -- The machine's one reading of a document ends in this message
   pub record Refuses (m : Message) : Type 0 where
     pub result : Reading R D
-    pub ends : StartEndsIn (document bytes) (step (document bytes)) start result
+    pub ends : StartEndsIn (document bytes) rules start result
     pub message : result.answer ≡ Error m
 
 -- the events of a document are those that its machine gives
 abbrev pub AreEventsOf : Which → List ℕ → List Event → Type 0
-AreEventsOf Lines = Gives lines_step FlowStart
-AreEventsOf Peek = Gives peek_step TextStart
-AreEventsOf Deep = Gives deep_step StringStart
-AreEventsOf Back = Gives back_step TextStart
-AreEventsOf Save = Gives save_step TextStart
+AreEventsOf Lines = Gives lines_rules FlowStart
+AreEventsOf Peek = Gives peek_rules TextStart
+AreEventsOf Deep = Gives deep_rules StringStart
+AreEventsOf Back = Gives back_rules TextStart
+AreEventsOf Save = Gives save_rules TextStart
 
 -- a document is refused where its machine refuses it
 abbrev pub IsRefusedBy : Which → List ℕ → Message → Type 0
-IsRefusedBy Lines = Refuses lines_step FlowStart
-IsRefusedBy Peek = Refuses peek_step TextStart
-IsRefusedBy Deep = Refuses deep_step StringStart
-IsRefusedBy Back = Refuses back_step TextStart
-IsRefusedBy Save = Refuses save_step TextStart
+IsRefusedBy Lines = Refuses lines_rules FlowStart
+IsRefusedBy Peek = Refuses peek_rules TextStart
+IsRefusedBy Deep = Refuses deep_rules StringStart
+IsRefusedBy Back = Refuses back_rules TextStart
+IsRefusedBy Save = Refuses save_rules TextStart
 
 -- where a document is cut: nowhere, or at every n-th of its virtual bytes
 abbrev pub cut_places : Choice → List ℕ → List (ℕ × ℕ)

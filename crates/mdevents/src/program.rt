@@ -4,7 +4,7 @@ ghost use Rattle.std.specs.Prelude.{◌≡◌, ◌≢◌, ℕ, List, Contains, I
 ghost use Rattle.std.specs.Io.KnownBytes.{Consumes, Keeps};
 ghost use Rattle.markdown.specs.Engine.{AreCuts};
 ghost use Rattle.mdevents.specs.Failure.{IsOfMaking};
-ghost use Rattle.mdevents.specs.Program.{cut_places, Gives, Refuses, AreEventsOf, IsRefusedBy, IsReadToEnd, Prints, PrintsFront};
+ghost use Rattle.mdevents.specs.Program.{document, cut_places, Gives, Refuses, AreEventsOf, IsRefusedBy, IsReadToEnd, Prints, PrintsFront};
 ghost use Rattle.mdevents.specs.Reading.{IsWithinLimit};
 ghost use Rattle.mdevents.specs.Words.{CanCut};
 
@@ -77,10 +77,10 @@ fn read_by<M: Machine>(
     cuts: &[(usize, usize)],
 ) -> Result<Vec<Event>, Failure>
     requires limit { IsWithinLimit bytes.now }
-    requires start { Contains (M.starts machine.now) start }
+    requires start { Contains (M.rules machine.now (document bytes.now)).starts start }
     requires cuts { AreCuts 4 bytes.now cuts.now }
-    ensures events { IfOk result (λ events. Gives (M.step machine.now) start bytes.now events.items) }
-    ensures message { (m : _) → IsErrOf result (Failure.Message m) → Refuses (M.step machine.now) start bytes.now m }
+    ensures events { IfOk result (λ events. Gives (M.rules machine.now) start bytes.now events.items) }
+    ensures message { (m : _) → IsErrOf result (Failure.Message m) → Refuses (M.rules machine.now) start bytes.now m }
     ensures cause { IfErr result IsOfMaking }
 {
     let options = ParseOptions::default();

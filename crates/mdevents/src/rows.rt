@@ -1,7 +1,7 @@
 //! The tokenizer, driven by the machines.
 
 ghost use Rattle.std.specs.Prelude.{◌+◌, ◌*◌, ◌^◌, ◌<◌, length, Contains};
-ghost use Rattle.markdown.specs.Engine.{AreCuts};
+ghost use Rattle.markdown.specs.Engine.{AreCuts, given_of};
 ghost use Rattle.mdevents.specs.Rows.{AreThreeRanges};
 
 use crate::print::printed;
@@ -101,7 +101,7 @@ fn read_in_three<M: Machine>(
     to: (usize, usize),
 ) -> Result<InThree, AllocError>
     requires limit { 4 * length parse_state.now.bytes.now + 1 < 2 ^ 64 }
-    requires start { Contains (M.starts parse_state.now.machine.now) start }
+    requires start { Contains (M.rules parse_state.now.machine.now (given_of 4 parse_state.now)).starts start }
     requires ranges { AreThreeRanges parse_state.now.bytes.now cut from to }
 {
     let mut tokenizer = Tokenizer::new(alloc, START, parse_state);

@@ -2,7 +2,7 @@
 
 ghost use Rattle.std.specs.Prelude.{◌≡◌, map};
 ghost use Rattle.markdown_base.specs.Events.{open_events};
-ghost use Rattle.markdown.specs.Sight.{sight};
+ghost use Rattle.markdown.specs.Sight.{sight_seen};
 
 use super::Tokenizer;
 use crate::cursor::{resumed, seat_at};
@@ -29,7 +29,7 @@ impl<'a, M: MachineTypes> Tokenizer<'a, M> {
 
     /// The place of the byte that waits, of the text's end while that waits, and else the place after the byte before.
     pub fn point(&self) -> Point
-        ensures { result ≡ (sight self.now.given self.now.text self.now.configuration).point }
+        ensures { result ≡ (sight_seen self.now).point }
     {
         match self.waits {
             Waits::Nothing => self.left,
@@ -50,14 +50,14 @@ impl<'a, M: MachineTypes> Tokenizer<'a, M> {
 
     /// The byte before, if one was read. A byte that a gap passes is never there.
     pub fn previous(&self) -> Option<u8>
-        ensures { result ≡ (sight self.now.given self.now.text self.now.configuration).previous }
+        ensures { result ≡ (sight_seen self.now).previous }
     {
         self.previous
     }
 
     /// The byte that waits, if one does.
     pub fn current(&self) -> Option<u8>
-        ensures { result ≡ (sight self.now.given self.now.text self.now.configuration).current }
+        ensures { result ≡ (sight_seen self.now).current }
     {
         self.current
     }

@@ -6,13 +6,13 @@ use Rattle.markdown.proofs.Runs.{start-is-point, run-start, run-at, run-last, ru
 use Rattle.markdown.proofs.work.run.Goals as goal
 
 pub new-tokenizer-requires-clause-place : goal.new-tokenizer-requires-clause-place
-new-tokenizer-requires-clause-place g c = start-is-point (given_by c.args.parse_state.now.bytes.now c.args.parse_state.now.options.now) refl
+new-tokenizer-requires-clause-place g c = start-is-point (given_by 4 c.args.parse_state.now.bytes.now c.args.parse_state.now.options.now) refl
 
 pub loop-cut-init : goal.loop-cut-init
 loop-cut-init g c =
     let i = g.M.Machine in
     let bytes = c.args.parse_state.now.bytes.now in let options = c.args.parse_state.now.options.now in let m = c.args.parse_state.now.machine.now in
-    run-start i.step i.holds i.cost i.reserve bytes options m (i.starts m) (g.met.M.Machine.invariant_kept m (given_by bytes options)) c.args.start c.requires.start c.args.cuts.now c.requires.cuts
+    run-start i.rules bytes options m (g.met.M.Machine.invariant_kept m (given_by 4 bytes options)) c.args.start c.requires.start c.args.cuts.now c.requires.cuts
     c.new-tokenizer.result c.new-tokenizer.ensures
 
 pub push-requires-clause-range : goal.push-requires-clause-range
@@ -20,67 +20,67 @@ push-requires-clause-range g c =
     let i = g.M.Machine in
     let bytes = c.args.parse_state.now.bytes.now in let options = c.args.parse_state.now.options.now in let m = c.args.parse_state.now.machine.now in
     let t = c.loop-cut.tokenizer in let cuts = c.args.cuts.now in let n = c.loop-cut.cut-index in let cut = get_or cuts n (0, 0) in
-    let r = run-at i.step i.holds i.cost i.reserve bytes options m c.args.start c.loop-cut.from cuts n (0, 0) t c.loop-cut.state c.loop-cut-test.true c.loop-cut.invariant in
-    λ _. run-range i.step i.holds i.cost i.reserve bytes options m c.args.start c.loop-cut.from cut (drop (n + 1) cuts) t c.loop-cut.state r
+    let r = run-at i.rules bytes options m c.args.start c.loop-cut.from cuts n (0, 0) t c.loop-cut.state c.loop-cut-test.true c.loop-cut.invariant in
+    λ _. run-range i.rules bytes options m c.args.start c.loop-cut.from cut (drop (n + 1) cuts) t c.loop-cut.state r
 
 pub push-requires-clause-holds : goal.push-requires-clause-holds
 push-requires-clause-holds g c =
     let i = g.M.Machine in
     let bytes = c.args.parse_state.now.bytes.now in let options = c.args.parse_state.now.options.now in let m = c.args.parse_state.now.machine.now in
-    λ _. run-holds i.step i.holds i.cost i.reserve bytes options m c.args.start c.loop-cut.from (drop c.loop-cut.cut-index c.args.cuts.now) c.loop-cut.tokenizer c.loop-cut.state c.loop-cut.invariant
+    λ _. run-holds i.rules bytes options m c.args.start c.loop-cut.from (drop c.loop-cut.cut-index c.args.cuts.now) c.loop-cut.tokenizer c.loop-cut.state c.loop-cut.invariant
 
 pub loop-cut-preserved : goal.loop-cut-preserved
 loop-cut-preserved g c =
     let i = g.M.Machine in
     let bytes = c.args.parse_state.now.bytes.now in let options = c.args.parse_state.now.options.now in let m = c.args.parse_state.now.machine.now in
     let t = c.loop-cut.tokenizer in let cuts = c.args.cuts.now in let n = c.loop-cut.cut-index in let cut = get_or cuts n (0, 0) in
-    let r = run-at i.step i.holds i.cost i.reserve bytes options m c.args.start c.loop-cut.from cuts n (0, 0) t c.loop-cut.state c.loop-cut-test.true c.loop-cut.invariant in
-    run-pushed i.step i.holds i.cost i.reserve bytes options m c.args.start c.loop-cut.from cut (drop (n + 1) cuts) t c.loop-cut.state r c.push.new.self c.in_ok-state.state c.in_ok-state.ensures.ok
+    let r = run-at i.rules bytes options m c.args.start c.loop-cut.from cuts n (0, 0) t c.loop-cut.state c.loop-cut-test.true c.loop-cut.invariant in
+    run-pushed i.rules bytes options m c.args.start c.loop-cut.from cut (drop (n + 1) cuts) t c.loop-cut.state r c.push.new.self c.in_ok-state.state c.in_ok-state.ensures.ok
 
 pub push-requires-2-clause-range : goal.push-requires-2-clause-range
 push-requires-2-clause-range g c =
     let i = g.M.Machine in
     let bytes = c.args.parse_state.now.bytes.now in let options = c.args.parse_state.now.options.now in let m = c.args.parse_state.now.machine.now in
     let t = c.loop-cut.tokenizer in let cut : ℕ × ℕ = (length bytes, 0) in
-    let r = run-last i.step i.holds i.cost i.reserve bytes options m c.args.start c.loop-cut.from (drop c.loop-cut.cut-index c.args.cuts.now) t c.loop-cut.state c.loop-cut.invariant in
-    λ _. run-range i.step i.holds i.cost i.reserve bytes options m c.args.start c.loop-cut.from cut [] t c.loop-cut.state r
+    let r = run-last i.rules bytes options m c.args.start c.loop-cut.from (drop c.loop-cut.cut-index c.args.cuts.now) t c.loop-cut.state c.loop-cut.invariant in
+    λ _. run-range i.rules bytes options m c.args.start c.loop-cut.from cut [] t c.loop-cut.state r
 
 pub push-requires-2-clause-holds : goal.push-requires-2-clause-holds
 push-requires-2-clause-holds g c =
     let i = g.M.Machine in
     let bytes = c.args.parse_state.now.bytes.now in let options = c.args.parse_state.now.options.now in let m = c.args.parse_state.now.machine.now in
-    λ _. run-holds i.step i.holds i.cost i.reserve bytes options m c.args.start c.loop-cut.from (drop c.loop-cut.cut-index c.args.cuts.now) c.loop-cut.tokenizer c.loop-cut.state c.loop-cut.invariant
+    λ _. run-holds i.rules bytes options m c.args.start c.loop-cut.from (drop c.loop-cut.cut-index c.args.cuts.now) c.loop-cut.tokenizer c.loop-cut.state c.loop-cut.invariant
 
 pub flush-requires-clause-holds : goal.flush-requires-clause-holds
 flush-requires-clause-holds g c =
     let i = g.M.Machine in
     let bytes = c.args.parse_state.now.bytes.now in let options = c.args.parse_state.now.options.now in let m = c.args.parse_state.now.machine.now in
     let t = c.loop-cut.tokenizer in let cut : ℕ × ℕ = (length bytes, 0) in
-    let r = run-last i.step i.holds i.cost i.reserve bytes options m c.args.start c.loop-cut.from (drop c.loop-cut.cut-index c.args.cuts.now) t c.loop-cut.state c.loop-cut.invariant in
+    let r = run-last i.rules bytes options m c.args.start c.loop-cut.from (drop c.loop-cut.cut-index c.args.cuts.now) t c.loop-cut.state c.loop-cut.invariant in
     let u = c.push-2.new.self in
-    let e = run-pushed i.step i.holds i.cost i.reserve bytes options m c.args.start c.loop-cut.from (length bytes, 0) [] t c.loop-cut.state r u c.in_ok-state-2.state c.in_ok-state-2.ensures.ok in
-    λ _. run-holds i.step i.holds i.cost i.reserve bytes options m c.args.start (length bytes, 0) [] u c.in_ok-state-2.state e
+    let e = run-pushed i.rules bytes options m c.args.start c.loop-cut.from (length bytes, 0) [] t c.loop-cut.state r u c.in_ok-state-2.state c.in_ok-state-2.ensures.ok in
+    λ _. run-holds i.rules bytes options m c.args.start (length bytes, 0) [] u c.in_ok-state-2.state e
 
 pub returns-in_err-sub-clause-message : goal.returns-in_err-sub-clause-message
 returns-in_err-sub-clause-message g c =
     let i = g.M.Machine in
     let bytes = c.args.parse_state.now.bytes.now in let options = c.args.parse_state.now.options.now in let m = c.args.parse_state.now.machine.now in
     let t = c.loop-cut.tokenizer in let cut : ℕ × ℕ = (length bytes, 0) in
-    let r = run-last i.step i.holds i.cost i.reserve bytes options m c.args.start c.loop-cut.from (drop c.loop-cut.cut-index c.args.cuts.now) t c.loop-cut.state c.loop-cut.invariant in
+    let r = run-last i.rules bytes options m c.args.start c.loop-cut.from (drop c.loop-cut.cut-index c.args.cuts.now) t c.loop-cut.state c.loop-cut.invariant in
     let u = c.push-2.new.self in
-    let e = run-pushed i.step i.holds i.cost i.reserve bytes options m c.args.start c.loop-cut.from (length bytes, 0) [] t c.loop-cut.state r u c.in_ok-state-2.state c.in_ok-state-2.ensures.ok in
+    let e = run-pushed i.rules bytes options m c.args.start c.loop-cut.from (length bytes, 0) [] t c.loop-cut.state r u c.in_ok-state-2.state c.in_ok-state-2.ensures.ok in
     λ message is.
     let from = rw is at c.from_residual-in_err-sub.ensures.1 in
-    run-refused i.step i.holds i.cost i.reserve bytes options m c.args.start u c.in_ok-state-2.state e c.flush.new.self message (c.in_err-sub.ensures.message message (cc))
+    run-refused i.rules bytes options m c.args.start u c.in_ok-state-2.state e c.flush.new.self message (c.in_err-sub.ensures.message message (cc))
 
 pub returns-in_err-sub-clause-err : goal.returns-in_err-sub-clause-err
 returns-in_err-sub-clause-err g c =
     let i = g.M.Machine in
     let bytes = c.args.parse_state.now.bytes.now in let options = c.args.parse_state.now.options.now in let m = c.args.parse_state.now.machine.now in
     let t = c.loop-cut.tokenizer in let cut : ℕ × ℕ = (length bytes, 0) in
-    let r = run-last i.step i.holds i.cost i.reserve bytes options m c.args.start c.loop-cut.from (drop c.loop-cut.cut-index c.args.cuts.now) t c.loop-cut.state c.loop-cut.invariant in
+    let r = run-last i.rules bytes options m c.args.start c.loop-cut.from (drop c.loop-cut.cut-index c.args.cuts.now) t c.loop-cut.state c.loop-cut.invariant in
     let u = c.push-2.new.self in
-    let e = run-pushed i.step i.holds i.cost i.reserve bytes options m c.args.start c.loop-cut.from (length bytes, 0) [] t c.loop-cut.state r u c.in_ok-state-2.state c.in_ok-state-2.ensures.ok in
+    let e = run-pushed i.rules bytes options m c.args.start c.loop-cut.from (length bytes, 0) [] t c.loop-cut.state r u c.in_ok-state-2.state c.in_ok-state-2.ensures.ok in
     err-if c.from_residual-in_err-sub.result _ (λ fault. fault ≢ Failed) (λ fault is failed. c.in_err-sub.ensures.err e.open_still (cc)) c.from_residual-in_err-sub.ensures.1
 
 pub returns-clause-ok : goal.returns-clause-ok
@@ -88,8 +88,8 @@ returns-clause-ok g c =
     let i = g.M.Machine in
     let bytes = c.args.parse_state.now.bytes.now in let options = c.args.parse_state.now.options.now in let m = c.args.parse_state.now.machine.now in
     let t = c.loop-cut.tokenizer in let cut : ℕ × ℕ = (length bytes, 0) in
-    let r = run-last i.step i.holds i.cost i.reserve bytes options m c.args.start c.loop-cut.from (drop c.loop-cut.cut-index c.args.cuts.now) t c.loop-cut.state c.loop-cut.invariant in
+    let r = run-last i.rules bytes options m c.args.start c.loop-cut.from (drop c.loop-cut.cut-index c.args.cuts.now) t c.loop-cut.state c.loop-cut.invariant in
     let u = c.push-2.new.self in
-    let e = run-pushed i.step i.holds i.cost i.reserve bytes options m c.args.start c.loop-cut.from (length bytes, 0) [] t c.loop-cut.state r u c.in_ok-state-2.state c.in_ok-state-2.ensures.ok in
+    let e = run-pushed i.rules bytes options m c.args.start c.loop-cut.from (length bytes, 0) [] t c.loop-cut.state r u c.in_ok-state-2.state c.in_ok-state-2.ensures.ok in
     let f = c.in_ok-sub.ensures in
-    run-flushed i.step i.holds i.cost i.reserve bytes options m c.args.start u c.in_ok-state-2.state e c.flush.new.self c.into_events.result.items c.in_ok-sub.sub f.ok (f.paid e.open_still) f.same.0 f.well_formed c.into_events.ensures
+    run-flushed i.rules bytes options m c.args.start u c.in_ok-state-2.state e c.flush.new.self c.into_events.result.items c.in_ok-sub.sub f.ok c.into_events.ensures

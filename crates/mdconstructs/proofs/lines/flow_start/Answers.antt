@@ -1,6 +1,7 @@
 use Rattle.std.proofs.Common.{◌≡◌, ap}
 use Rattle.markdown.specs.Configuration.{Seen}
-use Rattle.mdconstructs.specs.Tables.{waiting_of, at_line_ending, sight_seen}
+use Rattle.markdown.specs.Sight.{sight_seen}
+use Rattle.mdconstructs.specs.Tables.{waiting_of, at_line_ending}
 use Rattle.mdconstructs.specs.Lines.{flow_start, lines_table, IsCallable}
 use Rattle.mdconstructs.proofs.LineEndingCalls.{IsAtLineEnding, line-waits, line-exit, line-done}
 use Rattle.mdconstructs.proofs.lines.flow_start.Goals as goal

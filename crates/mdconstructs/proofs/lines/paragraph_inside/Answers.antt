@@ -1,7 +1,8 @@
 use Rattle.std.proofs.Common.{◌≡◌, Some, ap, ◌∙◌, sym, subst}
 use Rattle.markdown_base.specs.declared.event.Name.TheVariants.{Paragraph}
 use Rattle.markdown.specs.Calls.{CanExit}
-use Rattle.mdconstructs.specs.Tables.{waiting_of, sight_seen}
+use Rattle.markdown.specs.Sight.{sight_seen}
+use Rattle.mdconstructs.specs.Tables.{waiting_of}
 use Rattle.mdconstructs.specs.Holding.{began_before}
 use Rattle.mdconstructs.proofs.LinesCalls.{paragraph-exit}
 use Rattle.mdconstructs.proofs.lines.paragraph_inside.Goals as goal

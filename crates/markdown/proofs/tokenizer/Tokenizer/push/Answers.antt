@@ -1,4 +1,4 @@
-use Rattle.std.proofs.Common.{◌≡◌, ◌∙◌, ◌∷◌, sym, true, false}
+use Rattle.std.proofs.Common.{◌≡◌, ◌∙◌, ◌∷◌, sym, ap, true, false}
 use Rattle.markdown.specs.Text.{pushed}
 use Rattle.markdown.proofs.Working.{holds-on, not-true, text-extended, is-pushed}
 use Rattle.markdown.proofs.tokenizer.Tokenizer.push.Goals as goal
@@ -20,7 +20,7 @@ work-requires-clause-holds g c =
     let ext = c.extend.ensures r.0 r.1 r.2 r.3 in
     let fresh = not-true old.configuration.ended (λ e. let f : true ≡ false = sym (c.tells.ensures.ended e) ∙ open_still in absurd cc) in
     rw ext (λ rest can only.
-    holds-on given (i.step m given) (i.holds m given) (i.starts m) (g.met.M.Machine.invariant_kept m given) old.text (pushed r.0 r.1 ∷ rest) old.configuration old.choices c.args.state
+    holds-on given (i.rules m given) (g.met.M.Machine.invariant_kept m given) old.text (pushed r.0 r.1 ∷ rest) old.configuration old.choices c.args.state
     c.tells.ensures.text (r.4, can) fresh (c.requires.holds open_still))
 
 pub work-requires-clause-closed : goal.work-requires-clause-closed
@@ -46,10 +46,10 @@ returns-in-Ok-clause-ok g c =
     let old = c.args.self.now in let m = old.machine in let given = old.given in
     let open_still : old.closed ≡ false = sym c.is_closed.ensures ∙ c.if-is_closed.false in
     let u = c.work.new.self in
-    λ from to from_is to_is.
-    let ext = c.extend.ensures from to from_is to_is in
+    let r = c.requires.range open_still in
+    let ext = c.extend.ensures r.0 r.1 r.2 r.3 in
     let only = rw ext at c.in-Ok.ensures.same in
     let is = rw (only.given, only.text) at c.tells-in-Ok.ensures.text in
-    is-pushed given (i.step m given) (i.holds m given) (i.cost m given) (i.reserve m given) (i.starts m)
-    (record { consumes = met.consumes_once m given; ends = met.ends_when_read m given; keeps = met.invariant_kept m given; pays = met.cost_pays m given })
-    old u from to c.args.state c.in-Ok.answer is open_still only (rw ext at c.in-Ok.ensures.leads) c.in-Ok.ensures.stops c.tells-in-Ok.ensures
+    is-pushed old (i.rules m given) (record { consumes = met.consumes_once m given; ends = met.ends_when_read m given; keeps = met.invariant_kept m given; pays = met.cost_pays m given })
+    u c.args.from c.args.to r.0 r.1 c.args.state c.in-Ok.answer is open_still (λ f q f_is q_is. c.in-Ok.ensures.same.text ∙ ap (λ t. t.text) (c.extend.ensures f q f_is q_is))
+    only (rw ext at c.in-Ok.ensures.leads) c.in-Ok.ensures.stops c.tells-in-Ok.ensures

@@ -8,7 +8,7 @@ use Rattle.markdown.proofs.tokenizer.Tokenizer.work.Given.{Over}
 use Rattle.markdown.proofs.tokenizer.Tokenizer.work.Goals as goal
 
 -- the machine's laws
-laws_of : (g : Over) (m : g.row.M.Denot) (given : Given) → Laws given (g.M.Machine.step m given) (g.M.Machine.holds m given) (g.M.Machine.cost m given) (g.M.Machine.reserve m given) (g.M.Machine.starts m)
+laws_of : (g : Over) (m : g.row.M.Denot) (given : Given) → Laws given (g.M.Machine.rules m given)
 laws_of g m given = let met = g.met.M.Machine in
     record { consumes = met.consumes_once m given; ends = met.ends_when_read m given; keeps = met.invariant_kept m given; pays = met.cost_pays m given }
 
@@ -21,10 +21,10 @@ returns-in-None-clause-leads g c =
     let is = c.requires.text in
     let e = settled_all before.configuration before.choices c.loop-name.state in
     let mid = settled_to before e in
-    let k1 = kept-settled i.step i.holds i.cost i.reserve m given c.args.flush start before mid c.args.state c.loop-name.state e.answer
+    let k1 = kept-settled i.rules m given c.args.flush start before mid c.args.state c.loop-name.state e.answer
     (text-worked given start before is k0.same) (sym k0.same.machine) (sym k0.same.given) k0 (settled-only before e) (settled-end before.configuration before.choices c.loop-name.state)
-    (leads-for-settled i.step i.holds i.cost i.reserve before.machine before.given (i.starts before.machine) (laws_of g before.machine before.given) before c.loop-name.state) in
-    (kept-ended i.step i.holds i.cost i.reserve m given c.args.flush start mid c.take_up.new.self c.args.state e.answer c.take_up.new.state c.in-None.ensures k1).leads
+    (leads-for-settled i.rules before.machine before.given (laws_of g before.machine before.given) before c.loop-name.state) in
+    (kept-ended i.rules m given c.args.flush start mid c.take_up.new.self c.args.state e.answer c.take_up.new.state c.in-None.ensures k1).leads
 
 pub returns-in-None-clause-same : goal.returns-in-None-clause-same
 returns-in-None-clause-same g c =
@@ -35,10 +35,10 @@ returns-in-None-clause-same g c =
     let is = c.requires.text in
     let e = settled_all before.configuration before.choices c.loop-name.state in
     let mid = settled_to before e in
-    let k1 = kept-settled i.step i.holds i.cost i.reserve m given c.args.flush start before mid c.args.state c.loop-name.state e.answer
+    let k1 = kept-settled i.rules m given c.args.flush start before mid c.args.state c.loop-name.state e.answer
     (text-worked given start before is k0.same) (sym k0.same.machine) (sym k0.same.given) k0 (settled-only before e) (settled-end before.configuration before.choices c.loop-name.state)
-    (leads-for-settled i.step i.holds i.cost i.reserve before.machine before.given (i.starts before.machine) (laws_of g before.machine before.given) before c.loop-name.state) in
-    (kept-ended i.step i.holds i.cost i.reserve m given c.args.flush start mid c.take_up.new.self c.args.state e.answer c.take_up.new.state c.in-None.ensures k1).same
+    (leads-for-settled i.rules before.machine before.given (laws_of g before.machine before.given) before c.loop-name.state) in
+    (kept-ended i.rules m given c.args.flush start mid c.take_up.new.self c.args.state e.answer c.take_up.new.state c.in-None.ensures k1).same
 
 pub returns-in-None-clause-stops : goal.returns-in-None-clause-stops
 returns-in-None-clause-stops g c =
@@ -52,9 +52,9 @@ take_up-requires-clause-ends g c =
     let start = c.args.self.now in let m = start.machine in let given = start.given in
     let before = c.loop-name.self in
     let k0 = c.loop-name.invariant in
-    settled-closes i.step i.holds i.cost i.reserve before.machine before.given (i.starts before.machine) (laws_of g before.machine before.given) before c.loop-name.state
+    settled-closes i.rules before.machine before.given (laws_of g before.machine before.given) before c.loop-name.state
     (subst (λ (q : Given). IsText q before.text) (sym k0.same.given) (text-worked given start before c.requires.text k0.same))
-    (kept-holds i.step i.holds i.cost i.reserve m given c.args.flush start before c.args.state c.loop-name.state (sym k0.same.machine) (sym k0.same.given) k0)
+    (kept-holds i.rules m given c.args.flush start before c.args.state c.loop-name.state (sym k0.same.machine) (sym k0.same.given) k0)
 
 pub once-requires-clause-waits : goal.once-requires-clause-waits
 once-requires-clause-waits g c =
@@ -65,13 +65,13 @@ once-requires-clause-waits g c =
     let is = c.requires.text in
     let e = settled_all before.configuration before.choices c.loop-name.state in
     let mid = settled_to before e in
-    let k1 = kept-settled i.step i.holds i.cost i.reserve m given c.args.flush start before mid c.args.state c.loop-name.state e.answer
+    let k1 = kept-settled i.rules m given c.args.flush start before mid c.args.state c.loop-name.state e.answer
     (text-worked given start before is k0.same) (sym k0.same.machine) (sym k0.same.given) k0 (settled-only before e) (settled-end before.configuration before.choices c.loop-name.state)
-    (leads-for-settled i.step i.holds i.cost i.reserve before.machine before.given (i.starts before.machine) (laws_of g before.machine before.given) before c.loop-name.state) in
+    (leads-for-settled i.rules before.machine before.given (laws_of g before.machine before.given) before c.loop-name.state) in
     let taken = c.take_up.new.self in
-    let k2 = kept-taken given (i.step m given) (i.holds m given) (i.cost m given) (i.reserve m given) (i.starts m) (laws_of g m given) c.args.flush start mid taken c.args.state e.answer c.in-Some.name
+    let k2 = kept-taken given (i.rules m given) (laws_of g m given) c.args.flush start mid taken c.args.state e.answer c.in-Some.name
     (text-worked given start mid is k1.same) c.in-Some.ensures k1 in
-    let now = kept-holds i.step i.holds i.cost i.reserve m given c.args.flush start taken c.args.state (Retry c.in-Some.name) (sym k2.same.machine) (sym k2.same.given) k2 in
+    let now = kept-holds i.rules m given c.args.flush start taken c.args.state (Retry c.in-Some.name) (sym k2.same.machine) (sym k2.same.given) k2 in
     (g.met.M.Machine.invariant_kept taken.machine taken.given).waits taken.text taken.configuration taken.choices c.in-Some.name c.tells.ensures.text now
 
 pub once-requires-clause-holds : goal.once-requires-clause-holds
@@ -83,13 +83,13 @@ once-requires-clause-holds g c =
     let is = c.requires.text in
     let e = settled_all before.configuration before.choices c.loop-name.state in
     let mid = settled_to before e in
-    let k1 = kept-settled i.step i.holds i.cost i.reserve m given c.args.flush start before mid c.args.state c.loop-name.state e.answer
+    let k1 = kept-settled i.rules m given c.args.flush start before mid c.args.state c.loop-name.state e.answer
     (text-worked given start before is k0.same) (sym k0.same.machine) (sym k0.same.given) k0 (settled-only before e) (settled-end before.configuration before.choices c.loop-name.state)
-    (leads-for-settled i.step i.holds i.cost i.reserve before.machine before.given (i.starts before.machine) (laws_of g before.machine before.given) before c.loop-name.state) in
+    (leads-for-settled i.rules before.machine before.given (laws_of g before.machine before.given) before c.loop-name.state) in
     let taken = c.take_up.new.self in
-    let k2 = kept-taken given (i.step m given) (i.holds m given) (i.cost m given) (i.reserve m given) (i.starts m) (laws_of g m given) c.args.flush start mid taken c.args.state e.answer c.in-Some.name
+    let k2 = kept-taken given (i.rules m given) (laws_of g m given) c.args.flush start mid taken c.args.state e.answer c.in-Some.name
     (text-worked given start mid is k1.same) c.in-Some.ensures k1 in
-    let now = kept-holds i.step i.holds i.cost i.reserve m given c.args.flush start taken c.args.state (Retry c.in-Some.name) (sym k2.same.machine) (sym k2.same.given) k2 in
+    let now = kept-holds i.rules m given c.args.flush start taken c.args.state (Retry c.in-Some.name) (sym k2.same.machine) (sym k2.same.given) k2 in
     now
 
 pub loop-name-smaller : goal.loop-name-smaller
@@ -101,16 +101,16 @@ loop-name-smaller g c =
     let is = c.requires.text in
     let e = settled_all before.configuration before.choices c.loop-name.state in
     let mid = settled_to before e in
-    let k1 = kept-settled i.step i.holds i.cost i.reserve m given c.args.flush start before mid c.args.state c.loop-name.state e.answer
+    let k1 = kept-settled i.rules m given c.args.flush start before mid c.args.state c.loop-name.state e.answer
     (text-worked given start before is k0.same) (sym k0.same.machine) (sym k0.same.given) k0 (settled-only before e) (settled-end before.configuration before.choices c.loop-name.state)
-    (leads-for-settled i.step i.holds i.cost i.reserve before.machine before.given (i.starts before.machine) (laws_of g before.machine before.given) before c.loop-name.state) in
+    (leads-for-settled i.rules before.machine before.given (laws_of g before.machine before.given) before c.loop-name.state) in
     let taken = c.take_up.new.self in
-    let k2 = kept-taken given (i.step m given) (i.holds m given) (i.cost m given) (i.reserve m given) (i.starts m) (laws_of g m given) c.args.flush start mid taken c.args.state e.answer c.in-Some.name
+    let k2 = kept-taken given (i.rules m given) (laws_of g m given) c.args.flush start mid taken c.args.state e.answer c.in-Some.name
     (text-worked given start mid is k1.same) c.in-Some.ensures k1 in
-    let k3 = kept-turn i.step i.holds i.cost i.reserve m given (i.starts m) (laws_of g m given) c.args.flush start taken c.once.new.self c.args.state c.in_ok-state.state c.in-Some.name
+    let k3 = kept-turn i.rules m given (laws_of g m given) c.args.flush start taken c.once.new.self c.args.state c.in_ok-state.state c.in-Some.name
     (text-worked given start taken is k2.same) (sym k2.same.machine) (sym k2.same.given) c.tells.ensures c.in_ok-state.ensures k2 in
-    smaller (budget (i.cost m given) (i.reserve m given) start.text start c.args.state) before.calls c.once.new.self.calls
-    (kept-calls i.step i.holds i.cost i.reserve m given c.args.flush start c.once.new.self c.args.state c.in_ok-state.state k3)
+    smaller (budget (i.rules m given) start.text start c.args.state) before.calls c.once.new.self.calls
+    (kept-calls i.rules m given c.args.flush start c.once.new.self c.args.state c.in_ok-state.state k3)
     (ap (λ t. t.calls) c.in_ok-state.ensures.became ∙ ap (λ (n : ℕ). n + 1) (taken-calls c.args.flush mid taken e.answer c.in-Some.name c.in-Some.ensures))
 
 pub loop-name-preserved : goal.loop-name-preserved
@@ -122,12 +122,12 @@ loop-name-preserved g c =
     let is = c.requires.text in
     let e = settled_all before.configuration before.choices c.loop-name.state in
     let mid = settled_to before e in
-    let k1 = kept-settled i.step i.holds i.cost i.reserve m given c.args.flush start before mid c.args.state c.loop-name.state e.answer
+    let k1 = kept-settled i.rules m given c.args.flush start before mid c.args.state c.loop-name.state e.answer
     (text-worked given start before is k0.same) (sym k0.same.machine) (sym k0.same.given) k0 (settled-only before e) (settled-end before.configuration before.choices c.loop-name.state)
-    (leads-for-settled i.step i.holds i.cost i.reserve before.machine before.given (i.starts before.machine) (laws_of g before.machine before.given) before c.loop-name.state) in
+    (leads-for-settled i.rules before.machine before.given (laws_of g before.machine before.given) before c.loop-name.state) in
     let taken = c.take_up.new.self in
-    let k2 = kept-taken given (i.step m given) (i.holds m given) (i.cost m given) (i.reserve m given) (i.starts m) (laws_of g m given) c.args.flush start mid taken c.args.state e.answer c.in-Some.name
+    let k2 = kept-taken given (i.rules m given) (laws_of g m given) c.args.flush start mid taken c.args.state e.answer c.in-Some.name
     (text-worked given start mid is k1.same) c.in-Some.ensures k1 in
-    let k3 = kept-turn i.step i.holds i.cost i.reserve m given (i.starts m) (laws_of g m given) c.args.flush start taken c.once.new.self c.args.state c.in_ok-state.state c.in-Some.name
+    let k3 = kept-turn i.rules m given (laws_of g m given) c.args.flush start taken c.once.new.self c.args.state c.in_ok-state.state c.in-Some.name
     (text-worked given start taken is k2.same) (sym k2.same.machine) (sym k2.same.given) c.tells.ensures c.in_ok-state.ensures k2 in
     k3
