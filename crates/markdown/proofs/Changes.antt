@@ -1,6 +1,6 @@
 -- Each call that changes a text, the events or the choices of a tokenizer keeps what holds of its fields.
 use Rattle.std.proofs.Common.{◌≡◌, ℕ, zero, suc, ◌-◌, ◌≤◌, ◌⊎◌, inl, inr, ◌<◌, List, [], ◌∷◌, ◌++◌, Bool, true, false, cond, Option, Some, None, length, refl, sym, ap, ◌∙◌, subst, arith, length-append, take, length-take}
-use Rattle.std.specs.Prelude.{map, reverse, IfSome, All, unwrap_or}
+use Rattle.std.specs.Prelude.{map, option_map, option_and_then, reverse, IfSome, All, unwrap_or}
 use Rattle.std.specs.List.{last_or}
 use Rattle.std.specs.Global.{Vec}
 use Rattle.std.proofs.lemmas.List.{take-append-le, take-take, reverse-append, take_all}
@@ -35,8 +35,8 @@ use Rattle.markdown.proofs.Cursors.{upto-order, upto-upto, same-upto}
 use Rattle.markdown.proofs.Points.{point_at-point, point_at-is}
 use Rattle.markdown.specs.Made.{IsMade}
 use Rattle.markdown.proofs.MadeLemmas.{made-new, made-bound, made-enter-at, made-exit-at, made-linked, made-kept, upto-self as upto-self-point}
-use Rattle.markdown_base.specs.Events.{unlinked, HasFrontUpToLinks}
-use Rattle.markdown.specs.Links.{linked_to, updated_at, with_next, with_previous}
+use Rattle.markdown_base.specs.Events.{with_ends, unlinked, HasFrontUpToLinkEnds}
+use Rattle.markdown.specs.Links.{linked_to, updated_at, next_set, previous_set, with_next, with_previous}
 use Rattle.std.proofs.lemmas.List.{length-map}
 use Rattle.markdown.proofs.Fields.{four, text_between, next-more, kept-empty, passed-seats, passed-position, passed-skips, read-passed, passed-shown, passed-resumed, still-before, read-extended, extended-seats, extended-skips, extended-more, made-more, can-feed-more, nested-map, nested-wider}
 use Rattle.markdown.specs.Sight.{sight}
@@ -490,9 +490,23 @@ updated-unlinked i f same [] = refl
 updated-unlinked zero f same (e ∷ es) = ap (λ (x : Event). x ∷ map unlinked es) (same e)
 updated-unlinked (suc i) f same (e ∷ es) = ap (λ (xs : List Event). unlinked e ∷ xs) (updated-unlinked i f same es)
 
+no-end : (o : Option ℕ) → option_and_then {T = ℕ} {U = ℕ} (λ k. None) o ≡ None
+no-end None = refl
+no-end (Some k) = refl
+
+-- what is set in a link's ends is taken away with them
+no-ends : (l : Link) → with_ends (λ k. None) l ≡ record l { previous = None; next = None }
+no-ends l = rw (no-end l.previous, no-end l.next) refl
+
+ends-dropped : (f : Link → Link) → ((l : Link) → (f l).content ≡ l.content) → (e : Event) (o : Option Link) → e.link ≡ o
+    → unlinked (record e { link = option_map f e.link }) ≡ unlinked e
+ends-dropped f same e None is = rw is refl
+ends-dropped f same e (Some l) is = rw (is, no-ends (f l), no-ends l, same l) refl
+
 pub linked-unlinked : (previous next : ℕ) (events : List Event) → map unlinked (linked_to previous next events) ≡ map unlinked events
 linked-unlinked previous next events =
-    updated-unlinked next (with_previous previous) (λ e. refl) (updated_at previous (with_next next) events) ∙ updated-unlinked previous (with_next next) (λ e. refl) events
+    updated-unlinked next (with_previous previous) (λ e. ends-dropped (previous_set previous) (λ l. refl) e e.link refl) (updated_at previous (with_next next) events)
+    ∙ updated-unlinked previous (with_next next) (λ e. ends-dropped (next_set next) (λ l. refl) e e.link refl) events
 
 module _ {M R D : Type 0} (t : Inside M R D) (sound : IsSound t) (previous next : ℕ) (events : List Event) (is : events ≡ linked_to previous next t.events.items) where
   events-unlinked : map unlinked events ≡ map unlinked t.events.items
@@ -505,7 +519,7 @@ module _ {M R D : Type 0} (t : Inside M R D) (sound : IsSound t) (previous next 
   linked-made = made-linked t.events.items events (sym events-unlinked) t.parse_state.now.bytes.now t.stack.items (shown t.parse_state.now.bytes.now t.left)
       (shown t.parse_state.now.bytes.now (standing t.skips.items t.left t.waits)) sound.made
 
-  front-kept : HasFrontUpToLinks events t.events.items
+  front-kept : HasFrontUpToLinkEnds events t.events.items
   front-kept = ap (λ (xs : List Event). map unlinked xs) (take_all (length t.events.items) events (omega (arith, same-length))) ∙ events-unlinked
 
   pub linked-marks : AreNested (IsProgress t.parse_state.now.bytes.now t.skips.items (text_of t) events t.stack.items t.closed) (length events) (length t.stack.items) (reverse t.marks.items)

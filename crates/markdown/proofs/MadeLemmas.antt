@@ -13,7 +13,7 @@ use Rattle.markdown_base.specs.declared.event.Kind.TheVariants.{Enter, Exit}
 use Rattle.markdown_base.specs.declared.event.Link.{Link}
 use Rattle.markdown_base.specs.declared.event.Name.{Name}
 use Rattle.markdown_base.specs.declared.event.Point.{Point}
-use Rattle.markdown_base.specs.Events.{IsBalanced, empty, span, is_void, open_after, open_events, open_events_from, same_name, unlinked, HasFrontUpToLinks, IsInOrder, IsVoidTight}
+use Rattle.markdown_base.specs.Events.{IsBalanced, empty, span, is_void, open_after, open_events, open_events_from, same_name, unlinked, HasFrontUpToLinkEnds, IsInOrder, IsVoidTight}
 use Rattle.markdown_base.specs.Places.{stands_before, follows_cr, shown, IsShown}
 use Rattle.markdown.specs.OpenNames.{names_after, names_after_all}
 use Rattle.markdown.proofs.Balanced.{names_after_all-append, same_name-refl, balanced_from_open, none_is_not_some}
@@ -409,7 +409,7 @@ module _ (xs ys : List Event) (same : map unlinked xs ≡ map unlinked ys) where
   }
 
 -- what was made of a front stays, where events are added and links are changed
-pub made-kept : (bytes : List ℕ) (old new : List Event) (n : ℕ) (stack : List Name) (left bound : Point) → n ≤ length old → HasFrontUpToLinks new old
+pub made-kept : (bytes : List ℕ) (old new : List Event) (n : ℕ) (stack : List Name) (left bound : Point) → n ≤ length old → HasFrontUpToLinkEnds new old
     → IsMade bytes (take n old) stack left bound → IsMade bytes (take n new) stack left bound
 made-kept bytes old new n stack left bound le front m =
     made-linked (take n old) (take n new)

@@ -37,13 +37,13 @@ EachEnd P l = IfSome l.previous P × IfSome l.next P
 abbrev pub EndsBelow : ℕ → Event → Type 0
 EndsBelow n e = IfSome e.link (EachEnd (λ k. k < n))
 
--- the event without its link
+-- the event with each end of its link taken away: whether there is a link, and what its chain is read as, stay
 abbrev pub unlinked : Event → Event
-unlinked e = record e { link = None }
+unlinked e = relinked (λ k. None) e
 
--- the new list begins with the old one, up to links
-abbrev pub HasFrontUpToLinks : List Event → List Event → Type 0
-HasFrontUpToLinks new old = map unlinked (take (length old) new) ≡ map unlinked old
+-- the longer list begins with the shorter one, up to link ends
+abbrev pub HasFrontUpToLinkEnds : (longer shorter : List Event) → Type 0
+HasFrontUpToLinkEnds longer shorter = map unlinked (take (length shorter) longer) ≡ map unlinked shorter
 
 -- a list is balanced: it is empty, or an enter of a name, a balanced list, an exit of that name, and a balanced list
 pub data IsBalanced : List Event → Type 0 where
