@@ -10,16 +10,21 @@ use Rattle.markdown_base.specs.declared.event.Kind.{Kind}
 use Rattle.markdown_base.specs.declared.event.Kind.TheVariants.{Enter, Exit}
 use Rattle.markdown_base.specs.declared.event.Link.{Link}
 use Rattle.markdown_base.specs.declared.event.Name.{Name}
-use Rattle.markdown_base.specs.declared.event.TheConstants.{VOID_EVENTS}
 use Rattle.markdown_base.specs.Places.{stands_before, IsShown}
+use Rattle.markdown_base.specs.VoidNames.{void_names}
 
 -- whether two names are one
 abbrev pub same_name : Name → Name → Bool
 same_name a b = sameb the_type a b
 
--- whether a name is one of the void names: spans of these hold no other event
+-- whether a name is one of the void names: spans of these hold no other event (the crate's comment on void events)
 abbrev pub is_void : Name → Bool
-is_void n = list_any (λ v. same_name v n) VOID_EVENTS
+is_void n = list_any (λ v. same_name v n) void_names
+
+-- whether this begins a span
+abbrev pub is_enter : Kind → Bool
+is_enter Enter = true
+is_enter Exit = false
 
 -- the link with each of its ends changed by f
 abbrev pub with_ends : (ℕ → Option ℕ) → Link → Link

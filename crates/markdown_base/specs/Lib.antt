@@ -8,5 +8,8 @@ pub mod Places
 pub mod Presets
 pub mod Shown
 pub mod Slices
+pub mod StateNames
 pub mod States
+pub mod Texts
 pub mod Virtual
+pub mod VoidNames

@@ -4,10 +4,12 @@
 //! and spans nest. Events of one kind of content are joined by links, so that a later pass reads them as
 //! one text.
 
-ghost use Rattle.std.specs.Prelude.{◌≡◌, ◌<◌, ◌≤◌, ◌+◌, ◌*◌, ◌^◌, length, Some};
+ghost use Rattle.std.specs.Prelude.{◌≡◌, ◌<◌, ◌≤◌, ◌+◌, ◌-◌, ◌*◌, ◌%◌, ◌^◌, ℕ, length, Some};
 ghost use Rattle.markdown_base.specs.EventNames.{text_of};
 ghost use Rattle.markdown_base.specs.Lines.{HasNoLineEnding};
 ghost use Rattle.markdown_base.specs.Places.{IsPointOf, point_at};
+ghost use Rattle.markdown_base.specs.Virtual.{tab_width};
+ghost use Rattle.markdown_base.specs.VoidNames.{void_names};
 
 use crate::unist;
 use crate::util::constant::TAB_SIZE;
@@ -368,6 +370,13 @@ pub const VOID_EVENTS: [Name; 60] = [
     Name::ThematicBreakSequence,
 ];
 
+/// [`VOID_EVENTS`] is the list of the void names, in its order.
+///
+/// A law: it does nothing.
+pub fn void_events_are_stated()
+    ensures { VOID_EVENTS ≡ void_names }
+{}
+
 impl Name {
     /// The name as it is written in this enum.
     pub fn as_str(&self) -> &'static str
@@ -603,6 +612,15 @@ impl Point {
         }
     }
 }
+
+/// A tab at a column reaches the next tab stop: the place after it is one, and it is from one to `t` columns wide.
+///
+/// A law: it does nothing. Tab stops stand at every `t` columns, from the first on.
+pub fn tabs_reach_stops()
+    ensures stop { (t column : ℕ) → 0 < t → 1 ≤ column → (column + tab_width t column - 1) % t ≡ 0 }
+    ensures some { (t column : ℕ) → 0 < t → 1 ≤ column → 1 ≤ tab_width t column }
+    ensures most { (t column : ℕ) → 0 < t → 1 ≤ column → tab_width t column ≤ t }
+{}
 
 /// The start or the end of a span.
 #[derive(Clone, Copy, Debug, PartialEq, Eq)]
