@@ -5,13 +5,14 @@ use Rattle.std.specs.List.{last_or}
 use Rattle.std.specs.Fmt.{digits, padded_integral, format_spec, char_count, digits_output, styled_digits_output, option_append}
 use Rattle.markdown_base.specs.CharTexts.{code_point}
 use Rattle.std.proofs.lemmas.Str.{IsCharBoundary-start, IsUtf8-between, IsUtf8-take, chars-append, chars-nil, encodes-chars, IsCharBoundary-after_ascii}
+use Rattle.std.proofs.lemmas.Bool.{false≢true}
 use Rattle.std.specs.Str.{encode_utf8_all, chars}
 use Rattle.std.proofs.Math.Seq.{take-add, drop-length}
 use native.Mathlib.Numerals.{unary_clauses}
 use Rattle.std.proofs.lemmas.List.{take-append-drop, drop-drop, length-take, length-drop, append-nil}
-use Rattle.markdown_base.specs.Classes.{char_before, char_after, class_of, class_of_opt}
-use Rattle.std.specs.Char.{is_ascii_whitespace, is_whitespace, is_ascii_punctuation, is_ascii_alphanumeric}
-use Rattle.markdown_base.specs.declared.util.char.Kind.TheVariants.{Whitespace, Punctuation, Other}
+use Rattle.markdown_base.specs.Classes.{char_before, char_after, IsClassOfOpt}
+use Rattle.std.specs.Char.{is_ascii_whitespace, is_whitespace, is_ascii_punctuation}
+use Rattle.markdown_base.specs.declared.util.char.Kind.TheVariants.{Whitespace, Punctuation}
 
 -- a byte that goes on with a character is not the first
 pub some_before : (bs : List ℕ) (i : ℕ) → IsUtf8 bs → i < length bs → 128 ≤ get_or bs i 0 → get_or bs i 0 < 192 → 1 ≤ i
@@ -111,27 +112,27 @@ visible_is_not_white b low high = search (rules, tests)
 punctuation_is_visible : (b : ℕ) → is_ascii_punctuation b ≡ true → (33 ≤ b) × (b < 128)
 punctuation_is_visible b is = search (rules, tests)
 
-alphanumeric_is_visible : (b : ℕ) → is_ascii_alphanumeric b ≡ true → (33 ≤ b) × (b < 128) × (is_ascii_punctuation b ≡ false)
-alphanumeric_is_visible b is = search (rules, tests)
-
 -- the classes that need no predicate
-module _ (p : ℕ → Bool) (bs : List ℕ) (i b : ℕ) (text : IsUtf8 bs) (starts : IsCharBoundary bs i) (within : i < length bs) (is : b ≡ get_or bs i 0) where
-  ascii_here : b < 128 → class_of_opt p (char_after bs i) ≡ class_of p b
-  ascii_here small =
-      let here = char_after_ascii bs i text starts within (subst (λ n. n < 128) is small) in
-      rw (here, ← is) refl
+module _ (answers : ℕ → Bool → Type 0) (bs : List ℕ) (i b : ℕ) (text : IsUtf8 bs) (starts : IsCharBoundary bs i) (within : i < length bs) (is : b ≡ get_or bs i 0) where
+  ascii_here : b < 128 → char_after bs i ≡ Some b
+  ascii_here small = char_after_ascii bs i text starts within (subst (λ n. n < 128) is small) ∙ ap (λ c. Some c) (sym is)
 
-  pub class_of_white : is_ascii_whitespace b ≡ true → Whitespace ≡ class_of_opt p (char_after bs i)
+  pub class_of_white : is_ascii_whitespace b ≡ true → IsClassOfOpt answers (char_after bs i) Whitespace
   class_of_white white =
       let small : b < 128 = search (rules, tests) in
-      rw (ascii_here small, white_is_white b white) refl
+      let here = white_is_white b white in
+      rw (ascii_here small) (record {
+        white_space = λ w. refl;
+        ascii = λ visible. absurd (false≢true (sym visible ∙ here));
+        other = λ visible. absurd (false≢true (sym visible ∙ here));
+      })
 
-  pub class_of_punctuation : is_ascii_punctuation b ≡ true → Punctuation ≡ class_of_opt p (char_after bs i)
+  pub class_of_punctuation : is_ascii_punctuation b ≡ true → IsClassOfOpt answers (char_after bs i) Punctuation
   class_of_punctuation punctuation =
       let visible = punctuation_is_visible b punctuation in
-      rw (ascii_here visible.1, visible_is_not_white b visible.0 visible.1, punctuation) refl
-
-  pub class_of_alphanumeric : is_ascii_alphanumeric b ≡ true → p b ≡ false → Other ≡ class_of_opt p (char_after bs i)
-  class_of_alphanumeric alphanumeric fails =
-      let visible = alphanumeric_is_visible b alphanumeric in
-      rw (ascii_here visible.1, visible_is_not_white b visible.0 visible.1, visible.2, fails) refl
+      let here = visible_is_not_white b visible.0 visible.1 in
+      rw (ascii_here visible.1) (record {
+        white_space = λ white. absurd (false≢true (sym here ∙ white));
+        ascii = λ w p. refl;
+        other = λ w none. absurd (false≢true (sym none ∙ punctuation));
+      })

@@ -1,7 +1,7 @@
 -- Which character stands at an index of a text's bytes, and classes of characters.
-use Rattle.std.specs.Prelude.{◌≡◌, ℕ, Bool, true, false, ◌||◌, List, take, drop, slice_get, Option, Some, None, chars, if◌then◌else◌}
+use Rattle.std.specs.Prelude.{◌≡◌, ℕ, Bool, true, false, cond, List, take, drop, slice_get, Option, Some, None, chars}
 use Rattle.std.specs.List.{last_or}
-use Rattle.std.specs.Char.{IsScalar, is_whitespace, is_ascii_punctuation, is_ascii_alphanumeric}
+use Rattle.std.specs.Char.{is_whitespace, is_ascii_punctuation}
 use Rattle.markdown_base.specs.declared.util.char.Kind.{Kind}
 use Rattle.markdown_base.specs.declared.util.char.Kind.TheVariants.{Whitespace, Punctuation, Other}
 
@@ -13,16 +13,14 @@ char_before bytes index = last_or None (chars (take index bytes))
 abbrev pub char_after : List ℕ → ℕ → Option ℕ
 char_after bytes index = slice_get (chars (drop index bytes)) 0
 
--- p is what a predicate answers, and is false of ASCII letters and digits
-abbrev pub IsPunctuationTest : (ℕ → Bool → Type 0) → (ℕ → Bool) → Type 0
-IsPunctuationTest answers p = ((c : ℕ) (answer : Bool) → IsScalar c → answers c answer → answer ≡ p c) × ((c : ℕ) → is_ascii_alphanumeric c ≡ true → p c ≡ false)
-
--- the class of a character: Unicode's white space; else ASCII punctuation, and what the predicate holds of; else other
--- (CommonMark, "Unicode whitespace character" and "Unicode punctuation character")
-abbrev pub class_of : (ℕ → Bool) → ℕ → Kind
-class_of p c = if is_whitespace c then Whitespace else (if is_ascii_punctuation c || p c then Punctuation else Other)
+-- a class is that of a character, where a predicate answers by this relation: Unicode's white space is white space; else ASCII punctuation is
+-- punctuation; else the predicate answers, true for punctuation (CommonMark, "Unicode whitespace character" and "Unicode punctuation character")
+pub record IsClassOf (answers : ℕ → Bool → Type 0) (c : ℕ) (kind : Kind) : Type 0 where
+  pub white_space : is_whitespace c ≡ true → kind ≡ Whitespace
+  pub ascii : is_whitespace c ≡ false → is_ascii_punctuation c ≡ true → kind ≡ Punctuation
+  pub other : is_whitespace c ≡ false → is_ascii_punctuation c ≡ false → (answer : Bool) × answers c answer × (kind ≡ cond answer Punctuation Other)
 
 -- the same, where the start and the end of a text count as white space (CommonMark, "Emphasis and strong emphasis")
-abbrev pub class_of_opt : (ℕ → Bool) → Option ℕ → Kind
-class_of_opt p None = Whitespace
-class_of_opt p (Some c) = class_of p c
+abbrev pub IsClassOfOpt : (ℕ → Bool → Type 0) → Option ℕ → Kind → Type 0
+IsClassOfOpt answers None kind = kind ≡ Whitespace
+IsClassOfOpt answers (Some c) kind = IsClassOf answers c kind

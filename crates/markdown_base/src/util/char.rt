@@ -1,8 +1,8 @@
 //! Characters: which one stands at an index of a text's bytes, what class it is of, and how to show it.
 
 ghost use Rattle.std.specs.Prelude.{◌≡◌, ◌<◌, ◌≤◌, ℕ, Bool, length, MatchBool, IsUtf8, IsCharBoundary, IfOk, slice_index, string_bytes};
-ghost use Rattle.markdown_base.specs.Classes.{IsPunctuationTest, char_before, char_after, class_of, class_of_opt};
-ghost use Rattle.markdown_base.specs.CharTexts.{code_point, shown, shown_char_opt, shown_byte_opt};
+ghost use Rattle.markdown_base.specs.Classes.{char_before, char_after, IsClassOf, IsClassOfOpt};
+ghost use Rattle.markdown_base.specs.CharTexts.{code_point, shown_char, shown_char_opt, shown_byte_opt};
 
 use std::alloc::{AllocError, Global};
 
@@ -51,28 +51,27 @@ pub fn after_index(bytes: &[u8], index: usize) -> Option<char>
 
 /// The class of the character that begins at an index into the bytes of a text.
 ///
-/// `punctuation` tells which characters past ASCII are punctuation. It is false of ASCII letters and digits.
+/// `punctuation` tells which other characters are punctuation. It has to be false of ASCII letters and digits, which are none.
 pub fn kind_after_index<P: Fn(char) -> bool>(bytes: &[u8], index: usize, punctuation: &P) -> Kind
     requires text { IsUtf8 bytes.now }
     requires boundary { IsCharBoundary bytes.now index }
     requires callable { P.IsAlwaysCallable punctuation.now }
-    ensures class { (p : ℕ → Bool) → IsPunctuationTest (P.post punctuation.now) p → result ≡ class_of_opt p (char_after bytes.now index) }
+    ensures class { IsClassOfOpt (P.post punctuation.now) (char_after bytes.now index) result }
 {
     match bytes.get(index) {
         None => Kind::Whitespace,
         Some(byte) if byte.is_ascii_whitespace() => Kind::Whitespace,
         Some(byte) if byte.is_ascii_punctuation() => Kind::Punctuation,
-        Some(byte) if byte.is_ascii_alphanumeric() => Kind::Other,
         Some(_) => classify_opt(after_index(bytes, index), punctuation),
     }
 }
 
 /// The class of a character: white space, else punctuation, else other.
 ///
-/// `punctuation` tells which characters past ASCII are punctuation. It is false of ASCII letters and digits.
+/// `punctuation` tells which other characters are punctuation. It has to be false of ASCII letters and digits, which are none.
 pub fn classify<P: Fn(char) -> bool>(char: char, punctuation: &P) -> Kind
     requires callable { P.IsAlwaysCallable punctuation.now }
-    ensures class { (p : ℕ → Bool) → IsPunctuationTest (P.post punctuation.now) p → result ≡ class_of p char }
+    ensures class { IsClassOf (P.post punctuation.now) char result }
 {
     if char.is_whitespace() {
         Kind::Whitespace
@@ -85,10 +84,10 @@ pub fn classify<P: Fn(char) -> bool>(char: char, punctuation: &P) -> Kind
 
 /// The class of a character, or of the end of a text, which counts as white space.
 ///
-/// `punctuation` tells which characters past ASCII are punctuation. It is false of ASCII letters and digits.
+/// `punctuation` tells which other characters are punctuation. It has to be false of ASCII letters and digits, which are none.
 pub fn classify_opt<P: Fn(char) -> bool>(char: Option<char>, punctuation: &P) -> Kind
     requires callable { P.IsAlwaysCallable punctuation.now }
-    ensures class { (p : ℕ → Bool) → IsPunctuationTest (P.post punctuation.now) p → result ≡ class_of_opt p char }
+    ensures class { IsClassOfOpt (P.post punctuation.now) char result }
 {
     match char {
         None => Kind::Whitespace,
@@ -100,7 +99,7 @@ pub fn classify_opt<P: Fn(char) -> bool>(char: Option<char>, punctuation: &P) ->
 ///
 /// `AllocError` where memory is refused.
 pub fn format(alloc: Global, char: char) -> Result<String, AllocError>
-    ensures shown { IfOk result (λ text. string_bytes text ≡ shown char) }
+    ensures shown { IfOk result (λ text. string_bytes text ≡ shown_char char) }
 {
     let code = code_point(alloc, char as u32)?;
     match char {
@@ -129,7 +128,7 @@ pub fn format_opt(alloc: Global, char: Option<char>) -> Result<String, AllocErro
 ///
 /// `AllocError` where memory is refused.
 pub fn format_byte(alloc: Global, byte: u8) -> Result<String, AllocError>
-    ensures shown { IfOk result (λ text. string_bytes text ≡ shown byte) }
+    ensures shown { IfOk result (λ text. string_bytes text ≡ shown_char byte) }
 {
     format(alloc, char::from(byte))
 }
