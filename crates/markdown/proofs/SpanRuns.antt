@@ -7,7 +7,8 @@ use Rattle.markdown_base.specs.declared.event.Kind.TheVariants.{Enter, Exit}
 use Rattle.markdown_base.specs.declared.event.Name.{Name}
 use Rattle.markdown_base.specs.Events.{IsBalanced, empty, span}
 use Rattle.markdown.specs.SpanWalks.{IsSpan, IsRun, no_span, one_more, is_wanted, IsLongestRunFrom}
-use Rattle.markdown.specs.SpanWalksInner.{run_len, is_stop, is_enter, depth_after}
+use Rattle.markdown_base.specs.Events.{is_enter}
+use Rattle.markdown.specs.SpanWalksInner.{run_len, is_stop, depth_after}
 use Rattle.markdown.specs.OpenNames.{names_after_all}
 use Rattle.markdown.proofs.Balanced.{Closes, all_closed, closing, closes_from_open, names_after_all-append, names_after_balanced, none_is_not_some}
 

@@ -4,12 +4,8 @@ use Rattle.markdown_base.specs.declared.event.Event.{Event}
 use Rattle.markdown_base.specs.declared.event.Kind.{Kind}
 use Rattle.markdown_base.specs.declared.event.Kind.TheVariants.{Enter, Exit}
 use Rattle.markdown_base.specs.declared.event.Name.{Name}
+use Rattle.markdown_base.specs.Events.{is_enter}
 use Rattle.markdown.specs.SpanWalks.{is_wanted}
-
--- whether this begins a span
-abbrev pub is_enter : Kind → Bool
-is_enter Enter = true
-is_enter Exit = false
 
 -- in how many spans a walk is after an event
 abbrev pub depth_after : Kind → ℕ → ℕ

@@ -3,6 +3,7 @@ use Rattle.std.specs.Prelude.{◌≡◌, ℕ, ◌&&◌, not, Bool, true, cond, L
 use Rattle.markdown_base.specs.declared.event.Point.{Point}
 use Rattle.markdown_base.specs.declared.configuration.ParseOptions.{ParseOptions}
 use Rattle.markdown_base.specs.Virtual.{Seat, virtual}
+pub use Rattle.markdown_base.specs.Places.{in_range}
 use Rattle.markdown_base.specs.Places.{stands_before, is_upto, denotes_same, IsPointOf}
 
 -- What a machine may read at any time: the document's bytes, the options, and at how many columns tab stops stand
@@ -20,10 +21,6 @@ pub record Text : Type 0 where
 -- nothing was pushed yet
 abbrev pub empty_text : Point → Text
 empty_text p = record { start = p; seats = []; end = p }
-
--- a virtual byte stands in a range: not before its first place, and before its end
-abbrev pub in_range : Point → Point → Seat → Bool
-in_range from to s = not (stands_before s.point from) && stands_before s.point to
 
 -- A range of the document, from a place to before another; or a gap, which is passed up to a place and never read
 pub data Piece : Type 0 where

@@ -8,8 +8,9 @@ use Rattle.std.proofs.lemmas.List.Elements.{filter-append}
 use Rattle.std.proofs.lemmas.List.{append-nil}
 use Rattle.markdown_base.specs.declared.event.Point.{Point}
 use Rattle.markdown_base.specs.Virtual.{Seat, point, tab_width, end_in_tab, in_tab, begins_with_lf, virtual_from, virtual}
-use Rattle.markdown_base.specs.Places.{stands_before, IsPointOf}
-use Rattle.markdown_base.specs.Slices.{lies_between, spaces_between, spaces_before, spaces_after, first_byte}
+use Rattle.markdown_base.specs.Places.{stands_before, in_range, IsPointOf}
+use Rattle.markdown_base.specs.Slices.{spaces_between, spaces_before, spaces_after}
+use Rattle.markdown_base.specs.SlicesInner.{first_byte}
 use Rattle.markdown_base.proofs.Scans.{IsReached, IsSeatPlace, IsPlace, IsOfTab, every-append, every-imp, of_tab, place-of, byte_here}
 
 -- what is left of a tab at a column inside it
@@ -123,6 +124,17 @@ not_before p q h = go (cases_lt q.index p.index)
             let same : q.index ≡ p.index = omega arith in
             inr (sym same, ltb-false q.vs p.vs (sym (before_here q p same) ∙ h))
 
+-- the first byte from a place on, and that from a later place on
+pub first_ordered : (p q : Point) → stands_before q p ≡ false → first_byte p ≤ first_byte q
+first_ordered p q ordered = go (nat_lt 0 p.vs) (nat_lt 0 q.vs) refl refl (not_before p q ordered)
+  where
+    go : (x y : Bool) → nat_lt 0 p.vs ≡ x → nat_lt 0 q.vs ≡ y → (p.index < q.index) ⊎ ((p.index ≡ q.index) × (p.vs ≤ q.vs)) → first_byte p ≤ first_byte q
+    go true true ex ey h = rw (ex, ey) (elim h [ inl lt ↦ omega arith | inr same ↦ omega (arith, same.0) ])
+    go true false ex ey (inl lt) = rw (ex, ey) lt
+    go true false ex ey (inr same) = absurd (omega (arith, same.1, ltb-true 0 p.vs ex, ltb-false 0 q.vs ey))
+    go false true ex ey h = rw (ex, ey) (elim h [ inl lt ↦ omega arith | inr same ↦ omega (arith, same.0) ])
+    go false false ex ey h = rw (ex, ey) (elim h [ inl lt ↦ omega arith | inr same ↦ omega (arith, same.0) ])
+
 -- the place of a virtual byte that is no tab byte
 pub cut_place : (t : ℕ) → 0 < t → (bytes : List ℕ) (p : Point) → IsPointOf t bytes p → 0 < p.vs → IsSeatPlace t bytes p
 cut_place t some bytes p is cut = go (place-of t some bytes p is)
@@ -151,7 +163,7 @@ pub spaces-in_one_tab : (t : ℕ) → 0 < t → (bytes : List ℕ) (p q : Point)
 spaces-in_one_tab t some bytes p q is cut same le =
     let place = cut_place t some bytes q is (omega arith) in
     let tab = place.in_tab (omega arith) in
-    let count = tab_count t bytes q.line place.column q.index place.reached tab.0 tab.1 p.vs q.vs (λ s. nat_lt 0 s.point.vs && lies_between p q s)
+    let count = tab_count t bytes q.line place.column q.index place.reached tab.0 tab.1 p.vs q.vs (λ s. nat_lt 0 s.point.vs && in_range p q s)
     (λ s e lt. rw (before_here s.point p (e ∙ sym same), before_here s.point q e) (behind_cut p.vs s.point.vs (nat_lt s.point.vs q.vs) cut)) in
     let P : ℕ → Type 0 = λ i. spaces_between t bytes i p q ≡ q.vs - p.vs in
     rw (lt-ltb 0 p.vs cut) (subst P (sym same) (count ∙ (omega (arith, tab.2))))
@@ -161,7 +173,7 @@ pub spaces-behind_start : (t : ℕ) → 0 < t → (bytes : List ℕ) (p q : Poin
 spaces-behind_start t some bytes p q is cut later =
     let place = cut_place t some bytes p is cut in
     let tab = place.in_tab cut in
-    let count = tab_count t bytes p.line place.column p.index place.reached tab.0 tab.1 p.vs (tab_width t place.column) (λ s. nat_lt 0 s.point.vs && lies_between p q s)
+    let count = tab_count t bytes p.line place.column p.index place.reached tab.0 tab.1 p.vs (tab_width t place.column) (λ s. nat_lt 0 s.point.vs && in_range p q s)
     (λ s e lt. rw (before_here s.point p e, before_later s.point q (omega arith), lt-ltb s.point.vs (tab_width t place.column) lt) (behind_cut p.vs s.point.vs true cut)) in
     let left = tab_left t place.column p.vs some place.reached.first tab.2 in
     rw (lt-ltb 0 p.vs cut) (count ∙ (omega arith) ∙ left ∙ ap (λ c. tab_width t c) (sym place.across))
@@ -171,7 +183,7 @@ pub spaces-before_end : (t : ℕ) → 0 < t → (bytes : List ℕ) (p q : Point)
 spaces-before_end t some bytes p q is cut where_p =
     let place = cut_place t some bytes q is cut in
     let tab = place.in_tab cut in
-    let count = tab_count t bytes q.line place.column q.index place.reached tab.0 tab.1 1 q.vs (λ s. nat_lt 0 s.point.vs && lies_between p q s)
+    let count = tab_count t bytes q.line place.column q.index place.reached tab.0 tab.1 1 q.vs (λ s. nat_lt 0 s.point.vs && in_range p q s)
     (λ s e lt. rw (starts_before s.point e, before_here s.point q e) (ltb-one s.point.vs (nat_lt s.point.vs q.vs))) in
     count ∙ (omega (arith, tab.2))
   where

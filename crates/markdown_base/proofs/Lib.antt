@@ -1,3 +1,4 @@
+pub mod ByteLemmas
 pub mod CharLemmas
 pub mod Cuts
 pub mod LineLemmas

@@ -8,6 +8,7 @@ pub mod Places
 pub mod Presets
 pub mod Shown
 pub mod Slices
+pub mod SlicesInner
 pub mod StateNames
 pub mod States
 pub mod Texts

@@ -5,11 +5,19 @@
 use Rattle.std.specs.Prelude.{◌≡◌, ℕ, zero, suc, ◌-◌, ◌==◌, nat_lt, ◌&&◌, ◌||◌, not, Bool, false, cond, List, [], ◌∷◌, ◌++◌, Option, find, slice_index, Contains}
 use Rattle.std.specs.List.{flat_map, list_all}
 use Rattle.markdown_base.specs.declared.event.Point.{Point}
-use Rattle.markdown_base.specs.Virtual.{virtual, document_end}
+use Rattle.markdown_base.specs.Virtual.{Seat, virtual, document_end}
 
 -- one place is before another: by index, then by number in the tab
 abbrev pub stands_before : Point → Point → Bool
 stands_before p q = nat_lt p.index q.index || ((p.index == q.index) && nat_lt p.vs q.vs)
+
+-- a place does not stand before one place, and does before another
+abbrev pub lies_between : (from to place : Point) → Bool
+lies_between from to place = not (stands_before place from) && stands_before place to
+
+-- the place of a virtual byte lies between two others
+abbrev pub in_range : (from to : Point) → Seat → Bool
+in_range from to s = lies_between from to s.point
 
 -- the byte before this index is a CR
 abbrev pub follows_cr : List ℕ → ℕ → Bool

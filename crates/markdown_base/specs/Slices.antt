@@ -1,32 +1,27 @@
 -- Slices of a document: the bytes between two places, and what lies between of the tabs that the places cut.
-use Rattle.std.specs.Prelude.{ℕ, suc, ◌==◌, ◌&&◌, not, nat_lt, Bool, true, false, List, ◌++◌, length, filter, find, reverse, take, replicate, slice_get, slice_range, Option, option_and_then, if◌then◌else◌}
+use Rattle.std.specs.Prelude.{ℕ, ◌==◌, ◌&&◌, not, nat_lt, Bool, List, ◌++◌, length, filter, find, map, reverse, take, replicate, slice_get, slice_index, Option, option_and_then, if◌then◌else◌}
+use Rattle.std.specs.List.{range_with_len}
 use Rattle.markdown_base.specs.declared.event.Event.{Event}
-use Rattle.markdown_base.specs.declared.event.Kind.{Kind}
-use Rattle.markdown_base.specs.declared.event.Kind.TheVariants.{Enter, Exit}
 use Rattle.markdown_base.specs.declared.event.Point.{Point}
-use Rattle.markdown_base.specs.Events.{same_name}
-use Rattle.markdown_base.specs.Virtual.{Seat, virtual}
-use Rattle.markdown_base.specs.Places.{stands_before}
-
--- a virtual byte does not stand before one place, and does before another
-abbrev pub lies_between : Point → Point → Seat → Bool
-lies_between p q s = not (stands_before s.point p) && stands_before s.point q
+use Rattle.markdown_base.specs.Events.{is_enter, same_name}
+use Rattle.markdown_base.specs.Virtual.{point, virtual}
+use Rattle.markdown_base.specs.Places.{lies_between, in_range}
 
 -- how many virtual bytes between two places belong to the tab at an index; its first is the tab byte, and does not count
 abbrev pub spaces_between : (t : ℕ) → List ℕ → (index : ℕ) → Point → Point → ℕ
-spaces_between t bytes index p q = length (filter (λ s. (s.point.index == index) && (nat_lt 0 s.point.vs && lies_between p q s)) (virtual t bytes))
+spaces_between t bytes index p q = length (filter (λ s. (s.point.index == index) && (nat_lt 0 s.point.vs && in_range p q s)) (virtual t bytes))
 
 -- a place cuts a tab: it stands behind the tab byte
 abbrev pub cuts_tab : Point → Bool
 cuts_tab p = nat_lt 0 p.vs
 
--- the index of the first byte that does not stand before a place
-abbrev pub first_byte : Point → ℕ
-first_byte p = if cuts_tab p then suc p.index else p.index
+-- where a byte stands: at its index, as number 0 of its tab if it is one (lines and columns play no part in the order of places)
+abbrev pub byte_place : (index : ℕ) → Point
+byte_place index = point 1 1 index 0
 
--- the bytes between two places
+-- the bytes whose places lie between two places
 abbrev pub bytes_between : List ℕ → Point → Point → List ℕ
-bytes_between bytes p q = slice_range bytes (first_byte p) (first_byte q)
+bytes_between bytes p q = map (slice_index bytes) (filter (λ index. lies_between p q (byte_place index)) (range_with_len 0 (length bytes)))
 
 -- the virtual bytes between of a tab that the start cuts: its tab byte does not lie between
 abbrev pub spaces_before : (t : ℕ) → List ℕ → Point → Point → ℕ
@@ -41,10 +36,6 @@ abbrev pub slice_text : ℕ → List ℕ → ℕ → List ℕ
 slice_text before bytes after = replicate before 32 ++ (bytes ++ replicate after 32)
 
 -- an event enters a span of another event's name
-abbrev pub is_enter : Kind → Bool
-is_enter Enter = true
-is_enter Exit = false
-
 abbrev pub is_enter_of : Event → Event → Bool
 is_enter_of event exit = is_enter event.kind && same_name event.name exit.name
 

@@ -2,7 +2,8 @@
 
 ghost use Rattle.std.specs.Prelude.{◌≡◌, ◌<◌, ◌≤◌, ◌^◌, ◌+◌, ◌++◌, ℕ, List, false, length, slice_get, slice_range, option_map, IsSome, Some, IsUtf8, IfOk, OnOk, replicate, string_bytes};
 ghost use Rattle.markdown_base.specs.Places.{IsPointOf, stands_before};
-ghost use Rattle.markdown_base.specs.Slices.{nearest_enter, bytes_between, spaces_before, spaces_after, slice_text, first_byte, is_enter_of};
+ghost use Rattle.markdown_base.specs.Slices.{nearest_enter, bytes_between, spaces_before, spaces_after, slice_text, is_enter_of};
+ghost use Rattle.markdown_base.specs.SlicesInner.{first_byte};
 
 use crate::event::{Event, Kind, Point};
 use crate::util::constant::TAB_SIZE;

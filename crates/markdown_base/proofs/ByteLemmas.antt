@@ -1,0 +1,75 @@
+-- Lemmas on the bytes between two places.
+use Rattle.std.proofs.Common.{◌≡◌, ℕ, zero, suc, ◌+◌, ◌-◌, ◌≤◌, inl, inr, min, max, Bool, true, false, List, [], ◌∷◌, length, take, drop, get_or, refl, sym, ap, ◌∙◌, arith, ltb-true, ltb-false, lt-ltb, le-ltb, eqb-true}
+use Rattle.std.specs.Prelude.{◌==◌, ◌&&◌, not, nat_lt, filter, map, slice_index, slice_range}
+use Rattle.std.specs.List.{range_with_len}
+use Rattle.std.proofs.lemmas.Bool.{cases_lt, eqb-false}
+use Rattle.std.proofs.Math.Seq.{drop-cons}
+use Rattle.markdown_base.specs.declared.event.Point.{Point}
+use Rattle.markdown_base.specs.Places.{stands_before, lies_between}
+use Rattle.markdown_base.specs.Slices.{byte_place, bytes_between}
+use Rattle.markdown_base.specs.SlicesInner.{first_byte}
+
+-- the bytes that stand before a place are those before the first one that does not
+before_first : (p : Point) (index : ℕ) → stands_before (byte_place index) p ≡ nat_lt index (first_byte p)
+before_first p index = go (nat_lt 0 p.vs) (nat_lt index p.index) (index == p.index) refl refl refl
+  where
+    go : (x y z : Bool) → nat_lt 0 p.vs ≡ x → nat_lt index p.index ≡ y → (index == p.index) ≡ z → stands_before (byte_place index) p ≡ nat_lt index (first_byte p)
+    go true true z ex ey ez = rw (ex, ey) (sym (lt-ltb index (suc p.index) (omega (arith, ltb-true index p.index ey))))
+    go true false true ex ey ez = rw (ex, ey, ez) (sym (lt-ltb index (suc p.index) (omega (arith, eqb-true index p.index ez))))
+    go true false false ex ey ez =
+        let later : suc p.index ≤ index = elim (cases_lt p.index index) [ inl lt ↦ lt | inr le ↦ absurd (eqb-false index p.index ez (omega (arith, ltb-false index p.index ey, le))) ] in
+        rw (ex, ey, ez) (sym (le-ltb index (suc p.index) later))
+    go false true z ex ey ez = rw (ex, ey) refl
+    go false false true ex ey ez = rw (ex, ey, ez) refl
+    go false false false ex ey ez = rw (ex, ey, ez) refl
+
+abbrev is_within : (low high : ℕ) → ℕ → Bool
+is_within low high i = not (nat_lt i low) && nat_lt i high
+
+-- the indices of a range in another
+kept_range : (low high start n : ℕ) → filter (is_within low high) (range_with_len start n) ≡ range_with_len (max start low) (min high (start + n) - max start low)
+kept_range low high start zero = ap (λ m. range_with_len (max start low) m) {x = 0} {y = min high (start + 0) - max start low} (omega arith)
+kept_range low high start (suc n) = go (nat_lt start low) (nat_lt start high) refl refl (kept_range low high (start + 1) n)
+  where
+    go : (x y : Bool) → nat_lt start low ≡ x → nat_lt start high ≡ y → filter (is_within low high) (range_with_len (start + 1) n) ≡ range_with_len (max (start + 1) low) (min high (start + 1 + n) - max (start + 1) low)
+        → filter (is_within low high) (range_with_len start (suc n)) ≡ range_with_len (max start low) (min high (start + suc n) - max start low)
+    go true y ex ey more =
+        let at : max (start + 1) low ≡ max start low = omega (arith, ltb-true start low ex) in
+        let len : min high (start + 1 + n) - max (start + 1) low ≡ min high (start + suc n) - max start low = omega (arith, ltb-true start low ex) in
+        rw ex (more ∙ ap (λ a. range_with_len a (min high (start + 1 + n) - max (start + 1) low)) at ∙ ap (λ m. range_with_len (max start low) m) len)
+    go false true ex ey more =
+        let at : max (start + 1) low ≡ start + 1 = omega (arith, ltb-false start low ex) in
+        let here : start ≡ max start low = omega (arith, ltb-false start low ex) in
+        let len : suc (min high (start + 1 + n) - max (start + 1) low) ≡ min high (start + suc n) - max start low = omega (arith, ltb-false start low ex, ltb-true start high ey) in
+        rw (ex, ey) (ap (λ xs. start ∷ xs) (more ∙ ap (λ a. range_with_len a (min high (start + 1 + n) - max (start + 1) low)) at)
+        ∙ ap (λ m. range_with_len start m) len ∙ ap (λ a. range_with_len a (min high (start + suc n) - max start low)) here)
+    go false false ex ey more =
+        let none : min high (start + 1 + n) - max (start + 1) low ≡ 0 = omega (arith, ltb-false start high ey) in
+        let none_here : 0 ≡ min high (start + suc n) - max start low = omega (arith, ltb-false start high ey) in
+        rw (ex, ey) (more ∙ ap (λ m. range_with_len (max (start + 1) low) m) none ∙ ap (λ m. range_with_len (max start low) m) none_here)
+
+-- the bytes at the indices of a range
+bytes_at : (bytes : List ℕ) (start n : ℕ) → start + n ≤ length bytes → map (slice_index bytes) (range_with_len start n) ≡ take n (drop start bytes)
+bytes_at bytes start zero within = refl
+bytes_at bytes start (suc n) within =
+    let more = bytes_at bytes (start + 1) n (omega arith) in
+    let next : start + 1 ≡ suc start = omega arith in
+    ap (λ xs. get_or bytes start 0 ∷ xs) (more ∙ ap (λ i. take n (drop i bytes)) next) ∙ ap (λ xs. take (suc n) xs) (sym (drop-cons bytes start 0 (omega arith)))
+
+filter-as : (f g : ℕ → Bool) → ((i : ℕ) → f i ≡ g i) → (xs : List ℕ) → filter f xs ≡ filter g xs
+filter-as f g same [] = refl
+filter-as f g same (x ∷ xs) = go (g x) refl (filter-as f g same xs)
+  where
+    go : (b : Bool) → g x ≡ b → filter f xs ≡ filter g xs → filter f (x ∷ xs) ≡ filter g (x ∷ xs)
+    go true e more = rw (same x, e) (ap (λ ys. x ∷ ys) more)
+    go false e more = rw (same x, e) more
+
+-- the bytes between two places are those from the one's first byte on, up to the other's
+pub bytes-between : (bytes : List ℕ) (p q : Point) → first_byte p ≤ first_byte q → first_byte q ≤ length bytes → slice_range bytes (first_byte p) (first_byte q) ≡ bytes_between bytes p q
+bytes-between bytes p q ordered within =
+    let a = first_byte p in
+    let b = first_byte q in
+    let kept = filter-as (λ i. lies_between p q (byte_place i)) (is_within a b) (λ i. rw (before_first p i, before_first q i) refl) (range_with_len 0 (length bytes)) ∙ kept_range a b 0 (length bytes) in
+    let len : min b (0 + length bytes) - max 0 a ≡ b - a = omega arith in
+    let at : max 0 a ≡ a = omega arith in
+    sym (ap (map (slice_index bytes)) (kept ∙ ap (λ m. range_with_len (max 0 a) m) len ∙ ap (λ i. range_with_len i (b - a)) at) ∙ bytes_at bytes a (b - a) (omega arith))
