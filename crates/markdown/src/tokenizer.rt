@@ -1,6 +1,8 @@
 //! The tokenizer: it feeds the virtual bytes of a document to the states of a machine.
 
 mod reading;
+#[cfg(test)]
+mod tests;
 
 use crate::count::Calls;
 use crate::cursor::{is_after, next_byte, pass, resume, resumed, shown};

@@ -147,3 +147,58 @@ fn addition_at_end_is_last(rt: HostRuntime) {
     let columns = columns(rt.alloc(), &events).expect(&rt, "memory");
     assert!(rt; columns.as_slice() == [1, 2, 91].as_slice());
 }
+
+/// Two removals at one index, and an addition in front at an index that has no edit.
+fn removed_twice(alloc: Global) -> Result<Vec<Event>, AllocError> {
+    let mut events = Vec::from_array(alloc, [event_at(1), event_at(2), event_at(3), event_at(4)])?;
+    let mut map = EditMap::new(alloc);
+    map.add(1, 1, vec![in alloc; event_at(91)]?)?;
+    map.add(1, 1, vec![in alloc; event_at(92)]?)?;
+    map.add_before(4, 0, vec![in alloc; event_at(93)]?)?;
+    map.consume(&mut events)?;
+    Ok(events)
+}
+
+#[test]
+fn removals_add_up(rt: HostRuntime) {
+    let events = removed_twice(rt.alloc()).expect(&rt, "memory");
+    let columns = columns(rt.alloc(), &events).expect(&rt, "memory");
+    assert!(rt; columns.as_slice() == [1, 91, 92, 4, 93].as_slice());
+}
+
+/// An addition to a list that has no events.
+fn added_to_nothing(alloc: Global) -> Result<Vec<Event>, AllocError> {
+    let mut events = Vec::new(alloc);
+    let mut map = EditMap::new(alloc);
+    map.add_before(0, 0, vec![in alloc; event_at(91)]?)?;
+    map.consume(&mut events)?;
+    Ok(events)
+}
+
+#[test]
+fn empty_list_takes_additions(rt: HostRuntime) {
+    let events = added_to_nothing(rt.alloc()).expect(&rt, "memory");
+    let columns = columns(rt.alloc(), &events).expect(&rt, "memory");
+    assert!(rt; columns.as_slice() == [91].as_slice());
+}
+
+/// Two events are added in front of each of a thousand, by an edit of its own.
+fn each_edited(alloc: Global) -> Result<Vec<Event>, AllocError> {
+    let mut events = Vec::new(alloc);
+    let mut map = EditMap::new(alloc);
+    for index in 0..1000 {
+        events.push(event_at(1))?;
+        map.add(index, 0, vec![in alloc; event_at(91), event_at(92)]?)?;
+    }
+    map.consume(&mut events)?;
+    Ok(events)
+}
+
+#[test]
+fn thousand_edits_are_made(rt: HostRuntime) {
+    let events = each_edited(rt.alloc()).expect(&rt, "memory");
+    assert!(rt; events.len() == 3000);
+    for (index, event) in events.iter().enumerate() {
+        assert!(rt; event.point.column == [91, 92, 1][index % 3]);
+    }
+}

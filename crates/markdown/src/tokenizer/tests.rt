@@ -1,0 +1,54 @@
+//! Calls that take memory succeed where there is some.
+
+use crate::event::{Content, Link, Name, Point};
+use crate::parser::ParseState;
+use crate::state::{self, MachineTypes, State};
+use crate::tokenizer::Tokenizer;
+use markdown_base::configuration::ParseOptions;
+use std::alloc::AllocError;
+
+/// A machine's types, with no machine.
+#[derive(Drop)]
+struct Types {}
+
+impl MachineTypes for Types {
+    type Resolver = ();
+
+    type Document = ();
+}
+
+const START: Point = Point {
+    line: 1,
+    column: 1,
+    index: 0,
+    vs: 0,
+};
+
+const LINK: Link = Link {
+    previous: None,
+    next: None,
+    content: Content::Text,
+};
+
+#[test]
+fn spans_and_choices_begin(rt: HostRuntime) -> Result<(), AllocError> {
+    let options = ParseOptions::default();
+    let parse_state = ParseState {
+        bytes: b"a",
+        options: &options,
+        machine: &Types {},
+    };
+    let mut tokenizer = Tokenizer::new(rt.alloc(), START, &parse_state);
+    let next = state::Name::DataStart;
+    tokenizer.attempt(State::Next(next), State::Nok)?;
+    tokenizer.check(State::Ok, State::Nok)?;
+    tokenizer.enter(Name::Paragraph)?;
+    tokenizer.enter_link(Name::Data, LINK)?;
+    tokenizer.attempt(State::Ok, State::Nok)?;
+    tokenizer.attempt(State::Next(next), State::Next(next))?;
+    tokenizer.check(State::Next(next), State::Next(next))?;
+    assert_eq!(rt; tokenizer.stack().len(), 2);
+    assert_eq!(rt; tokenizer.events().len(), 2);
+    assert_eq!(rt; tokenizer.events()[1].link, Some(LINK));
+    Ok(())
+}
