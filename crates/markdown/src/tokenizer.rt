@@ -1,8 +1,6 @@
 //! The tokenizer: it feeds the virtual bytes of a document to the states of a machine.
 
 mod reading;
-#[cfg(test)]
-mod tests;
 
 use crate::count::Calls;
 use crate::cursor::{is_after, next_byte, pass, resume, resumed, shown};

@@ -9,8 +9,6 @@ ghost use Rattle.markdown.specs.Edits.{edit_at, is_no_edit, added_after, added_b
 ghost use Rattle.markdown.specs.Edited.{edited};
 
 pub mod laws;
-#[cfg(test)]
-mod tests;
 
 use crate::util::splice::spliced_events;
 use crate::util::stored::{Stored, position_of};

@@ -8,8 +8,6 @@ ghost use Rattle.markdown_base.specs.Events.{IsBalanced};
 ghost use Rattle.markdown.specs.SpanWalks.{is_wanted, HasWanted, IsFirstWanted, IsFront, IsLastWanted, IsLongestRunFrom, IsLongestRunTo};
 ghost use Rattle.markdown.specs.SpanWalksInner.{flip, is_stop, mirror, run_len};
 
-#[cfg(test)]
-mod tests;
 
 use markdown_base::event::{Event, Kind, Name};
 

@@ -2,8 +2,8 @@
 
 ghost use Rattle.std.specs.Prelude.{◌≡◌, None, IfSome};
 
-use crate::util::edit_map::EditMap;
-use markdown_base::event::{Content, Event, Kind, Link, Name, Point};
+use markdown::event::{Content, Event, Kind, Link, Name, Point};
+use markdown::util::edit_map::EditMap;
 use std::alloc::{AllocError, Global};
 
 /// An event without a link, told by its column.

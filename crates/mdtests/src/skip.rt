@@ -6,8 +6,8 @@ ghost use Rattle.markdown_base.specs.declared.event.Kind.TheVariants.{Enter, Exi
 ghost use Rattle.markdown_base.specs.declared.event.Name.TheVariants.{SpaceOrTab};
 ghost use Rattle.markdown.specs.SpanWalks.{HasWanted};
 
-use crate::util::skip::{opt, opt_back, to, to_back};
-use markdown_base::event::{Event, Kind, Name, Point};
+use markdown::event::{Event, Kind, Name, Point};
+use markdown::util::skip::{opt, opt_back, to, to_back};
 
 const POINT: Point = Point {
     line: 1,

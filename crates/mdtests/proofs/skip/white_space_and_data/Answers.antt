@@ -1,7 +1,7 @@
 use Rattle.std.proofs.Common.{[], ◌∷◌, refl, sym, ◌∙◌, arith}
 use Rattle.markdown_base.specs.Events.{span, empty}
 use Rattle.markdown.proofs.Balanced.{IsBalanced-pair}
-use Rattle.markdown.proofs.util.skip.tests.white_space_and_data.Goals as goal
+use Rattle.mdtests.proofs.skip.white_space_and_data.Goals as goal
 
 pub returns-clause-balanced : goal.returns-clause-balanced
 returns-clause-balanced c =

@@ -1,10 +1,10 @@
 //! Calls that take memory succeed where there is some.
 
-use crate::event::{Content, Link, Name, Point};
-use crate::parser::ParseState;
-use crate::state::{self, MachineTypes, State};
-use crate::tokenizer::Tokenizer;
-use markdown_base::configuration::ParseOptions;
+use markdown::configuration::ParseOptions;
+use markdown::event::{Content, Link, Name, Point};
+use markdown::parser::ParseState;
+use markdown::state::{self, MachineTypes, State};
+use markdown::tokenizer::Tokenizer;
 use std::alloc::AllocError;
 
 /// A machine's types, with no machine.

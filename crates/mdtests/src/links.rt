@@ -1,7 +1,7 @@
 //! Links in a small list, with answers worked by hand.
 
-use crate::subtokenize::{link, link_to};
-use markdown_base::event::{Content, Event, Kind, Link, Name, Point};
+use markdown::event::{Content, Event, Kind, Link, Name, Point};
+use markdown::subtokenize::{link, link_to};
 
 const POINT: Point = Point {
     line: 1,

@@ -1,6 +1,6 @@
 use Rattle.std.proofs.Common.{◌≡◌, None, length, All}
 use Rattle.markdown.specs.Edits.{AreDisjoint}
-use Rattle.markdown.proofs.util.edit_map.tests.each_edited.Given as goal
+use Rattle.mdtests.proofs.edit_map.each_edited.Given as goal
 
 -- each edit is in front of an event that has no link
 abbrev pub invariant-loop-index : goal.invariant-loop-index
