@@ -1,6 +1,7 @@
 pub mod Readings
 pub mod Ends
 pub mod Working
+pub mod TakingUp
 pub mod Common
 pub mod Links
 pub mod Order

@@ -79,7 +79,7 @@ fn after_skip<'a>(skips: &'a Vec<Point>, place: &'a Point) -> &'a Point
 pub(crate) fn resumed<'a>(skips: &'a Vec<Point>, place: &'a Point) -> &'a Point
     ensures { result.now ≡ resumed skips.now.items place.now }
 {
-    if place.column == 1 {
+    if !skips.is_empty() && place.column == 1 {
         after_skip(skips, place)
     } else {
         place
@@ -100,7 +100,7 @@ fn pass_skip(skips: &Vec<Point>, place: &mut Point)
 pub(crate) fn resume(skips: &Vec<Point>, place: &mut Point)
     ensures { place.new ≡ resumed skips.now.items place.old }
 {
-    if place.column == 1 {
+    if !skips.is_empty() && place.column == 1 {
         pass_skip(skips, place);
     }
 }

@@ -61,6 +61,7 @@ pub fn run<M: Machine>(
 
 impl<'a, M: Machine> Tokenizer<'a, M> {
     /// Which state is called next, with what it is fed; or `None` where the work ends, and then the state is its answer.
+    #[inline(always)]
     fn take_up(&mut self, flush: bool, state: &mut State) -> Option<Name>
         requires closed { self.old.closed ≡ flush }
         requires ends { EndsClosed (settled_all self.old.configuration self.old.choices state.old) }
@@ -112,13 +113,17 @@ impl<'a, M: Machine> Tokenizer<'a, M> {
         ensures stops { IfOk result (λ answer. Stops flush self.new answer) }
     {
         let mut state = state;
+        let mut name = match self.take_up(flush, &mut state) {
+            Some(name) => name,
+            None => return Ok(state),
+        };
         loop {
-            let name = match self.take_up(flush, &mut state) {
-                Some(name) => name,
-                None => return Ok(state),
-            };
             self.tells();
-            state = self.once(name)?;
+            let mut answer = self.once(name)?;
+            name = match self.take_up(flush, &mut answer) {
+                Some(name) => name,
+                None => return Ok(answer),
+            };
         }
     }
 
