@@ -21,7 +21,7 @@ use Rattle.markdown.specs.declared.waiting.Goal.{Goal}
 use Rattle.markdown.specs.declared.waiting.Mark.{Mark}
 use Rattle.markdown.specs.declared.waiting.Progress.{Progress}
 use Rattle.markdown.specs.declared.tokenizer.Tokenizer.TheInside.{Inside}
-use Rattle.markdown.specs.Text.{Given, Text, Piece, pushed, passed, IsText, CanFollow, FitsAfter, followed_by, followed_by_all, empty_text}
+use Rattle.markdown.specs.Text.{Given, Text, Piece, pushed, passed, IsDocument, IsText, CanFollow, FitsAfter, followed_by, followed_by_all, empty_text}
 use Rattle.markdown.specs.Configuration.{Seen, Configuration, Choice}
 use Rattle.markdown.specs.Calls.{CanExit}
 use Rattle.markdown.specs.Work.{extended}
@@ -54,6 +54,7 @@ followed-more g text (p ∷ pieces) piece = followed-more g (followed_by g text 
 -- a text with a piece put at its end is a text
 pub text-more : (g : Given) (text : Text) (piece : Piece) → IsText g text → FitsAfter g text piece → IsText g (followed_by g text piece)
 text-more g text piece h fits = record {
+  document = h.document;
   starts = starts-same piece h.starts;
   pieces = h.pieces ++ piece ∷ [];
   follow = subst (λ (p : Point). CanFollow g (empty_text p) (h.pieces ++ piece ∷ [])) (sym (start-same piece))
@@ -478,8 +479,8 @@ module _ (bytes : List ℕ) (p : Point) (h : IsPointOf TAB bytes p) where
   pub start-found : point_at TAB bytes (p.index, p.vs) ≡ Some p
   start-found = point_at-point TAB bytes four p h
 
-  pub start-text : (options : ParseOptions) → IsText (record { bytes = bytes; options = options; tab = TAB }) (empty_text p)
-  start-text options = record { starts = h; pieces = []; follow = tt; is = refl }
+  pub start-text : (options : ParseOptions) → IsDocument (record { bytes = bytes; options = options; tab = TAB }) → IsText (record { bytes = bytes; options = options; tab = TAB }) (empty_text p)
+  start-text options document = record { document = document; starts = h; pieces = []; follow = tt; is = refl }
 
   pub start-made : IsMade bytes [] [] (shown bytes p) (shown bytes p)
   start-made = made-new bytes (shown bytes p) (shown bytes p) (upto-self-point (shown bytes p)) (shown-shown TAB bytes p) (shown-shown TAB bytes p)

@@ -1,5 +1,5 @@
 -- A run over the whole document: where it begins and ends, and what it leads on to at each cut.
-use Rattle.std.proofs.Common.{◌≡◌, ◌≢◌, ◌+◌, ◌≤◌, ◌<◌, ◌==◌, ◌-◌, ℕ, zero, suc, List, [], ◌∷◌, ◌++◌, Bool, true, false, cond, Some, length, ◌⊎◌, inl, inr, refl, sym, ap, ◌∙◌, arith, subst}
+use Rattle.std.proofs.Common.{◌≡◌, ◌≢◌, ◌+◌, ◌≤◌, ◌<◌, ◌==◌, ◌-◌, ◌*◌, ◌^◌, ℕ, zero, suc, List, [], ◌∷◌, ◌++◌, Bool, true, false, cond, Some, length, ◌⊎◌, inl, inr, refl, sym, ap, ◌∙◌, arith, subst}
 use Rattle.std.specs.Prelude.{filter, find, slice_index, nat_lt, ◌&&◌, ◌||◌, drop, get_or, Contains, Result, IsErrAnd, IfErr}
 use Rattle.std.specs.declared.result.Result.TheVariants as result
 use Rattle.std.specs.List.{flat_map}
@@ -12,7 +12,7 @@ use Rattle.markdown_base.specs.declared.state.State.{State}
 use Rattle.markdown_base.specs.declared.state.State.TheVariants.{Next}
 use Rattle.markdown_base.specs.Virtual.{Seat, point, virtual, end_after, document_end}
 use Rattle.markdown_base.specs.Places.{stands_before, shown, follows_cr, points, point_at, IsPointOf, is_upto}
-use Rattle.markdown.specs.Text.{Given, Text, pushed, in_range, empty_text, followed_by, followed_by_all, FitsAfter, CanFollow}
+use Rattle.markdown.specs.Text.{Given, Text, pushed, in_range, empty_text, followed_by, followed_by_all, FitsAfter, CanFollow, IsText}
 use Rattle.markdown.specs.Configuration.{Configuration, Choice, Step, Seen, start_configuration, start_seen}
 use Rattle.markdown.specs.Sight.{Sight}
 use Rattle.markdown.specs.Rules.{Rules}
@@ -182,6 +182,15 @@ drop-get [] n d lt = absurd (omega arith)
 drop-get (y ∷ ys) zero d lt = refl
 drop-get (y ∷ ys) (suc n) d lt = drop-get ys n d (omega arith)
 
+pub start-is-text : (bytes : List ℕ) (options : ParseOptions) → 4 * length bytes + 1 < 2 ^ 64 → IsText (given_by 4 bytes options) (empty_text (point 1 1 0 0))
+start-is-text bytes options limit = record {
+  document = record { tab = (omega arith, omega arith); limit = limit };
+  starts = start-is-point (given_by 4 bytes options) refl;
+  pieces = [];
+  follow = tt;
+  is = refl;
+}
+
 pub err-if : {T E : Type 0} (r : Result T E) (P Q : E → Type 0) → ((e : E) → P e → Q e) → IsErrAnd r P → IfErr r Q
 err-if (result.Ok v) P Q f h = tt
 err-if (result.Err e) P Q f h = f e h
@@ -213,12 +222,12 @@ module _ {M R D : Type 0} (rules : M → Given → Rules R D) where
   abbrev PushedBy : M → Given → Seen M R D → ℕ × ℕ → ℕ × ℕ → State → Seen M R D → State → Type 0
   PushedBy m given t from to state u answer = IsPushed (rules m given) t from to state u answer
 
-  pub run-start : (bytes : List ℕ) (options : ParseOptions) (m : M) → (let given = given_by 4 bytes options in KeepsInvariant given (rules m given))
+  pub run-start : (bytes : List ℕ) (options : ParseOptions) (m : M) → 4 * length bytes + 1 < 2 ^ 64 → (let given = given_by 4 bytes options in KeepsInvariant given (rules m given))
       → (start : Name) → Contains (rules m (given_by 4 bytes options)).starts start → (cuts : List (ℕ × ℕ)) → AreCuts 4 bytes cuts → (t : Seen M R D) → t ≡ StartsWith bytes options m
       → RunsBy bytes options m start (0, 0) cuts t (Next start)
-  run-start bytes options m keeps start among cuts order t e =
+  run-start bytes options m limit keeps start among cuts order t e =
       let given = given_by 4 bytes options in
-      let first = start-is-point given refl in
+      let text = start-is-text bytes options limit in
       let p = point 1 1 0 0 in
       rw e (record {
         same_given = refl;
@@ -230,7 +239,7 @@ module _ {M R D : Type 0} (rules : M → Given → Rules R D) where
         outcome = λ rest can.
             leads-refl given (rules m given) (followed_by_all given (empty_text p) rest) (StartsWith bytes options m) (Next start)
             (holds-on given (rules m given) keeps (empty_text p) rest (start_configuration false) [] (Next start)
-            (record { starts = first; pieces = []; follow = tt; is = refl }) can refl (keeps.at_starts p false start first among));
+            text can refl (keeps.at_starts p false start text among));
         order = order;
       })
 

@@ -70,6 +70,7 @@ text-on given text rest h can =
     let all = followed_by_all given text rest in
     let back = sym ((continues-all given text rest).starts) in
     record {
+      document = h.document;
       starts = subst (λ (p : Point). IsPointOf given.tab given.bytes p) back h.starts;
       pieces = h.pieces ++ rest;
       follow = subst (λ (p : Point). CanFollow given (empty_text p) (h.pieces ++ rest)) back

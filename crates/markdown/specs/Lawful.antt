@@ -1,11 +1,10 @@
 -- What a lawful machine keeps. Each law speaks of one call, one feeding, one settled choice or one piece added.
-use Rattle.std.specs.Prelude.{◌≡◌, ◌≢◌, ◌+◌, ◌≤◌, ◌⊎◌, ℕ, List, [], ◌∷◌, ◌++◌, Bool, true, false, None, IfSome, All, Contains, length, take, map, sum_by}
-use Rattle.markdown_base.specs.declared.event.Event.{Event}
+use Rattle.std.specs.Prelude.{◌≡◌, ◌≢◌, ◌+◌, ◌≤◌, ◌⊎◌, ℕ, List, [], ◌∷◌, ◌++◌, Bool, true, false, IfSome, All, Contains, length, take, sum_by}
 use Rattle.markdown_base.specs.declared.event.Point.{Point}
 use Rattle.markdown_base.specs.declared.state.Name.{Name}
 use Rattle.markdown_base.specs.declared.state.State.{State}
 use Rattle.markdown_base.specs.declared.state.State.TheVariants.{Next, Retry, Ok, Nok}
-use Rattle.markdown_base.specs.Places.{IsPointOf}
+use Rattle.markdown_base.specs.Events.{HasFrontUpToLinkEnds}
 use Rattle.markdown.specs.declared.waiting.Waits.TheVariants.{Nothing, Byte}
 use Rattle.markdown.specs.Text.{Given, Text, Piece, IsText, FitsAfter, followed_by, empty_text}
 use Rattle.markdown.specs.Configuration.{Configuration, Choice, Step, Seen, start_configuration}
@@ -31,10 +30,6 @@ pub record IsCalled {M R D : Type 0} (old new : Seen M R D) (s : Step R D) (answ
   pub answered : answer ≡ s.answer
   pub became : new ≡ stepped old s
 
--- an event without its link
-abbrev pub unlinked : Event → Event
-unlinked e = record { kind = e.kind; name = e.name; point = e.point; link = None }
-
 -- as much was read, the same waits, and the end was fed or not, alike
 abbrev pub IsAsFar : {R D : Type 0} → Configuration R D → Configuration R D → Type 0
 IsAsFar a b = (a.position ≡ b.position) × (a.waiting ≡ b.waiting) × (a.ended ≡ b.ended)
@@ -51,9 +46,9 @@ module _ {R D : Type 0} (g : Given) (rules : Rules R D) where
       (IsAsFar s.configuration k × ((n : Name) → s.answer ≢ Next n))
       ⊎ ((k.waiting ≡ Byte) × IsAsFar s.configuration (consumed k) × ((n : Name) → s.answer ≢ Retry n)))
 
-  -- a call keeps the events, but for their links, and adds its own after them; it keeps the stack as far as a waiting choice saved it
+  -- a call keeps the events, but for the ends of their links, and adds its own after them; it keeps the stack as far as a waiting choice saved it
   pub record OnlyAdds : Type 0 where
-    pub events : ForEachCall (λ text k choices name s. map unlinked (take (length k.events) s.configuration.events) ≡ map unlinked k.events)
+    pub events : ForEachCall (λ text k choices name s. HasFrontUpToLinkEnds s.configuration.events k.events)
     pub stack : ForEachCall (λ text k choices name s.
         All (λ c. IfSome c.saved (λ saved. take (length saved.stack) s.configuration.stack ≡ take (length saved.stack) k.stack)) choices)
 
@@ -62,9 +57,10 @@ module _ {R D : Type 0} (g : Given) (rules : Rules R D) where
     pub nok : (text : Text) (k : Configuration R D) → IsText g text → rules.holds text k [] Nok → ⊥
     pub ok : (text : Text) (k : Configuration R D) → IsText g text → rules.holds text k [] Ok → (k.ended ≡ true) × (k.stack ≡ [])
 
-  -- The invariant holds at each start, at every place of the document, and is kept by whatever happens
+  -- The invariant holds at each start, at every place of a document, and is kept by feeding, by a call, where a choice ends, and where
+  -- a piece is added before the end is fed
   pub record KeepsInvariant : Type 0 where
-    pub at_starts : (p : Point) (flag : Bool) (name : Name) → IsPointOf g.tab g.bytes p → Contains rules.starts name
+    pub at_starts : (p : Point) (flag : Bool) (name : Name) → IsText g (empty_text p) → Contains rules.starts name
         → rules.holds (empty_text p) (start_configuration flag) [] (Next name)
     -- a byte, or the end, is fed where nothing waits, and a state is called where something does
     pub unfed : (text : Text) (k : Configuration R D) (choices : List Choice) (name : Name) → IsText g text → rules.holds text k choices (Next name) → k.waiting ≡ Nothing

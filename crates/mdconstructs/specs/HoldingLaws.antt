@@ -10,14 +10,13 @@ use Rattle.markdown_base.specs.declared.event.Kind.TheVariants.{Enter, Exit}
 use Rattle.markdown_base.specs.declared.event.Point.{Point}
 use Rattle.markdown_base.specs.Virtual.{Seat, virtual}
 use Rattle.markdown_base.specs.Places.{stands_before, denotes_same}
-use Rattle.markdown_base.specs.Events.{open_after, open_events_from, open_events}
+use Rattle.markdown_base.specs.Events.{open_after, open_events_from, open_events, unlinked}
 use Rattle.markdown.specs.declared.waiting.Waits.{Waits}
 use Rattle.markdown.specs.declared.waiting.Waits.TheVariants.{Nothing, Byte, End}
 use Rattle.markdown.specs.Text.{Given, Text, Piece, pushed, passed, IsText, followed_by, in_range}
 use Rattle.markdown.specs.Configuration.{Configuration}
 use Rattle.markdown.specs.Sight.{sight, sight_of, current_of, end_place}
 use Rattle.markdown.specs.Reading.{fed}
-use Rattle.markdown.specs.Lawful.{unlinked}
 use Rattle.mdconstructs.specs.Tables.{Waiting, at_end, at_line_ending, at_other, waiting_of}
 use Rattle.mdconstructs.specs.Holding.{began_before, IsWaiting}
 use Rattle.markdown.proofs.TextOrder.{began-before_next}

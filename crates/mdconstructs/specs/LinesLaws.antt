@@ -10,6 +10,7 @@ use Rattle.markdown_base.specs.declared.state.Name.{Name}
 use Rattle.markdown_base.specs.declared.state.State.{State}
 use Rattle.markdown_base.specs.declared.state.State.TheVariants.{Next, Retry, Ok, Nok, Error}
 use Rattle.markdown_base.specs.Places.{stands_before, shown}
+use Rattle.markdown_base.specs.Events.{unlinked}
 use Rattle.markdown.specs.declared.waiting.Waits.{Waits}
 use Rattle.markdown.specs.declared.waiting.Waits.TheVariants.{Nothing, Byte, End}
 use Rattle.markdown.specs.Text.{Given, Text, Piece, IsText, empty_text, followed_by}
@@ -17,7 +18,7 @@ use Rattle.markdown.specs.Configuration.{Configuration, Choice, Step, start_conf
 use Rattle.markdown.specs.Sight.{Sight, sight, sight_of}
 use Rattle.markdown.specs.Calls.{consumed}
 use Rattle.markdown.specs.Reading.{fed}
-use Rattle.markdown.specs.Lawful.{unlinked, IsAsFar, ConsumesOnce, OnlyAdds, EndsWhenRead, KeepsInvariant, CostPays}
+use Rattle.markdown.specs.Lawful.{IsAsFar, ConsumesOnce, OnlyAdds, EndsWhenRead, KeepsInvariant, CostPays}
 use Rattle.mdconstructs.specs.Tables.{Waiting, at_end, at_line_ending, at_other, waiting_of, counted}
 use Rattle.mdconstructs.specs.Lines.{LinesState, flow_start, paragraph_inside, lines_state, lines_table, lines_step_at, lines_step, IsOpenAt, LinesHoldAt, lines_holds, lines_call_cost, lines_cost, lines_reserve, lines_starts, lines_rules}
 use Rattle.mdconstructs.specs.Holding.{began_before, IsWaiting, IsAhead, twice_left}

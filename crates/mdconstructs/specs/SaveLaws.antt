@@ -7,6 +7,7 @@ use Rattle.markdown_base.specs.declared.event.Point.{Point}
 use Rattle.markdown_base.specs.declared.state.Name.{Name}
 use Rattle.markdown_base.specs.declared.state.State.{State}
 use Rattle.markdown_base.specs.declared.state.State.TheVariants.{Next, Retry, Ok, Nok, Error}
+use Rattle.markdown_base.specs.Events.{unlinked}
 use Rattle.markdown.specs.declared.waiting.Waits.{Waits}
 use Rattle.markdown.specs.declared.waiting.Waits.TheVariants.{Byte, End}
 use Rattle.markdown.specs.Text.{Given, Text, Piece, IsText, empty_text, followed_by}
@@ -14,7 +15,7 @@ use Rattle.markdown.specs.Configuration.{Configuration, Choice, Step, start_conf
 use Rattle.markdown.specs.Sight.{Sight, sight}
 use Rattle.markdown.specs.Calls.{consumed}
 use Rattle.markdown.specs.Reading.{fed, settled_at}
-use Rattle.markdown.specs.Lawful.{unlinked, IsAsFar, ConsumesOnce, OnlyAdds, EndsWhenRead, KeepsInvariant, CostPays}
+use Rattle.markdown.specs.Lawful.{IsAsFar, ConsumesOnce, OnlyAdds, EndsWhenRead, KeepsInvariant, CostPays}
 use Rattle.mdconstructs.specs.Tables.{Waiting, at_end, at_line_ending, at_other, waiting_of, counted}
 use Rattle.mdconstructs.specs.Holding.{began_before, IsWaiting, IsAhead, twice_left}
 use Rattle.mdconstructs.specs.HoldingLaws.{IsSeen, is-seen, fed-position, Extends, extends, waits-longer}

@@ -15,7 +15,7 @@ loop-cut-init c =
     let o = c.new-tokenizer.result.given.options in let m = c.new-tokenizer.result.machine in (
       o,
       m,
-      run-start (λ _. lines_rules) c.args.bytes.now o m (invariant_kept (given_by 4 c.args.bytes.now o)) FlowStart (0, omega arith, refl)
+      run-start (λ _. lines_rules) c.args.bytes.now o m c.requires.limit (invariant_kept (given_by 4 c.args.bytes.now o)) FlowStart (0, omega arith, refl)
           c.args.cuts.now c.requires.cuts c.new-tokenizer.result (rw c.new-tokenizer.ensures refl),
     )
 

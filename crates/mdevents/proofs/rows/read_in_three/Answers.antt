@@ -1,4 +1,4 @@
-use Rattle.std.proofs.Common.{◌≡◌, ℕ, List, [], Some, true, false, length, refl, sym, ap, ◌∙◌, subst}
+use Rattle.std.proofs.Common.{◌≡◌, ◌+◌, ◌*◌, ◌^◌, ◌<◌, ℕ, List, [], Some, true, false, length, refl, sym, ap, ◌∙◌, subst}
 use Rattle.std.specs.Prelude.{Contains}
 use Rattle.markdown_base.specs.declared.configuration.ParseOptions.{ParseOptions}
 use Rattle.markdown_base.specs.declared.event.Point.{Point}
@@ -13,7 +13,7 @@ use Rattle.markdown.specs.Rules.{Rules}
 use Rattle.markdown.specs.Lawful.{KeepsInvariant}
 use Rattle.markdown.specs.Engine.{CanPush, IsPushed, given_by}
 use Rattle.markdown.proofs.Cursors.{same-self}
-use Rattle.markdown.proofs.Runs.{start-is-point, start-at, end-at, end-upto, found-place}
+use Rattle.markdown.proofs.Runs.{start-is-point, start-is-text, start-at, end-at, end-upto, found-place}
 use Rattle.mdevents.proofs.rows.read_in_three.Goals as goal
 
 module _ {M R D : Type 0} (rules : M → Given → Rules R D) where
@@ -26,16 +26,16 @@ module _ {M R D : Type 0} (rules : M → Given → Rules R D) where
     pub held : (rules t.machine t.given).holds t.text t.configuration t.choices state
 
   -- a new tokenizer stands at the document's start
-  stands-first : (bytes : List ℕ) (options : ParseOptions) (m : M) → KeepsInvariant (given_by 4 bytes options) (rules m (given_by 4 bytes options))
+  stands-first : (bytes : List ℕ) (options : ParseOptions) (m : M) → 4 * length bytes + 1 < 2 ^ 64 → KeepsInvariant (given_by 4 bytes options) (rules m (given_by 4 bytes options))
       → (start : Name) → Contains (rules m (given_by 4 bytes options)).starts start → (t : Seen M R D) → t ≡ start_seen (given_by 4 bytes options) m (empty_text (point 1 1 0 0)) → Stands bytes (point 1 1 0 0) t (Next start)
-  stands-first bytes options m keeps start starts_so t e =
+  stands-first bytes options m limit keeps start starts_so t e =
       let given = given_by 4 bytes options in
       rw e (record {
         options = options;
         given = refl;
         open_still = refl;
         end = refl;
-        held = keeps.at_starts (point 1 1 0 0) false start (start-is-point given refl) starts_so;
+        held = keeps.at_starts (point 1 1 0 0) false start (start-is-text bytes options limit) starts_so;
       })
 
   module _ (bytes : List ℕ) (from to : ℕ × ℕ) (p f q : Point) (t : Seen M R D) (state : State) (s : Stands bytes p t state) (first : point_at 4 bytes from ≡ Some f)
@@ -71,7 +71,7 @@ push-requires-clause-range g c =
     let i = g.M.Machine in
     let bytes = c.args.parse_state.now.bytes.now in let options = c.args.parse_state.now.options.now in let m = c.args.parse_state.now.machine.now in let start = c.args.start in
     let t = c.new-tokenizer.result in let r = c.requires.ranges in let p = point 1 1 0 0 in
-    let s = stands-first i.rules bytes options m (g.met.M.Machine.invariant_kept m (given_by 4 bytes options)) start c.requires.start t c.new-tokenizer.ensures in
+    let s = stands-first i.rules bytes options m c.requires.limit (g.met.M.Machine.invariant_kept m (given_by 4 bytes options)) start c.requires.start t c.new-tokenizer.ensures in
     λ _. stands-range i.rules bytes (0, 0) c.args.cut p p r.first t (Next start) s (start-at bytes) r.first_at (same-self 4 bytes p) r.after_start
 
 pub push-requires-clause-holds : goal.push-requires-clause-holds
@@ -79,7 +79,7 @@ push-requires-clause-holds g c =
     let i = g.M.Machine in
     let bytes = c.args.parse_state.now.bytes.now in let options = c.args.parse_state.now.options.now in let m = c.args.parse_state.now.machine.now in let start = c.args.start in
     let t = c.new-tokenizer.result in let r = c.requires.ranges in let p = point 1 1 0 0 in
-    let s = stands-first i.rules bytes options m (g.met.M.Machine.invariant_kept m (given_by 4 bytes options)) start c.requires.start t c.new-tokenizer.ensures in
+    let s = stands-first i.rules bytes options m c.requires.limit (g.met.M.Machine.invariant_kept m (given_by 4 bytes options)) start c.requires.start t c.new-tokenizer.ensures in
     λ _. s.held
 
 pub push-requires-2-clause-range : goal.push-requires-2-clause-range
@@ -87,7 +87,7 @@ push-requires-2-clause-range g c =
     let i = g.M.Machine in
     let bytes = c.args.parse_state.now.bytes.now in let options = c.args.parse_state.now.options.now in let m = c.args.parse_state.now.machine.now in let start = c.args.start in
     let t = c.new-tokenizer.result in let r = c.requires.ranges in let p = point 1 1 0 0 in
-    let s = stands-first i.rules bytes options m (g.met.M.Machine.invariant_kept m (given_by 4 bytes options)) start c.requires.start t c.new-tokenizer.ensures in
+    let s = stands-first i.rules bytes options m c.requires.limit (g.met.M.Machine.invariant_kept m (given_by 4 bytes options)) start c.requires.start t c.new-tokenizer.ensures in
     let s1 = stands-next i.rules bytes (0, 0) c.args.cut p p r.first t (Next start) s (start-at bytes) r.first_at c.push.new.self c.in-Ok.state c.in-Ok.ensures.ok in
     λ _. stands-range i.rules bytes c.args.from c.args.to r.first r.second r.third c.push.new.self c.in-Ok.state s1 r.second_at r.third_at r.same r.in_order
 
@@ -96,7 +96,7 @@ push-requires-2-clause-holds g c =
     let i = g.M.Machine in
     let bytes = c.args.parse_state.now.bytes.now in let options = c.args.parse_state.now.options.now in let m = c.args.parse_state.now.machine.now in let start = c.args.start in
     let t = c.new-tokenizer.result in let r = c.requires.ranges in let p = point 1 1 0 0 in
-    let s = stands-first i.rules bytes options m (g.met.M.Machine.invariant_kept m (given_by 4 bytes options)) start c.requires.start t c.new-tokenizer.ensures in
+    let s = stands-first i.rules bytes options m c.requires.limit (g.met.M.Machine.invariant_kept m (given_by 4 bytes options)) start c.requires.start t c.new-tokenizer.ensures in
     let s1 = stands-next i.rules bytes (0, 0) c.args.cut p p r.first t (Next start) s (start-at bytes) r.first_at c.push.new.self c.in-Ok.state c.in-Ok.ensures.ok in
     λ _. s1.held
 
@@ -105,7 +105,7 @@ push-requires-3-clause-range g c =
     let i = g.M.Machine in
     let bytes = c.args.parse_state.now.bytes.now in let options = c.args.parse_state.now.options.now in let m = c.args.parse_state.now.machine.now in let start = c.args.start in
     let t = c.new-tokenizer.result in let r = c.requires.ranges in let p = point 1 1 0 0 in
-    let s = stands-first i.rules bytes options m (g.met.M.Machine.invariant_kept m (given_by 4 bytes options)) start c.requires.start t c.new-tokenizer.ensures in
+    let s = stands-first i.rules bytes options m c.requires.limit (g.met.M.Machine.invariant_kept m (given_by 4 bytes options)) start c.requires.start t c.new-tokenizer.ensures in
     let s1 = stands-next i.rules bytes (0, 0) c.args.cut p p r.first t (Next start) s (start-at bytes) r.first_at c.push.new.self c.in-Ok.state c.in-Ok.ensures.ok in
     let s2 = stands-next i.rules bytes c.args.from c.args.to r.first r.second r.third c.push.new.self c.in-Ok.state s1 r.second_at r.third_at c.push-2.new.self c.in-Ok-push.state c.in-Ok-push.ensures.ok in
     λ _. stands-range i.rules bytes c.args.to (length bytes, 0) r.third r.third (document_end 4 bytes) c.push-2.new.self c.in-Ok-push.state s2 r.third_at (end-at bytes) (same-self 4 bytes r.third)
@@ -116,7 +116,7 @@ push-requires-3-clause-holds g c =
     let i = g.M.Machine in
     let bytes = c.args.parse_state.now.bytes.now in let options = c.args.parse_state.now.options.now in let m = c.args.parse_state.now.machine.now in let start = c.args.start in
     let t = c.new-tokenizer.result in let r = c.requires.ranges in let p = point 1 1 0 0 in
-    let s = stands-first i.rules bytes options m (g.met.M.Machine.invariant_kept m (given_by 4 bytes options)) start c.requires.start t c.new-tokenizer.ensures in
+    let s = stands-first i.rules bytes options m c.requires.limit (g.met.M.Machine.invariant_kept m (given_by 4 bytes options)) start c.requires.start t c.new-tokenizer.ensures in
     let s1 = stands-next i.rules bytes (0, 0) c.args.cut p p r.first t (Next start) s (start-at bytes) r.first_at c.push.new.self c.in-Ok.state c.in-Ok.ensures.ok in
     let s2 = stands-next i.rules bytes c.args.from c.args.to r.first r.second r.third c.push.new.self c.in-Ok.state s1 r.second_at r.third_at c.push-2.new.self c.in-Ok-push.state c.in-Ok-push.ensures.ok in
     λ _. s2.held
@@ -126,7 +126,7 @@ flush-requires-clause-holds g c =
     let i = g.M.Machine in
     let bytes = c.args.parse_state.now.bytes.now in let options = c.args.parse_state.now.options.now in let m = c.args.parse_state.now.machine.now in let start = c.args.start in
     let t = c.new-tokenizer.result in let r = c.requires.ranges in let p = point 1 1 0 0 in
-    let s = stands-first i.rules bytes options m (g.met.M.Machine.invariant_kept m (given_by 4 bytes options)) start c.requires.start t c.new-tokenizer.ensures in
+    let s = stands-first i.rules bytes options m c.requires.limit (g.met.M.Machine.invariant_kept m (given_by 4 bytes options)) start c.requires.start t c.new-tokenizer.ensures in
     let s1 = stands-next i.rules bytes (0, 0) c.args.cut p p r.first t (Next start) s (start-at bytes) r.first_at c.push.new.self c.in-Ok.state c.in-Ok.ensures.ok in
     let s2 = stands-next i.rules bytes c.args.from c.args.to r.first r.second r.third c.push.new.self c.in-Ok.state s1 r.second_at r.third_at c.push-2.new.self c.in-Ok-push.state c.in-Ok-push.ensures.ok in
     let s3 = stands-next i.rules bytes c.args.to (length bytes, 0) r.third r.third (document_end 4 bytes) c.push-2.new.self c.in-Ok-push.state s2 r.third_at (end-at bytes) c.push-3.new.self c.in-Ok-push-2.state c.in-Ok-push-2.ensures.ok in

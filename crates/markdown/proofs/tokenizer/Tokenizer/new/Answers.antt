@@ -1,4 +1,4 @@
-use Rattle.std.proofs.Common.{refl}
+use Rattle.std.proofs.Common.{refl, arith}
 use Rattle.markdown.proofs.Fields.{read-start}
 use Rattle.markdown.proofs.Changes.{start-end, start-empty, start-found, start-text, start-made}
 use Rattle.markdown.proofs.tokenizer.Tokenizer.new.Goals as goal
@@ -16,7 +16,7 @@ invariant_of-result g c =
     record {
       limit = c.requires.limit;
       end_at = rw here (start-found bytes p c.requires.place);
-      text = rw (skips, here, none) (start-text bytes p c.requires.place c.args.parse_state.now.options.now);
+      text = rw (skips, here, none) (start-text bytes p c.requires.place c.args.parse_state.now.options.now (record { tab = (omega arith, omega arith); limit = c.requires.limit }));
       skips = rw skips tt;
       read = rw (skips, here) (read-start bytes p c.requires.place);
       waiting = refl;
