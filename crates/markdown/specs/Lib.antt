@@ -6,6 +6,7 @@ pub mod Reading
 pub mod Rules
 pub mod Lawful
 pub mod Engine
+pub mod Fault
 pub mod Work
 pub mod View
 pub mod Cursor

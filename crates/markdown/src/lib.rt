@@ -1,7 +1,7 @@
 //! The tokenizer engine: a machine of states reads a document, in ranges, and gives a list of events.
 #![tactic(auto)]
 
-pub mod count;
+mod count;
 mod cursor;
 pub mod parser;
 mod places;
@@ -12,4 +12,5 @@ pub mod util;
 pub mod waiting;
 mod work;
 
+pub use markdown_base::configuration::{CompileOptions, Constructs, Options, ParseOptions};
 pub use markdown_base::{configuration, event, message, owned, unist};

@@ -10,7 +10,7 @@ use markdown_base::event::Event;
 use markdown_base::owned::{Items, OwnedText};
 
 /// What reading content gave beside events.
-#[derive(Drop)]
+#[derive(Debug, Drop)]
 pub struct Subresult {
     /// Whether nothing was left to read.
     pub done: bool,

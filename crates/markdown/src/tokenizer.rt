@@ -1,5 +1,6 @@
 //! The tokenizer: it feeds the virtual bytes of a document to the states of a machine.
 
+mod failing;
 mod reading;
 
 use crate::count::Calls;
@@ -156,8 +157,8 @@ pub struct TokenizeState<D: Drop> {
     pub token_6: Name,
 }
 
-/// Why a push or a flush failed.
-#[derive(Drop)]
+/// Why a push or a flush failed. Each is shown as one line.
+#[derive(Debug, Drop)]
 pub enum Fault {
     /// Memory was refused; the tokenizer has failed.
     Memory,

@@ -5,9 +5,9 @@ ghost use Rattle.mdconstructs.specs.Lines.{lines_table, flow_start, paragraph_in
 ghost use Rattle.markdown.specs.Sight.{sight_seen};
 ghost use Rattle.mdconstructs.specs.Tables.{waiting_of, Does};
 
+use markdown::event;
 use markdown::state::{Machine, MachineTypes, Name, State};
 use markdown::tokenizer::Tokenizer;
-use markdown_base::event;
 use std::alloc::{AllocError, Global};
 
 /// Reads each line as a paragraph of data.

@@ -4,7 +4,7 @@ ghost use Rattle.std.specs.Prelude.{◌≡◌, Some};
 ghost use Rattle.mdevents.specs.Failure.{failure_text};
 ghost use Rattle.mdevents.specs.declared.failure.Failure.TheVariants.{Memory};
 
-use markdown_base::message::Message;
+use markdown::message::Message;
 use std::alloc::AllocError;
 use std::fmt;
 

@@ -3,7 +3,7 @@
 ghost use Rattle.std.specs.Prelude.{◌≡◌, ◌++◌, OnOk, IfOk, string_bytes};
 ghost use Rattle.mdevents.specs.Printed.{kind_text, point_text, event_line, printed_events};
 
-use markdown_base::event::{Event, Kind, Point};
+use markdown::event::{Event, Kind, Point};
 use std::alloc::{AllocError, Global};
 
 /// The lines of events: kind, name, line, column, index and virtual byte of each, as in
@@ -46,7 +46,7 @@ fn kind_text(kind: Kind) -> &'static str
 #[cfg(test)]
 mod tests {
     use super::*;
-    use markdown_base::event::Name;
+    use markdown::event::Name;
     use std::test::Fail;
 
     #[test]

@@ -1,0 +1,47 @@
+//! How a fault is made of a refused allocation, and shown.
+
+ghost use Rattle.std.specs.Prelude.{◌≡◌, Some};
+ghost use Rattle.markdown.specs.Fault.{fault_text};
+ghost use Rattle.markdown.specs.declared.tokenizer.Fault.TheVariants.{Memory};
+
+use super::Fault;
+use std::alloc::AllocError;
+use std::fmt;
+
+impl fmt::Display for Fault {
+    ghost output = { λ fault. Some (fault_text fault) };
+
+    fn fmt<W: fmt::Write>(&self, f: &mut fmt::Formatter<W>) -> fmt::Result {
+        match self {
+            Fault::Memory => write!(f, "out of memory"),
+            Fault::Failed => write!(f, "tokenizer has failed"),
+            Fault::Message(message) => write!(f, "{message}"),
+        }
+    }
+}
+
+impl From<AllocError> for Fault {
+    ghost from_gives = { λ _ fault. fault ≡ Memory };
+
+    fn from(_error: AllocError) -> Fault {
+        Self::Memory
+    }
+}
+
+#[cfg(test)]
+mod tests {
+    use super::*;
+    use std::test::Fail;
+
+    #[test]
+    fn shows_lines(rt: HostRuntime) -> Result<(), Fail> {
+        for (fault, line) in [
+            (Fault::from(AllocError), "out of memory"),
+            (Fault::Failed, "tokenizer has failed"),
+        ] {
+            let text = fault.to_string(rt.alloc())?;
+            assert_eq!(rt; text.as_str(), line);
+        }
+        Ok(())
+    }
+}
