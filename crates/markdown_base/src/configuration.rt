@@ -346,6 +346,11 @@ mod tests {
     use super::*;
     use std::test::Fail;
 
+    /// A text of its own.
+    fn text(text: &str, alloc: Global) -> Result<OwnedText, AllocError> {
+        Ok(OwnedText::from_string(String::from_str(alloc, text)?))
+    }
+
     #[test]
     fn shows_options(rt: HostRuntime) -> Result<(), Fail> {
         let shown = format!(in rt.alloc(); "{:?}", ParseOptions::default())?;
@@ -378,6 +383,32 @@ mod tests {
         assert!(rt; copy.gfm_tagfilter);
         assert!(rt; !copy.allow_dangerous_html);
         assert_eq!(rt; copy.default_line_ending, LineEnding::LineFeed);
+        Ok(())
+    }
+
+    #[test]
+    fn clones_have_all_texts(rt: HostRuntime) -> Result<(), Fail> {
+        let options = CompileOptions {
+            default_line_ending: LineEnding::CarriageReturnLineFeed,
+            gfm_footnote_back_label: Some(text("Zurück", rt.alloc())?),
+            gfm_footnote_clobber_prefix: Some(text("", rt.alloc())?),
+            gfm_footnote_label_attributes: Some(text("class=\"sr-only\"", rt.alloc())?),
+            gfm_footnote_label_tag_name: Some(text("h1", rt.alloc())?),
+            gfm_footnote_label: Some(text("Fußnoten", rt.alloc())?),
+            ..CompileOptions::gfm()
+        };
+        let copy = options.try_clone(rt.alloc())?;
+        assert!(rt; copy.gfm_footnote_back_label == Some(text("Zurück", rt.alloc())?));
+        assert!(rt; copy.gfm_footnote_clobber_prefix == Some(text("", rt.alloc())?));
+        assert!(rt;
+            copy.gfm_footnote_label_attributes == Some(text("class=\"sr-only\"", rt.alloc())?)
+        );
+        assert!(rt; copy.gfm_footnote_label_tag_name == Some(text("h1", rt.alloc())?));
+        assert!(rt; copy.gfm_footnote_label == Some(text("Fußnoten", rt.alloc())?));
+        assert_eq!(rt;
+            copy.default_line_ending,
+            LineEnding::CarriageReturnLineFeed
+        );
         Ok(())
     }
 

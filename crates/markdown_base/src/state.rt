@@ -3,7 +3,7 @@
 //! A state is named by the construct that it reads and by the place in it. A machine's `call` runs the
 //! state of a name and answers a [`State`].
 
-ghost use Rattle.std.specs.Prelude.{◌≡◌, ◌≢◌, ◌↔◌, IfOk, AllPairs, map};
+ghost use Rattle.std.specs.Prelude.{◌≡◌, ◌≢◌, ◌↔◌, IfOk, IsOk, AllPairs, map};
 ghost use Rattle.std.specs.List.{range_with_len};
 ghost use Rattle.markdown_base.specs.StateNames.{state_names};
 ghost use Rattle.markdown_base.specs.States.{IsOkOrError};
@@ -698,9 +698,10 @@ impl State {
         }
     }
 
-    /// The same state, in memory of its own.
+    /// The same state, in memory of its own. Only an error, with its message, takes memory.
     pub fn try_clone(&self, alloc: Global) -> Result<State, AllocError>
-        ensures { IfOk result (λ copy. copy ≡ self.now) }
+        ensures equal { IfOk result (λ copy. copy ≡ self.now) }
+        ensures succeeds { ((m : _) → self.now ≢ State.Error m) → IsOk result }
     {
         match self {
             State::Error(message) => Ok(State::Error(message.try_clone(alloc)?)),
@@ -737,8 +738,15 @@ mod tests {
     fn clones_are_equal(rt: HostRuntime) -> Result<(), Fail> {
         let refused = State::Error(message(rt.alloc())?);
         assert!(rt; refused.try_clone(rt.alloc())? == refused);
+        for state in [
+            State::Ok,
+            State::Nok,
+            State::Next(Name::TextStart),
+            State::Retry(Name::TextStart),
+        ] {
+            assert!(rt; state.try_clone(rt.alloc())? == state);
+        }
         let next = State::Next(Name::FlowStart);
-        assert!(rt; next.try_clone(rt.alloc())? == next);
         assert!(rt; next != State::Retry(Name::FlowStart));
         assert!(rt; next != State::Next(Name::TextStart));
         assert!(rt; next != refused);

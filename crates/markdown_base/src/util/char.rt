@@ -231,6 +231,10 @@ mod tests {
             ('!', "`!` (U+0021)"),
             (' ', "U+0020"),
             ('`', "`` ` `` (U+0060)"),
+            ('~', "`~` (U+007E)"),
+            ('\n', "U+000A"),
+            ('é', "U+00E9"),
+            ('\u{10ffff}', "U+10FFFF"),
         ] {
             assert_eq!(rt; format(alloc, char)?.as_str(), shown);
         }
@@ -238,6 +242,7 @@ mod tests {
             (b'!', "`!` (U+0021)"),
             (b' ', "U+0020"),
             (b'`', "`` ` `` (U+0060)"),
+            (0xe9, "U+00E9"),
         ] {
             assert_eq!(rt; format_byte(alloc, byte)?.as_str(), shown);
         }

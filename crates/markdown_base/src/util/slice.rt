@@ -234,6 +234,14 @@ mod tests {
         assert_eq!(rt; slice.before, 2);
         assert_eq!(rt; slice.bytes, b"foo".as_slice());
         assert_eq!(rt; slice.after, 0);
+        assert!(rt;
+            str::from_utf8(slice.bytes).is_ok()
+                && slice.bytes.len() < 4
+                && slice.before < 3
+                && slice.after < 3
+        );
+        assert_eq!(rt; slice.len(), 5);
+        assert_eq!(rt; slice.serialize(rt.alloc())?.as_str(), "  foo");
         Ok(())
     }
 
@@ -291,6 +299,32 @@ mod tests {
             assert_eq!(rt; slice.len(), shown.len());
             assert_eq!(rt; slice.serialize(rt.alloc())?.as_str(), shown);
         }
+        Ok(())
+    }
+
+    #[test]
+    fn writes_many_spaces(rt: HostRuntime) -> Result<(), Fail> {
+        let mut want = String::new(rt.alloc());
+        for _i in 0..300 {
+            want.push(' ')?;
+        }
+        want.push('x')?;
+        for _i in 0..200 {
+            want.push(' ')?;
+        }
+        let slice = Slice {
+            bytes: b"x",
+            before: 300,
+            after: 200,
+        };
+        assert!(rt; str::from_utf8(slice.bytes).is_ok());
+        assert_eq!(rt; slice.len(), 501);
+        assert_eq!(rt; slice.serialize(rt.alloc())?.as_str(), want.as_str());
+        Ok(())
+    }
+
+    #[test]
+    fn takes_bytes_between_indices(rt: HostRuntime) -> Result<(), Fail> {
         let slice = Slice::from_indices(b"abc", 1, 2);
         assert_eq!(rt; slice.before, 0);
         assert_eq!(rt; slice.bytes, b"b".as_slice());
