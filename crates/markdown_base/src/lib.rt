@@ -2,6 +2,7 @@
 #![tactic(auto)]
 
 pub mod configuration;
+pub mod equality;
 pub mod event;
 pub mod message;
 pub mod owned;
