@@ -634,22 +634,3 @@ pub struct Event {
     /// Where the event joins a chain, if it does.
     pub link: Option<Link>,
 }
-
-#[cfg(test)]
-mod tests {
-    use super::*;
-
-    #[test]
-    fn shifts_over_a_tab(rt: HostRuntime) {
-        let start = Point {
-            line: 1,
-            column: 1,
-            index: 0,
-            vs: 0,
-        };
-        let shifted = start.shift_to(b"a\tb", 2);
-        assert_eq!(rt; (shifted.line, shifted.column), (1, 5));
-        assert_eq!(rt; (shifted.index, shifted.vs), (2, 0));
-        assert_eq!(rt; shifted.to_unist(), unist::Point::new(1, 5, 2));
-    }
-}

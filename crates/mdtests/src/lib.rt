@@ -2,12 +2,34 @@
 #![tactic(auto)]
 
 #[cfg(test)]
+mod chars;
+#[cfg(test)]
+mod constants;
+#[cfg(test)]
 mod edit_map;
+#[cfg(test)]
+mod line_endings;
 #[cfg(test)]
 mod links;
 #[cfg(test)]
+mod locations;
+#[cfg(test)]
+mod messages;
+#[cfg(test)]
+mod options;
+#[cfg(test)]
+mod owned_values;
+#[cfg(test)]
 mod places;
+#[cfg(test)]
+mod points;
 #[cfg(test)]
 mod skip;
 #[cfg(test)]
+mod slices;
+#[cfg(test)]
+mod states;
+#[cfg(test)]
 mod tokenizer;
+#[cfg(test)]
+mod unist_points;

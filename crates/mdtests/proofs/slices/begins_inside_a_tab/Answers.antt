@@ -2,7 +2,7 @@ use Rattle.std.proofs.Common.{ℕ, List, [], ◌∷◌, refl, sym, subst, lit<}
 use Rattle.markdown_base.specs.declared.event.Point.{Point}
 use Rattle.markdown_base.specs.Places.{IsPointOf}
 use Rattle.markdown_base.specs.Virtual.{point}
-use Rattle.markdown_base.proofs.util.slice.tests.stays_inside_a_tab.Goals as goal
+use Rattle.mdtests.proofs.slices.begins_inside_a_tab.Goals as goal
 
 -- the bytes of the document
 abbrev document : List ℕ
@@ -11,8 +11,8 @@ document = 62 ∷ 32 ∷ 32 ∷ 32 ∷ 32 ∷ 9 ∷ 102 ∷ 111 ∷ 111 ∷ []
 start_is_place : IsPointOf 4 document (point 1 7 5 1)
 start_is_place = (12, lit< tt, refl)
 
-end_is_place : IsPointOf 4 document (point 1 8 5 2)
-end_is_place = (14, lit< tt, refl)
+end_is_place : IsPointOf 4 document (point 1 12 9 0)
+end_is_place = (22, lit< tt, refl)
 
 pub from_position-slice-requires-clause-start_is_place : goal.from_position-slice-requires-clause-start_is_place
 from_position-slice-requires-clause-start_is_place g c =
