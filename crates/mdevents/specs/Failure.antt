@@ -1,7 +1,7 @@
 -- Why the program fails.
 use Rattle.std.specs.Prelude.{ℕ, List, codes, ⊤}
 use Rattle.mdevents.specs.declared.failure.Failure.{Failure}
-use Rattle.mdevents.specs.declared.failure.Failure.TheVariants.{Memory, Read, Write, TooLong, Message}
+use Rattle.mdevents.specs.declared.failure.Failure.TheVariants.{Memory, Read, Write, TooLong, NotReady, Message}
 use Rattle.markdown_base.specs.Shown.{message_text}
 
 -- the line that a failure is shown as
@@ -10,6 +10,7 @@ failure_text Memory = codes "out of memory"
 failure_text Read = codes "cannot read input"
 failure_text Write = codes "cannot write output"
 failure_text TooLong = codes "input too long"
+failure_text NotReady = codes "events are not ready"
 failure_text (Message m) = message_text m
 
 -- reading can fail so: by memory, by the reader, or by the limit
@@ -18,6 +19,7 @@ IsOfReading Memory = ⊤
 IsOfReading Read = ⊤
 IsOfReading Write = ⊥
 IsOfReading TooLong = ⊤
+IsOfReading NotReady = ⊥
 IsOfReading (Message m) = ⊥
 
 -- making the events can fail so: by memory, or by a message
@@ -26,4 +28,5 @@ IsOfMaking Memory = ⊤
 IsOfMaking Read = ⊥
 IsOfMaking Write = ⊥
 IsOfMaking TooLong = ⊥
+IsOfMaking NotReady = ⊥
 IsOfMaking (Message m) = ⊤

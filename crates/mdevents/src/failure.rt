@@ -9,7 +9,7 @@ use std::alloc::AllocError;
 use std::fmt;
 
 /// Why nothing, or not all, was written. Each is shown as one line.
-#[derive(Drop)]
+#[derive(Debug, PartialEq, Eq, Drop)]
 pub enum Failure {
     /// Memory was refused.
     Memory,
@@ -19,6 +19,8 @@ pub enum Failure {
     Write,
     /// Four times the length of the input, and one more, do not fit `usize`.
     TooLong,
+    /// The events have links that cannot be followed. Never answered: `--deep`, which follows them, is not there yet.
+    NotReady,
     /// The document is refused.
     Message(Message),
 }
@@ -32,6 +34,7 @@ impl fmt::Display for Failure {
             Failure::Read => write!(f, "cannot read input"),
             Failure::Write => write!(f, "cannot write output"),
             Failure::TooLong => write!(f, "input too long"),
+            Failure::NotReady => write!(f, "events are not ready"),
             Failure::Message(message) => write!(f, "{message}"),
         }
     }
@@ -48,7 +51,23 @@ impl From<AllocError> for Failure {
 #[cfg(test)]
 mod tests {
     use super::*;
+    use markdown_base::message::Place;
+    use markdown_base::owned::{Boxed, OwnedText};
+    use markdown_base::unist::Point;
+    use std::alloc::Global;
     use std::test::Fail;
+
+    fn message(alloc: Global) -> Result<Message, AllocError> {
+        let place = Place::Point(Point::new(1, 2, 1));
+        let rule = OwnedText::from_string(String::from_str(alloc, "r")?);
+        let source = OwnedText::from_string(String::from_str(alloc, "markdown")?);
+        Ok(Message {
+            place: Some(Boxed::from_box(Box::new(alloc, place)?)),
+            reason: OwnedText::from_string(String::from_str(alloc, "x")?),
+            rule_id: Boxed::from_box(Box::new(alloc, rule)?),
+            source: Boxed::from_box(Box::new(alloc, source)?),
+        })
+    }
 
     #[test]
     fn shows_lines(rt: HostRuntime) -> Result<(), Fail> {
@@ -57,6 +76,11 @@ mod tests {
             (Failure::Read, "cannot read input"),
             (Failure::Write, "cannot write output"),
             (Failure::TooLong, "input too long"),
+            (Failure::NotReady, "events are not ready"),
+            (
+                Failure::Message(message(rt.alloc())?),
+                "1:2: x (markdown:r)",
+            ),
         ] {
             let text = failure.to_string(rt.alloc())?;
             assert_eq!(rt; text.as_str(), line);
