@@ -6,12 +6,11 @@ use Rattle.markdown_base.specs.declared.event.Event.{Event}
 use Rattle.markdown_base.specs.declared.message.Message.{Message}
 use Rattle.markdown_base.specs.declared.state.Name.{Name}
 use Rattle.markdown_base.specs.declared.state.TheConstants.Name.{FlowStart, TextStart, StringStart}
-use Rattle.markdown_base.specs.declared.state.State.TheVariants.{Ok, Error}
 use Rattle.markdown_base.specs.Presets.{default_parse_options}
+use Rattle.markdown.specs.declared.subtokenize.Subresult.{Subresult}
 use Rattle.markdown.specs.Text.{Given}
 use Rattle.markdown.specs.Rules.{Rules}
-use Rattle.markdown.specs.Reading.{Reading}
-use Rattle.markdown.specs.Engine.{given_by, StartEndsIn}
+use Rattle.markdown.specs.Engine.{given_by, IsRun, IsRunRefused}
 use Rattle.markdown.specs.Cuts.{cuts_every}
 use Rattle.mdevents.specs.declared.words.Choice.{Choice}
 use Rattle.mdevents.specs.declared.words.Which.{Which}
@@ -22,6 +21,7 @@ use Rattle.mdconstructs.specs.Deep.{deep_rules}
 use Rattle.mdconstructs.specs.Back.{back_rules}
 use Rattle.mdconstructs.specs.Save.{save_rules}
 use Rattle.mdevents.specs.Printed.{printed_events}
+use Rattle.mdevents.specs.Reading.{IsWithinLimit}
 
 -- a document, read with the default options
 abbrev pub document : List ℕ → Given
@@ -29,18 +29,13 @@ document bytes = given_by 4 bytes default_parse_options
 
 -- a machine with a start
 module _ {R D : Type 0} (rules : Given → Rules R D) (start : Name) (bytes : List ℕ) where
-  -- These are the events in which the machine's one reading of a document ends
-  pub record Gives (events : List Event) : Type 0 where
-    pub result : Reading R D
-    pub ends : StartEndsIn (document bytes) rules start result
-    pub well : result.answer ≡ Ok
-    pub same : events ≡ result.configuration.events
+  -- a run of the machine over a document answers these events
+  abbrev pub Gives : List Event → Type 0
+  Gives events = (sub : Subresult) × IsRun (document bytes) rules start events sub
 
-  -- The machine's one reading of a document ends in this message
-  pub record Refuses (m : Message) : Type 0 where
-    pub result : Reading R D
-    pub ends : StartEndsIn (document bytes) rules start result
-    pub message : result.answer ≡ Error m
+  -- a run of the machine over a document is refused with this message
+  abbrev pub Refuses : Message → Type 0
+  Refuses m = IsRunRefused (document bytes) rules start m
 
 -- the events of a document are those that its machine gives
 abbrev pub AreEventsOf : Which → List ℕ → List Event → Type 0
@@ -62,10 +57,15 @@ IsRefusedBy Save = Refuses save_rules TextStart
 abbrev pub cut_places : Choice → List ℕ → List (ℕ × ℕ)
 cut_places choice bytes = option_map_or (cuts_every 4 bytes) choice.cut []
 
--- A reader was read to its end
+-- A reader was read to its end, within the limit
 pub record IsReadToEnd (old new : Option (List ℕ)) (bytes : List ℕ) : Type 0 where
   pub all : Consumes old new bytes
   pub end : IsAtEnd new
+  pub within : IsWithinLimit bytes
+
+-- what was read to its end is refused with this message
+abbrev pub IsReadAndRefused : Which → Option (List ℕ) → Option (List ℕ) → Message → Type 0
+IsReadAndRefused which old new m = (bytes : List ℕ) × IsReadToEnd old new bytes × IsRefusedBy which bytes m
 
 -- What was read to its end has these printed events
 pub record ArePrintedEvents (which : Which) (old new : Option (List ℕ)) (text : List ℕ) : Type 0 where

@@ -1,11 +1,11 @@
 //! What the program does, over any reader and writer.
 
-ghost use Rattle.std.specs.Prelude.{◌≡◌, ◌≢◌, ℕ, List, Contains, IfOk, IfErr, OnOk, IsErrOf};
-ghost use Rattle.std.specs.Io.KnownBytes.{Consumes, Keeps};
+ghost use Rattle.std.specs.Prelude.{◌≡◌, ◌≢◌, Contains, IfOk, IfErr, OnOk, IsErrOf};
+ghost use Rattle.std.specs.Io.KnownBytes.{Keeps};
 ghost use Rattle.markdown.specs.Engine.{AreCuts};
 ghost use Rattle.mdevents.specs.Failure.{IsOfMaking};
-ghost use Rattle.mdevents.specs.Program.{document, cut_places, Gives, Refuses, AreEventsOf, IsRefusedBy, IsReadToEnd, Prints, PrintsFront};
-ghost use Rattle.mdevents.specs.Reading.{IsWithinLimit};
+ghost use Rattle.mdevents.specs.Program.{document, cut_places, Gives, Refuses, AreEventsOf, IsRefusedBy, IsReadAndRefused, Prints, PrintsFront};
+ghost use Rattle.mdevents.specs.Reading.{IsWithinLimit, ReadsWithinLimit, ReadsPastLimit};
 ghost use Rattle.mdevents.specs.Words.{CanCut};
 
 use crate::failure::Failure;
@@ -30,6 +30,7 @@ use std::io::{Read, Write};
 ///
 /// A cut in the choice is at least 1. The first failure met is answered, in the order of reading, length, making the
 /// events, and writing. Where it is not that of the writer nothing was written; where it is, a beginning of the lines.
+/// But for `TooLong`, what was read is within the limit. `NotReady` is never answered yet.
 pub fn write_events<R: Read, W: Write>(
     alloc: Global,
     reader: &mut R,
@@ -38,8 +39,10 @@ pub fn write_events<R: Read, W: Write>(
 ) -> Result<(), Failure>
     requires { CanCut choice.now }
     ensures written { OnOk result (Prints choice.now.machine (R.remaining reader.old) (R.remaining reader.new) (W.contents writer.old) (W.contents writer.new)) }
-    ensures too_long { IsErrOf result Failure.TooLong → (bytes : List ℕ) × Consumes (R.remaining reader.old) (R.remaining reader.new) bytes × ¬ IsWithinLimit bytes }
-    ensures message { (m : _) → IsErrOf result (Failure.Message m) → (bytes : List ℕ) × IsReadToEnd (R.remaining reader.old) (R.remaining reader.new) bytes × IsRefusedBy choice.now.machine bytes m }
+    ensures too_long { IsErrOf result Failure.TooLong → ReadsPastLimit (R.remaining reader.old) (R.remaining reader.new) }
+    ensures within_else { IfErr result (λ failure. failure ≢ Failure.TooLong → ReadsWithinLimit (R.remaining reader.old) (R.remaining reader.new)) }
+    ensures ready { ¬ IsErrOf result Failure.NotReady }
+    ensures message { (m : _) → IsErrOf result (Failure.Message m) → IsReadAndRefused choice.now.machine (R.remaining reader.old) (R.remaining reader.new) m }
     ensures cut_short { IsErrOf result Failure.Write → PrintsFront choice.now.machine (R.remaining reader.old) (R.remaining reader.new) (W.contents writer.old) (W.contents writer.new) }
     ensures nothing { IfErr result (λ failure. failure ≢ Failure.Write → Keeps (W.contents writer.old) (W.contents writer.new)) }
 {

@@ -1,9 +1,9 @@
 //! Reading input to its end.
 
-ghost use Rattle.std.specs.Prelude.{◌≡◌, ◌+◌, ◌<◌, ℕ, List, ◌++◌, length, true, false, IfOk, IfErr, OnOk, OnErr, IsErrOf, Ok};
+ghost use Rattle.std.specs.Prelude.{◌≡◌, ◌≢◌, ◌+◌, ◌<◌, ℕ, List, ◌++◌, length, true, false, IfOk, IfErr, OnOk, OnErr, IsErrOf, Ok};
 ghost use Rattle.std.specs.Io.KnownBytes.{Consumes, IsAtEnd};
 ghost use Rattle.mdevents.specs.Failure.{IsOfReading};
-ghost use Rattle.mdevents.specs.Reading.{IsWithinLimit};
+ghost use Rattle.mdevents.specs.Reading.{IsWithinLimit, ReadsWithinLimit, ReadsPastLimit};
 
 use crate::failure::Failure;
 use std::alloc::Global;
@@ -20,9 +20,9 @@ pub fn read_to_end<R: Read>(alloc: Global, reader: &mut R) -> Result<Vec<u8>, Fa
     ensures all { IfOk result (λ bytes. Consumes (R.remaining reader.old) (R.remaining reader.new) bytes.items) }
     ensures end { OnOk result (IsAtEnd (R.remaining reader.new)) }
     ensures within { IfOk result (λ bytes. IsWithinLimit bytes.items) }
-    ensures too_long { IsErrOf result Failure.TooLong → (bytes : List ℕ)
-        × Consumes (R.remaining reader.old) (R.remaining reader.new) bytes × ¬ IsWithinLimit bytes }
+    ensures too_long { IsErrOf result Failure.TooLong → ReadsPastLimit (R.remaining reader.old) (R.remaining reader.new) }
     ensures failed { OnErr result ((bytes : List ℕ) × Consumes (R.remaining reader.old) (R.remaining reader.new) bytes) }
+    ensures within_else { IfErr result (λ failure. failure ≢ Failure.TooLong → ReadsWithinLimit (R.remaining reader.old) (R.remaining reader.new)) }
     ensures cause { IfErr result IsOfReading }
 {
     let mut bytes = Vec::new(alloc);
@@ -41,6 +41,8 @@ fn read_more<R: Read>(reader: &mut R, bytes: &mut Vec<u8>) -> Result<bool, Failu
     ensures too_long { IsErrOf result Failure.TooLong → (piece : List ℕ)
         × Consumes (R.remaining reader.old) (R.remaining reader.new) piece × ¬ IsWithinLimit (bytes.old.items ++ piece) }
     ensures failed { OnErr result ((piece : List ℕ) × Consumes (R.remaining reader.old) (R.remaining reader.new) piece) }
+    ensures within_else { IfErr result (λ failure. failure ≢ Failure.TooLong → (piece : List ℕ)
+        × Consumes (R.remaining reader.old) (R.remaining reader.new) piece × IsWithinLimit (bytes.old.items ++ piece)) }
     ensures cause { IfErr result IsOfReading }
 {
     let mut piece = [0u8; 4096];

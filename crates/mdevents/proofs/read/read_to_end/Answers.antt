@@ -14,3 +14,10 @@ returns-in_err-read_more-clause-failed g c =
     let (failure, is, same) = err_from_is_err_and c.from_residual.result c.from_residual.ensures.1 in
     let (piece, taken) = c.in_err-read_more.ensures.failed in
     rw is (c.reading.bytes.items ++ piece, Consumes-trans _ _ _ _ _ c.reading.invariant.taken taken)
+
+pub returns-in_err-read_more-clause-within_else : goal.returns-in_err-read_more-clause-within_else
+returns-in_err-read_more-clause-within_else g c =
+    let (failure, is, same) = err_from_is_err_and c.from_residual.result c.from_residual.ensures.1 in
+    rw is (λ other.
+    let (piece, taken, within) = c.in_err-read_more.ensures.within_else (λ e. other (cc)) in
+    (c.reading.bytes.items ++ piece, Consumes-trans _ _ _ _ _ c.reading.invariant.taken taken, within))
