@@ -4,3 +4,4 @@ pub mod Program
 pub mod Reading
 pub mod Rows
 pub mod Words
+pub mod WordsInner

@@ -1,8 +1,8 @@
 -- The words that the program is called with.
-use Rattle.std.specs.Prelude.{ℕ, ◌≤◌, IfSome, ◌^◌, ◌&&◌, List, [], ◌∷◌, Option, Some, None, unwrap_or, codes, nat_lt, cond}
+use Rattle.std.specs.Prelude.{ℕ, ◌≤◌, IfSome, ◌^◌, ◌&&◌, List, [], ◌∷◌, Option, Some, None, unwrap_or, codes, nat_lt, cond, filter_map}
 use Rattle.std.specs.Char.{is_ascii_digit}
 use Rattle.std.specs.List.{list_all}
-use Rattle.std.specs.Option.{is_none, option_and_then}
+use Rattle.std.specs.Option.{option_and_then, option_map}
 use Rattle.std.specs.Str.{bytes_eq}
 use Rattle.std.specs.Str.Parse.{digits_value}
 use Rattle.mdevents.specs.declared.words.Choice.{Choice}
@@ -20,17 +20,47 @@ which_of name =
     (cond (bytes_eq name (codes "peek")) (Some Peek)
     (cond (bytes_eq name (codes "deep")) (Some Deep) (cond (bytes_eq name (codes "back")) (Some Back) (cond (bytes_eq name (codes "save")) (Some Save) None))))
 
--- what words choose after these options: `--cut` and a number, or `--machine` and a name, each where it did not come before
-abbrev pub chosen_after : Option ℕ → Option Which → List (List ℕ) → Option Choice
-chosen_after cut machine [] = Some (record { cut = cut; machine = unwrap_or machine Lines })
-chosen_after cut machine (option ∷ []) = None
-chosen_after cut machine (option ∷ word ∷ words) =
-    cond (bytes_eq option (codes "--cut") && is_none cut) (option_and_then (λ n. chosen_after (Some n) machine words) (number_of word))
-    (cond (bytes_eq option (codes "--machine") && is_none machine) (option_and_then (λ which. chosen_after cut (Some which) words) (which_of word)) None)
+-- An option with its value
+pub data Spelled : Type 0 where
+  cut : ℕ → Spelled
+  machine : Which → Spelled
 
--- what words choose, if they choose anything: options in any order, each at most once
+-- the option that two words spell, if they spell one: `--cut` and a number, or `--machine` and a name
+abbrev pub option_of : List ℕ → List ℕ → Option Spelled
+option_of name value =
+    cond (bytes_eq name (codes "--cut")) (option_map cut (number_of value)) (cond (bytes_eq name (codes "--machine")) (option_map machine (which_of value)) None)
+
+-- the options that words spell, in order, if they spell options: each two words are an option with its value
+abbrev pub options_of : List (List ℕ) → Option (List Spelled)
+options_of [] = Some []
+options_of (name ∷ []) = None
+options_of (name ∷ value ∷ words) = option_and_then (λ option. option_map (λ options. option ∷ options) (options_of words)) (option_of name value)
+
+-- the number of an option to cut
+abbrev pub cut_in : Spelled → Option ℕ
+cut_in (cut n) = Some n
+cut_in (machine which) = None
+
+-- the machine of an option that names one
+abbrev pub machine_in : Spelled → Option Which
+machine_in (cut n) = None
+machine_in (machine which) = Some which
+
+-- what a list of at most one has, if it has it; nothing for a longer list
+abbrev pub at_most_one : {A : Type 0} → List A → Option (Option A)
+at_most_one [] = Some None
+at_most_one (x ∷ []) = Some (Some x)
+at_most_one (x ∷ y ∷ xs) = None
+
+-- what options choose, if there is at most one of each: without a machine's name, that of lines
+abbrev pub chosen_by : List Spelled → Option Choice
+chosen_by options =
+    option_and_then (λ cut. option_map (λ which. record { cut = cut; machine = unwrap_or which Lines }) (at_most_one (filter_map machine_in options)))
+    (at_most_one (filter_map cut_in options))
+
+-- what words choose, if they choose anything: what the options that they spell choose
 abbrev pub chosen : List (List ℕ) → Option Choice
-chosen words = chosen_after None None words
+chosen words = option_and_then chosen_by (options_of words)
 
 -- a cut is at least 1
 abbrev pub CanCut : Choice → Type 0

@@ -1,6 +1,6 @@
 //! The words that the program is called with.
 
-ghost use Rattle.std.specs.Prelude.{◌≡◌, ◌≤◌, IfSome, map, string_bytes};
+ghost use Rattle.std.specs.Prelude.{◌≡◌, ◌≤◌, IfSome, map, string_bytes, codes};
 ghost use Rattle.std.specs.Char.{is_ascii_digit};
 ghost use Rattle.std.specs.List.{list_all};
 
@@ -31,7 +31,8 @@ pub struct Choice {
     pub machine: Which,
 }
 
-ghost use Rattle.mdevents.specs.Words.{chosen, chosen_after, which_of, number_of, CanCut};
+ghost use Rattle.mdevents.specs.Words.{chosen, which_of, number_of, CanCut};
+ghost use Rattle.mdevents.specs.WordsInner.{chosen_after};
 
 /// What the words after the program's name choose: `--cut` with a number and `--machine` with a name, in any order, each
 /// at most once. The machine is that of lines where none is named. None asks for [`USAGE`].
@@ -41,6 +42,11 @@ pub fn read_words(words: &[String]) -> Option<Choice>
 {
     read_options(words, None, None)
 }
+
+/// The line that answers words which choose nothing has this text.
+pub fn usage_line_stays()
+    ensures { USAGE.now ≡ codes "usage: mdevents [--cut n] [--deep] [--machine name]" }
+{}
 
 /// The rest of the words, where some options came before.
 fn read_options(words: &[String], cut: Option<usize>, machine: Option<Which>) -> Option<Choice>

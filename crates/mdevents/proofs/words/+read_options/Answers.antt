@@ -4,7 +4,8 @@ use Rattle.std.specs.Option.{is_none}
 use Rattle.std.specs.Str.{bytes_eq}
 use Rattle.std.proofs.lemmas.List.{take_all}
 use Rattle.mdevents.specs.declared.words.Which.{Which}
-use Rattle.mdevents.specs.Words.{chosen_after, number_of, which_of}
+use Rattle.mdevents.specs.Words.{number_of, which_of}
+use Rattle.mdevents.specs.WordsInner.{chosen_after}
 use Rattle.mdevents.proofs.words.+read_options.Goals.{then-eq+else-is_none, else-eq}
 use Rattle.mdevents.proofs.words.+read_options.Goals as goal
 

@@ -1,0 +1,16 @@
+-- Inner: what words choose, word by word, as private functions speak of it. No public clause cites this file.
+use Rattle.std.specs.Prelude.{ℕ, ◌&&◌, List, [], ◌∷◌, Option, Some, None, unwrap_or, codes, cond}
+use Rattle.std.specs.Option.{is_none, option_and_then}
+use Rattle.std.specs.Str.{bytes_eq}
+use Rattle.mdevents.specs.declared.words.Choice.{Choice}
+use Rattle.mdevents.specs.declared.words.Which.{Which}
+use Rattle.mdevents.specs.declared.words.Which.TheVariants.{Lines}
+use Rattle.mdevents.specs.Words.{number_of, which_of}
+
+-- what words choose after these options: `--cut` and a number, or `--machine` and a name, each where it did not come before
+abbrev pub chosen_after : Option ℕ → Option Which → List (List ℕ) → Option Choice
+chosen_after cut machine [] = Some (record { cut = cut; machine = unwrap_or machine Lines })
+chosen_after cut machine (option ∷ []) = None
+chosen_after cut machine (option ∷ word ∷ words) =
+    cond (bytes_eq option (codes "--cut") && is_none cut) (option_and_then (λ n. chosen_after (Some n) machine words) (number_of word))
+    (cond (bytes_eq option (codes "--machine") && is_none machine) (option_and_then (λ which. chosen_after cut (Some which) words) (which_of word)) None)
