@@ -1,3 +1,4 @@
+pub mod Costs
 pub mod Back
 pub mod BackLaws
 pub mod DataReading

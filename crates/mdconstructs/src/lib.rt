@@ -2,6 +2,7 @@
 #![tactic(auto)]
 
 pub mod back;
+pub mod costs;
 mod data;
 pub mod deep;
 pub mod lines;
