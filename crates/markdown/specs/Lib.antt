@@ -14,6 +14,7 @@ pub mod OpenNames
 pub mod Made
 pub mod Edited
 pub mod Edits
+pub mod Laws
 pub mod Links
 pub mod Spliced
 pub mod Stored

@@ -3,6 +3,7 @@
 
 mod count;
 mod cursor;
+pub mod laws;
 pub mod parser;
 mod places;
 pub mod state;
