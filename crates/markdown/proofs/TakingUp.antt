@@ -1,5 +1,5 @@
 -- The work from the start to a turn: what stands at a call, and after it.
-use Rattle.std.proofs.Common.{◌≡◌, ◌≢◌, ◌-◌, ◌<◌, Bool, false, refl, sym, ap, subst, ◌∙◌}
+use Rattle.std.proofs.Common.{◌≡◌, ◌≢◌, ◌-◌, ◌<◌, Bool, false, refl, sym, ap, subst, ◌∙◌, arith}
 use Rattle.std.specs.declared.result.Result.TheVariants as result
 use Rattle.markdown_base.specs.declared.state.Name.{Name}
 use Rattle.markdown_base.specs.declared.state.State.{State}
@@ -12,7 +12,7 @@ use Rattle.markdown.specs.Rules.{Rules}
 use Rattle.markdown.specs.Lawful.{IsCalled}
 use Rattle.markdown.specs.Engine.{budget}
 use Rattle.markdown.specs.Work.{HoldsAll, Stops, settled_all, settled_to, EndsClosed, TakesUp, IsInText}
-use Rattle.markdown.proofs.Working.{Laws, KeptBy, leads-refl, leads-for-settled, settled-only, settled-end, settled-ends, settled-closes, stops-there, kept-settled, kept-ended, kept-taken, kept-turn, kept-holds, kept-calls, text-worked, taken-calls, smaller}
+use Rattle.markdown.proofs.Working.{Laws, KeptBy, leads-refl, leads-for-settled, settled-only, settled-message, settled-end, settled-ends, settled-closes, stops-there, kept-settled, kept-ended, kept-taken, kept-turn, kept-holds, kept-calls, text-worked, taken-calls, smaller}
 
 module _ {M R D : Type 0} (rules : M → Given → Rules R D) (laws : (m : M) (given : Given) → Laws given (rules m given)) where
   -- what the work kept since its start
@@ -21,7 +21,8 @@ module _ {M R D : Type 0} (rules : M → Given → Rules R D) (laws : (m : M) (g
 
   pub kept-first : (flush : Bool) (t : Seen M R D) (a : State) → (flush ≡ false → t.configuration.waiting ≢ End) → HoldsAll (rules t.machine t.given) flush t a → KeptFrom flush t a t a
   kept-first flush t a waits h = record {
-    same = record { given = refl; machine = refl; text = refl; closed = refl };
+    same = record { given = refl; machine = refl; text = refl; closed = refl; counted = omega arith };
+    message = λ m e. (e, refl);
     waits = waits;
     leads = λ rest can only.
         leads-refl t.given (rules t.machine t.given) (followed_by_all t.given t.text rest) t a (h rest can only);
@@ -32,7 +33,7 @@ module _ {M R D : Type 0} (rules : M → Given → Rules R D) (laws : (m : M) (g
   kept-mid flush t u a s is k =
       let e = settled_all u.configuration u.choices s in
       kept-settled rules t.machine t.given flush t u (settled_to u e) a s e.answer
-      (text-worked t.given t u is k.same) (sym k.same.machine) (sym k.same.given) k (settled-only u e) (settled-end u.configuration u.choices s)
+      (text-worked t.given t u is k.same) (sym k.same.machine) (sym k.same.given) k (settled-only u e) (settled-end u.configuration u.choices s) (settled-message u s)
       (leads-for-settled rules u.machine u.given (laws u.machine u.given) u s)
 
   -- a state is taken up

@@ -230,10 +230,21 @@ settled-end k (c ∷ cs) Ok h = let e = settled-end (settled_at c.kind c.saved O
 settled-end k (c ∷ cs) Nok h = let e = settled-end (settled_at c.kind c.saved Nok k) cs c.nok h in let f : Nothing ≡ End = sym (settled-waits c.kind c.saved Nok k) ∙ e in absurd cc
 
 pub settled-only : {M R D : Type 0} (t : Seen M R D) (s : Step R D) → OnlyWorked t (settled_to t s)
-settled-only t s = record { given = refl; machine = refl; text = refl; closed = refl }
+settled-only t s = record { given = refl; machine = refl; text = refl; closed = refl; counted = omega arith }
 
 pub only-trans : {M R D : Type 0} (t u v : Seen M R D) → OnlyWorked t u → OnlyWorked u v → OnlyWorked t v
-only-trans t u v a b = record { given = b.given ∙ a.given; machine = b.machine ∙ a.machine; text = b.text ∙ a.text; closed = b.closed ∙ a.closed }
+only-trans t u v a b = record {
+  given = b.given ∙ a.given;
+  machine = b.machine ∙ a.machine;
+  text = b.text ∙ a.text;
+  closed = b.closed ∙ a.closed;
+  counted = omega (arith, a.counted, b.counted);
+}
+
+-- a message ends all at once
+pub settled-message : {M R D : Type 0} (t : Seen M R D) (s : State) (m : Message) → s ≡ Error m
+    → ((settled_all t.configuration t.choices s).answer ≡ Error m) × (settled_to t (settled_all t.configuration t.choices s) ≡ t)
+settled-message t s m e = rw e (refl, refl)
 
 fed-byte : {R D : Type 0} (text : Text) (k : Configuration R D) → k.position < length text.seats → (fed text k).waiting ≡ End → Byte ≡ End
 fed-byte text k h e = let lt = lt-is k.position (length text.seats) h in rw lt at e
@@ -266,13 +277,15 @@ pub record Kept {M R D : Type 0} (given : Given) (rules : Rules R D) (flush : Bo
   pub same : OnlyWorked old new
   pub waits : flush ≡ false → new.configuration.waiting ≢ End
   pub leads : LeadsAll given rules flush old state new answer
+  pub message : (m : Message) → state ≡ Error m → (answer ≡ Error m) × (new ≡ old)
 
 module _ {M R D : Type 0} (given : Given) (rules : Rules R D) (laws : Laws given rules) where
   -- taking up a state
   pub kept-taken : (flush : Bool) (t u v : Seen M R D) (a s : State) (n : Name) → IsText given u.text → TakesUp flush u v s (result.Ok n)
       → Kept given rules flush t a u s → Kept given rules flush t a v (Retry n)
   kept-taken flush t u v a (Next m) n is h k = rw (h.1, h.0) (record {
-    same = record { given = k.same.given; machine = k.same.machine; text = k.same.text; closed = k.same.closed };
+    same = record { given = k.same.given; machine = k.same.machine; text = k.same.text; closed = k.same.closed; counted = k.same.counted };
+    message = λ e is_error. let f : Next m ≡ Error e = (k.message e is_error).0 in absurd cc;
     waits = λ f e. let e' : Byte ≡ End = fed-byte u.text u.configuration (h.2 f) e in absurd cc;
     leads = λ rest can only.
         let w = followed_by_all given u.text rest in
@@ -294,7 +307,8 @@ module _ {M R D : Type 0} (given : Given) (rules : Rules R D) (laws : Laws given
   kept-called flush t u v a s n is sound h k =
       let st = rules.step (sight given u.text u.configuration) u.configuration n in
       let now = (k.leads [] tt (λ _. refl)).kept in rw (h.became, h.answered) (record {
-        same = record { given = k.same.given; machine = k.same.machine; text = k.same.text; closed = k.same.closed };
+        same = record { given = k.same.given; machine = k.same.machine; text = k.same.text; closed = k.same.closed; counted = omega (arith, k.same.counted) };
+        message = λ e is_error. let f : Retry n ≡ Error e = (k.message e is_error).0 in absurd cc;
         waits = λ f e. k.waits f (no-feeding given rules laws.consumes u.text u.configuration u.choices n is now e);
         leads = λ rest can only.
             let w = followed_by_all given u.text rest in
@@ -342,10 +356,14 @@ module _ {M R D : Type 0} (rules : M → Given → Rules R D) where
       closed-by Nok k some h = absurd (laws.ends.nok t.text k is h)
 
   settled-same : (m : M) (given : Given) (flush : Bool) (t u v : Seen M R D) (a s next : State) → IsText given u.text → KeptBy m given flush t a u s → OnlyWorked u v
-      → (v.configuration.waiting ≡ End → u.configuration.waiting ≡ End) → LeadsFor m given u s v next
+      → (v.configuration.waiting ≡ End → u.configuration.waiting ≡ End) → ((e : Message) → s ≡ Error e → (next ≡ Error e) × (v ≡ u)) → LeadsFor m given u s v next
       → KeptBy m given flush t a v next
-  settled-same m given flush t u v a s next is k only waits leads = record {
+  settled-same m given flush t u v a s next is k only waits stays leads = record {
     same = only-trans t u v k.same only;
+    message = λ e is_error.
+        let now = k.message e is_error in
+        let after = stays e now.0 in
+        (after.0, after.1 ∙ now.1);
     waits = λ f e. k.waits f (waits e);
     leads = λ rest can one.
         let can' = subst (λ (q : Text). CanFollow given q rest) only.text can in
@@ -358,10 +376,10 @@ module _ {M R D : Type 0} (rules : M → Given → Rules R D) where
 
   pub kept-settled : (m : M) (given : Given) (flush : Bool) (t u v : Seen M R D) (a s next : State) → IsText given u.text → m ≡ u.machine → given ≡ u.given
       → KeptBy m given flush t a u s → OnlyWorked u v
-      → (v.configuration.waiting ≡ End → u.configuration.waiting ≡ End) → LeadsFor u.machine u.given u s v next
+      → (v.configuration.waiting ≡ End → u.configuration.waiting ≡ End) → ((e : Message) → s ≡ Error e → (next ≡ Error e) × (v ≡ u)) → LeadsFor u.machine u.given u s v next
       → KeptBy m given flush t a v next
-  kept-settled m given flush t u v a s next is e f k only waits leads =
-      settled-same m given flush t u v a s next is k only waits
+  kept-settled m given flush t u v a s next is e f k only waits stays leads =
+      settled-same m given flush t u v a s next is k only waits stays
       (subst (λ (q : M). LeadsFor q given u s v next) (sym e) (subst (λ (q : Given). LeadsFor u.machine q u s v next) (sym f) leads))
 
   pub kept-ended : (m : M) (given : Given) (flush : Bool) (t u v : Seen M R D) (a s answer : State) → TakesUp flush u v s (result.Err answer)
@@ -502,8 +520,8 @@ module _ {M R D : Type 0} (t : Seen M R D) (rules : Rules R D) (laws : Laws t.gi
       → ForPoints t.given from to (λ a b. u.text ≡ followed_by t.given t.text (pushed a b))
       → OnlyWorked (extended t (followed_by t.given t.text (pushed f q))) u
       → LeadsAll t.given rules false (extended t (followed_by t.given t.text (pushed f q))) a u s
-      → Stops false u s → IsInText u → IsPushed rules t from to a u s
-  is-pushed u from to f q a s is open_still text only leads stops sound =
+      → Stops false u s → IsInText u → ((m : Message) → a ≡ Error m → (s ≡ Error m) × (u ≡ extended t (followed_by t.given t.text (pushed f q)))) → IsPushed rules t from to a u s
+  is-pushed u from to f q a s is open_still text only leads stops sound stays =
       let now = (leads [] tt (λ _. refl)).kept in
       let is_now = subst (λ (q : Text). IsText t.given q) (sym only.text) is in
       let closed : u.closed ≡ false = only.closed ∙ open_still in record {
@@ -518,5 +536,7 @@ module _ {M R D : Type 0} (t : Seen M R D) (rules : Rules R D) (laws : Laws t.gi
             let within = sound.within in
             let length_is : u.configuration.position ≡ length u.text.seats = omega (arith, far.1, within) in
             (length_is, laws.keeps.unfed u.text u.configuration u.choices name is_now (rw e at now));
+        counted = only.counted;
+        message = λ m e. let same = stays m e in (same.0, same.1 ∙ ap (λ (x : Text). extended t x) (sym only.text));
         answers = stops-answers t.given rules laws u s is_now now stops (λ e. let f : true ≡ false = sym (sound.ended e) ∙ closed in absurd cc);
       }

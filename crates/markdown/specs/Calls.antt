@@ -18,44 +18,29 @@ use Rattle.markdown.specs.Links.{linked_to}
 
 -- one byte is consumed
 abbrev pub consumed : {R D : Type 0} → Configuration R D → Configuration R D
-consumed k = record { position = k.position + 1; waiting = Nothing; ended = false; events = k.events; stack = k.stack; local = k.local }
+consumed k = record k { position = k.position + 1; waiting = Nothing; ended = false }
 
 -- a span begins at a place
 abbrev pub entered : {R D : Type 0} → Name → Option Link → Point → Configuration R D → Configuration R D
-entered name link point k = record {
-  position = k.position;
-  waiting = k.waiting;
-  ended = k.ended;
+entered name link point k = record k {
   events = k.events ++ record { kind = Enter; name = name; point = point; link = link } ∷ [];
   stack = k.stack ++ name ∷ [];
-  local = k.local;
 }
 
 -- the innermost span ends at a place
 abbrev pub exited : {R D : Type 0} → Name → Point → Configuration R D → Configuration R D
-exited name point k = record {
-  position = k.position;
-  waiting = k.waiting;
-  ended = k.ended;
+exited name point k = record k {
   events = k.events ++ record { kind = Exit; name = name; point = point; link = None } ∷ [];
   stack = take (length k.stack - 1) k.stack;
-  local = k.local;
 }
 
 -- two events are made neighbours in a chain
 abbrev pub linked : {R D : Type 0} → (previous next : ℕ) → Configuration R D → Configuration R D
-linked previous next k = record {
-  position = k.position;
-  waiting = k.waiting;
-  ended = k.ended;
-  events = linked_to previous next k.events;
-  stack = k.stack;
-  local = k.local;
-}
+linked previous next k = record k { events = linked_to previous next k.events }
 
 -- other fields are written
 abbrev pub with_local : {R D : Type 0} → Configuration R D → Local R D → Configuration R D
-with_local k local = record { position = k.position; waiting = k.waiting; ended = k.ended; events = k.events; stack = k.stack; local = local }
+with_local k local = record k { local = local }
 
 -- The innermost span may end under this name: it is its name, a byte was consumed since it began, a void span holds no other
 -- event, and the span began after the last waiting choice that would put the stack back
@@ -90,4 +75,4 @@ check_at ok nok k = record { kind = Check; ok = ok; nok = nok; saved = Some (sav
 
 -- one more choice waits
 abbrev pub with_choice : {M R D : Type 0} → Seen M R D → Choice → Seen M R D
-with_choice t c = record { given = t.given; machine = t.machine; text = t.text; configuration = t.configuration; choices = c ∷ t.choices; calls = t.calls; closed = t.closed }
+with_choice t c = record t { choices = c ∷ t.choices }

@@ -136,4 +136,4 @@ start_seen g m text = record {
 
 -- the configuration is another one
 abbrev pub at_configuration : {M R D : Type 0} → Seen M R D → Configuration R D → Seen M R D
-at_configuration t k = record { given = t.given; machine = t.machine; text = t.text; configuration = k; choices = t.choices; calls = t.calls; closed = t.closed }
+at_configuration t k = record t { configuration = k }

@@ -21,22 +21,7 @@ use Rattle.markdown.specs.Reading.{Reading, EndsIn}
 module _ {R D : Type 0} where
   -- the definitions that states found are taken out
   abbrev pub taken : Configuration R D → Configuration R D
-  taken k = record {
-    position = k.position;
-    waiting = k.waiting;
-    ended = k.ended;
-    events = k.events;
-    stack = k.stack;
-    local = record {
-      tokenize_state = record k.local.tokenize_state { definitions = []; gfm_footnote_definitions = [] };
-      map = k.local.map;
-      resolvers = k.local.resolvers;
-      interrupt = k.local.interrupt;
-      concrete = k.local.concrete;
-      pierce = k.local.pierce;
-      lazy = k.local.lazy;
-    };
-  }
+  taken k = record k { local = record k.local { tokenize_state = record k.local.tokenize_state { definitions = []; gfm_footnote_definitions = [] } } }
 
   -- the definitions that states found
   abbrev pub found : Configuration R D → Subresult
@@ -48,12 +33,12 @@ module _ {M R D : Type 0} (rules : Rules R D) where
   budget text t state = t.calls + (rules.cost text t.configuration state + sum_by (rules.reserve text) t.choices)
 
   -- the invariant holds of a tokenizer and the state at hand
-  abbrev pub HoldsAt : Seen M R D → State → Type 0
-  HoldsAt t state = rules.holds t.text t.configuration t.choices state
+  abbrev pub HoldsOf : Seen M R D → State → Type 0
+  HoldsOf t state = rules.holds t.text t.configuration t.choices state
 
 module _ {M R D : Type 0} (g : Given) (rules : Rules R D) where
   -- On a text, the one tokenizer with its state comes to the same end as the other with its own, calls included; the invariant
-  -- holds, and no more calls are to come
+  -- holds, and the calls made and still to come are no more than before
   pub record LeadsOn (text : Text) (old : Seen M R D) (state : State) (new : Seen M R D) (answer : State) : Type 0 where
     pub kept : rules.holds text new.configuration new.choices answer
     pub same : (r : Reading R D) → EndsIn g rules.step text new.calls new.configuration new.choices answer r ↔ EndsIn g rules.step text old.calls old.configuration old.choices state r
@@ -89,6 +74,9 @@ module _ {M R D : Type 0} (rules : Rules R D) where
     pub outcome : KeepsOutcome old.given rules old state new answer
     pub read : (name : Name) → answer ≡ Next name → (new.configuration.position ≡ length new.text.seats) × (new.configuration.waiting ≡ Nothing)
     pub answers : ((name : Name) × (answer ≡ Next name)) ⊎ ((m : Message) × (answer ≡ Error m))
+    pub counted : old.calls ≤ new.calls
+    -- a message is answered again, and nothing is read
+    pub message : (m : Message) → state ≡ Error m → (answer ≡ Error m) × (new ≡ record old { text = new.text })
 
   -- What a flush leaves, where it succeeds: the configuration in which the reading ends, without the definitions, which are answered
   pub record IsFlushed (old : Seen M R D) (state : State) (new : Seen M R D) (sub : Subresult) : Type 0 where

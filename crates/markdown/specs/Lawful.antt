@@ -15,15 +15,7 @@ use Rattle.markdown.specs.Rules.{Rules}
 
 -- the tokenizer after a call: the step's configuration, its choices above the old ones, and one call more
 abbrev pub stepped : {M R D : Type 0} → Seen M R D → Step R D → Seen M R D
-stepped t s = record {
-  given = t.given;
-  machine = t.machine;
-  text = t.text;
-  configuration = s.configuration;
-  choices = s.choices ++ t.choices;
-  calls = t.calls + 1;
-  closed = t.closed;
-}
+stepped t s = record t { configuration = s.configuration; choices = s.choices ++ t.choices; calls = t.calls + 1 }
 
 -- A call did this step
 pub record IsCalled {M R D : Type 0} (old new : Seen M R D) (s : Step R D) (answer : State) : Type 0 where
@@ -40,7 +32,7 @@ module _ {R D : Type 0} (g : Given) (rules : Rules R D) where
   ForEachCall P = (text : Text) (k : Configuration R D) (choices : List Choice) (name : Name)
       → IsText g text → rules.holds text k choices (Retry name) → P text k choices name (rules.step (sight g text k) k name)
 
-  -- a call consumes at most one byte, and never the end: after it Next is answered, and Retry where it consumed none
+  -- a call consumes at most one byte, and never the end: Next is answered only where it consumed one, Retry only where it consumed none
   abbrev pub ConsumesOnce : Type 0
   ConsumesOnce = ForEachCall (λ text k choices name s.
       (IsAsFar s.configuration k × ((n : Name) → s.answer ≢ Next n))

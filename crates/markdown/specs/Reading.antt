@@ -11,26 +11,23 @@ use Rattle.markdown.specs.Configuration.{Configuration, Choice, Saved, Step}
 use Rattle.markdown.specs.Sight.{Sight, sight}
 
 module _ {R D : Type 0} where
-  -- the next byte of the text waits, or its end
+  -- the next byte of the text waits, or its end; the end mark is set where the end is fed, and `consumed` takes it off
   abbrev pub fed : Text → Configuration R D → Configuration R D
-  fed text k = cond (nat_lt k.position (length text.seats))
-      (record { position = k.position; waiting = Byte; ended = k.ended; events = k.events; stack = k.stack; local = k.local })
-      (record { position = k.position; waiting = End; ended = true; events = k.events; stack = k.stack; local = k.local })
+  fed text k = cond (nat_lt k.position (length text.seats)) (record k { waiting = Byte }) (record k { waiting = End; ended = true })
 
   -- nothing waits
   abbrev pub unfed : Configuration R D → Configuration R D
-  unfed k = record { position = k.position; waiting = Nothing; ended = k.ended; events = k.events; stack = k.stack; local = k.local }
+  unfed k = record k { waiting = Nothing }
 
   -- what was saved is put back: position, end mark, number of events and stack; and nothing waits
   abbrev pub restored : Option Saved → Configuration R D → Configuration R D
   restored None k = unfed k
-  restored (Some saved) k = record {
+  restored (Some saved) k = record k {
     position = saved.position;
     waiting = Nothing;
     ended = saved.ended;
     events = take saved.events k.events;
     stack = saved.stack;
-    local = k.local;
   }
 
   -- where a choice goes on from, by the answer that ended it. A check always goes back, an attempt only where it failed.
@@ -47,7 +44,7 @@ pub record Reading (R D : Type 0) : Type 0 where
 
 abbrev pub more_calls : {R D : Type 0} → ℕ → Option (Reading R D) → Option (Reading R D)
 more_calls n None = None
-more_calls n (Some r) = Some (record { configuration = r.configuration; answer = r.answer; calls = n + r.calls })
+more_calls n (Some r) = Some (record r { calls = n + r.calls })
 
 module _ {R D : Type 0} where
   -- a choice is settled by the answer so far, and what it goes on with is read. A message ends all at once.

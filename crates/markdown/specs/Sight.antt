@@ -9,7 +9,7 @@ use Rattle.markdown.specs.Text.{Given, Text}
 use Rattle.markdown.specs.Configuration.{Configuration, Seen}
 
 -- The byte before, the byte that waits, what `point` answers, where an enter stands, where an exit stands, and where both
--- stand once what waits is consumed
+-- stand once what waits is consumed: where nothing can be consumed, that is where an exit stands
 pub record Sight : Type 0 where
   pub previous : Option ℕ
   pub current : Option ℕ

@@ -29,8 +29,8 @@ pub data Piece : Type 0 where
 
 -- the text with a piece put at its end. A gap adds no byte, and one up to where the text ends already is none.
 abbrev pub followed_by : Given → Text → Piece → Text
-followed_by g text (pushed from to) = record { start = text.start; seats = text.seats ++ filter (in_range from to) (virtual g.tab g.bytes); end = to }
-followed_by g text (passed p) = cond (denotes_same g.tab g.bytes p text.end) text (record { start = text.start; seats = text.seats; end = p })
+followed_by g text (pushed from to) = record text { seats = text.seats ++ filter (in_range from to) (virtual g.tab g.bytes); end = to }
+followed_by g text (passed p) = cond (denotes_same g.tab g.bytes p text.end) text (record text { end = p })
 
 abbrev pub followed_by_all : Given → Text → List Piece → Text
 followed_by_all g text [] = text

@@ -13,7 +13,7 @@ use Rattle.markdown.specs.Engine.{LeadsOn}
 
 -- the text is another one
 abbrev pub extended : {M R D : Type 0} → Seen M R D → Text → Seen M R D
-extended t text = record { given = t.given; machine = t.machine; text = text; configuration = t.configuration; choices = t.choices; calls = t.calls; closed = t.closed }
+extended t text = record t { text = text }
 
 abbrev pub answer_of : Bool → State
 answer_of true = Ok
@@ -32,12 +32,13 @@ pub record IsInText {M R D : Type 0} (t : Seen M R D) : Type 0 where
   pub end : t.configuration.waiting ≡ End → t.closed ≡ true
   pub ended : t.configuration.ended ≡ true → t.closed ≡ true
 
--- only the configuration, the choices and the count are others
+-- only the configuration, the choices and the count are others, and the count is no less
 pub record OnlyWorked {M R D : Type 0} (old new : Seen M R D) : Type 0 where
   pub given : new.given ≡ old.given
   pub machine : new.machine ≡ old.machine
   pub text : new.text ≡ old.text
   pub closed : new.closed ≡ old.closed
+  pub counted : old.calls ≤ new.calls
 
 -- where the work ends: at the text's end, or at an answer with no choice waiting
 abbrev pub Stops : {M R D : Type 0} → Bool → Seen M R D → State → Type 0
@@ -72,7 +73,7 @@ settled_all k (c ∷ cs) Nok = settled_all (settled_at c.kind c.saved Nok k) cs 
 
 -- the tokenizer after choices ended
 abbrev pub settled_to : {M R D : Type 0} → Seen M R D → Step R D → Seen M R D
-settled_to t s = record { given = t.given; machine = t.machine; text = t.text; configuration = s.configuration; choices = s.choices; calls = t.calls; closed = t.closed }
+settled_to t s = record t { configuration = s.configuration; choices = s.choices }
 
 -- where the reading ends, no span is open
 abbrev pub EndsClosed : {R D : Type 0} → Step R D → Type 0

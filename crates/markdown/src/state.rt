@@ -24,7 +24,7 @@ pub trait Machine: MachineTypes + Sized {
     ghost use Rattle.markdown.specs.Text.{Given};
     ghost use Rattle.markdown.specs.Sight.{sight_seen};
     ghost use Rattle.markdown.specs.Rules.{Rules};
-    ghost use Rattle.markdown.specs.Engine.{HoldsAt};
+    ghost use Rattle.markdown.specs.Engine.{HoldsOf};
     ghost use Rattle.markdown.specs.Lawful.{IsCalled, ConsumesOnce, OnlyAdds, EndsWhenRead, KeepsInvariant, CostPays};
 
     /// Its rules on a document.
@@ -42,7 +42,7 @@ pub trait Machine: MachineTypes + Sized {
     ) -> Result<State, AllocError>
         requires machine { t.old.machine ≡ self.now }
         requires waits { t.old.configuration.waiting ≢ Nothing }
-        requires invariant { HoldsAt (rules self.now t.old.given) t.old (Retry name) }
+        requires invariant { HoldsOf (rules self.now t.old.given) t.old (Retry name) }
         ensures call_is_step { IfOk result (IsCalled t.old t.new ((rules self.now t.old.given).step (sight_seen t.old) t.old.configuration name)) };
 
     /// A call consumes at most one byte, and never the end.

@@ -5,7 +5,6 @@
 ghost use Rattle.std.specs.Prelude.{◌≡◌, ◌-◌, ◌≤◌};
 ghost use Rattle.markdown.specs.Links.{CanLink, linked_to, with_next, with_previous};
 
-
 use markdown_base::event::Event;
 use markdown_base::owned::{Items, OwnedText};
 

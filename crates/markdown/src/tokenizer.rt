@@ -85,25 +85,25 @@ pub struct TokenizeState<D: Drop> {
     pub document_child_state: Option<State>,
     /// The open containers.
     pub document_container_stack: Items<ContainerState>,
-    /// How many containers go on in this line.
+    /// How many containers go on in this line, from the outermost on.
     pub document_continued: usize,
-    /// Index of the last data event.
+    /// Index into the events of the enter of the last data.
     pub document_data_index: Option<usize>,
-    /// Exits of containers, by line.
+    /// Exits of containers, to be put among the events, by line.
     pub document_exits: Items<Option<Items<Event>>>,
     /// Whether a lazy line was allowed before.
     pub document_lazy_accepting_before: bool,
     /// Whether this is the first paragraph of a list item.
     pub document_at_first_paragraph_of_list_item: bool,
-    /// Content of white space around a line ending.
+    /// What white space around a line ending is read as, once more.
     pub space_or_tab_eol_content: Option<Content>,
-    /// Whether that is linked.
+    /// Whether that white space is linked to what came before.
     pub space_or_tab_eol_connect: bool,
-    /// Whether there was some.
+    /// Whether there was a line ending, or white space.
     pub space_or_tab_eol_ok: bool,
-    /// Whether white space is linked.
+    /// Whether white space is linked to what came before.
     pub space_or_tab_connect: bool,
-    /// Content of white space.
+    /// What white space is read as, once more.
     pub space_or_tab_content: Option<Content>,
     /// At least so many virtual columns of white space.
     pub space_or_tab_min: usize,
@@ -123,25 +123,25 @@ pub struct TokenizeState<D: Drop> {
     pub definitions: Items<OwnedText>,
     /// Labels of GFM footnote definitions that were found.
     pub gfm_footnote_definitions: Items<OwnedText>,
-    /// Whether chunks are linked.
+    /// Whether the next chunk is linked to the one before.
     pub connect: bool,
-    /// A marker.
+    /// A marker, as a byte, of the construct that is being read.
     pub marker: u8,
-    /// Another marker.
+    /// Another marker of it.
     pub marker_b: u8,
-    /// Several markers.
+    /// The markers of which it may consist.
     pub markers: StaticBytes,
-    /// Whether something was seen.
+    /// Whether the construct that is being read has what it needs.
     pub seen: bool,
-    /// A size.
+    /// A size, in virtual bytes, of the construct that is being read. The machines of tests count their calls here.
     pub size: usize,
-    /// Another size.
+    /// Another size of it.
     pub size_b: usize,
-    /// A third size.
+    /// A third size of it.
     pub size_c: usize,
-    /// A start.
+    /// Where it starts: an index into the events or the bytes, as it needs.
     pub start: usize,
-    /// An end.
+    /// Where it ends: an index into the events or the bytes, as it needs.
     pub end: usize,
     /// A name.
     pub token_1: Name,
@@ -187,20 +187,35 @@ pub struct Tokenizer<'a, M: MachineTypes> {
     pub lazy: bool,
     /// Edits of the events, which wait until they are consumed.
     pub map: EditMap,
+    /// The document, the options and the machine.
     parse_state: &'a ParseState<'a, M>,
+    /// Where the text starts.
     start: Point,
+    /// Where the text ends: byte index and number in a tab.
     end: (usize, usize),
+    /// Up to where lines are passed, one place for each line with a gap, in order.
     skips: Vec<Point>,
+    /// The place after the byte before, or the start.
     left: Point,
+    /// What waits.
     waits: Waits,
+    /// Whether the end was fed here.
     ended: bool,
+    /// The byte before.
     previous: Option<u8>,
+    /// The byte that waits.
     current: Option<u8>,
+    /// The events so far.
     events: Vec<Event>,
+    /// The names of the open spans, the innermost last.
     stack: Vec<Name>,
+    /// The resolvers that were registered.
     resolvers: Vec<M::Resolver>,
+    /// The waiting choices, the last one last.
     marks: Vec<Mark>,
+    /// Whether nothing more is pushed: memory was refused, or the end was fed.
     closed: bool,
+    /// How many states were called, which contracts alone see.
     calls: Calls,
 }
 
@@ -335,6 +350,9 @@ impl<'a, M: MachineTypes> Tokenizer<'a, M> {
     }
 
     /// Consumes the byte that waits. Takes no memory.
+    ///
+    /// Bytes are virtual: a line ending is one LF, and a tab is the tab byte and then spaces, as many as it has columns,
+    /// told apart by `point().vs`.
     #[inline(always)]
     pub fn consume(&mut self)
         requires { self.old.configuration.waiting ≡ Waits.Byte }
@@ -496,7 +514,7 @@ impl<'a, M: MachineTypes> Tokenizer<'a, M> {
     /// beginning of the line until a byte, or the end, is fed. Where memory is refused, nothing changes.
     pub fn define_skip(&mut self, point: Point) -> Result<(), AllocError>
         requires { FitsAfter self.old.given self.old.text (passed point) }
-        ensures ok { OnOk result (self.new ≡ extended self.old (followed_by self.old.given self.old.text (passed point))) }
+        ensures ok { OnOk result (self.new ≡ record self.old { text = followed_by self.old.given self.old.text (passed point) }) }
         ensures err { OnErr result (self.new ≡ self.old) }
     {
         if is_after(shown(self.parse_state.bytes, point), self.end) {

@@ -5,7 +5,7 @@ ghost use Rattle.markdown.specs.declared.waiting.Waits.TheVariants.{Nothing, End
 ghost use Rattle.markdown.specs.Text.{IsText};
 ghost use Rattle.markdown.specs.Sight.{sight_seen};
 ghost use Rattle.markdown.specs.Lawful.{IsCalled};
-ghost use Rattle.markdown.specs.Engine.{HoldsAt, CanPush, IsPushed, IsFlushed, IsRefused, HasOneEnd, AreCuts, IsRun, IsRunRefused, given_of};
+ghost use Rattle.markdown.specs.Engine.{HoldsOf, CanPush, IsPushed, IsFlushed, IsRefused, HasOneEnd, AreCuts, IsRun, IsRunRefused, given_of};
 ghost use Rattle.markdown.specs.Work.{HoldsAll, LeadsAll, OnlyWorked, Stops, settled_all, settled_to, EndsClosed, TakesUp, taken_up};
 
 use crate::parser::ParseState;
@@ -95,7 +95,7 @@ impl<'a, M: Machine> Tokenizer<'a, M> {
     /// One state is called.
     fn once(&mut self, name: Name) -> Result<State, AllocError>
         requires waits { self.old.configuration.waiting ≢ Nothing }
-        requires holds { HoldsAt (M.rules self.old.machine self.old.given) self.old (State.Retry name) }
+        requires holds { HoldsOf (M.rules self.old.machine self.old.given) self.old (State.Retry name) }
         ensures { IfOk result (IsCalled self.old self.new ((M.rules self.old.machine self.old.given).step (sight_seen self.old) self.old.configuration name)) }
     {
         let alloc = self.allocator();
@@ -111,6 +111,7 @@ impl<'a, M: Machine> Tokenizer<'a, M> {
         ensures same { IfOk result (λ _. OnlyWorked self.old self.new) }
         ensures leads { IfOk result (λ answer. LeadsAll self.old.given (M.rules self.old.machine self.old.given) flush self.old state self.new answer) }
         ensures stops { IfOk result (λ answer. Stops flush self.new answer) }
+        ensures message { (m : _) → state ≡ State.Error m → IfOk result (λ answer. (answer ≡ State.Error m) × (self.new ≡ self.old)) }
     {
         let mut state = state;
         let mut name = match self.take_up(flush, &mut state) {
@@ -140,7 +141,7 @@ impl<'a, M: Machine> Tokenizer<'a, M> {
         state: State,
     ) -> Result<State, Fault>
         requires range { self.old.closed ≡ false → CanPush self.old.given self.old.text from to }
-        requires holds { self.old.closed ≡ false → HoldsAt (M.rules self.old.machine self.old.given) self.old state }
+        requires holds { self.old.closed ≡ false → HoldsOf (M.rules self.old.machine self.old.given) self.old state }
         ensures failed { IsTrue self.old.closed → IsErrOf result Fault.Failed × (self.new ≡ self.old) }
         ensures ok { IfOk result (λ answer. IsPushed (M.rules self.old.machine self.old.given) self.old from to state self.new answer) }
         ensures err { self.old.closed ≡ false → IfErr result (λ fault. (fault ≡ Fault.Memory) × (self.new.closed ≡ true)) }
@@ -169,7 +170,7 @@ impl<'a, M: Machine> Tokenizer<'a, M> {
     /// pushed or flushed.
     pub fn flush(&mut self, state: State, resolve: bool) -> Result<Subresult, Fault>
         requires resolve { resolve ≡ false }
-        requires holds { self.old.closed ≡ false → HoldsAt (M.rules self.old.machine self.old.given) self.old state }
+        requires holds { self.old.closed ≡ false → HoldsOf (M.rules self.old.machine self.old.given) self.old state }
         ensures failed { IsTrue self.old.closed → IsErrOf result Fault.Failed × (self.new ≡ self.old) }
         ensures closed { self.new.closed ≡ true }
         ensures ok { IfOk result (λ sub. IsFlushed (M.rules self.old.machine self.old.given) self.old state self.new sub) }

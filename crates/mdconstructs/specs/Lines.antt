@@ -77,14 +77,14 @@ LinesHoldAt g text k (Error message) = ⊥
 abbrev pub lines_holds : Given → Text → Configuration Unit Unit → List Choice → State → Type 0
 lines_holds g text k choices state = (choices ≡ []) × (k.position ≤ length text.seats) × LinesHoldAt g text k state
 
--- how many calls a state may take, with this many bytes left, counted twice
-abbrev pub lines_call_cost : Option LinesState → Waiting → ℕ → ℕ
-lines_call_cost None w n = 0
-lines_call_cost (Some state) at_end n = 1
-lines_call_cost (Some flow_start) at_line_ending n = n
-lines_call_cost (Some flow_start) at_other n = n + 1
-lines_call_cost (Some paragraph_inside) at_line_ending n = n + 1
-lines_call_cost (Some paragraph_inside) at_other n = n
+-- how many calls a state may take, by twice the number of bytes that are left
+abbrev pub lines_call_cost : Option LinesState → Waiting → (twice : ℕ) → ℕ
+lines_call_cost None w twice = 0
+lines_call_cost (Some state) at_end twice = 1
+lines_call_cost (Some flow_start) at_line_ending twice = twice
+lines_call_cost (Some flow_start) at_other twice = twice + 1
+lines_call_cost (Some paragraph_inside) at_line_ending twice = twice + 1
+lines_call_cost (Some paragraph_inside) at_other twice = twice
 
 -- at most two calls for each byte, and one
 abbrev pub lines_cost : Given → Text → Configuration Unit Unit → State → ℕ

@@ -48,14 +48,14 @@ impl<'a, M: MachineTypes> Tokenizer<'a, M> {
         }
     }
 
-    /// The byte before, if one was read. A byte that a gap passes is never there.
+    /// The byte before, if one was read: a virtual byte. A byte that a gap passes is never there.
     pub fn previous(&self) -> Option<u8>
         ensures { result ≡ (sight_seen self.now).previous }
     {
         self.previous
     }
 
-    /// The byte that waits, if one does.
+    /// The byte that waits, if one does: a virtual byte, so 10 for each line ending, and for a tab 9 and then 32.
     pub fn current(&self) -> Option<u8>
         ensures { result ≡ (sight_seen self.now).current }
     {

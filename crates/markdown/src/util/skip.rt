@@ -8,7 +8,6 @@ ghost use Rattle.markdown_base.specs.Events.{IsBalanced};
 ghost use Rattle.markdown.specs.SpanWalks.{is_wanted, HasWanted, IsFirstWanted, IsFront, IsLastWanted, IsLongestRunFrom, IsLongestRunTo};
 ghost use Rattle.markdown.specs.SpanWalksInner.{flip, is_stop, mirror, run_len};
 
-
 use markdown_base::event::{Event, Kind, Name};
 
 /// Skip whole spans of the names, forwards.

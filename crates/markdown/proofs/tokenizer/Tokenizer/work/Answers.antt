@@ -29,6 +29,12 @@ returns-in-None-clause-same g c =
     let k = kept-first i.rules (laws_of g) f t a c.requires.waits c.requires.holds in
     (kept-last i.rules (laws_of g) f t t c.take_up.new.self a a c.take_up.new.state is k c.in-None.ensures).same
 
+pub returns-in-None-clause-message : goal.returns-in-None-clause-message
+returns-in-None-clause-message g c =
+    let i = g.M.Machine in let f = c.args.flush in let t = c.args.self.now in let a = c.args.state in let is = c.requires.text in
+    let k = kept-first i.rules (laws_of g) f t a c.requires.waits c.requires.holds in
+    (kept-last i.rules (laws_of g) f t t c.take_up.new.self a a c.take_up.new.state is k c.in-None.ensures).message
+
 pub returns-in-None-clause-stops : goal.returns-in-None-clause-stops
 returns-in-None-clause-stops g c =
     stops-at c.args.flush c.args.self.now c.take_up.new.self c.args.state c.take_up.new.state c.in-None.ensures
@@ -71,6 +77,13 @@ returns-in-None-take_up-clause-same g c =
     let u = c.loop-state.self in let v = c.once.new.self in let s = c.in_ok-answer.answer in
     let k = kept-call i.rules (laws_of g) f t u v a s c.loop-state.name is c.tells.ensures c.in_ok-answer.ensures c.loop-state.invariant in
     (kept-last i.rules (laws_of g) f t v c.take_up-in-loop-state.new.self a s c.take_up-in-loop-state.new.state is k c.in-None-take_up.ensures).same
+
+pub returns-in-None-take_up-clause-message : goal.returns-in-None-take_up-clause-message
+returns-in-None-take_up-clause-message g c =
+    let i = g.M.Machine in let f = c.args.flush in let t = c.args.self.now in let a = c.args.state in let is = c.requires.text in
+    let u = c.loop-state.self in let v = c.once.new.self in let s = c.in_ok-answer.answer in
+    let k = kept-call i.rules (laws_of g) f t u v a s c.loop-state.name is c.tells.ensures c.in_ok-answer.ensures c.loop-state.invariant in
+    (kept-last i.rules (laws_of g) f t v c.take_up-in-loop-state.new.self a s c.take_up-in-loop-state.new.state is k c.in-None-take_up.ensures).message
 
 pub returns-in-None-take_up-clause-leads : goal.returns-in-None-take_up-clause-leads
 returns-in-None-take_up-clause-leads g c =
