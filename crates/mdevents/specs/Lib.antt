@@ -1,4 +1,5 @@
 pub mod Failure
+pub mod GapRows
 pub mod Printed
 pub mod Program
 pub mod Reading

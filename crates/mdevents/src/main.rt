@@ -11,6 +11,8 @@ ghost use Rattle.mdevents.specs.Words.{CanCut};
 mod failure;
 #[cfg(test)]
 mod fakes;
+#[cfg(test)]
+mod gaps;
 mod print;
 mod program;
 mod read;
