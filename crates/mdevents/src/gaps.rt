@@ -5,11 +5,11 @@ ghost use Rattle.markdown.specs.Engine.{given_by};
 ghost use Rattle.mdevents.specs.GapRows.{AreAroundGaps};
 
 use crate::print::printed;
+use markdown::configuration::ParseOptions;
+use markdown::event::{Event, Point};
 use markdown::parser::ParseState;
 use markdown::state::{Machine, Name, State};
 use markdown::tokenizer::Tokenizer;
-use markdown::configuration::ParseOptions;
-use markdown::event::{Event, Point};
 use mdconstructs::lines::Lines;
 use mdconstructs::peek::Peek;
 use mdconstructs::save::Save;
