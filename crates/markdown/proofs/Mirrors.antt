@@ -8,7 +8,7 @@ use Rattle.markdown_base.specs.declared.event.Kind.TheVariants.{Enter, Exit}
 use Rattle.markdown_base.specs.declared.event.Name.{Name}
 use Rattle.markdown_base.specs.Events.{IsBalanced, empty, span}
 use Rattle.markdown.specs.OpenNames.{names_after_all}
-use Rattle.markdown.specs.SpanWalks.{IsRun, no_span, one_more, is_wanted, IsLongestRunTo, IsFront}
+use Rattle.markdown.specs.SpanWalks.{IsSpanRun, no_span, one_more, is_wanted, IsLongestRunTo, IsFront}
 use Rattle.markdown.specs.SpanWalksInner.{run_len, is_stop, depth_after, flip, flip_kind, mirror}
 use Rattle.markdown.proofs.Balanced.{IsBalanced-append}
 use Rattle.markdown.proofs.SpanRuns.{span_and_run, span_parts, run_len-run, run_len-le, suffix_closes}
@@ -51,16 +51,16 @@ IsBalanced-mirror (span e f us vs {l} is en ex same b c) =
     (IsBalanced-append (mirror vs) (flip f ∷ (mirror us ++ flip e ∷ [])) (IsBalanced-mirror c) (span (flip f) (flip e) (mirror us) [] refl (flip_exit f ex) (flip_enter e en) (sym same) (IsBalanced-mirror b) empty))
 
 module _ (names : List Name) where
-  IsRun-append : {xs : List Event} (ys : List Event) → IsRun names xs → IsRun names ys → IsRun names (xs ++ ys)
-  IsRun-append ys no_span r = r
-  IsRun-append ys (one_more first vs is s c) r =
-      one_more first (vs ++ ys) (ap (λ t. t ++ ys) is ∙ append_assoc first vs ys) s (IsRun-append ys c r)
+  IsSpanRun-append : {xs : List Event} (ys : List Event) → IsSpanRun names xs → IsSpanRun names ys → IsSpanRun names (xs ++ ys)
+  IsSpanRun-append ys no_span r = r
+  IsSpanRun-append ys (one_more first vs is s c) r =
+      one_more first (vs ++ ys) (ap (λ t. t ++ ys) is ∙ append_assoc first vs ys) s (IsSpanRun-append ys c r)
 
-  pub IsRun-mirror : {xs : List Event} → IsRun names xs → IsRun names (mirror xs)
-  IsRun-mirror no_span = no_span
-  IsRun-mirror (one_more first vs is s c) =
-      subst (IsRun names) (sym (ap mirror (span_parts names first vs is s) ∙ mirror_span s.enter s.exit s.inside vs))
-      (IsRun-append (flip s.exit ∷ (mirror s.inside ++ flip s.enter ∷ [])) (IsRun-mirror c)
+  pub IsSpanRun-mirror : {xs : List Event} → IsSpanRun names xs → IsSpanRun names (mirror xs)
+  IsSpanRun-mirror no_span = no_span
+  IsSpanRun-mirror (one_more first vs is s c) =
+      subst (IsSpanRun names) (sym (ap mirror (span_parts names first vs is s) ∙ mirror_span s.enter s.exit s.inside vs))
+      (IsSpanRun-append (flip s.exit ∷ (mirror s.inside ++ flip s.enter ∷ [])) (IsSpanRun-mirror c)
       (span_and_run names (flip s.exit) (flip s.enter) (mirror s.inside) [] refl (flip_exit s.exit s.exits) (ap (is_wanted names) s.same ∙ s.wanted) (flip_enter s.enter s.enters) (sym s.same) (IsBalanced-mirror s.balanced) no_span))
 
   -- a list behind a front
@@ -97,19 +97,19 @@ module _ (names : List Name) where
       let parts : f ++ rest ≡ events ++ b.0 = sym (append_assoc f (drop (i + 1) events) b.0) ∙ ap (λ t. t ++ b.0) (take-append-drop (i + 1) events) in
       let whole : IsBalanced (mirror rest ++ mirror f) = subst IsBalanced (mirror-append f rest) (IsBalanced-mirror (subst IsBalanced (sym parts) b.1)) in
       let n : ℕ = run_len names 0 (mirror f) in
-      let ran : IsRun names (take n (mirror f)) = suffix_closes names (mirror rest) (mirror f) whole (names_after_all (Some []) (mirror rest)) refl in
+      let ran : IsSpanRun names (take n (mirror f)) = suffix_closes names (mirror rest) (mirror f) whole (names_after_all (Some []) (mirror rest)) refl in
       let nle : n ≤ length f = omega (arith, run_len-le names 0 (mirror f), length-mirror f) in
       let at : length f - n ≡ j = omega arith in
       let back : mirror (take n (mirror f)) ≡ between j (i + 1) events = mirror_take n f nle ∙ ap (λ k. drop k f) at ∙ drop_take j (i + 1) events in
       record {
-        run = subst (IsRun names) back (IsRun-mirror ran);
+        run = subst (IsSpanRun names) back (IsSpanRun-mirror ran);
         order = omega arith;
-        longest = λ m k r. longest f flen e m k (subst (IsRun names) (sym (drop_take m (i + 1) events)) r);
+        longest = λ m k r. longest f flen e m k (subst (IsSpanRun names) (sym (drop_take m (i + 1) events)) r);
       }
     where
-      longest : (f : List Event) → length f ≡ i + 1 → j + run_len names 0 (mirror f) ≡ i + 1 → (m : ℕ) → m ≤ i + 1 → IsRun names (drop m f) → j ≤ m
+      longest : (f : List Event) → length f ≡ i + 1 → j + run_len names 0 (mirror f) ≡ i + 1 → (m : ℕ) → m ≤ i + 1 → IsSpanRun names (drop m f) → j ≤ m
       longest f flen e m k r =
-          let over = run_len-run names (IsRun-mirror r) (mirror (take m f)) in
+          let over = run_len-run names (IsSpanRun-mirror r) (mirror (take m f)) in
           let all : run_len names 0 (mirror f) ≡ length (mirror (drop m f)) + run_len names 0 (mirror (take m f)) =
           ap (run_len names 0) (ap mirror (sym (take-append-drop m f)) ∙ mirror-append (take m f) (drop m f)) ∙ over in
           omega (arith, all, length-mirror (drop m f), length-drop m f)

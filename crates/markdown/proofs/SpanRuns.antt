@@ -6,7 +6,7 @@ use Rattle.markdown_base.specs.declared.event.Event.{Event}
 use Rattle.markdown_base.specs.declared.event.Kind.TheVariants.{Enter, Exit}
 use Rattle.markdown_base.specs.declared.event.Name.{Name}
 use Rattle.markdown_base.specs.Events.{IsBalanced, empty, span}
-use Rattle.markdown.specs.SpanWalks.{IsSpan, IsRun, no_span, one_more, is_wanted, IsLongestRunFrom}
+use Rattle.markdown.specs.SpanWalks.{IsSpan, IsSpanRun, no_span, one_more, is_wanted, IsLongestRunFrom}
 use Rattle.markdown_base.specs.Events.{is_enter}
 use Rattle.markdown.specs.SpanWalksInner.{run_len, is_stop, depth_after}
 use Rattle.markdown.specs.OpenNames.{names_after_all}
@@ -24,7 +24,7 @@ eqb_suc d = let ne : suc d ≡ 0 → ⊥ = omega arith in ne_eqb (suc d) 0 ne
 
 module _ (names : List Name) where
   -- a span in front of a run
-  pub span_and_run : (e f : Event) (xs ys : List Event) {l : List Event} → l ≡ e ∷ (xs ++ f ∷ ys) → e.kind ≡ Enter → is_wanted names e.name ≡ true → f.kind ≡ Exit → f.name ≡ e.name → IsBalanced xs → IsRun names ys → IsRun names l
+  pub span_and_run : (e f : Event) (xs ys : List Event) {l : List Event} → l ≡ e ∷ (xs ++ f ∷ ys) → e.kind ≡ Enter → is_wanted names e.name ≡ true → f.kind ≡ Exit → f.name ≡ e.name → IsBalanced xs → IsSpanRun names ys → IsSpanRun names l
   span_and_run e f xs ys is en w ex eq b r =
       one_more (e ∷ (xs ++ f ∷ [])) ys (is ∙ sym (ap (λ t. e ∷ t) (append_assoc xs (f ∷ []) ys)))
       (record { enter = e; inside = xs; exit = f; whole = refl; enters = en; wanted = w; balanced = b; exits = ex; same = eq }) r
@@ -81,7 +81,7 @@ module _ (names : List Name) where
       enter_wanted e (us ++ f ∷ vs) en w ∙ ap suc (run_len-balanced b (f ∷ vs) 0) ∙ ap (λ k. suc (length us + k)) (exit_inside f vs 0 ex)
 
   -- a walk goes over a run
-  pub run_len-run : {r : List Event} → IsRun names r → (ys : List Event) → run_len names 0 (r ++ ys) ≡ length r + run_len names 0 ys
+  pub run_len-run : {r : List Event} → IsSpanRun names r → (ys : List Event) → run_len names 0 (r ++ ys) ≡ length r + run_len names 0 ys
   run_len-run no_span ys = omega arith
   run_len-run (one_more first vs {l} is s c) ys =
       let parts : l ≡ s.enter ∷ (s.inside ++ s.exit ∷ vs) = span_parts first vs is s in
@@ -93,14 +93,14 @@ module _ (names : List Name) where
       ∙ omega arith
 
   -- a walk over a balanced list, behind which it stops, goes over a run
-  pub IsRun-run_len : {b : List Event} (ys : List Event) → IsBalanced b → run_len names 0 ys ≡ 0 → IsRun names (take (run_len names 0 (b ++ ys)) (b ++ ys))
-  IsRun-run_len ys empty z = rw z no_span
-  IsRun-run_len ys (span e f us vs {l} is en ex same b c) z =
-      subst (λ (l : List Event). IsRun names (take (run_len names 0 (l ++ ys)) (l ++ ys))) (sym is)
-      (subst (λ (t : List Event). IsRun names (take (run_len names 0 (e ∷ t)) (e ∷ t))) (sym (append_assoc us (f ∷ vs) ys))
-      (wanted_or_not (is_wanted names e.name) refl (IsRun-run_len ys c z)))
+  pub IsSpanRun-run_len : {b : List Event} (ys : List Event) → IsBalanced b → run_len names 0 ys ≡ 0 → IsSpanRun names (take (run_len names 0 (b ++ ys)) (b ++ ys))
+  IsSpanRun-run_len ys empty z = rw z no_span
+  IsSpanRun-run_len ys (span e f us vs {l} is en ex same b c) z =
+      subst (λ (l : List Event). IsSpanRun names (take (run_len names 0 (l ++ ys)) (l ++ ys))) (sym is)
+      (subst (λ (t : List Event). IsSpanRun names (take (run_len names 0 (e ∷ t)) (e ∷ t))) (sym (append_assoc us (f ∷ vs) ys))
+      (wanted_or_not (is_wanted names e.name) refl (IsSpanRun-run_len ys c z)))
     where
-      wanted_or_not : (w : Bool) → is_wanted names e.name ≡ w → IsRun names (take (run_len names 0 (vs ++ ys)) (vs ++ ys)) → IsRun names (take (run_len names 0 (e ∷ (us ++ f ∷ (vs ++ ys)))) (e ∷ (us ++ f ∷ (vs ++ ys))))
+      wanted_or_not : (w : Bool) → is_wanted names e.name ≡ w → IsSpanRun names (take (run_len names 0 (vs ++ ys)) (vs ++ ys)) → IsSpanRun names (take (run_len names 0 (e ∷ (us ++ f ∷ (vs ++ ys)))) (e ∷ (us ++ f ∷ (vs ++ ys))))
       wanted_or_not false w r = rw (enter_other e (us ++ f ∷ (vs ++ ys)) w) no_span
       wanted_or_not true w r =
           let front : take (length us + suc (run_len names 0 (vs ++ ys))) (us ++ f ∷ (vs ++ ys)) ≡ us ++ f ∷ take (run_len names 0 (vs ++ ys)) (vs ++ ys) = take-append-add us (f ∷ (vs ++ ys)) (suc (run_len names 0 (vs ++ ys))) in
@@ -108,17 +108,17 @@ module _ (names : List Name) where
           (span_and_run e f us (take (run_len names 0 (vs ++ ys)) (vs ++ ys)) (ap (λ (t : List Event). e ∷ t) front) en w ex same b r)
 
   -- what is left of a balanced list
-  IsRun-closes : {st : List Name} {l : List Event} → Closes st l → IsRun names (take (run_len names 0 l) l)
-  IsRun-closes {l = l} (all_closed b) = subst (λ (t : List Event). IsRun names (take (run_len names 0 t) t)) (append-nil l) (IsRun-run_len [] b refl)
-  IsRun-closes (closing f xs ys is ex same b c) = subst (λ (t : List Event). IsRun names (take (run_len names 0 t) t)) (sym is) (IsRun-run_len (f ∷ ys) b (exit_stops f ys ex))
+  IsSpanRun-closes : {st : List Name} {l : List Event} → Closes st l → IsSpanRun names (take (run_len names 0 l) l)
+  IsSpanRun-closes {l = l} (all_closed b) = subst (λ (t : List Event). IsSpanRun names (take (run_len names 0 t) t)) (append-nil l) (IsSpanRun-run_len [] b refl)
+  IsSpanRun-closes (closing f xs ys is ex same b c) = subst (λ (t : List Event). IsSpanRun names (take (run_len names 0 t) t)) (sym is) (IsSpanRun-run_len (f ∷ ys) b (exit_stops f ys ex))
 
   -- what stands behind a front of a balanced list: a walk over it goes over a run
-  pub suffix_closes : (front rest : List Event) → IsBalanced (front ++ rest) → (o : Option (List Name)) → names_after_all (Some []) front ≡ o → IsRun names (take (run_len names 0 rest) rest)
+  pub suffix_closes : (front rest : List Event) → IsBalanced (front ++ rest) → (o : Option (List Name)) → names_after_all (Some []) front ≡ o → IsSpanRun names (take (run_len names 0 rest) rest)
   suffix_closes front rest b None e =
       let no : None ≡ Some [] = ap (λ o. names_after_all o rest) (sym e) ∙ sym (names_after_all-append (Some []) front rest) ∙ names_after_balanced b [] in
-      none_is_not_some [] (IsRun names (take (run_len names 0 rest) rest)) no
+      none_is_not_some [] (IsSpanRun names (take (run_len names 0 rest) rest)) no
   suffix_closes front rest b (Some st) e =
-      IsRun-closes (closes_from_open rest st (ap (λ o. names_after_all o rest) (sym e) ∙ sym (names_after_all-append (Some []) front rest) ∙ names_after_balanced b []))
+      IsSpanRun-closes (closes_from_open rest st (ap (λ o. names_after_all o rest) (sym e) ∙ sym (names_after_all-append (Some []) front rest) ∙ names_after_balanced b []))
 
   -- a walk stays inside its list
   pub run_len-le : (d : ℕ) (l : List Event) → run_len names d l ≤ length l
@@ -141,7 +141,7 @@ module _ (names : List Name) where
         longest = λ m k r. longest m k r;
       }
     where
-      longest : (m : ℕ) → m ≤ length events → IsRun names (take (m - i) (drop i events)) → m ≤ j
+      longest : (m : ℕ) → m ≤ length events → IsSpanRun names (take (m - i) (drop i events)) → m ≤ j
       longest m k r =
           let len : length (take (m - i) (drop i events)) ≡ m - i = length-take-le (m - i) (drop i events) (omega (arith, length-drop i events)) in
           let over = run_len-run r (drop (m - i) (drop i events)) in

@@ -9,7 +9,7 @@ use Rattle.markdown_base.specs.declared.event.Link.{Link}
 use Rattle.markdown_base.specs.Events.{relinked, with_ends, EndsBelow, EachEnd}
 use Rattle.markdown.specs.Edits.{Edit, AreDisjoint}
 use Rattle.markdown.specs.Edited.{as_addition, as_change, edited}
-use Rattle.markdown.specs.Woven.{Change, of_list, Tagged, place_of, end_place, woven, settled_in}
+use Rattle.markdown.specs.Woven.{Change, of_list, Tagged, place_in, placed_end, woven, placed_in}
 use Rattle.markdown.specs.Survivors.{AreNew}
 use Rattle.markdown.specs.Spliced.{place_from, moved, spliced}
 use Rattle.markdown.proofs.Passes.{olds, pass, AreApart, woven-pass}
@@ -20,17 +20,17 @@ pub AreApart-edits : (es : List Edit) (from n : ℕ) → AreDisjoint from es n �
 AreApart-edits [] from n d = d
 AreApart-edits (e ∷ es) from n d = (d.0, AreApart-edits es (e.index + e.remove) n d.1)
 
-place_of-additions : (n : ℕ) (xs : List Event) → place_of (of_list n) (map as_addition xs) ≡ None
-place_of-additions n [] = refl
-place_of-additions n (x ∷ xs) = rw (place_of-additions n xs) refl
+place_in-additions : (n : ℕ) (xs : List Event) → place_in (of_list n) (map as_addition xs) ≡ None
+place_in-additions n [] = refl
+place_in-additions n (x ∷ xs) = rw (place_in-additions n xs) refl
 
 -- no addition is an event of the list
 HasNo-edits : (n : ℕ) (es : List Edit) → HasNo (of_list n) (map as_change es)
 HasNo-edits n [] = tt
-HasNo-edits n (e ∷ es) = (place_of-additions n e.additions, HasNo-edits n es)
+HasNo-edits n (e ∷ es) = (place_in-additions n e.additions, HasNo-edits n es)
 
 pub AreNew-edits : (es : List Edit) → AreNew (map as_change es)
-AreNew-edits es n = All-from_recursion (λ (w : Change). place_of (of_list n) w.events ≡ None) (map as_change es) (HasNo-edits n es)
+AreNew-edits es n = All-from_recursion (λ (w : Change). place_in (of_list n) w.events ≡ None) (map as_change es) (HasNo-edits n es)
 
 old_place-edits : (es : List Edit) (removed added n : ℕ) → old_place (map as_change es) removed added n ≡ place_from es removed added n
 old_place-edits [] removed added n = refl
@@ -62,28 +62,28 @@ link_agree f g n (Some l) h b = rw (end_agree f g n l.previous h b.0, end_agree 
 pub relinked-agree : (f g : ℕ → Option ℕ) (n : ℕ) (e : Event) → ((k : ℕ) → k < n → f k ≡ g k) → EndsBelow n e → relinked f e ≡ relinked g e
 relinked-agree f g n e h b = ap (λ (l : Option Link). record e { link = l }) (link_agree f g n e.link h b)
 
-pub settled_in-additions : (ts : List Tagged) (xs : List Event) → settled_in ts (map as_addition xs) ≡ xs
-settled_in-additions ts [] = refl
-settled_in-additions ts (x ∷ xs) = rw (relinked-same x, settled_in-additions ts xs) refl
+pub placed_in-additions : (ts : List Tagged) (xs : List Event) → placed_in ts (map as_addition xs) ≡ xs
+placed_in-additions ts [] = refl
+placed_in-additions ts (x ∷ xs) = rw (relinked-same x, placed_in-additions ts xs) refl
 
-pub settled_in-append : (ts us vs : List Tagged) → settled_in ts (us ++ vs) ≡ settled_in ts us ++ settled_in ts vs
-settled_in-append ts us vs = map-append (λ (u : Tagged). relinked (end_place ts u.identity) u.event) us vs
+pub placed_in-append : (ts us vs : List Tagged) → placed_in ts (us ++ vs) ≡ placed_in ts us ++ placed_in ts vs
+placed_in-append ts us vs = map-append (λ (u : Tagged). relinked (placed_end ts u.identity) u.event) us vs
 
-pub settled_in-olds : (ts : List Tagged) (all : List Edit) (n i : ℕ) (xs : List Event) → ((k : ℕ) → k < n → place_of (of_list k) ts ≡ place_from all 0 0 k) → All (EndsBelow n) xs → settled_in ts (olds i xs) ≡ moved all xs
-settled_in-olds ts all n i [] h b = refl
-settled_in-olds ts all n i (x ∷ xs) h b =
-    rw (settled_in-olds ts all n (i + 1) xs h (All-tail (EndsBelow n) x xs b))
-    (ap (λ (y : Event). y ∷ moved all xs) (relinked-agree (λ k. place_of (of_list k) ts) (place_from all 0 0) n x h (All-head (EndsBelow n) x xs b)))
+pub placed_in-olds : (ts : List Tagged) (all : List Edit) (n i : ℕ) (xs : List Event) → ((k : ℕ) → k < n → place_in (of_list k) ts ≡ place_from all 0 0 k) → All (EndsBelow n) xs → placed_in ts (olds i xs) ≡ moved all xs
+placed_in-olds ts all n i [] h b = refl
+placed_in-olds ts all n i (x ∷ xs) h b =
+    rw (placed_in-olds ts all n (i + 1) xs h (All-tail (EndsBelow n) x xs b))
+    (ap (λ (y : Event). y ∷ moved all xs) (relinked-agree (λ k. place_in (of_list k) ts) (place_from all 0 0) n x h (All-head (EndsBelow n) x xs b)))
 
-pub settled_in-pass : (ts : List Tagged) (all : List Edit) (n : ℕ) → ((k : ℕ) → k < n → place_of (of_list k) ts ≡ place_from all 0 0 k) → (es : List Edit) (i : ℕ) (xs : List Event) → All (EndsBelow n) xs → settled_in ts (pass (map as_change es) i xs) ≡ spliced all es i xs
-settled_in-pass ts all n h [] i xs b = settled_in-olds ts all n i xs h b
-settled_in-pass ts all n h (e ∷ es) i xs b =
-    let rest = settled_in-pass ts all n h es (e.index + e.remove) (drop (e.index + e.remove - i) xs) (All-drop (EndsBelow n) (e.index + e.remove - i) xs b) in
-    let front = settled_in-olds ts all n i (take (e.index - i) xs) h (All-take (EndsBelow n) (e.index - i) xs b) in
+pub placed_in-pass : (ts : List Tagged) (all : List Edit) (n : ℕ) → ((k : ℕ) → k < n → place_in (of_list k) ts ≡ place_from all 0 0 k) → (es : List Edit) (i : ℕ) (xs : List Event) → All (EndsBelow n) xs → placed_in ts (pass (map as_change es) i xs) ≡ spliced all es i xs
+placed_in-pass ts all n h [] i xs b = placed_in-olds ts all n i xs h b
+placed_in-pass ts all n h (e ∷ es) i xs b =
+    let rest = placed_in-pass ts all n h es (e.index + e.remove) (drop (e.index + e.remove - i) xs) (All-drop (EndsBelow n) (e.index + e.remove - i) xs b) in
+    let front = placed_in-olds ts all n i (take (e.index - i) xs) h (All-take (EndsBelow n) (e.index - i) xs b) in
     rw (
-      settled_in-append ts (olds i (take (e.index - i) xs)) (map as_addition e.additions ++ pass (map as_change es) (e.index + e.remove) (drop (e.index + e.remove - i) xs)),
-      settled_in-append ts (map as_addition e.additions) (pass (map as_change es) (e.index + e.remove) (drop (e.index + e.remove - i) xs)),
-      settled_in-additions ts e.additions,
+      placed_in-append ts (olds i (take (e.index - i) xs)) (map as_addition e.additions ++ pass (map as_change es) (e.index + e.remove) (drop (e.index + e.remove - i) xs)),
+      placed_in-append ts (map as_addition e.additions) (pass (map as_change es) (e.index + e.remove) (drop (e.index + e.remove - i) xs)),
+      placed_in-additions ts e.additions,
       front,
       rest,
     ) refl
@@ -93,12 +93,12 @@ same_shift None = refl
 same_shift (Some p) = let e : 0 - 0 + 0 + p ≡ p = omega arith in ap Some e
 
 -- an event's place by prefix sums
-pub place_of-woven : (es : List Edit) (xs : List Event) → AreDisjoint 0 es (length xs) → (k : ℕ) → k < length xs → place_of (of_list k) (woven (map as_change es) 0 xs) ≡ place_from es 0 0 k
-place_of-woven es xs d k l =
+pub place_in-woven : (es : List Edit) (xs : List Event) → AreDisjoint 0 es (length xs) → (k : ℕ) → k < length xs → place_in (of_list k) (woven (map as_change es) 0 xs) ≡ place_from es 0 0 k
+place_in-woven es xs d k l =
     let z : length xs ≡ 0 + length xs = omega arith in
     let d' : AreApart 0 (map as_change es) (0 + length xs) = subst (λ m. AreApart 0 (map as_change es) m) z (AreApart-edits es 0 (length xs) d) in
     rw (woven-pass (map as_change es) 0 xs d')
-    (sym (same_shift (place_of (of_list k) (pass (map as_change es) 0 xs)))
+    (sym (same_shift (place_in (of_list k) (pass (map as_change es) 0 xs)))
     ∙ old_place-pass (map as_change es) k 0 0 0 xs (HasNo-edits k es) d' (omega arith) (omega arith) (omega arith)
     ∙ old_place-edits es 0 0 k)
 
@@ -108,7 +108,7 @@ edited-spliced es xs d b =
     let z : length xs ≡ 0 + length xs = omega arith in
     let d' : AreApart 0 (map as_change es) (0 + length xs) = subst (λ m. AreApart 0 (map as_change es) m) z (AreApart-edits es 0 (length xs) d) in
     let all : List Tagged = woven (map as_change es) 0 xs in
-    ap (settled_in all) (woven-pass (map as_change es) 0 xs d') ∙ settled_in-pass all es (length xs) (place_of-woven es xs d) es 0 xs b
+    ap (placed_in all) (woven-pass (map as_change es) 0 xs d') ∙ placed_in-pass all es (length xs) (place_in-woven es xs d) es 0 xs b
 
 end_stays : (o : Option ℕ) → option_and_then (place_from [] 0 0) o ≡ o
 end_stays None = refl

@@ -9,32 +9,32 @@ use Rattle.markdown_base.specs.declared.event.Event.{Event}
 use Rattle.markdown_base.specs.declared.event.Link.{Link}
 use Rattle.markdown_base.specs.Events.{relinked, with_ends}
 use Rattle.markdown.specs.Links.{next_of, previous_of}
-use Rattle.markdown.specs.Woven.{Identity, of_list, Tagged, as_listed, place_of, end_place, Change, events_at, is_removed, woven, changed}
+use Rattle.markdown.specs.Woven.{Identity, of_list, Tagged, as_listed, place_in, placed_end, Change, events_at, is_removed, woven, changed}
 use Rattle.markdown.specs.Survivors.{AreNew, place_after, StaysUnlessRemoved, StaysAsItWas, KeepsOrder, KeepsLinks}
-use Rattle.markdown.proofs.FinalPlaces.{HasNo, place_of-append}
+use Rattle.markdown.proofs.FinalPlaces.{HasNo, place_in-append}
 
 same_value : (a b : ℕ) → Some a ≡ Some b → a ≡ b
 same_value a b e = ap (λ o. unwrap_or o 0) e
 
-place_of-events_at : (b : Identity) (ws : List Change) (i : ℕ) → HasNo b ws → place_of b (events_at ws i) ≡ None
-place_of-events_at b [] i h = refl
-place_of-events_at b (w ∷ ws) i h = here (eqb w.index i) (place_of-events_at b ws i h.1)
+place_in-events_at : (b : Identity) (ws : List Change) (i : ℕ) → HasNo b ws → place_in b (events_at ws i) ≡ None
+place_in-events_at b [] i h = refl
+place_in-events_at b (w ∷ ws) i h = here (eqb w.index i) (place_in-events_at b ws i h.1)
   where
-    here : (c : Bool) → place_of b (events_at ws i) ≡ None → place_of b (cond c w.events [] ++ events_at ws i) ≡ None
-    here true none = rw (place_of-append b w.events (events_at ws i), h.0, none) refl
+    here : (c : Bool) → place_in b (events_at ws i) ≡ None → place_in b (cond c w.events [] ++ events_at ws i) ≡ None
+    here true none = rw (place_in-append b w.events (events_at ws i), h.0, none) refl
     here false none = none
 
 -- the place in the list from the next index on, behind what stands for this one
 abbrev behind : ℕ → Bool → Bool → Option ℕ → Option ℕ
 behind n gone here o = option_map (λ p. n + p) (cond gone o (cond here (Some 0) (option_map suc o)))
 
-place_of-woven_cons : (ws : List Change) (n i : ℕ) (x : Event) (xs : List Event) → HasNo (of_list n) ws
-    → place_of (of_list n) (woven ws i (x ∷ xs)) ≡ behind (length (events_at ws i)) (is_removed ws i) (eqb n i) (place_of (of_list n) (woven ws (i + 1) xs))
-place_of-woven_cons ws n i x xs h =
-    rw (place_of-append (of_list n) (events_at ws i) (cond (is_removed ws i) [] (as_listed i x ∷ []) ++ woven ws (i + 1) xs), place_of-events_at (of_list n) ws i h)
+place_in-woven_cons : (ws : List Change) (n i : ℕ) (x : Event) (xs : List Event) → HasNo (of_list n) ws
+    → place_in (of_list n) (woven ws i (x ∷ xs)) ≡ behind (length (events_at ws i)) (is_removed ws i) (eqb n i) (place_in (of_list n) (woven ws (i + 1) xs))
+place_in-woven_cons ws n i x xs h =
+    rw (place_in-append (of_list n) (events_at ws i) (cond (is_removed ws i) [] (as_listed i x ∷ []) ++ woven ws (i + 1) xs), place_in-events_at (of_list n) ws i h)
     (ap (option_map (λ p. length (events_at ws i) + p)) (shape (is_removed ws i) (woven ws (i + 1) xs)))
   where
-    shape : (gone : Bool) (ts : List Tagged) → place_of (of_list n) (cond gone [] (as_listed i x ∷ []) ++ ts) ≡ cond gone (place_of (of_list n) ts) (cond (eqb n i) (Some 0) (option_map suc (place_of (of_list n) ts)))
+    shape : (gone : Bool) (ts : List Tagged) → place_in (of_list n) (cond gone [] (as_listed i x ∷ []) ++ ts) ≡ cond gone (place_in (of_list n) ts) (cond (eqb n i) (Some 0) (option_map suc (place_in (of_list n) ts)))
     shape true ts = refl
     shape false ts = refl
 
@@ -46,15 +46,15 @@ record Here (ws : List Change) (n i p : ℕ) : Type 0 where
 
 record There (ws : List Change) (n i : ℕ) (xs : List Event) (p : ℕ) : Type 0 where
   place : ℕ
-  found : place_of (of_list n) (woven ws (i + 1) xs) ≡ Some place
+  found : place_in (of_list n) (woven ws (i + 1) xs) ≡ Some place
   sum : p ≡ length (events_at ws i) + cond (is_removed ws i) 0 1 + place
 
-woven_cases : (ws : List Change) (n i p : ℕ) (x : Event) (xs : List Event) → HasNo (of_list n) ws → place_of (of_list n) (woven ws i (x ∷ xs)) ≡ Some p
+woven_cases : (ws : List Change) (n i p : ℕ) (x : Event) (xs : List Event) → HasNo (of_list n) ws → place_in (of_list n) (woven ws i (x ∷ xs)) ≡ Some p
     → Here ws n i p ⊎ There ws n i xs p
 woven_cases ws n i p x xs h e =
-    told (is_removed ws i) (eqb n i) (place_of (of_list n) (woven ws (i + 1) xs)) refl refl refl (sym (place_of-woven_cons ws n i x xs h) ∙ e)
+    told (is_removed ws i) (eqb n i) (place_in (of_list n) (woven ws (i + 1) xs)) refl refl refl (sym (place_in-woven_cons ws n i x xs h) ∙ e)
   where
-    told : (gone here : Bool) (o : Option ℕ) → is_removed ws i ≡ gone → eqb n i ≡ here → place_of (of_list n) (woven ws (i + 1) xs) ≡ o
+    told : (gone here : Bool) (o : Option ℕ) → is_removed ws i ≡ gone → eqb n i ≡ here → place_in (of_list n) (woven ws (i + 1) xs) ≡ o
         → behind (length (events_at ws i)) gone here o ≡ Some p → Here ws n i p ⊎ There ws n i xs p
     told true here None g a f q = absurd (none-some p q)
     told true here (Some k) g a f q = inr (record { place = k; found = f; sum = rw g (omega (arith, same_value (length (events_at ws i) + k) p q)) })
@@ -63,31 +63,31 @@ woven_cases ws n i p x xs h e =
     told false false (Some k) g a f q = inr (record { place = k; found = f; sum = rw g (omega (arith, same_value (length (events_at ws i) + suc k) p q)) })
 
 -- no event stands where none of its kind is left
-le_of_place : (ws : List Change) (n i p : ℕ) (xs : List Event) → HasNo (of_list n) ws → place_of (of_list n) (woven ws i xs) ≡ Some p → i ≤ n
-le_of_place ws n i p [] h e = absurd (none-some p (sym (place_of-events_at (of_list n) ws i h) ∙ e))
+le_of_place : (ws : List Change) (n i p : ℕ) (xs : List Event) → HasNo (of_list n) ws → place_in (of_list n) (woven ws i xs) ≡ Some p → i ≤ n
+le_of_place ws n i p [] h e = absurd (none-some p (sym (place_in-events_at (of_list n) ws i h) ∙ e))
 le_of_place ws n i p (x ∷ xs) h e = ⊎_elim
     (λ (k : Here ws n i p). omega (arith, k.same))
     (λ (k : There ws n i xs p). omega (arith, le_of_place ws n (i + 1) k.place xs h k.found))
     (woven_cases ws n i p x xs h e)
 
-place_of-below : (ws : List Change) (n i : ℕ) (xs : List Event) → HasNo (of_list n) ws → n < i → place_of (of_list n) (woven ws i xs) ≡ None
-place_of-below ws n i xs h l = none (place_of (of_list n) (woven ws i xs)) (λ p e. let m = le_of_place ws n i p xs h e in omega arith)
+place_in-below : (ws : List Change) (n i : ℕ) (xs : List Event) → HasNo (of_list n) ws → n < i → place_in (of_list n) (woven ws i xs) ≡ None
+place_in-below ws n i xs h l = none (place_in (of_list n) (woven ws i xs)) (λ p e. let m = le_of_place ws n i p xs h e in omega arith)
   where
     none : (o : Option ℕ) → ((p : ℕ) → o ≡ Some p → ⊥) → o ≡ None
     none None f = refl
     none (Some p) f = absurd (f p refl)
 
 -- an event stays unless it is removed
-stays : (ws : List Change) (n i : ℕ) (xs : List Event) → HasNo (of_list n) ws → i ≤ n → n < i + length xs → is_some (place_of (of_list n) (woven ws i xs)) ≡ not (is_removed ws n)
+stays : (ws : List Change) (n i : ℕ) (xs : List Event) → HasNo (of_list n) ws → i ≤ n → n < i + length xs → is_some (place_in (of_list n) (woven ws i xs)) ≡ not (is_removed ws n)
 stays ws n i [] h l m = absurd (omega arith)
-stays ws n i (x ∷ xs) h l m = ap is_some (place_of-woven_cons ws n i x xs h) ∙ ⊎_elim
+stays ws n i (x ∷ xs) h l m = ap is_some (place_in-woven_cons ws n i x xs h) ∙ ⊎_elim
     (λ (e : n ≡ i).
     let at : eqb n i ≡ true = eq-eqb n i e in
-    let none : place_of (of_list n) (woven ws (i + 1) xs) ≡ None = place_of-below ws n (i + 1) xs h (omega arith) in
+    let none : place_in (of_list n) (woven ws (i + 1) xs) ≡ None = place_in-below ws n (i + 1) xs h (omega arith) in
     rw (at, none) (now (length (events_at ws i)) (is_removed ws i) ∙ ap (λ k. not (is_removed ws k)) (sym e)))
     (λ (ne : n ≡ i → ⊥).
     let at : eqb n i ≡ false = ne_eqb n i ne in
-    rw at (later (length (events_at ws i)) (is_removed ws i) (place_of (of_list n) (woven ws (i + 1) xs)) ∙ stays ws n (i + 1) xs h (omega arith) (omega arith)))
+    rw at (later (length (events_at ws i)) (is_removed ws i) (place_in (of_list n) (woven ws (i + 1) xs)) ∙ stays ws n (i + 1) xs h (omega arith) (omega arith)))
     (cases_eq n i)
   where
     now : (k : ℕ) (gone : Bool) → is_some (behind k gone true None) ≡ not gone
@@ -102,8 +102,8 @@ stays ws n i (x ∷ xs) h l m = ap is_some (place_of-woven_cons ws n i x xs h) �
 
 -- events that stay keep their order
 order : (ws : List Change) (n m i p q : ℕ) (xs : List Event) → HasNo (of_list n) ws → HasNo (of_list m) ws
-    → place_of (of_list n) (woven ws i xs) ≡ Some p → place_of (of_list m) (woven ws i xs) ≡ Some q → n < m → p < q
-order ws n m i p q [] h k e f l = absurd (none-some p (sym (place_of-events_at (of_list n) ws i h) ∙ e))
+    → place_in (of_list n) (woven ws i xs) ≡ Some p → place_in (of_list m) (woven ws i xs) ≡ Some q → n < m → p < q
+order ws n m i p q [] h k e f l = absurd (none-some p (sym (place_in-events_at (of_list n) ws i h) ∙ e))
 order ws n m i p q (x ∷ xs) h k e f l = ⊎_elim
     (λ (a : Here ws n i p). ⊎_elim
     (λ (b : Here ws m i q). absurd (omega (arith, a.same, b.same)))
@@ -120,9 +120,9 @@ slice_get-behind [] ys k = let z : 0 + k ≡ k = omega arith in ap (slice_get ys
 slice_get-behind (x ∷ xs) ys k = let z : suc (length xs) + k ≡ suc (length xs + k) = omega arith in ap (slice_get (x ∷ (xs ++ ys))) z ∙ slice_get-behind xs ys k
 
 -- what stands at an event's place
-same_event : (ws : List Change) (n i p : ℕ) (xs : List Event) → HasNo (of_list n) ws → place_of (of_list n) (woven ws i xs) ≡ Some p
+same_event : (ws : List Change) (n i p : ℕ) (xs : List Event) → HasNo (of_list n) ws → place_in (of_list n) (woven ws i xs) ≡ Some p
     → slice_get (woven ws i xs) p ≡ option_map (as_listed n) (slice_get xs (n - i))
-same_event ws n i p [] h e = absurd (none-some p (sym (place_of-events_at (of_list n) ws i h) ∙ e))
+same_event ws n i p [] h e = absurd (none-some p (sym (place_in-events_at (of_list n) ws i h) ∙ e))
 same_event ws n i p (x ∷ xs) h e = ⊎_elim
     (λ (a : Here ws n i p).
     let z : p ≡ length (events_at ws i) + 0 = omega (arith, a.first) in
@@ -148,7 +148,7 @@ same_event ws n i p (x ∷ xs) h e = ⊎_elim
 -- the laws
 
 has_no : (ws : List Change) → AreNew ws → (n : ℕ) → HasNo (of_list n) ws
-has_no ws new n = recursion_from_All (λ w. place_of (of_list n) w.events ≡ None) ws (new n)
+has_no ws new n = recursion_from_All (λ w. place_in (of_list n) w.events ≡ None) ws (new n)
 
 pub stays_unless_removed : (ws : List Change) (xs : List Event) → AreNew ws → StaysUnlessRemoved ws xs
 stays_unless_removed ws xs new n l = stays ws n 0 xs (has_no ws new n) (omega arith) (omega arith)
@@ -160,11 +160,11 @@ pub stays_as_it_was : (ws : List Change) (xs : List Event) → AreNew ws → Sta
 stays_as_it_was ws xs new n p e =
     let z : n - 0 ≡ n = omega arith in
     let ts : List Tagged = woven ws 0 xs in
-    slice_get-map (λ (u : Tagged). relinked (end_place ts u.identity) u.event) ts p
-    ∙ ap (option_map (λ (u : Tagged). relinked (end_place ts u.identity) u.event)) (same_event ws n 0 p xs (has_no ws new n) e ∙ ap (λ k. option_map (as_listed n) (slice_get xs k)) z)
+    slice_get-map (λ (u : Tagged). relinked (placed_end ts u.identity) u.event) ts p
+    ∙ ap (option_map (λ (u : Tagged). relinked (placed_end ts u.identity) u.event)) (same_event ws n 0 p xs (has_no ws new n) e ∙ ap (λ k. option_map (as_listed n) (slice_get xs k)) z)
     ∙ both (slice_get xs n)
   where
-    both : (o : Option Event) → option_map (λ (u : Tagged). relinked (end_place (woven ws 0 xs) u.identity) u.event) (option_map (as_listed n) o) ≡ option_map (relinked (place_after ws xs)) o
+    both : (o : Option Event) → option_map (λ (u : Tagged). relinked (placed_end (woven ws 0 xs) u.identity) u.event) (option_map (as_listed n) o) ≡ option_map (relinked (place_after ws xs)) o
     both None = refl
     both (Some x) = refl
 

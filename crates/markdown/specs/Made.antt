@@ -1,4 +1,4 @@
--- What a tokenizer keeps of the events that it makes.
+-- What a tokenizer keeps of the events that it makes. An inner file: no public clause names what stands here.
 use Rattle.std.specs.Prelude.{◌≡◌, ℕ, Bool, true, false, List, [], ◌∷◌, map, reverse, Some, All}
 use Rattle.markdown_base.specs.declared.event.Event.{Event}
 use Rattle.markdown_base.specs.declared.event.Kind.{Kind}

@@ -1,4 +1,4 @@
--- The names that are open, by a stack.
+-- The names that are open, by a stack. An inner file: no public clause names what stands here.
 use Rattle.std.specs.Prelude.{List, [], ◌∷◌, Option, Some, None, if◌then◌else◌}
 use Rattle.markdown_base.specs.declared.event.Event.{Event}
 use Rattle.markdown_base.specs.declared.event.Kind.{Kind}

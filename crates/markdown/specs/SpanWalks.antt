@@ -23,22 +23,22 @@ pub record IsSpan (names : List Name) (events : List Event) : Type 0 where
   pub same : exit.name ≡ enter.name
 
 -- a run: whole spans of wanted names, each directly behind the one before
-pub data IsRun (names : List Name) : List Event → Type 0 where
-  no_span : IsRun names []
-  one_more : (first rest : List Event) {l : List Event} → l ≡ first ++ rest → IsSpan names first → IsRun names rest → IsRun names l
+pub data IsSpanRun (names : List Name) : List Event → Type 0 where
+  no_span : IsSpanRun names []
+  one_more : (first rest : List Event) {l : List Event} → l ≡ first ++ rest → IsSpan names first → IsSpanRun names rest → IsSpanRun names l
 
 -- the longest run that begins at `from` ends before `to`; it is empty where `from` is past the end
 pub record IsLongestRunFrom (names : List Name) (events : List Event) (from to : ℕ) : Type 0 where
-  pub run : IsRun names (between from to events)
+  pub run : IsSpanRun names (between from to events)
   pub order : from ≤ to
   pub within : to ≤ max from (length events)
-  pub longest : (n : ℕ) → n ≤ length events → IsRun names (between from n events) → n ≤ to
+  pub longest : (n : ℕ) → n ≤ length events → IsSpanRun names (between from n events) → n ≤ to
 
 -- the longest run that ends with the event at an index begins at `start`; where it is empty, that is behind the event
 pub record IsLongestRunTo (names : List Name) (events : List Event) (index start : ℕ) : Type 0 where
-  pub run : IsRun names (between start (index + 1) events)
+  pub run : IsSpanRun names (between start (index + 1) events)
   pub order : start ≤ index + 1
-  pub longest : (n : ℕ) → n ≤ index + 1 → IsRun names (between n (index + 1) events) → start ≤ n
+  pub longest : (n : ℕ) → n ≤ index + 1 → IsSpanRun names (between n (index + 1) events) → start ≤ n
 
 -- a front of a balanced list
 abbrev pub IsFront : List Event → Type 0

@@ -2,16 +2,16 @@
 use Rattle.std.specs.Prelude.{◌≡◌, ℕ, ◌<◌, not, ◌↔◌, is_some, List, length, Option, Some, None, option_map, slice_get, All}
 use Rattle.markdown_base.specs.declared.event.Event.{Event}
 use Rattle.markdown_base.specs.Events.{relinked}
-use Rattle.markdown.specs.Woven.{of_list, Change, is_removed, place_of, woven, changed}
+use Rattle.markdown.specs.Woven.{of_list, Change, is_removed, place_in, woven, changed}
 use Rattle.markdown.specs.Links.{AreNeighbours}
 
 -- none of the events that come is one of the list
 abbrev pub AreNew : List Change → Type 0
-AreNew ws = (n : ℕ) → All (λ w. place_of (of_list n) w.events ≡ None) ws
+AreNew ws = (n : ℕ) → All (λ w. place_in (of_list n) w.events ≡ None) ws
 
 -- where the event at n comes to stand, None where it goes
 abbrev pub place_after : List Change → List Event → ℕ → Option ℕ
-place_after ws xs n = place_of (of_list n) (woven ws 0 xs)
+place_after ws xs n = place_in (of_list n) (woven ws 0 xs)
 
 -- an event stays unless a change removes it
 abbrev pub StaysUnlessRemoved : List Change → List Event → Type 0

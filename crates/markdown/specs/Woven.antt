@@ -28,23 +28,23 @@ is_same (of_child c i) of_addition = false
 is_same of_addition b = false
 
 -- where the event with an identity stands in a list, None where it is gone
-abbrev pub place_of : Identity → List Tagged → Option ℕ
-place_of b [] = None
-place_of b (t ∷ ts) = if is_same b t.identity then Some 0 else option_map suc (place_of b ts)
+abbrev pub place_in : Identity → List Tagged → Option ℕ
+place_in b [] = None
+place_in b (t ∷ ts) = if is_same b t.identity then Some 0 else option_map suc (place_in b ts)
 
 -- where the link end n of an event leads: it is an index into the list or the child that the event is of
-abbrev pub end_place : List Tagged → Identity → ℕ → Option ℕ
-end_place ts (of_list _) n = place_of (of_list n) ts
-end_place ts (of_child c _) n = place_of (of_child c n) ts
-end_place ts of_addition n = Some n
+abbrev pub placed_end : List Tagged → Identity → ℕ → Option ℕ
+placed_end ts (of_list _) n = place_in (of_list n) ts
+placed_end ts (of_child c _) n = place_in (of_child c n) ts
+placed_end ts of_addition n = Some n
 
 -- the events us, with their link ends as places in the list ts
-abbrev pub settled_in : List Tagged → List Tagged → List Event
-settled_in ts us = map (λ u. relinked (end_place ts u.identity) u.event) us
+abbrev pub placed_in : List Tagged → List Tagged → List Event
+placed_in ts us = map (λ u. relinked (placed_end ts u.identity) u.event) us
 
 -- the events of a list, with their link ends as places in it
-abbrev pub settled : List Tagged → List Event
-settled ts = settled_in ts ts
+abbrev pub placed : List Tagged → List Event
+placed ts = placed_in ts ts
 
 -- from an index on `remove` events go, and these come in their place
 pub record Change : Type 0 where
@@ -71,4 +71,4 @@ woven ws i (x ∷ xs) = events_at ws i ++ ((if is_removed ws i then [] else as_l
 
 -- the list after all changes at once
 abbrev pub changed : List Change → List Event → List Event
-changed ws xs = settled (woven ws 0 xs)
+changed ws xs = placed (woven ws 0 xs)

@@ -14,7 +14,7 @@ use Rattle.markdown.specs.Rules.{Rules}
 use Rattle.markdown.specs.Sight.{Sight, sight, sight_of}
 use Rattle.markdown.specs.Calls.{consumed, entered, exited}
 use Rattle.mdconstructs.specs.Tables.{same_state, Waiting, at_end, at_line_ending, at_other, waiting_of, gives, counted}
-use Rattle.mdconstructs.specs.Holding.{IsWaiting, IsAhead, IsBare, left_from}
+use Rattle.mdconstructs.specs.Holding.{IsWaiting, IsAhead, HasNoEvents, left_from}
 use Rattle.mdconstructs.specs.DataReading.{InData}
 use Rattle.mdconstructs.specs.Peek.{checks}
 
@@ -102,7 +102,7 @@ pub record IsInside (text : Text) (k : Configuration Unit Unit) : Type 0 where
 -- what holds at a state, by the place up to which was read, and the one up to which is read once what waits was
 abbrev pub IsBackAt : Option BackState → Given → Text → (left after : Point) → Configuration Unit Unit → List Choice → Type 0
 IsBackAt None g text left after k choices = ⊥
-IsBackAt (Some text_start) g text left after k choices = (choices ≡ []) × IsBare k
+IsBackAt (Some text_start) g text left after k choices = (choices ≡ []) × HasNoEvents k
 IsBackAt (Some text_before) g text left after k choices = (choices ≡ []) × InData after k
 IsBackAt (Some data_start) g text left after k choices = (choices ≡ []) × InData left k
 IsBackAt (Some data_inside) g text left after k choices = IsLookingOver g text k choices

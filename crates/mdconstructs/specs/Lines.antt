@@ -18,7 +18,7 @@ use Rattle.markdown.specs.Rules.{Rules}
 use Rattle.markdown.specs.Sight.{Sight, sight, sight_seen}
 use Rattle.markdown.specs.Calls.{consumed, entered, exited}
 use Rattle.mdconstructs.specs.Tables.{same_state, Waiting, at_end, at_line_ending, at_other, waiting_of, gives, counted}
-use Rattle.mdconstructs.specs.Holding.{InFlow, began_before, IsWaiting, IsAhead, twice_left}
+use Rattle.mdconstructs.specs.Holding.{HasNoSpan, began_before, IsWaiting, IsAhead, twice_left}
 
 -- Its states: before a line, and in one
 pub data LinesState : Type 0 where
@@ -61,7 +61,7 @@ pub record InParagraph (place : Point) (k : Configuration Unit Unit) : Type 0 wh
 -- which spans are open at a state; they began before this place
 abbrev pub IsOpenAt : Option LinesState → Point → Configuration Unit Unit → Type 0
 IsOpenAt None place k = ⊥
-IsOpenAt (Some flow_start) place k = InFlow k
+IsOpenAt (Some flow_start) place k = HasNoSpan k
 IsOpenAt (Some paragraph_inside) place k = InParagraph place k
 
 -- the invariant at a state

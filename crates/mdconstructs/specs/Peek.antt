@@ -13,7 +13,7 @@ use Rattle.markdown.specs.Rules.{Rules}
 use Rattle.markdown.specs.Sight.{Sight, sight}
 use Rattle.markdown.specs.Calls.{consumed, check_at}
 use Rattle.mdconstructs.specs.Tables.{same_state, Waiting, at_end, at_line_ending, at_other, waiting_of, gives, counted}
-use Rattle.mdconstructs.specs.Holding.{began_before, IsWaiting, IsAhead, IsBare, left_from}
+use Rattle.mdconstructs.specs.Holding.{began_before, IsWaiting, IsAhead, HasNoEvents, left_from}
 use Rattle.mdconstructs.specs.DataReading.{DataState, data_state, data_table, IsDataOpen, data_cost}
 
 -- Its states beside those of data reading: before the look, and in it
@@ -56,12 +56,12 @@ pub record IsLooking (k : Configuration Unit Unit) (choices : List Choice) : Typ
   pub ended : Bool
   pub behind : position ≤ k.position
   pub alone : choices ≡ look_from position ended ∷ []
-  pub untouched : IsBare k
+  pub untouched : HasNoEvents k
 
 -- what holds at a state of the look
 abbrev pub IsLookAt : Option PeekState → Configuration Unit Unit → List Choice → Type 0
 IsLookAt None k choices = ⊥
-IsLookAt (Some text_start) k choices = (choices ≡ []) × IsBare k
+IsLookAt (Some text_start) k choices = (choices ≡ []) × HasNoEvents k
 IsLookAt (Some text_before) k choices = IsLooking k choices
 
 -- what holds at a state; in data reading no choice waits, and the open spans began before this place
@@ -102,12 +102,12 @@ peek_cost g text k (Retry name) = peek_cost_at (data_state name) (data_cost g te
 peek_cost g text k _ = 0
 
 -- a check is followed by data reading from where it goes back to
-abbrev pub reserve_at : Text → Option Saved → ℕ
-reserve_at text None = 0
-reserve_at text (Some saved) = 2 * left_from text saved.position + 1
+abbrev pub peek_reserve_at : Text → Option Saved → ℕ
+peek_reserve_at text None = 0
+peek_reserve_at text (Some saved) = 2 * left_from text saved.position + 1
 
 abbrev pub peek_reserve : Given → Text → Choice → ℕ
-peek_reserve g text choice = reserve_at text choice.saved
+peek_reserve g text choice = peek_reserve_at text choice.saved
 
 abbrev pub peek_starts : List Name
 peek_starts = TextStart ∷ []

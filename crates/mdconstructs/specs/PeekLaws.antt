@@ -16,7 +16,7 @@ use Rattle.markdown.specs.Calls.{consumed}
 use Rattle.markdown.specs.Reading.{fed, settled_at}
 use Rattle.markdown.specs.Lawful.{IsAsFar, ConsumesOnce, OnlyAdds, EndsWhenRead, KeepsInvariant, CostPays}
 use Rattle.mdconstructs.specs.Tables.{Waiting, at_end, at_line_ending, at_other, waiting_of, counted}
-use Rattle.mdconstructs.specs.Holding.{began_before, IsWaiting, IsAhead, IsBare, twice_left}
+use Rattle.mdconstructs.specs.Holding.{began_before, IsWaiting, IsAhead, HasNoEvents, twice_left}
 use Rattle.mdconstructs.specs.HoldingLaws.{IsSeen, is-seen, fed-position, Extends, extends, waits-longer}
 use Rattle.mdconstructs.specs.DataReading.{DataState, data_state, data_table, IsDataOpen, IsDataOpenAt, DataHoldAt, data_call_cost, data_cost_at, data_cost}
 use Rattle.mdconstructs.specs.DataReadingLaws.{data-once, data-adds, data-kept, data-fed, data-longer, data-paid, data-fed-cost}
@@ -107,7 +107,7 @@ pub ends_when_read : (g : Given) → EndsWhenRead g (peek_rules g)
 ends_when_read g = record { nok = λ text k is h. (let e = h.1.alone in cc); ok = λ text k is h. (h.1.2, h.1.1) }
 
 -- what holds in the look goes on to hold further on, where nothing more was made
-untouched-on : (k later : Configuration Unit Unit) → later.events ≡ k.events → later.stack ≡ k.stack → IsBare k → IsBare later
+untouched-on : (k later : Configuration Unit Unit) → later.events ≡ k.events → later.stack ≡ k.stack → HasNoEvents k → HasNoEvents later
 untouched-on k later events stack h = record { events = events ∙ h.events; stack = stack ∙ h.stack }
 
 looking-on : (k later : Configuration Unit Unit) (choices : List Choice) → k.position ≤ later.position → later.events ≡ k.events → later.stack ≡ k.stack → IsLooking k choices → IsLooking later choices

@@ -13,7 +13,7 @@ use Rattle.markdown.specs.Rules.{Rules}
 use Rattle.markdown.specs.Sight.{Sight, sight}
 use Rattle.markdown.specs.Calls.{consumed, attempt_at}
 use Rattle.mdconstructs.specs.Tables.{same_state, Waiting, at_end, at_line_ending, at_other, waiting_of, gives, counted}
-use Rattle.mdconstructs.specs.Holding.{began_before, IsWaiting, IsAhead, IsBare, left_from}
+use Rattle.mdconstructs.specs.Holding.{began_before, IsWaiting, IsAhead, HasNoEvents, left_from}
 use Rattle.mdconstructs.specs.DataReading.{DataState, data_state, data_table, IsDataOpen, data_cost}
 
 -- Its states beside those of data reading: in the first line, and after it, in the attempt
@@ -53,7 +53,7 @@ try_from position = record { kind = Attempt; ok = Next DataStart; nok = Next Dat
 -- No choice waits, and nothing was made of the text
 pub record InFirstLine (k : Configuration Unit Unit) (choices : List Choice) : Type 0 where
   pub none : choices ≡ []
-  pub bare : IsBare k
+  pub bare : HasNoEvents k
 
 -- the attempt alone waits, and goes back to this place
 abbrev pub IsTrying : Configuration Unit Unit → List Choice → Type 0
@@ -103,12 +103,12 @@ save_cost g text k (Retry name) = save_cost_at (data_state name) (data_cost g te
 save_cost g text k _ = 0
 
 -- the attempt is followed by data reading from where it goes back to
-abbrev pub reserve_at : Text → Option Saved → ℕ
-reserve_at text None = 0
-reserve_at text (Some saved) = 2 * left_from text saved.position + 1
+abbrev pub save_reserve_at : Text → Option Saved → ℕ
+save_reserve_at text None = 0
+save_reserve_at text (Some saved) = 2 * left_from text saved.position + 1
 
 abbrev pub save_reserve : Given → Text → Choice → ℕ
-save_reserve g text choice = reserve_at text choice.saved
+save_reserve g text choice = save_reserve_at text choice.saved
 
 abbrev pub save_starts : List Name
 save_starts = TextStart ∷ []
