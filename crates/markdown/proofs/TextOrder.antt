@@ -12,7 +12,7 @@ use Rattle.markdown.specs.declared.waiting.Waits.TheVariants.{Byte}
 use Rattle.markdown.specs.Text.{Given, Text, Piece, pushed, passed, IsText, empty_text, followed_by, followed_by_all, FitsAfter, CanFollow, in_range}
 use Rattle.markdown.specs.Sight.{sight_of}
 use Rattle.markdown.specs.Cursor.{Every}
-use Rattle.markdown.proofs.Orders.{before-self, above-later, below-before, more-before, not-before, not-before-in, is-number, is-not, after-before, before-upto, upto-before, every-append, every-map, every-both, every-all}
+use Rattle.markdown.proofs.Orders.{before-self, above-later, below-before, more-before, not-before, not-before-in, is-number, is-not, after-before, before-upto, upto-before, later-later, every-append, every-map, every-both, every-all}
 use Rattle.markdown.proofs.Seats.{virtual-index}
 use Rattle.markdown.proofs.Chains.{shown-other, shown-after}
 use Rattle.markdown.proofs.Standing.{shown-upto}
@@ -358,3 +358,24 @@ began-before_next g text (suc j) q is inside h =
     let follows = follows-get g.bytes text.seats j r s order.order at_before at in
     let before : stands_before q r.end ≡ true = rw good_before.1 at (rw at_before at h) in
     rw at (before-end g.bytes s q good (before-upto q.index q.vs r.end.index r.end.vs s.point.index s.point.vs before follows.1))
+
+-- The byte before ends before the end of the byte that waits
+pub ends-before_next : (g : Given) (text : Text) (p : ℕ) → IsText g text → p < length text.seats
+    → stands_before (sight_of g text p Byte).left (sight_of g text p Byte).next ≡ true
+ends-before_next g text zero is inside =
+    let (s, at) = there text 0 inside in
+    let order = text-order g text is in
+    let good = good-get g.bytes text.seats 0 s order.order at in
+    let after = every-get (λ r. stands_before r.point text.start ≡ false) text.seats 0 s order.after_start at in
+    let start = text.start in
+    let shown_start = shown g.bytes start in
+    let later = later-later s.point.index s.point.vs start.index start.vs shown_start.index shown_start.vs after (shown-upto 0 g.bytes start) in
+    rw at (rw good.1 (upto-before shown_start.index shown_start.vs s.point.index s.point.vs s.end.index s.end.vs later good.0))
+ends-before_next g text (suc j) is inside =
+    let (s, at) = there text (suc j) inside in
+    let (r, at_before) = there text j (omega arith) in
+    let order = text-order g text is in
+    let good = good-get g.bytes text.seats (suc j) s order.order at in
+    let good_before = good-get g.bytes text.seats j r order.order at_before in
+    let follows = follows-get g.bytes text.seats j r s order.order at_before at in
+    rw (at, at_before) (rw (good.1, good_before.1) (upto-before r.end.index r.end.vs s.point.index s.point.vs s.end.index s.end.vs follows.1 good.0))

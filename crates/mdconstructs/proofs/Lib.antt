@@ -1,3 +1,1 @@
-pub mod DataNames
-pub mod LineEndingCalls
-pub mod LinesCalls
+-- Each machine's answers stand in a folder of its own.

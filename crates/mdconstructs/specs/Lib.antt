@@ -1,16 +1,13 @@
 pub mod Costs
 pub mod Back
 pub mod BackLaws
-pub mod DataReading
-pub mod DataReadingLaws
 pub mod Deep
 pub mod DeepLaws
-pub mod Holding
-pub mod HoldingLaws
 pub mod Lines
 pub mod LinesLaws
 pub mod Peek
 pub mod PeekLaws
+pub mod Reading
 pub mod Save
 pub mod SaveLaws
 pub mod Tables

@@ -2,9 +2,10 @@
 #![tactic(auto)]
 
 pub mod back;
+mod begin;
 pub mod costs;
-mod data;
 pub mod deep;
 pub mod lines;
 pub mod peek;
+mod reading;
 pub mod save;

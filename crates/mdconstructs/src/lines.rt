@@ -1,13 +1,15 @@
 //! The machine of lines: each line is a paragraph of data, and line endings stand between.
 
 ghost use Rattle.std.specs.Prelude.{IfOk};
-ghost use Rattle.mdconstructs.specs.Lines.{lines_table, flow_start, paragraph_inside, IsCallable};
-ghost use Rattle.markdown.specs.Sight.{sight_seen};
-ghost use Rattle.mdconstructs.specs.Tables.{waiting_of, Does};
+ghost use Rattle.mdtables.specs.RowInvariant.{DoesAll, IsCallable, step_in};
+ghost use Rattle.mdconstructs.specs.Tables.{line_byte};
+ghost use Rattle.mdconstructs.specs.Lines.{flow_start, paragraph_inside};
 
+use crate::begin::begin;
 use markdown::event;
 use markdown::state::{Machine, MachineTypes, Name, State};
 use markdown::tokenizer::Tokenizer;
+use mdtables::marker;
 use std::alloc::{AllocError, Global};
 
 /// Reads each line as a paragraph of data.
@@ -23,8 +25,10 @@ impl MachineTypes for Lines {
 }
 
 impl Machine for Lines {
-    ghost use Rattle.mdconstructs.specs.Lines.{lines_rules};
-    ghost use Rattle.mdconstructs.specs.LinesLaws as laws;
+    ghost use Rattle.mdtables.proofs.TableLaws as laws;
+    ghost use Rattle.mdtables.proofs.CostLaws.{table-cost_pays};
+    ghost use Rattle.mdconstructs.specs.Lines.{lines, lines_rules};
+    ghost use Rattle.mdconstructs.specs.LinesLaws.{lines-fit};
 
     ghost rules = { λ _. lines_rules };
 
@@ -34,8 +38,7 @@ impl Machine for Lines {
         t: &mut Tokenizer<'a, Self>,
         name: Name,
     ) -> Result<State, AllocError> {
-        t.tick();
-        t.tokenize_state.size = t.tokenize_state.size.saturating_add(1);
+        begin(t);
         match name {
             Name::FlowStart => flow_start(t),
             Name::ParagraphInside => paragraph_inside(t),
@@ -43,28 +46,26 @@ impl Machine for Lines {
         }
     }
 
-    ghost consumes_once = { λ _. laws.consumes_once };
+    ghost consumes_once = { λ _ g. laws.table-consumes_once lines g lines-fit };
 
-    ghost only_adds = { λ _. laws.only_adds };
+    ghost only_adds = { λ _ g. laws.table-only_adds lines g lines-fit };
 
-    ghost ends_when_read = { λ _. laws.ends_when_read };
+    ghost ends_when_read = { λ _ g. laws.table-ends_when_read lines g lines-fit };
 
-    ghost invariant_kept = { λ _. laws.invariant_kept };
+    ghost invariant_kept = { λ _ g. laws.table-invariant_kept lines g lines-fit };
 
-    ghost cost_pays = { λ _. laws.cost_pays };
+    ghost cost_pays = { λ _ g. table-cost_pays lines g lines-fit };
 }
 
 /// A line begins.
 fn flow_start<'a>(t: &mut Tokenizer<'a, Lines>) -> Result<State, AllocError>
-    requires { IsCallable flow_start t.old }
-    ensures { IfOk result (Does (lines_table flow_start (waiting_of (sight_seen t.old).current) (sight_seen t.old) t.old.configuration) t.old t.new) }
+    requires { IsCallable line_byte flow_start t.old }
+    ensures { IfOk result (DoesAll (step_in line_byte flow_start t.old) t.old t.new) }
 {
     match t.current() {
         None => Ok(State::Ok),
         Some(b'\n') => {
-            t.enter(event::Name::LineEnding)?;
-            t.consume();
-            t.exit(event::Name::LineEnding)?;
+            marker(t, event::Name::LineEnding)?;
             Ok(State::Next(Name::FlowStart))
         }
         Some(_) => {
@@ -77,8 +78,8 @@ fn flow_start<'a>(t: &mut Tokenizer<'a, Lines>) -> Result<State, AllocError>
 
 /// In a line.
 fn paragraph_inside<'a>(t: &mut Tokenizer<'a, Lines>) -> Result<State, AllocError>
-    requires { IsCallable paragraph_inside t.old }
-    ensures { IfOk result (Does (lines_table paragraph_inside (waiting_of (sight_seen t.old).current) (sight_seen t.old) t.old.configuration) t.old t.new) }
+    requires { IsCallable line_byte paragraph_inside t.old }
+    ensures { IfOk result (DoesAll (step_in line_byte paragraph_inside t.old) t.old t.new) }
 {
     match t.current() {
         None => {

@@ -1,12 +1,12 @@
 //! The machine that peeks: it looks at the whole text first, goes back, and then reads it as data.
 
 ghost use Rattle.std.specs.Prelude.{IfOk};
-ghost use Rattle.mdconstructs.specs.Holding.{IsReadable};
-ghost use Rattle.mdconstructs.specs.Peek.{peek_table, text_start, text_before};
-ghost use Rattle.markdown.specs.Sight.{sight_seen};
-ghost use Rattle.mdconstructs.specs.Tables.{waiting_of, Does, DoesAll};
+ghost use Rattle.mdtables.specs.RowInvariant.{DoesAll, IsCallable, step_in};
+ghost use Rattle.mdconstructs.specs.Tables.{line_byte};
+ghost use Rattle.mdconstructs.specs.Peek.{text_start, text_before};
 
-use crate::data::{data_inside, data_start};
+use crate::begin::begin;
+use crate::reading::{data_inside, data_start};
 use markdown::state::{Machine, MachineTypes, Name, State};
 use markdown::tokenizer::Tokenizer;
 use std::alloc::{AllocError, Global};
@@ -24,8 +24,10 @@ impl MachineTypes for Peek {
 }
 
 impl Machine for Peek {
-    ghost use Rattle.mdconstructs.specs.Peek.{peek_rules};
-    ghost use Rattle.mdconstructs.specs.PeekLaws as laws;
+    ghost use Rattle.mdtables.proofs.TableLaws as laws;
+    ghost use Rattle.mdtables.proofs.CostLaws.{table-cost_pays};
+    ghost use Rattle.mdconstructs.specs.Peek.{peek, peek_rules};
+    ghost use Rattle.mdconstructs.specs.PeekLaws.{peek-fit};
 
     ghost rules = { λ _. peek_rules };
 
@@ -35,8 +37,7 @@ impl Machine for Peek {
         t: &mut Tokenizer<'a, Self>,
         name: Name,
     ) -> Result<State, AllocError> {
-        t.tick();
-        t.tokenize_state.size = t.tokenize_state.size.saturating_add(1);
+        begin(t);
         match name {
             Name::TextStart => text_start(t),
             Name::TextBefore => text_before(t),
@@ -46,20 +47,21 @@ impl Machine for Peek {
         }
     }
 
-    ghost consumes_once = { λ _. laws.consumes_once };
+    ghost consumes_once = { λ _ g. laws.table-consumes_once peek g peek-fit };
 
-    ghost only_adds = { λ _. laws.only_adds };
+    ghost only_adds = { λ _ g. laws.table-only_adds peek g peek-fit };
 
-    ghost ends_when_read = { λ _. laws.ends_when_read };
+    ghost ends_when_read = { λ _ g. laws.table-ends_when_read peek g peek-fit };
 
-    ghost invariant_kept = { λ _. laws.invariant_kept };
+    ghost invariant_kept = { λ _ g. laws.table-invariant_kept peek g peek-fit };
 
-    ghost cost_pays = { λ _. laws.cost_pays };
+    ghost cost_pays = { λ _ g. table-cost_pays peek g peek-fit };
 }
 
 /// Before the look: a check begins, which goes on with data either way.
 fn text_start<'a>(t: &mut Tokenizer<'a, Peek>) -> Result<State, AllocError>
-    ensures { IfOk result (DoesAll (peek_table text_start (waiting_of (sight_seen t.old).current) (sight_seen t.old) t.old.configuration) t.old t.new) }
+    requires { IsCallable line_byte text_start t.old }
+    ensures { IfOk result (DoesAll (step_in line_byte text_start t.old) t.old t.new) }
 {
     t.check(State::Next(Name::DataStart), State::Next(Name::DataStart))?;
     Ok(State::Retry(Name::TextBefore))
@@ -67,8 +69,8 @@ fn text_start<'a>(t: &mut Tokenizer<'a, Peek>) -> Result<State, AllocError>
 
 /// In the look: each byte is passed, and at the end the look fails.
 fn text_before<'a>(t: &mut Tokenizer<'a, Peek>) -> Result<State, AllocError>
-    requires { IsReadable t.old }
-    ensures { IfOk result (Does (peek_table text_before (waiting_of (sight_seen t.old).current) (sight_seen t.old) t.old.configuration) t.old t.new) }
+    requires { IsCallable line_byte text_before t.old }
+    ensures { IfOk result (DoesAll (step_in line_byte text_before t.old) t.old t.new) }
 {
     match t.current() {
         None => Ok(State::Nok),

@@ -2,12 +2,12 @@
 //! and reads the rest as data.
 
 ghost use Rattle.std.specs.Prelude.{IfOk};
-ghost use Rattle.mdconstructs.specs.Holding.{IsReadable};
-ghost use Rattle.mdconstructs.specs.Save.{save_table, text_start, text_before};
-ghost use Rattle.markdown.specs.Sight.{sight_seen};
-ghost use Rattle.mdconstructs.specs.Tables.{waiting_of, Does, DoesAll};
+ghost use Rattle.mdtables.specs.RowInvariant.{DoesAll, IsCallable, step_in};
+ghost use Rattle.mdconstructs.specs.Tables.{line_byte};
+ghost use Rattle.mdconstructs.specs.Save.{text_start, text_before};
 
-use crate::data::{data_inside, data_start};
+use crate::begin::begin;
+use crate::reading::{data_inside, data_start};
 use markdown::state::{Machine, MachineTypes, Name, State};
 use markdown::tokenizer::Tokenizer;
 use std::alloc::{AllocError, Global};
@@ -26,8 +26,10 @@ impl MachineTypes for Save {
 }
 
 impl Machine for Save {
-    ghost use Rattle.mdconstructs.specs.Save.{save_rules};
-    ghost use Rattle.mdconstructs.specs.SaveLaws as laws;
+    ghost use Rattle.mdtables.proofs.TableLaws as laws;
+    ghost use Rattle.mdtables.proofs.CostLaws.{table-cost_pays};
+    ghost use Rattle.mdconstructs.specs.Save.{save, save_rules};
+    ghost use Rattle.mdconstructs.specs.SaveLaws.{save-fit};
 
     ghost rules = { λ _. save_rules };
 
@@ -37,8 +39,7 @@ impl Machine for Save {
         t: &mut Tokenizer<'a, Self>,
         name: Name,
     ) -> Result<State, AllocError> {
-        t.tick();
-        t.tokenize_state.size = t.tokenize_state.size.saturating_add(1);
+        begin(t);
         match name {
             Name::TextStart => text_start(t),
             Name::TextBefore => text_before(t),
@@ -48,21 +49,21 @@ impl Machine for Save {
         }
     }
 
-    ghost consumes_once = { λ _. laws.consumes_once };
+    ghost consumes_once = { λ _ g. laws.table-consumes_once save g save-fit };
 
-    ghost only_adds = { λ _. laws.only_adds };
+    ghost only_adds = { λ _ g. laws.table-only_adds save g save-fit };
 
-    ghost ends_when_read = { λ _. laws.ends_when_read };
+    ghost ends_when_read = { λ _ g. laws.table-ends_when_read save g save-fit };
 
-    ghost invariant_kept = { λ _. laws.invariant_kept };
+    ghost invariant_kept = { λ _ g. laws.table-invariant_kept save g save-fit };
 
-    ghost cost_pays = { λ _. laws.cost_pays };
+    ghost cost_pays = { λ _ g. table-cost_pays save g save-fit };
 }
 
 /// In the first line: each byte is passed, and after the line ending an attempt begins, which goes on with data either way.
 fn text_start<'a>(t: &mut Tokenizer<'a, Save>) -> Result<State, AllocError>
-    requires { IsReadable t.old }
-    ensures { IfOk result (DoesAll (save_table text_start (waiting_of (sight_seen t.old).current) (sight_seen t.old) t.old.configuration) t.old t.new) }
+    requires { IsCallable line_byte text_start t.old }
+    ensures { IfOk result (DoesAll (step_in line_byte text_start t.old) t.old t.new) }
 {
     match t.current() {
         None => Ok(State::Ok),
@@ -80,7 +81,8 @@ fn text_start<'a>(t: &mut Tokenizer<'a, Save>) -> Result<State, AllocError>
 
 /// In the attempt, which fails whatever waits.
 fn text_before<'a>(t: &mut Tokenizer<'a, Save>) -> Result<State, AllocError>
-    ensures { IfOk result (Does (save_table text_before (waiting_of (sight_seen t.old).current) (sight_seen t.old) t.old.configuration) t.old t.new) }
+    requires { IsCallable line_byte text_before t.old }
+    ensures { IfOk result (DoesAll (step_in line_byte text_before t.old) t.old t.new) }
 {
     Ok(State::Nok)
 }

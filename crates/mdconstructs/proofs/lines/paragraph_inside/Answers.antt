@@ -1,21 +1,19 @@
-use Rattle.std.proofs.Common.{◌≡◌, Some, ap, ◌∙◌, sym, subst}
-use Rattle.markdown_base.specs.declared.event.Name.TheVariants.{Paragraph}
-use Rattle.markdown.specs.Calls.{CanExit}
-use Rattle.markdown.specs.Sight.{sight_seen}
-use Rattle.mdconstructs.specs.Tables.{waiting_of}
-use Rattle.mdconstructs.specs.Holding.{began_before}
-use Rattle.mdconstructs.proofs.LinesCalls.{paragraph-exit}
+use Rattle.std.proofs.Common.{[], ◌∷◌, refl, ap, rules}
+use Rattle.markdown_base.specs.declared.event.Name.TheVariants.{Paragraph, Data}
+use Rattle.mdtables.specs.Rows.{exit}
+use Rattle.mdtables.proofs.RowCalls.{at-end, at-byte, can-exit}
+use Rattle.mdconstructs.specs.Tables.{line_byte, line_ending}
+use Rattle.mdconstructs.specs.Lines.{paragraph_inside}
 use Rattle.mdconstructs.proofs.lines.paragraph_inside.Goals as goal
 
+pub exit-requires : goal.exit-requires
+exit-requires c = can-exit line_byte paragraph_inside _ _ _ c.requires refl (at-end line_byte _ _ c.current.ensures c.in-None.is) [] Data _ refl refl
+
 pub exit-requires-in-None : goal.exit-requires-in-None
-exit-requires-in-None c =
-    let t = c.args.t.now in
-    let place : began_before (waiting_of (sight_seen t).current) (sight_seen t) ≡ (sight_seen t).left = ap (λ o. began_before (waiting_of o) (sight_seen t)) (sym c.current.ensures ∙ c.in-None.is) in
-    subst (CanExit Paragraph) (sym c.in_ok-exit-in-None.ensures.ok) (paragraph-exit t c.requires place)
+exit-requires-in-None c = can-exit line_byte paragraph_inside _ _ _ c.requires refl (at-end line_byte _ _ c.current.ensures c.in-None.is) (exit Data ∷ []) Paragraph _ refl c.in_ok-exit-in-None.ensures.ok
+
+pub exit-requires-in-Some-eq10 : goal.exit-requires-in-Some-eq10
+exit-requires-in-Some-eq10 c = can-exit line_byte paragraph_inside _ _ _ c.requires refl (at-byte line_byte line_ending _ _ _ c.current.ensures c.in-Some-eq10.is (ap line_byte c.in-Some-eq10.field-0-test)) [] Data _ refl refl
 
 pub exit-requires-in-Some-eq10-2 : goal.exit-requires-in-Some-eq10-2
-exit-requires-in-Some-eq10-2 c =
-    let t = c.args.t.now in
-    let place : began_before (waiting_of (sight_seen t).current) (sight_seen t) ≡ (sight_seen t).left =
-    ap (λ o. began_before (waiting_of o) (sight_seen t)) (sym c.current.ensures ∙ c.in-Some-eq10.is ∙ ap Some c.in-Some-eq10.field-0-test) in
-    subst (CanExit Paragraph) (sym c.in_ok-exit-in-Some-eq10.ensures.ok) (paragraph-exit t c.requires place)
+exit-requires-in-Some-eq10-2 c = can-exit line_byte paragraph_inside _ _ _ c.requires refl (at-byte line_byte line_ending _ _ _ c.current.ensures c.in-Some-eq10.is (ap line_byte c.in-Some-eq10.field-0-test)) (exit Data ∷ []) Paragraph _ refl c.in_ok-exit-in-Some-eq10.ensures.ok

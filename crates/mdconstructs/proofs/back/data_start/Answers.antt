@@ -1,0 +1,10 @@
+use Rattle.std.proofs.Common.{[], ◌∷◌, refl, ap, rules}
+use Rattle.markdown_base.specs.declared.event.Name.TheVariants.{Data}
+use Rattle.mdtables.specs.Rows.{exit}
+use Rattle.mdtables.proofs.RowCalls.{at-end, at-byte, can-exit}
+use Rattle.mdconstructs.specs.Tables.{line_byte, line_ending}
+use Rattle.mdconstructs.specs.Back.{data_start}
+use Rattle.mdconstructs.proofs.back.data_start.Goals as goal
+
+pub exit-requires : goal.exit-requires
+exit-requires c = can-exit line_byte data_start _ _ _ c.requires refl (at-end line_byte _ _ c.current.ensures c.in-None.is) [] Data _ refl refl

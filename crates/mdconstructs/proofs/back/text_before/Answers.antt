@@ -1,0 +1,10 @@
+use Rattle.std.proofs.Common.{[], ◌∷◌, refl, ap, rules}
+use Rattle.markdown_base.specs.declared.event.Name.TheVariants.{Data}
+use Rattle.mdtables.specs.Rows.{exit}
+use Rattle.mdtables.proofs.RowCalls.{at-end, at-byte, can-exit}
+use Rattle.mdconstructs.specs.Tables.{line_byte, line_ending}
+use Rattle.mdconstructs.specs.Back.{text_before}
+use Rattle.mdconstructs.proofs.back.text_before.Goals as goal
+
+pub exit-requires : goal.exit-requires
+exit-requires c = can-exit line_byte text_before _ _ _ c.requires refl (at-end line_byte _ _ c.current.ensures c.in-None.is) [] Data _ refl refl

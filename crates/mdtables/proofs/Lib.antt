@@ -1,0 +1,6 @@
+pub mod CostLaws
+pub mod Markers
+pub mod RowCalls
+pub mod RowLaws
+pub mod TableLaws
+pub mod Texts

@@ -1,0 +1,4 @@
+pub mod Markers
+pub mod RowInvariant
+pub mod RowTest
+pub mod Rows
