@@ -3,6 +3,5 @@ pub mod GapRows
 pub mod Printed
 pub mod Program
 pub mod Reading
-pub mod Rows
 pub mod Words
 pub mod WordsInner

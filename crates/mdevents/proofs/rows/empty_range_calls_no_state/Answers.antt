@@ -2,15 +2,5 @@ use Rattle.std.proofs.Common.{refl}
 use Rattle.markdown_base.specs.Virtual.{point}
 use Rattle.mdevents.proofs.rows.empty_range_calls_no_state.Goals as goal
 
-pub read_in_three-requires-clause-ranges : goal.read_in_three-requires-clause-ranges
-read_in_three-requires-clause-ranges g c = record {
-  first = point 1 2 1 0;
-  second = point 1 2 2 0;
-  third = point 1 2 2 0;
-  first_at = refl;
-  second_at = refl;
-  third_at = refl;
-  after_start = refl;
-  same = refl;
-  in_order = refl;
-}
+pub read-requires-clause-cuts : goal.read-requires-clause-cuts
+read-requires-clause-cuts g c = (point 1 2 1 0, refl, refl, point 1 2 2 0, refl, refl, point 1 2 2 0, refl, refl, tt)
