@@ -5,11 +5,11 @@ ghost use Rattle.markdown.specs.Engine.{AreCuts, given_of};
 ghost use Rattle.mdevents.specs.Program.{document};
 
 use crate::print::printed;
+use markdown::configuration::ParseOptions;
+use markdown::event::{Event, Point};
 use markdown::parser::ParseState;
 use markdown::state::{Machine, Name, State};
 use markdown::tokenizer::{Tokenizer, cuts_every};
-use markdown::configuration::ParseOptions;
-use markdown::event::{Event, Point};
 use mdconstructs::deep::Deep;
 use mdconstructs::lines::Lines;
 use mdconstructs::peek::Peek;
