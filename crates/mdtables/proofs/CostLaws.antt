@@ -1,30 +1,29 @@
 -- The calls of a machine whose table passes the test are paid for.
-use Rattle.std.proofs.Common.{◌≡◌, ℕ, ◌+◌, ◌-◌, ◌*◌, ◌<◌, ◌≤◌, ◌&&◌, List, [], ◌∷◌, ◌++◌, Bool, true, false, cond, Option, Some, None, length, refl, sym, ap, ◌∙◌, subst, arith, sum_by}
+use Rattle.std.proofs.Common.{◌≡◌, ℕ, ◌+◌, ◌-◌, ◌<◌, ◌≤◌, ◌&&◌, List, [], ◌∷◌, Bool, true, false, cond, Option, Some, None, length, refl, sym, subst, arith, sum_by}
 use Rattle.std.specs.Prelude.{nat_lt, max, not}
 use Rattle.std.specs.List.{last_or}
-use Rattle.std.proofs.Math.Nat.{mul-le-mul_left, mul-le-mul_right, mul-le-mul}
+use Rattle.std.proofs.Math.Nat.{mul-le-mul_left, mul-le-mul_right}
 use Rattle.std.proofs.lemmas.Bool.{leb-true, ltb-true, ltb-false}
 use Rattle.std.proofs.lemmas.List.Sums.{sum_by-cons}
-use Rattle.markdown_base.specs.declared.event.Event.{Event}
 use Rattle.markdown_base.specs.declared.event.Name.{Name as EventName}
 use Rattle.markdown_base.specs.declared.state.Name.{Name}
 use Rattle.markdown_base.specs.declared.state.State.{State}
 use Rattle.markdown_base.specs.declared.state.State.TheVariants.{Next, Retry, Ok, Nok, Error}
 use Rattle.markdown.specs.declared.waiting.AttemptKind.{AttemptKind}
 use Rattle.markdown.specs.declared.waiting.AttemptKind.TheVariants.{Attempt, Check}
-use Rattle.markdown.specs.Text.{Given, Text, IsText}
-use Rattle.markdown.specs.Configuration.{Configuration, Choice, Saved, Step}
+use Rattle.markdown.specs.Text.{Given, Text}
+use Rattle.markdown.specs.Configuration.{Configuration, Choice, Saved}
 use Rattle.markdown.specs.Sight.{Sight, sight}
 use Rattle.markdown.specs.Calls.{consumed, with_local}
 use Rattle.markdown.specs.Reading.{fed, unfed, restored, settled_at}
 use Rattle.markdown.specs.Lawful.{IsAsFar, CostPays}
-use Rattle.mdtables.specs.Rows.{Act, enters, exit, consume, links, write, choose, Rows, row, when, Row, Calls, StateRows, Table, past, class_of, choice_at, done, chooses, picked, named}
-use Rattle.mdtables.specs.RowTest.{is_void_last, saves, Stage, end_waits, byte_waits, byte_read, Shape, Frame, goes_on, fits_choice, fits_answer, fits_calls, is_some, first_stage, no_calls, plus, larger, at_stage, calls_le, calls_or, fed_calls, next_calls, choice_calls, chosen_calls, answer_calls, row_calls, calls_at, is_counted, counts_answer, counts_choice, counts_choices, pays_row, feeds, all_rows, is_called, fits_state, fits_row}
-use Rattle.mdtables.specs.RowInvariant.{outline, IsSavedIn, IsSaved, price_by, at_most, IsAt, IsStateAt, HoldsAt, table_holds, next_price, retry_price, state_price, choice_price, chosen_price, answer_price, row_price, AreWithin, Stands, is_read, PaysRows, ArePaid, table_cost, reserve_of, table_reserve, table_rules, upto, place_at}
+use Rattle.mdtables.specs.Rows.{Act, enters, exit, consume, links, write, choose, Rows, row, when, Row, Calls, StateRows, Table, past, choice_at, done, chooses, picked, named}
+use Rattle.mdtables.specs.RowTest.{is_void_last, saves, Stage, end_waits, byte_waits, byte_read, Shape, Frame, goes_on, fits_choice, fits_answer, fits_calls, is_some, first_stage, plus, larger, at_stage, calls_le, calls_or, fed_calls, next_calls, choice_calls, chosen_calls, answer_calls, calls_at, is_counted, counts_answer, counts_choice, counts_choices, pays_row, feeds, all_rows, is_called, fits_row}
+use Rattle.mdtables.specs.RowInvariant.{outline, IsSaved, price_by, at_most, IsStateAt, next_price, retry_price, state_price, choice_price, chosen_price, answer_price, row_price, AreWithin, Stands, is_read, PaysRows, ArePaid, table_cost, reserve_of, table_reserve, table_rules, upto, place_at}
 use Rattle.mdtables.specs.RowTest.{fresh_fed}
 use Rattle.mdtables.proofs.RowLaws.{both, Waited, reached}
 use Rattle.mdtables.proofs.Texts.{seat-at}
-use Rattle.mdtables.proofs.TableLaws.{IsFit, read-before, picked-passes, of_class, before_class, row_of, left_by, IsCall, each-call, stays, state-fits, called-at}
+use Rattle.mdtables.proofs.TableLaws.{IsFit, read-before, picked-passes, of_class, before_class, row_of, left_by, each-call, state-fits}
 
 -- Calls
 le-most : (c d : Calls) (n : ℕ) → calls_le c d ≡ true → at_most c n ≤ at_most d n

@@ -1,5 +1,6 @@
 pub mod CostLaws
 pub mod Markers
+pub mod Misfits
 pub mod RowCalls
 pub mod RowLaws
 pub mod TableLaws

@@ -1,6 +1,6 @@
 -- A byte that waits can be a span of its own.
-use Rattle.std.proofs.Common.{◌≡◌, ℕ, ◌+◌, ◌<◌, ◌≤◌, List, [], ◌∷◌, ◌++◌, true, Option, Some, None, length, refl, sym, ap, ◌∙◌, subst, arith, length-append}
-use Rattle.std.specs.Prelude.{All, IfSome}
+use Rattle.std.proofs.Common.{◌≡◌, ℕ, ◌<◌, ◌≤◌, List, [], ◌∷◌, ◌++◌, true, Option, Some, None, length, refl, sym, ap, ◌∙◌, subst, arith, length-append}
+use Rattle.std.specs.Prelude.{IfSome}
 use Rattle.std.specs.List.{last_or}
 use Rattle.std.proofs.lemmas.List.Elements.{All-weaker}
 use Rattle.markdown_base.specs.declared.event.Event.{Event}
@@ -11,8 +11,8 @@ use Rattle.markdown_base.specs.Places.{stands_before}
 use Rattle.markdown.specs.declared.waiting.Waits.{Waits}
 use Rattle.markdown.specs.declared.waiting.Waits.TheVariants.{Nothing, Byte, End}
 use Rattle.markdown.specs.Text.{Text}
-use Rattle.markdown.specs.Configuration.{Choice, Saved, Seen, at_configuration}
-use Rattle.markdown.specs.Sight.{sight, sight_seen, current_of}
+use Rattle.markdown.specs.Configuration.{Saved, Seen, at_configuration}
+use Rattle.markdown.specs.Sight.{sight_seen, current_of}
 use Rattle.markdown.specs.Calls.{CanExit, consumed, entered, exited}
 use Rattle.mdtables.specs.Rows.{StateRows}
 use Rattle.mdtables.specs.RowInvariant.{IsBelow, IsCallable}

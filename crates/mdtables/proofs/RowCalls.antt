@@ -1,5 +1,5 @@
 -- What the code of a state needs where it exits a span, and what its calls come to, from the test of its acts.
-use Rattle.std.proofs.Common.{◌≡◌, ◌≢◌, ◌==◌, ℕ, ◌+◌, ◌<◌, ◌≤◌, ◌&&◌, ◌||◌, not, List, [], ◌∷◌, ◌++◌, Bool, true, false, cond, Option, Some, None, length, map, refl, sym, ap, ◌∙◌, subst, arith, length-append}
+use Rattle.std.proofs.Common.{◌≡◌, ◌≢◌, ◌==◌, ℕ, ◌<◌, ◌≤◌, ◌&&◌, ◌||◌, not, List, [], ◌∷◌, ◌++◌, Bool, true, false, cond, Option, Some, None, length, map, refl, sym, ap, ◌∙◌, subst, arith, length-append}
 use Rattle.std.specs.Prelude.{All, IfSome}
 use Rattle.std.specs.List.{last_or}
 use Rattle.std.proofs.lemmas.Bool.Decides.{nat_tests}
@@ -12,15 +12,14 @@ use Rattle.markdown_base.specs.declared.state.State.{State}
 use Rattle.markdown_base.specs.declared.state.State.TheVariants.{Retry}
 use Rattle.markdown_base.specs.Events.{open_events, is_void, unlinked}
 use Rattle.markdown_base.specs.Places.{stands_before}
-use Rattle.markdown.specs.Text.{Given, Text}
 use Rattle.markdown.specs.Configuration.{Configuration, Local, Choice, Saved, Seen}
 use Rattle.markdown.specs.Sight.{sight, sight_seen}
 use Rattle.markdown.specs.Calls.{CanExit}
 use Rattle.markdown.specs.Lawful.{IsAsFar}
 use Rattle.mdtables.specs.Rows.{Act, enters, exit, consume, links, write, choose, done, chosen, Row, StateRows, Table, no_cost, class_of, does, chooses, step_of, picked, row_at, named}
-use Rattle.mdtables.specs.RowTest.{Shape, Stage, end_waits, byte_waits, byte_read, is_end, is_last, allows, allows_all, after_all, start_shape, first_stage, is_some}
-use Rattle.mdtables.specs.RowInvariant.{outline, EndsWithEnter, Began, since, is_read, begun, DoesAll, IsBelow, table_holds, IsCallable, step_in}
-use Rattle.mdtables.proofs.RowLaws.{both, implied, Waited, reached, sight_at, HasShape, below_all, is-last, last-above, last-long, not-end, to-before, open-unlinked, left-at, here-at, has-after-all, does-then, chooses-then, chooses-append, allows-then}
+use Rattle.mdtables.specs.RowTest.{Shape, is_last, allows_all, after_all, start_shape, is_some}
+use Rattle.mdtables.specs.RowInvariant.{EndsWithEnter, since, begun, DoesAll, IsBelow, table_holds, IsCallable, step_in}
+use Rattle.mdtables.proofs.RowLaws.{both, implied, Waited, reached, sight_at, HasShape, below_all, is-last, last-above, last-long, to-before, open-unlinked, left-at, here-at, has-after-all, does-then, chooses-then, chooses-append, allows-then}
 use Rattle.mdtables.proofs.TableLaws.{met-at, read-before, ahead-at, start-sight, begins}
 
 -- what waits is of a class, by what was looked at

@@ -1,18 +1,15 @@
 -- What a row keeps: lemmas for the laws of tables.
-use Rattle.std.proofs.Common.{◌≡◌, ℕ, zero, suc, ◌+◌, ◌-◌, ◌<◌, ◌≤◌, ◌&&◌, ◌||◌, not, List, [], ◌∷◌, ◌++◌, Bool, true, false, cond, Option, Some, None, length, map, refl, sym, ap, ◌∙◌, subst, arith, take, append_assoc, length-append}
+use Rattle.std.proofs.Common.{◌≡◌, suc, ◌+◌, ◌-◌, ◌<◌, ◌≤◌, ◌&&◌, ◌||◌, not, List, [], ◌∷◌, ◌++◌, Bool, true, false, Option, Some, None, length, map, refl, sym, ap, ◌∙◌, subst, arith, take, append_assoc, length-append}
 use Rattle.std.specs.Prelude.{All, IfSome}
 use Rattle.std.specs.List.{last_or}
 use Rattle.std.proofs.lemmas.Bool.{and_from}
-use Rattle.std.proofs.lemmas.List.{append-nil, take-append-le, take-map, length-map, map-append, take_all}
-use Rattle.std.proofs.lemmas.List.Elements.{All-push, All-take, All-weaker, All-nil, All-cons, All-head, All-tail}
-use Rattle.std.proofs.Math.Seq.{take-append_seam}
+use Rattle.std.proofs.lemmas.List.{append-nil, take-map, length-map, map-append}
+use Rattle.std.proofs.lemmas.List.Elements.{All-push, All-take, All-weaker, All-cons}
 use Rattle.markdown_base.specs.declared.event.Event.{Event}
-use Rattle.markdown_base.specs.declared.event.Link.{Link}
 use Rattle.markdown_base.specs.declared.event.Kind.{Kind}
 use Rattle.markdown_base.specs.declared.event.Kind.TheVariants.{Enter, Exit}
 use Rattle.markdown_base.specs.declared.event.Name.{Name as EventName}
 use Rattle.markdown_base.specs.declared.event.Point.{Point}
-use Rattle.markdown_base.specs.declared.state.Name.{Name}
 use Rattle.markdown_base.specs.declared.state.State.{State}
 use Rattle.markdown_base.specs.declared.state.State.TheVariants.{Next, Retry, Ok, Nok, Error}
 use Rattle.markdown_base.specs.Events.{open_after, open_events_from, open_events, unlinked}
@@ -23,14 +20,14 @@ use Rattle.markdown.specs.declared.waiting.AttemptKind.TheVariants.{Attempt, Che
 use Rattle.markdown.specs.Text.{Given, Text}
 use Rattle.markdown.specs.Configuration.{Configuration, Choice, Saved}
 use Rattle.markdown.specs.Sight.{Sight, sight}
-use Rattle.markdown.specs.Calls.{consumed, saved_at, linked}
+use Rattle.markdown.specs.Calls.{consumed}
 use Rattle.markdown.proofs.Changes.{linked-unlinked}
 use Rattle.markdown.specs.Lawful.{IsAsFar}
 use Rattle.markdown.proofs.Balanced.{same_name-true}
 use Rattle.markdown.proofs.MadeLemmas.{before-upto, upto-self}
-use Rattle.mdtables.specs.Rows.{Act, enters, exit, consume, links, write, choose, StateRows, past, done, seen_after, choice_at, chosen, does, chooses, named}
-use Rattle.mdtables.specs.RowTest.{is_void_last, Stage, end_waits, byte_waits, byte_read, Shape, Frame, frame_of, is_byte_waiting, is_end, is_last, saves, allows, after, allows_all, after_all, same_names, fits_choice, fits_choices}
-use Rattle.mdtables.specs.RowInvariant.{outline, EndsWithEnter, Began, upto, since, place_at, AnyWait, IsSavedIn, IsSaved, position_of, events_of, IsBelow, IsWaiting, AreWaiting}
+use Rattle.mdtables.specs.Rows.{Act, enters, exit, consume, links, write, choose, past, done, seen_after, choice_at, chosen, does, chooses}
+use Rattle.mdtables.specs.RowTest.{Stage, end_waits, byte_waits, byte_read, Shape, is_byte_waiting, is_end, is_last, allows, after, allows_all, after_all, same_names}
+use Rattle.mdtables.specs.RowInvariant.{outline, EndsWithEnter, Began, upto, since, AnyWait, IsBelow}
 use Rattle.mdtables.proofs.Texts.{open-more, last-more, next-left}
 
 pub both : (x y : Bool) → (x && y) ≡ true → (x ≡ true) × (y ≡ true)

@@ -1,5 +1,5 @@
 -- The laws of a machine whose table passes the test.
-use Rattle.std.proofs.Common.{◌≡◌, ◌≢◌, ℕ, zero, suc, ◌+◌, ◌-◌, ◌<◌, ◌≤◌, ◌&&◌, ◌||◌, not, List, [], ◌∷◌, ◌++◌, Bool, true, false, cond, Option, Some, None, length, map, refl, sym, ap, ◌∙◌, subst, arith, ◌⊎◌, inl, inr, take, drop, length-append, add-one, append_assoc}
+use Rattle.std.proofs.Common.{◌≡◌, ◌≢◌, ℕ, zero, suc, ◌+◌, ◌<◌, ◌≤◌, ◌&&◌, ◌||◌, not, List, [], ◌∷◌, ◌++◌, Bool, true, false, cond, Option, Some, None, length, map, refl, sym, ap, ◌∙◌, subst, arith, ◌⊎◌, inl, inr, take, drop, length-append, append_assoc}
 use Rattle.std.specs.Prelude.{All, IfSome, Contains, nat_lt, filter}
 use Rattle.std.specs.List.{last_or}
 use Rattle.std.proofs.Math.Seq.{take-append_seam}
@@ -26,10 +26,11 @@ use Rattle.markdown.specs.Reading.{fed, unfed, restored, settled_at}
 use Rattle.markdown.specs.Lawful.{IsAsFar, ConsumesOnce, OnlyAdds, EndsWhenRead, KeepsInvariant}
 use Rattle.markdown.proofs.TextOrder.{begins-before_end, began-before_next, ends-before_next}
 use Rattle.markdown.proofs.Orders.{upto-before}
-use Rattle.mdtables.specs.Rows.{Act, enters, exit, consume, links, write, choose, Rows, row, when, Row, Begun, before, at_byte, here, Needs, nothing, a_choice, a_choice_once_read, StateRows, Table, no_cost, past, class_of, choice_at, chosen, done, seen_after, does, chooses, picked, step_of, row_at, named, step_at, table_step}
-use Rattle.mdtables.specs.RowTest.{is_void_last, saves, Stage, end_waits, byte_waits, byte_read, Shape, Frame, frame_of, allows, after, allows_all, after_all, same_names, is_at, is_end, is_fresh, is_fresh_fed, fresh_at, fresh_fed, needs_choice, is_some, is_called, goes_on, fits_choice, fits_choices, fits_answer, fits_row, fits_calls, fits_state, start_shape, first_stage, is_bare, is_byte_waiting, all_rows, may_start, misfits}
-use Rattle.mdtables.specs.RowInvariant.{outline, EndsWithEnter, Began, upto, since, IsOpen, IsInOrder, IsFed, place_at, is_read, AnyWait, IsSavedIn, IsSaved, position_of, events_of, IsBelow, IsWaiting, AreWaiting, began_at, IsAt, IsStateAt, IsDone, IsFailing, HoldsAt, table_holds, ArePaid, table_rules}
-use Rattle.mdtables.proofs.RowLaws.{both, implied, off, same_names-true, CanRead, Waited, reached, IsSeenAhead, sight_at, HasShape, below_after, below_all, to-before, before-is-upto, below-more, adds-one, began-on, left-at, waiting-stage, has-after, has-after-all, sees-after, sight-after, chooses-append, adds-all}
+use Rattle.mdtables.specs.Rows.{Act, enters, exit, consume, links, write, choose, Rows, row, when, Row, Begun, before, at_byte, here, Needs, nothing, a_choice, a_choice_once_read, StateRows, Table, no_cost, class_of, choice_at, chosen, done, seen_after, does, chooses, picked, step_of, row_at, named, step_at, table_step}
+use Rattle.mdtables.specs.RowTest.{is_void_last, saves, Stage, end_waits, byte_waits, byte_read, Shape, Frame, frame_of, allows, after, allows_all, after_all, is_at, is_end, is_fresh, is_fresh_fed, fresh_at, fresh_fed, needs_choice, is_some, is_called, goes_on, fits_choice, fits_choices, fits_answer, fits_row, fits_calls, fits_state, start_shape, first_stage, is_bare, is_byte_waiting, all_rows, may_start, misfits}
+use Rattle.mdtables.specs.RowInvariant.{outline, EndsWithEnter, Began, upto, since, IsOpen, IsInOrder, IsFed, place_at, is_read, AnyWait, IsSavedIn, IsSaved, position_of, events_of, IsBelow, AreWaiting, began_at, IsStateAt, HoldsAt, table_holds, ArePaid, table_rules}
+use Rattle.mdtables.proofs.Misfits.{none-left, none-mapped, named-out, all-out, fit-or, not-off}
+use Rattle.mdtables.proofs.RowLaws.{both, implied, off, same_names-true, Waited, reached, IsSeenAhead, sight_at, HasShape, below_after, below_all, to-before, before-is-upto, below-more, adds-one, began-on, left-at, has-after, has-after-all, sees-after, sight-after, chooses-append, adds-all}
 use Rattle.mdtables.proofs.Texts.{seat-at, fed-position, Extends, extends, left-kept, waits-longer}
 
 -- A table fits: the test names no state that does not, and the machine's own costs are paid for
@@ -41,46 +42,6 @@ pub record IsFit {W R D : Type 0} (table : Table W R D) : Type 0 where
 -- a machine whose states all say how many calls are left brings no cost
 pub no-falls : (text : Text) (p q : ℕ) (name : Name) → p ≤ q → no_cost text q name ≤ no_cost text p name
 no-falls text p q name h = omega arith
-
--- What the test says of each state
-none-left : {A : Type 0} (xs ys : List A) → xs ++ ys ≡ [] → (xs ≡ []) × (ys ≡ [])
-none-left [] ys h = (refl, h)
-none-left (x ∷ xs) ys h = absurd (cc)
-
-none-mapped : {A B : Type 0} (f : A → B) (xs : List A) → map f xs ≡ [] → xs ≡ []
-none-mapped f [] h = refl
-none-mapped f (x ∷ xs) h = absurd (cc)
-
-first-out : {A : Type 0} (test : A → Bool) (x : A) (b : Bool) (xs : List A) → cond b (x ∷ xs) xs ≡ [] → (b ≡ false) × (xs ≡ [])
-first-out test x true xs h = absurd (cc)
-first-out test x false xs h = (refl, h)
-
-module _ {W R D : Type 0} (test : StateRows W R D → Bool) where
-  picked-out : (b : Bool) (x state : StateRows W R D) (rest : Option (StateRows W R D)) → test x ≡ false → (rest ≡ Some state → test state ≡ false) → cond b (Some x) rest ≡ Some state → test state ≡ false
-  picked-out true x state rest t f is = let e : x ≡ state = cc in subst (λ y. test y ≡ false) e t
-  picked-out false x state rest t f is = f is
-
-  -- a test that no state passes is not passed by that of a name
-  named-out : (states : List (StateRows W R D)) (name : Name) (state : StateRows W R D) → filter test states ≡ [] → named states name ≡ Some state → test state ≡ false
-  named-out [] name state h is = absurd (cc)
-  named-out (x ∷ xs) name state h is =
-      let (one, rest) = first-out test x (test x) (filter test xs) h in
-      picked-out _ x state (named xs name) one (λ e. named-out xs name state rest e) is
-
-all-out : (test : Name → Bool) (names : List Name) → filter test names ≡ [] → All (λ n. test n ≡ false) names
-all-out test [] h = All-nil (λ n. test n ≡ false)
-all-out test (x ∷ xs) h =
-    let (one, rest) = first-out test x (test x) (filter test xs) h in
-    All-cons (λ n. test n ≡ false) x xs one (all-out test xs rest)
-
-fit-or : (a b : Bool) → (a && not b) ≡ false → a ≡ true → b ≡ true
-fit-or true true h e = refl
-fit-or true false h e = absurd (cc)
-fit-or false b h e = absurd (cc)
-
-not-off : (b : Bool) → not b ≡ false → b ≡ true
-not-off true h = refl
-not-off false h = absurd (cc)
 
 -- a test that all rows pass is passed by the one that is picked
 module _ {R D : Type 0} where

@@ -5,7 +5,6 @@ use Rattle.markdown_base.specs.declared.event.Event.{Event}
 use Rattle.markdown_base.specs.declared.event.Kind.TheVariants.{Enter}
 use Rattle.markdown_base.specs.declared.event.Name.{Name as EventName}
 use Rattle.markdown_base.specs.declared.event.Point.{Point}
-use Rattle.markdown_base.specs.declared.state.Name.{Name}
 use Rattle.markdown_base.specs.declared.state.State.{State}
 use Rattle.markdown_base.specs.declared.state.State.TheVariants.{Next, Retry, Ok, Nok, Error}
 use Rattle.markdown_base.specs.Events.{open_events, unlinked}
@@ -19,7 +18,7 @@ use Rattle.markdown.specs.Sight.{Sight, sight, sight_seen, end_place}
 use Rattle.markdown.specs.Calls.{with_local}
 use Rattle.markdown.specs.Rules.{Rules}
 use Rattle.mdtables.specs.Rows.{Act, consume, choose, Rows, row, when, Row, Calls, StateRows, Table, class_of, step_of, row_at, named, table_step}
-use Rattle.mdtables.specs.RowTest.{is_void_last, Stage, end_waits, byte_waits, byte_read, Frame, first_stage, saves, fresh_at, fresh_fed, needs_choice, is_some, fits_choice, calls_at}
+use Rattle.mdtables.specs.RowTest.{is_void_last, Stage, byte_waits, Frame, first_stage, saves, fresh_at, fresh_fed, needs_choice, is_some, fits_choice, calls_at}
 
 -- the events of a configuration, without the ends of their links
 abbrev pub outline : {R D : Type 0} → Configuration R D → List Event

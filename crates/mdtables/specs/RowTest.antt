@@ -1,6 +1,6 @@
 -- The test of a table: its acts are allowed where they stand, its answers and choices fit the states that they name, and its calls are paid for.
-use Rattle.std.specs.Prelude.{◌+◌, ◌-◌, ◌&&◌, ◌||◌, ◌==◌, not, List, [], ◌∷◌, ◌++◌, Bool, true, false, cond, Option, Some, None, nat_le, max, take, length, filter, map}
-use Rattle.std.specs.List.{last_or, list_all}
+use Rattle.std.specs.Prelude.{◌+◌, ◌-◌, ◌&&◌, ◌||◌, not, List, [], ◌∷◌, ◌++◌, Bool, true, false, cond, Option, Some, None, nat_le, max, take, length, filter, map}
+use Rattle.std.specs.List.{last_or}
 use Rattle.markdown_base.specs.declared.event.Name.{Name as EventName}
 use Rattle.markdown_base.specs.declared.state.Name.{Name}
 use Rattle.markdown_base.specs.declared.state.State.{State}

@@ -1,4 +1,3 @@
-use Rattle.std.proofs.Common.{refl}
 use Rattle.mdtables.proofs.Markers.{can-mark}
 use Rattle.mdtables.proofs.marker.Goals as goal
 

@@ -1,8 +1,7 @@
-use Rattle.std.proofs.Common.{[], ◌∷◌, refl, ap, rules}
+use Rattle.std.proofs.Common.{[], refl}
 use Rattle.markdown_base.specs.declared.event.Name.TheVariants.{Data}
-use Rattle.mdtables.specs.Rows.{exit}
-use Rattle.mdtables.proofs.RowCalls.{at-end, at-byte, can-exit}
-use Rattle.mdconstructs.specs.Tables.{line_byte, line_ending}
+use Rattle.mdtables.proofs.RowCalls.{at-end, can-exit}
+use Rattle.mdconstructs.specs.Tables.{line_byte}
 use Rattle.mdconstructs.specs.Back.{data_start}
 use Rattle.mdconstructs.proofs.back.data_start.Goals as goal
 

@@ -1,4 +1,4 @@
-use Rattle.std.proofs.Common.{[], ◌∷◌, refl, ap, rules}
+use Rattle.std.proofs.Common.{[], ◌∷◌, refl, ap}
 use Rattle.markdown_base.specs.declared.event.Name.TheVariants.{Paragraph, Data}
 use Rattle.mdtables.specs.Rows.{exit}
 use Rattle.mdtables.proofs.RowCalls.{at-end, at-byte, can-exit}

@@ -1,6 +1,5 @@
-use Rattle.std.proofs.Common.{[], ◌∷◌, refl, ap, rules}
+use Rattle.std.proofs.Common.{[], refl, ap}
 use Rattle.markdown_base.specs.declared.event.Name.TheVariants.{Data}
-use Rattle.mdtables.specs.Rows.{exit}
 use Rattle.mdtables.proofs.RowCalls.{at-end, at-byte, can-exit}
 use Rattle.mdconstructs.specs.Tables.{line_byte, line_ending}
 use Rattle.mdconstructs.specs.Reading.{data_inside}
