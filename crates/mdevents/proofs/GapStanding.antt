@@ -1,5 +1,5 @@
 -- An open tokenizer, from its start over ranges and gaps.
-use Rattle.std.proofs.Common.{◌≡◌, ◌⊎◌, ℕ, List, [], ◌∷◌, Some, Bool, true, false, cond, refl, sym, ap, ◌∙◌, subst}
+use Rattle.std.proofs.Common.{◌≡◌, ◌+◌, ◌*◌, ◌^◌, ◌<◌, ◌⊎◌, ℕ, length, List, [], ◌∷◌, Some, Bool, true, false, cond, refl, sym, ap, ◌∙◌, subst}
 use Rattle.std.specs.Prelude.{Contains}
 use Rattle.markdown_base.specs.declared.configuration.ParseOptions.{ParseOptions}
 use Rattle.markdown_base.specs.declared.event.Point.{Point}
@@ -14,7 +14,7 @@ use Rattle.markdown.specs.Rules.{Rules}
 use Rattle.markdown.specs.Lawful.{KeepsInvariant}
 use Rattle.markdown.specs.Engine.{CanPush, IsPushed, given_by}
 use Rattle.markdown.specs.Work.{extended}
-use Rattle.markdown.proofs.Runs.{start-is-point, found-place}
+use Rattle.markdown.proofs.Runs.{start-is-text, found-place}
 use Rattle.mdevents.specs.GapRows.{after_gap, IsGapFrom}
 
 end-by : (b : Bool) (text : Text) (w : Point) → (cond b text (record { start = text.start; seats = text.seats; end = w })).end ≡ cond b text.end w
@@ -31,16 +31,15 @@ module _ {M R D : Type 0} (rules : M → Given → Rules R D) where
     pub held : (rules t.machine t.given).holds t.text t.configuration t.choices state
 
   -- a new tokenizer stands at the document's start
-  pub stands-first : (bytes : List ℕ) (options : ParseOptions) (m : M) → KeepsInvariant (given_by 4 bytes options) (rules m (given_by 4 bytes options))
+  pub stands-first : (bytes : List ℕ) (options : ParseOptions) (m : M) → 4 * length bytes + 1 < 2 ^ 64 → KeepsInvariant (given_by 4 bytes options) (rules m (given_by 4 bytes options))
       → (start : Name) → Contains (rules m (given_by 4 bytes options)).starts start → (t : Seen M R D) → t ≡ start_seen (given_by 4 bytes options) m (empty_text (point 1 1 0 0)) → Stands bytes (point 1 1 0 0) t (Next start)
-  stands-first bytes options m keeps start starts_so t e =
-      let given = given_by 4 bytes options in
+  stands-first bytes options m limit keeps start starts_so t e =
       rw e (record {
         options = options;
         given = refl;
         open_still = refl;
         end = refl;
-        held = keeps.at_starts (point 1 1 0 0) false start (start-is-point given refl) starts_so;
+        held = keeps.at_starts (point 1 1 0 0) false start (start-is-text bytes options limit) starts_so;
       })
 
   module _ (bytes : List ℕ) (from to : ℕ × ℕ) (p f q : Point) (t : Seen M R D) (state : State) (s : Stands bytes p t state) (first : point_at 4 bytes from ≡ Some f)

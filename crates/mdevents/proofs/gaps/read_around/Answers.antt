@@ -16,7 +16,7 @@ push-requires-clause-range g c =
     let rules = g.M.Machine.rules in
     let bytes = c.args.parse_state.now.bytes.now in let options = c.args.parse_state.now.options.now in let m = c.args.parse_state.now.machine.now in let start = c.args.start in
     let t = c.new-tokenizer.result in let r = c.requires.ranges in let p = point 1 1 0 0 in
-    let s = stands-first rules bytes options m (g.met.M.Machine.invariant_kept m (given_by 4 bytes options)) start c.requires.start t c.new-tokenizer.ensures in
+    let s = stands-first rules bytes options m c.requires.limit (g.met.M.Machine.invariant_kept m (given_by 4 bytes options)) start c.requires.start t c.new-tokenizer.ensures in
     λ _. stands-range rules bytes (0, 0) c.args.cut p p r.first t (Next start) s (start-at bytes) r.first_at (same-self 4 bytes p) r.after_start
 
 pub push-requires-clause-holds : goal.push-requires-clause-holds
@@ -24,7 +24,7 @@ push-requires-clause-holds g c =
     let rules = g.M.Machine.rules in
     let bytes = c.args.parse_state.now.bytes.now in let options = c.args.parse_state.now.options.now in let m = c.args.parse_state.now.machine.now in let start = c.args.start in
     let t = c.new-tokenizer.result in let r = c.requires.ranges in let p = point 1 1 0 0 in
-    let s = stands-first rules bytes options m (g.met.M.Machine.invariant_kept m (given_by 4 bytes options)) start c.requires.start t c.new-tokenizer.ensures in
+    let s = stands-first rules bytes options m c.requires.limit (g.met.M.Machine.invariant_kept m (given_by 4 bytes options)) start c.requires.start t c.new-tokenizer.ensures in
     λ _. s.held
 
 pub define_skip-requires : goal.define_skip-requires
@@ -32,7 +32,7 @@ define_skip-requires g c =
     let rules = g.M.Machine.rules in
     let bytes = c.args.parse_state.now.bytes.now in let options = c.args.parse_state.now.options.now in let m = c.args.parse_state.now.machine.now in let start = c.args.start in
     let t = c.new-tokenizer.result in let r = c.requires.ranges in let p = point 1 1 0 0 in
-    let s = stands-first rules bytes options m (g.met.M.Machine.invariant_kept m (given_by 4 bytes options)) start c.requires.start t c.new-tokenizer.ensures in
+    let s = stands-first rules bytes options m c.requires.limit (g.met.M.Machine.invariant_kept m (given_by 4 bytes options)) start c.requires.start t c.new-tokenizer.ensures in
     let t1 = c.push.new.self in let a1 = c.in-Ok.state in
     let s1 = stands-next rules bytes (0, 0) c.args.cut p p r.first t (Next start) s (start-at bytes) r.first_at t1 a1 c.in-Ok.ensures.ok in
     gap-fits rules bytes r.first c.args.gap t1 a1 s1 r.gap_fits
@@ -42,7 +42,7 @@ push-requires-2-clause-range g c =
     let rules = g.M.Machine.rules in
     let bytes = c.args.parse_state.now.bytes.now in let options = c.args.parse_state.now.options.now in let m = c.args.parse_state.now.machine.now in let start = c.args.start in
     let t = c.new-tokenizer.result in let r = c.requires.ranges in let p = point 1 1 0 0 in
-    let s = stands-first rules bytes options m (g.met.M.Machine.invariant_kept m (given_by 4 bytes options)) start c.requires.start t c.new-tokenizer.ensures in
+    let s = stands-first rules bytes options m c.requires.limit (g.met.M.Machine.invariant_kept m (given_by 4 bytes options)) start c.requires.start t c.new-tokenizer.ensures in
     let t1 = c.push.new.self in let a1 = c.in-Ok.state in
     let s1 = stands-next rules bytes (0, 0) c.args.cut p p r.first t (Next start) s (start-at bytes) r.first_at t1 a1 c.in-Ok.ensures.ok in
     let t2 = c.define_skip.new.self in
@@ -54,7 +54,7 @@ push-requires-2-clause-holds g c =
     let rules = g.M.Machine.rules in
     let bytes = c.args.parse_state.now.bytes.now in let options = c.args.parse_state.now.options.now in let m = c.args.parse_state.now.machine.now in let start = c.args.start in
     let t = c.new-tokenizer.result in let r = c.requires.ranges in let p = point 1 1 0 0 in
-    let s = stands-first rules bytes options m (g.met.M.Machine.invariant_kept m (given_by 4 bytes options)) start c.requires.start t c.new-tokenizer.ensures in
+    let s = stands-first rules bytes options m c.requires.limit (g.met.M.Machine.invariant_kept m (given_by 4 bytes options)) start c.requires.start t c.new-tokenizer.ensures in
     let t1 = c.push.new.self in let a1 = c.in-Ok.state in
     let s1 = stands-next rules bytes (0, 0) c.args.cut p p r.first t (Next start) s (start-at bytes) r.first_at t1 a1 c.in-Ok.ensures.ok in
     let t2 = c.define_skip.new.self in
@@ -66,7 +66,7 @@ define_skip-requires-2 g c =
     let rules = g.M.Machine.rules in
     let bytes = c.args.parse_state.now.bytes.now in let options = c.args.parse_state.now.options.now in let m = c.args.parse_state.now.machine.now in let start = c.args.start in
     let t = c.new-tokenizer.result in let r = c.requires.ranges in let p = point 1 1 0 0 in
-    let s = stands-first rules bytes options m (g.met.M.Machine.invariant_kept m (given_by 4 bytes options)) start c.requires.start t c.new-tokenizer.ensures in
+    let s = stands-first rules bytes options m c.requires.limit (g.met.M.Machine.invariant_kept m (given_by 4 bytes options)) start c.requires.start t c.new-tokenizer.ensures in
     let t1 = c.push.new.self in let a1 = c.in-Ok.state in
     let s1 = stands-next rules bytes (0, 0) c.args.cut p p r.first t (Next start) s (start-at bytes) r.first_at t1 a1 c.in-Ok.ensures.ok in
     let t2 = c.define_skip.new.self in
@@ -80,7 +80,7 @@ push-requires-3-clause-range g c =
     let rules = g.M.Machine.rules in
     let bytes = c.args.parse_state.now.bytes.now in let options = c.args.parse_state.now.options.now in let m = c.args.parse_state.now.machine.now in let start = c.args.start in
     let t = c.new-tokenizer.result in let r = c.requires.ranges in let p = point 1 1 0 0 in
-    let s = stands-first rules bytes options m (g.met.M.Machine.invariant_kept m (given_by 4 bytes options)) start c.requires.start t c.new-tokenizer.ensures in
+    let s = stands-first rules bytes options m c.requires.limit (g.met.M.Machine.invariant_kept m (given_by 4 bytes options)) start c.requires.start t c.new-tokenizer.ensures in
     let t1 = c.push.new.self in let a1 = c.in-Ok.state in
     let s1 = stands-next rules bytes (0, 0) c.args.cut p p r.first t (Next start) s (start-at bytes) r.first_at t1 a1 c.in-Ok.ensures.ok in
     let t2 = c.define_skip.new.self in
@@ -97,7 +97,7 @@ push-requires-3-clause-holds g c =
     let rules = g.M.Machine.rules in
     let bytes = c.args.parse_state.now.bytes.now in let options = c.args.parse_state.now.options.now in let m = c.args.parse_state.now.machine.now in let start = c.args.start in
     let t = c.new-tokenizer.result in let r = c.requires.ranges in let p = point 1 1 0 0 in
-    let s = stands-first rules bytes options m (g.met.M.Machine.invariant_kept m (given_by 4 bytes options)) start c.requires.start t c.new-tokenizer.ensures in
+    let s = stands-first rules bytes options m c.requires.limit (g.met.M.Machine.invariant_kept m (given_by 4 bytes options)) start c.requires.start t c.new-tokenizer.ensures in
     let t1 = c.push.new.self in let a1 = c.in-Ok.state in
     let s1 = stands-next rules bytes (0, 0) c.args.cut p p r.first t (Next start) s (start-at bytes) r.first_at t1 a1 c.in-Ok.ensures.ok in
     let t2 = c.define_skip.new.self in
@@ -113,7 +113,7 @@ flush-requires-clause-holds g c =
     let rules = g.M.Machine.rules in
     let bytes = c.args.parse_state.now.bytes.now in let options = c.args.parse_state.now.options.now in let m = c.args.parse_state.now.machine.now in let start = c.args.start in
     let t = c.new-tokenizer.result in let r = c.requires.ranges in let p = point 1 1 0 0 in
-    let s = stands-first rules bytes options m (g.met.M.Machine.invariant_kept m (given_by 4 bytes options)) start c.requires.start t c.new-tokenizer.ensures in
+    let s = stands-first rules bytes options m c.requires.limit (g.met.M.Machine.invariant_kept m (given_by 4 bytes options)) start c.requires.start t c.new-tokenizer.ensures in
     let t1 = c.push.new.self in let a1 = c.in-Ok.state in
     let s1 = stands-next rules bytes (0, 0) c.args.cut p p r.first t (Next start) s (start-at bytes) r.first_at t1 a1 c.in-Ok.ensures.ok in
     let t2 = c.define_skip.new.self in
