@@ -15,6 +15,7 @@ use Rattle.markdown_base.specs.Virtual.{Seat, point}
 use Rattle.markdown_base.specs.Places.{shown, stands_before, is_upto, denotes_same, IsPointOf, point_at}
 use Rattle.markdown.specs.declared.waiting.Waits.{Waits}
 use Rattle.markdown.specs.declared.waiting.Waits.TheVariants.{Nothing, Byte, End}
+use Rattle.markdown.specs.declared.waiting.Phase.TheVariants.{Reading}
 use Rattle.markdown.specs.declared.waiting.AttemptKind.{AttemptKind}
 use Rattle.markdown.specs.declared.waiting.AttemptKind.TheVariants.{Attempt, Check}
 use Rattle.markdown.specs.declared.waiting.Goal.{Goal}
@@ -129,15 +130,15 @@ module _ {M R D : Type 0} (t : Inside M R D) (sound : IsSound t) where
     still-waits : ByteWaits bytes_in skips_in t.left end_in t.current → ByteWaits bytes_in skips_in t.left u t.current
     still-waits w = record { seat = w.seat; at = w.at; before = still-before bytes_in skips_in t.start end_in u t.left t.previous sound.skips sound.read w.seat w.at later-end w.before; is = w.is }
 
-    longer-saved : (p : Progress) → IsProgress bytes_in skips_in (text_of t) t.events.items t.stack.items t.closed p
-        → IsProgress bytes_in skips_in (text_between bytes_in skips_in t.start u) t.events.items t.stack.items t.closed p
+    longer-saved : (p : Progress) → IsProgress t.phase bytes_in skips_in (text_of t) t.events.items t.stack.items t.closed p
+        → IsProgress t.phase bytes_in skips_in (text_between bytes_in skips_in t.start u) t.events.items t.stack.items t.closed p
     longer-saved p h =
         let position = position_from bytes_in skips_in t.start p.left in
         record {
           read = longer p.left p.previous h.read;
           ended = h.ended;
-          made = made-more bytes_in skips_in t.start end_in p.left p.previous sound.skips h.read (take p.events_len t.events.items) (take p.stack_len t.stack.items)
-              (can_feed position size_in t.closed) (can_feed position (length (seats_between bytes_in skips_in t.start u)) t.closed) (can-feed-more position size_in (length (seats_between bytes_in skips_in t.start u)) t.closed more-bytes) h.made;
+          made = λ reads. made-more bytes_in skips_in t.start end_in p.left p.previous sound.skips h.read (take p.events_len t.events.items) (take p.stack_len t.stack.items)
+              (can_feed position size_in t.closed) (can_feed position (length (seats_between bytes_in skips_in t.start u)) t.closed) (can-feed-more position size_in (length (seats_between bytes_in skips_in t.start u)) t.closed more-bytes) (h.made reads);
         }
 
     text-longer : followed_by (seen t).given (text_of t) (pushed f u) ≡ text_between bytes_in skips_in t.start u
@@ -152,6 +153,7 @@ module _ {M R D : Type 0} (t : Inside M R D) (sound : IsSound t) where
         let e = end-found in
         record {
           limit = sound.limit;
+          reads = sound.reads;
           end_at = rw e found;
           text = rw e (subst (IsText (seen t).given) text-longer (text-more (seen t).given (text_of t) (pushed f u) sound.text fits));
           skips = rw e later-skips;
@@ -159,8 +161,8 @@ module _ {M R D : Type 0} (t : Inside M R D) (sound : IsSound t) where
           waiting = rw e (waiting-on t.waits skips_in (text_between bytes_in skips_in t.start u) still-waits (λ c all. absurd (let no : true ≡ false = sym c ∙ open_still in cc)) sound.waiting);
           ended = sound.ended;
           made = sound.made;
-          marks = rw e (nested-map (IsProgress bytes_in skips_in (text_of t) t.events.items t.stack.items t.closed)
-              (IsProgress bytes_in skips_in (text_between bytes_in skips_in t.start u) t.events.items t.stack.items t.closed)
+          marks = rw e (nested-map (IsProgress t.phase bytes_in skips_in (text_of t) t.events.items t.stack.items t.closed)
+              (IsProgress t.phase bytes_in skips_in (text_between bytes_in skips_in t.start u) t.events.items t.stack.items t.closed)
               (length t.events.items) (length t.stack.items) (reverse t.marks.items) (λ p a b h. longer-saved p h) sound.marks);
         }
 
@@ -264,14 +266,14 @@ module _ {M R D : Type 0} (t : Inside M R D) (sound : IsSound t) where
         reach-on true m = resumed-on m
         reach-on false m = m
 
-      saved-on : (p : Progress) → IsProgress bytes_in skips_in (text_of t) t.events.items t.stack.items t.closed p → IsProgress bytes_in added text_added t.events.items t.stack.items t.closed p
+      saved-on : (p : Progress) → IsProgress t.phase bytes_in skips_in (text_of t) t.events.items t.stack.items t.closed p → IsProgress t.phase bytes_in added text_added t.events.items t.stack.items t.closed p
       saved-on p h =
           let position = position-same p.left p.previous h.read in
           let size = size-same in
           record {
             read = read-on p.left p.previous h.read;
             ended = h.ended;
-            made = rw (position, size) (reach-on (take p.events_len t.events.items) (take p.stack_len t.stack.items) p.left p.previous h.read (can_feed (position_from bytes_in skips_in t.start p.left) size_in t.closed) h.made);
+            made = λ reads. rw (position, size) (reach-on (take p.events_len t.events.items) (take p.stack_len t.stack.items) p.left p.previous h.read (can_feed (position_from bytes_in skips_in t.start p.left) size_in t.closed) (h.made reads));
           }
 
       passed-end : end_point bytes_in (q.index, q.vs) ≡ q
@@ -294,13 +296,13 @@ module _ {M R D : Type 0} (t : Inside M R D) (sound : IsSound t) where
         pub added-waiting : IsWaiting bytes_in list (text_between bytes_in list t.start (end_point bytes_in (q.index, q.vs))) t.left t.current t.closed t.waits
         added-waiting = let e = passed-end in rw (put, e) waits-on
 
-        pub added-made : IsMade bytes_in t.events.items t.stack.items (shown bytes_in t.left) (shown bytes_in (standing list t.left t.waits))
-        added-made = rw put (standing-on t.events.items t.stack.items t.left t.previous sound.read t.waits sound.made)
+        pub added-made : t.phase ≡ Reading → IsMade bytes_in t.events.items t.stack.items (shown bytes_in t.left) (shown bytes_in (standing list t.left t.waits))
+        added-made reads = rw put (standing-on t.events.items t.stack.items t.left t.previous sound.read t.waits (sound.made reads))
 
-        pub added-marks : AreNested (IsProgress bytes_in list (text_between bytes_in list t.start (end_point bytes_in (q.index, q.vs))) t.events.items t.stack.items t.closed) (length t.events.items) (length t.stack.items) (reverse t.marks.items)
+        pub added-marks : AreNested (IsProgress t.phase bytes_in list (text_between bytes_in list t.start (end_point bytes_in (q.index, q.vs))) t.events.items t.stack.items t.closed) (length t.events.items) (length t.stack.items) (reverse t.marks.items)
         added-marks =
             let e = passed-end in
-            rw (put, e) (nested-map (IsProgress bytes_in skips_in (text_of t) t.events.items t.stack.items t.closed) (IsProgress bytes_in added text_added t.events.items t.stack.items t.closed)
+            rw (put, e) (nested-map (IsProgress t.phase bytes_in skips_in (text_of t) t.events.items t.stack.items t.closed) (IsProgress t.phase bytes_in added text_added t.events.items t.stack.items t.closed)
             (length t.events.items) (length t.stack.items) (reverse t.marks.items) (λ p a b h. saved-on p h) sound.marks)
 
         added-text_seen : text_between bytes_in list t.start (end_point bytes_in (q.index, q.vs)) ≡ followed_by (seen t).given (text_of t) (passed q)
@@ -311,7 +313,7 @@ module _ {M R D : Type 0} (t : Inside M R D) (sound : IsSound t) where
 
         added-choices : map (choice_of (position_from bytes_in list t.start) t.stack.items) (reverse t.marks.items) ≡ map (choice_of (position_from bytes_in skips_in t.start) t.stack.items) (reverse t.marks.items)
         added-choices =
-            rw put (same-positions (position_from bytes_in added t.start) (position_from bytes_in skips_in t.start) t.stack.items (IsProgress bytes_in skips_in (text_of t) t.events.items t.stack.items t.closed)
+            rw put (same-positions (position_from bytes_in added t.start) (position_from bytes_in skips_in t.start) t.stack.items (IsProgress t.phase bytes_in skips_in (text_of t) t.events.items t.stack.items t.closed)
             (λ p h. position-same p.left p.previous h.read) (length t.events.items) (length t.stack.items) (reverse t.marks.items) sound.marks)
 
       pub added-seen : (skips : Vec Point) (put : skips.items ≡ added) → seen (record t { skips = skips; end = (q.index, q.vs) }) ≡ extended (seen t) (followed_by (seen t).given (seen t).text (passed q))
@@ -362,9 +364,9 @@ module _ {M R D : Type 0} (t : Inside M R D) (sound : IsSound t) where
     abbrev bound_in : Point
     bound_in = shown t.parse_state.now.bytes.now (standing t.skips.items t.left t.waits)
 
-    pub entered-made : IsMade t.parse_state.now.bytes.now events stack left_in bound_in
-    entered-made =
-        rw (put, top, is) (made-enter-at t.parse_state.now.bytes.now t.events.items t.stack.items left_in bound_in sound.made name link)
+    pub entered-made : t.phase ≡ Reading → IsMade t.parse_state.now.bytes.now events stack left_in bound_in
+    entered-made reads =
+        rw (put, top, is) (made-enter-at t.parse_state.now.bytes.now t.events.items t.stack.items left_in bound_in (sound.made reads) name link)
 
     entered-front : (n : ℕ) → n ≤ length t.stack.items → take n stack ≡ take n t.stack.items
     entered-front n le = rw top (take-append-le n t.stack.items (name ∷ []) le)
@@ -372,10 +374,10 @@ module _ {M R D : Type 0} (t : Inside M R D) (sound : IsSound t) where
     entered-events : (n : ℕ) → n ≤ length t.events.items → take n events ≡ take n t.events.items
     entered-events n le = rw put (take-append-le n t.events.items (record { kind = Enter; name = name; point = here; link = link } ∷ []) le)
 
-    pub entered-marks : AreNested (IsProgress t.parse_state.now.bytes.now t.skips.items (text_of t) events stack t.closed) (length events) (length stack) (reverse t.marks.items)
+    pub entered-marks : AreNested (IsProgress t.phase t.parse_state.now.bytes.now t.skips.items (text_of t) events stack t.closed) (length events) (length stack) (reverse t.marks.items)
     entered-marks =
-        let P = IsProgress t.parse_state.now.bytes.now t.skips.items (text_of t) t.events.items t.stack.items t.closed in
-        let Q = IsProgress t.parse_state.now.bytes.now t.skips.items (text_of t) events stack t.closed in
+        let P = IsProgress t.phase t.parse_state.now.bytes.now t.skips.items (text_of t) t.events.items t.stack.items t.closed in
+        let Q = IsProgress t.phase t.parse_state.now.bytes.now t.skips.items (text_of t) events stack t.closed in
         nested-wider Q (length t.events.items) (length t.stack.items) (length events) (length stack) (reverse t.marks.items)
         (omega (arith, ap length put, length-append t.events.items (record { kind = Enter; name = name; point = here; link = link } ∷ [])))
         (omega (arith, ap length top, length-append t.stack.items (name ∷ [])))
@@ -385,7 +387,7 @@ module _ {M R D : Type 0} (t : Inside M R D) (sound : IsSound t) where
 
     pub entered-choices : map (choice_of (position_from t.parse_state.now.bytes.now t.skips.items t.start) stack) (reverse t.marks.items) ≡ map (choice_of (position_from t.parse_state.now.bytes.now t.skips.items t.start) t.stack.items) (reverse t.marks.items)
     entered-choices =
-        same-choices (position_from t.parse_state.now.bytes.now t.skips.items t.start) stack t.stack.items (IsProgress t.parse_state.now.bytes.now t.skips.items (text_of t) t.events.items t.stack.items t.closed)
+        same-choices (position_from t.parse_state.now.bytes.now t.skips.items t.start) stack t.stack.items (IsProgress t.phase t.parse_state.now.bytes.now t.skips.items (text_of t) t.events.items t.stack.items t.closed)
         (length t.events.items) (length t.stack.items) (reverse t.marks.items) entered-front sound.marks
 
     pub entered-at : here ≡ (sight (seen t).given (seen t).text (seen t).configuration).here
@@ -431,10 +433,10 @@ module _ {M R D : Type 0} (t : Inside M R D) (sound : IsSound t) (name : Name) (
   abbrev bound_at : Point
   bound_at = shown t.parse_state.now.bytes.now (standing t.skips.items t.left t.waits)
 
-  pub exited-made : IsMade t.parse_state.now.bytes.now events stack left_at bound_at
-  exited-made =
+  pub exited-made : t.phase ≡ Reading → IsMade t.parse_state.now.bytes.now events stack left_at bound_at
+  exited-made reads =
       let l = left-is t sound in
-      rw (put, top, is) (made-exit-at t.parse_state.now.bytes.now t.events.items t.stack.items left_at bound_at sound.made name can.top
+      rw (put, top, is) (made-exit-at t.parse_state.now.bytes.now t.events.items t.stack.items left_at bound_at (sound.made reads) name can.top
       (λ o e. rw l (can.read o e)) can.void)
 
   exited-front : (n : ℕ) → n ≤ length t.stack.items - 1 → take n stack ≡ take n t.stack.items
@@ -443,15 +445,15 @@ module _ {M R D : Type 0} (t : Inside M R D) (sound : IsSound t) (name : Name) (
   exited-events : (n : ℕ) → n ≤ length t.events.items → take n events ≡ take n t.events.items
   exited-events n le = rw put (take-append-le n t.events.items (record { kind = Exit; name = name; point = here; link = None } ∷ []) le)
 
-  exited-nested : AreNested (IsProgress t.parse_state.now.bytes.now t.skips.items (text_of t) t.events.items t.stack.items t.closed) (length t.events.items) (length t.stack.items - 1) (reverse t.marks.items)
+  exited-nested : AreNested (IsProgress t.phase t.parse_state.now.bytes.now t.skips.items (text_of t) t.events.items t.stack.items t.closed) (length t.events.items) (length t.stack.items - 1) (reverse t.marks.items)
   exited-nested =
-      nested-below (position_from t.parse_state.now.bytes.now t.skips.items t.start) t.stack.items (IsProgress t.parse_state.now.bytes.now t.skips.items (text_of t) t.events.items t.stack.items t.closed)
+      nested-below (position_from t.parse_state.now.bytes.now t.skips.items t.start) t.stack.items (IsProgress t.phase t.parse_state.now.bytes.now t.skips.items (text_of t) t.events.items t.stack.items t.closed)
       (length t.events.items) (reverse t.marks.items) can.above sound.marks
 
-  pub exited-marks : AreNested (IsProgress t.parse_state.now.bytes.now t.skips.items (text_of t) events stack t.closed) (length events) (length stack) (reverse t.marks.items)
+  pub exited-marks : AreNested (IsProgress t.phase t.parse_state.now.bytes.now t.skips.items (text_of t) events stack t.closed) (length events) (length stack) (reverse t.marks.items)
   exited-marks =
-      let P = IsProgress t.parse_state.now.bytes.now t.skips.items (text_of t) t.events.items t.stack.items t.closed in
-      let Q = IsProgress t.parse_state.now.bytes.now t.skips.items (text_of t) events stack t.closed in
+      let P = IsProgress t.phase t.parse_state.now.bytes.now t.skips.items (text_of t) t.events.items t.stack.items t.closed in
+      let Q = IsProgress t.phase t.parse_state.now.bytes.now t.skips.items (text_of t) events stack t.closed in
       let m = length t.stack.items - 1 in
       nested-wider Q (length t.events.items) m (length events) (length stack) (reverse t.marks.items)
       (omega (arith, ap length put, length-append t.events.items (record { kind = Exit; name = name; point = here; link = None } ∷ [])))
@@ -462,7 +464,7 @@ module _ {M R D : Type 0} (t : Inside M R D) (sound : IsSound t) (name : Name) (
 
   pub exited-choices : map (choice_of (position_from t.parse_state.now.bytes.now t.skips.items t.start) stack) (reverse t.marks.items) ≡ map (choice_of (position_from t.parse_state.now.bytes.now t.skips.items t.start) t.stack.items) (reverse t.marks.items)
   exited-choices =
-      same-choices (position_from t.parse_state.now.bytes.now t.skips.items t.start) stack t.stack.items (IsProgress t.parse_state.now.bytes.now t.skips.items (text_of t) t.events.items t.stack.items t.closed)
+      same-choices (position_from t.parse_state.now.bytes.now t.skips.items t.start) stack t.stack.items (IsProgress t.phase t.parse_state.now.bytes.now t.skips.items (text_of t) t.events.items t.stack.items t.closed)
       (length t.events.items) (length t.stack.items - 1) (reverse t.marks.items) exited-front exited-nested
 
   pub exited-at : here ≡ (sight (seen t).given (seen t).text (seen t).configuration).left
@@ -516,23 +518,23 @@ module _ {M R D : Type 0} (t : Inside M R D) (sound : IsSound t) (previous next 
   same-length : length events ≡ length t.events.items
   same-length = sym (length-map events unlinked) ∙ ap length events-unlinked ∙ length-map t.events.items unlinked
 
-  pub linked-made : IsMade t.parse_state.now.bytes.now events t.stack.items (shown t.parse_state.now.bytes.now t.left) (shown t.parse_state.now.bytes.now (standing t.skips.items t.left t.waits))
-  linked-made = made-linked t.events.items events (sym events-unlinked) t.parse_state.now.bytes.now t.stack.items (shown t.parse_state.now.bytes.now t.left)
-      (shown t.parse_state.now.bytes.now (standing t.skips.items t.left t.waits)) sound.made
+  pub linked-made : t.phase ≡ Reading → IsMade t.parse_state.now.bytes.now events t.stack.items (shown t.parse_state.now.bytes.now t.left) (shown t.parse_state.now.bytes.now (standing t.skips.items t.left t.waits))
+  linked-made reads = made-linked t.events.items events (sym events-unlinked) t.parse_state.now.bytes.now t.stack.items (shown t.parse_state.now.bytes.now t.left)
+      (shown t.parse_state.now.bytes.now (standing t.skips.items t.left t.waits)) (sound.made reads)
 
   front-kept : HasFrontUpToLinkEnds events t.events.items
   front-kept = ap (λ (xs : List Event). map unlinked xs) (take_all (length t.events.items) events (omega (arith, same-length))) ∙ events-unlinked
 
-  pub linked-marks : AreNested (IsProgress t.parse_state.now.bytes.now t.skips.items (text_of t) events t.stack.items t.closed) (length events) (length t.stack.items) (reverse t.marks.items)
+  pub linked-marks : AreNested (IsProgress t.phase t.parse_state.now.bytes.now t.skips.items (text_of t) events t.stack.items t.closed) (length events) (length t.stack.items) (reverse t.marks.items)
   linked-marks =
-      let P = IsProgress t.parse_state.now.bytes.now t.skips.items (text_of t) t.events.items t.stack.items t.closed in
-      let Q = IsProgress t.parse_state.now.bytes.now t.skips.items (text_of t) events t.stack.items t.closed in
+      let P = IsProgress t.phase t.parse_state.now.bytes.now t.skips.items (text_of t) t.events.items t.stack.items t.closed in
+      let Q = IsProgress t.phase t.parse_state.now.bytes.now t.skips.items (text_of t) events t.stack.items t.closed in
       nested-wider Q (length t.events.items) (length t.stack.items) (length events) (length t.stack.items) (reverse t.marks.items) (omega (arith, same-length)) (omega arith)
       (nested-map P Q (length t.events.items) (length t.stack.items) (reverse t.marks.items)
       (λ p a b h. record {
         read = h.read;
         ended = h.ended;
-        made = made-kept t.parse_state.now.bytes.now t.events.items events p.events_len (take p.stack_len t.stack.items)
+        made = λ reads. made-kept t.parse_state.now.bytes.now t.events.items events p.events_len (take p.stack_len t.stack.items)
             (shown t.parse_state.now.bytes.now p.left)
-            (shown t.parse_state.now.bytes.now (reach t.skips.items p.left (can_feed (position_from t.parse_state.now.bytes.now t.skips.items t.start p.left) (length (text_of t).seats) t.closed))) a front-kept h.made;
+            (shown t.parse_state.now.bytes.now (reach t.skips.items p.left (can_feed (position_from t.parse_state.now.bytes.now t.skips.items t.start p.left) (length (text_of t).seats) t.closed))) a front-kept (h.made reads);
       }) sound.marks)

@@ -13,6 +13,7 @@ use Rattle.markdown_base.specs.declared.event.Point.{Point}
 use Rattle.markdown_base.specs.Places.{shown}
 use Rattle.markdown.specs.declared.waiting.Waits.{Waits}
 use Rattle.markdown.specs.declared.waiting.Waits.TheVariants.{Nothing, Byte, End}
+use Rattle.markdown.specs.declared.waiting.Phase.TheVariants.{Reading}
 use Rattle.markdown.specs.Made.{IsMade}
 use Rattle.markdown.specs.View.{seen, text_of, state_of, choice_at, choice_of, position_from, standing, reach, can_feed, IsWaiting, IsProgress, AreNested, IsSound}
 use Rattle.markdown.proofs.Fields.{next-more, made-more, or-true}
@@ -36,7 +37,7 @@ module _ {M R D : Type 0} (t : Inside M R D) (sound : IsSound t) where
   bytes_in = t.parse_state.now.bytes.now
 
   abbrev Saves : Progress → Type 0
-  Saves = IsProgress bytes_in t.skips.items (text_of t) t.events.items t.stack.items t.closed
+  Saves = IsProgress t.phase bytes_in t.skips.items (text_of t) t.events.items t.stack.items t.closed
 
   all-events : take (length t.events.items) t.events.items ≡ t.events.items
   all-events = take_all (length t.events.items) t.events.items (omega arith)
@@ -64,7 +65,7 @@ module _ {M R D : Type 0} (t : Inside M R D) (sound : IsSound t) where
   waits-more End h m = reach-by true can_feed_in (λ e. closed-more position_in (length (text_of t).seats) t.closed h.closed_too) m
 
   pub saves-here : Saves (progress_of t)
-  saves-here = let e = all-events in let s = all-stack in record { read = sound.read; ended = sound.ended; made = rw (e, s) (waits-more t.waits sound.waiting sound.made) }
+  saves-here = let e = all-events in let s = all-stack in record { read = sound.read; ended = sound.ended; made = λ reads. rw (e, s) (waits-more t.waits sound.waiting (sound.made reads)) }
 
   module _ (kind : AttemptKind) (ok nok : Goal) where
     abbrev mark_if : Bool → Mark

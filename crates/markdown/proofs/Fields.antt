@@ -11,6 +11,7 @@ use Rattle.markdown_base.specs.Virtual.{Seat, virtual}
 use Rattle.markdown_base.specs.Places.{shown, stands_before, is_upto, denotes_same, IsPointOf}
 use Rattle.markdown.specs.declared.waiting.Waits.{Waits}
 use Rattle.markdown.specs.declared.waiting.Waits.TheVariants.{Nothing, Byte, End}
+use Rattle.markdown.specs.declared.waiting.Phase.TheVariants.{Reading}
 use Rattle.markdown.specs.declared.tokenizer.Tokenizer.TheInside.{Inside}
 use Rattle.markdown.specs.Text.{Text, in_range}
 use Rattle.markdown.specs.Sight.{seat_before, byte_of, end_or}
@@ -346,6 +347,7 @@ module _ {M R D : Type 0} (t : Inside M R D) (sound : IsSound t) where
       let text = text_of t in
       record {
         limit = sound.limit;
+        reads = λ e. absurd (let f : true ≡ false = e in cc);
         end_at = sound.end_at;
         text = sound.text;
         skips = sound.skips;
@@ -353,13 +355,13 @@ module _ {M R D : Type 0} (t : Inside M R D) (sound : IsSound t) where
         waiting = waiting-closed bytes skips text t.left t.current t.closed t.waits sound.waiting;
         ended = λ _. refl;
         made = sound.made;
-        marks = nested-map (IsProgress bytes skips text t.events.items t.stack.items t.closed) (IsProgress bytes skips text t.events.items t.stack.items true) (length t.events.items) (length t.stack.items) (reverse t.marks.items)
+        marks = nested-map (IsProgress t.phase bytes skips text t.events.items t.stack.items t.closed) (IsProgress t.phase bytes skips text t.events.items t.stack.items true) (length t.events.items) (length t.stack.items) (reverse t.marks.items)
             (λ p a b h.
             let position = position_from bytes skips t.start p.left in
             record {
               read = h.read;
               ended = λ _. refl;
-              made = made-more bytes skips t.start text.end p.left p.previous sound.skips h.read (take p.events_len t.events.items) (take p.stack_len t.stack.items)
-                  (can_feed position (length text.seats) t.closed) (can_feed position (length text.seats) true) (λ e. or-true _) h.made;
+              made = λ reads. made-more bytes skips t.start text.end p.left p.previous sound.skips h.read (take p.events_len t.events.items) (take p.stack_len t.stack.items)
+                  (can_feed position (length text.seats) t.closed) (can_feed position (length text.seats) true) (λ e. or-true _) (h.made reads);
             }) sound.marks;
       }

@@ -25,6 +25,7 @@ use Rattle.markdown.specs.declared.waiting.Mark.{Mark}
 use Rattle.markdown.specs.declared.waiting.Progress.{Progress}
 use Rattle.markdown.specs.declared.waiting.Waits.{Waits}
 use Rattle.markdown.specs.declared.waiting.Waits.TheVariants.{Nothing, Byte, End}
+use Rattle.markdown.specs.declared.waiting.Phase.TheVariants.{Reading}
 use Rattle.markdown.specs.declared.tokenizer.Tokenizer.TheInside.{Inside}
 use Rattle.markdown.specs.Text.{Text}
 use Rattle.markdown.specs.Configuration.{Configuration, Choice, Saved, Step, Local, Seen, at_configuration}
@@ -194,7 +195,7 @@ module _ {M R D : Type 0} (t : Inside M R D) (sound : IsSound t) (ok : Bool) (so
   position_in = position_from bytes_in t.skips.items t.start
 
   abbrev Kept : Progress → Type 0
-  Kept = IsProgress bytes_in t.skips.items (text_of t) t.events.items t.stack.items t.closed
+  Kept = IsProgress t.phase bytes_in t.skips.items (text_of t) t.events.items t.stack.items t.closed
 
   goes-from : GoesFrom Kept (progress_of t) (reverse list) from
   goes-from = subst (λ (u : Unwinding). GoesFrom Kept (progress_of t) u.marks u.from) (sym ends) (from-all Kept (reverse t.marks.items) (ended_by ok) (progress_of t) (saves-here t sound) sound.marks)
@@ -232,9 +233,9 @@ module _ {M R D : Type 0} (t : Inside M R D) (sound : IsSound t) (ok : Bool) (so
     front-stack : (n : ℕ) → n ≤ from.stack_len → take n stack ≡ take n t.stack.items
     front-stack n le = rw top (take-take n from.stack_len t.stack.items le)
 
-    pub going-marks : AreNested (IsProgress bytes_in t.skips.items (text_of t) events stack t.closed) (length events) (length stack) (reverse list)
+    pub going-marks : AreNested (IsProgress t.phase bytes_in t.skips.items (text_of t) events stack t.closed) (length events) (length stack) (reverse list)
     going-marks =
-        let Q = IsProgress bytes_in t.skips.items (text_of t) events stack t.closed in
+        let Q = IsProgress t.phase bytes_in t.skips.items (text_of t) events stack t.closed in
         nested-wider Q from.events_len from.stack_len (length events) (length stack) (reverse list)
         (omega (arith, goes-from.2.0, ap length cut, length-take from.events_len t.events.items))
         (omega (arith, goes-from.2.1, ap length top, length-take from.stack_len t.stack.items))
@@ -249,7 +250,7 @@ module _ {M R D : Type 0} (t : Inside M R D) (sound : IsSound t) (ok : Bool) (so
     size_in = length (text_of t).seats
 
     abbrev MadeUpto : Point → Type 0
-    MadeUpto p = IsMade bytes_in events stack (shown bytes_in from.left) (shown bytes_in p)
+    MadeUpto p = t.phase ≡ Reading → IsMade bytes_in events stack (shown bytes_in from.left) (shown bytes_in p)
 
     going-reach : MadeUpto (reach t.skips.items from.left (can_feed (position_in from.left) size_in t.closed))
     going-reach = rw (cut, top) kept-here.made
@@ -288,7 +289,7 @@ module _ {M R D : Type 0} (t : Inside M R D) (sound : IsSound t) (ok : Bool) (so
 
     -- the reading has ended
     pub ended-made : stack ≡ [] → MadeUpto from.left
-    ended-made e = made-closed bytes_in events stack (shown bytes_in from.left) (shown bytes_in (reach t.skips.items from.left (can_feed (position_in from.left) size_in t.closed))) going-reach e
+    ended-made e reads = made-closed bytes_in events stack (shown bytes_in from.left) (shown bytes_in (reach t.skips.items from.left (can_feed (position_in from.left) size_in t.closed))) (going-reach reads) e
 
 -- where the code looks for the next byte
 module _ (skips : List Point) (left : Point) (slice : List Point) (place : Point) (same : slice ≡ skips) (here : place ≡ resumed slice left) where
@@ -337,9 +338,10 @@ module _ {M R D : Type 0} (t : Inside M R D) (sound : IsSound t) (flush ok : Boo
   NextThere o = IsNextByte TAB bytes_there (resumed t.skips.items from.left) t.end o
 
   sound-by : (waits : Waits) (ended : Bool) (current : Option ℕ) → IsWaiting bytes_there t.skips.items (text_of t) from.left current t.closed waits → (ended ≡ true → t.closed ≡ true)
-      → IsMade bytes_there events.items stack.items (shown bytes_there from.left) (shown bytes_there (standing t.skips.items from.left waits)) → IsSound (after waits ended current)
+      → (t.phase ≡ Reading → IsMade bytes_there events.items stack.items (shown bytes_there from.left) (shown bytes_there (standing t.skips.items from.left waits))) → IsSound (after waits ended current)
   sound-by waits ended current w e m = record {
     limit = sound.limit;
+    reads = sound.reads;
     end_at = sound.end_at;
     text = sound.text;
     skips = sound.skips;
@@ -395,6 +397,7 @@ module _ {M R D : Type 0} (t : Inside M R D) (sound : IsSound t) (flush ok : Boo
     choices = step_there.choices;
     calls = (seen t).calls;
     closed = (seen t).closed;
+    phase = (seen t).phase;
   }
 
   seen-there : (waits : Waits) (ended : Bool) (current : Option ℕ) → seen (after waits ended current) ≡ waiting_there waits ended

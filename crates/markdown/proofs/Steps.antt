@@ -10,6 +10,7 @@ use Rattle.markdown_base.specs.Places.{shown, stands_before}
 use Rattle.markdown_base.specs.Events.{open_events}
 use Rattle.markdown.specs.declared.waiting.Waits.{Waits}
 use Rattle.markdown.specs.declared.waiting.Waits.TheVariants.{Nothing, Byte, End}
+use Rattle.markdown.specs.declared.waiting.Phase.TheVariants.{Reading}
 use Rattle.markdown.specs.declared.tokenizer.Tokenizer.TheInside.{Inside}
 use Rattle.markdown.specs.Configuration.{at_configuration}
 use Rattle.markdown.specs.Sight.{sight, byte_of, point_of, current_of, point_or}
@@ -141,17 +142,18 @@ module _ {M R D : Type 0} (t : Inside M R D) (sound : IsSound t) where
     byte = more-by t.waits sound.waiting;
     end = closed-by t.waits refl sound.waiting;
     ended = sound.ended;
+    reads = sound.reads;
   }
 
-  pub well-formed : t.stack.items ≡ [] → IsWellFormed bytes_in (seen t).configuration
-  well-formed e =
+  pub well-formed : t.phase ≡ Reading → t.stack.items ≡ [] → IsWellFormed bytes_in (seen t).configuration
+  well-formed reads e =
       let left = shown bytes_in t.left in let bound = shown bytes_in (standing skips_in t.left t.waits) in
-      let m = subst (λ (stack : List Name). IsMade bytes_in t.events.items stack left bound) e sound.made in
+      let m = subst (λ (stack : List Name). IsMade bytes_in t.events.items stack left bound) e (sound.made reads) in
       let w = made-end bytes_in t.events.items left bound m in
       record { balanced = w.0; void_tight = w.1; in_order = w.2 }
 
-  pub stack-is : t.stack.items ≡ map (λ e. e.name) (open_events t.events.items)
-  stack-is = sym sound.made.names
+  pub stack-is : t.phase ≡ Reading → t.stack.items ≡ map (λ e. e.name) (open_events t.events.items)
+  stack-is reads = sym (sound.made reads).names
 
   -- the test of the code
   pub before-end : (q : Point) → stands_before q end_in ≡ is_before_pair q t.end
@@ -166,8 +168,8 @@ module _ {M R D : Type 0} (t : Inside M R D) (sound : IsSound t) where
   stands-here Byte m = m
   stands-here End m = m
 
-  made-here : MadeHere
-  made-here = stands-here t.waits sound.made
+  made-here : t.phase ≡ Reading → MadeHere
+  made-here reads = stands-here t.waits (sound.made reads)
 
   -- the next byte is fed
   module _ (seat : Seat) (n : IsSeatAt TAB bytes_in here_in seat) where
@@ -181,6 +183,7 @@ module _ {M R D : Type 0} (t : Inside M R D) (sound : IsSound t) where
     pub fed-sound : (byte : ℕ) → is_before_pair seat.point t.end ≡ true → seat.byte ≡ byte → IsSound (record t { waits = Byte; current = Some byte })
     fed-sound byte lt e = record {
       limit = sound.limit;
+      reads = sound.reads;
       end_at = sound.end_at;
       text = sound.text;
       skips = sound.skips;
@@ -206,6 +209,7 @@ module _ {M R D : Type 0} (t : Inside M R D) (sound : IsSound t) where
   pub end-fed-sound : length (seen t).text.seats ≤ (seen t).configuration.position → t.closed ≡ true → IsSound (record t { waits = End; current = None; ended = true })
   end-fed-sound all closed = record {
     limit = sound.limit;
+    reads = sound.reads;
     end_at = sound.end_at;
     text = sound.text;
     skips = sound.skips;
@@ -230,8 +234,8 @@ module _ {M R D : Type 0} (t : Inside M R D) (sound : IsSound t) where
           let q = shown bytes_in here_in in
           rw (l, s) (later-later waits.seat.end.index waits.seat.end.vs here_in.index here_in.vs q.index q.vs (seat-passes TAB bytes_in four here_in waits.seat looks_in.place waits.at) (shown-upto TAB bytes_in here_in))
 
-      pub consumed-made : IsMade bytes_in t.events.items t.stack.items (shown bytes_in left) (shown bytes_in left)
-      consumed-made = made-consume bytes_in t.events.items t.stack.items (shown bytes_in t.left) (shown bytes_in here_in) made-here (shown bytes_in left) (shown bytes_in left)
+      pub consumed-made : t.phase ≡ Reading → IsMade bytes_in t.events.items t.stack.items (shown bytes_in left) (shown bytes_in left)
+      consumed-made reads = made-consume bytes_in t.events.items t.stack.items (shown bytes_in t.left) (shown bytes_in here_in) (made-here reads) (shown bytes_in left) (shown bytes_in left)
           consumed-later (stands-self (shown bytes_in left)) (shown-shown TAB bytes_in left) (shown-shown TAB bytes_in left)
         where
           stands-self : (p : Point) → stands_before p p ≡ false
@@ -240,6 +244,7 @@ module _ {M R D : Type 0} (t : Inside M R D) (sound : IsSound t) where
       pub consumed-sound : IsSound (record t { left = left; previous = t.current; current = None; ended = false; waits = Nothing })
       consumed-sound = record {
         limit = sound.limit;
+        reads = sound.reads;
         end_at = sound.end_at;
         text = sound.text;
         skips = sound.skips;

@@ -230,7 +230,7 @@ settled-end k (c ∷ cs) Ok h = let e = settled-end (settled_at c.kind c.saved O
 settled-end k (c ∷ cs) Nok h = let e = settled-end (settled_at c.kind c.saved Nok k) cs c.nok h in let f : Nothing ≡ End = sym (settled-waits c.kind c.saved Nok k) ∙ e in absurd cc
 
 pub settled-only : {M R D : Type 0} (t : Seen M R D) (s : Step R D) → OnlyWorked t (settled_to t s)
-settled-only t s = record { given = refl; machine = refl; text = refl; closed = refl; counted = omega arith }
+settled-only t s = record { given = refl; machine = refl; text = refl; closed = refl; phase = refl; counted = omega arith }
 
 pub only-trans : {M R D : Type 0} (t u v : Seen M R D) → OnlyWorked t u → OnlyWorked u v → OnlyWorked t v
 only-trans t u v a b = record {
@@ -238,6 +238,7 @@ only-trans t u v a b = record {
   machine = b.machine ∙ a.machine;
   text = b.text ∙ a.text;
   closed = b.closed ∙ a.closed;
+  phase = b.phase ∙ a.phase;
   counted = omega (arith, a.counted, b.counted);
 }
 
@@ -284,7 +285,7 @@ module _ {M R D : Type 0} (given : Given) (rules : Rules R D) (laws : Laws given
   pub kept-taken : (flush : Bool) (t u v : Seen M R D) (a s : State) (n : Name) → IsText given u.text → TakesUp flush u v s (result.Ok n)
       → Kept given rules flush t a u s → Kept given rules flush t a v (Retry n)
   kept-taken flush t u v a (Next m) n is h k = rw (h.1, h.0) (record {
-    same = record { given = k.same.given; machine = k.same.machine; text = k.same.text; closed = k.same.closed; counted = k.same.counted };
+    same = record { given = k.same.given; machine = k.same.machine; text = k.same.text; closed = k.same.closed; phase = k.same.phase; counted = k.same.counted };
     message = λ e is_error. let f : Next m ≡ Error e = (k.message e is_error).0 in absurd cc;
     waits = λ f e. let e' : Byte ≡ End = fed-byte u.text u.configuration (h.2 f) e in absurd cc;
     leads = λ rest can only.
@@ -307,7 +308,7 @@ module _ {M R D : Type 0} (given : Given) (rules : Rules R D) (laws : Laws given
   kept-called flush t u v a s n is sound h k =
       let st = rules.step (sight given u.text u.configuration) u.configuration n in
       let now = (k.leads [] tt (λ _. refl)).kept in rw (h.became, h.answered) (record {
-        same = record { given = k.same.given; machine = k.same.machine; text = k.same.text; closed = k.same.closed; counted = omega (arith, k.same.counted) };
+        same = record { given = k.same.given; machine = k.same.machine; text = k.same.text; closed = k.same.closed; phase = k.same.phase; counted = omega (arith, k.same.counted) };
         message = λ e is_error. let f : Retry n ≡ Error e = (k.message e is_error).0 in absurd cc;
         waits = λ f e. k.waits f (no-feeding given rules laws.consumes u.text u.configuration u.choices n is now e);
         leads = λ rest can only.

@@ -1,6 +1,6 @@
 -- What the calls on a tokenizer do to a configuration.
-use Rattle.std.specs.Prelude.{◌≡◌, ℕ, ◌+◌, ◌-◌, ◌<◌, ◌++◌, ◌∷◌, [], true, false, Option, Some, None, IfSome, All, take, length}
-use Rattle.std.specs.List.{last_or}
+use Rattle.std.specs.Prelude.{◌≡◌, ℕ, ◌+◌, ◌-◌, ◌<◌, ◌++◌, ◌∷◌, [], List, Bool, true, false, if◌then◌else◌, Option, Some, None, IfSome, All, take, length}
+use Rattle.std.specs.List.{last_or, list_any}
 use Rattle.markdown_base.specs.declared.event.Event.{Event}
 use Rattle.markdown_base.specs.declared.event.Link.{Link}
 use Rattle.markdown_base.specs.declared.event.Kind.TheVariants.{Enter, Exit}
@@ -41,6 +41,22 @@ linked previous next k = record k { events = linked_to previous next k.events }
 -- other fields are written
 abbrev pub with_local : {R D : Type 0} → Configuration R D → Local R D → Configuration R D
 with_local k local = record k { local = local }
+
+-- other events stand there
+abbrev pub with_events : {R D : Type 0} → Configuration R D → List Event → Configuration R D
+with_events k events = record k { events = events }
+
+-- other resolvers are registered
+abbrev pub with_resolvers : {R D : Type 0} → Configuration R D → List R → Configuration R D
+with_resolvers k resolvers = record k { local = record k.local { resolvers = resolvers } }
+
+-- resolvers with one more behind them, unless it is there
+abbrev pub registered : {R : Type 0} → (R → R → Bool) → R → List R → List R
+registered same r rs = if list_any (λ q. same q r) rs then rs else rs ++ r ∷ []
+
+-- resolvers with one more in front of them, unless it is there
+abbrev pub registered_before : {R : Type 0} → (R → R → Bool) → R → List R → List R
+registered_before same r rs = if list_any (λ q. same q r) rs then rs else r ∷ rs
 
 -- The innermost span may end under this name: it is its name, a byte was consumed since it began, a void span holds no other
 -- event, and the span began after the last waiting choice that would put the stack back

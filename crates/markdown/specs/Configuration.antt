@@ -7,6 +7,8 @@ use Rattle.markdown_base.specs.declared.state.State.{State}
 use Rattle.markdown.specs.declared.tokenizer.TokenizeState.{TokenizeState}
 use Rattle.markdown.specs.declared.waiting.Waits.{Waits}
 use Rattle.markdown.specs.declared.waiting.Waits.TheVariants.{Nothing}
+use Rattle.markdown.specs.declared.waiting.Phase.{Phase}
+use Rattle.markdown.specs.declared.waiting.Phase.TheVariants.{Reading}
 use Rattle.markdown.specs.declared.waiting.AttemptKind.{AttemptKind}
 use Rattle.markdown.specs.Text.{Given, Text}
 use Rattle.markdown.specs.Edits.{Edit}
@@ -50,7 +52,8 @@ pub record Step (R D : Type 0) : Type 0 where
   pub choices : List Choice
   pub answer : State
 
--- What a contract sees of a tokenizer. The calls are counted for contracts alone; where it is closed nothing more is pushed.
+-- What a contract sees of a tokenizer. The calls are counted for contracts alone; where it is closed nothing more is pushed;
+-- the phase says whether a flush resolves, or has resolved
 pub record Seen (M R D : Type 0) : Type 0 where
   pub given : Given
   pub machine : M
@@ -59,6 +62,7 @@ pub record Seen (M R D : Type 0) : Type 0 where
   pub choices : List Choice
   pub calls : ℕ
   pub closed : Bool
+  pub phase : Phase
 
 -- what states share, before any was called
 abbrev pub start_state : {D : Type 0} → TokenizeState D
@@ -132,6 +136,7 @@ start_seen g m text = record {
   choices = [];
   calls = 0;
   closed = false;
+  phase = Reading;
 }
 
 -- the configuration is another one

@@ -3,6 +3,7 @@ pub mod Configuration
 pub mod Sight
 pub mod Calls
 pub mod Reading
+pub mod Resolving
 pub mod Rules
 pub mod Lawful
 pub mod Engine
@@ -15,6 +16,7 @@ pub mod Made
 pub mod Edited
 pub mod Edits
 pub mod Laws
+pub mod Lent
 pub mod Links
 pub mod Spliced
 pub mod Stored

@@ -1,5 +1,5 @@
 -- Links between the events of a list.
-use Rattle.std.specs.Prelude.{◌≡◌, ℕ, zero, suc, ◌+◌, ◌<◌, true, List, [], ◌∷◌, length, Option, Some, IsSome, option_map, option_and_then, slice_get, slice_index_or}
+use Rattle.std.specs.Prelude.{◌≡◌, ℕ, zero, suc, ◌+◌, ◌<◌, ◌↔◌, true, List, [], ◌∷◌, length, Option, Some, IsSome, option_map, option_and_then, slice_get, slice_index_or}
 use Rattle.markdown_base.specs.declared.event.Event.{Event}
 use Rattle.markdown_base.specs.declared.event.Link.{Link}
 use Rattle.markdown_base.specs.declared.event.Content.{Content}
@@ -68,3 +68,7 @@ previous_of events i = option_and_then (λ (e : Event). option_and_then (λ (l :
 -- two events are neighbours in a chain: the first one's link leads on to the second, and the second one's back to the first
 abbrev pub AreNeighbours : List Event → ℕ → ℕ → Type 0
 AreNeighbours events i j = (next_of events i ≡ Some j) × (previous_of events j ≡ Some i)
+
+-- each chain is mutual: an event's link leads on to another exactly where that one's leads back to it
+abbrev pub AreMutual : List Event → Type 0
+AreMutual events = (i j : ℕ) → (next_of events i ≡ Some j) ↔ (previous_of events j ≡ Some i)

@@ -11,6 +11,8 @@ use Rattle.markdown_base.specs.Virtual.{Seat, point}
 use Rattle.markdown_base.specs.Places.{point_at, shown, stands_before, is_upto}
 use Rattle.markdown.specs.declared.waiting.Waits.{Waits}
 use Rattle.markdown.specs.declared.waiting.Waits.TheVariants.{Nothing, Byte, End}
+use Rattle.markdown.specs.declared.waiting.Phase.{Phase}
+use Rattle.markdown.specs.declared.waiting.Phase.TheVariants.{Reading}
 use Rattle.markdown.specs.declared.waiting.Goal.{Goal}
 use Rattle.markdown.specs.declared.waiting.Goal.TheVariants as goal
 use Rattle.markdown.specs.declared.waiting.Mark.{Mark}
@@ -92,6 +94,7 @@ seen t =
       choices = map (choice_of position t.stack.items) (reverse t.marks.items);
       calls = t.calls.made;
       closed = t.closed;
+      phase = t.phase;
     }
 
 -- the text that was pushed
@@ -140,11 +143,11 @@ reach skips left more = cond more (resumed skips left) left
 abbrev pub can_feed : (position size : ℕ) → (closed : Bool) → Bool
 can_feed position size closed = nat_lt position size || closed
 
--- What a choice saved: a place up to which the text was read, with the events and the stack that were there
-pub record IsProgress (bytes : List ℕ) (skips : List Point) (text : Text) (events : List Event) (stack : List Name) (closed : Bool) (p : Progress) : Type 0 where
+-- What a choice saved: a place up to which the text was read, with the events and the stack that were there, until a flush resolves
+pub record IsProgress (phase : Phase) (bytes : List ℕ) (skips : List Point) (text : Text) (events : List Event) (stack : List Name) (closed : Bool) (p : Progress) : Type 0 where
   pub read : IsReadTo bytes skips text p.left p.previous
   pub ended : p.ended ≡ true → closed ≡ true
-  pub made : IsMade bytes (take p.events_len events) (take p.stack_len stack) (shown bytes p.left)
+  pub made : phase ≡ Reading → IsMade bytes (take p.events_len events) (take p.stack_len stack) (shown bytes p.left)
       (shown bytes (reach skips p.left (can_feed (position_from bytes skips text.start p.left) (length text.seats) closed)))
 
 abbrev pub events_of : ℕ → Option Progress → ℕ
@@ -161,7 +164,7 @@ AreNested P events stack [] = Unit {0}
 AreNested P events stack (mark ∷ marks) =
     IfSome mark.saved (λ p. (p.events_len ≤ events) × (p.stack_len ≤ stack) × P p) × AreNested P (events_of events mark.saved) (stack_of stack mark.saved) marks
 
--- what holds of the fields
+-- what holds of the fields. Of the events it holds until a flush resolves, as resolvers may change them freely.
 pub record IsSound {M R D : Type 0} (t : Inside M R D) : Type 0 where
   pub limit : 4 * length t.parse_state.now.bytes.now + 1 < 2 ^ 64
   pub end_at : point_at TAB t.parse_state.now.bytes.now t.end ≡ Some (text_of t).end
@@ -170,5 +173,6 @@ pub record IsSound {M R D : Type 0} (t : Inside M R D) : Type 0 where
   pub read : IsReadTo t.parse_state.now.bytes.now t.skips.items (text_of t) t.left t.previous
   pub waiting : IsWaiting t.parse_state.now.bytes.now t.skips.items (text_of t) t.left t.current t.closed t.waits
   pub ended : t.ended ≡ true → t.closed ≡ true
-  pub made : IsMade t.parse_state.now.bytes.now t.events.items t.stack.items (shown t.parse_state.now.bytes.now t.left) (shown t.parse_state.now.bytes.now (standing t.skips.items t.left t.waits))
-  pub marks : AreNested (IsProgress t.parse_state.now.bytes.now t.skips.items (text_of t) t.events.items t.stack.items t.closed) (length t.events.items) (length t.stack.items) (reverse t.marks.items)
+  pub reads : t.closed ≡ false → t.phase ≡ Reading
+  pub made : t.phase ≡ Reading → IsMade t.parse_state.now.bytes.now t.events.items t.stack.items (shown t.parse_state.now.bytes.now t.left) (shown t.parse_state.now.bytes.now (standing t.skips.items t.left t.waits))
+  pub marks : AreNested (IsProgress t.phase t.parse_state.now.bytes.now t.skips.items (text_of t) t.events.items t.stack.items t.closed) (length t.events.items) (length t.stack.items) (reverse t.marks.items)

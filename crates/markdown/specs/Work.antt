@@ -5,6 +5,7 @@ use Rattle.markdown_base.specs.declared.state.Name.{Name}
 use Rattle.markdown_base.specs.declared.state.State.{State}
 use Rattle.markdown_base.specs.declared.state.State.TheVariants.{Next, Retry, Ok, Nok, Error}
 use Rattle.markdown.specs.declared.waiting.Waits.TheVariants.{Byte, End}
+use Rattle.markdown.specs.declared.waiting.Phase.TheVariants.{Reading}
 use Rattle.markdown.specs.Text.{Given, Text, IsText, Piece, CanFollow, followed_by_all}
 use Rattle.markdown.specs.Configuration.{Configuration, Choice, Step, Seen, at_configuration}
 use Rattle.markdown.specs.Reading.{fed, settled_at}
@@ -24,13 +25,14 @@ answer_in Ok = Some true
 answer_in Nok = Some false
 answer_in _ = None
 
--- no more is read than the text, and the end is fed to a closed tokenizer alone
+-- no more is read than the text, the end is fed to a closed tokenizer alone, and an open one reads
 pub record IsInText {M R D : Type 0} (t : Seen M R D) : Type 0 where
   pub text : IsText t.given t.text
   pub within : t.configuration.position ≤ length t.text.seats
   pub byte : t.configuration.waiting ≡ Byte → t.configuration.position < length t.text.seats
   pub end : t.configuration.waiting ≡ End → t.closed ≡ true
   pub ended : t.configuration.ended ≡ true → t.closed ≡ true
+  pub reads : t.closed ≡ false → t.phase ≡ Reading
 
 -- only the configuration, the choices and the count are others, and the count is no less
 pub record OnlyWorked {M R D : Type 0} (old new : Seen M R D) : Type 0 where
@@ -38,6 +40,7 @@ pub record OnlyWorked {M R D : Type 0} (old new : Seen M R D) : Type 0 where
   pub machine : new.machine ≡ old.machine
   pub text : new.text ≡ old.text
   pub closed : new.closed ≡ old.closed
+  pub phase : new.phase ≡ old.phase
   pub counted : old.calls ≤ new.calls
 
 -- where the work ends: at the text's end, or at an answer with no choice waiting

@@ -2,6 +2,7 @@
 
 mod failing;
 mod reading;
+mod resolving;
 
 use crate::count::Calls;
 use crate::cursor::{is_after, next_byte, pass, resume, resumed, shown};
@@ -10,7 +11,7 @@ pub use crate::places::{cuts_every, point_at};
 use crate::state::{self, MachineTypes, State};
 use crate::subtokenize::{self, Subresult};
 use crate::util::edit_map::EditMap;
-use crate::waiting::{AttemptKind, Goal, Mark, Progress, Waits, standing, unwind};
+use crate::waiting::{AttemptKind, Goal, Mark, Phase, Progress, Waits, standing, unwind};
 pub use crate::work::{reads_in_one_way, run};
 use markdown_base::event::{Content, Event, Kind, Link, Name, Point};
 use markdown_base::message::Message;
@@ -215,6 +216,8 @@ pub struct Tokenizer<'a, M: MachineTypes> {
     marks: Vec<Mark>,
     /// Whether nothing more is pushed: memory was refused, or the end was fed.
     closed: bool,
+    /// Whether a flush resolves, or has resolved.
+    phase: Phase,
     /// How many states were called, which contracts alone see.
     calls: Calls,
 }
@@ -338,6 +341,7 @@ impl<'a, M: MachineTypes> Tokenizer<'a, M> {
             resolvers,
             marks,
             closed: false,
+            phase: Phase::Reading,
             calls,
         }
     }
@@ -610,9 +614,9 @@ impl<'a, M: MachineTypes> Tokenizer<'a, M> {
         let _ = &self.left;
     }
 
-    /// Where no span is open, the events are well formed.
+    /// Where no span is open, the events are well formed, until a flush resolves.
     pub(crate) fn tells_events(&self)
-        ensures { self.now.configuration.stack ≡ [] → IsWellFormed self.now.given.bytes self.now.configuration }
+        ensures { self.now.phase ≡ Phase.Reading → self.now.configuration.stack ≡ [] → IsWellFormed self.now.given.bytes self.now.configuration }
     {
         let _ = &self.left;
     }

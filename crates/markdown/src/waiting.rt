@@ -24,6 +24,17 @@ pub enum AttemptKind {
     Check,
 }
 
+/// What a tokenizer does.
+#[derive(Clone, Copy, Debug, PartialEq, Eq)]
+pub enum Phase {
+    /// It reads, or has read all.
+    Reading,
+    /// All was read, and resolvers go over the events.
+    Resolving,
+    /// Resolvers have gone over the events.
+    Resolved,
+}
+
 /// What a choice goes on with.
 #[derive(Clone, Copy, Debug, PartialEq, Eq)]
 pub(crate) enum Goal {

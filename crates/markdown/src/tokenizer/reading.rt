@@ -8,7 +8,7 @@ use super::Tokenizer;
 use crate::cursor::{resumed, seat_at};
 use crate::parser::ParseState;
 use crate::state::MachineTypes;
-use crate::waiting::Waits;
+use crate::waiting::{Phase, Waits};
 use markdown_base::event::{Event, Name, Point};
 
 impl<'a, M: MachineTypes> Tokenizer<'a, M> {
@@ -19,10 +19,10 @@ impl<'a, M: MachineTypes> Tokenizer<'a, M> {
         self.events.as_slice()
     }
 
-    /// The names of the open spans, the innermost last.
+    /// The names of the open spans, the innermost last, until a flush resolves.
     pub fn stack(&self) -> &[Name]
         ensures stack { result.now ≡ self.now.configuration.stack }
-        ensures open_spans { result.now ≡ map (λ e. e.name) (open_events self.now.configuration.events) }
+        ensures open_spans { self.now.phase ≡ Phase.Reading → result.now ≡ map (λ e. e.name) (open_events self.now.configuration.events) }
     {
         self.stack.as_slice()
     }
@@ -62,6 +62,13 @@ impl<'a, M: MachineTypes> Tokenizer<'a, M> {
         self.current
     }
 
+    /// The names of the resolvers that are registered, none of them twice, in the order in which a flush runs them.
+    pub fn resolvers(&self) -> &[M::Resolver]
+        ensures { result.now ≡ self.now.configuration.local.resolvers }
+    {
+        self.resolvers.as_slice()
+    }
+
     /// The document, the options and the machine.
     pub fn parse_state(&self) -> &'a ParseState<'a, M>
         ensures bytes { result.now.bytes.now ≡ self.now.given.bytes }
@@ -96,6 +103,7 @@ impl<'a, M: MachineTypes> Tokenizer<'a, M> {
             resolvers: _,
             marks: _,
             closed: _,
+            phase: _,
             calls: _,
         } = self;
         events

@@ -13,6 +13,7 @@ invariant_of-self-then-is_after g c =
     let put = c.in_ok-push.ensures.items in
     record {
       limit = sound.limit;
+      reads = sound.reads;
       end_at = added-end_at t sound q fits is c.push.new.self.items put;
       text = added-text_is t sound q fits is c.push.new.self.items put;
       skips = added-skips_are t sound q fits is c.push.new.self.items put;

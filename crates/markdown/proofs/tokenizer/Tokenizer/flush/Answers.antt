@@ -46,7 +46,8 @@ returns-in-Ok-answer-clause-ok g c =
     let held = rw c.in-Ok-answer.is at (leads-holds given (i.rules m given) true old u c.args.state c.in-Ok.answer e.leads none) in
     let closed = ((g.met.M.Machine.ends_when_read m given).ok u.text u.configuration is held).1 in
     let given_same = rw close at e.same.given in
-    let formed = rw given_same at (c.tells_events.ensures closed) in
+    let reads = e.same.phase ∙ ap (λ t. t.phase) close ∙ c.tells.ensures.reads (sym c.is_closed.ensures ∙ c.if-is_closed.false) in
+    let formed = rw given_same at (c.tells_events.ensures reads closed) in
     record {
       given = ap (λ t. t.given) rest ∙ given_same;
       machine = ap (λ t. t.machine) rest ∙ (rw close at e.same.machine);

@@ -15,13 +15,14 @@ invariant_of-result g c =
     let skips = c.new-skips.ensures.items in
     record {
       limit = c.requires.limit;
+      reads = λ _. refl;
       end_at = rw here (start-found bytes p c.requires.place);
       text = rw (skips, here, none) (start-text bytes p c.requires.place c.args.parse_state.now.options.now (record { tab = (omega arith, omega arith); limit = c.requires.limit }));
       skips = rw skips tt;
       read = rw (skips, here) (read-start bytes p c.requires.place);
       waiting = refl;
       ended = λ h. absurd cc;
-      made = rw (events, stack) (start-made bytes p c.requires.place);
+      made = λ _. rw (events, stack) (start-made bytes p c.requires.place);
       marks = rw marks tt;
     }
 

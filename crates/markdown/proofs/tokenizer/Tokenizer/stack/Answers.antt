@@ -3,4 +3,4 @@ use Rattle.markdown.proofs.Steps.{stack-is}
 use Rattle.markdown.proofs.tokenizer.Tokenizer.stack.Goals as goal
 
 pub returns-clause-open_spans : goal.returns-clause-open_spans
-returns-clause-open_spans g c = rw (← c.self.view_is) (c.as_slice.ensures.value ∙ stack-is c.self.inside c.self.invariant)
+returns-clause-open_spans g c = rw (← c.self.view_is) (λ reads. c.as_slice.ensures.value ∙ stack-is c.self.inside c.self.invariant reads)

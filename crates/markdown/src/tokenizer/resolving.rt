@@ -1,0 +1,53 @@
+//! Resolvers: which are registered, and what they may change.
+
+ghost use Rattle.std.specs.Prelude.{◌≡◌, OnOk, OnErr, []};
+ghost use Rattle.std.specs.Borrow.{sem};
+ghost use Rattle.markdown.specs.declared.waiting.Phase.TheVariants.{Resolving};
+ghost use Rattle.markdown.specs.Configuration.{at_configuration};
+ghost use Rattle.markdown.specs.Calls.{with_resolvers, registered, registered_before};
+
+use super::Tokenizer;
+use crate::state::MachineTypes;
+use markdown_base::event::Event;
+use std::alloc::AllocError;
+
+impl<'a, M: MachineTypes> Tokenizer<'a, M> {
+    /// Registers a resolver behind those that are there. One that is there stays where it is.
+    ///
+    /// A flush that resolves runs those that are registered once all was read. Where memory is refused, nothing changes.
+    pub fn register_resolver(&mut self, name: M::Resolver) -> Result<(), AllocError>
+        ensures ok { OnOk result (self.new ≡ at_configuration self.old (with_resolvers self.old.configuration (registered M.Resolver.eq name self.old.configuration.local.resolvers))) }
+        ensures err { OnErr result (self.new ≡ self.old) }
+    {
+        if self.resolvers.contains(&name) {
+            return Ok(());
+        }
+        self.resolvers.push(name)?;
+        Ok(())
+    }
+
+    /// As `register_resolver`, in front of those that are there.
+    pub fn register_resolver_before(&mut self, name: M::Resolver) -> Result<(), AllocError>
+        ensures ok { OnOk result (self.new ≡ at_configuration self.old (with_resolvers self.old.configuration (registered_before M.Resolver.eq name self.old.configuration.local.resolvers))) }
+        ensures err { OnErr result (self.new ≡ self.old) }
+    {
+        if !self.resolvers.contains(&name) {
+            self.resolvers.insert(0, name)?;
+        }
+        Ok(())
+    }
+}
+
+impl<'a, M: MachineTypes> Tokenizer<'a, M> {
+    ghost use Rattle.markdown.specs.Lent.{LendsEvents};
+
+    /// The events, for a resolver to change, while a flush resolves and no choice waits. Takes no memory.
+    pub fn events_mut(&mut self) -> &mut Vec<Event>
+        requires resolving { self.old.phase ≡ Resolving }
+        requires alone { self.old.choices ≡ [] }
+        ensures* writes_back { sem 𝓛 (LendsEvents M.row M.Resolver.row M.Document.row M.Resolver.PartialEq.own self.entry result) }
+        ensures value { result.now.items ≡ self.old.configuration.events }
+    {
+        &mut self.events
+    }
+}
