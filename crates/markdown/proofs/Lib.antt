@@ -13,6 +13,8 @@ pub mod StoredLemmas
 pub mod Survivors
 pub mod Turns
 pub mod Mirrors
+pub mod PlainLaws
+pub mod Resolvers
 pub mod Runs
 pub mod SpanRuns
 pub mod Balanced

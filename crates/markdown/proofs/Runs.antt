@@ -17,7 +17,8 @@ use Rattle.markdown.specs.Configuration.{Configuration, Choice, Step, Seen, star
 use Rattle.markdown.specs.Sight.{Sight}
 use Rattle.markdown.specs.Rules.{Rules}
 use Rattle.markdown.specs.Lawful.{KeepsInvariant}
-use Rattle.markdown.specs.Engine.{LeadsOn, KeepsOutcome, CanPush, IsPushed, IsFlushed, IsRefused, IsWellFormed, IsRun, IsRunRefused, AreCuts, budget, given_by, taken, whole_text, FollowInOrder}
+use Rattle.markdown.specs.Engine.{LeadsOn, KeepsOutcome, CanPush, IsPushed, IsFlushed, IsRefused, IsWellFormed, IsRun, IsRunRefused, AreCuts, budget, given_by, whole_text, FollowInOrder}
+use Rattle.markdown.specs.Resolving.{IsResolved, IsResolvingRefused, IsInShape}
 use Rattle.markdown.specs.Reading.{Reading, EndsIn}
 use Rattle.markdown.specs.declared.subtokenize.Subresult.{Subresult}
 use Rattle.markdown_base.specs.declared.configuration.ParseOptions.{ParseOptions}
@@ -177,7 +178,7 @@ module _ (given : Given) (four : given.tab ≡ 4) where
       (filter-every (in_range (point 1 1 0 0) e) (virtual given.tab given.bytes)
       (every-map (λ s. stands_before s.point e ≡ true) (λ s. in_range (point 1 1 0 0) e s ≡ true) (λ s h. first-in s e h) (virtual given.tab given.bytes) behind))
 
-drop-get : {A : Type 0} (xs : List A) (n : ℕ) (d : A) → n < length xs → drop n xs ≡ get_or xs n d ∷ drop (suc n) xs
+pub drop-get : {A : Type 0} (xs : List A) (n : ℕ) (d : A) → n < length xs → drop n xs ≡ get_or xs n d ∷ drop (suc n) xs
 drop-get [] n d lt = absurd (omega arith)
 drop-get (y ∷ ys) zero d lt = refl
 drop-get (y ∷ ys) (suc n) d lt = drop-get ys n d (omega arith)
@@ -194,9 +195,6 @@ start-is-text bytes options limit = record {
 pub err-if : {T E : Type 0} (r : Result T E) (P Q : E → Type 0) → ((e : E) → P e → Q e) → IsErrAnd r P → IfErr r Q
 err-if (result.Ok v) P Q f h = tt
 err-if (result.Err e) P Q f h = f e h
-
-untaken-formed : {R D : Type 0} (bytes : List ℕ) (k : Configuration R D) → IsWellFormed bytes (taken k) → IsWellFormed bytes k
-untaken-formed bytes k h = record { balanced = h.balanced; void_tight = h.void_tight; in_order = h.in_order }
 
 -- where a run stands, with which cuts to come
 pub record Runs {M R D : Type 0} (bytes : List ℕ) (options : ParseOptions) (m : M) (rules : Rules R D) (start : Name) (from : ℕ × ℕ) (cuts : List (ℕ × ℕ)) (t : Seen M R D) (state : State) : Type 0 where
@@ -361,24 +359,34 @@ module _ {M R D : Type 0} (rules : M → Given → Rules R D) where
         subst (λ (x : Text). EndsIn given (rules m given).step x 0 (start_configuration false) [] (Next start) q) run-whole
         (run-ends bytes options m start (length bytes, 0) [] t state r q e)
 
-    pub run-flushed : (v : Seen M R D) (list : List Event) (sub : Subresult) → IsFlushed (rules t.machine t.given) t state v sub
-        → list ≡ v.configuration.events → IsRun (given_by 4 bytes options) (rules m) start list sub
-    run-flushed v list sub f events =
-        let formed = subst (λ (k : Configuration R D). IsWellFormed bytes k) f.configuration (subst (λ (x : Given). IsWellFormed x.bytes v.configuration) r.same_given f.well_formed) in record {
-          result = f.result;
-          ends = run-ends-whole f.result f.ends;
-          well = f.well;
-          events = events ∙ ap (λ (k : Configuration R D). k.events) f.configuration;
-          well_formed = untaken-formed bytes f.result.configuration formed;
-          definitions = f.definitions;
-          within = run-within f.result.calls (subst (λ (n : ℕ). n ≤ budget (rules t.machine t.given) t.text t state) f.calls f.within);
-        }
+    -- what holds of the tokenizer's machine, document and text holds of those of the run
+    run-moved : (P : M → Given → Text → Type 0) → P t.machine t.given t.text → P m (given_by 4 bytes options) (whole_text (given_by 4 bytes options))
+    run-moved P h =
+        subst (λ (x : Text). P m (given_by 4 bytes options) x) run-whole (subst (λ (x : Given). P m x t.text) r.same_given (subst (λ (x : M). P x t.given t.text) r.machine h))
 
-    pub run-refused : (v : Seen M R D) (message : Message) → IsRefused (rules t.machine t.given) t state v message
-        → IsRunRefused (given_by 4 bytes options) (rules m) start message
-    run-refused v message f = record {
-      result = f.result;
-      ends = run-ends-whole f.result f.ends;
-      message = f.message;
-      within = run-within f.result.calls (subst (λ (n : ℕ). n ≤ budget (rules t.machine t.given) t.text t state) f.calls f.within);
-    }
+    module _ (resolve : Bool) (v : Seen M R D) where
+      pub run-flushed : (list : List Event) (sub : Subresult) → IsFlushed (rules t.machine t.given) resolve t state v sub
+          → list ≡ v.configuration.events → IsRun (given_by 4 bytes options) (rules m) resolve start list sub
+      run-flushed list sub f events = record {
+        result = f.result;
+        ends = run-ends-whole f.result f.ends;
+        well = f.well;
+        final = v.configuration;
+        resolved = run-moved (λ x y w. IsResolved (rules x y).resolver y w resolve f.result.configuration v.configuration sub) f.resolved;
+        events = events;
+        well_formed = subst (λ (x : Given). IsWellFormed x.bytes f.result.configuration) r.same_given f.before;
+        in_shape = λ e. subst IsInShape (sym events) (f.in_shape e);
+        within = run-within f.result.calls (subst (λ (n : ℕ). n ≤ budget (rules t.machine t.given) t.text t state) f.calls f.within);
+      }
+
+      pub run-refused : (message : Message) → IsRefused (rules t.machine t.given) resolve t state v message
+          → IsRunRefused (given_by 4 bytes options) (rules m) resolve start message
+      run-refused message f = record {
+        result = f.result;
+        ends = run-ends-whole f.result f.ends;
+        message = elim f.message [
+          | inl e ↦ inl e
+          | inr e ↦ inr (e.0, run-moved (λ x y w. IsResolvingRefused (rules x y).resolver y w resolve f.result.configuration message) e.1)
+        ];
+        within = run-within f.result.calls (subst (λ (n : ℕ). n ≤ budget (rules t.machine t.given) t.text t state) f.calls f.within);
+      }

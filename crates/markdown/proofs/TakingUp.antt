@@ -21,7 +21,7 @@ module _ {M R D : Type 0} (rules : M → Given → Rules R D) (laws : (m : M) (g
 
   pub kept-first : (flush : Bool) (t : Seen M R D) (a : State) → (flush ≡ false → t.configuration.waiting ≢ End) → HoldsAll (rules t.machine t.given) flush t a → KeptFrom flush t a t a
   kept-first flush t a waits h = record {
-    same = record { given = refl; machine = refl; text = refl; closed = refl; counted = omega arith };
+    same = record { given = refl; machine = refl; text = refl; closed = refl; phase = refl; counted = omega arith };
     message = λ m e. (e, refl);
     waits = waits;
     leads = λ rest can only.

@@ -22,7 +22,8 @@ use Rattle.markdown.specs.Sight.{Sight, sight, sight_of, seat_before}
 use Rattle.markdown.specs.Reading.{Reading, fed, restored, settled_at, EndsIn, more_calls, read}
 use Rattle.markdown.specs.Rules.{Rules}
 use Rattle.markdown.specs.Lawful.{stepped, IsCalled, ConsumesOnce, EndsWhenRead, KeepsInvariant, CostPays}
-use Rattle.markdown.specs.Engine.{LeadsOn, ForPoints, IsPushed, IsWellFormed, budget, taken}
+use Rattle.markdown.specs.Engine.{LeadsOn, ForPoints, IsPushed, IsWellFormed, budget}
+use Rattle.markdown.specs.Resolving.{taken}
 use Rattle.markdown.specs.Work.{LeadsAll, Stops, settled_all, settled_to, EndsClosed, extended, OnlyWorked, TakesUp, IsInText, answer_in}
 use Rattle.markdown.proofs.Readings.{fed-ends, called-ends, settled-ok-ends, settled-nok-ends}
 use Rattle.markdown.proofs.Ends.{error-stays}

@@ -1,5 +1,5 @@
 -- What pushing and flushing mean.
-use Rattle.std.specs.Prelude.{◌≡◌, ◌+◌, ◌≤◌, ◌⊎◌, ℕ, List, [], ◌∷◌, Some, true, false, length, sum_by, ◌↔◌}
+use Rattle.std.specs.Prelude.{◌≡◌, ◌+◌, ◌≤◌, ◌⊎◌, ℕ, List, [], ◌∷◌, Some, Bool, true, false, length, sum_by, ◌↔◌}
 use Rattle.markdown_base.specs.declared.configuration.ParseOptions.{ParseOptions}
 use Rattle.markdown_base.specs.declared.event.Event.{Event}
 use Rattle.markdown_base.specs.declared.event.Point.{Point}
@@ -17,15 +17,7 @@ use Rattle.markdown.specs.Text.{Given, Text, Piece, IsText, pushed, FitsAfter, C
 use Rattle.markdown.specs.Configuration.{Configuration, Choice, Seen, start_configuration}
 use Rattle.markdown.specs.Rules.{Rules}
 use Rattle.markdown.specs.Reading.{Reading, EndsIn}
-
-module _ {R D : Type 0} where
-  -- the definitions that states found are taken out
-  abbrev pub taken : Configuration R D → Configuration R D
-  taken k = record k { local = record k.local { tokenize_state = record k.local.tokenize_state { definitions = []; gfm_footnote_definitions = [] } } }
-
-  -- the definitions that states found
-  abbrev pub found : Configuration R D → Subresult
-  found k = record { done = false; gfm_footnote_definitions = k.local.tokenize_state.gfm_footnote_definitions; definitions = k.local.tokenize_state.definitions }
+use Rattle.markdown.specs.Resolving.{IsResolved, IsResolvingRefused, IsInShape}
 
 module _ {M R D : Type 0} (rules : Rules R D) where
   -- the calls made, and those that a state and the waiting choices may still take on a text
@@ -78,8 +70,10 @@ module _ {M R D : Type 0} (rules : Rules R D) where
     -- a message is answered again, and nothing is read
     pub message : (m : Message) → state ≡ Error m → (answer ≡ Error m) × (new ≡ record old { text = new.text })
 
-  -- What a flush leaves, where it succeeds: the configuration in which the reading ends, without the definitions, which are answered
-  pub record IsFlushed (old : Seen M R D) (state : State) (new : Seen M R D) (sub : Subresult) : Type 0 where
+  -- What a flush leaves, where it succeeds: what resolving makes of the configuration in which the reading ends, and its answer.
+  -- Without resolving that is the configuration without the definitions, which are answered. The events are well formed before
+  -- resolvers, and balanced with their links in shape after them.
+  pub record IsFlushed (resolve : Bool) (old : Seen M R D) (state : State) (new : Seen M R D) (sub : Subresult) : Type 0 where
     pub given : new.given ≡ old.given
     pub machine : new.machine ≡ old.machine
     pub text : new.text ≡ old.text
@@ -88,19 +82,20 @@ module _ {M R D : Type 0} (rules : Rules R D) where
     pub well : result.answer ≡ Ok
     pub calls : new.calls ≡ result.calls
     pub within : new.calls ≤ budget rules old.text old state
-    pub configuration : new.configuration ≡ taken result.configuration
+    pub resolved : IsResolved rules.resolver old.given old.text resolve result.configuration new.configuration sub
     pub settled : new.choices ≡ []
-    pub definitions : sub ≡ found result.configuration
-    pub well_formed : IsWellFormed old.given.bytes new.configuration
+    pub before : IsWellFormed old.given.bytes result.configuration
+    pub well_formed : resolve ≡ false → IsWellFormed old.given.bytes new.configuration
+    pub in_shape : resolve ≡ true → IsInShape new.configuration.events
 
-  -- A flush was refused with this message, in which the reading ends
-  pub record IsRefused (old : Seen M R D) (state : State) (new : Seen M R D) (m : Message) : Type 0 where
+  -- A flush was refused with this message, in which the reading ends, or a resolver after it
+  pub record IsRefused (resolve : Bool) (old : Seen M R D) (state : State) (new : Seen M R D) (m : Message) : Type 0 where
     pub given : new.given ≡ old.given
     pub machine : new.machine ≡ old.machine
     pub text : new.text ≡ old.text
     pub result : Reading R D
     pub ends : EndsIn old.given rules.step old.text old.calls old.configuration old.choices state result
-    pub message : result.answer ≡ Error m
+    pub message : (result.answer ≡ Error m) ⊎ ((result.answer ≡ Ok) × IsResolvingRefused rules.resolver old.given old.text resolve result.configuration m)
     pub calls : new.calls ≡ result.calls
     pub within : new.calls ≤ budget rules old.text old state
 
@@ -137,19 +132,22 @@ module _ {R D : Type 0} (g : Given) (rules : Given → Rules R D) where
   abbrev pub StartEndsIn : Name → Reading R D → Type 0
   StartEndsIn start r = EndsIn g (rules g).step (whole_text g) 0 (start_configuration false) [] (Next start) r
 
-  -- What a run answers: events and definitions of the one reading of the whole text, which takes no more calls than its cost
-  pub record IsRun (start : Name) (list : List Event) (sub : Subresult) : Type 0 where
+  -- What a run answers: events and definitions of the one reading of the whole text, which takes no more calls than its cost, and
+  -- then of its resolvers
+  pub record IsRun (resolve : Bool) (start : Name) (list : List Event) (sub : Subresult) : Type 0 where
     pub result : Reading R D
     pub ends : StartEndsIn start result
     pub well : result.answer ≡ Ok
-    pub events : list ≡ result.configuration.events
+    pub final : Configuration R D
+    pub resolved : IsResolved (rules g).resolver g (whole_text g) resolve result.configuration final sub
+    pub events : list ≡ final.events
     pub well_formed : IsWellFormed g.bytes result.configuration
-    pub definitions : sub ≡ found result.configuration
+    pub in_shape : resolve ≡ true → IsInShape list
     pub within : result.calls ≤ (rules g).cost (whole_text g) (start_configuration false) (Next start)
 
-  -- A run was refused with this message, in which the reading of the whole text ends, within its cost
-  pub record IsRunRefused (start : Name) (m : Message) : Type 0 where
+  -- A run was refused with this message, in which the reading of the whole text ends, within its cost, or a resolver after it
+  pub record IsRunRefused (resolve : Bool) (start : Name) (m : Message) : Type 0 where
     pub result : Reading R D
     pub ends : StartEndsIn start result
-    pub message : result.answer ≡ Error m
+    pub message : (result.answer ≡ Error m) ⊎ ((result.answer ≡ Ok) × IsResolvingRefused (rules g).resolver g (whole_text g) resolve result.configuration m)
     pub within : result.calls ≤ (rules g).cost (whole_text g) (start_configuration false) (Next start)

@@ -1,5 +1,5 @@
 -- What a lawful machine keeps. Each law speaks of one call, one feeding, one settled choice or one piece added.
-use Rattle.std.specs.Prelude.{◌≡◌, ◌≢◌, ◌+◌, ◌≤◌, ◌⊎◌, ℕ, List, [], ◌∷◌, ◌++◌, Bool, true, false, IfSome, All, Contains, length, take, sum_by}
+use Rattle.std.specs.Prelude.{◌≡◌, ◌≢◌, ◌+◌, ◌≤◌, ◌⊎◌, ℕ, List, [], ◌∷◌, ◌++◌, Bool, true, false, Option, IfSome, All, Contains, length, take, sum_by}
 use Rattle.markdown_base.specs.declared.event.Point.{Point}
 use Rattle.markdown_base.specs.declared.state.Name.{Name}
 use Rattle.markdown_base.specs.declared.state.State.{State}
@@ -9,9 +9,13 @@ use Rattle.markdown.specs.declared.waiting.Waits.TheVariants.{Nothing, Byte}
 use Rattle.markdown.specs.Text.{Given, Text, Piece, IsText, FitsAfter, followed_by, empty_text}
 use Rattle.markdown.specs.Configuration.{Configuration, Choice, Step, Seen, start_configuration}
 use Rattle.markdown.specs.Sight.{sight}
-use Rattle.markdown.specs.Calls.{consumed}
 use Rattle.markdown.specs.Reading.{fed, settled_at}
 use Rattle.markdown.specs.Rules.{Rules}
+use Rattle.markdown.specs.declared.subtokenize.Subresult.{Subresult}
+use Rattle.markdown.specs.Calls.{consumed, with_resolvers}
+use Rattle.markdown.specs.Edited.{edited}
+use Rattle.markdown.specs.Resolving.{done, taken, CanBeEdited, IsInShape}
+use Rattle.markdown.specs.Engine.{IsWellFormed}
 
 -- the tokenizer after a call: the step's configuration, its choices above the old ones, and one call more
 abbrev pub stepped : {M R D : Type 0} → Seen M R D → Step R D → Seen M R D
@@ -79,3 +83,15 @@ module _ {R D : Type 0} (g : Given) (rules : Rules R D) where
         → rules.holds text k (choice ∷ choices) Ok → rules.cost text (settled_at choice.kind choice.saved Ok k) choice.ok ≤ rules.reserve text choice
     pub for_nok : (text : Text) (k : Configuration R D) (choice : Choice) (choices : List Choice) → IsText g text
         → rules.holds text k (choice ∷ choices) Nok → rules.cost text (settled_at choice.kind choice.saved Nok k) choice.nok ≤ rules.reserve text choice
+
+  -- The invariant of resolvers holds of those that are registered once all was read, with the definitions and the list taken out.
+  -- Each resolver keeps it for those that are left, and keeps how far was read and the stack. When none is left the edits can be
+  -- made, and leave the events in shape.
+  pub record ResolversKeep : Type 0 where
+    pub at_end : (text : Text) (k : Configuration R D) → IsText g text → IsWellFormed g.bytes k → rules.holds text k [] Ok
+        → rules.resolves text k.local.resolvers (with_resolvers (taken k) [])
+    pub by_resolvers : (text : Text) (r : R) (rs : List R) (k new : Configuration R D) (more : Option Subresult) → IsText g text
+        → rules.resolves text (r ∷ rs) k → rules.resolver (sight g text k) k r ≡ done new more
+        → rules.resolves text rs new × IsAsFar new k × (new.stack ≡ k.stack)
+    pub at_last : (text : Text) (k : Configuration R D) → IsText g text → rules.resolves text [] k
+        → CanBeEdited k × IsInShape (edited k.local.map k.events)

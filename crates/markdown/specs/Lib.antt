@@ -5,6 +5,7 @@ pub mod Calls
 pub mod Reading
 pub mod Resolving
 pub mod Rules
+pub mod Plain
 pub mod Lawful
 pub mod Engine
 pub mod Fault

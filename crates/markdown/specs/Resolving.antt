@@ -1,5 +1,5 @@
 -- What resolvers make of what a reading ends in.
-use Rattle.std.specs.Prelude.{◌≡◌, ℕ, List, [], ◌∷◌, ◌++◌, Bool, true, false, Option, Some, None, All, length}
+use Rattle.std.specs.Prelude.{◌≡◌, List, [], ◌∷◌, ◌++◌, Bool, true, false, Option, Some, None, All, length}
 use Rattle.markdown_base.specs.declared.event.Event.{Event}
 use Rattle.markdown_base.specs.declared.message.Message.{Message}
 use Rattle.markdown_base.specs.Events.{IsBalanced, EndsBelow}
@@ -27,6 +27,14 @@ with_more sub (Some more) = record {
 }
 
 module _ {R D : Type 0} where
+  -- the definitions that states found are taken out
+  abbrev pub taken : Configuration R D → Configuration R D
+  taken k = record k { local = record k.local { tokenize_state = record k.local.tokenize_state { definitions = []; gfm_footnote_definitions = [] } } }
+
+  -- the definitions that states found
+  abbrev pub found : Configuration R D → Subresult
+  found k = record { done = false; gfm_footnote_definitions = k.local.tokenize_state.gfm_footnote_definitions; definitions = k.local.tokenize_state.definitions }
+
   -- the edits that wait are made, all at once
   abbrev pub edits_made : Configuration R D → Configuration R D
   edits_made k = record k { events = edited k.local.map k.events; local = record k.local { map = [] } }
@@ -34,13 +42,6 @@ module _ {R D : Type 0} where
   -- the edits that wait can be made: each ends before the next begins, and link ends stand inside the list
   abbrev pub CanBeEdited : Configuration R D → Type 0
   CanBeEdited k = AreDisjoint 0 k.local.map (length k.events) × All (EndsBelow (length k.events)) k.events
-
-  -- a resolver changes the events and what states share alone
-  pub record OnlyResolves (old new : Configuration R D) : Type 0 where
-    pub position : new.position ≡ old.position
-    pub waiting : new.waiting ≡ old.waiting
-    pub ended : new.ended ≡ old.ended
-    pub stack : new.stack ≡ old.stack
 
 -- What resolvers leave: a balanced list, whose link ends stand inside it, and whose chains are mutual
 pub record IsInShape (events : List Event) : Type 0 where
@@ -58,3 +59,18 @@ module _ {R D : Type 0} (resolver : Sight → Configuration R D → R → Resolv
         | done new more ↦ resolved_by rs new (with_more sub more)
         | refused message ↦ refused message
       ]
+
+  -- what resolving gives: the definitions and the registered resolvers are taken out, and these resolve
+  abbrev pub resolving : Configuration R D → Resolved R D
+  resolving k = resolved_by k.local.resolvers (with_resolvers (taken k) []) (found k)
+
+  -- what is left of the configuration in which a reading ends, and what is answered. Without resolving, the definitions are
+  -- taken out and answered, and all else stays.
+  abbrev pub IsResolved : Bool → (k new : Configuration R D) → Subresult → Type 0
+  IsResolved false k new sub = (new ≡ taken k) × (sub ≡ found k)
+  IsResolved true k new sub = resolving k ≡ done new (Some sub)
+
+  -- a resolver refuses with this message
+  abbrev pub IsResolvingRefused : Bool → Configuration R D → Message → Type 0
+  IsResolvingRefused false k m = ⊥
+  IsResolvingRefused true k m = resolving k ≡ refused m

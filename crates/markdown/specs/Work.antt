@@ -11,6 +11,8 @@ use Rattle.markdown.specs.Configuration.{Configuration, Choice, Step, Seen, at_c
 use Rattle.markdown.specs.Reading.{fed, settled_at}
 use Rattle.markdown.specs.Rules.{Rules}
 use Rattle.markdown.specs.Engine.{LeadsOn}
+use Rattle.markdown.specs.declared.subtokenize.Subresult.{Subresult}
+use Rattle.markdown.specs.Resolving.{Resolved, done, resolved_by, IsInShape}
 
 -- the text is another one
 abbrev pub extended : {M R D : Type 0} → Seen M R D → Text → Seen M R D
@@ -97,3 +99,13 @@ module _ {M R D : Type 0} (g : Given) (rules : Rules R D) where
   abbrev pub LeadsAll : Bool → Seen M R D → State → Seen M R D → State → Type 0
   LeadsAll flush old state new answer = (rest : List Piece) → CanFollow g new.text rest → (flush ≡ true → rest ≡ [])
       → LeadsOn g rules (followed_by_all g new.text rest) old state new answer
+
+module _ {M R D : Type 0} (rules : Rules R D) where
+  -- what resolvers make of a configuration, on the text of a tokenizer
+  abbrev pub resolved_in : Seen M R D → List R → Configuration R D → Subresult → Resolved R D
+  resolved_in t rs k sub = resolved_by rules.resolver t.given t.text rs k sub
+
+  -- resolvers have gone over the events, and the edits were made
+  pub record GoneOver (old : Seen M R D) (rs : List R) (k : Configuration R D) (sub : Subresult) (new : Seen M R D) (all : Subresult) : Type 0 where
+    pub is : resolved_in old rs k sub ≡ done new.configuration (Some all)
+    pub in_shape : IsInShape new.configuration.events

@@ -1,6 +1,7 @@
 //! States, and what a machine of states is.
 
-use crate::tokenizer::Tokenizer;
+use crate::subtokenize::Subresult;
+use crate::tokenizer::{Fault, Tokenizer};
 pub use markdown_base::state::{Name, State};
 use std::alloc::{AllocError, Global};
 
@@ -16,16 +17,20 @@ pub trait MachineTypes {
 /// A machine of states, which reads a text.
 ///
 /// Its rules say what the call of each state gives (`step`), what holds at each call (`holds`), how many calls it may still
-/// take (`cost`, `reserve`) and with which states it may start (`starts`). It proves five laws of them.
+/// take (`cost`, `reserve`) and with which states it may start (`starts`); what a resolver gives (`resolver`), and what holds before
+/// those of a list resolve (`resolves`). It proves six laws of them.
 pub trait Machine: MachineTypes + Sized {
-    ghost use Rattle.std.specs.Prelude.{◌≡◌, ◌≢◌, IfOk};
+    ghost use Rattle.std.specs.Prelude.{◌≡◌, ◌≢◌, ◌∷◌, [], List, IfOk, IfErr, IsErrOf};
     ghost use Rattle.markdown_base.specs.declared.state.State.TheVariants.{Retry};
     ghost use Rattle.markdown.specs.declared.waiting.Waits.TheVariants.{Nothing};
+    ghost use Rattle.markdown.specs.declared.waiting.Phase.TheVariants.{Resolving};
+    ghost use Rattle.markdown.specs.Configuration.{at_configuration};
+    ghost use Rattle.markdown.specs.Resolving.{done, refused};
     ghost use Rattle.markdown.specs.Text.{Given};
     ghost use Rattle.markdown.specs.Sight.{sight_seen};
     ghost use Rattle.markdown.specs.Rules.{Rules};
     ghost use Rattle.markdown.specs.Engine.{HoldsOf};
-    ghost use Rattle.markdown.specs.Lawful.{IsCalled, ConsumesOnce, OnlyAdds, EndsWhenRead, KeepsInvariant, CostPays};
+    ghost use Rattle.markdown.specs.Lawful.{IsCalled, ConsumesOnce, OnlyAdds, EndsWhenRead, KeepsInvariant, CostPays, ResolversKeep};
 
     /// Its rules on a document.
     ghost rules: { Self → Given → Rules Self.Resolver Self.Document };
@@ -45,6 +50,26 @@ pub trait Machine: MachineTypes + Sized {
         requires invariant { HoldsOf (rules self.now t.old.given) t.old (Retry name) }
         ensures call_is_step { IfOk result (IsCalled t.old t.new ((rules self.now t.old.given).step (sight_seen t.old) t.old.configuration name)) };
 
+    /// Goes over the events as the resolver of this name, once all was read, while a flush resolves.
+    ///
+    /// It may change the events (`events_mut`, `link`, `link_to`), `map`, `tokenize_state` and the flags, and register resolvers, which
+    /// this flush does not run. It answers the definitions that it found. `Message` refuses the document; `Memory` is answered
+    /// only where memory was refused.
+    fn resolve<'a>(
+        &self,
+        alloc: Global,
+        t: &mut Tokenizer<'a, Self>,
+        name: Self::Resolver,
+    ) -> Result<Option<Subresult>, Fault>
+        requires machine { t.old.machine ≡ self.now }
+        requires resolving { t.old.phase ≡ Resolving }
+        requires alone { t.old.choices ≡ [] }
+        requires invariant { (rest : List Self.Resolver) × (rules self.now t.old.given).resolves t.old.text (name ∷ rest) t.old.configuration }
+        ensures same { t.new ≡ at_configuration t.old t.new.configuration }
+        ensures resolves { IfOk result (λ more. (rules self.now t.old.given).resolver (sight_seen t.old) t.old.configuration name ≡ done t.new.configuration more) }
+        ensures message { (m : _) → IsErrOf result (Fault.Message m) → (rules self.now t.old.given).resolver (sight_seen t.old) t.old.configuration name ≡ refused m }
+        ensures err { IfErr result (λ fault. fault ≢ Fault.Failed) };
+
     /// A call consumes at most one byte, and never the end.
     ghost consumes_once: { (m : Self) (g : Given) → ConsumesOnce g (rules m g) };
 
@@ -59,4 +84,8 @@ pub trait Machine: MachineTypes + Sized {
 
     /// A call is paid for, feeding costs nothing, and what a choice goes on with costs at most its reserve.
     ghost cost_pays: { (m : Self) (g : Given) → CostPays g (rules m g) };
+
+    /// The invariant of resolvers holds once all was read, and is kept by each; when none is left the edits can be made, and the
+    /// events are balanced then, with their links in shape.
+    ghost resolvers_keep: { (m : Self) (g : Given) → ResolversKeep g (rules m g) };
 }

@@ -2,11 +2,13 @@
 //!
 //! A chain links the enters of some void spans of a list of events. Their text together is content of its own.
 
-ghost use Rattle.std.specs.Prelude.{◌≡◌, ◌-◌, ◌≤◌};
+ghost use Rattle.std.specs.Prelude.{◌≡◌, ◌-◌, ◌≤◌, ◌++◌, Some, IfOk};
+ghost use Rattle.markdown.specs.Resolving.{with_more};
 ghost use Rattle.markdown.specs.Links.{CanLink, linked_to, with_next, with_previous};
 
 use markdown_base::event::Event;
 use markdown_base::owned::{Items, OwnedText};
+use std::alloc::AllocError;
 
 /// What reading content gave beside events.
 #[derive(Debug, Drop)]
@@ -17,6 +19,35 @@ pub struct Subresult {
     pub gfm_footnote_definitions: Items<OwnedText>,
     /// The labels of the definitions that were found.
     pub definitions: Items<OwnedText>,
+}
+
+/// Definitions, and behind them those that were found later.
+pub(crate) fn joined(sub: Subresult, more: Subresult) -> Result<Subresult, AllocError>
+    ensures { IfOk result (λ all. all ≡ with_more sub (Some more)) }
+{
+    let gfm_footnote_definitions = joined_items(
+        sub.gfm_footnote_definitions,
+        more.gfm_footnote_definitions,
+    )?;
+    let definitions = joined_items(sub.definitions, more.definitions)?;
+    Ok(Subresult {
+        done: sub.done,
+        gfm_footnote_definitions,
+        definitions,
+    })
+}
+
+/// The one list, and behind it the other.
+fn joined_items(
+    items: Items<OwnedText>,
+    more: Items<OwnedText>,
+) -> Result<Items<OwnedText>, AllocError>
+    ensures { IfOk result (λ all. all ≡ items ++ more) }
+{
+    let mut all = items.into_vec();
+    let mut more = more.into_vec();
+    all.append(&mut more)?;
+    Ok(Items::from_vec(all))
 }
 
 /// Links an event to the one two places before it, as [`link_to`] does from `index - 2` to `index`.

@@ -243,7 +243,8 @@ ghost use Rattle.markdown.specs.Sight.{sight_seen};
 ghost use Rattle.markdown.specs.Links.{CanLink, linked_to};
 ghost use Rattle.markdown.specs.Calls.{consumed, entered, exited, linked, attempt_at, check_at, with_choice, CanExit, CanGoOn};
 ghost use Rattle.markdown.specs.Reading.{fed};
-ghost use Rattle.markdown.specs.Engine.{found, taken, given_of, CanPush, ForPoints, IsWellFormed};
+ghost use Rattle.markdown.specs.Resolving.{found, taken};
+ghost use Rattle.markdown.specs.Engine.{given_of, CanPush, ForPoints, IsWellFormed};
 ghost use Rattle.markdown.specs.Work.{IsInText, extended, answer_of, settled_all, settled_to, EndsClosed, TakesUp};
 ghost use Rattle.markdown.specs.View.{state_of, choice_at, taken_goal};
 

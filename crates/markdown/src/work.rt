@@ -1,16 +1,21 @@
 //! The work of a tokenizer: states are called until a range is used up, or until the reading has ended.
 
-ghost use Rattle.std.specs.Prelude.{◌≡◌, ◌≢◌, ◌+◌, ◌*◌, ◌^◌, ◌≤◌, ◌<◌, Contains, length, List, [], false, true, IfOk, IfErr, IsErrOf, IsTrue};
+ghost use Rattle.std.specs.Prelude.{◌≡◌, ◌≢◌, ◌+◌, ◌*◌, ◌^◌, ◌≤◌, ◌<◌, Contains, length, List, [], ◌∷◌, Option, false, true, IfOk, IfErr, IsErrOf, IsTrue};
 ghost use Rattle.markdown.specs.declared.waiting.Waits.TheVariants.{Nothing, End};
+ghost use Rattle.markdown.specs.declared.waiting.Phase.TheVariants.{Resolving, Resolved};
+ghost use Rattle.markdown.specs.declared.subtokenize.Subresult.{Subresult};
+ghost use Rattle.markdown.specs.Configuration.{at_configuration};
+ghost use Rattle.markdown.specs.Calls.{with_resolvers};
+ghost use Rattle.markdown.specs.Resolving.{done, refused, with_more};
 ghost use Rattle.markdown.specs.Text.{IsText};
 ghost use Rattle.markdown.specs.Sight.{sight_seen};
 ghost use Rattle.markdown.specs.Lawful.{IsCalled};
 ghost use Rattle.markdown.specs.Engine.{HoldsOf, CanPush, IsPushed, IsFlushed, IsRefused, HasOneEnd, AreCuts, IsRun, IsRunRefused, given_of};
-ghost use Rattle.markdown.specs.Work.{HoldsAll, LeadsAll, OnlyWorked, Stops, settled_all, settled_to, EndsClosed, TakesUp, taken_up};
+ghost use Rattle.markdown.specs.Work.{HoldsAll, LeadsAll, OnlyWorked, Stops, settled_all, settled_to, EndsClosed, TakesUp, taken_up, resolved_in, GoneOver};
 
 use crate::parser::ParseState;
 use crate::state::{Machine, Name, State};
-use crate::subtokenize::Subresult;
+use crate::subtokenize::{Subresult, joined};
 use crate::tokenizer::{Fault, Tokenizer};
 use markdown_base::event::{Event, Point};
 use std::alloc::{AllocError, Global};
@@ -23,8 +28,9 @@ pub fn reads_in_one_way<M: Machine>()
 /// Reads a whole document, cut at these places: pushes one range up to each, and one up to the end, and flushes.
 ///
 /// `start` is a state with which the machine may start. The cuts are places, each an index and a number in a tab, in an
-/// order that never decreases. `resolve` is false. The answer has no trace of the cuts. `Message` is answered exactly
-/// where the reading ends in that message; `Failed` never.
+/// order that never decreases. Where `resolve` is true, the registered resolvers then go over the events, as in a flush. The
+/// answer has no trace of the cuts. `Message` is answered exactly where the reading, or a resolver, ends in that message;
+/// `Failed` never.
 pub fn run<M: Machine>(
     alloc: Global,
     parse_state: &ParseState<M>,
@@ -35,9 +41,8 @@ pub fn run<M: Machine>(
     requires limit { 4 * length parse_state.now.bytes.now + 1 < 2 ^ 64 }
     requires start { Contains (M.rules parse_state.now.machine.now (given_of 4 parse_state.now)).starts start }
     requires cuts { AreCuts 4 parse_state.now.bytes.now cuts.now }
-    requires resolve { resolve ≡ false }
-    ensures ok { IfOk result (λ answer. IsRun (given_of 4 parse_state.now) (M.rules parse_state.now.machine.now) start answer.0.items answer.1) }
-    ensures message { (m : _) → IsErrOf result (Fault.Message m) → IsRunRefused (given_of 4 parse_state.now) (M.rules parse_state.now.machine.now) start m }
+    ensures ok { IfOk result (λ answer. IsRun (given_of 4 parse_state.now) (M.rules parse_state.now.machine.now) resolve start answer.0.items answer.1) }
+    ensures message { (m : _) → IsErrOf result (Fault.Message m) → IsRunRefused (given_of 4 parse_state.now) (M.rules parse_state.now.machine.now) resolve start m }
     ensures err { IfErr result (λ fault. fault ≢ Fault.Failed) }
 {
     let point = Point {
@@ -128,6 +133,59 @@ impl<'a, M: Machine> Tokenizer<'a, M> {
         }
     }
 
+    /// One resolver goes over the events; what it finds comes behind what was found.
+    fn resolve_next(&mut self, name: M::Resolver, sub: Subresult) -> Result<Subresult, Fault>
+        requires resolving { self.old.phase ≡ Resolving }
+        requires alone { self.old.choices ≡ [] }
+        requires invariant { (rest : List M.Resolver) × (M.rules self.old.machine self.old.given).resolves self.old.text (name ∷ rest) self.old.configuration }
+        ensures same { self.new ≡ at_configuration self.old self.new.configuration }
+        ensures ok { IfOk result (λ all. (more : Option Subresult) × ((M.rules self.old.machine self.old.given).resolver (sight_seen self.old) self.old.configuration name ≡ done self.new.configuration more) × (all ≡ with_more sub more)) }
+        ensures message { (m : _) → IsErrOf result (Fault.Message m) → (M.rules self.old.machine self.old.given).resolver (sight_seen self.old) self.old.configuration name ≡ refused m }
+        ensures err { IfErr result (λ fault. fault ≢ Fault.Failed) }
+    {
+        let alloc = self.allocator();
+        match self.parse_state().machine.resolve(alloc, self, name)? {
+            None => Ok(sub),
+            Some(more) => Ok(joined(sub, more)?),
+        }
+    }
+
+    /// Resolvers go over the events, in order, and the edits that wait are made.
+    fn resolve_each(&mut self, names: &[M::Resolver], sub: Subresult) -> Result<Subresult, Fault>
+        requires text { IsText self.old.given self.old.text }
+        requires resolving { self.old.phase ≡ Resolving }
+        requires alone { self.old.choices ≡ [] }
+        requires invariant { (M.rules self.old.machine self.old.given).resolves self.old.text names.now self.old.configuration }
+        ensures same { self.new ≡ at_configuration self.old self.new.configuration }
+        ensures ok { IfOk result (λ all. GoneOver (M.rules self.old.machine self.old.given) self.old names.now self.old.configuration sub self.new all) }
+        ensures message { (m : _) → IsErrOf result (Fault.Message m) → resolved_in (M.rules self.old.machine self.old.given) self.old names.now self.old.configuration sub ≡ refused m }
+        ensures err { IfErr result (λ fault. fault ≢ Fault.Failed) }
+    {
+        let mut found = sub;
+        for name in names {
+            found = self.resolve_next(*name, found)?;
+        }
+        self.make_edits()?;
+        Ok(found)
+    }
+
+    /// A flush resolves: the registered resolvers go over the events, in order, and the edits that wait are made.
+    fn resolve_all(&mut self, sub: Subresult) -> Result<Subresult, Fault>
+        requires text { IsText self.old.given self.old.text }
+        requires closed { self.old.closed ≡ true }
+        requires alone { self.old.choices ≡ [] }
+        requires invariant { (M.rules self.old.machine self.old.given).resolves self.old.text self.old.configuration.local.resolvers (with_resolvers self.old.configuration []) }
+        ensures same { self.new ≡ record self.old { configuration = self.new.configuration; phase = Resolved } }
+        ensures ok { IfOk result (λ all. GoneOver (M.rules self.old.machine self.old.given) self.old self.old.configuration.local.resolvers (with_resolvers self.old.configuration []) sub self.new all) }
+        ensures message { (m : _) → IsErrOf result (Fault.Message m) → resolved_in (M.rules self.old.machine self.old.given) self.old self.old.configuration.local.resolvers (with_resolvers self.old.configuration []) sub ≡ refused m }
+        ensures err { IfErr result (λ fault. fault ≢ Fault.Failed) }
+    {
+        let names = self.begin_resolving();
+        let answer = self.resolve_each(names.as_slice(), sub);
+        self.end_resolving();
+        answer
+    }
+
     /// Puts a range of the document at the end of the text, and reads until it is used up.
     ///
     /// `from` and `to` are places, each an index and a number in a tab. `from` denotes the text's end, and `to` is not before it.
@@ -165,16 +223,17 @@ impl<'a, M: Machine> Tokenizer<'a, M> {
 
     /// Feeds the end, and reads until the reading has ended.
     ///
-    /// The state is as for `push`. `resolve` is false. What is answered are the definitions that states found; `done` is false.
-    /// `Message` is answered exactly where the reading ends in that message. Afterwards, in each case, nothing more is
-    /// pushed or flushed.
+    /// The state is as for `push`. What is answered are the definitions that states found; `done` is false. Where `resolve` is
+    /// true, the resolvers that are registered then are taken out and go over the events, in order, the definitions that they
+    /// find are answered too, and the edits of `map` are made. One that is registered meanwhile stays registered, and is not
+    /// run. `Message` is answered exactly where the reading, or a resolver, ends in that message. Afterwards, in each case,
+    /// nothing more is pushed or flushed.
     pub fn flush(&mut self, state: State, resolve: bool) -> Result<Subresult, Fault>
-        requires resolve { resolve ≡ false }
         requires holds { self.old.closed ≡ false → HoldsOf (M.rules self.old.machine self.old.given) self.old state }
         ensures failed { IsTrue self.old.closed → IsErrOf result Fault.Failed × (self.new ≡ self.old) }
         ensures closed { self.new.closed ≡ true }
-        ensures ok { IfOk result (λ sub. IsFlushed (M.rules self.old.machine self.old.given) self.old state self.new sub) }
-        ensures message { (m : _) → IsErrOf result (Fault.Message m) → IsRefused (M.rules self.old.machine self.old.given) self.old state self.new m }
+        ensures ok { IfOk result (λ sub. IsFlushed (M.rules self.old.machine self.old.given) resolve self.old state self.new sub) }
+        ensures message { (m : _) → IsErrOf result (Fault.Message m) → IsRefused (M.rules self.old.machine self.old.given) resolve self.old state self.new m }
         ensures err { self.old.closed ≡ false → IfErr result (λ fault. fault ≢ Fault.Failed) }
     {
         if self.is_closed() {
@@ -182,13 +241,17 @@ impl<'a, M: Machine> Tokenizer<'a, M> {
         }
         self.tells();
         self.close();
-        let _ = resolve;
         match self.work(true, state) {
             Ok(answer) => match answer {
                 State::Error(message) => Err(Fault::Message(message)),
                 State::Ok => {
                     self.tells_events();
-                    Ok(self.take_definitions())
+                    let sub = self.take_definitions();
+                    if resolve {
+                        self.resolve_all(sub)
+                    } else {
+                        Ok(sub)
+                    }
                 }
                 State::Nok => unreachable!(),
                 State::Next(_) => unreachable!(),

@@ -6,6 +6,7 @@ use Rattle.markdown_base.specs.declared.state.State.TheVariants.{Next, Retry, Ok
 use Rattle.markdown.specs.declared.waiting.AttemptKind.TheVariants.{Check}
 use Rattle.markdown.specs.Text.{Given}
 use Rattle.markdown.specs.Rules.{Rules}
+use Rattle.markdown.specs.Plain.{plain}
 use Rattle.mdtables.specs.Rows.{enter, exit, consume, choose, Rows, row, before, at_byte, nothing, a_choice, StateRows, calls, no_cost, Table}
 use Rattle.mdtables.specs.RowInvariant.{table_rules}
 use Rattle.mdconstructs.specs.Tables.{LineByte, line_ending, other, line_byte, is_any, counts}
@@ -69,5 +70,6 @@ string_before = record { name = StringBefore; rows = string_before_rows; spans =
 abbrev pub back : Table LineByte Unit Unit
 back = record { class = line_byte; first = counts; states = text_start ∷ text_before ∷ data_start ∷ data_inside ∷ string_start ∷ data_at_break ∷ string_before ∷ []; starts = TextStart ∷ []; cost = no_cost }
 
+-- its rules: it registers no resolver, makes no edit, and links nothing
 abbrev pub back_rules : Given → Rules Unit Unit
-back_rules = table_rules back
+back_rules g = plain (table_rules back g)

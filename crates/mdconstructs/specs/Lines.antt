@@ -5,6 +5,7 @@ use Rattle.markdown_base.specs.declared.state.TheConstants.Name.{FlowStart, Para
 use Rattle.markdown_base.specs.declared.state.State.TheVariants.{Next, Retry, Ok}
 use Rattle.markdown.specs.Text.{Given}
 use Rattle.markdown.specs.Rules.{Rules}
+use Rattle.markdown.specs.Plain.{plain}
 use Rattle.mdtables.specs.Rows.{enter, exit, consume, Rows, row, before, at_byte, nothing, StateRows, calls, no_cost, Table}
 use Rattle.mdtables.specs.RowInvariant.{table_rules}
 use Rattle.mdconstructs.specs.Tables.{LineByte, line_ending, other, line_byte, is_other, counts}
@@ -30,5 +31,6 @@ paragraph_inside = record { name = ParagraphInside; rows = paragraph_inside_rows
 abbrev pub lines : Table LineByte Unit Unit
 lines = record { class = line_byte; first = counts; states = flow_start ∷ paragraph_inside ∷ []; starts = FlowStart ∷ []; cost = no_cost }
 
+-- its rules: it registers no resolver, makes no edit, and links nothing
 abbrev pub lines_rules : Given → Rules Unit Unit
-lines_rules = table_rules lines
+lines_rules g = plain (table_rules lines g)

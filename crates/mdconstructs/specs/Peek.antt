@@ -5,6 +5,7 @@ use Rattle.markdown_base.specs.declared.state.State.TheVariants.{Next, Retry, No
 use Rattle.markdown.specs.declared.waiting.AttemptKind.TheVariants.{Check}
 use Rattle.markdown.specs.Text.{Given}
 use Rattle.markdown.specs.Rules.{Rules}
+use Rattle.markdown.specs.Plain.{plain}
 use Rattle.mdtables.specs.Rows.{consume, choose, Rows, row, before, nothing, a_choice, StateRows, calls, no_cost, Table}
 use Rattle.mdtables.specs.RowInvariant.{table_rules}
 use Rattle.mdconstructs.specs.Tables.{LineByte, line_byte, counts}
@@ -28,5 +29,6 @@ text_before = record { name = TextBefore; rows = text_before_rows; spans = []; b
 abbrev pub peek : Table LineByte Unit Unit
 peek = record { class = line_byte; first = counts; states = text_start ∷ text_before ∷ data_start ∷ data_inside ∷ []; starts = TextStart ∷ []; cost = no_cost }
 
+-- its rules: it registers no resolver, makes no edit, and links nothing
 abbrev pub peek_rules : Given → Rules Unit Unit
-peek_rules = table_rules peek
+peek_rules g = plain (table_rules peek g)

@@ -5,6 +5,7 @@ use Rattle.markdown_base.specs.declared.state.State.TheVariants.{Next, Ok, Nok}
 use Rattle.markdown.specs.declared.waiting.AttemptKind.TheVariants.{Attempt}
 use Rattle.markdown.specs.Text.{Given}
 use Rattle.markdown.specs.Rules.{Rules}
+use Rattle.markdown.specs.Plain.{plain}
 use Rattle.mdtables.specs.Rows.{consume, choose, Rows, row, before, nothing, a_choice, StateRows, calls, no_cost, Table}
 use Rattle.mdtables.specs.RowInvariant.{table_rules}
 use Rattle.mdconstructs.specs.Tables.{LineByte, line_ending, other, line_byte, counts}
@@ -29,5 +30,6 @@ text_before = record { name = TextBefore; rows = text_before_rows; spans = []; b
 abbrev pub save : Table LineByte Unit Unit
 save = record { class = line_byte; first = counts; states = text_start ∷ text_before ∷ data_start ∷ data_inside ∷ []; starts = TextStart ∷ []; cost = no_cost }
 
+-- its rules: it registers no resolver, makes no edit, and links nothing
 abbrev pub save_rules : Given → Rules Unit Unit
-save_rules = table_rules save
+save_rules g = plain (table_rules save g)

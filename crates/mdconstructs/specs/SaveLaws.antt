@@ -1,5 +1,6 @@
 -- The table of the machine passes the test, so that the machine is lawful.
-use Rattle.std.proofs.Common.{◌≡◌, [], Option, Some, None, refl}
+use Rattle.std.proofs.Common.{◌≡◌, [], Option, Some, None, refl, true}
+use Rattle.mdtables.specs.PlainTables.{are_plain_states, IsPlainTable}
 use Rattle.mdtables.specs.RowTest.{misfits}
 use Rattle.mdtables.proofs.TableLaws.{IsFit, no-falls}
 use Rattle.mdconstructs.specs.Tables.{LineByte, line_ending, other}
@@ -12,3 +13,12 @@ fits previous (Some other) = refl
 
 pub save-fit : IsFit save
 save-fit = record { fits = fits; paid = (tt, (tt, (tt, (tt, tt)))); falls = no-falls }
+
+-- no state links or writes
+unlinked-rows : (previous current : Option LineByte) → are_plain_states save.states previous current ≡ true
+unlinked-rows previous None = refl
+unlinked-rows previous (Some line_ending) = refl
+unlinked-rows previous (Some other) = refl
+
+pub save-plain : IsPlainTable save
+save-plain = record { first = λ k h. h; rows = unlinked-rows }

@@ -8,7 +8,8 @@ ghost use Rattle.mdconstructs.specs.Lines.{flow_start, paragraph_inside};
 use crate::begin::begin;
 use markdown::event;
 use markdown::state::{Machine, MachineTypes, Name, State};
-use markdown::tokenizer::Tokenizer;
+use markdown::subtokenize::Subresult;
+use markdown::tokenizer::{Fault, Tokenizer};
 use mdtables::marker;
 use std::alloc::{AllocError, Global};
 
@@ -28,7 +29,10 @@ impl Machine for Lines {
     ghost use Rattle.mdtables.proofs.TableLaws as laws;
     ghost use Rattle.mdtables.proofs.CostLaws.{table-cost_pays};
     ghost use Rattle.mdconstructs.specs.Lines.{lines, lines_rules};
-    ghost use Rattle.mdconstructs.specs.LinesLaws.{lines-fit};
+    ghost use Rattle.mdconstructs.specs.LinesLaws.{lines-fit, lines-plain};
+    ghost use Rattle.mdtables.specs.RowInvariant.{table_rules};
+    ghost use Rattle.mdtables.proofs.PlainSteps.{table-keeps_plain};
+    ghost use Rattle.markdown.proofs.PlainLaws as plain;
 
     ghost rules = { λ _. lines_rules };
 
@@ -46,15 +50,27 @@ impl Machine for Lines {
         }
     }
 
-    ghost consumes_once = { λ _ g. laws.table-consumes_once lines g lines-fit };
+    /// Never called, as it registers no resolver.
+    fn resolve<'a>(
+        &self,
+        alloc: Global,
+        t: &mut Tokenizer<'a, Self>,
+        name: (),
+    ) -> Result<Option<Subresult>, Fault> {
+        Ok(None)
+    }
 
-    ghost only_adds = { λ _ g. laws.table-only_adds lines g lines-fit };
+    ghost consumes_once = { λ _ g. plain.consumes_once g (table_rules lines g) (laws.table-consumes_once lines g lines-fit) };
 
-    ghost ends_when_read = { λ _ g. laws.table-ends_when_read lines g lines-fit };
+    ghost only_adds = { λ _ g. plain.only_adds g (table_rules lines g) (laws.table-only_adds lines g lines-fit) };
 
-    ghost invariant_kept = { λ _ g. laws.table-invariant_kept lines g lines-fit };
+    ghost ends_when_read = { λ _ g. plain.ends_when_read g (table_rules lines g) (laws.table-ends_when_read lines g lines-fit) };
 
-    ghost cost_pays = { λ _ g. table-cost_pays lines g lines-fit };
+    ghost invariant_kept = { λ _ g. plain.invariant_kept g (table_rules lines g) (table-keeps_plain lines g lines-plain) (laws.table-invariant_kept lines g lines-fit) };
+
+    ghost cost_pays = { λ _ g. plain.cost_pays g (table_rules lines g) (table-cost_pays lines g lines-fit) };
+
+    ghost resolvers_keep = { λ _ g. plain.resolvers_keep g (table_rules lines g) };
 }
 
 /// A line begins.

@@ -8,7 +8,8 @@ ghost use Rattle.mdconstructs.specs.Peek.{text_start, text_before};
 use crate::begin::begin;
 use crate::reading::{data_inside, data_start};
 use markdown::state::{Machine, MachineTypes, Name, State};
-use markdown::tokenizer::Tokenizer;
+use markdown::subtokenize::Subresult;
+use markdown::tokenizer::{Fault, Tokenizer};
 use std::alloc::{AllocError, Global};
 
 /// Looks at the whole text, and then reads each line as data.
@@ -27,7 +28,10 @@ impl Machine for Peek {
     ghost use Rattle.mdtables.proofs.TableLaws as laws;
     ghost use Rattle.mdtables.proofs.CostLaws.{table-cost_pays};
     ghost use Rattle.mdconstructs.specs.Peek.{peek, peek_rules};
-    ghost use Rattle.mdconstructs.specs.PeekLaws.{peek-fit};
+    ghost use Rattle.mdconstructs.specs.PeekLaws.{peek-fit, peek-plain};
+    ghost use Rattle.mdtables.specs.RowInvariant.{table_rules};
+    ghost use Rattle.mdtables.proofs.PlainSteps.{table-keeps_plain};
+    ghost use Rattle.markdown.proofs.PlainLaws as plain;
 
     ghost rules = { λ _. peek_rules };
 
@@ -47,15 +51,27 @@ impl Machine for Peek {
         }
     }
 
-    ghost consumes_once = { λ _ g. laws.table-consumes_once peek g peek-fit };
+    /// Never called, as it registers no resolver.
+    fn resolve<'a>(
+        &self,
+        alloc: Global,
+        t: &mut Tokenizer<'a, Self>,
+        name: (),
+    ) -> Result<Option<Subresult>, Fault> {
+        Ok(None)
+    }
 
-    ghost only_adds = { λ _ g. laws.table-only_adds peek g peek-fit };
+    ghost consumes_once = { λ _ g. plain.consumes_once g (table_rules peek g) (laws.table-consumes_once peek g peek-fit) };
 
-    ghost ends_when_read = { λ _ g. laws.table-ends_when_read peek g peek-fit };
+    ghost only_adds = { λ _ g. plain.only_adds g (table_rules peek g) (laws.table-only_adds peek g peek-fit) };
 
-    ghost invariant_kept = { λ _ g. laws.table-invariant_kept peek g peek-fit };
+    ghost ends_when_read = { λ _ g. plain.ends_when_read g (table_rules peek g) (laws.table-ends_when_read peek g peek-fit) };
 
-    ghost cost_pays = { λ _ g. table-cost_pays peek g peek-fit };
+    ghost invariant_kept = { λ _ g. plain.invariant_kept g (table_rules peek g) (table-keeps_plain peek g peek-plain) (laws.table-invariant_kept peek g peek-fit) };
+
+    ghost cost_pays = { λ _ g. plain.cost_pays g (table_rules peek g) (table-cost_pays peek g peek-fit) };
+
+    ghost resolvers_keep = { λ _ g. plain.resolvers_keep g (table_rules peek g) };
 }
 
 /// Before the look: a check begins, which goes on with data either way.

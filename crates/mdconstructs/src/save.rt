@@ -9,7 +9,8 @@ ghost use Rattle.mdconstructs.specs.Save.{text_start, text_before};
 use crate::begin::begin;
 use crate::reading::{data_inside, data_start};
 use markdown::state::{Machine, MachineTypes, Name, State};
-use markdown::tokenizer::Tokenizer;
+use markdown::subtokenize::Subresult;
+use markdown::tokenizer::{Fault, Tokenizer};
 use std::alloc::{AllocError, Global};
 
 /// Passes the first line, saves its place right after the line ending, and tries something there, in vain. It goes back to
@@ -29,7 +30,10 @@ impl Machine for Save {
     ghost use Rattle.mdtables.proofs.TableLaws as laws;
     ghost use Rattle.mdtables.proofs.CostLaws.{table-cost_pays};
     ghost use Rattle.mdconstructs.specs.Save.{save, save_rules};
-    ghost use Rattle.mdconstructs.specs.SaveLaws.{save-fit};
+    ghost use Rattle.mdconstructs.specs.SaveLaws.{save-fit, save-plain};
+    ghost use Rattle.mdtables.specs.RowInvariant.{table_rules};
+    ghost use Rattle.mdtables.proofs.PlainSteps.{table-keeps_plain};
+    ghost use Rattle.markdown.proofs.PlainLaws as plain;
 
     ghost rules = { λ _. save_rules };
 
@@ -49,15 +53,27 @@ impl Machine for Save {
         }
     }
 
-    ghost consumes_once = { λ _ g. laws.table-consumes_once save g save-fit };
+    /// Never called, as it registers no resolver.
+    fn resolve<'a>(
+        &self,
+        alloc: Global,
+        t: &mut Tokenizer<'a, Self>,
+        name: (),
+    ) -> Result<Option<Subresult>, Fault> {
+        Ok(None)
+    }
 
-    ghost only_adds = { λ _ g. laws.table-only_adds save g save-fit };
+    ghost consumes_once = { λ _ g. plain.consumes_once g (table_rules save g) (laws.table-consumes_once save g save-fit) };
 
-    ghost ends_when_read = { λ _ g. laws.table-ends_when_read save g save-fit };
+    ghost only_adds = { λ _ g. plain.only_adds g (table_rules save g) (laws.table-only_adds save g save-fit) };
 
-    ghost invariant_kept = { λ _ g. laws.table-invariant_kept save g save-fit };
+    ghost ends_when_read = { λ _ g. plain.ends_when_read g (table_rules save g) (laws.table-ends_when_read save g save-fit) };
 
-    ghost cost_pays = { λ _ g. table-cost_pays save g save-fit };
+    ghost invariant_kept = { λ _ g. plain.invariant_kept g (table_rules save g) (table-keeps_plain save g save-plain) (laws.table-invariant_kept save g save-fit) };
+
+    ghost cost_pays = { λ _ g. plain.cost_pays g (table_rules save g) (table-cost_pays save g save-fit) };
+
+    ghost resolvers_keep = { λ _ g. plain.resolvers_keep g (table_rules save g) };
 }
 
 /// In the first line: each byte is passed, and after the line ending an attempt begins, which goes on with data either way.

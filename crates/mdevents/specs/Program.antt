@@ -1,5 +1,5 @@
 -- What the program writes.
-use Rattle.std.specs.Prelude.{[], ◌≡◌, ℕ, List, Option, take}
+use Rattle.std.specs.Prelude.{[], ◌≡◌, ℕ, List, false, Option, take}
 use Rattle.std.specs.Option.{option_map_or}
 use Rattle.std.specs.Io.KnownBytes.{Consumes, IsAtEnd, Appends}
 use Rattle.markdown_base.specs.declared.event.Event.{Event}
@@ -31,11 +31,11 @@ document bytes = given_by 4 bytes default_parse_options
 module _ {R D : Type 0} (rules : Given → Rules R D) (start : Name) (bytes : List ℕ) where
   -- a run of the machine over a document answers these events
   abbrev pub Gives : List Event → Type 0
-  Gives events = (sub : Subresult) × IsRun (document bytes) rules start events sub
+  Gives events = (sub : Subresult) × IsRun (document bytes) rules false start events sub
 
   -- a run of the machine over a document is refused with this message
   abbrev pub Refuses : Message → Type 0
-  Refuses m = IsRunRefused (document bytes) rules start m
+  Refuses m = IsRunRefused (document bytes) rules false start m
 
 -- the events of a document are those that its machine gives
 abbrev pub AreEventsOf : Which → List ℕ → List Event → Type 0

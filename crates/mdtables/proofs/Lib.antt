@@ -5,3 +5,4 @@ pub mod RowCalls
 pub mod RowLaws
 pub mod TableLaws
 pub mod Texts
+pub mod PlainSteps

@@ -66,6 +66,7 @@ acted_once act t = record {
   choices = chosen act t.configuration t.choices;
   calls = t.calls;
   closed = t.closed;
+  phase = t.phase;
 }
 
 module _ {M W R D : Type 0} (class : ℕ → W) (state : StateRows W R D) (b w : Option W) (t : Seen M R D) where
@@ -79,6 +80,7 @@ module _ {M W R D : Type 0} (class : ℕ → W) (state : StateRows W R D) (b w :
     choices = chooses acts (sight_seen t) t.configuration t.choices;
     calls = t.calls;
     closed = t.closed;
+    phase = t.phase;
   }
 
   -- the acts are allowed at the state
@@ -143,8 +145,8 @@ module _ {M W R D : Type 0} (class : ℕ → W) (state : StateRows W R D) (b w :
         done-at act p (acted acts).configuration h.far h.waited
         ∙ sym (does-then acts act (start_shape b w state) (sight_seen t) (sight_seen t) t.configuration before (start-sight classes t.given w (sight_seen t))) in
         two ∙ ap (acted_once act) one
-        ∙ ap (λ k. record { given = t.given; machine = t.machine; text = t.text; configuration = k; choices = chosen act (acted acts).configuration (acted acts).choices; calls = t.calls; closed = t.closed }) k''
-        ∙ ap (λ cs. record { given = t.given; machine = t.machine; text = t.text; configuration = (acted (acts ++ act ∷ [])).configuration; choices = cs; calls = t.calls; closed = t.closed })
+        ∙ ap (λ k. record { given = t.given; machine = t.machine; text = t.text; configuration = k; choices = chosen act (acted acts).configuration (acted acts).choices; calls = t.calls; closed = t.closed; phase = t.phase }) k''
+        ∙ ap (λ cs. record { given = t.given; machine = t.machine; text = t.text; configuration = (acted (acts ++ act ∷ [])).configuration; choices = cs; calls = t.calls; closed = t.closed; phase = t.phase })
         (sym (chooses-then acts act (sight_seen t) t.configuration t.choices))
 
     -- the acts of a row and its answer are what the state does
@@ -158,7 +160,7 @@ module _ {M W R D : Type 0} (class : ℕ → W) (state : StateRows W R D) (b w :
         ∙ ap (λ w. picked (state.rows b w) t.given (sight_seen t) t.configuration) is_class ∙ row in
         subst (λ r. DoesAll (step_of r (sight_seen t) t.configuration) t t' answer) (sym same) (record {
           answered = refl;
-          became = is ∙ ap (λ cs. record { given = t.given; machine = t.machine; text = t.text; configuration = (acted acts).configuration; choices = cs; calls = t.calls; closed = t.closed }) wait;
+          became = is ∙ ap (λ cs. record { given = t.given; machine = t.machine; text = t.text; configuration = (acted acts).configuration; choices = cs; calls = t.calls; closed = t.closed; phase = t.phase }) wait;
         })
 
 -- what holds where a machine is called is what its state asks for

@@ -2,3 +2,4 @@ pub mod Markers
 pub mod RowInvariant
 pub mod RowTest
 pub mod Rows
+pub mod PlainTables

@@ -17,6 +17,7 @@ use Rattle.markdown.specs.Configuration.{Configuration, Local, Choice, Saved, St
 use Rattle.markdown.specs.Sight.{Sight, sight, sight_seen, end_place}
 use Rattle.markdown.specs.Calls.{with_local}
 use Rattle.markdown.specs.Rules.{Rules}
+use Rattle.markdown.specs.Plain.{finds_nothing, NothingResolves}
 use Rattle.mdtables.specs.Rows.{Act, consume, choose, Rows, row, when, Row, Calls, StateRows, Table, class_of, step_of, row_at, named, table_step}
 use Rattle.mdtables.specs.RowTest.{is_void_last, Stage, byte_waits, Frame, first_stage, saves, fresh_at, fresh_fed, needs_choice, is_some, fits_choice, calls_at}
 
@@ -147,6 +148,7 @@ begun first t = record {
   choices = t.choices;
   calls = t.calls + 1;
   closed = t.closed;
+  phase = t.phase;
 }
 
 -- A state did a step: this is its answer, the step's choices wait above the old ones, and the configuration is the step's
@@ -271,4 +273,4 @@ module _ {W R D : Type 0} (table : Table W R D) where
 
 -- the rules of a table
 abbrev pub table_rules : {W R D : Type 0} → Table W R D → Given → Rules R D
-table_rules table g = record { step = table_step table g; holds = table_holds table g; cost = table_cost table g; reserve = table_reserve table g; starts = table.starts }
+table_rules table g = record { step = table_step table g; holds = table_holds table g; cost = table_cost table g; reserve = table_reserve table g; starts = table.starts; resolver = finds_nothing; resolves = NothingResolves }

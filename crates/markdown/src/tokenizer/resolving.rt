@@ -1,15 +1,18 @@
 //! Resolvers: which are registered, and what they may change.
 
-ghost use Rattle.std.specs.Prelude.{◌≡◌, OnOk, OnErr, []};
+ghost use Rattle.std.specs.Prelude.{◌≡◌, OnOk, OnErr, [], true};
 ghost use Rattle.std.specs.Borrow.{sem};
-ghost use Rattle.markdown.specs.declared.waiting.Phase.TheVariants.{Resolving};
+ghost use Rattle.markdown.specs.declared.waiting.Phase.TheVariants.{Resolving, Resolved};
 ghost use Rattle.markdown.specs.Configuration.{at_configuration};
+ghost use Rattle.markdown.specs.Resolving.{edits_made, CanBeEdited};
 ghost use Rattle.markdown.specs.Calls.{with_resolvers, registered, registered_before};
 
 use super::Tokenizer;
 use crate::state::MachineTypes;
+use crate::waiting::Phase;
 use markdown_base::event::Event;
 use std::alloc::AllocError;
+use std::mem::replace;
 
 impl<'a, M: MachineTypes> Tokenizer<'a, M> {
     /// Registers a resolver behind those that are there. One that is there stays where it is.
@@ -35,6 +38,36 @@ impl<'a, M: MachineTypes> Tokenizer<'a, M> {
             self.resolvers.insert(0, name)?;
         }
         Ok(())
+    }
+
+    /// A flush begins to resolve: the registered resolvers are taken out.
+    pub(crate) fn begin_resolving(&mut self) -> Vec<M::Resolver>
+        requires closed { self.old.closed ≡ true }
+        ensures names { result.items ≡ self.old.configuration.local.resolvers }
+        ensures rest { self.new ≡ record self.old { configuration = with_resolvers self.old.configuration []; phase = Resolving } }
+    {
+        let none = Vec::new(self.allocator());
+        self.phase = Phase::Resolving;
+        replace(&mut self.resolvers, none)
+    }
+
+    /// The edits that wait are made. Where memory is refused, nothing changes.
+    pub(crate) fn make_edits(&mut self) -> Result<(), AllocError>
+        requires resolving { self.old.phase ≡ Resolving }
+        requires alone { self.old.choices ≡ [] }
+        requires can { CanBeEdited self.old.configuration }
+        ensures ok { OnOk result (self.new ≡ at_configuration self.old (edits_made self.old.configuration)) }
+        ensures err { OnErr result (self.new ≡ self.old) }
+    {
+        self.map.consume(&mut self.events)
+    }
+
+    /// A flush has resolved.
+    pub(crate) fn end_resolving(&mut self)
+        requires closed { self.old.closed ≡ true }
+        ensures { self.new ≡ record self.old { phase = Resolved } }
+    {
+        self.phase = Phase::Resolved;
     }
 }
 

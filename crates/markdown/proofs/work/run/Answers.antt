@@ -51,15 +51,15 @@ push-requires-2-clause-holds g c =
     let bytes = c.args.parse_state.now.bytes.now in let options = c.args.parse_state.now.options.now in let m = c.args.parse_state.now.machine.now in
     λ _. run-holds i.rules bytes options m c.args.start c.loop-cut.from (drop c.loop-cut.cut-index c.args.cuts.now) c.loop-cut.tokenizer c.loop-cut.state c.loop-cut.invariant
 
-pub flush-requires-clause-holds : goal.flush-requires-clause-holds
-flush-requires-clause-holds g c =
+pub flush-requires : goal.flush-requires
+flush-requires g c =
     let i = g.M.Machine in
     let bytes = c.args.parse_state.now.bytes.now in let options = c.args.parse_state.now.options.now in let m = c.args.parse_state.now.machine.now in
     let t = c.loop-cut.tokenizer in let cut : ℕ × ℕ = (length bytes, 0) in
     let r = run-last i.rules bytes options m c.args.start c.loop-cut.from (drop c.loop-cut.cut-index c.args.cuts.now) t c.loop-cut.state c.loop-cut.invariant in
     let u = c.push-2.new.self in
     let e = run-pushed i.rules bytes options m c.args.start c.loop-cut.from (length bytes, 0) [] t c.loop-cut.state r u c.in_ok-state-2.state c.in_ok-state-2.ensures.ok in
-    λ _. run-holds i.rules bytes options m c.args.start (length bytes, 0) [] u c.in_ok-state-2.state e
+    record { holds = λ _. run-holds i.rules bytes options m c.args.start (length bytes, 0) [] u c.in_ok-state-2.state e }
 
 pub returns-in_err-sub-clause-message : goal.returns-in_err-sub-clause-message
 returns-in_err-sub-clause-message g c =
@@ -71,7 +71,7 @@ returns-in_err-sub-clause-message g c =
     let e = run-pushed i.rules bytes options m c.args.start c.loop-cut.from (length bytes, 0) [] t c.loop-cut.state r u c.in_ok-state-2.state c.in_ok-state-2.ensures.ok in
     λ message is.
     let from = rw is at c.from_residual-in_err-sub.ensures.1 in
-    run-refused i.rules bytes options m c.args.start u c.in_ok-state-2.state e c.flush.new.self message (c.in_err-sub.ensures.message message (cc))
+    run-refused i.rules bytes options m c.args.start u c.in_ok-state-2.state e c.args.resolve c.flush.new.self message (c.in_err-sub.ensures.message message (cc))
 
 pub returns-in_err-sub-clause-err : goal.returns-in_err-sub-clause-err
 returns-in_err-sub-clause-err g c =
@@ -92,4 +92,4 @@ returns-clause-ok g c =
     let u = c.push-2.new.self in
     let e = run-pushed i.rules bytes options m c.args.start c.loop-cut.from (length bytes, 0) [] t c.loop-cut.state r u c.in_ok-state-2.state c.in_ok-state-2.ensures.ok in
     let f = c.in_ok-sub.ensures in
-    run-flushed i.rules bytes options m c.args.start u c.in_ok-state-2.state e c.flush.new.self c.into_events.result.items c.in_ok-sub.sub f.ok c.into_events.ensures
+    run-flushed i.rules bytes options m c.args.start u c.in_ok-state-2.state e c.args.resolve c.flush.new.self c.into_events.result.items c.in_ok-sub.sub f.ok c.into_events.ensures

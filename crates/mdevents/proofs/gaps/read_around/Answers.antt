@@ -108,8 +108,8 @@ push-requires-3-clause-holds g c =
     let s4 = stands-gap rules bytes c.args.from c.args.to r.third c.args.later t2 t3 t4 a1 a3 c.in-Ok-push.ensures.ok s3 r.later_fits c.in_ok-define_skip-2.ensures.ok in
     λ _. s4.held
 
-pub flush-requires-clause-holds : goal.flush-requires-clause-holds
-flush-requires-clause-holds g c =
+pub flush-requires : goal.flush-requires
+flush-requires g c =
     let rules = g.M.Machine.rules in
     let bytes = c.args.parse_state.now.bytes.now in let options = c.args.parse_state.now.options.now in let m = c.args.parse_state.now.machine.now in let start = c.args.start in
     let t = c.new-tokenizer.result in let r = c.requires.ranges in let p = point 1 1 0 0 in
@@ -123,4 +123,4 @@ flush-requires-clause-holds g c =
     let t4 = c.define_skip-2.new.self in
     let s4 = stands-gap rules bytes c.args.from c.args.to r.third c.args.later t2 t3 t4 a1 a3 c.in-Ok-push.ensures.ok s3 r.later_fits c.in_ok-define_skip-2.ensures.ok in
     let s5 = stands-next rules bytes c.args.last (length bytes, 0) (after_gap bytes r.third c.args.later) r.fourth (document_end 4 bytes) t4 a3 s4 r.fourth_at (end-at bytes) c.push-3.new.self c.in-Ok-push-2.state c.in-Ok-push-2.ensures.ok in
-    λ _. s5.held
+    record { holds = λ _. s5.held }

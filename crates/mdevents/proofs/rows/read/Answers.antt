@@ -50,12 +50,12 @@ push-requires-2-clause-holds g c =
     let bytes = c.args.parse_state.now.bytes.now in let options = c.args.parse_state.now.options.now in let m = c.args.parse_state.now.machine.now in
     λ _. run-holds i.rules bytes options m c.args.start c.loop-cut.from (drop c.loop-cut.cut-index c.args.cuts.now) c.loop-cut.tokenizer c.loop-cut.state c.loop-cut.invariant
 
-pub flush-requires-clause-holds : goal.flush-requires-clause-holds
-flush-requires-clause-holds g c =
+pub flush-requires : goal.flush-requires
+flush-requires g c =
     let i = g.M.Machine in
     let bytes = c.args.parse_state.now.bytes.now in let options = c.args.parse_state.now.options.now in let m = c.args.parse_state.now.machine.now in
     let t = c.loop-cut.tokenizer in let cut : ℕ × ℕ = (length bytes, 0) in
     let r = run-last i.rules bytes options m c.args.start c.loop-cut.from (drop c.loop-cut.cut-index c.args.cuts.now) t c.loop-cut.state c.loop-cut.invariant in
     let u = c.push-2.new.self in
     let e = run-pushed i.rules bytes options m c.args.start c.loop-cut.from (length bytes, 0) [] t c.loop-cut.state r u c.in-Ok-push.next c.in-Ok-push.ensures.ok in
-    λ _. run-holds i.rules bytes options m c.args.start (length bytes, 0) [] u c.in-Ok-push.next e
+    record { holds = λ _. run-holds i.rules bytes options m c.args.start (length bytes, 0) [] u c.in-Ok-push.next e }
