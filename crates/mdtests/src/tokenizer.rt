@@ -52,3 +52,32 @@ fn spans_and_choices_begin(rt: HostRuntime) -> Result<(), AllocError> {
     assert_eq!(rt; tokenizer.events()[1].link, Some(LINK));
     Ok(())
 }
+
+/// The types of a machine with resolvers, and no machine.
+#[derive(Drop)]
+struct Numbered {}
+
+impl MachineTypes for Numbered {
+    type Resolver = u8;
+
+    type Document = ();
+}
+
+#[test]
+fn resolvers_stand_once_in_order(rt: HostRuntime) -> Result<(), AllocError> {
+    let options = ParseOptions::default();
+    let parse_state = ParseState {
+        bytes: b"a",
+        options: &options,
+        machine: &Numbered {},
+    };
+    let mut tokenizer = Tokenizer::new(rt.alloc(), START, &parse_state);
+    tokenizer.register_resolver(1)?;
+    tokenizer.register_resolver_before(2)?;
+    tokenizer.register_resolver_before(1)?;
+    tokenizer.register_resolver(2)?;
+    assert_eq!(rt; tokenizer.resolvers().len(), 2);
+    assert_eq!(rt; tokenizer.resolvers()[0], 2);
+    assert_eq!(rt; tokenizer.resolvers()[1], 1);
+    Ok(())
+}
