@@ -3,11 +3,14 @@ pub mod Back
 pub mod BackLaws
 pub mod Deep
 pub mod DeepLaws
+pub mod Fail
+pub mod FailLaws
 pub mod Lines
 pub mod LinesLaws
 pub mod Peek
 pub mod PeekLaws
 pub mod Reading
+pub mod Refusal
 pub mod Save
 pub mod SaveLaws
 pub mod Tables
