@@ -1,3 +1,3 @@
 pub mod CutPlaces
-pub mod GapStanding
 pub mod OptionWords
+pub mod Standing

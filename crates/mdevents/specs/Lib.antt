@@ -1,7 +1,7 @@
 pub mod Failure
-pub mod GapRows
 pub mod Printed
 pub mod Program
+pub mod Ranges
 pub mod Reading
 pub mod Words
 pub mod WordsInner

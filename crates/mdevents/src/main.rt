@@ -11,10 +11,10 @@ ghost use Rattle.mdevents.specs.Words.{CanCut};
 mod failure;
 #[cfg(test)]
 mod fakes;
-#[cfg(test)]
-mod gaps;
 mod print;
 mod program;
+#[cfg(test)]
+mod ranges;
 mod read;
 #[cfg(test)]
 mod rows;
