@@ -1,12 +1,12 @@
 -- What words choose, word by word, is what the options that they spell choose.
-use Rattle.std.proofs.Common.{◌≡◌, ◌++◌, ℕ, List, [], ◌∷◌, Option, Some, None, true, false, Bool, refl, sym, ap, subst, ◌∙◌}
-use Rattle.std.specs.Prelude.{codes, filter_map}
+use Rattle.std.proofs.Common.{◌≡◌, ◌++◌, ℕ, List, [], ◌∷◌, Option, Some, None, true, false, Bool, refl, sym, ◌∙◌}
+use Rattle.std.specs.Prelude.{codes}
 use Rattle.std.specs.Option.{option_and_then, option_map}
 use Rattle.std.specs.Str.{bytes_eq}
 use Rattle.std.proofs.lemmas.Slice.Eq.{bytes_eq-Decides}
 use Rattle.mdevents.specs.declared.words.Choice.{Choice}
 use Rattle.mdevents.specs.declared.words.Which.{Which}
-use Rattle.mdevents.specs.Words.{Spelled, cut, machine, number_of, which_of, option_of, options_of, machine_in, at_most_one, chosen_by, chosen}
+use Rattle.mdevents.specs.Words.{Spelled, cut, machine, number_of, which_of, options_of, chosen_by, chosen}
 use Rattle.mdevents.specs.WordsInner.{chosen_after}
 
 -- the options that came before

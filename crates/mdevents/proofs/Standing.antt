@@ -8,8 +8,8 @@ use Rattle.markdown_base.specs.declared.state.Name.{Name}
 use Rattle.markdown_base.specs.declared.state.State.{State}
 use Rattle.markdown_base.specs.declared.state.State.TheVariants.{Next}
 use Rattle.markdown_base.specs.Virtual.{point}
-use Rattle.markdown_base.specs.Places.{point_at, is_upto, denotes_same, stands_before}
-use Rattle.markdown.specs.Text.{Given, Text, Piece, FitsAfter, CanFollow, pushed, passed, empty_text, followed_by, followed_by_all}
+use Rattle.markdown_base.specs.Places.{point_at, denotes_same, stands_before}
+use Rattle.markdown.specs.Text.{Given, Text, Piece, FitsAfter, CanFollow, passed, empty_text, followed_by, followed_by_all}
 use Rattle.markdown.specs.Configuration.{Seen, start_seen, start_configuration}
 use Rattle.markdown.specs.Rules.{Rules}
 use Rattle.markdown.specs.Lawful.{KeepsInvariant}
@@ -17,7 +17,7 @@ use Rattle.markdown.specs.Engine.{CanPush, IsPushed, given_by}
 use Rattle.markdown.specs.Work.{extended}
 use Rattle.markdown.proofs.Runs.{start-is-text, found-place}
 use Rattle.markdown.proofs.Working.{holds-on}
-use Rattle.mdevents.specs.Ranges.{after_gap, IsGapFrom, after_any, LeadsFrom, FollowOn}
+use Rattle.mdevents.specs.Ranges.{after_gap, IsGapFrom, FollowOn}
 
 -- a range with the gap in front of it
 abbrev pub AfterGap : Type 0

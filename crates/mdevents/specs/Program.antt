@@ -1,5 +1,5 @@
 -- What the program writes.
-use Rattle.std.specs.Prelude.{[], ◌≡◌, ℕ, List, false, Option, take}
+use Rattle.std.specs.Prelude.{[], ◌≡◌, ℕ, List, false, Option, Some, Result, Ok, take}
 use Rattle.std.specs.Option.{option_map_or}
 use Rattle.std.specs.Io.KnownBytes.{Consumes, IsAtEnd, Appends}
 use Rattle.markdown_base.specs.declared.event.Event.{Event}
@@ -12,6 +12,7 @@ use Rattle.markdown.specs.Text.{Given}
 use Rattle.markdown.specs.Rules.{Rules}
 use Rattle.markdown.specs.Engine.{given_by, IsRun, IsRunRefused}
 use Rattle.markdown.specs.Cuts.{cuts_every}
+use Rattle.mdevents.specs.declared.failure.Failure.{Failure}
 use Rattle.mdevents.specs.declared.words.Choice.{Choice}
 use Rattle.mdevents.specs.declared.words.Which.{Which}
 use Rattle.mdevents.specs.declared.words.Which.TheVariants.{Lines, Peek, Deep, Back, Save}
@@ -75,15 +76,21 @@ pub record ArePrintedEvents (which : Which) (old new : Option (List ℕ)) (text 
   pub are : AreEventsOf which bytes events
   pub lines : text ≡ printed_events events
 
--- The printed events of what was read were written, and nothing else
-pub record Prints (which : Which) (reader_old reader_new writer_old writer_new : Option (List ℕ)) : Type 0 where
-  pub text : List ℕ
-  pub printed : ArePrintedEvents which reader_old reader_new text
-  pub written : Appends writer_old writer_new text
+module _ {A B : Type 0} (which : Which) (remaining : A → Option (List ℕ)) (reader_old reader_new : A) (contents : B → Option (List ℕ)) (writer_old writer_new : B) where
+  -- The printed events of what was read were written, and nothing else
+  pub record Prints : Type 0 where
+    pub text : List ℕ
+    pub printed : ArePrintedEvents which (remaining reader_old) (remaining reader_new) text
+    pub written : Appends (contents writer_old) (contents writer_new) text
 
--- A beginning of the printed events of what was read was written, and nothing else
-pub record PrintsFront (which : Which) (reader_old reader_new writer_old writer_new : Option (List ℕ)) : Type 0 where
-  pub text : List ℕ
-  pub printed : ArePrintedEvents which reader_old reader_new text
-  pub count : ℕ
-  pub written : Appends writer_old writer_new (take count text)
+  -- A beginning of the printed events of what was read was written, and nothing else
+  pub record PrintsFront : Type 0 where
+    pub text : List ℕ
+    pub printed : ArePrintedEvents which (remaining reader_old) (remaining reader_new) text
+    pub count : ℕ
+    pub written : Appends (contents writer_old) (contents writer_new) (take count text)
+
+-- something was chosen, and what it prints was written
+abbrev pub PrintsChosen : {A B : Type 0} → Result (Option Choice) Failure → (remaining : A → Option (List ℕ)) (reader_old reader_new : A) (contents : B → Option (List ℕ)) (writer_old writer_new : B) → Type 0
+PrintsChosen choice remaining reader_old reader_new contents writer_old writer_new =
+    (c : Choice) × (choice ≡ Ok (Some c)) × Prints c.machine remaining reader_old reader_new contents writer_old writer_new

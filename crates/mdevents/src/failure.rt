@@ -51,23 +51,8 @@ impl From<AllocError> for Failure {
 #[cfg(test)]
 mod tests {
     use super::*;
-    use markdown_base::message::Place;
-    use markdown_base::owned::{Boxed, OwnedText};
-    use markdown_base::unist::Point;
-    use std::alloc::Global;
+    use crate::fakes::message;
     use std::test::Fail;
-
-    fn message(alloc: Global) -> Result<Message, AllocError> {
-        let place = Place::Point(Point::new(1, 2, 1));
-        let rule = OwnedText::from_string(String::from_str(alloc, "r")?);
-        let source = OwnedText::from_string(String::from_str(alloc, "markdown")?);
-        Ok(Message {
-            place: Some(Boxed::from_box(Box::new(alloc, place)?)),
-            reason: OwnedText::from_string(String::from_str(alloc, "x")?),
-            rule_id: Boxed::from_box(Box::new(alloc, rule)?),
-            source: Boxed::from_box(Box::new(alloc, source)?),
-        })
-    }
 
     #[test]
     fn shows_lines(rt: HostRuntime) -> Result<(), Fail> {

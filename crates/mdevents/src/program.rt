@@ -38,12 +38,12 @@ pub fn write_events<R: Read, W: Write>(
     choice: &Choice,
 ) -> Result<(), Failure>
     requires { CanCut choice.now }
-    ensures written { OnOk result (Prints choice.now.machine (R.remaining reader.old) (R.remaining reader.new) (W.contents writer.old) (W.contents writer.new)) }
+    ensures written { OnOk result (Prints choice.now.machine R.remaining reader.old reader.new W.contents writer.old writer.new) }
     ensures too_long { IsErrOf result Failure.TooLong → ReadsPastLimit (R.remaining reader.old) (R.remaining reader.new) }
     ensures within_else { IfErr result (λ failure. failure ≢ Failure.TooLong → ReadsWithinLimit (R.remaining reader.old) (R.remaining reader.new)) }
     ensures ready { ¬ IsErrOf result Failure.NotReady }
     ensures message { (m : _) → IsErrOf result (Failure.Message m) → IsReadAndRefused choice.now.machine (R.remaining reader.old) (R.remaining reader.new) m }
-    ensures cut_short { IsErrOf result Failure.Write → PrintsFront choice.now.machine (R.remaining reader.old) (R.remaining reader.new) (W.contents writer.old) (W.contents writer.new) }
+    ensures cut_short { IsErrOf result Failure.Write → PrintsFront choice.now.machine R.remaining reader.old reader.new W.contents writer.old writer.new }
     ensures nothing { IfErr result (λ failure. failure ≢ Failure.Write → Keeps (W.contents writer.old) (W.contents writer.new)) }
 {
     let bytes = read_to_end(alloc, reader)?;
@@ -140,70 +140,140 @@ mod tests {
     const FIRST_AND_REST: &str =
         "enter Data 1:1 (0+0)\nexit Data 2:1 (2+0)\nenter Data 2:1 (2+0)\nexit Data 3:2 (5+0)\n";
 
+    const LONG_PARAGRAPH: &str =
+        "enter Paragraph 1:1 (0+0)\nenter Data 1:1 (0+0)\nexit Data 1:100001 (100000+0)\nexit Paragraph 1:100001 (100000+0)\n";
+
+    const LONG_DATA: &str = "enter Data 1:1 (0+0)\nexit Data 1:100001 (100000+0)\n";
+
+    const DEEP_DATA: &str = "enter Data 1:1 (0+0)\nexit Data 1:2001 (2000+0)\n";
+
+    const LONG_SECOND_LINE: &str = "enter Data 2:1 (1+0)\nexit Data 2:100000 (100000+0)\n";
+
     const SECOND_LINE: &str = "enter Data 2:1 (2+0)\nexit Data 2:4 (5+0)\n";
 
-    #[test]
-    fn writes_the_events(rt: HostRuntime) -> Result<(), Fail> {
-        for (document, cut, machine, want) in [
-            ("a\r\nb", None, Which::Lines, TWO_LINES),
-            ("a\r\nb", Some(1), Which::Lines, TWO_LINES),
-            ("a\r\nb", Some(2), Which::Lines, TWO_LINES),
-            ("", None, Which::Lines, ""),
-            ("", Some(1), Which::Lines, ""),
-            ("\ta", None, Which::Lines, AFTER_TAB),
-            ("\ta", Some(2), Which::Lines, AFTER_TAB),
-            ("a\nb\nc", None, Which::Peek, THREE_DATA),
-            ("a\nb\nc", Some(1), Which::Peek, THREE_DATA),
-            ("", None, Which::Peek, ""),
-            ("abc", None, Which::Deep, ONE_DATA),
-            ("abc", Some(1), Which::Deep, ONE_DATA),
-            ("ab", None, Which::Deep, SHORT_DATA),
-            ("a\nb\nc", None, Which::Back, FIRST_AND_REST),
-            ("a\nb\nc", Some(1), Which::Back, FIRST_AND_REST),
-            ("a\n> b", None, Which::Save, SECOND_LINE),
-            ("a\n", None, Which::Save, ""),
-        ] {
-            let mut reader = document.as_bytes();
-            let mut written = Vec::new(rt.alloc());
+    /// Whether this is written for a document, uncut and cut after each virtual byte or two.
+    fn writes(alloc: Global, document: &[u8], machine: Which, want: &str) -> bool {
+        for cut in [None, Some(1), Some(2)] {
+            let mut reader = document;
+            let mut written = Vec::new(alloc);
             let choice = Choice { cut, machine };
-            let result = write_events(rt.alloc(), &mut reader, &mut written, &choice);
-            assert!(rt; result.is_ok());
-            assert_eq!(rt; written.as_slice(), want.as_bytes());
+            let result = write_events(alloc, &mut reader, &mut written, &choice);
+            if result.is_err() || written.as_slice() != want.as_bytes() {
+                return false;
+            }
         }
+        true
+    }
+
+    #[test]
+    fn writes_the_events(rt: HostRuntime) {
+        for (document, machine, want) in [
+            ("a\r\nb", Which::Lines, TWO_LINES),
+            ("", Which::Lines, ""),
+            ("\ta", Which::Lines, AFTER_TAB),
+            ("a\nb\nc", Which::Peek, THREE_DATA),
+            ("ab", Which::Peek, SHORT_DATA),
+            ("", Which::Peek, ""),
+            ("abc", Which::Deep, ONE_DATA),
+            ("ab", Which::Deep, SHORT_DATA),
+            ("", Which::Deep, ""),
+            ("a\nb\nc", Which::Back, FIRST_AND_REST),
+            ("ab", Which::Back, SHORT_DATA),
+            ("", Which::Back, ""),
+            ("a\n> b", Which::Save, SECOND_LINE),
+            ("a\n", Which::Save, ""),
+            ("ab", Which::Save, ""),
+            ("", Which::Save, ""),
+        ] {
+            assert!(rt;
+                writes(rt.alloc(), document.as_bytes(), machine, want),
+                "{document}"
+            );
+        }
+    }
+
+    #[test]
+    fn cuts_around_a_carriage_return_leave_no_trace(rt: HostRuntime) -> Result<(), Fail> {
+        let text = b"a\r\nb";
+        let cuts = [(1, 0), (2, 0)];
+        let events = read_by(rt.alloc(), &Lines {}, Name::FlowStart, text, &cuts)?;
+        let written = printed(rt.alloc(), events.as_slice())?;
+        assert_eq!(rt; written.as_str(), TWO_LINES);
+        Ok(())
+    }
+
+    /// A document of a byte, and then another one so often that there are so many in all.
+    fn long(alloc: Global, first: u8, rest: u8, count: usize) -> Result<Vec<u8>, AllocError> {
+        let mut bytes = Vec::new(alloc);
+        bytes.push(first)?;
+        bytes.resize(count, rest)?;
+        Ok(bytes)
+    }
+
+    #[test]
+    fn writes_the_events_of_long_documents(rt: HostRuntime) -> Result<(), Fail> {
+        for (first, count, machine, want) in [
+            (b'a', 100_000, Which::Lines, LONG_PARAGRAPH),
+            (b'a', 100_000, Which::Peek, LONG_DATA),
+            (b'a', 2000, Which::Deep, DEEP_DATA),
+            (b'a', 100_000, Which::Back, LONG_DATA),
+            (b'a', 100_000, Which::Save, ""),
+            (b'\n', 100_000, Which::Save, LONG_SECOND_LINE),
+        ] {
+            let document = long(rt.alloc(), first, b'a', count)?;
+            assert!(rt; writes(rt.alloc(), document.as_slice(), machine, want));
+        }
+        Ok(())
+    }
+
+    #[test]
+    fn writes_the_events_of_many_lines(rt: HostRuntime) -> Result<(), Fail> {
+        let document = long(rt.alloc(), b'\n', b'\n', 50_000)?;
+        let mut reader = document.as_slice();
+        let mut written = Vec::new(rt.alloc());
+        let result = write_events(rt.alloc(), &mut reader, &mut written, &UNCUT);
+        assert!(rt; result.is_ok());
+        let written = written.as_slice();
+        let lines = written.iter().filter(|byte| **byte == b'\n').count();
+        assert_eq!(rt; lines, 100_000);
+        let first = b"enter LineEnding 1:1 (0+0)\n".as_slice();
+        assert!(rt; written.starts_with(first));
+        let last = b"\nexit LineEnding 50001:1 (50000+0)\n".as_slice();
+        assert!(rt; written.ends_with(last));
+        Ok(())
+    }
+
+    #[test]
+    fn many_cuts(rt: HostRuntime) -> Result<(), Fail> {
+        let bytes = long(rt.alloc(), b'a', b'a', 100_000)?;
+        assert!(rt; bytes.len() <= 100_000);
+        let cuts = cuts_every(rt.alloc(), bytes.as_slice(), 1)?;
+        assert_eq!(rt; cuts.len(), 99_999);
+        assert_eq!(rt; cuts.first(), Some(&(1, 0)));
+        assert_eq!(rt; cuts.last(), Some(&(99_999, 0)));
         Ok(())
     }
 
     #[test]
     fn answers_the_first_failure(rt: HostRuntime) -> Result<(), Fail> {
         for (good_reads, good_writes) in [(0, 9), (1, 9), (2, 9), (2, 0)] {
-            let mut reader = FailingReader {
-                rest: b"a\r\nb",
-                good_reads,
-            };
-            let mut writer = FailingWriter {
-                written: Vec::new(rt.alloc()),
-                most: 100,
-                good_writes,
-            };
+            let mut reader = FailingReader::new(b"a\r\nb", good_reads);
+            let mut writer = FailingWriter::new(100, good_writes);
             match write_events(rt.alloc(), &mut reader, &mut writer, &UNCUT) {
                 Err(Failure::Read) => assert!(rt; good_reads < 3),
                 _ => assert!(rt; false, "after {good_reads} reads"),
             }
-            assert!(rt; writer.written.is_empty());
+            assert!(rt; writer.written.text().is_empty());
         }
         for good_writes in 0..5 {
             let mut reader = b"a\r\nb".as_slice();
-            let mut writer = FailingWriter {
-                written: Vec::new(rt.alloc()),
-                most: 100,
-                good_writes,
-            };
+            let mut writer = FailingWriter::new(100, good_writes);
             match write_events(rt.alloc(), &mut reader, &mut writer, &UNCUT) {
                 Ok(()) => assert!(rt; good_writes >= 3),
                 Err(Failure::Write) => assert!(rt; good_writes < 3),
                 Err(_) => assert!(rt; false, "after {good_writes} writes"),
             }
-            let written = writer.written.as_slice();
+            let written = writer.written.text();
             assert_eq!(rt; written.len(), TWO_LINES.len().min(100 * good_writes));
             assert!(rt; TWO_LINES.as_bytes().starts_with(written));
         }

@@ -65,10 +65,7 @@ mod tests {
     #[test]
     fn reads_to_the_end(rt: HostRuntime) -> Result<(), Fail> {
         for good_reads in 0..5 {
-            let mut reader = FailingReader {
-                rest: b"a\r\nb",
-                good_reads,
-            };
+            let mut reader = FailingReader::new(b"a\r\nb", good_reads);
             match read_to_end(rt.alloc(), &mut reader) {
                 Ok(all) => {
                     assert!(rt; good_reads >= 3);

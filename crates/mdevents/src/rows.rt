@@ -126,26 +126,6 @@ fn byte_before_is_of_the_push_before(rt: HostRuntime) -> Result<(), Fail> {
 }
 
 #[test]
-fn empty_range_calls_no_state(rt: HostRuntime) -> Result<(), Fail> {
-    let options = ParseOptions::default();
-    let parse_state = ParseState {
-        bytes: b"a\r\nb",
-        options: &options,
-        machine: &Lines {},
-    };
-    let cuts = [(1, 0), (2, 0), (2, 0)];
-    let seen = read(rt.alloc(), &parse_state, Name::FlowStart, &cuts)?;
-    assert_eq!(rt; seen.calls.get(0), seen.calls.get(1));
-    assert_eq!(rt; seen.calls.get(0), seen.calls.get(2));
-    let text = printed(rt.alloc(), seen.events.as_slice())?;
-    assert_eq!(rt;
-        text.as_str(),
-        "enter Paragraph 1:1 (0+0)\nenter Data 1:1 (0+0)\nexit Data 1:2 (1+0)\nexit Paragraph 1:2 (1+0)\nenter LineEnding 1:2 (1+0)\nexit LineEnding 2:1 (3+0)\nenter Paragraph 2:1 (3+0)\nenter Data 2:1 (3+0)\nexit Data 2:2 (4+0)\nexit Paragraph 2:2 (4+0)\n"
-    );
-    Ok(())
-}
-
-#[test]
 fn look_ahead_goes_back(rt: HostRuntime) -> Result<(), Fail> {
     let seen = read_by(rt.alloc(), &Peek {}, Name::TextStart, b"a\nb\nc", 2)?;
     assert_eq!(rt; seen.events.len(), 10);

@@ -37,14 +37,10 @@ mod tests {
             (2, 0, ""),
             (0, 9, ""),
         ] {
-            let mut writer = FailingWriter {
-                written: Vec::new(rt.alloc()),
-                most,
-                good_writes,
-            };
+            let mut writer = FailingWriter::new(most, good_writes);
             let is_ok = write_all(&mut writer, b"abc").is_ok();
             assert_eq!(rt; is_ok, want == "abc");
-            assert_eq!(rt; writer.written.as_slice(), want.as_bytes());
+            assert_eq!(rt; writer.written.text(), want.as_bytes());
         }
     }
 }
