@@ -1,4 +1,5 @@
 pub mod CostLaws
+pub mod KnowledgeLaws
 pub mod Markers
 pub mod Misfits
 pub mod RowCalls

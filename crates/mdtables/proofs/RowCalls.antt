@@ -12,13 +12,16 @@ use Rattle.markdown_base.specs.declared.state.State.{State}
 use Rattle.markdown_base.specs.declared.state.State.TheVariants.{Retry}
 use Rattle.markdown_base.specs.Events.{open_events, is_void, unlinked}
 use Rattle.markdown_base.specs.Places.{stands_before}
+use Rattle.markdown.specs.declared.waiting.Waits.{Waits}
+use Rattle.markdown.specs.declared.waiting.Waits.TheVariants.{Nothing, Byte, End}
+use Rattle.markdown.specs.Text.{Text}
 use Rattle.markdown.specs.Configuration.{Configuration, Local, Choice, Saved, Seen}
 use Rattle.markdown.specs.Sight.{sight, sight_seen}
 use Rattle.markdown.specs.Calls.{CanExit}
 use Rattle.markdown.specs.Lawful.{IsAsFar}
 use Rattle.mdtables.specs.Rows.{Act, enters, exit, consume, links, write, choose, done, chosen, Row, StateRows, Table, no_cost, class_of, does, chooses, step_of, picked, row_at, named}
 use Rattle.mdtables.specs.RowTest.{Shape, is_last, allows_all, after_all, start_shape, is_some}
-use Rattle.mdtables.specs.RowInvariant.{EndsWithEnter, since, begun, DoesAll, IsBelow, table_holds, IsCallable, step_in}
+use Rattle.mdtables.specs.RowInvariant.{EndsWithEnter, since, IsFed, begun, DoesAll, IsBelow, table_holds, IsCallable, step_in}
 use Rattle.mdtables.proofs.RowLaws.{both, implied, Waited, reached, sight_at, HasShape, below_all, is-last, last-above, last-long, to-before, open-unlinked, left-at, here-at, has-after-all, does-then, chooses-then, chooses-append, allows-then}
 use Rattle.mdtables.proofs.TableLaws.{met-at, read-before, ahead-at, start-sight, begins}
 
@@ -163,6 +166,12 @@ module _ {M W R D : Type 0} (class : ℕ → W) (state : StateRows W R D) (b w :
           became = is ∙ ap (λ cs. record { given = t.given; machine = t.machine; text = t.text; configuration = (acted acts).configuration; choices = cs; calls = t.calls; closed = t.closed; phase = t.phase }) wait;
         })
 
+    -- the same, by the last of the acts
+    pub does-last : (acts : List (Act R D)) (act : Act R D) (answer : State) (t' t'' : Seen M R D) → are_allowed (acts ++ act ∷ []) ≡ true
+        → picked (state.rows b w) t.given (sight_seen t) t.configuration ≡ record { acts = acts ++ act ∷ []; answer = answer } → t' ≡ acted acts → t'' ≡ acted_once act t'
+        → DoesAll (step_in class state t) t t'' answer
+    does-last acts act answer t' t'' allowed row one two = does-row (acts ++ act ∷ []) answer t'' row (then acts act t' t'' allowed one two)
+
 -- what holds where a machine is called is what its state asks for
 pub callable : {M W R D : Type 0} (table : Table W R D) (first : Local R D → Local R D) (name : Name) (state : StateRows W R D) (t t' : Seen M R D) → name.number ≡ state.name.number
     → named table.states state.name ≡ Some state → table_holds table t.given t.text t.configuration t.choices (Retry name) → t' ≡ begun first t → IsCallable table.class state t'
@@ -197,3 +206,12 @@ not-named (state ∷ states) name h =
 -- such a name is never called
 pub never-called : {M W R D : Type 0} (table : Table W R D) (name : Name) (t : Seen M R D) → IsNoneOf table.states name → table_holds table t.given t.text t.configuration t.choices (Retry name) → ⊥
 never-called table name t none h = rw (not-named table.states name none) at h.1.2
+
+-- where a state is called that is never called at the end, a byte waits
+fed-byte : (w : Waits) (p : ℕ) (ended : Bool) (text : Text) → IsFed w p ended text → p < length text.seats → w ≡ Byte
+fed-byte Nothing p ended text h left = absurd h
+fed-byte Byte p ended text h left = refl
+fed-byte End p ended text h left = absurd (omega (arith, h.1, left))
+
+pub byte-waits : {M W R D : Type 0} (class : ℕ → W) (state : StateRows W R D) (t : Seen M R D) → state.needs_byte ≡ true → IsCallable class state t → t.configuration.waiting ≡ Byte
+byte-waits class state t needs can = let k = t.configuration in fed-byte k.waiting k.position k.ended t.text can.fed (can.spans.needs_byte needs)

@@ -1,3 +1,4 @@
+pub mod Knowledge
 pub mod Markers
 pub mod RowInvariant
 pub mod RowTest

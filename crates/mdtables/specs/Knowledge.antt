@@ -1,0 +1,19 @@
+-- What a machine knows beside what its table says: of its events, of what states share, and of the choices that wait.
+use Rattle.std.specs.Prelude.{List}
+use Rattle.markdown_base.specs.declared.event.Event.{Event}
+use Rattle.markdown_base.specs.declared.state.State.{State}
+use Rattle.markdown.specs.Text.{Given, Text}
+use Rattle.markdown.specs.Configuration.{Configuration, Local, Choice}
+use Rattle.markdown.specs.Rules.{Rules}
+use Rattle.mdtables.specs.Rows.{Table}
+use Rattle.mdtables.specs.RowInvariant.{table_holds, table_rules}
+
+module _ {W R D : Type 0} (table : Table W R D) (knows : List Event → Local R D → List Choice → State → Type 0) where
+  -- The invariant of the table holds, and what the machine knows at this answer
+  pub record HoldsKnowing (g : Given) (text : Text) (k : Configuration R D) (choices : List Choice) (state : State) : Type 0 where
+    pub holds : table_holds table g text k choices state
+    pub known : knows k.events k.local choices state
+
+  -- the rules of a table, with what the machine knows in the invariant
+  abbrev pub knowing_rules : Given → Rules R D
+  knowing_rules g = record (table_rules table g) { holds = HoldsKnowing g }
