@@ -7,6 +7,8 @@ pub mod Fail
 pub mod FailLaws
 pub mod Lines
 pub mod LinesLaws
+pub mod Paragraphs
+pub mod ParagraphsLaws
 pub mod Peek
 pub mod PeekLaws
 pub mod Reading
@@ -14,3 +16,5 @@ pub mod Refusal
 pub mod Save
 pub mod SaveLaws
 pub mod Tables
+pub mod Words
+pub mod WordsLaws

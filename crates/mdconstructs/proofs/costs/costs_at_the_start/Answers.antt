@@ -1,4 +1,4 @@
-use Rattle.std.proofs.Common.{◌≡◌, ◌+◌, ◌-◌, ◌*◌, ◌/◌, ℕ, zero, suc, length, refl, ap, arith}
+use Rattle.std.proofs.Common.{◌≡◌, ◌+◌, ◌-◌, ◌*◌, ◌/◌, ℕ, zero, suc, length, refl, ap, arith, rules}
 use Rattle.mdconstructs.specs.Deep.{triangle}
 use Rattle.mdconstructs.specs.DeepLaws.{triangle-is}
 use Rattle.mdconstructs.proofs.costs.costs_at_the_start.Goals as goal
@@ -16,6 +16,12 @@ triangle-half n = let h = half (n * (n - 1)) (triangle n) (doubled n) in omega (
 pub returns-clause-lines : goal.returns-clause-lines
 returns-clause-lines c = record { starts = λ g. refl; cost = λ g text flag. omega arith }
 
+pub returns-clause-paragraphs : goal.returns-clause-paragraphs
+returns-clause-paragraphs c = record { starts = λ g. refl; among = search rules; cost = λ g text flag. omega arith }
+
+pub returns-clause-paragraphs_as_text : goal.returns-clause-paragraphs_as_text
+returns-clause-paragraphs_as_text c = record { starts = λ g. refl; among = search rules; cost = λ g text flag. omega arith }
+
 pub returns-clause-peek : goal.returns-clause-peek
 returns-clause-peek c = record { starts = λ g. refl; cost = λ g text flag. omega arith }
 
@@ -30,3 +36,6 @@ returns-clause-back c = record { starts = λ g. refl; cost = λ g text flag. ome
 
 pub returns-clause-save : goal.returns-clause-save
 returns-clause-save c = record { starts = λ g. refl; cost = λ g text flag. omega arith }
+
+pub returns-clause-words : goal.returns-clause-words
+returns-clause-words c = record { starts = λ g. refl; cost = λ g text flag. omega arith }

@@ -1,0 +1,202 @@
+-- The table of the machine passes the test, and its rows keep what it knows of its chunks, so that the machine is lawful.
+use Rattle.std.proofs.Common.{◌≡◌, ℕ, zero, suc, ◌+◌, ◌-◌, ◌<◌, List, [], ◌∷◌, ◌++◌, false, Option, Some, None, length, refl, sym, ap, ◌∙◌, subst, arith, append_assoc, length-append}
+use Rattle.std.specs.Prelude.{All, Bool, slice_index_or}
+use Rattle.std.proofs.lemmas.List.Elements.{All-nil, All-cons}
+use Rattle.markdown_base.specs.declared.event.Event.{Event}
+use Rattle.markdown_base.specs.declared.event.Kind.TheVariants.{Enter, Exit}
+use Rattle.markdown_base.specs.declared.event.Name.TheVariants.{Data}
+use Rattle.markdown_base.specs.declared.event.Point.{Point}
+use Rattle.markdown_base.specs.declared.state.Name.{Name}
+use Rattle.markdown_base.specs.declared.state.State.TheVariants.{Next, Retry}
+use Rattle.markdown_base.specs.declared.state.TheConstants.Name.{FlowStart, TextStart, ParagraphStart}
+use Rattle.markdown.specs.Configuration.{Configuration, Local, Choice, start_configuration}
+use Rattle.markdown.specs.Links.{IsLinkedEnter, IsEndedBy, CanLink, content_of, updated_at, with_next, with_previous, linked_to}
+use Rattle.mdtables.specs.RowTest.{misfits}
+use Rattle.mdtables.proofs.TableLaws.{IsFit, no-falls}
+use Rattle.mdtables.proofs.KnowledgeLaws.{KeepsKnowing, IsKnown}
+use Rattle.mdconstructs.specs.Tables.{LineByte, line_ending, other}
+use Rattle.mdconstructs.specs.Reading.{data_start, data_inside}
+use Rattle.mdconstructs.specs.Paragraphs.{text_link, flow_start, paragraph_line_start, paragraph_start, paragraph_inside, text_start, paragraphs, BeginsChunk, EndsWithChunk, HasChunk, KnowsChunk, knows_chunk}
+
+fits : (previous current : Option LineByte) → misfits paragraphs previous current ≡ []
+fits previous None = refl
+fits previous (Some line_ending) = refl
+fits previous (Some other) = refl
+
+pub paragraphs-fit : IsFit paragraphs
+paragraphs-fit = record { fits = fits; paid = (tt, (tt, (tt, (tt, (tt, (tt, (tt, tt))))))); falls = no-falls }
+
+-- the event that begins a chunk
+abbrev pub chunk_at : Point → Event
+chunk_at place = record { kind = Enter; name = Data; point = place; link = Some text_link }
+
+pub begins-chunk : (place : Point) → BeginsChunk (chunk_at place)
+begins-chunk place = record { linked = record { enter = refl; void = refl; linked = refl }; named = refl; text = refl }
+
+begins-linked : (place : Point) (previous : ℕ) → BeginsChunk (with_previous previous (chunk_at place))
+begins-linked place previous = record { linked = record { enter = refl; void = refl; linked = refl }; named = refl; text = refl }
+
+-- a chunk stays where events are added
+more-chunk : (events : List Event) (e : Event) (index : ℕ) → HasChunk events index → HasChunk (events ++ e ∷ []) index
+more-chunk events e index h = record {
+  before = h.before;
+  first = h.first;
+  last = h.last;
+  after = h.after ++ e ∷ [];
+  events_are = ap (λ es. es ++ e ∷ []) h.events_are ∙ append_assoc h.before (h.first ∷ h.last ∷ h.after) (e ∷ []);
+  index_is = h.index_is;
+  begins = h.begins;
+  ended = h.ended;
+}
+
+-- one that was begun stands once it is ended
+ended-chunk : (events : List Event) (e : Event) (index : ℕ) → e.kind ≡ Exit → e.name ≡ Data → EndsWithChunk events index → HasChunk (events ++ e ∷ []) index
+ended-chunk events e index exits named h = record {
+  before = h.before;
+  first = h.first;
+  last = e;
+  after = [];
+  events_are = ap (λ es. es ++ e ∷ []) h.events_are ∙ append_assoc h.before (h.first ∷ []) (e ∷ []);
+  index_is = h.index_is;
+  begins = h.begins;
+  ended = record { exits = exits; same = named ∙ sym h.begins.named };
+}
+
+ends-with : (events before : List Event) (e : Event) → events ≡ before ++ e ∷ [] → BeginsChunk e → EndsWithChunk events (length events - 1)
+ends-with events before e is begins =
+    record { before = before; first = e; events_are = is; index_is = omega (arith, ap length is, length-append before (e ∷ [])); begins = begins }
+
+-- Lists with one event changed
+updated-front : (i : ℕ) (f : Event → Event) (xs ys : List Event) → i < length xs → updated_at i f (xs ++ ys) ≡ updated_at i f xs ++ ys
+updated-front i f [] ys h = absurd (omega (arith, h))
+updated-front zero f (x ∷ xs) ys h = refl
+updated-front (suc i) f (x ∷ xs) ys h = ap (λ es. x ∷ es) (updated-front i f xs ys (omega (arith, h)))
+
+updated-last : (i : ℕ) (f : Event → Event) (xs : List Event) (e : Event) → i ≡ length xs → updated_at i f (xs ++ e ∷ []) ≡ xs ++ f e ∷ []
+updated-last zero f [] e h = refl
+updated-last (suc i) f [] e h = absurd (omega (arith, h))
+updated-last zero f (x ∷ xs) e h = absurd (omega (arith, h))
+updated-last (suc i) f (x ∷ xs) e h = ap (λ es. x ∷ es) (updated-last i f xs e (omega (arith, h)))
+
+pub updated-length : (i : ℕ) (f : Event → Event) (xs : List Event) → length (updated_at i f xs) ≡ length xs
+updated-length i f [] = refl
+updated-length zero f (x ∷ xs) = refl
+updated-length (suc i) f (x ∷ xs) = ap suc (updated-length i f xs)
+
+at-index : (xs ys : List Event) (y d : Event) (i : ℕ) → i ≡ length xs → slice_index_or (xs ++ y ∷ ys) i d ≡ y
+at-index [] ys y d zero h = refl
+at-index [] ys y d (suc i) h = absurd (omega (arith, h))
+at-index (x ∷ xs) ys y d zero h = absurd (omega (arith, h))
+at-index (x ∷ xs) ys y d (suc i) h = at-index xs ys y d i (omega (arith, h))
+
+chunk-inside : (events : List Event) (index : ℕ) → HasChunk events index → index + 1 < length events
+chunk-inside events index h = omega (arith, ap length h.events_are, length-append h.before (h.first ∷ h.last ∷ h.after), h.index_is)
+
+-- the chunk that begins can follow the one before
+pub can-link : (events : List Event) (place : Point) (index next : ℕ) → HasChunk events index → next ≡ length events → CanLink (events ++ chunk_at place ∷ []) index next
+unfolding more-chunk
+can-link events place index next h last =
+    let e = chunk_at place in
+    let there = more-chunk events e index h in
+    let inside = chunk-inside events index h in
+    let first : (d : Event) → slice_index_or (events ++ e ∷ []) index d ≡ h.first = λ d.
+    ap (λ es. slice_index_or es index d) there.events_are ∙ at-index h.before (h.last ∷ h.after ++ e ∷ []) h.first d index h.index_is in
+    let then : (d : Event) → slice_index_or (events ++ e ∷ []) (index + 1) d ≡ h.last = λ d.
+    ap (λ es. slice_index_or es (index + 1) d) (there.events_are ∙ sym (append_assoc h.before (h.first ∷ []) (h.last ∷ h.after ++ e ∷ [])))
+    ∙ at-index (h.before ++ h.first ∷ []) (h.after ++ e ∷ []) h.last d (index + 1) (omega (arith, h.index_is, length-append h.before (h.first ∷ []))) in
+    let second : (d : Event) → slice_index_or (events ++ e ∷ []) next d ≡ e = λ d. at-index events [] e d next last in
+    record {
+      order = omega (arith, inside, last);
+      within = omega (arith, last, length-append events (e ∷ []));
+      first = λ d. subst IsLinkedEnter (sym (first d)) h.begins.linked;
+      ended = λ d. subst (λ x. IsEndedBy x (slice_index_or (events ++ e ∷ []) (index + 1) d)) (sym (first d)) (subst (IsEndedBy h.first) (sym (then d)) h.ended);
+      second = λ d. subst IsLinkedEnter (sym (second d)) (begins-chunk place).linked;
+      one_content = λ d. ap content_of (first d) ∙ h.begins.text ∙ sym (ap content_of (second d));
+    }
+
+-- and where it does, it is the last event
+linked-last : (events : List Event) (place : Point) (index next : ℕ) → HasChunk events index → next ≡ length events
+    → linked_to index next (events ++ chunk_at place ∷ []) ≡ updated_at index (with_next next) events ++ with_previous index (chunk_at place) ∷ []
+linked-last events place index next h last =
+    let inside = chunk-inside events index h in
+    ap (updated_at next (with_previous index)) (updated-front index (with_next next) events (chunk_at place ∷ []) (omega (arith, inside)))
+    ∙ updated-last next (with_previous index) (updated_at index (with_next next) events) (chunk_at place) (last ∙ sym (updated-length index (with_next next) events))
+
+ends-linked : (events : List Event) (place : Point) (index next : ℕ) → HasChunk events index → next ≡ length events
+    → let linked = linked_to index next (events ++ chunk_at place ∷ []) in EndsWithChunk linked (length linked - 1)
+ends-linked events place index next h last =
+    ends-with (linked_to index next (events ++ chunk_at place ∷ [])) (updated_at index (with_next next) events) (with_previous index (chunk_at place)) (linked-last events place index next h last)
+    (begins-linked place index)
+
+pub last-index : (events : List Event) (e : Event) → length (events ++ e ∷ []) - 1 ≡ length events
+last-index events e = omega (arith, length-append events (e ∷ []))
+
+-- Each state keeps what is known of chunks
+flow-start : KeepsKnowing paragraphs knows_chunk flow_start
+flow-start g s k [] b None h = h
+flow-start g s k [] b (Some line_ending) h = λ c. more-chunk _ _ _ (more-chunk _ _ _ (h c))
+flow-start g s k [] b (Some other) h = λ c. absurd (cc)
+flow-start g s k (c ∷ cs) b w h = absurd h
+
+line-start : KeepsKnowing paragraphs knows_chunk paragraph_line_start
+line-start g s k [] b None h = λ c. more-chunk _ _ _ (h c)
+line-start g s k [] b (Some line_ending) h = λ c. more-chunk _ _ _ (h c)
+line-start g s k [] b (Some other) h = (λ mark. λ c. more-chunk _ _ _ (more-chunk _ _ _ (h c)), λ mark. h)
+line-start g s k (c ∷ cs) b w h = absurd h
+
+start : KeepsKnowing paragraphs knows_chunk paragraph_start
+start g s k [] b None h = h
+start g s k [] b (Some w) h = (
+  λ c. ends-linked k.events s.here k.local.tokenize_state.start (length (k.events ++ chunk_at s.here ∷ []) - 1) (h c) (last-index k.events (chunk_at s.here)),
+  λ c. ends-with (k.events ++ chunk_at s.here ∷ []) k.events (chunk_at s.here) refl (begins-chunk s.here),
+)
+start g s k (c ∷ cs) b w h = absurd h
+
+inside : KeepsKnowing paragraphs knows_chunk paragraph_inside
+inside g s k [] b None h = λ c. ended-chunk k.events _ _ refl refl h
+inside g s k [] b (Some line_ending) h = λ c. ended-chunk k.events _ _ refl refl h
+inside g s k [] b (Some other) h = h
+inside g s k (c ∷ cs) b w h = absurd h
+
+text : KeepsKnowing paragraphs knows_chunk text_start
+text g s k [] b w h = h
+text g s k (c ∷ cs) b w h = absurd h
+
+data-first : KeepsKnowing paragraphs knows_chunk data_start
+data-first g s k [] b None h = h
+data-first g s k [] b (Some line_ending) h = λ c. more-chunk _ _ _ (more-chunk _ _ _ (h c))
+data-first g s k [] b (Some other) h = λ c. more-chunk _ _ _ (h c)
+data-first g s k (c ∷ cs) b w h = absurd h
+
+data-more : KeepsKnowing paragraphs knows_chunk data_inside
+data-more g s k [] b None h = λ c. more-chunk _ _ _ (h c)
+data-more g s k [] b (Some line_ending) h = λ c. more-chunk _ _ _ (h c)
+data-more g s k [] b (Some other) h = h
+data-more g s k (c ∷ cs) b w h = absurd h
+
+-- no chunk is there at the start
+at-starts : (flag : Bool) → let k : Configuration Unit Unit = start_configuration flag in All (λ name. knows_chunk k.events k.local [] (Next name)) paragraphs.starts
+at-starts flag =
+    let k : Configuration Unit Unit = start_configuration flag in
+    let P = λ (name : Name). knows_chunk k.events k.local [] (Next name) in
+    All-cons P FlowStart (TextStart ∷ []) (λ c. absurd (cc)) (All-cons P TextStart [] (λ c. absurd (cc)) (All-nil P))
+
+-- what is known where a state is fed is known where it is called
+still-known : (events : List Event) (local : Local Unit Unit) (choices : List Choice) (name : Name) → knows_chunk events local choices (Next name) → knows_chunk events local choices (Retry name)
+still-known events local [] name h = h
+still-known events local (c ∷ cs) name h = absurd h
+
+-- what is known before a chunk
+pub known-before : (events : List Event) (local : Local Unit Unit) (choices : List Choice) (n : ℕ) → n ≡ ParagraphStart.number → knows_chunk events local choices (Retry (record { number = n }))
+    → KnowsChunk false events local
+known-before events local [] n e h = rw e at h
+known-before events local (c ∷ cs) n e h = absurd h
+
+pub paragraphs-known : IsKnown paragraphs knows_chunk
+paragraphs-known = record {
+  at_starts = at-starts;
+  by_feeding = still-known;
+  by_rows = (flow-start, (line-start, (start, (inside, (text, (data-first, (data-more, tt)))))));
+  by_ok = λ k choice choices h. absurd h;
+  by_nok = λ k choice choices h. absurd h;
+}

@@ -1,0 +1,186 @@
+//! The machine of paragraphs: lines that follow one another are a paragraph, in which each line is a chunk of text, linked to
+//! the one before; a line may begin with a quote mark.
+
+ghost use Rattle.std.specs.Prelude.{◌≡◌, false, cond, Some, None, IfOk};
+ghost use Rattle.markdown.specs.Calls.{with_local};
+ghost use Rattle.markdown.specs.Configuration.{at_configuration};
+ghost use Rattle.mdtables.specs.RowInvariant.{DoesAll, IsCallable, step_in};
+ghost use Rattle.mdconstructs.specs.Tables.{line_byte};
+ghost use Rattle.mdconstructs.specs.Paragraphs.{flow_start, paragraph_line_start, paragraph_start, paragraph_inside, text_start, alone, chunk_before, connected, last_event, KnowsChunk};
+
+use crate::begin::begin;
+use crate::reading::{data_inside, data_start};
+use markdown::event::{self, Content, Link};
+use markdown::state::{Machine, MachineTypes, Name, State};
+use markdown::tokenizer::Tokenizer;
+use mdtables::marker;
+use std::alloc::{AllocError, Global};
+
+/// What a chunk is read as, before its neighbours in the chain are known.
+const CHUNK: Link = Link {
+    previous: None,
+    next: None,
+    content: Content::Text,
+};
+
+/// Reads lines that follow one another as a paragraph. Each line of it, after a quote mark that it may begin with, is a chunk
+/// of text: data that holds the line ending too, linked to the chunk of the line before. From `TextStart` it reads each line
+/// as data, which is what the chunks of a paragraph are read as together.
+///
+/// It takes at most 4 n + 3 calls for n virtual bytes, and 2 n + 2 from `TextStart`.
+#[derive(Drop)]
+pub struct Paragraphs {}
+
+impl MachineTypes for Paragraphs {
+    type Resolver = ();
+
+    type Document = ();
+}
+
+impl Machine for Paragraphs {
+    ghost use Rattle.mdtables.proofs.KnowledgeLaws as laws;
+    ghost use Rattle.mdconstructs.specs.Paragraphs.{paragraphs, knows_chunk, paragraphs_rules};
+    ghost use Rattle.mdconstructs.specs.ParagraphsLaws.{paragraphs-fit, paragraphs-known};
+
+    ghost rules = { λ _. paragraphs_rules };
+
+    fn call<'a>(
+        &self,
+        alloc: Global,
+        t: &mut Tokenizer<'a, Self>,
+        name: Name,
+    ) -> Result<State, AllocError> {
+        begin(t);
+        match name {
+            Name::FlowStart => flow_start(t),
+            Name::ParagraphLineStart => paragraph_line_start(t),
+            Name::ParagraphStart => paragraph_start(t),
+            Name::ParagraphInside => paragraph_inside(t),
+            Name::TextStart => Ok(State::Retry(Name::DataStart)),
+            Name::DataStart => data_start(t),
+            Name::DataInside => data_inside(t),
+            _ => unreachable!(),
+        }
+    }
+
+    ghost consumes_once = { λ _ g. laws.knowing-consumes_once paragraphs knows_chunk g paragraphs-fit paragraphs-known };
+
+    ghost only_adds = { λ _ g. laws.knowing-only_adds paragraphs knows_chunk g paragraphs-fit paragraphs-known };
+
+    ghost ends_when_read = { λ _ g. laws.knowing-ends_when_read paragraphs knows_chunk g paragraphs-fit paragraphs-known };
+
+    ghost invariant_kept = { λ _ g. laws.knowing-invariant_kept paragraphs knows_chunk g paragraphs-fit paragraphs-known };
+
+    ghost cost_pays = { λ _ g. laws.knowing-cost_pays paragraphs knows_chunk g paragraphs-fit paragraphs-known };
+}
+
+/// Before a paragraph: a blank line is passed, and at another one the paragraph begins.
+fn flow_start<'a>(t: &mut Tokenizer<'a, Paragraphs>) -> Result<State, AllocError>
+    requires { IsCallable line_byte flow_start t.old }
+    ensures { IfOk result (DoesAll (step_in line_byte flow_start t.old) t.old t.new) }
+{
+    match t.current() {
+        None => Ok(State::Ok),
+        Some(b'\n') => {
+            marker(t, event::Name::BlankLineEnding)?;
+            Ok(State::Next(Name::FlowStart))
+        }
+        Some(_) => {
+            t.enter(event::Name::Paragraph)?;
+            disconnect(t);
+            Ok(State::Retry(Name::ParagraphLineStart))
+        }
+    }
+}
+
+/// Before a line of a paragraph: a blank line ends it.
+fn paragraph_line_start<'a>(t: &mut Tokenizer<'a, Paragraphs>) -> Result<State, AllocError>
+    requires { IsCallable line_byte paragraph_line_start t.old }
+    ensures { IfOk result (DoesAll (step_in line_byte paragraph_line_start t.old) t.old t.new) }
+{
+    match t.current() {
+        None => {
+            t.exit(event::Name::Paragraph)?;
+            Ok(State::Retry(Name::FlowStart))
+        }
+        Some(b'\n') => {
+            t.exit(event::Name::Paragraph)?;
+            Ok(State::Retry(Name::FlowStart))
+        }
+        Some(b'>') => {
+            marker(t, event::Name::BlockQuoteMarker)?;
+            Ok(State::Next(Name::ParagraphStart))
+        }
+        Some(_) => Ok(State::Retry(Name::ParagraphStart)),
+    }
+}
+
+/// Before the chunk of a line, which is linked to the one before it in the paragraph.
+fn paragraph_start<'a>(t: &mut Tokenizer<'a, Paragraphs>) -> Result<State, AllocError>
+    requires called { IsCallable line_byte paragraph_start t.old }
+    requires chunk { KnowsChunk false t.old.configuration.events t.old.configuration.local }
+    ensures { IfOk result (DoesAll (step_in line_byte paragraph_start t.old) t.old t.new) }
+{
+    match t.current() {
+        None => Ok(State::Retry(Name::ParagraphLineStart)),
+        Some(_) => {
+            t.enter_link(event::Name::Data, CHUNK)?;
+            let index = t.events().len() - 1;
+            match chunk_before(t) {
+                Some(before) => t.link_to(before, index),
+                None => {}
+            }
+            connect(t, index);
+            Ok(State::Retry(Name::ParagraphInside))
+        }
+    }
+}
+
+/// In a chunk, which ends with its line ending.
+fn paragraph_inside<'a>(t: &mut Tokenizer<'a, Paragraphs>) -> Result<State, AllocError>
+    requires { IsCallable line_byte paragraph_inside t.old }
+    ensures { IfOk result (DoesAll (step_in line_byte paragraph_inside t.old) t.old t.new) }
+{
+    match t.current() {
+        None => {
+            t.exit(event::Name::Data)?;
+            Ok(State::Retry(Name::ParagraphLineStart))
+        }
+        Some(b'\n') => {
+            t.consume();
+            t.exit(event::Name::Data)?;
+            Ok(State::Next(Name::ParagraphLineStart))
+        }
+        Some(_) => {
+            t.consume();
+            Ok(State::Next(Name::ParagraphInside))
+        }
+    }
+}
+
+/// Where the chunk that came before in the paragraph begins in the events, if one did.
+fn chunk_before<'a>(t: &Tokenizer<'a, Paragraphs>) -> Option<usize>
+    ensures { result ≡ cond t.now.configuration.local.tokenize_state.connect (Some (chunk_before t.now.configuration)) None }
+{
+    if t.tokenize_state.connect {
+        Some(t.tokenize_state.start)
+    } else {
+        None
+    }
+}
+
+/// No chunk came before in the paragraph.
+fn disconnect<'a>(t: &mut Tokenizer<'a, Paragraphs>)
+    ensures { t.new ≡ at_configuration t.old (with_local t.old.configuration (alone t.old.configuration)) }
+{
+    t.tokenize_state.connect = false;
+}
+
+/// The last event is the chunk that came before.
+fn connect<'a>(t: &mut Tokenizer<'a, Paragraphs>, index: usize)
+    requires { index ≡ last_event t.old.configuration }
+    ensures { t.new ≡ at_configuration t.old (with_local t.old.configuration (connected t.old.configuration)) }
+{
+    t.tokenize_state.start = index;
+    t.tokenize_state.connect = true;
+}
