@@ -15,8 +15,9 @@ use Rattle.markdown.specs.Cuts.{cuts_every}
 use Rattle.mdevents.specs.declared.failure.Failure.{Failure}
 use Rattle.mdevents.specs.declared.words.Choice.{Choice}
 use Rattle.mdevents.specs.declared.words.Which.{Which}
-use Rattle.mdevents.specs.declared.words.Which.TheVariants.{Lines, Peek, Deep, Back, Save}
+use Rattle.mdevents.specs.declared.words.Which.TheVariants.{Lines, Paragraphs, Peek, Deep, Back, Save}
 use Rattle.mdconstructs.specs.Lines.{lines_rules}
+use Rattle.mdconstructs.specs.Paragraphs.{paragraphs_rules}
 use Rattle.mdconstructs.specs.Peek.{peek_rules}
 use Rattle.mdconstructs.specs.Deep.{deep_rules}
 use Rattle.mdconstructs.specs.Back.{back_rules}
@@ -41,6 +42,7 @@ module _ {R D : Type 0} (rules : Given → Rules R D) (start : Name) (bytes : Li
 -- the events of a document are those that its machine gives
 abbrev pub AreEventsOf : Which → List ℕ → List Event → Type 0
 AreEventsOf Lines = Gives lines_rules FlowStart
+AreEventsOf Paragraphs = Gives paragraphs_rules FlowStart
 AreEventsOf Peek = Gives peek_rules TextStart
 AreEventsOf Deep = Gives deep_rules StringStart
 AreEventsOf Back = Gives back_rules TextStart
@@ -49,6 +51,7 @@ AreEventsOf Save = Gives save_rules TextStart
 -- a document is refused where its machine refuses it
 abbrev pub IsRefusedBy : Which → List ℕ → Message → Type 0
 IsRefusedBy Lines = Refuses lines_rules FlowStart
+IsRefusedBy Paragraphs = Refuses paragraphs_rules FlowStart
 IsRefusedBy Peek = Refuses peek_rules TextStart
 IsRefusedBy Deep = Refuses deep_rules StringStart
 IsRefusedBy Back = Refuses back_rules TextStart

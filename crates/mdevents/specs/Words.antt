@@ -7,7 +7,7 @@ use Rattle.std.specs.Str.{bytes_eq}
 use Rattle.std.specs.Str.Parse.{digits_value}
 use Rattle.mdevents.specs.declared.words.Choice.{Choice}
 use Rattle.mdevents.specs.declared.words.Which.{Which}
-use Rattle.mdevents.specs.declared.words.Which.TheVariants.{Lines, Peek, Deep, Back, Save}
+use Rattle.mdevents.specs.declared.words.Which.TheVariants.{Lines, Paragraphs, Peek, Deep, Back, Save}
 
 -- the number of a word of decimal digits, if it is above 0 and fits `usize`
 abbrev pub number_of : List ℕ → Option ℕ
@@ -17,8 +17,9 @@ number_of word = cond (list_all is_ascii_digit word && (nat_lt 0 (digits_value 1
 abbrev pub which_of : List ℕ → Option Which
 which_of name =
     cond (bytes_eq name (codes "lines")) (Some Lines)
+    (cond (bytes_eq name (codes "paragraphs")) (Some Paragraphs)
     (cond (bytes_eq name (codes "peek")) (Some Peek)
-    (cond (bytes_eq name (codes "deep")) (Some Deep) (cond (bytes_eq name (codes "back")) (Some Back) (cond (bytes_eq name (codes "save")) (Some Save) None))))
+    (cond (bytes_eq name (codes "deep")) (Some Deep) (cond (bytes_eq name (codes "back")) (Some Back) (cond (bytes_eq name (codes "save")) (Some Save) None)))))
 
 -- An option with its value
 pub data Spelled : Type 0 where

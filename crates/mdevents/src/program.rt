@@ -21,6 +21,7 @@ use markdown::tokenizer::{Fault, cuts_every, run};
 use mdconstructs::back::Back;
 use mdconstructs::deep::Deep;
 use mdconstructs::lines::Lines;
+use mdconstructs::paragraphs::Paragraphs;
 use mdconstructs::peek::Peek;
 use mdconstructs::save::Save;
 use std::alloc::{AllocError, Global};
@@ -64,6 +65,7 @@ fn events_of(alloc: Global, bytes: &[u8], choice: &Choice) -> Result<Vec<Event>,
     let cuts = cuts.as_slice();
     match choice.machine {
         Which::Lines => read_by(alloc, &Lines {}, Name::FlowStart, bytes, cuts),
+        Which::Paragraphs => read_by(alloc, &Paragraphs {}, Name::FlowStart, bytes, cuts),
         Which::Peek => read_by(alloc, &Peek {}, Name::TextStart, bytes, cuts),
         Which::Deep => read_by(alloc, &Deep {}, Name::StringStart, bytes, cuts),
         Which::Back => read_by(alloc, &Back {}, Name::TextStart, bytes, cuts),
@@ -126,6 +128,12 @@ mod tests {
 
     const TWO_LINES: &str =
         "enter Paragraph 1:1 (0+0)\nenter Data 1:1 (0+0)\nexit Data 1:2 (1+0)\nexit Paragraph 1:2 (1+0)\nenter LineEnding 1:2 (1+0)\nexit LineEnding 2:1 (3+0)\nenter Paragraph 2:1 (3+0)\nenter Data 2:1 (3+0)\nexit Data 2:2 (4+0)\nexit Paragraph 2:2 (4+0)\n";
+
+    const TWO_CHUNKS: &str =
+        "enter Paragraph 1:1 (0+0)\nenter BlockQuoteMarker 1:1 (0+0)\nexit BlockQuoteMarker 1:2 (1+0)\nenter Data 1:2 (1+0)\nexit Data 2:1 (3+0)\nenter BlockQuoteMarker 2:1 (3+0)\nexit BlockQuoteMarker 2:2 (4+0)\nenter Data 2:2 (4+0)\nexit Data 2:3 (5+0)\nexit Paragraph 2:3 (5+0)\n";
+
+    const TWO_PARAGRAPHS: &str =
+        "enter BlankLineEnding 1:1 (0+0)\nexit BlankLineEnding 2:1 (1+0)\nenter Paragraph 2:1 (1+0)\nenter Data 2:1 (1+0)\nexit Data 3:1 (3+0)\nexit Paragraph 3:1 (3+0)\nenter BlankLineEnding 3:1 (3+0)\nexit BlankLineEnding 4:1 (4+0)\nenter Paragraph 4:1 (4+0)\nenter Data 4:1 (4+0)\nexit Data 4:2 (5+0)\nexit Paragraph 4:2 (5+0)\n";
 
     const AFTER_TAB: &str =
         "enter Paragraph 1:1 (0+0)\nenter Data 1:1 (0+0)\nexit Data 1:6 (2+0)\nexit Paragraph 1:6 (2+0)\n";
@@ -251,6 +259,27 @@ mod tests {
         assert_eq!(rt; cuts.len(), 99_999);
         assert_eq!(rt; cuts.first(), Some(&(1, 0)));
         assert_eq!(rt; cuts.last(), Some(&(99_999, 0)));
+        Ok(())
+    }
+
+    #[test]
+    fn writes_paragraphs(rt: HostRuntime) -> Result<(), Fail> {
+        for (document, cut, want) in [
+            (">a\n>b", None, TWO_CHUNKS),
+            (">a\n>b", Some(1), TWO_CHUNKS),
+            ("\na\n\nb", None, TWO_PARAGRAPHS),
+            ("\na\n\nb", Some(1), TWO_PARAGRAPHS),
+        ] {
+            let mut reader = document.as_bytes();
+            let mut written = Vec::new(rt.alloc());
+            let choice = Choice {
+                cut,
+                machine: Which::Paragraphs,
+            };
+            let result = write_events(rt.alloc(), &mut reader, &mut written, &choice);
+            assert!(rt; result.is_ok());
+            assert_eq!(rt; written.as_slice(), want.as_bytes());
+        }
         Ok(())
     }
 

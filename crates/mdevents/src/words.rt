@@ -12,6 +12,8 @@ pub const USAGE: &str = "usage: mdevents [--cut n] [--deep] [--machine name]";
 pub enum Which {
     /// `lines`: each line is a paragraph of data.
     Lines,
+    /// `paragraphs`: lines that follow one another are a paragraph, in which each line is a chunk of text, linked to the one before.
+    Paragraphs,
     /// `peek`: looks at the whole text first, and then reads each line as data.
     Peek,
     /// `deep`: tries something at each byte, which fails, and then reads each line as data.
@@ -77,6 +79,8 @@ fn read_which(name: &str) -> Option<Which>
 {
     if name == "lines" {
         Some(Which::Lines)
+    } else if name == "paragraphs" {
+        Some(Which::Paragraphs)
     } else if name == "peek" {
         Some(Which::Peek)
     } else if name == "deep" {
@@ -128,6 +132,7 @@ mod tests {
                 Some((Some(usize::MAX), lines)),
             ),
             ("--machine lines", Some((None, lines))),
+            ("--machine paragraphs", Some((None, Which::Paragraphs))),
             ("--machine peek", Some((None, Which::Peek))),
             ("--machine deep --cut 3", Some((Some(3), Which::Deep))),
             ("--cut 3 --machine deep", Some((Some(3), Which::Deep))),

@@ -6,6 +6,12 @@ returns-in-Lines-clause-events c = let e = c.in-Lines.is in rw e c.read_by.ensur
 pub returns-in-Lines-clause-message : goal.returns-in-Lines-clause-message
 returns-in-Lines-clause-message c = let e = c.in-Lines.is in rw e c.read_by.ensures.message
 
+pub returns-in-Paragraphs-clause-events : goal.returns-in-Paragraphs-clause-events
+returns-in-Paragraphs-clause-events c = let e = c.in-Paragraphs.is in rw e c.read_by-in-Paragraphs.ensures.events
+
+pub returns-in-Paragraphs-clause-message : goal.returns-in-Paragraphs-clause-message
+returns-in-Paragraphs-clause-message c = let e = c.in-Paragraphs.is in rw e c.read_by-in-Paragraphs.ensures.message
+
 pub returns-in-Peek-clause-events : goal.returns-in-Peek-clause-events
 returns-in-Peek-clause-events c = let e = c.in-Peek.is in rw e c.read_by-in-Peek.ensures.events
 
