@@ -13,7 +13,10 @@ use Rattle.markdown.specs.Configuration.{Configuration, Local, Choice, Step, sta
 use Rattle.markdown.specs.Sight.{Sight, sight}
 use Rattle.markdown.specs.Calls.{with_local}
 use Rattle.markdown.specs.Reading.{settled_at}
-use Rattle.markdown.specs.Lawful.{ConsumesOnce, OnlyAdds, EndsWhenRead, KeepsInvariant, CostPays}
+use Rattle.markdown.specs.Lawful.{ConsumesOnce, OnlyAdds, EndsWhenRead, KeepsInvariant, CostPays, ResolversKeep}
+use Rattle.markdown.specs.Edited.{edited}
+use Rattle.markdown.specs.Resolving.{CanBeEdited, IsInShape}
+use Rattle.markdown_base.specs.Events.{IsBalanced}
 use Rattle.mdtables.specs.Rows.{Rows, row, when, Row, StateRows, Table, class_of, picked, step_of, named, step_at, table_step}
 use Rattle.mdtables.specs.Knowledge.{knowing_rules}
 use Rattle.mdtables.proofs.TableLaws.{IsFit, is-call, table-consumes_once, table-only_adds, table-ends_when_read, table-invariant_kept}
@@ -48,7 +51,8 @@ module _ {W R D : Type 0} (table : Table W R D) (knows : List Event → Local R 
   AllKeepKnowing [] = Unit {0}
   AllKeepKnowing (state ∷ states) = KeepsKnowing state × AllKeepKnowing states
 
-  -- What a machine knows is known at each start, and is kept by feeding, by the rows of each state, and where a choice ends
+  -- What a machine knows is known at each start, and is kept by feeding, by the rows of each state, and where a choice ends. Where all was read it
+  -- knows that no resolver is registered, and that its edits can be made and leave the events in shape.
   pub record IsKnown : Type 0 where
     pub at_starts : (flag : Bool) → let k : Configuration R D = start_configuration flag in All (λ name. knows k.events k.local [] (Next name)) table.starts
     pub by_feeding : (events : List Event) (local : Local R D) (choices : List Choice) (name : Name) → knows events local choices (Next name) → knows events local choices (Retry name)
@@ -57,6 +61,8 @@ module _ {W R D : Type 0} (table : Table W R D) (knows : List Event → Local R 
         → let k' = settled_at choice.kind choice.saved Ok k in knows k'.events k'.local choices choice.ok
     pub by_nok : (k : Configuration R D) (choice : Choice) (choices : List Choice) → knows k.events k.local (choice ∷ choices) Nok
         → let k' = settled_at choice.kind choice.saved Nok k in knows k'.events k'.local choices choice.nok
+    pub at_end : (k : Configuration R D) → IsBalanced k.events → knows k.events k.local [] Ok
+        → (k.local.resolvers ≡ []) × CanBeEdited k × IsInShape (edited k.local.map k.events)
 
   fed-known : (b : Bool) (k : Configuration R D) (choices : List Choice) (state : State) → knows k.events k.local choices state
       → let k' = cond b (record k { waiting = Byte }) (record k { waiting = End; ended = true }) in knows k'.events k'.local choices state
@@ -121,4 +127,11 @@ module _ {W R D : Type 0} (table : Table W R D) (knows : List Event → Local R 
       for_feeding = λ text k choices name is h. law.for_feeding text k choices name is h.holds;
       for_ok = λ text k choice choices is h. law.for_ok text k choice choices is h.holds;
       for_nok = λ text k choice choices is h. law.for_nok text k choice choices is h.holds;
+    }
+
+    pub knowing-resolvers_keep : ResolversKeep g (knowing_rules table knows g)
+    knowing-resolvers_keep = record {
+      at_end = λ text k is formed h. known.at_end k formed.balanced h.known;
+      by_resolvers = λ text r rs k new more is h e. absurd (let f : r ∷ rs ≡ [] = h.0 in cc);
+      at_last = λ text k is h. (h.1, h.2);
     }
