@@ -1,7 +1,8 @@
 -- The machine of words: each word is data, and each run of blanks white space; a word behind a number sign is a tag. A third blank in a row and a sign
 -- without a word are refused, and an edit drops the blanks before the first word.
-use Rattle.std.specs.Prelude.{◌≡◌, ℕ, ◌+◌, ◌-◌, ◌^◌, ◌==◌, ◌∷◌, [], List, Bool, true, false, cond, min, Option, Some, None, codes}
+use Rattle.std.specs.Prelude.{◌≡◌, ◌⊎◌, ℕ, ◌+◌, ◌-◌, ◌^◌, ◌==◌, ◌∷◌, [], List, Bool, true, false, cond, min, Option, Some, None, codes}
 use Rattle.markdown_base.specs.declared.event.Event.{Event}
+use Rattle.markdown_base.specs.declared.event.Kind.TheVariants.{Enter, Exit}
 use Rattle.markdown_base.specs.declared.event.Name.TheVariants.{Data, HeadingAtxSequence, SpaceOrTab}
 use Rattle.markdown_base.specs.declared.message.Message.{Message}
 use Rattle.markdown_base.specs.declared.state.State.{State}
@@ -9,7 +10,8 @@ use Rattle.markdown_base.specs.declared.state.State.TheVariants.{Next, Retry, Ok
 use Rattle.markdown_base.specs.declared.state.TheConstants.Name.{TextStart, SpaceOrTabInside, DataStart, DataAtBreak, DataInside}
 use Rattle.markdown.specs.Text.{Given}
 use Rattle.markdown.specs.Configuration.{Configuration, Local, Choice}
-use Rattle.markdown.specs.Edits.{edit_at, added_after}
+use Rattle.markdown.specs.Edits.{Edit, edit_at, added_after}
+use Rattle.markdown.specs.Plain.{HaveNoLinks}
 use Rattle.markdown.specs.Sight.{Sight}
 use Rattle.markdown.specs.Rules.{Rules}
 use Rattle.mdtables.specs.Rows.{enter, exit, consume, write, Rows, row, when, here, StateRows, calls, no_cost, plain, Table}
@@ -103,9 +105,33 @@ is_start (Next name) = name.number == TextStart.number
 is_start (Retry name) = name.number == TextStart.number
 is_start _ = false
 
--- what the machine knows beside its table: there is no edit before the text. It makes no choice.
+-- blanks may be open: where they are read, and where the document was refused
+abbrev pub blanks_may_be_open : State → Bool
+blanks_may_be_open (Next name) = name.number == SpaceOrTabInside.number
+blanks_may_be_open (Retry name) = name.number == SpaceOrTabInside.number
+blanks_may_be_open (Error message) = true
+blanks_may_be_open _ = false
+
+-- the events begin with blanks: their enter and their exit, or the enter alone if they may be open
+abbrev pub BeginWithBlanks : (may_be_open : Bool) → List Event → Type 0
+BeginWithBlanks may_be_open [] = ⊥
+BeginWithBlanks may_be_open (e ∷ []) = (may_be_open ≡ true) × (e.kind ≡ Enter) × (e.name ≡ SpaceOrTab)
+BeginWithBlanks may_be_open (e ∷ f ∷ events) = (e.kind ≡ Enter) × (e.name ≡ SpaceOrTab) × (f.kind ≡ Exit) × (f.name ≡ SpaceOrTab)
+
+-- there is no edit, or the one that drops the blanks with which the events begin
+abbrev pub DropNoMoreThanBlanks : (may_be_open : Bool) → List Event → List Edit → Type 0
+DropNoMoreThanBlanks may_be_open events map = (map ≡ []) ⊎ ((map ≡ edit_at 0 2 [] ∷ []) × BeginWithBlanks may_be_open events)
+
+-- What the machine knows of events and edits
+pub record KnowsEdits (events : List Event) (local : Local Unit Unit) (state : State) : Type 0 where
+  pub no_resolver : local.resolvers ≡ []
+  pub no_links : HaveNoLinks events
+  pub at_start : is_start state ≡ true → (events ≡ []) × (local.map ≡ [])
+  pub edits : DropNoMoreThanBlanks (blanks_may_be_open state) events local.map
+
+-- what the machine knows beside its table. It makes no choice.
 abbrev pub knows_edits : List Event → Local Unit Unit → List Choice → State → Type 0
-knows_edits events local [] state = is_start state ≡ true → local.map ≡ []
+knows_edits events local [] state = KnowsEdits events local state
 knows_edits events local (choice ∷ choices) state = ⊥
 
 abbrev pub words_rules : Given → Rules Unit Unit

@@ -11,7 +11,8 @@ use markdown::event;
 use markdown::message::Message;
 use markdown::owned::{Boxed, OwnedText};
 use markdown::state::{Machine, MachineTypes, Name, State};
-use markdown::tokenizer::Tokenizer;
+use markdown::subtokenize::Subresult;
+use markdown::tokenizer::{Fault, Tokenizer};
 use mdtables::marker;
 use std::alloc::{AllocError, Global};
 
@@ -59,6 +60,16 @@ impl Machine for Words {
         }
     }
 
+    /// Never called, as it registers no resolver.
+    fn resolve<'a>(
+        &self,
+        alloc: Global,
+        t: &mut Tokenizer<'a, Self>,
+        name: (),
+    ) -> Result<Option<Subresult>, Fault> {
+        Ok(None)
+    }
+
     ghost consumes_once = { λ _ g. laws.knowing-consumes_once words knows_edits g words-fit words-known };
 
     ghost only_adds = { λ _ g. laws.knowing-only_adds words knows_edits g words-fit words-known };
@@ -68,6 +79,8 @@ impl Machine for Words {
     ghost invariant_kept = { λ _ g. laws.knowing-invariant_kept words knows_edits g words-fit words-known };
 
     ghost cost_pays = { λ _ g. laws.knowing-cost_pays words knows_edits g words-fit words-known };
+
+    ghost resolvers_keep = { λ _ g. laws.knowing-resolvers_keep words knows_edits g words-fit words-known };
 }
 
 /// Before the text: blanks there are to be dropped.
