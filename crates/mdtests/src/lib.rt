@@ -14,6 +14,8 @@ mod links;
 #[cfg(test)]
 mod locations;
 #[cfg(test)]
+mod machines;
+#[cfg(test)]
 mod messages;
 #[cfg(test)]
 mod options;
