@@ -15,6 +15,7 @@ use Rattle.markdown.specs.Links.{IsLinkedEnter, IsEndedBy, content_of}
 use Rattle.markdown.specs.Rules.{Rules}
 use Rattle.mdtables.specs.Rows.{enter, enter_link, exit, consume, links, write, Rows, row, when, at_byte, StateRows, calls, no_cost, plain, Table}
 use Rattle.mdtables.specs.Knowledge.{knowing_rules}
+use Rattle.mdtables.specs.LinkShapes.{next_end, AreInShape}
 use Rattle.mdconstructs.specs.Tables.{LineByte, line_ending, other, line_byte, is_other, is_any, counts}
 use Rattle.mdconstructs.specs.Reading.{data_start, data_inside}
 
@@ -103,11 +104,12 @@ paragraphs = record {
   cost = no_cost;
 }
 
--- An event begins a chunk
+-- An event begins a chunk, which none follows yet
 pub record BeginsChunk (e : Event) : Type 0 where
   pub linked : IsLinkedEnter e
   pub named : e.name ≡ Data
   pub text : content_of e ≡ Some TextContent
+  pub last : next_end e ≡ None
 
 -- The last event, at this index, begins a chunk
 pub record EndsWithChunk (events : List Event) (index : ℕ) : Type 0 where
@@ -139,9 +141,17 @@ is_inside (Next name) = name.number == ParagraphInside.number
 is_inside (Retry name) = name.number == ParagraphInside.number
 is_inside _ = false
 
--- what the machine knows beside its table. It makes no choice.
+-- What the machine knows beside its table: where the chunk before stands, that the links of all chunks are in shape, and that no resolver is
+-- registered and no edit waits
+pub record Knows (inside : Bool) (events : List Event) (local : Local Unit Unit) : Type 0 where
+  pub chunk : KnowsChunk inside events local
+  pub shape : AreInShape events
+  pub resolvers : local.resolvers ≡ []
+  pub edits : local.map ≡ []
+
+-- at an answer. It makes no choice.
 abbrev pub knows_chunk : List Event → Local Unit Unit → List Choice → State → Type 0
-knows_chunk events local [] state = KnowsChunk (is_inside state) events local
+knows_chunk events local [] state = Knows (is_inside state) events local
 knows_chunk events local (choice ∷ choices) state = ⊥
 
 abbrev pub paragraphs_rules : Given → Rules Unit Unit

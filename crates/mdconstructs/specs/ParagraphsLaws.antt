@@ -1,22 +1,26 @@
 -- The table of the machine passes the test, and its rows keep what it knows of its chunks, so that the machine is lawful.
-use Rattle.std.proofs.Common.{◌≡◌, ℕ, zero, suc, ◌+◌, ◌-◌, ◌<◌, List, [], ◌∷◌, ◌++◌, false, Option, Some, None, length, refl, sym, ap, ◌∙◌, subst, arith, append_assoc, length-append}
-use Rattle.std.specs.Prelude.{All, Bool, slice_index_or}
+use Rattle.std.proofs.Common.{◌≡◌, ℕ, zero, suc, ◌+◌, ◌-◌, ◌<◌, List, [], ◌∷◌, ◌++◌, ◌==◌, false, Option, Some, None, length, refl, sym, ap, ◌∙◌, subst, arith, append_assoc, length-append}
+use Rattle.std.specs.Prelude.{All, Bool, IsSome, option_and_then, slice_get, slice_index_or}
 use Rattle.std.proofs.lemmas.List.Elements.{All-nil, All-cons}
 use Rattle.markdown_base.specs.declared.event.Event.{Event}
 use Rattle.markdown_base.specs.declared.event.Kind.TheVariants.{Enter, Exit}
 use Rattle.markdown_base.specs.declared.event.Name.TheVariants.{Data}
+use Rattle.markdown_base.specs.declared.event.Link.{Link}
 use Rattle.markdown_base.specs.declared.event.Point.{Point}
+use Rattle.markdown_base.specs.Events.{EndsBelow}
 use Rattle.markdown_base.specs.declared.state.Name.{Name}
 use Rattle.markdown_base.specs.declared.state.State.TheVariants.{Next, Retry}
-use Rattle.markdown_base.specs.declared.state.TheConstants.Name.{FlowStart, TextStart, ParagraphStart}
+use Rattle.markdown_base.specs.declared.state.TheConstants.Name.{FlowStart, TextStart, ParagraphStart, ParagraphInside}
 use Rattle.markdown.specs.Configuration.{Configuration, Local, Choice, start_configuration}
-use Rattle.markdown.specs.Links.{IsLinkedEnter, IsEndedBy, CanLink, content_of, updated_at, with_next, with_previous, linked_to}
+use Rattle.markdown.specs.Links.{IsLinkedEnter, IsEndedBy, CanLink, content_of, updated_at, with_next, with_previous, linked_to, next_of, previous_of}
+use Rattle.mdtables.specs.LinkShapes.{next_end, previous_end, AreInShape}
 use Rattle.mdtables.specs.RowTest.{misfits}
+use Rattle.mdtables.proofs.LinkShapes.{more-shape, linked-shape}
 use Rattle.mdtables.proofs.TableLaws.{IsFit, no-falls}
 use Rattle.mdtables.proofs.KnowledgeLaws.{KeepsKnowing, IsKnown}
 use Rattle.mdconstructs.specs.Tables.{LineByte, line_ending, other}
 use Rattle.mdconstructs.specs.Reading.{data_start, data_inside}
-use Rattle.mdconstructs.specs.Paragraphs.{text_link, flow_start, paragraph_line_start, paragraph_start, paragraph_inside, text_start, paragraphs, BeginsChunk, EndsWithChunk, HasChunk, KnowsChunk, knows_chunk}
+use Rattle.mdconstructs.specs.Paragraphs.{text_link, flow_start, paragraph_line_start, paragraph_start, paragraph_inside, text_start, paragraphs, BeginsChunk, EndsWithChunk, HasChunk, KnowsChunk, Knows, knows_chunk}
 
 fits : (previous current : Option LineByte) → misfits paragraphs previous current ≡ []
 fits previous None = refl
@@ -31,10 +35,10 @@ abbrev pub chunk_at : Point → Event
 chunk_at place = record { kind = Enter; name = Data; point = place; link = Some text_link }
 
 pub begins-chunk : (place : Point) → BeginsChunk (chunk_at place)
-begins-chunk place = record { linked = record { enter = refl; void = refl; linked = refl }; named = refl; text = refl }
+begins-chunk place = record { linked = record { enter = refl; void = refl; linked = refl }; named = refl; text = refl; last = refl }
 
 begins-linked : (place : Point) (previous : ℕ) → BeginsChunk (with_previous previous (chunk_at place))
-begins-linked place previous = record { linked = record { enter = refl; void = refl; linked = refl }; named = refl; text = refl }
+begins-linked place previous = record { linked = record { enter = refl; void = refl; linked = refl }; named = refl; text = refl; last = refl }
 
 -- a chunk stays where events are added
 more-chunk : (events : List Event) (e : Event) (index : ℕ) → HasChunk events index → HasChunk (events ++ e ∷ []) index
@@ -131,47 +135,85 @@ ends-linked events place index next h last =
 pub last-index : (events : List Event) (e : Event) → length (events ++ e ∷ []) - 1 ≡ length events
 last-index events e = omega (arith, length-append events (e ∷ []))
 
+-- the event at an index, and its link
+get-index : (xs ys : List Event) (y : Event) (i : ℕ) → i ≡ length xs → slice_get (xs ++ y ∷ ys) i ≡ Some y
+get-index [] ys y zero h = refl
+get-index [] ys y (suc i) h = absurd (omega (arith, h))
+get-index (x ∷ xs) ys y zero h = absurd (omega (arith, h))
+get-index (x ∷ xs) ys y (suc i) h = get-index xs ys y i (omega (arith, h))
+
+has-link : (o : Option Link) → IsSome o → (l : Link) × (o ≡ Some l)
+has-link None h = absurd (cc)
+has-link (Some l) h = (l, refl)
+
+-- the links of chunks stay in shape where the last event is linked to the chunk before
+linked-in-shape : (events : List Event) (place : Point) (index next : ℕ) → HasChunk events index → next ≡ length events → AreInShape events
+    → AreInShape (linked_to index next (events ++ chunk_at place ∷ []))
+unfolding more-chunk
+linked-in-shape events place index next h last shape =
+    let e = chunk_at place in
+    let xs = events ++ e ∷ [] in
+    let there = more-chunk events e index h in
+    let inside = chunk-inside events index h in
+    let at_p : slice_get xs index ≡ Some h.first = ap (λ es. slice_get es index) there.events_are ∙ get-index h.before (h.last ∷ h.after ++ e ∷ []) h.first index h.index_is in
+    let at_n : slice_get xs next ≡ Some e = get-index events [] e next last in
+    let (link, is) = has-link h.first.link h.begins.linked.linked in
+    let no_next : next_of xs index ≡ None = ap (λ (o : Option Event). option_and_then (λ (e : Event). next_end e) o) at_p ∙ h.begins.last in
+    let no_previous : previous_of xs next ≡ None = ap (λ (o : Option Event). option_and_then (λ (e : Event). previous_end e) o) at_n in
+    linked-shape xs index next h.first e link text_link at_p is at_n refl (omega (arith, inside, last)) (omega (arith, last, length-append events (e ∷ []))) no_next no_previous (more-shape events e refl refl shape)
+
+-- what is known goes on, where resolvers and edits stay
+known-on : (inside before : Bool) (events events' : List Event) (local local' : Local Unit Unit) → Knows before events local → local'.resolvers ≡ local.resolvers → local'.map ≡ local.map
+    → KnowsChunk inside events' local' → AreInShape events' → Knows inside events' local'
+known-on inside before events events' local local' h resolvers map chunk shape = record { chunk = chunk; shape = shape; resolvers = resolvers ∙ h.resolvers; edits = map ∙ h.edits }
+
 -- Each state keeps what is known of chunks
 flow-start : KeepsKnowing paragraphs knows_chunk flow_start
-flow-start g s k [] b None h = h
-flow-start g s k [] b (Some line_ending) h = λ c. more-chunk _ _ _ (more-chunk _ _ _ (h c))
-flow-start g s k [] b (Some other) h = λ c. absurd (cc)
+flow-start g s k [] b None h = known-on _ _ _ _ _ _ h refl refl h.chunk h.shape
+flow-start g s k [] b (Some line_ending) h = known-on _ _ _ _ _ _ h refl refl (λ c. more-chunk _ _ _ (more-chunk _ _ _ (h.chunk c))) (more-shape _ _ refl refl (more-shape _ _ refl refl h.shape))
+flow-start g s k [] b (Some other) h = known-on _ _ _ _ _ _ h refl refl (λ c. absurd (cc)) (more-shape _ _ refl refl h.shape)
 flow-start g s k (c ∷ cs) b w h = absurd h
 
 line-start : KeepsKnowing paragraphs knows_chunk paragraph_line_start
-line-start g s k [] b None h = λ c. more-chunk _ _ _ (h c)
-line-start g s k [] b (Some line_ending) h = λ c. more-chunk _ _ _ (h c)
-line-start g s k [] b (Some other) h = (λ mark. λ c. more-chunk _ _ _ (more-chunk _ _ _ (h c)), λ mark. h)
+line-start g s k [] b None h = known-on _ _ _ _ _ _ h refl refl (λ c. more-chunk _ _ _ (h.chunk c)) (more-shape _ _ refl refl h.shape)
+line-start g s k [] b (Some line_ending) h = known-on _ _ _ _ _ _ h refl refl (λ c. more-chunk _ _ _ (h.chunk c)) (more-shape _ _ refl refl h.shape)
+line-start g s k [] b (Some other) h = (
+  λ mark. known-on _ _ _ _ _ _ h refl refl (λ c. more-chunk _ _ _ (more-chunk _ _ _ (h.chunk c))) (more-shape _ _ refl refl (more-shape _ _ refl refl h.shape)),
+  λ mark. known-on _ _ _ _ _ _ h refl refl h.chunk h.shape,
+)
 line-start g s k (c ∷ cs) b w h = absurd h
 
 start : KeepsKnowing paragraphs knows_chunk paragraph_start
-start g s k [] b None h = h
-start g s k [] b (Some w) h = (
-  λ c. ends-linked k.events s.here k.local.tokenize_state.start (length (k.events ++ chunk_at s.here ∷ []) - 1) (h c) (last-index k.events (chunk_at s.here)),
-  λ c. ends-with (k.events ++ chunk_at s.here ∷ []) k.events (chunk_at s.here) refl (begins-chunk s.here),
-)
+start g s k [] b None h = known-on _ _ _ _ _ _ h refl refl h.chunk h.shape
+start g s k [] b (Some w) h =
+    let e = chunk_at s.here in
+    let last = last-index k.events e in (
+      λ c. known-on _ _ _ _ _ _ h refl refl (ends-linked k.events s.here k.local.tokenize_state.start (length (k.events ++ e ∷ []) - 1) (h.chunk c) last)
+          (linked-in-shape k.events s.here k.local.tokenize_state.start (length (k.events ++ e ∷ []) - 1) (h.chunk c) last h.shape),
+      λ c. known-on _ _ _ _ _ _ h refl refl (ends-with (k.events ++ e ∷ []) k.events e refl (begins-chunk s.here)) (more-shape k.events e refl refl h.shape),
+    )
 start g s k (c ∷ cs) b w h = absurd h
 
 inside : KeepsKnowing paragraphs knows_chunk paragraph_inside
-inside g s k [] b None h = λ c. ended-chunk k.events _ _ refl refl h
-inside g s k [] b (Some line_ending) h = λ c. ended-chunk k.events _ _ refl refl h
-inside g s k [] b (Some other) h = h
+inside g s k [] b None h = known-on _ _ _ _ _ _ h refl refl (λ c. ended-chunk k.events _ _ refl refl h.chunk) (more-shape _ _ refl refl h.shape)
+inside g s k [] b (Some line_ending) h = known-on _ _ _ _ _ _ h refl refl (λ c. ended-chunk k.events _ _ refl refl h.chunk) (more-shape _ _ refl refl h.shape)
+inside g s k [] b (Some other) h = known-on _ _ _ _ _ _ h refl refl h.chunk h.shape
 inside g s k (c ∷ cs) b w h = absurd h
 
 text : KeepsKnowing paragraphs knows_chunk text_start
-text g s k [] b w h = h
+text g s k [] b w h = known-on _ _ _ _ _ _ h refl refl h.chunk h.shape
 text g s k (c ∷ cs) b w h = absurd h
 
 data-first : KeepsKnowing paragraphs knows_chunk data_start
-data-first g s k [] b None h = h
-data-first g s k [] b (Some line_ending) h = λ c. more-chunk _ _ _ (more-chunk _ _ _ (h c))
-data-first g s k [] b (Some other) h = λ c. more-chunk _ _ _ (h c)
+data-first g s k [] b None h = known-on _ _ _ _ _ _ h refl refl h.chunk h.shape
+data-first g s k [] b (Some line_ending) h = known-on _ _ _ _ _ _ h refl refl (λ c. more-chunk _ _ _ (more-chunk _ _ _ (h.chunk c))) (more-shape _ _ refl refl (more-shape _ _ refl refl h.shape))
+data-first g s k [] b (Some other) h = known-on _ _ _ _ _ _ h refl refl (λ c. more-chunk _ _ _ (h.chunk c)) (more-shape _ _ refl refl h.shape)
 data-first g s k (c ∷ cs) b w h = absurd h
 
 data-more : KeepsKnowing paragraphs knows_chunk data_inside
-data-more g s k [] b None h = λ c. more-chunk _ _ _ (h c)
-data-more g s k [] b (Some line_ending) h = λ c. more-chunk _ _ _ (h c)
-data-more g s k [] b (Some other) h = h
+data-more g s k [] b None h = known-on _ _ _ _ _ _ h refl refl (λ c. more-chunk _ _ _ (h.chunk c)) (more-shape _ _ refl refl h.shape)
+data-more g s k [] b (Some line_ending) h = known-on _ _ _ _ _ _ h refl refl (λ c. more-chunk _ _ _ (h.chunk c)) (more-shape _ _ refl refl h.shape)
+data-more g s k [] b (Some other) h = known-on _ _ _ _ _ _ h refl refl h.chunk h.shape
 data-more g s k (c ∷ cs) b w h = absurd h
 
 -- no chunk is there at the start
@@ -179,7 +221,9 @@ at-starts : (flag : Bool) → let k : Configuration Unit Unit = start_configurat
 at-starts flag =
     let k : Configuration Unit Unit = start_configuration flag in
     let P = λ (name : Name). knows_chunk k.events k.local [] (Next name) in
-    All-cons P FlowStart (TextStart ∷ []) (λ c. absurd (cc)) (All-cons P TextStart [] (λ c. absurd (cc)) (All-nil P))
+    let shape : AreInShape [] = record { inside = All-nil (EndsBelow 0); on = λ i j is. absurd (let same : None ≡ Some j = is in cc); back = λ i j is. absurd (let same : None ≡ Some i = is in cc) } in
+    let none : Knows false [] k.local = record { chunk = λ c. absurd (cc); shape = shape; resolvers = refl; edits = refl } in
+    All-cons P FlowStart (TextStart ∷ []) none (All-cons P TextStart [] none (All-nil P))
 
 -- what is known where a state is fed is known where it is called
 still-known : (events : List Event) (local : Local Unit Unit) (choices : List Choice) (name : Name) → knows_chunk events local choices (Next name) → knows_chunk events local choices (Retry name)
@@ -189,7 +233,7 @@ still-known events local (c ∷ cs) name h = absurd h
 -- what is known before a chunk
 pub known-before : (events : List Event) (local : Local Unit Unit) (choices : List Choice) (n : ℕ) → n ≡ ParagraphStart.number → knows_chunk events local choices (Retry (record { number = n }))
     → KnowsChunk false events local
-known-before events local [] n e h = rw e at h
+known-before events local [] n e h = let elsewhere : (n == ParagraphInside.number) ≡ false = rw e refl in subst (λ (b : Bool). KnowsChunk b events local) elsewhere h.chunk
 known-before events local (c ∷ cs) n e h = absurd h
 
 pub paragraphs-known : IsKnown paragraphs knows_chunk

@@ -1,5 +1,6 @@
 pub mod CostLaws
 pub mod KnowledgeLaws
+pub mod LinkShapes
 pub mod Markers
 pub mod Misfits
 pub mod RowCalls

@@ -1,4 +1,5 @@
 pub mod Knowledge
+pub mod LinkShapes
 pub mod Markers
 pub mod RowInvariant
 pub mod RowTest
