@@ -38,7 +38,7 @@ below-first : (n : ℕ) (x : Event) (xs : List Event) → x.link ≡ None → Al
 below-first n x xs e more zero d l = rw e tt
 below-first n x xs e more (suc i) d l = more i d (omega arith)
 
-no-links-below : (n : ℕ) (xs : List Event) → HaveNoLinks xs → All (EndsBelow n) xs
+pub no-links-below : (n : ℕ) (xs : List Event) → HaveNoLinks xs → All (EndsBelow n) xs
 no-links-below n [] h = λ i d l. absurd (omega arith)
 no-links-below n (x ∷ xs) h = below-first n x xs h.0 (no-links-below n xs h.1)
 
@@ -46,12 +46,12 @@ no-links-below n (x ∷ xs) h = below-first n x xs h.0 (no-links-below n xs h.1)
 unlinked-same : (f : ℕ → Option ℕ) (e : Event) → e.link ≡ None → relinked f e ≡ e
 unlinked-same f e h = rw h refl
 
-woven-same : (ts : List Tagged) (i : ℕ) (xs : List Event) → HaveNoLinks xs → placed_in ts (woven [] i xs) ≡ xs
+pub woven-same : (ts : List Tagged) (i : ℕ) (xs : List Event) → HaveNoLinks xs → placed_in ts (woven [] i xs) ≡ xs
 woven-same ts i [] h = refl
 woven-same ts i (x ∷ xs) h =
     ap (λ (e : Event). e ∷ placed_in ts (woven [] (i + 1) xs)) (unlinked-same (placed_end ts (of_list i)) x h.0) ∙ ap (λ (es : List Event). x ∷ es) (woven-same ts (i + 1) xs h.1)
 
-edited-same : (xs : List Event) → HaveNoLinks xs → edited [] xs ≡ xs
+pub edited-same : (xs : List Event) → HaveNoLinks xs → edited [] xs ≡ xs
 edited-same xs h = woven-same (woven [] 0 xs) 0 xs h
 
 no-next : (xs : List Event) → HaveNoLinks xs → (i : ℕ) → next_of xs i ≡ None
@@ -71,7 +71,7 @@ no-links-mutual xs h i j =
 from-zero : (n : ℕ) → 0 ≤ n
 from-zero n = omega arith
 
-no-links-shape : (xs : List Event) → HaveNoLinks xs → IsBalanced xs → IsInShape xs
+pub no-links-shape : (xs : List Event) → HaveNoLinks xs → IsBalanced xs → IsInShape xs
 no-links-shape xs h balanced = record { balanced = balanced; inside = no-links-below (length xs) xs h; chained = no-links-mutual xs h }
 
 module _ {R D : Type 0} where
