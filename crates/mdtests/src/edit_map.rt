@@ -148,6 +148,22 @@ fn addition_at_end_is_last(rt: HostRuntime) {
     assert!(rt; columns.as_slice() == [1, 2, 91].as_slice());
 }
 
+/// An edit that is none, alone.
+fn edited_by_nothing(alloc: Global) -> Result<Vec<Event>, AllocError> {
+    let mut events = Vec::from_array(alloc, [event_at(1), event_at(2)])?;
+    let mut map = EditMap::new(alloc);
+    map.add(0, 0, Vec::new(alloc))?;
+    map.consume(&mut events)?;
+    Ok(events)
+}
+
+#[test]
+fn edit_that_is_none_changes_nothing(rt: HostRuntime) {
+    let events = edited_by_nothing(rt.alloc()).expect(&rt, "memory");
+    let columns = columns(rt.alloc(), &events).expect(&rt, "memory");
+    assert!(rt; columns.as_slice() == [1, 2].as_slice());
+}
+
 /// Two removals at one index, and an addition in front at an index that has no edit.
 fn removed_twice(alloc: Global) -> Result<Vec<Event>, AllocError> {
     let mut events = Vec::from_array(alloc, [event_at(1), event_at(2), event_at(3), event_at(4)])?;

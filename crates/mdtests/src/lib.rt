@@ -8,6 +8,8 @@ mod constants;
 #[cfg(test)]
 mod edit_map;
 #[cfg(test)]
+mod faults;
+#[cfg(test)]
 mod line_endings;
 #[cfg(test)]
 mod links;

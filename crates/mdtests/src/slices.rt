@@ -67,6 +67,14 @@ fn stays_inside_a_tab(rt: HostRuntime) -> Result<(), Fail> {
     assert_eq!(rt; slice.before, 1);
     assert_eq!(rt; slice.bytes.len(), 0);
     assert_eq!(rt; slice.after, 0);
+    assert!(rt;
+        str::from_utf8(slice.bytes).is_ok()
+            && slice.bytes.len() < 4
+            && slice.before < 3
+            && slice.after < 3
+    );
+    assert_eq!(rt; slice.len(), 1);
+    assert_eq!(rt; slice.serialize(rt.alloc())?.as_str(), " ");
     Ok(())
 }
 
@@ -83,6 +91,14 @@ fn ends_inside_a_tab(rt: HostRuntime) -> Result<(), Fail> {
     assert_eq!(rt; slice.before, 0);
     assert_eq!(rt; slice.bytes, b"a\t".as_slice());
     assert_eq!(rt; slice.after, 1);
+    assert!(rt;
+        str::from_utf8(slice.bytes).is_ok()
+            && slice.bytes.len() < 4
+            && slice.before < 3
+            && slice.after < 3
+    );
+    assert_eq!(rt; slice.len(), 3);
+    assert_eq!(rt; slice.serialize(rt.alloc())?.as_str(), "a\t ");
     Ok(())
 }
 

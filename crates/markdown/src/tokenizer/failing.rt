@@ -27,21 +27,3 @@ impl From<AllocError> for Fault {
         Self::Memory
     }
 }
-
-#[cfg(test)]
-mod tests {
-    use super::*;
-    use std::test::Fail;
-
-    #[test]
-    fn shows_lines(rt: HostRuntime) -> Result<(), Fail> {
-        for (fault, line) in [
-            (Fault::from(AllocError), "out of memory"),
-            (Fault::Failed, "tokenizer has failed"),
-        ] {
-            let text = fault.to_string(rt.alloc())?;
-            assert_eq!(rt; text.as_str(), line);
-        }
-        Ok(())
-    }
-}
