@@ -43,7 +43,7 @@ no-links-below n [] h = λ i d l. absurd (omega arith)
 no-links-below n (x ∷ xs) h = below-first n x xs h.0 (no-links-below n xs h.1)
 
 -- no edit changes them
-unlinked-same : (f : ℕ → Option ℕ) (e : Event) → e.link ≡ None → relinked f e ≡ e
+pub unlinked-same : (f : ℕ → Option ℕ) (e : Event) → e.link ≡ None → relinked f e ≡ e
 unlinked-same f e h = rw h refl
 
 pub woven-same : (ts : List Tagged) (i : ℕ) (xs : List Event) → HaveNoLinks xs → placed_in ts (woven [] i xs) ≡ xs

@@ -4,7 +4,7 @@ use Rattle.markdown.specs.Text.{Given}
 use Rattle.markdown.specs.Configuration.{Configuration}
 use Rattle.markdown.specs.Sight.{Sight}
 use Rattle.markdown.specs.Plain.{IsPlain, KeepsPlain}
-use Rattle.mdtables.specs.Rows.{Row, StateRows, class_of, does, picked, step_at, table_step}
+use Rattle.mdtables.specs.Rows.{Row, class_of, does, picked, step_at, table_step}
 use Rattle.mdtables.specs.RowTest.{misfits}
 use Rattle.mdtables.proofs.TableLaws.{IsFit, no-falls}
 use Rattle.mdconstructs.specs.Tables.{LineByte, line_ending, other, line_byte}

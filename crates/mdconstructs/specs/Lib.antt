@@ -18,3 +18,5 @@ pub mod SaveLaws
 pub mod Tables
 pub mod Words
 pub mod WordsLaws
+pub mod Wrap
+pub mod WrapLaws

@@ -8,7 +8,7 @@ use markdown::state::MachineTypes;
 use markdown::tokenizer::Tokenizer;
 
 /// Counts a call.
-pub(crate) fn begin<'a, M: MachineTypes<Resolver = (), Document = ()>>(t: &mut Tokenizer<'a, M>)
+pub(crate) fn begin<'a, M: MachineTypes>(t: &mut Tokenizer<'a, M>)
     ensures { t.new ≡ begun counts t.old }
 {
     t.tick();

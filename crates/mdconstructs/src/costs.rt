@@ -12,6 +12,8 @@ ghost use Rattle.mdconstructs.specs.Deep.{deep_rules};
 ghost use Rattle.mdconstructs.specs.Back.{back_rules};
 ghost use Rattle.mdconstructs.specs.Save.{save_rules};
 ghost use Rattle.mdconstructs.specs.Words.{words_rules};
+ghost use Rattle.mdconstructs.specs.Fail.{fail_rules};
+ghost use Rattle.mdconstructs.specs.Wrap.{wrap_rules};
 
 /// Each machine starts with one state, from which it takes at most so many calls on a text of n virtual bytes; that of
 /// paragraphs with one of two.
@@ -24,4 +26,6 @@ pub fn costs_at_the_start()
     ensures back { StartsAt back_rules TextStart (λ n. 2 * n + 4) }
     ensures save { StartsAt save_rules TextStart (λ n. 2 * n + 1) }
     ensures words { StartsAt words_rules TextStart (λ n. 2 * n + 1) }
+    ensures fail { (at : _) → StartsAt (fail_rules at) TextStart (λ n. n + 1) }
+    ensures wrap { (refuse : _) → StartsAt (wrap_rules refuse) TextStart (λ n. 2 * n + 2) }
 {}

@@ -13,3 +13,4 @@ mod reading;
 mod refusal;
 pub mod save;
 pub mod words;
+pub mod wrap;

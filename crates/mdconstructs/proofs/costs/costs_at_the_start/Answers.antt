@@ -39,3 +39,9 @@ returns-clause-save c = record { starts = λ g. refl; cost = λ g text flag. ome
 
 pub returns-clause-words : goal.returns-clause-words
 returns-clause-words c = record { starts = λ g. refl; cost = λ g text flag. omega arith }
+
+pub returns-clause-fail : goal.returns-clause-fail
+returns-clause-fail c = λ at. record { starts = λ g. refl; cost = λ g text flag. omega arith }
+
+pub returns-clause-wrap : goal.returns-clause-wrap
+returns-clause-wrap c = λ refuse. record { starts = λ g. refl; cost = λ g text flag. omega arith }
