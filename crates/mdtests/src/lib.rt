@@ -6,6 +6,8 @@ mod chars;
 #[cfg(test)]
 mod constants;
 #[cfg(test)]
+mod driven;
+#[cfg(test)]
 mod edit_map;
 #[cfg(test)]
 mod faults;
@@ -27,6 +29,10 @@ mod owned_values;
 mod places;
 #[cfg(test)]
 mod points;
+#[cfg(test)]
+mod refusals;
+#[cfg(test)]
+mod resolving;
 #[cfg(test)]
 mod skip;
 #[cfg(test)]
