@@ -7,12 +7,15 @@ use Rattle.markdown_base.specs.declared.event.Kind.TheVariants.{Enter, Exit}
 use Rattle.markdown_base.specs.declared.event.Name.TheVariants.{Data}
 use Rattle.markdown_base.specs.declared.event.Link.{Link}
 use Rattle.markdown_base.specs.declared.event.Point.{Point}
-use Rattle.markdown_base.specs.Events.{EndsBelow}
+use Rattle.markdown_base.specs.Events.{EndsBelow, IsBalanced}
 use Rattle.markdown_base.specs.declared.state.Name.{Name}
-use Rattle.markdown_base.specs.declared.state.State.TheVariants.{Next, Retry}
+use Rattle.markdown_base.specs.declared.state.State.TheVariants.{Next, Retry, Ok}
 use Rattle.markdown_base.specs.declared.state.TheConstants.Name.{FlowStart, TextStart, ParagraphStart, ParagraphInside}
 use Rattle.markdown.specs.Configuration.{Configuration, Local, Choice, start_configuration}
 use Rattle.markdown.specs.Links.{IsLinkedEnter, IsEndedBy, CanLink, content_of, updated_at, with_next, with_previous, linked_to, next_of, previous_of}
+use Rattle.markdown.specs.Edited.{edited}
+use Rattle.markdown.specs.Resolving.{CanBeEdited, IsInShape}
+use Rattle.markdown.proofs.Splices.{edited-none}
 use Rattle.mdtables.specs.LinkShapes.{next_end, previous_end, AreInShape}
 use Rattle.mdtables.specs.RowTest.{misfits}
 use Rattle.mdtables.proofs.LinkShapes.{more-shape, linked-shape}
@@ -236,6 +239,15 @@ pub known-before : (events : List Event) (local : Local Unit Unit) (choices : Li
 known-before events local [] n e h = let elsewhere : (n == ParagraphInside.number) ≡ false = rw e refl in subst (λ (b : Bool). KnowsChunk b events local) elsewhere h.chunk
 known-before events local (c ∷ cs) n e h = absurd h
 
+-- where all was read no edit waits, and the events stay in shape
+at-end : (k : Configuration Unit Unit) → IsBalanced k.events → knows_chunk k.events k.local [] Ok
+    → (k.local.resolvers ≡ []) × CanBeEdited k × IsInShape (edited k.local.map k.events)
+at-end k balanced h =
+    let shape : IsInShape k.events = record { balanced = balanced; inside = h.shape.inside; chained = λ i j. (h.shape.on i j, h.shape.back i j) } in
+    let none = h.edits in
+    let same = edited-none k.events h.shape.inside in
+    (h.resolvers, rw none (omega arith, h.shape.inside), rw (none, same) shape)
+
 pub paragraphs-known : IsKnown paragraphs knows_chunk
 paragraphs-known = record {
   at_starts = at-starts;
@@ -243,4 +255,5 @@ paragraphs-known = record {
   by_rows = (flow-start, (line-start, (start, (inside, (text, (data-first, (data-more, tt)))))));
   by_ok = λ k choice choices h. absurd h;
   by_nok = λ k choice choices h. absurd h;
+  at_end = at-end;
 }

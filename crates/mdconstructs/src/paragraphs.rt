@@ -12,7 +12,8 @@ use crate::begin::begin;
 use crate::reading::{data_inside, data_start};
 use markdown::event::{self, Content, Link};
 use markdown::state::{Machine, MachineTypes, Name, State};
-use markdown::tokenizer::Tokenizer;
+use markdown::subtokenize::Subresult;
+use markdown::tokenizer::{Fault, Tokenizer};
 use mdtables::marker;
 use std::alloc::{AllocError, Global};
 
@@ -63,6 +64,16 @@ impl Machine for Paragraphs {
         }
     }
 
+    /// Never called, as it registers no resolver.
+    fn resolve<'a>(
+        &self,
+        alloc: Global,
+        t: &mut Tokenizer<'a, Self>,
+        name: (),
+    ) -> Result<Option<Subresult>, Fault> {
+        Ok(None)
+    }
+
     ghost consumes_once = { λ _ g. laws.knowing-consumes_once paragraphs knows_chunk g paragraphs-fit paragraphs-known };
 
     ghost only_adds = { λ _ g. laws.knowing-only_adds paragraphs knows_chunk g paragraphs-fit paragraphs-known };
@@ -72,6 +83,8 @@ impl Machine for Paragraphs {
     ghost invariant_kept = { λ _ g. laws.knowing-invariant_kept paragraphs knows_chunk g paragraphs-fit paragraphs-known };
 
     ghost cost_pays = { λ _ g. laws.knowing-cost_pays paragraphs knows_chunk g paragraphs-fit paragraphs-known };
+
+    ghost resolvers_keep = { λ _ g. laws.knowing-resolvers_keep paragraphs knows_chunk g paragraphs-fit paragraphs-known };
 }
 
 /// Before a paragraph: a blank line is passed, and at another one the paragraph begins.
