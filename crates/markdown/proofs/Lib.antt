@@ -36,3 +36,4 @@ pub mod Unwinding
 pub mod GapLaws
 pub mod GoingOn
 pub mod SkipSearch
+pub mod Appended

@@ -3,12 +3,8 @@ use Rattle.std.proofs.Common.{◌≡◌, ℕ, zero, suc, ◌+◌, ◌-◌, ◌<�
 use Rattle.std.proofs.lemmas.List.{drop-drop}
 use Rattle.std.proofs.lemmas.Bool.{ne_eqb, eq-eqb, lt-ltb, le-ltb, le-leb, lt-leb}
 use Rattle.markdown_base.specs.declared.event.Event.{Event}
+pub use Rattle.markdown.specs.Woven.{AreApart}
 use Rattle.markdown.specs.Woven.{Change, events_at, is_removed, Tagged, as_listed, woven}
-
--- the first change starts at or behind `from`, each ends at or before the index of the next, and the last ends within n events
-abbrev pub AreApart : ℕ → List Change → ℕ → Type 0
-AreApart from [] n = from ≤ n
-AreApart from (e ∷ es) n = (from ≤ e.index) × AreApart (e.index + e.remove) es n
 
 -- events that stay, from index i on
 abbrev pub olds : ℕ → List Event → List Tagged

@@ -1,5 +1,6 @@
 -- Edits of a list of events, in the order of their indices, one an index.
-use Rattle.std.specs.Prelude.{ℕ, ◌+◌, ◌≤◌, Bool, ◌&&◌, ◌==◌, List, [], ◌∷◌, ◌++◌, length, if◌then◌else◌}
+use Rattle.std.specs.Prelude.{ℕ, ◌+◌, ◌≤◌, ◌<◌, Bool, ◌&&◌, ◌==◌, List, [], ◌∷◌, ◌++◌, length, if◌then◌else◌}
+use Rattle.std.specs.List.{AllByRecursion}
 use Rattle.std.specs.Ordering.{match_ordering, nat_cmp}
 use Rattle.markdown_base.specs.declared.event.Event.{Event}
 
@@ -55,3 +56,7 @@ removal_at (e ∷ es) i = (if e.index == i then e.remove else 0) + removal_at es
 abbrev pub AreDisjoint : ℕ → List Edit → ℕ → Type 0
 AreDisjoint from [] n = from ≤ n
 AreDisjoint from (e ∷ es) n = (from ≤ e.index) × AreDisjoint (e.index + e.remove) es n
+
+-- the second edits stand behind the first ones: some index parts them
+abbrev pub AreBehind : List Edit → List Edit → Type 0
+AreBehind es more = (n : ℕ) × AllByRecursion (λ (e : Edit). e.index < n) es × AllByRecursion (λ (e : Edit). n ≤ e.index) more

@@ -1,6 +1,6 @@
 -- A list of events after changes, told by the identities of its events: a link end names an event, and its place is read
 -- off the list that comes out (the crate's comments on `EditMap`: indices move, links stay).
-use Rattle.std.specs.Prelude.{ℕ, suc, ◌+◌, Bool, false, ◌&&◌, ◌==◌, nat_le, nat_lt, List, [], ◌∷◌, ◌++◌, map, Option, Some, None, option_map, if◌then◌else◌}
+use Rattle.std.specs.Prelude.{ℕ, suc, ◌+◌, ◌≤◌, Bool, false, ◌&&◌, ◌==◌, nat_le, nat_lt, List, [], ◌∷◌, ◌++◌, map, Option, Some, None, option_map, if◌then◌else◌}
 use Rattle.std.specs.List.{list_any, flat_map}
 use Rattle.markdown_base.specs.declared.event.Event.{Event}
 use Rattle.markdown_base.specs.Events.{relinked}
@@ -72,3 +72,8 @@ woven ws i (x ∷ xs) = events_at ws i ++ ((if is_removed ws i then [] else as_l
 -- the list after all changes at once
 abbrev pub changed : List Change → List Event → List Event
 changed ws xs = placed (woven ws 0 xs)
+
+-- the first change starts at or behind `from`, each ends at or before the index of the next, and the last ends within n events
+abbrev pub AreApart : ℕ → List Change → ℕ → Type 0
+AreApart from [] n = from ≤ n
+AreApart from (e ∷ es) n = (from ≤ e.index) × AreApart (e.index + e.remove) es n

@@ -3,9 +3,9 @@
 //! An edit made by itself would move what stands behind it, and links would have to follow each time. So a map holds
 //! edits at indices into the events as they are, and every event and link end is moved once.
 
-ghost use Rattle.std.specs.Prelude.{◌≡◌, ◌+◌, ◌<◌, ◌^◌, [], length, OnOk, OnErr, IsOk, All, IsTrue};
+ghost use Rattle.std.specs.Prelude.{◌≡◌, ◌++◌, ◌+◌, ◌<◌, ◌^◌, [], length, OnOk, OnErr, IsOk, All, IsTrue};
 ghost use Rattle.markdown_base.specs.Events.{EndsBelow};
-ghost use Rattle.markdown.specs.Edits.{edit_at, is_no_edit, added_after, added_before, removal_at, AreDisjoint};
+ghost use Rattle.markdown.specs.Edits.{edit_at, is_no_edit, added_after, added_before, removal_at, AreDisjoint, AreBehind};
 ghost use Rattle.markdown.specs.Edited.{edited};
 
 pub mod laws;
@@ -99,6 +99,16 @@ impl EditMap {
             })?,
         }
         Ok(())
+    }
+
+    /// Moves the edits of another map, which stand behind all that are there, into this one: all of them, or none where
+    /// memory is refused. The other map is left empty, or as it was.
+    pub fn append(&mut self, more: &mut EditMap) -> Result<(), AllocError>
+        requires { AreBehind self.old more.old }
+        ensures ok { OnOk result ((self.new ≡ self.old ++ more.old) × (more.new ≡ [])) }
+        ensures err { OnErr result ((self.new ≡ self.old) × (more.new ≡ more.old)) }
+    {
+        self.edits.append(&mut more.edits)
     }
 
     /// Makes all edits at once, and leaves the map empty.
