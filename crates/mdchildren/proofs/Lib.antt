@@ -1,0 +1,14 @@
+pub mod Following
+pub mod Spaced
+pub mod Kept
+pub mod ChildPlaces
+pub mod Placed
+pub mod ChildEdits
+pub mod Pieces
+pub mod OneChain
+pub mod Examples
+pub mod Turns
+pub mod Adding
+pub mod Tabled
+pub mod ByChunk
+pub mod ReadyExample

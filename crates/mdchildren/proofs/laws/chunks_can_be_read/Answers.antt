@@ -1,0 +1,5 @@
+use Rattle.mdchildren.proofs.Pieces.{chunks_can_be_read}
+use Rattle.mdchildren.proofs.laws.chunks_can_be_read.Goals as goal
+
+pub returns : goal.returns
+returns c = λ tab bytes options wanted events c ready. chunks_can_be_read tab bytes options wanted events ready c

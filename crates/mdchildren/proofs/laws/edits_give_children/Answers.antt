@@ -1,0 +1,5 @@
+use Rattle.mdchildren.proofs.ChildEdits.{edits_give_children}
+use Rattle.mdchildren.proofs.laws.edits_give_children.Goals as goal
+
+pub returns : goal.returns
+returns c = edits_give_children

@@ -1,0 +1,6 @@
+//! Content in content: chains of chunks in a list of events, the parts of their children, and lists that are ready.
+#![tactic(auto)]
+
+mod division;
+pub mod laws;
+pub mod subtokenize;
