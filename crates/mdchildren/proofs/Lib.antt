@@ -12,3 +12,5 @@ pub mod Adding
 pub mod Tabled
 pub mod ByChunk
 pub mod ReadyExample
+pub mod Reached
+pub mod ReadyProofs

@@ -5,3 +5,5 @@ pub mod Parts
 pub mod Children
 pub mod Reads
 pub mod Tables
+pub mod Rows
+pub mod ReadyTests

@@ -1,6 +1,5 @@
 -- What the chains of a list are read as.
-use Rattle.std.specs.Prelude.{◌≡◌, ℕ, ◌+◌, ◌-◌, ◌<◌, ◌↔◌, Bool, true, List, [], ◌∷◌, ◌++◌, map, flat_map, Option, Some, None, option_and_then, IsSomeAnd, slice_get}
-use Rattle.std.specs.List.{AllZip}
+use Rattle.std.specs.Prelude.{◌≡◌, ℕ, ◌+◌, ◌-◌, ◌<◌, true, List, [], ◌∷◌, Option, Some, None, option_and_then, IsSomeAnd, slice_get}
 use Rattle.markdown_base.specs.declared.configuration.Constructs.{Constructs}
 use Rattle.markdown_base.specs.declared.event.Content.{Content}
 use Rattle.markdown_base.specs.declared.event.Content.TheVariants.{Flow, String, Text}
@@ -8,22 +7,13 @@ use Rattle.markdown_base.specs.declared.event.Content.TheVariants as content
 use Rattle.markdown_base.specs.declared.event.Event.{Event}
 use Rattle.markdown_base.specs.declared.event.Kind.TheVariants.{Enter, Exit}
 use Rattle.markdown_base.specs.declared.event.Name.TheVariants.{BlankLineEnding, Definition, LineEnding, SpaceOrTab, Paragraph, ListItemPrefix}
-use Rattle.markdown_base.specs.declared.message.Message.{Message}
 use Rattle.markdown_base.specs.declared.state.Name.{Name}
 use Rattle.markdown_base.specs.declared.state.TheConstants.Name.{ContentDefinitionBefore, StringStart, TextStart}
-use Rattle.markdown_base.specs.declared.state.State.TheVariants.{Next, Ok, Error}
-use Rattle.markdown_base.specs.Events.{IsBalanced}
-use Rattle.markdown.specs.declared.subtokenize.Subresult.{Subresult}
 use Rattle.markdown.specs.Text.{Given, Text as TextOf, Piece, pushed, passed, empty_text, followed_by_all}
-use Rattle.markdown.specs.Configuration.{Configuration, Step, start_configuration}
-use Rattle.markdown.specs.Sight.{Sight}
-use Rattle.markdown.specs.Reading.{Reading, EndsIn}
-use Rattle.markdown.specs.Engine.{found}
 use Rattle.markdown.specs.SpanWalks.{IsLongestRunTo}
-use Rattle.markdown.specs.Survivors.{StaysUnlessRemoved, KeepsLinks}
-use Rattle.mdchildren.specs.Chains.{content_at, chain_of, fitting_starts}
+use Rattle.mdchildren.specs.Chains.{content_at}
 use Rattle.mdchildren.specs.Ready.{place_at}
-use Rattle.mdchildren.specs.Children.{first_chunk, child_changes, with_children}
+use Rattle.mdchildren.specs.Children.{first_chunk}
 
 -- the event at an index is the first paragraph of a list item: task list items are on, the paragraph is entered directly before, and what
 -- stands in front of that, but for blank lines, definitions and white space, is the prefix of a list item

@@ -3,4 +3,6 @@
 
 mod division;
 pub mod laws;
+mod readiness;
+mod rows;
 pub mod subtokenize;

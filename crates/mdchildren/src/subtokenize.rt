@@ -1,6 +1,6 @@
 //! Content in content: a child's events are put in the place of the chunks that it was read from.
 
-ghost use Rattle.std.specs.Prelude.{◌≡◌, ◌+◌, ◌*◌, ◌^◌, ◌<◌, ◌++◌, ◌↔◌, ◌&&◌, length, IfOk, OnOk, OnErr, IsTrue};
+ghost use Rattle.std.specs.Prelude.{◌≡◌, ◌+◌, ◌*◌, ◌^◌, ◌<◌, ◌++◌, ◌↔◌, ◌&&◌, true, length, option_map, IfOk, OnOk, OnErr, IsTrue};
 ghost use Rattle.std.specs.List.{AllByRecursion};
 ghost use denote.Enum.Bare.{sameb};
 ghost use Rattle.markdown_base.specs.contracts.event.Kind.{the_type as kinds};
@@ -8,14 +8,17 @@ ghost use Rattle.markdown_base.specs.Events.{IsBalanced, same_name};
 ghost use Rattle.mdchildren.specs.Chains.{chain_of};
 ghost use Rattle.mdchildren.specs.Laws.{HasEndsWithin};
 ghost use Rattle.mdchildren.specs.Parts.{divided, chain_edits, removed_by, added_by, IsForward, StandBefore};
+ghost use Rattle.mdchildren.specs.Ready.{IsReady};
 ghost use Rattle.mdchildren.specs.Reads.{IsAtFirstParagraph};
 
 use crate::division::{chunks_of, edits_of};
+use crate::readiness::{are_sound, can_be_read, closes};
+use crate::rows::rows_of;
 use markdown::util::edit_map::EditMap;
 use markdown::util::skip::opt_back;
 use markdown_base::configuration::Constructs;
-use markdown_base::event::{Event, Kind, Name};
-use std::alloc::AllocError;
+use markdown_base::event::{Content, Event, Kind, Name};
+use std::alloc::{AllocError, Global};
 
 /// Adds to the map one edit for each chunk of a chain: its two events go, and its part of the child comes.
 ///
@@ -87,4 +90,29 @@ fn is(event: &Event, kind: Kind, name: Name) -> bool
     ensures { result ≡ (sameb kinds event.now.kind kind && same_name event.now.name name) }
 {
     event.kind == kind && event.name == name
+}
+
+/// Whether the chains of a list can be read where they fit: `filter` is their content, or None for all.
+///
+/// That is so for a balanced list in which each linked event enters a void span that its exit follows; links lead on and
+/// back alike, forwards, and along one content; and in each chain that fits the content is not Flow, chunks stand at places of the
+/// document that are shown and do not run backwards, and between two of them stand whole spans in no chain, over no text or text
+/// that begins a line and ends in it. The list may be any, with link ends wherever they lead.
+pub fn ready(
+    alloc: Global,
+    events: &[Event],
+    bytes: &[u8],
+    filter: Option<&Content>,
+) -> Result<bool, AllocError>
+    requires limit { 4 * length bytes.now + 1 < 2 ^ 64 }
+    ensures { IfOk result (λ b. (b ≡ true) ↔ IsReady 4 bytes.now (option_map (λ c. c.now) filter.entry) events.now) }
+{
+    if !closes(alloc, events)? {
+        return Ok(false);
+    }
+    if !are_sound(events) {
+        return Ok(false);
+    }
+    let rows = rows_of(alloc, bytes)?;
+    can_be_read(alloc, events, &rows, filter.copied())
 }

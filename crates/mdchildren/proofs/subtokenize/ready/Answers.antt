@@ -1,0 +1,15 @@
+use Rattle.std.proofs.Common.{sym, ◌∙◌, arith}
+use Rattle.std.specs.Prelude.{option_map}
+use Rattle.mdchildren.proofs.ReadyProofs.{not-ready-closes, not-ready-sound, ready-if}
+use Rattle.mdchildren.proofs.subtokenize.ready.Goals as goal
+
+pub returns-then-not-branch : goal.returns-then-not-branch
+returns-then-not-branch c = not-ready-closes 4 (omega arith) c.args.bytes.now (option_map (λ f. f.now) c.args.filter) c.args.events.now c.in_ok-closes.field-0 c.in_ok-closes.ensures c.if-not-branch.true
+
+pub returns-then-not-are_sound : goal.returns-then-not-are_sound
+returns-then-not-are_sound c = not-ready-sound 4 (omega arith) c.args.bytes.now (option_map (λ f. f.now) c.args.filter) c.args.events.now (c.are_sound.ensures.some c.if-not-are_sound.true)
+
+pub returns : goal.returns
+returns c =
+    ready-if 4 (omega arith) c.args.bytes.now (option_map (λ f. f.now) c.args.filter) c.args.events.now c.copied.result c.deref.result.now c.copied.ensures (c.deref.ensures.value ∙ c.in_ok-rows.ensures)
+    c.can_be_read.result (sym c.in_ok-closes.ensures ∙ c.if-not-branch.false) (c.are_sound.ensures.all c.if-not-are_sound.false) c.can_be_read.ensures.all c.can_be_read.ensures.some

@@ -1,0 +1,110 @@
+//! Where each byte of a document begins, to tell its places.
+
+ghost use Rattle.std.specs.Prelude.{◌≡◌, ◌+◌, ◌*◌, ◌^◌, ◌<◌, ◌≤◌, length, slice_get, suc, IfOk};
+ghost use Rattle.mdchildren.specs.Rows.{is_lf, width_at, ends_line, column_after, rows, is_in_some_row};
+
+use markdown_base::event::Point;
+use markdown_base::util::constant::TAB_SIZE;
+use std::alloc::{AllocError, Global};
+
+/// The line and the column at which a byte, or the document's end, begins, and how many of its places are shown.
+#[derive(Clone, Copy)]
+pub(crate) struct Row {
+    pub(crate) line: usize,
+    pub(crate) column: usize,
+    pub(crate) width: usize,
+}
+
+/// The rows of a document: one a byte, and one of its end.
+pub(crate) fn rows_of(alloc: Global, bytes: &[u8]) -> Result<Vec<Row>, AllocError>
+    requires limit { 4 * length bytes.now + 1 < 2 ^ 64 }
+    ensures { IfOk result (λ v. v.items ≡ rows 4 bytes.now) }
+{
+    let mut rows = Vec::new(alloc);
+    let mut line: usize = 1;
+    let mut column: usize = 1;
+    for index in 0..bytes.len() {
+        let width = width_at(bytes, index, column);
+        rows.push(Row {
+            line,
+            column,
+            width,
+        })?;
+        if ends_line(bytes, index) {
+            line += 1;
+        }
+        column = column_after(bytes, index, column);
+    }
+    rows.push(Row {
+        line,
+        column,
+        width: 1,
+    })?;
+    Ok(rows)
+}
+
+/// Whether a point is that of a place of the document which is shown, by its rows.
+pub(crate) fn is_place(rows: &[Row], point: Point) -> bool
+    ensures { result ≡ is_in_some_row point (slice_get rows.now point.index) }
+{
+    match rows.get(point.index) {
+        None => false,
+        Some(row) => {
+            row.line == point.line
+                && row.column <= point.column
+                && (point.column - row.column == point.vs && point.vs < row.width)
+        }
+    }
+}
+
+/// Whether an LF stands at an index.
+fn is_lf(bytes: &[u8], index: usize) -> bool
+    ensures { result ≡ is_lf bytes.now index }
+{
+    index < bytes.len() && bytes[index] == b'\n'
+}
+
+/// How many places of a byte are shown: a tab has one a column, and the LF of a CR LF none.
+fn width_at(bytes: &[u8], index: usize, column: usize) -> usize
+    requires inside { index < length bytes.now }
+    requires first { 1 ≤ column }
+    ensures { result ≡ width_at 4 bytes.now column index }
+{
+    if bytes[index] == b'\t' {
+        return TAB_SIZE - (column - 1) % TAB_SIZE;
+    }
+    if bytes[index] == b'\n' && index > 0 && bytes[index - 1] == b'\r' {
+        0
+    } else {
+        1
+    }
+}
+
+/// Whether a byte ends a line: the CR of a CR LF does not.
+fn ends_line(bytes: &[u8], index: usize) -> bool
+    requires inside { index < length bytes.now }
+    ensures { result ≡ ends_line bytes.now index }
+{
+    if bytes[index] == b'\r' {
+        !is_lf(bytes, index + 1)
+    } else {
+        is_lf(bytes, index)
+    }
+}
+
+/// The column after a byte at this column.
+fn column_after(bytes: &[u8], index: usize, column: usize) -> usize
+    requires inside { index < length bytes.now }
+    requires first { 1 ≤ column }
+    requires limit { column + 4 < 2 ^ 64 }
+    ensures { result ≡ column_after 4 bytes.now column index }
+{
+    if ends_line(bytes, index) {
+        return 1;
+    }
+    match bytes[index] {
+        b'\r' => column,
+        b'\t' => column + (TAB_SIZE - (column - 1) % TAB_SIZE),
+        _ => column + 1,
+    }
+}
