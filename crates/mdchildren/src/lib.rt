@@ -6,3 +6,5 @@ pub mod laws;
 mod readiness;
 mod rows;
 pub mod subtokenize;
+#[cfg(test)]
+mod tests;
