@@ -14,3 +14,4 @@ pub mod ByChunk
 pub mod ReadyExample
 pub mod Reached
 pub mod ReadyProofs
+pub mod Forward

@@ -1,0 +1,33 @@
+use Rattle.std.proofs.Common.{None, [], ◌++◌, List, length, refl, sym, ◌∙◌, ap, subst, arith}
+use Rattle.markdown_base.specs.declared.event.Event.{Event}
+use Rattle.markdown.specs.Edits.{Edit, AreDisjoint}
+use Rattle.mdchildren.specs.Laws.{HasEndsWithin}
+use Rattle.mdchildren.specs.Parts.{divided, chain_edits}
+use Rattle.mdchildren.proofs.Forward.{forward-chain, within, one-chain-disjoint, ends-inside}
+use Rattle.mdchildren.proofs.tests.edits_of.Goals as goal
+
+pub divide_events-requires-clause-chain : goal.divide_events-requires-clause-chain
+divide_events-requires-clause-chain c =
+    forward-chain 4 c.args.bytes.now None c.args.events.now (c.in_ok-ready.ensures.0 c.if-not-branch.false) c.args.index (sym c.begins_at.ensures ∙ c.if-not-begins_at.false)
+
+pub divide_events-requires-clause-within : goal.divide_events-requires-clause-within
+divide_events-requires-clause-within c =
+    within 4 c.args.bytes.now None c.args.events.now (c.in_ok-ready.ensures.0 c.if-not-branch.false) c.args.index (sym c.begins_at.ensures ∙ c.if-not-begins_at.false)
+
+pub divide_events-requires-clause-before : goal.divide_events-requires-clause-before
+divide_events-requires-clause-before c = rw c.new-map.ensures (record { disjoint = omega arith; below = tt })
+
+pub divide_events-requires-clause-sums : goal.divide_events-requires-clause-sums
+divide_events-requires-clause-sums c = rw c.new-map.ensures (refl, refl)
+
+pub divide_events-requires-clause-ends : goal.divide_events-requires-clause-ends
+divide_events-requires-clause-ends c = subst HasEndsWithin c.as_slice.ensures.value (c.has_ends_within.ensures c.if-not-has_ends_within.false)
+
+pub returns : goal.returns
+returns c =
+    let r = c.in_ok-ready.ensures.0 c.if-not-branch.false in
+    let child = c.args.child.now.items in
+    let is = c.in_ok-sums.ensures.ok ∙ ap (λ (es : List Edit). es ++ chain_edits 0 0 (divided c.args.events.now c.args.index child)) c.new-map.ensures in (
+      subst (λ (es : List Edit). AreDisjoint 0 es (length c.args.events.now)) (sym is) (one-chain-disjoint 4 c.args.bytes.now None c.args.events.now r c.args.index 0 0 (sym c.begins_at.ensures ∙ c.if-not-begins_at.false) child),
+      ends-inside 4 c.args.bytes.now None c.args.events.now r,
+    )
