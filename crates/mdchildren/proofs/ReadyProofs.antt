@@ -20,13 +20,13 @@ use Rattle.markdown_base.specs.declared.event.Name.{Name}
 use Rattle.markdown_base.specs.declared.event.Point.{Point}
 use Rattle.markdown_base.specs.Events.{IsBalanced, is_void, same_name}
 use Rattle.markdown_base.specs.Places.{stands_before}
-use Rattle.markdown.specs.Links.{content_of, next_of, previous_of}
+use Rattle.markdown.specs.Links.{content_of, next_of, previous_of, AreMutual}
 use Rattle.markdown.specs.OpenNames.{names_after_all}
 use Rattle.markdown.proofs.Balanced.{balanced_from_open, names_after_balanced, same_name-true}
 use Rattle.markdown.proofs.Points.{same-numbers}
 use Rattle.mdchildren.proofs.Following.{apart, fits_next}
 use Rattle.mdchildren.specs.Chains.{content_at, lets_through, some_fits, fits}
-use Rattle.mdchildren.specs.Ready.{place_at, IsChunk, AreMutual, IsShownPlace, IsGap, IsReady}
+use Rattle.mdchildren.specs.Ready.{place_at, IsChunk, IsShownPlace, IsGap, IsReady}
 use Rattle.mdchildren.specs.ReadyTests.{is_closed, closes, link_at, is_number, is_void_span, is_chunk, leads_back_to, is_joined_on, leads_on_to, is_joined_back, is_sound, is_sound_at, is_same_point, is_in_line, has_no_link, is_gap, is_gap_on, is_readable, can_be_read, can_be_read_at, AllBelow, FailsSomewhere}
 use Rattle.mdchildren.specs.Rows.{rows, is_in_some_row}
 use Rattle.mdchildren.specs.declared.rows.Row.{Row}

@@ -8,7 +8,7 @@ use Rattle.markdown_base.specs.declared.event.Point.{Point}
 use Rattle.markdown_base.specs.Virtual.{point}
 use Rattle.markdown_base.specs.Places.{stands_before, IsPointOf, IsShown}
 use Rattle.markdown_base.specs.Events.{IsBalanced}
-use Rattle.markdown.specs.Links.{IsLinkedEnter, IsEndedBy, next_of, previous_of}
+use Rattle.markdown.specs.Links.{IsLinkedEnter, IsEndedBy, next_of, AreMutual}
 use Rattle.mdchildren.specs.Chains.{content_at, fits}
 
 -- where the event at an index stands
@@ -23,10 +23,6 @@ pub record IsChunk (events : List Event) (k : ℕ) : Type 0 where
   pub exit_at : slice_get events (k + 1) ≡ Some exit
   pub linked : IsLinkedEnter enter
   pub ended : IsEndedBy enter exit
-
--- a link leads on to an event where that one's leads back
-abbrev pub AreMutual : List Event → Type 0
-AreMutual events = (k d : ℕ) → (next_of events k ≡ Some d) ↔ (previous_of events d ≡ Some k)
 
 -- a place of the document, and not between a CR and its LF
 abbrev pub IsShownPlace : (t : ℕ) → List ℕ → Point → Type 0
