@@ -8,7 +8,7 @@ use Rattle.markdown_base.specs.declared.event.Event.{Event}
 use Rattle.markdown.specs.Edits.{Edit, put_after}
 use Rattle.markdown.specs.Stored.{as_edit, by_index, HasNoTwins}
 use Rattle.markdown.specs.declared.util.stored.Stored.{Stored}
-use Rattle.markdown.proofs.Puts.{put-less, put-same, put-more}
+use Rattle.markdown.proofs.EditPuts.{put-less, put-same, put-more}
 use Rattle.markdown.specs.Edits.{AreBehind}
 
 abbrev behind : List Event → List Event → List Event

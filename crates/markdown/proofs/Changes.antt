@@ -1,4 +1,5 @@
 -- Each call that changes a text, the events or the choices of a tokenizer keeps what holds of its fields.
+use Rattle.std.specs.List.{AllByRecursion}
 use Rattle.std.proofs.Common.{◌≡◌, ℕ, zero, suc, ◌-◌, ◌≤◌, ◌⊎◌, inl, inr, ◌<◌, List, [], ◌∷◌, ◌++◌, Bool, true, false, cond, Option, Some, None, length, refl, sym, ap, ◌∙◌, subst, arith, length-append, take, length-take}
 use Rattle.std.specs.Prelude.{map, option_map, option_and_then, reverse, IfSome, All, unwrap_or}
 use Rattle.std.specs.List.{last_or}
@@ -18,8 +19,8 @@ use Rattle.markdown.specs.declared.waiting.Waits.TheVariants.{Nothing, Byte, End
 use Rattle.markdown.specs.declared.waiting.Phase.TheVariants.{Reading}
 use Rattle.markdown.specs.declared.waiting.AttemptKind.{AttemptKind}
 use Rattle.markdown.specs.declared.waiting.AttemptKind.TheVariants.{Attempt, Check}
-use Rattle.markdown.specs.declared.waiting.Goal.{Goal}
-use Rattle.markdown.specs.declared.waiting.Mark.{Mark}
+use Rattle.markdown.specs.declared.waiting.GoesOn.{GoesOn}
+use Rattle.markdown.specs.declared.waiting.KeptChoice.{KeptChoice}
 use Rattle.markdown.specs.declared.waiting.Progress.{Progress}
 use Rattle.markdown.specs.declared.tokenizer.Tokenizer.TheInside.{Inside}
 use Rattle.markdown.specs.Text.{Given, Text, Piece, pushed, passed, IsDocument, IsText, CanFollow, FitsAfter, followed_by, followed_by_all, empty_text}
@@ -27,13 +28,13 @@ use Rattle.markdown.specs.Configuration.{Seen, Configuration, Choice}
 use Rattle.markdown.specs.Calls.{CanExit}
 use Rattle.markdown.specs.Work.{extended}
 use Rattle.markdown.specs.Gaps.{resumed, IsSkip}
-use Rattle.markdown.specs.View.{TAB, seen, text_of, end_point, seats_between, position_from, standing, reach, can_feed, choice_of, saved_of, IsReadTo, ByteWaits, IsWaiting, IsProgress, AreNested, events_of, stack_of, IsSound}
-use Rattle.markdown.specs.Cursor.{Every, IsPlace, IsSeatAt, is_after_pair}
-use Rattle.markdown.proofs.Standing.{shown-shown, place-of-point}
-use Rattle.markdown.proofs.Orders.{after-before}
-use Rattle.markdown.proofs.GapLaws.{same-not_before, other-before}
-use Rattle.markdown.proofs.Cursors.{upto-order, upto-upto, same-upto}
-use Rattle.markdown.proofs.Points.{point_at-point, point_at-is}
+use Rattle.markdown.specs.View.{TAB, seen, text_of, end_point, seats_between, position_from, standing, reach, can_feed, choice_of, saved_of, IsReadTo, ByteWaits, IsWhatWaits, IsProgress, AreNested, events_of, stack_of, IsSound}
+use Rattle.markdown.specs.Cursor.{IsPlace, IsSeatAt, is_after_pair}
+use Rattle.markdown.proofs.PlaceStanding.{shown-shown, place-of-point}
+use Rattle.markdown.proofs.PlaceOrder.{after-before}
+use Rattle.markdown.proofs.PlaceGaps.{same-not_before, other-before}
+use Rattle.markdown.proofs.PlaceCursors.{upto-order, upto-upto, same-upto}
+use Rattle.markdown.proofs.PlacePoints.{point_at-point, point_at-is}
 use Rattle.markdown.specs.Made.{IsMade}
 use Rattle.markdown.proofs.MadeLemmas.{made-new, made-bound, made-enter-at, made-exit-at, made-linked, made-kept, upto-self as upto-self-point}
 use Rattle.markdown_base.specs.Events.{with_ends, unlinked, HasFrontUpToLinkEnds}
@@ -41,7 +42,7 @@ use Rattle.markdown.specs.Links.{linked_to, updated_at, next_set, previous_set, 
 use Rattle.std.proofs.lemmas.List.{length-map}
 use Rattle.markdown.proofs.Fields.{four, text_between, next-more, kept-empty, passed-seats, passed-position, passed-skips, read-passed, passed-shown, passed-resumed, still-before, read-extended, extended-seats, extended-skips, extended-more, made-more, can-feed-more, nested-map, nested-wider}
 use Rattle.markdown.specs.Sight.{sight}
-use Rattle.markdown.proofs.Steps.{end-place-in, here-is, left-is}
+use Rattle.markdown.proofs.Steps.{end-place-in, here-is, after_previous-is}
 
 -- pieces that can follow one after another
 can-follow-more : (g : Given) (text : Text) (pieces : List Piece) (piece : Piece) → CanFollow g text pieces → FitsAfter g (followed_by_all g text pieces) piece → CanFollow g text (pieces ++ piece ∷ [])
@@ -75,19 +76,19 @@ text-more g text piece h fits = record {
     starts-same p s = subst (IsPointOf g.tab g.bytes) (sym (start-same p)) s
 
 -- what choices saved, as a list of choices, with the same positions
-position-mark : (f g : Point → ℕ) (stack : List Name) (kind : AttemptKind) (ok nok : Goal) (P : Progress → Type 0) (events open_len : ℕ) (saved : Option Progress)
-    → ((p : Progress) → P p → f p.left ≡ g p.left) → IfSome saved (λ p. (p.events_len ≤ events) × (p.stack_len ≤ open_len) × P p)
+position-mark : (f g : Point → ℕ) (stack : List Name) (kind : AttemptKind) (ok nok : GoesOn) (P : Progress → Type 0) (events open_len : ℕ) (saved : Option Progress)
+    → ((p : Progress) → P p → f p.after_previous ≡ g p.after_previous) → IfSome saved (λ p. (p.events_len ≤ events) × (p.stack_len ≤ open_len) × P p)
     → choice_of f stack (record { kind = kind; ok = ok; nok = nok; saved = saved }) ≡ choice_of g stack (record { kind = kind; ok = ok; nok = nok; saved = saved })
 position-mark f g stack kind ok nok P events open_len None same h = refl
 position-mark f g stack kind ok nok P events open_len (Some p) same h = let e = same p h.2 in rw e refl
 
-same-positions : (f g : Point → ℕ) (stack : List Name) (P : Progress → Type 0) → ((p : Progress) → P p → f p.left ≡ g p.left) → (events open_len : ℕ) (marks : List Mark) → AreNested P events open_len marks
-    → map (choice_of f stack) marks ≡ map (choice_of g stack) marks
+same-positions : (f g : Point → ℕ) (stack : List Name) (P : Progress → Type 0) → ((p : Progress) → P p → f p.after_previous ≡ g p.after_previous) → (events open_len : ℕ) (kept_choices : List KeptChoice) → AreNested P events open_len kept_choices
+    → map (choice_of f stack) kept_choices ≡ map (choice_of g stack) kept_choices
 same-positions f g stack P same events open_len [] h = refl
-same-positions f g stack P same events open_len (mark ∷ marks) h =
+same-positions f g stack P same events open_len (mark ∷ kept_choices) h =
     let first = position-mark f g stack mark.kind mark.ok mark.nok P events open_len mark.saved same h.0 in
-    let others = same-positions f g stack P same (events_of events mark.saved) (stack_of open_len mark.saved) marks h.1 in
-    ap (λ (c : Choice). c ∷ map (choice_of f stack) marks) first ∙ ap (λ (cs : List Choice). choice_of g stack mark ∷ cs) others
+    let others = same-positions f g stack P same (events_of events mark.saved) (stack_of open_len mark.saved) kept_choices h.1 in
+    ap (λ (c : Choice). c ∷ map (choice_of f stack) kept_choices) first ∙ ap (λ (cs : List Choice). choice_of g stack mark ∷ cs) others
 
 module _ {M R D : Type 0} (t : Inside M R D) (sound : IsSound t) where
   abbrev bytes_in : List ℕ
@@ -103,47 +104,47 @@ module _ {M R D : Type 0} (t : Inside M R D) (sound : IsSound t) where
   size_in = length (seats_between bytes_in skips_in t.start end_in)
 
   starts-upto : is_upto TAB bytes_in t.start end_in ≡ true
-  starts-upto = upto-upto TAB bytes_in t.start t.left end_in sound.read.from sound.read.upto
+  starts-upto = upto-upto TAB bytes_in t.start t.after_previous end_in sound.read.from sound.read.upto
 
   -- what waits in another text
-  waiting-on : (w : Waits) (skips : List Point) (text : Text) → (ByteWaits bytes_in skips_in t.left end_in t.current → ByteWaits bytes_in skips t.left text.end t.current)
-      → (t.closed ≡ true → size_in ≤ position_from bytes_in skips_in t.start t.left → length text.seats ≤ position_from bytes_in skips text.start t.left)
-      → IsWaiting bytes_in skips_in (text_of t) t.left t.current t.closed w → IsWaiting bytes_in skips text t.left t.current t.closed w
+  waiting-on : (w : Waits) (skips : List Point) (text : Text) → (ByteWaits bytes_in skips_in t.after_previous end_in t.current → ByteWaits bytes_in skips t.after_previous text.end t.current)
+      → (t.closed ≡ true → size_in ≤ position_from bytes_in skips_in t.start t.after_previous → length text.seats ≤ position_from bytes_in skips text.start t.after_previous)
+      → IsWhatWaits bytes_in skips_in (text_of t) t.after_previous t.current t.closed w → IsWhatWaits bytes_in skips text t.after_previous t.current t.closed w
   waiting-on Nothing skips text byte end h = h
   waiting-on Byte skips text byte end h = byte h
   waiting-on End skips text byte end h = record { none = h.none; closed_too = h.closed_too; all = end h.closed_too h.all }
 
   -- the text ends later
   module _ (to : ℕ × ℕ) (f u : Point) (found : point_at TAB bytes_in to ≡ Some u) (fits : FitsAfter (seen t).given (text_of t) (pushed f u)) (open_still : t.closed ≡ false) where
-    longer : (left : Point) (previous : Option ℕ) → IsReadTo bytes_in skips_in (text_of t) left previous → IsReadTo bytes_in skips_in (text_between bytes_in skips_in t.start u) left previous
-    longer left previous read = read-extended bytes_in skips_in t.start end_in f u left previous sound.skips read (end-place-in t sound) starts-upto fits.2 fits.3
+    longer : (after_previous : Point) (previous : Option ℕ) → IsReadTo bytes_in skips_in (text_of t) after_previous previous → IsReadTo bytes_in skips_in (text_between bytes_in skips_in t.start u) after_previous previous
+    longer after_previous previous read = read-extended bytes_in skips_in t.start end_in f u after_previous previous sound.skips read (end-place-in t sound) starts-upto fits.2 fits.3
 
     more-bytes : size_in ≤ length (seats_between bytes_in skips_in t.start u)
-    more-bytes = extended-more bytes_in skips_in t.start end_in f u t.left t.previous sound.skips sound.read (end-place-in t sound) starts-upto fits.2 fits.3
+    more-bytes = extended-more bytes_in skips_in t.start end_in f u t.after_previous t.previous sound.skips sound.read (end-place-in t sound) starts-upto fits.2 fits.3
 
-    later-skips : Every (IsSkip TAB bytes_in u) skips_in
-    later-skips = extended-skips bytes_in skips_in t.start end_in f u t.left t.previous sound.skips sound.read (end-place-in t sound) starts-upto fits.2 fits.3
+    later-skips : AllByRecursion (IsSkip TAB bytes_in u) skips_in
+    later-skips = extended-skips bytes_in skips_in t.start end_in f u t.after_previous t.previous sound.skips sound.read (end-place-in t sound) starts-upto fits.2 fits.3
 
     later-end : is_upto TAB bytes_in end_in u ≡ true
     later-end = upto-upto TAB bytes_in end_in f u (same-upto TAB bytes_in f end_in fits.2).1 fits.3
 
-    still-waits : ByteWaits bytes_in skips_in t.left end_in t.current → ByteWaits bytes_in skips_in t.left u t.current
-    still-waits w = record { seat = w.seat; at = w.at; before = still-before bytes_in skips_in t.start end_in u t.left t.previous sound.skips sound.read w.seat w.at later-end w.before; is = w.is }
+    still-waits : ByteWaits bytes_in skips_in t.after_previous end_in t.current → ByteWaits bytes_in skips_in t.after_previous u t.current
+    still-waits w = record { seat = w.seat; at = w.at; before = still-before bytes_in skips_in t.start end_in u t.after_previous t.previous sound.skips sound.read w.seat w.at later-end w.before; is = w.is }
 
     longer-saved : (p : Progress) → IsProgress t.phase bytes_in skips_in (text_of t) t.events.items t.stack.items t.closed p
         → IsProgress t.phase bytes_in skips_in (text_between bytes_in skips_in t.start u) t.events.items t.stack.items t.closed p
     longer-saved p h =
-        let position = position_from bytes_in skips_in t.start p.left in
+        let position = position_from bytes_in skips_in t.start p.after_previous in
         record {
-          read = longer p.left p.previous h.read;
+          read = longer p.after_previous p.previous h.read;
           ended = h.ended;
-          made = λ reads. made-more bytes_in skips_in t.start end_in p.left p.previous sound.skips h.read (take p.events_len t.events.items) (take p.stack_len t.stack.items)
+          made = λ reads. made-more bytes_in skips_in t.start end_in p.after_previous p.previous sound.skips h.read (take p.events_len t.events.items) (take p.stack_len t.stack.items)
               (can_feed position size_in t.closed) (can_feed position (length (seats_between bytes_in skips_in t.start u)) t.closed) (can-feed-more position size_in (length (seats_between bytes_in skips_in t.start u)) t.closed more-bytes) (h.made reads);
         }
 
     text-longer : followed_by (seen t).given (text_of t) (pushed f u) ≡ text_between bytes_in skips_in t.start u
     text-longer = ap (λ (seats : List Seat). record { start = t.start; seats = seats; end = u })
-        (sym (extended-seats bytes_in skips_in t.start end_in f u t.left t.previous sound.skips sound.read (end-place-in t sound) starts-upto fits.2 fits.3))
+        (sym (extended-seats bytes_in skips_in t.start end_in f u t.after_previous t.previous sound.skips sound.read (end-place-in t sound) starts-upto fits.2 fits.3))
 
     end-found : end_point bytes_in to ≡ u
     end-found = ap (λ (o : Option Point). unwrap_or o (point 1 1 0 0)) found
@@ -157,13 +158,13 @@ module _ {M R D : Type 0} (t : Inside M R D) (sound : IsSound t) where
           end_at = rw e found;
           text = rw e (subst (IsText (seen t).given) text-longer (text-more (seen t).given (text_of t) (pushed f u) sound.text fits));
           skips = rw e later-skips;
-          read = rw e (longer t.left t.previous sound.read);
+          read = rw e (longer t.after_previous t.previous sound.read);
           waiting = rw e (waiting-on t.waits skips_in (text_between bytes_in skips_in t.start u) still-waits (λ c all. absurd (let no : true ≡ false = sym c ∙ open_still in cc)) sound.waiting);
           ended = sound.ended;
           made = sound.made;
-          marks = rw e (nested-map (IsProgress t.phase bytes_in skips_in (text_of t) t.events.items t.stack.items t.closed)
+          kept_choices = rw e (nested-map (IsProgress t.phase bytes_in skips_in (text_of t) t.events.items t.stack.items t.closed)
               (IsProgress t.phase bytes_in skips_in (text_between bytes_in skips_in t.start u) t.events.items t.stack.items t.closed)
-              (length t.events.items) (length t.stack.items) (reverse t.marks.items) (λ p a b h. longer-saved p h) sound.marks);
+              (length t.events.items) (length t.stack.items) (reverse t.kept_choices.items) (λ p a b h. longer-saved p h) sound.kept_choices);
         }
 
     pub extended-seen : seen (record t { end = to }) ≡ extended (seen t) (followed_by (seen t).given (seen t).text (pushed f u))
@@ -217,63 +218,63 @@ module _ {M R D : Type 0} (t : Inside M R D) (sound : IsSound t) where
       text_added = text_between bytes_in added t.start q
 
       size-same : length text_added.seats ≡ size_in
-      size-same = ap length (passed-seats bytes_in skips_in t.start end_in q t.left t.previous sound.skips sound.read (end-place-in t sound) passed-place starts-upto is.first is.line is.before is.other)
+      size-same = ap length (passed-seats bytes_in skips_in t.start end_in q t.after_previous t.previous sound.skips sound.read (end-place-in t sound) passed-place starts-upto is.first is.line is.before is.other)
 
-      position-same : (left : Point) (previous : Option ℕ) → IsReadTo bytes_in skips_in (text_of t) left previous → position_from bytes_in added t.start left ≡ position_from bytes_in skips_in t.start left
-      position-same left previous read = passed-position bytes_in skips_in t.start end_in q left previous sound.skips read (end-place-in t sound) passed-place starts-upto is.first is.line is.before is.other
+      position-same : (after_previous : Point) (previous : Option ℕ) → IsReadTo bytes_in skips_in (text_of t) after_previous previous → position_from bytes_in added t.start after_previous ≡ position_from bytes_in skips_in t.start after_previous
+      position-same after_previous previous read = passed-position bytes_in skips_in t.start end_in q after_previous previous sound.skips read (end-place-in t sound) passed-place starts-upto is.first is.line is.before is.other
 
       pub text-passed : followed_by (seen t).given (text_of t) (passed q) ≡ text_added
       text-passed =
           let o = is.other in
-          let seats = passed-seats bytes_in skips_in t.start end_in q t.left t.previous sound.skips sound.read (end-place-in t sound) passed-place starts-upto is.first is.line is.before is.other in
+          let seats = passed-seats bytes_in skips_in t.start end_in q t.after_previous t.previous sound.skips sound.read (end-place-in t sound) passed-place starts-upto is.first is.line is.before is.other in
           rw o (ap (λ (xs : List Seat). record { start = t.start; seats = xs; end = q }) (sym seats))
 
       passed-later : is_upto TAB bytes_in end_in q ≡ true
       passed-later = upto-order TAB bytes_in end_in q (after-before end_in.index end_in.vs q.index q.vs is.before)
 
-      read-on : (left : Point) (previous : Option ℕ) → IsReadTo bytes_in skips_in (text_of t) left previous → IsReadTo bytes_in added text_added left previous
-      read-on left previous read = read-passed bytes_in skips_in t.start end_in q left previous sound.skips read (end-place-in t sound) passed-place starts-upto is.first is.line is.before is.other
+      read-on : (after_previous : Point) (previous : Option ℕ) → IsReadTo bytes_in skips_in (text_of t) after_previous previous → IsReadTo bytes_in added text_added after_previous previous
+      read-on after_previous previous read = read-passed bytes_in skips_in t.start end_in q after_previous previous sound.skips read (end-place-in t sound) passed-place starts-upto is.first is.line is.before is.other
 
-      shown-on : (left : Point) (previous : Option ℕ) → IsReadTo bytes_in skips_in (text_of t) left previous → stands_before (shown bytes_in (resumed added left)) (shown bytes_in (resumed skips_in left)) ≡ false
-      shown-on left previous read = passed-shown bytes_in skips_in t.start end_in q left previous sound.skips read (end-place-in t sound) passed-place starts-upto is.first is.line is.before is.other
+      shown-on : (after_previous : Point) (previous : Option ℕ) → IsReadTo bytes_in skips_in (text_of t) after_previous previous → stands_before (shown bytes_in (resumed added after_previous)) (shown bytes_in (resumed skips_in after_previous)) ≡ false
+      shown-on after_previous previous read = passed-shown bytes_in skips_in t.start end_in q after_previous previous sound.skips read (end-place-in t sound) passed-place starts-upto is.first is.line is.before is.other
 
-      byte-on : ByteWaits bytes_in skips_in t.left end_in t.current → ByteWaits bytes_in added t.left q t.current
+      byte-on : ByteWaits bytes_in skips_in t.after_previous end_in t.current → ByteWaits bytes_in added t.after_previous q t.current
       byte-on w =
-          let more = next-more bytes_in skips_in t.start end_in t.left t.previous sound.skips sound.read w.seat w.at w.before in
-          let same = passed-resumed bytes_in skips_in t.start end_in q t.left t.previous sound.skips sound.read (end-place-in t sound) passed-place starts-upto is.first is.line is.before is.other more in
+          let more = next-more bytes_in skips_in t.start end_in t.after_previous t.previous sound.skips sound.read w.seat w.at w.before in
+          let same = passed-resumed bytes_in skips_in t.start end_in q t.after_previous t.previous sound.skips sound.read (end-place-in t sound) passed-place starts-upto is.first is.line is.before is.other more in
           record {
             seat = w.seat;
             at = subst (λ (p : Point). IsSeatAt TAB bytes_in p w.seat) (sym same) w.at;
-            before = still-before bytes_in skips_in t.start end_in q t.left t.previous sound.skips sound.read w.seat w.at passed-later w.before;
+            before = still-before bytes_in skips_in t.start end_in q t.after_previous t.previous sound.skips sound.read w.seat w.at passed-later w.before;
             is = w.is;
           }
 
-      waits-on : IsWaiting bytes_in added text_added t.left t.current t.closed t.waits
+      waits-on : IsWhatWaits bytes_in added text_added t.after_previous t.current t.closed t.waits
       waits-on =
-          let p = position-same t.left t.previous sound.read in
+          let p = position-same t.after_previous t.previous sound.read in
           waiting-on t.waits added text_added byte-on (λ c all. omega (arith, all, size-same, p)) sound.waiting
 
-      module _ (events : List Event) (stack : List Name) (left : Point) (previous : Option ℕ) (read : IsReadTo bytes_in skips_in (text_of t) left previous) where
-        resumed-on : IsMade bytes_in events stack (shown bytes_in left) (shown bytes_in (resumed skips_in left)) → IsMade bytes_in events stack (shown bytes_in left) (shown bytes_in (resumed added left))
-        resumed-on m = made-bound bytes_in events stack (shown bytes_in left) (shown bytes_in (resumed skips_in left)) m (shown bytes_in (resumed added left)) (shown-on left previous read) (shown-shown TAB bytes_in (resumed added left))
+      module _ (events : List Event) (stack : List Name) (after_previous : Point) (previous : Option ℕ) (read : IsReadTo bytes_in skips_in (text_of t) after_previous previous) where
+        resumed-on : IsMade bytes_in events stack (shown bytes_in after_previous) (shown bytes_in (resumed skips_in after_previous)) → IsMade bytes_in events stack (shown bytes_in after_previous) (shown bytes_in (resumed added after_previous))
+        resumed-on m = made-bound bytes_in events stack (shown bytes_in after_previous) (shown bytes_in (resumed skips_in after_previous)) m (shown bytes_in (resumed added after_previous)) (shown-on after_previous previous read) (shown-shown TAB bytes_in (resumed added after_previous))
 
-        standing-on : (w : Waits) → IsMade bytes_in events stack (shown bytes_in left) (shown bytes_in (standing skips_in left w)) → IsMade bytes_in events stack (shown bytes_in left) (shown bytes_in (standing added left w))
+        standing-on : (w : Waits) → IsMade bytes_in events stack (shown bytes_in after_previous) (shown bytes_in (standing skips_in after_previous w)) → IsMade bytes_in events stack (shown bytes_in after_previous) (shown bytes_in (standing added after_previous w))
         standing-on Nothing m = m
         standing-on Byte m = resumed-on m
         standing-on End m = resumed-on m
 
-        reach-on : (more : Bool) → IsMade bytes_in events stack (shown bytes_in left) (shown bytes_in (reach skips_in left more)) → IsMade bytes_in events stack (shown bytes_in left) (shown bytes_in (reach added left more))
+        reach-on : (more : Bool) → IsMade bytes_in events stack (shown bytes_in after_previous) (shown bytes_in (reach skips_in after_previous more)) → IsMade bytes_in events stack (shown bytes_in after_previous) (shown bytes_in (reach added after_previous more))
         reach-on true m = resumed-on m
         reach-on false m = m
 
       saved-on : (p : Progress) → IsProgress t.phase bytes_in skips_in (text_of t) t.events.items t.stack.items t.closed p → IsProgress t.phase bytes_in added text_added t.events.items t.stack.items t.closed p
       saved-on p h =
-          let position = position-same p.left p.previous h.read in
+          let position = position-same p.after_previous p.previous h.read in
           let size = size-same in
           record {
-            read = read-on p.left p.previous h.read;
+            read = read-on p.after_previous p.previous h.read;
             ended = h.ended;
-            made = λ reads. rw (position, size) (reach-on (take p.events_len t.events.items) (take p.stack_len t.stack.items) p.left p.previous h.read (can_feed (position_from bytes_in skips_in t.start p.left) size_in t.closed) (h.made reads));
+            made = λ reads. rw (position, size) (reach-on (take p.events_len t.events.items) (take p.stack_len t.stack.items) p.after_previous p.previous h.read (can_feed (position_from bytes_in skips_in t.start p.after_previous) size_in t.closed) (h.made reads));
           }
 
       passed-end : end_point bytes_in (q.index, q.vs) ≡ q
@@ -286,35 +287,35 @@ module _ {M R D : Type 0} (t : Inside M R D) (sound : IsSound t) where
         pub added-text_is : IsText (seen t).given (text_between bytes_in list t.start (end_point bytes_in (q.index, q.vs)))
         added-text_is = let e = passed-end in rw (put, e) (subst (IsText (seen t).given) text-passed (text-more (seen t).given (text_of t) (passed q) sound.text fits))
 
-        pub added-skips_are : Every (IsSkip TAB bytes_in (end_point bytes_in (q.index, q.vs))) list
+        pub added-skips_are : AllByRecursion (IsSkip TAB bytes_in (end_point bytes_in (q.index, q.vs))) list
         added-skips_are =
-            let e = passed-end in rw (put, e) (passed-skips bytes_in skips_in t.start end_in q t.left t.previous sound.skips sound.read (end-place-in t sound) passed-place starts-upto is.first is.line is.before is.other)
+            let e = passed-end in rw (put, e) (passed-skips bytes_in skips_in t.start end_in q t.after_previous t.previous sound.skips sound.read (end-place-in t sound) passed-place starts-upto is.first is.line is.before is.other)
 
-        pub added-read_to : IsReadTo bytes_in list (text_between bytes_in list t.start (end_point bytes_in (q.index, q.vs))) t.left t.previous
-        added-read_to = let e = passed-end in rw (put, e) (read-on t.left t.previous sound.read)
+        pub added-read_to : IsReadTo bytes_in list (text_between bytes_in list t.start (end_point bytes_in (q.index, q.vs))) t.after_previous t.previous
+        added-read_to = let e = passed-end in rw (put, e) (read-on t.after_previous t.previous sound.read)
 
-        pub added-waiting : IsWaiting bytes_in list (text_between bytes_in list t.start (end_point bytes_in (q.index, q.vs))) t.left t.current t.closed t.waits
+        pub added-waiting : IsWhatWaits bytes_in list (text_between bytes_in list t.start (end_point bytes_in (q.index, q.vs))) t.after_previous t.current t.closed t.waits
         added-waiting = let e = passed-end in rw (put, e) waits-on
 
-        pub added-made : t.phase ≡ Reading → IsMade bytes_in t.events.items t.stack.items (shown bytes_in t.left) (shown bytes_in (standing list t.left t.waits))
-        added-made reads = rw put (standing-on t.events.items t.stack.items t.left t.previous sound.read t.waits (sound.made reads))
+        pub added-made : t.phase ≡ Reading → IsMade bytes_in t.events.items t.stack.items (shown bytes_in t.after_previous) (shown bytes_in (standing list t.after_previous t.waits))
+        added-made reads = rw put (standing-on t.events.items t.stack.items t.after_previous t.previous sound.read t.waits (sound.made reads))
 
-        pub added-marks : AreNested (IsProgress t.phase bytes_in list (text_between bytes_in list t.start (end_point bytes_in (q.index, q.vs))) t.events.items t.stack.items t.closed) (length t.events.items) (length t.stack.items) (reverse t.marks.items)
-        added-marks =
+        pub added-kept_choices : AreNested (IsProgress t.phase bytes_in list (text_between bytes_in list t.start (end_point bytes_in (q.index, q.vs))) t.events.items t.stack.items t.closed) (length t.events.items) (length t.stack.items) (reverse t.kept_choices.items)
+        added-kept_choices =
             let e = passed-end in
             rw (put, e) (nested-map (IsProgress t.phase bytes_in skips_in (text_of t) t.events.items t.stack.items t.closed) (IsProgress t.phase bytes_in added text_added t.events.items t.stack.items t.closed)
-            (length t.events.items) (length t.stack.items) (reverse t.marks.items) (λ p a b h. saved-on p h) sound.marks)
+            (length t.events.items) (length t.stack.items) (reverse t.kept_choices.items) (λ p a b h. saved-on p h) sound.kept_choices)
 
         added-text_seen : text_between bytes_in list t.start (end_point bytes_in (q.index, q.vs)) ≡ followed_by (seen t).given (text_of t) (passed q)
         added-text_seen = let e = passed-end in rw (put, e) (sym text-passed)
 
-        added-position : position_from bytes_in list t.start t.left ≡ position_from bytes_in skips_in t.start t.left
-        added-position = rw put (position-same t.left t.previous sound.read)
+        added-position : position_from bytes_in list t.start t.after_previous ≡ position_from bytes_in skips_in t.start t.after_previous
+        added-position = rw put (position-same t.after_previous t.previous sound.read)
 
-        added-choices : map (choice_of (position_from bytes_in list t.start) t.stack.items) (reverse t.marks.items) ≡ map (choice_of (position_from bytes_in skips_in t.start) t.stack.items) (reverse t.marks.items)
+        added-choices : map (choice_of (position_from bytes_in list t.start) t.stack.items) (reverse t.kept_choices.items) ≡ map (choice_of (position_from bytes_in skips_in t.start) t.stack.items) (reverse t.kept_choices.items)
         added-choices =
             rw put (same-positions (position_from bytes_in added t.start) (position_from bytes_in skips_in t.start) t.stack.items (IsProgress t.phase bytes_in skips_in (text_of t) t.events.items t.stack.items t.closed)
-            (λ p h. position-same p.left p.previous h.read) (length t.events.items) (length t.stack.items) (reverse t.marks.items) sound.marks)
+            (λ p h. position-same p.after_previous p.previous h.read) (length t.events.items) (length t.stack.items) (reverse t.kept_choices.items) sound.kept_choices)
 
       pub added-seen : (skips : Vec Point) (put : skips.items ≡ added) → seen (record t { skips = skips; end = (q.index, q.vs) }) ≡ extended (seen t) (followed_by (seen t).given (seen t).text (passed q))
       added-seen skips put =
@@ -328,7 +329,7 @@ abbrev pub ExtendedAt : {M R D : Type 0} → Inside M R D → (ℕ × ℕ) → P
 ExtendedAt t to f u = seen (record t { end = to }) ≡ extended (seen t) (followed_by (seen t).given (seen t).text (pushed f u))
 
 -- what choices saved, as a list of choices, with another stack that has the same front
-choice-mark : (position : Point → ℕ) (a b : List Name) (stack : ℕ) (kind : AttemptKind) (ok nok : Goal) (P : Progress → Type 0) (events : ℕ) (saved : Option Progress)
+choice-mark : (position : Point → ℕ) (a b : List Name) (stack : ℕ) (kind : AttemptKind) (ok nok : GoesOn) (P : Progress → Type 0) (events : ℕ) (saved : Option Progress)
     → ((n : ℕ) → n ≤ stack → take n a ≡ take n b) → IfSome saved (λ p. (p.events_len ≤ events) × (p.stack_len ≤ stack) × P p)
     → choice_of position a (record { kind = kind; ok = ok; nok = nok; saved = saved }) ≡ choice_of position b (record { kind = kind; ok = ok; nok = nok; saved = saved })
 choice-mark position a b stack kind ok nok P events None same h = refl
@@ -340,29 +341,29 @@ narrower : (a b : List Name) (stack : ℕ) (P : Progress → Type 0) (events : �
 narrower a b stack P events None same h n le = same n le
 narrower a b stack P events (Some p) same h n le = same n (omega (arith, h.1))
 
-pub same-choices : (position : Point → ℕ) (a b : List Name) (P : Progress → Type 0) (events stack : ℕ) (marks : List Mark)
-    → ((n : ℕ) → n ≤ stack → take n a ≡ take n b) → AreNested P events stack marks
-    → map (choice_of position a) marks ≡ map (choice_of position b) marks
+pub same-choices : (position : Point → ℕ) (a b : List Name) (P : Progress → Type 0) (events stack : ℕ) (kept_choices : List KeptChoice)
+    → ((n : ℕ) → n ≤ stack → take n a ≡ take n b) → AreNested P events stack kept_choices
+    → map (choice_of position a) kept_choices ≡ map (choice_of position b) kept_choices
 same-choices position a b P events stack [] same h = refl
-same-choices position a b P events stack (mark ∷ marks) same h =
+same-choices position a b P events stack (mark ∷ kept_choices) same h =
     let first = choice-mark position a b stack mark.kind mark.ok mark.nok P events mark.saved same h.0 in
-    let others = same-choices position a b P (events_of events mark.saved) (stack_of stack mark.saved) marks (narrower a b stack P events mark.saved same h.0) h.1 in
-    ap (λ (c : Choice). c ∷ map (choice_of position a) marks) first ∙ ap (λ (cs : List Choice). choice_of position b mark ∷ cs) others
+    let others = same-choices position a b P (events_of events mark.saved) (stack_of stack mark.saved) kept_choices (narrower a b stack P events mark.saved same h.0) h.1 in
+    ap (λ (c : Choice). c ∷ map (choice_of position a) kept_choices) first ∙ ap (λ (cs : List Choice). choice_of position b mark ∷ cs) others
 
 -- the code's place, from its list of gaps
-pub entered-here : {M R D : Type 0} (t : Inside M R D) (slice : List Point) (place here : Point) → slice ≡ t.skips.items → place ≡ standing slice t.left t.waits
-    → here ≡ shown t.parse_state.now.bytes.now place → here ≡ shown t.parse_state.now.bytes.now (standing t.skips.items t.left t.waits)
-entered-here t slice place here e f g = g ∙ ap (shown t.parse_state.now.bytes.now) (f ∙ ap (λ (skips : List Point). standing skips t.left t.waits) e)
+pub entered-here : {M R D : Type 0} (t : Inside M R D) (slice : List Point) (place here : Point) → slice ≡ t.skips.items → place ≡ standing slice t.after_previous t.waits
+    → here ≡ shown t.parse_state.now.bytes.now place → here ≡ shown t.parse_state.now.bytes.now (standing t.skips.items t.after_previous t.waits)
+entered-here t slice place here e f g = g ∙ ap (shown t.parse_state.now.bytes.now) (f ∙ ap (λ (skips : List Point). standing skips t.after_previous t.waits) e)
 
 module _ {M R D : Type 0} (t : Inside M R D) (sound : IsSound t) where
   -- a span begins
-  module _ (name : Name) (link : Option Link) (here : Point) (is : here ≡ shown t.parse_state.now.bytes.now (standing t.skips.items t.left t.waits)) (events : List Event) (stack : List Name)
+  module _ (name : Name) (link : Option Link) (here : Point) (is : here ≡ shown t.parse_state.now.bytes.now (standing t.skips.items t.after_previous t.waits)) (events : List Event) (stack : List Name)
       (put : events ≡ t.events.items ++ record { kind = Enter; name = name; point = here; link = link } ∷ []) (top : stack ≡ t.stack.items ++ name ∷ []) where
     abbrev left_in : Point
-    left_in = shown t.parse_state.now.bytes.now t.left
+    left_in = shown t.parse_state.now.bytes.now t.after_previous
 
     abbrev bound_in : Point
-    bound_in = shown t.parse_state.now.bytes.now (standing t.skips.items t.left t.waits)
+    bound_in = shown t.parse_state.now.bytes.now (standing t.skips.items t.after_previous t.waits)
 
     pub entered-made : t.phase ≡ Reading → IsMade t.parse_state.now.bytes.now events stack left_in bound_in
     entered-made reads =
@@ -374,21 +375,21 @@ module _ {M R D : Type 0} (t : Inside M R D) (sound : IsSound t) where
     entered-events : (n : ℕ) → n ≤ length t.events.items → take n events ≡ take n t.events.items
     entered-events n le = rw put (take-append-le n t.events.items (record { kind = Enter; name = name; point = here; link = link } ∷ []) le)
 
-    pub entered-marks : AreNested (IsProgress t.phase t.parse_state.now.bytes.now t.skips.items (text_of t) events stack t.closed) (length events) (length stack) (reverse t.marks.items)
-    entered-marks =
+    pub entered-kept_choices : AreNested (IsProgress t.phase t.parse_state.now.bytes.now t.skips.items (text_of t) events stack t.closed) (length events) (length stack) (reverse t.kept_choices.items)
+    entered-kept_choices =
         let P = IsProgress t.phase t.parse_state.now.bytes.now t.skips.items (text_of t) t.events.items t.stack.items t.closed in
         let Q = IsProgress t.phase t.parse_state.now.bytes.now t.skips.items (text_of t) events stack t.closed in
-        nested-wider Q (length t.events.items) (length t.stack.items) (length events) (length stack) (reverse t.marks.items)
+        nested-wider Q (length t.events.items) (length t.stack.items) (length events) (length stack) (reverse t.kept_choices.items)
         (omega (arith, ap length put, length-append t.events.items (record { kind = Enter; name = name; point = here; link = link } ∷ [])))
         (omega (arith, ap length top, length-append t.stack.items (name ∷ [])))
-        (nested-map P Q (length t.events.items) (length t.stack.items) (reverse t.marks.items)
+        (nested-map P Q (length t.events.items) (length t.stack.items) (reverse t.kept_choices.items)
         (λ p a b h. let e = entered-events p.events_len a in let s = entered-front p.stack_len b in
-        record { read = h.read; ended = h.ended; made = rw (e, s) h.made }) sound.marks)
+        record { read = h.read; ended = h.ended; made = rw (e, s) h.made }) sound.kept_choices)
 
-    pub entered-choices : map (choice_of (position_from t.parse_state.now.bytes.now t.skips.items t.start) stack) (reverse t.marks.items) ≡ map (choice_of (position_from t.parse_state.now.bytes.now t.skips.items t.start) t.stack.items) (reverse t.marks.items)
+    pub entered-choices : map (choice_of (position_from t.parse_state.now.bytes.now t.skips.items t.start) stack) (reverse t.kept_choices.items) ≡ map (choice_of (position_from t.parse_state.now.bytes.now t.skips.items t.start) t.stack.items) (reverse t.kept_choices.items)
     entered-choices =
         same-choices (position_from t.parse_state.now.bytes.now t.skips.items t.start) stack t.stack.items (IsProgress t.phase t.parse_state.now.bytes.now t.skips.items (text_of t) t.events.items t.stack.items t.closed)
-        (length t.events.items) (length t.stack.items) (reverse t.marks.items) entered-front sound.marks
+        (length t.events.items) (length t.stack.items) (reverse t.kept_choices.items) entered-front sound.kept_choices
 
     pub entered-at : here ≡ (sight (seen t).given (seen t).text (seen t).configuration).here
     entered-at = is ∙ here-is t sound
@@ -400,24 +401,24 @@ module _ (position : Point → ℕ) (stack : List Name) (P : Progress → Type 0
   abbrev IsAbove : Choice → Type 0
   IsAbove c = IfSome c.saved (λ s. length s.stack < length stack)
 
-  first-above : (mark : Mark) (marks : List Mark) → All IsAbove (map (choice_of position stack) (mark ∷ marks)) → IsAbove (choice_of position stack mark)
-  first-above mark marks h = h 0 (choice_of position stack mark) (omega arith)
+  first-above : (mark : KeptChoice) (kept_choices : List KeptChoice) → All IsAbove (map (choice_of position stack) (mark ∷ kept_choices)) → IsAbove (choice_of position stack mark)
+  first-above mark kept_choices h = h 0 (choice_of position stack mark) (omega arith)
 
-  rest-above : (mark : Mark) (marks : List Mark) → All IsAbove (map (choice_of position stack) (mark ∷ marks)) → All IsAbove (map (choice_of position stack) marks)
-  rest-above mark marks h = λ k d lt. h (suc k) d (omega arith)
+  rest-above : (mark : KeptChoice) (kept_choices : List KeptChoice) → All IsAbove (map (choice_of position stack) (mark ∷ kept_choices)) → All IsAbove (map (choice_of position stack) kept_choices)
+  rest-above mark kept_choices h = λ k d lt. h (suc k) d (omega arith)
 
-  below-mark : (events : ℕ) (saved : Option Progress) (marks : List Mark) → IfSome (saved_of position stack saved) (λ s. length s.stack < length stack)
-      → (AreNested P events (length stack) marks → AreNested P events (length stack - 1) marks)
-      → IfSome saved (λ p. (p.events_len ≤ events) × (p.stack_len ≤ length stack) × P p) → AreNested P (events_of events saved) (stack_of (length stack) saved) marks
-      → IfSome saved (λ p. (p.events_len ≤ events) × (p.stack_len ≤ length stack - 1) × P p) × AreNested P (events_of events saved) (stack_of (length stack - 1) saved) marks
-  below-mark events None marks a more h k = (tt, more k)
-  below-mark events (Some p) marks a more h k = let l = length-take p.stack_len stack in ((h.0, omega (arith, a, h.1), h.2), k)
+  below-mark : (events : ℕ) (saved : Option Progress) (kept_choices : List KeptChoice) → IfSome (saved_of position stack saved) (λ s. length s.stack < length stack)
+      → (AreNested P events (length stack) kept_choices → AreNested P events (length stack - 1) kept_choices)
+      → IfSome saved (λ p. (p.events_len ≤ events) × (p.stack_len ≤ length stack) × P p) → AreNested P (events_of events saved) (stack_of (length stack) saved) kept_choices
+      → IfSome saved (λ p. (p.events_len ≤ events) × (p.stack_len ≤ length stack - 1) × P p) × AreNested P (events_of events saved) (stack_of (length stack - 1) saved) kept_choices
+  below-mark events None kept_choices a more h k = (tt, more k)
+  below-mark events (Some p) kept_choices a more h k = let l = length-take p.stack_len stack in ((h.0, omega (arith, a, h.1), h.2), k)
 
   -- waiting choices that saved a smaller stack are nested in a stack that is one smaller
-  pub nested-below : (events : ℕ) (marks : List Mark) → All IsAbove (map (choice_of position stack) marks)
-      → AreNested P events (length stack) marks → AreNested P events (length stack - 1) marks
+  pub nested-below : (events : ℕ) (kept_choices : List KeptChoice) → All IsAbove (map (choice_of position stack) kept_choices)
+      → AreNested P events (length stack) kept_choices → AreNested P events (length stack - 1) kept_choices
   nested-below events [] a h = tt
-  nested-below events (mark ∷ marks) a h = below-mark events mark.saved marks (first-above mark marks a) (nested-below events marks (rest-above mark marks a)) h.0 h.1
+  nested-below events (mark ∷ kept_choices) a h = below-mark events mark.saved kept_choices (first-above mark kept_choices a) (nested-below events kept_choices (rest-above mark kept_choices a)) h.0 h.1
 
 -- a list with a last element is not empty
 pub last-some : {A : Type 0} (xs : List A) (x : A) → last_or None xs ≡ Some x → 0 < length xs
@@ -425,17 +426,17 @@ last-some [] x e = absurd cc
 last-some (y ∷ ys) x e = omega arith
 
 module _ {M R D : Type 0} (t : Inside M R D) (sound : IsSound t) (name : Name) (can : CanExit name (seen t)) (events : List Event) (stack : List Name) (here : Point)
-    (is : here ≡ shown t.parse_state.now.bytes.now t.left)
+    (is : here ≡ shown t.parse_state.now.bytes.now t.after_previous)
     (put : events ≡ t.events.items ++ record { kind = Exit; name = name; point = here; link = None } ∷ []) (top : stack ≡ take (length t.stack.items - 1) t.stack.items) where
   abbrev left_at : Point
-  left_at = shown t.parse_state.now.bytes.now t.left
+  left_at = shown t.parse_state.now.bytes.now t.after_previous
 
   abbrev bound_at : Point
-  bound_at = shown t.parse_state.now.bytes.now (standing t.skips.items t.left t.waits)
+  bound_at = shown t.parse_state.now.bytes.now (standing t.skips.items t.after_previous t.waits)
 
   pub exited-made : t.phase ≡ Reading → IsMade t.parse_state.now.bytes.now events stack left_at bound_at
   exited-made reads =
-      let l = left-is t sound in
+      let l = after_previous-is t sound in
       rw (put, top, is) (made-exit-at t.parse_state.now.bytes.now t.events.items t.stack.items left_at bound_at (sound.made reads) name can.top
       (λ o e. rw l (can.read o e)) can.void)
 
@@ -445,30 +446,30 @@ module _ {M R D : Type 0} (t : Inside M R D) (sound : IsSound t) (name : Name) (
   exited-events : (n : ℕ) → n ≤ length t.events.items → take n events ≡ take n t.events.items
   exited-events n le = rw put (take-append-le n t.events.items (record { kind = Exit; name = name; point = here; link = None } ∷ []) le)
 
-  exited-nested : AreNested (IsProgress t.phase t.parse_state.now.bytes.now t.skips.items (text_of t) t.events.items t.stack.items t.closed) (length t.events.items) (length t.stack.items - 1) (reverse t.marks.items)
+  exited-nested : AreNested (IsProgress t.phase t.parse_state.now.bytes.now t.skips.items (text_of t) t.events.items t.stack.items t.closed) (length t.events.items) (length t.stack.items - 1) (reverse t.kept_choices.items)
   exited-nested =
       nested-below (position_from t.parse_state.now.bytes.now t.skips.items t.start) t.stack.items (IsProgress t.phase t.parse_state.now.bytes.now t.skips.items (text_of t) t.events.items t.stack.items t.closed)
-      (length t.events.items) (reverse t.marks.items) can.above sound.marks
+      (length t.events.items) (reverse t.kept_choices.items) can.above sound.kept_choices
 
-  pub exited-marks : AreNested (IsProgress t.phase t.parse_state.now.bytes.now t.skips.items (text_of t) events stack t.closed) (length events) (length stack) (reverse t.marks.items)
-  exited-marks =
+  pub exited-kept_choices : AreNested (IsProgress t.phase t.parse_state.now.bytes.now t.skips.items (text_of t) events stack t.closed) (length events) (length stack) (reverse t.kept_choices.items)
+  exited-kept_choices =
       let P = IsProgress t.phase t.parse_state.now.bytes.now t.skips.items (text_of t) t.events.items t.stack.items t.closed in
       let Q = IsProgress t.phase t.parse_state.now.bytes.now t.skips.items (text_of t) events stack t.closed in
       let m = length t.stack.items - 1 in
-      nested-wider Q (length t.events.items) m (length events) (length stack) (reverse t.marks.items)
+      nested-wider Q (length t.events.items) m (length events) (length stack) (reverse t.kept_choices.items)
       (omega (arith, ap length put, length-append t.events.items (record { kind = Exit; name = name; point = here; link = None } ∷ [])))
       (omega (arith, ap length top, length-take m t.stack.items))
-      (nested-map P Q (length t.events.items) m (reverse t.marks.items)
+      (nested-map P Q (length t.events.items) m (reverse t.kept_choices.items)
       (λ p a b h. let e = exited-events p.events_len a in let s = exited-front p.stack_len b in
       record { read = h.read; ended = h.ended; made = rw (e, s) h.made }) exited-nested)
 
-  pub exited-choices : map (choice_of (position_from t.parse_state.now.bytes.now t.skips.items t.start) stack) (reverse t.marks.items) ≡ map (choice_of (position_from t.parse_state.now.bytes.now t.skips.items t.start) t.stack.items) (reverse t.marks.items)
+  pub exited-choices : map (choice_of (position_from t.parse_state.now.bytes.now t.skips.items t.start) stack) (reverse t.kept_choices.items) ≡ map (choice_of (position_from t.parse_state.now.bytes.now t.skips.items t.start) t.stack.items) (reverse t.kept_choices.items)
   exited-choices =
       same-choices (position_from t.parse_state.now.bytes.now t.skips.items t.start) stack t.stack.items (IsProgress t.phase t.parse_state.now.bytes.now t.skips.items (text_of t) t.events.items t.stack.items t.closed)
-      (length t.events.items) (length t.stack.items - 1) (reverse t.marks.items) exited-front exited-nested
+      (length t.events.items) (length t.stack.items - 1) (reverse t.kept_choices.items) exited-front exited-nested
 
-  pub exited-at : here ≡ (sight (seen t).given (seen t).text (seen t).configuration).left
-  exited-at = is ∙ left-is t sound
+  pub exited-at : here ≡ (sight (seen t).given (seen t).text (seen t).configuration).after_previous
+  exited-at = is ∙ after_previous-is t sound
 
 -- a tokenizer that has read nothing
 module _ (bytes : List ℕ) (p : Point) (h : IsPointOf TAB bytes p) where
@@ -518,23 +519,23 @@ module _ {M R D : Type 0} (t : Inside M R D) (sound : IsSound t) (previous next 
   same-length : length events ≡ length t.events.items
   same-length = sym (length-map events unlinked) ∙ ap length events-unlinked ∙ length-map t.events.items unlinked
 
-  pub linked-made : t.phase ≡ Reading → IsMade t.parse_state.now.bytes.now events t.stack.items (shown t.parse_state.now.bytes.now t.left) (shown t.parse_state.now.bytes.now (standing t.skips.items t.left t.waits))
-  linked-made reads = made-linked t.events.items events (sym events-unlinked) t.parse_state.now.bytes.now t.stack.items (shown t.parse_state.now.bytes.now t.left)
-      (shown t.parse_state.now.bytes.now (standing t.skips.items t.left t.waits)) (sound.made reads)
+  pub linked-made : t.phase ≡ Reading → IsMade t.parse_state.now.bytes.now events t.stack.items (shown t.parse_state.now.bytes.now t.after_previous) (shown t.parse_state.now.bytes.now (standing t.skips.items t.after_previous t.waits))
+  linked-made reads = made-linked t.events.items events (sym events-unlinked) t.parse_state.now.bytes.now t.stack.items (shown t.parse_state.now.bytes.now t.after_previous)
+      (shown t.parse_state.now.bytes.now (standing t.skips.items t.after_previous t.waits)) (sound.made reads)
 
   front-kept : HasFrontUpToLinkEnds events t.events.items
   front-kept = ap (λ (xs : List Event). map unlinked xs) (take_all (length t.events.items) events (omega (arith, same-length))) ∙ events-unlinked
 
-  pub linked-marks : AreNested (IsProgress t.phase t.parse_state.now.bytes.now t.skips.items (text_of t) events t.stack.items t.closed) (length events) (length t.stack.items) (reverse t.marks.items)
-  linked-marks =
+  pub linked-kept_choices : AreNested (IsProgress t.phase t.parse_state.now.bytes.now t.skips.items (text_of t) events t.stack.items t.closed) (length events) (length t.stack.items) (reverse t.kept_choices.items)
+  linked-kept_choices =
       let P = IsProgress t.phase t.parse_state.now.bytes.now t.skips.items (text_of t) t.events.items t.stack.items t.closed in
       let Q = IsProgress t.phase t.parse_state.now.bytes.now t.skips.items (text_of t) events t.stack.items t.closed in
-      nested-wider Q (length t.events.items) (length t.stack.items) (length events) (length t.stack.items) (reverse t.marks.items) (omega (arith, same-length)) (omega arith)
-      (nested-map P Q (length t.events.items) (length t.stack.items) (reverse t.marks.items)
+      nested-wider Q (length t.events.items) (length t.stack.items) (length events) (length t.stack.items) (reverse t.kept_choices.items) (omega (arith, same-length)) (omega arith)
+      (nested-map P Q (length t.events.items) (length t.stack.items) (reverse t.kept_choices.items)
       (λ p a b h. record {
         read = h.read;
         ended = h.ended;
         made = λ reads. made-kept t.parse_state.now.bytes.now t.events.items events p.events_len (take p.stack_len t.stack.items)
-            (shown t.parse_state.now.bytes.now p.left)
-            (shown t.parse_state.now.bytes.now (reach t.skips.items p.left (can_feed (position_from t.parse_state.now.bytes.now t.skips.items t.start p.left) (length (text_of t).seats) t.closed))) a front-kept (h.made reads);
-      }) sound.marks)
+            (shown t.parse_state.now.bytes.now p.after_previous)
+            (shown t.parse_state.now.bytes.now (reach t.skips.items p.after_previous (can_feed (position_from t.parse_state.now.bytes.now t.skips.items t.start p.after_previous) (length (text_of t).seats) t.closed))) a front-kept (h.made reads);
+      }) sound.kept_choices)

@@ -4,8 +4,8 @@ use Rattle.std.specs.Prelude.{map, reverse, nat_lt}
 use Rattle.std.proofs.lemmas.Bool.Decides.{nat_tests}
 use Rattle.std.proofs.lemmas.List.{take_all}
 use Rattle.markdown.specs.declared.waiting.AttemptKind.{AttemptKind}
-use Rattle.markdown.specs.declared.waiting.Goal.{Goal}
-use Rattle.markdown.specs.declared.waiting.Mark.{Mark}
+use Rattle.markdown.specs.declared.waiting.GoesOn.{GoesOn}
+use Rattle.markdown.specs.declared.waiting.KeptChoice.{KeptChoice}
 use Rattle.markdown.specs.declared.waiting.Progress.{Progress}
 use Rattle.markdown.specs.declared.tokenizer.Tokenizer.TheInside.{Inside}
 use Rattle.markdown.specs.Configuration.{Choice}
@@ -15,13 +15,13 @@ use Rattle.markdown.specs.declared.waiting.Waits.{Waits}
 use Rattle.markdown.specs.declared.waiting.Waits.TheVariants.{Nothing, Byte, End}
 use Rattle.markdown.specs.declared.waiting.Phase.TheVariants.{Reading}
 use Rattle.markdown.specs.Made.{IsMade}
-use Rattle.markdown.specs.View.{seen, text_of, state_of, choice_at, choice_of, position_from, standing, reach, can_feed, IsWaiting, IsProgress, AreNested, IsSound}
+use Rattle.markdown.specs.View.{seen, text_of, state_of, choice_at, choice_of, position_from, standing, reach, can_feed, IsWhatWaits, IsProgress, AreNested, IsSound}
 use Rattle.markdown.proofs.Fields.{next-more, made-more, or-true}
 use Rattle.markdown.proofs.Unwinding.{reverse-last}
 
 -- how far a tokenizer has read
 abbrev pub progress_of : {M R D : Type 0} → Inside M R D → Progress
-progress_of t = record { left = t.left; previous = t.previous; ended = t.ended; events_len = length t.events.items; stack_len = length t.stack.items }
+progress_of t = record { after_previous = t.after_previous; previous = t.previous; ended = t.ended; events_len = length t.events.items; stack_len = length t.stack.items }
 
 abbrev pub saved_if : {M R D : Type 0} → Bool → Inside M R D → Option Progress
 saved_if saves t = cond saves (Some (progress_of t)) None
@@ -46,44 +46,44 @@ module _ {M R D : Type 0} (t : Inside M R D) (sound : IsSound t) where
   all-stack = take_all (length t.stack.items) t.stack.items (omega arith)
 
   abbrev MadeUpto : Point → Type 0
-  MadeUpto p = IsMade bytes_in t.events.items t.stack.items (shown bytes_in t.left) (shown bytes_in p)
+  MadeUpto p = IsMade bytes_in t.events.items t.stack.items (shown bytes_in t.after_previous) (shown bytes_in p)
 
   abbrev position_in : ℕ
-  position_in = position_from bytes_in t.skips.items t.start t.left
+  position_in = position_from bytes_in t.skips.items t.start t.after_previous
 
   abbrev can_feed_in : Bool
   can_feed_in = can_feed position_in (length (text_of t).seats) t.closed
 
-  reach-by : (a b : Bool) → (a ≡ true → b ≡ true) → MadeUpto (reach t.skips.items t.left a) → MadeUpto (reach t.skips.items t.left b)
-  reach-by a b f m = made-more bytes_in t.skips.items t.start (text_of t).end t.left t.previous sound.skips sound.read t.events.items t.stack.items a b f m
+  reach-by : (a b : Bool) → (a ≡ true → b ≡ true) → MadeUpto (reach t.skips.items t.after_previous a) → MadeUpto (reach t.skips.items t.after_previous b)
+  reach-by a b f m = made-more bytes_in t.skips.items t.start (text_of t).end t.after_previous t.previous sound.skips sound.read t.events.items t.stack.items a b f m
 
   -- where something waits more can be fed
-  waits-more : (w : Waits) → IsWaiting bytes_in t.skips.items (text_of t) t.left t.current t.closed w → MadeUpto (standing t.skips.items t.left w) → MadeUpto (reach t.skips.items t.left can_feed_in)
+  waits-more : (w : Waits) → IsWhatWaits bytes_in t.skips.items (text_of t) t.after_previous t.current t.closed w → MadeUpto (standing t.skips.items t.after_previous w) → MadeUpto (reach t.skips.items t.after_previous can_feed_in)
   waits-more Nothing h m = reach-by false can_feed_in (λ e. absurd (cc)) m
   waits-more Byte h m = reach-by true can_feed_in (λ e. byte-more position_in (length (text_of t).seats) t.closed
-      (next-more bytes_in t.skips.items t.start (text_of t).end t.left t.previous sound.skips sound.read h.seat h.at h.before)) m
+      (next-more bytes_in t.skips.items t.start (text_of t).end t.after_previous t.previous sound.skips sound.read h.seat h.at h.before)) m
   waits-more End h m = reach-by true can_feed_in (λ e. closed-more position_in (length (text_of t).seats) t.closed h.closed_too) m
 
   pub saves-here : Saves (progress_of t)
   saves-here = let e = all-events in let s = all-stack in record { read = sound.read; ended = sound.ended; made = λ reads. rw (e, s) (waits-more t.waits sound.waiting (sound.made reads)) }
 
-  module _ (kind : AttemptKind) (ok nok : Goal) where
-    abbrev mark_if : Bool → Mark
+  module _ (kind : AttemptKind) (ok nok : GoesOn) where
+    abbrev mark_if : Bool → KeptChoice
     mark_if saves = record { kind = kind; ok = ok; nok = nok; saved = saved_if saves t }
 
-    nested-one : (saves : Bool) → AreNested Saves (length t.events.items) (length t.stack.items) (mark_if saves ∷ reverse t.marks.items)
-    nested-one true = ((omega arith, omega arith, saves-here), sound.marks)
-    nested-one false = (tt, sound.marks)
+    nested-one : (saves : Bool) → AreNested Saves (length t.events.items) (length t.stack.items) (mark_if saves ∷ reverse t.kept_choices.items)
+    nested-one true = ((omega arith, omega arith, saves-here), sound.kept_choices)
+    nested-one false = (tt, sound.kept_choices)
 
     choice-one : (saves : Bool) → choice_of (position_from bytes_in t.skips.items t.start) t.stack.items (mark_if saves) ≡ choice_at kind (state_of ok) (state_of nok) saves (seen t).configuration
     choice-one true = let s = all-stack in rw s refl
     choice-one false = refl
 
-    module _ (saves : Bool) (marks : List Mark) (put : marks ≡ t.marks.items ++ mark_if saves ∷ []) where
-      pub chosen-marks : AreNested Saves (length t.events.items) (length t.stack.items) (reverse marks)
-      chosen-marks = let e = reverse-last marks t.marks.items (mark_if saves) put in rw e (nested-one saves)
+    module _ (saves : Bool) (kept_choices : List KeptChoice) (put : kept_choices ≡ t.kept_choices.items ++ mark_if saves ∷ []) where
+      pub chosen-kept_choices : AreNested Saves (length t.events.items) (length t.stack.items) (reverse kept_choices)
+      chosen-kept_choices = let e = reverse-last kept_choices t.kept_choices.items (mark_if saves) put in rw e (nested-one saves)
 
-      pub chosen-choices : map (choice_of (position_from bytes_in t.skips.items t.start) t.stack.items) (reverse marks) ≡ choice_at kind (state_of ok) (state_of nok) saves (seen t).configuration ∷ (seen t).choices
+      pub chosen-choices : map (choice_of (position_from bytes_in t.skips.items t.start) t.stack.items) (reverse kept_choices) ≡ choice_at kind (state_of ok) (state_of nok) saves (seen t).configuration ∷ (seen t).choices
       chosen-choices =
-          let e = reverse-last marks t.marks.items (mark_if saves) put in
-          rw e (ap (λ (c : Choice). c ∷ map (choice_of (position_from bytes_in t.skips.items t.start) t.stack.items) (reverse t.marks.items)) (choice-one saves))
+          let e = reverse-last kept_choices t.kept_choices.items (mark_if saves) put in
+          rw e (ap (λ (c : Choice). c ∷ map (choice_of (position_from bytes_in t.skips.items t.start) t.stack.items) (reverse t.kept_choices.items)) (choice-one saves))

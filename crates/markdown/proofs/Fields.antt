@@ -1,4 +1,5 @@
 -- What the steps of the code do to the fields of a tokenizer, and what that means.
+use Rattle.std.specs.List.{AllByRecursion}
 use Rattle.std.proofs.Common.{◌≡◌, ℕ, zero, suc, ◌≤◌, ◌<◌, List, [], ◌∷◌, ◌++◌, Bool, true, false, Option, Some, None, length, refl, sym, ap, ◌∙◌, subst, arith, add-one, ◌⊎◌, inl, inr, take, length-append}
 use Rattle.std.specs.Prelude.{slice_get, reverse, IfSome, filter, nat_lt, ◌||◌}
 use Rattle.std.proofs.lemmas.Bool.Decides.{nat_tests}
@@ -17,17 +18,17 @@ use Rattle.markdown.specs.Text.{Text, in_range}
 use Rattle.markdown.specs.Sight.{seat_before, byte_of, end_or}
 use Rattle.markdown.specs.Gaps.{is_kept, resumed, IsSkip}
 use Rattle.markdown.specs.Made.{IsMade}
-use Rattle.markdown.specs.View.{TAB, seen, text_of, seats_between, position_from, reach, can_feed, IsReadTo, IsWaiting, IsProgress, AreNested, events_of, stack_of, IsSound}
-use Rattle.markdown.specs.declared.waiting.Mark.{Mark}
+use Rattle.markdown.specs.View.{TAB, seen, text_of, seats_between, position_from, reach, can_feed, IsReadTo, IsWhatWaits, IsProgress, AreNested, events_of, stack_of, IsSound}
+use Rattle.markdown.specs.declared.waiting.KeptChoice.{KeptChoice}
 use Rattle.markdown.specs.declared.waiting.Progress.{Progress}
-use Rattle.markdown.specs.Cursor.{Every, IsPlace, IsSeatAt, rest_at}
-use Rattle.markdown.proofs.Orders.{after-before}
-use Rattle.markdown.proofs.Seats.{rest-later}
-use Rattle.markdown.proofs.Standing.{seat-begins, place-of-point, next-begins, end-seat-place, shown-shown}
-use Rattle.markdown.proofs.Cursors.{left_of, text-splits, range-same, range-empty, upto-order, upto-self, upto-upto, upto-same, same-self, next-only, after-upto, upto-after, end-upto, same-upto, same-back, range-continued, rest-none, get-after}
-use Rattle.markdown.proofs.GapLaws.{IsResumed, resumed-at, consumed-outside, pushed-kept, pushed-skips, added-text, added-read, added-skips, added-outside, added-shown, added-resumed}
+use Rattle.markdown.specs.Cursor.{IsPlace, IsSeatAt, rest_at}
+use Rattle.markdown.proofs.PlaceOrder.{after-before}
+use Rattle.markdown.proofs.PlaceSeats.{rest-later}
+use Rattle.markdown.proofs.PlaceStanding.{seat-begins, place-of-point, next-begins, end-seat-place, shown-shown}
+use Rattle.markdown.proofs.PlaceCursors.{left_of, text-splits, range-same, range-empty, upto-order, upto-self, upto-upto, upto-same, same-self, next-only, after-upto, upto-after, end-upto, same-upto, same-back, range-continued, rest-none, get-after}
+use Rattle.markdown.proofs.PlaceGaps.{IsResumed, resumed-at, consumed-outside, pushed-kept, pushed-skips, added-text, added-read, added-skips, added-outside, added-shown, added-resumed}
 use Rattle.markdown.proofs.MadeLemmas.{made-bound}
-use Rattle.markdown.proofs.Points.{same-shown}
+use Rattle.markdown.proofs.PlacePoints.{same-shown}
 
 slice_get-front : {A : Type 0} (xs ys : List A) (i : ℕ) → i < length xs → slice_get (xs ++ ys) i ≡ slice_get xs i
 slice_get-front [] ys i h = absurd (omega arith)
@@ -77,11 +78,11 @@ empty-or-first [] = inl refl
 empty-or-first (x ∷ xs) = inr (x, xs, refl)
 
 -- the first virtual byte of what is left is the next one
-next-of-rest : (bytes : List ℕ) (left : Point) (place : IsPlace TAB bytes left) (seat : Seat) (after : List Seat) → rest_at TAB bytes left ≡ seat ∷ after → IsSeatAt TAB bytes left seat
-next-of-rest bytes left place seat after e =
+next-of-rest : (bytes : List ℕ) (after_previous : Point) (place : IsPlace TAB bytes after_previous) (seat : Seat) (after : List Seat) → rest_at TAB bytes after_previous ≡ seat ∷ after → IsSeatAt TAB bytes after_previous seat
+next-of-rest bytes after_previous place seat after e =
     let splits = place.splits ∙ ap (λ (xs : List Seat). place.before ++ xs) e in
     let begins = seat-begins TAB bytes four place.before seat after splits in
-    let later = subst (Every (λ s. stands_before s.point left ≡ false)) e (rest-later TAB bytes left) in
+    let later = subst (AllByRecursion (λ s. stands_before s.point after_previous ≡ false)) e (rest-later TAB bytes after_previous) in
     record { after = after; is = e; same = begins.at_seat ∙ sym e; later = later.0; inside = begins.inside }
 
 first-kept : (skips : List Point) (seat : Seat) (xs : List Seat) → is_kept skips seat ≡ true → filter (is_kept skips) (seat ∷ xs) ≡ seat ∷ filter (is_kept skips) xs
@@ -91,20 +92,20 @@ first-before : (end : Point) (seat : Seat) (xs : List Seat) → stands_before se
     → filter (λ s. stands_before s.point end) (seat ∷ xs) ≡ seat ∷ filter (λ s. stands_before s.point end) xs
 first-before end seat xs e = rw e refl
 
-module _ (bytes : List ℕ) (skips : List Point) (start end left : Point) (previous : Option ℕ) (are : Every (IsSkip TAB bytes end) skips)
-    (read : IsReadTo bytes skips (text_between bytes skips start end) left previous) where
+module _ (bytes : List ℕ) (skips : List Point) (start end after_previous : Point) (previous : Option ℕ) (are : AllByRecursion (IsSkip TAB bytes end) skips)
+    (read : IsReadTo bytes skips (text_between bytes skips start end) after_previous previous) where
   abbrev here : Point
-  here = resumed skips left
+  here = resumed skips after_previous
 
   -- the place from which the next byte is looked for
-  pub looks : IsResumed TAB bytes skips start end left here
-  looks = resumed-at TAB bytes four skips start end left are read.place read.from read.upto read.outside
+  pub looks : IsResumed TAB bytes skips start end after_previous here
+  looks = resumed-at TAB bytes four skips start end after_previous are read.place read.from read.upto read.outside
 
   -- no more was read than the text
-  pub within : position_from bytes skips start left ≤ length (seats_between bytes skips start end)
-  within = kept-within bytes skips start left end read.place read.from read.upto
+  pub within : position_from bytes skips start after_previous ≤ length (seats_between bytes skips start end)
+  within = kept-within bytes skips start after_previous end read.place read.from read.upto
 
-  here-all : is_upto TAB bytes end here ≡ true → length (seats_between bytes skips start end) ≤ position_from bytes skips start left
+  here-all : is_upto TAB bytes end here ≡ true → length (seats_between bytes skips start end) ≤ position_from bytes skips start after_previous
   here-all e =
       let same = kept-same bytes skips start end start here (same-self TAB bytes start) (upto-same TAB bytes end here e looks.upto) in
       omega (arith, ap length same, ap length looks.same)
@@ -115,7 +116,7 @@ module _ (bytes : List ℕ) (skips : List Point) (start end left : Point) (previ
     next-shown = (next-begins TAB bytes four here seat looks.place n).shown_is ∙ sym looks.place.stands
 
     -- the next byte of the text is the next of the document, where that stands in the text
-    pub next-seat : stands_before seat.point end ≡ true → slice_get (seats_between bytes skips start end) (position_from bytes skips start left) ≡ Some seat
+    pub next-seat : stands_before seat.point end ≡ true → slice_get (seats_between bytes skips start end) (position_from bytes skips start after_previous) ≡ Some seat
     next-seat lt =
         let read_here = seats_between bytes skips start here in
         let f = λ (s : Seat). stands_before s.point end in
@@ -123,17 +124,17 @@ module _ (bytes : List ℕ) (skips : List Point) (start end left : Point) (previ
         let left_is : filter (is_kept skips) (left_of TAB bytes here end) ≡ seat ∷ rest =
         ap (filter (is_kept skips)) (ap (filter f) n.is ∙ first-before end seat n.after lt) ∙ first-kept skips seat (filter f n.after) (looks.fresh seat n) in
         let splits = kept-splits bytes skips start here end looks.place looks.from looks.upto ∙ ap (λ (xs : List Seat). read_here ++ xs) left_is in
-        ap (λ (xs : List Seat). slice_get xs (position_from bytes skips start left)) splits ∙ ap (λ (k : ℕ). slice_get (read_here ++ seat ∷ rest) k) (sym (ap length looks.same)) ∙ get-after read_here (seat ∷ rest)
+        ap (λ (xs : List Seat). slice_get xs (position_from bytes skips start after_previous)) splits ∙ ap (λ (k : ℕ). slice_get (read_here ++ seat ∷ rest) k) (sym (ap length looks.same)) ∙ get-after read_here (seat ∷ rest)
 
-    pub next-more : stands_before seat.point end ≡ true → position_from bytes skips start left < length (seats_between bytes skips start end)
+    pub next-more : stands_before seat.point end ≡ true → position_from bytes skips start after_previous < length (seats_between bytes skips start end)
     next-more lt = slice_get_within _ _ _ (next-seat lt)
 
     -- else all was read
-    pub next-past : stands_before seat.point end ≡ false → length (seats_between bytes skips start end) ≤ position_from bytes skips start left
+    pub next-past : stands_before seat.point end ≡ false → length (seats_between bytes skips start end) ≤ position_from bytes skips start after_previous
     next-past lt = here-all (end-upto TAB bytes here seat looks.place n end lt)
 
     -- one more is read once it is consumed
-    pub next-number : position_from bytes skips start seat.end ≡ suc (position_from bytes skips start left)
+    pub next-number : position_from bytes skips start seat.end ≡ suc (position_from bytes skips start after_previous)
     next-number =
         let read_here = seats_between bytes skips start here in
         let only = ap (filter (is_kept skips)) (next-only TAB bytes here seat looks.place n four) ∙ first-kept skips seat [] (looks.fresh seat n) in
@@ -155,10 +156,10 @@ module _ (bytes : List ℕ) (skips : List Point) (start end left : Point) (previ
         }
 
   -- where the document ends all was read
-  pub next-none-left : rest_at TAB bytes here ≡ [] → length (seats_between bytes skips start end) ≤ position_from bytes skips start left
-  next-none-left e = here-all (rest-none TAB bytes here end looks.place e)
+  pub next-none-after_previous : rest_at TAB bytes here ≡ [] → length (seats_between bytes skips start end) ≤ position_from bytes skips start after_previous
+  next-none-after_previous e = here-all (rest-none TAB bytes here end looks.place e)
 
-  module _ (all : length (seats_between bytes skips start end) ≤ position_from bytes skips start left) where
+  module _ (all : length (seats_between bytes skips start end) ≤ position_from bytes skips start after_previous) where
     past-end : (seat : Seat) (n : IsSeatAt TAB bytes here seat) (b : Bool) → stands_before seat.point end ≡ b → is_upto TAB bytes end here ≡ true
     past-end seat n true e = let more = next-more seat n e in absurd (omega arith)
     past-end seat n false e = end-upto TAB bytes here seat looks.place n end e
@@ -174,8 +175,8 @@ module _ (bytes : List ℕ) (skips : List Point) (start end left : Point) (previ
     end-shown place = same-shown TAB bytes end here place looks.place (upto-same TAB bytes end here ends-here looks.upto)
 
 -- the end of a longer text
-module _ (bytes : List ℕ) (skips : List Point) (start end from to left : Point) (previous : Option ℕ) (are : Every (IsSkip TAB bytes end) skips)
-    (read : IsReadTo bytes skips (text_between bytes skips start end) left previous) (place : IsPlace TAB bytes end)
+module _ (bytes : List ℕ) (skips : List Point) (start end from to after_previous : Point) (previous : Option ℕ) (are : AllByRecursion (IsSkip TAB bytes end) skips)
+    (read : IsReadTo bytes skips (text_between bytes skips start end) after_previous previous) (place : IsPlace TAB bytes end)
     (begins : is_upto TAB bytes start end ≡ true) (same : denotes_same TAB bytes from end ≡ true) (later : is_upto TAB bytes from to ≡ true) where
   end-to : is_upto TAB bytes end to ≡ true
   end-to = upto-upto TAB bytes end from to (same-upto TAB bytes from end same).1 later
@@ -191,16 +192,16 @@ module _ (bytes : List ℕ) (skips : List Point) (start end from to left : Point
   before-extended zero h = refl
   before-extended (suc n) h = ap (λ (xs : List Seat). slice_get xs n) extended-seats ∙ slice_get-front (seats_between bytes skips start end) (filter (in_range from to) (virtual TAB bytes)) n (omega arith)
 
-  pub extended-skips : Every (IsSkip TAB bytes to) skips
+  pub extended-skips : AllByRecursion (IsSkip TAB bytes to) skips
   extended-skips = pushed-skips TAB bytes four skips end from to are place same later
 
-  pub read-extended : IsReadTo bytes skips (text_between bytes skips start to) left previous
+  pub read-extended : IsReadTo bytes skips (text_between bytes skips start to) after_previous previous
   read-extended =
-      let e = before-extended (position_from bytes skips start left) (within bytes skips start end left previous are read) in
+      let e = before-extended (position_from bytes skips start after_previous) (within bytes skips start end after_previous previous are read) in
       record {
         place = read.place;
         from = read.from;
-        upto = upto-upto TAB bytes left end to read.upto end-to;
+        upto = upto-upto TAB bytes after_previous end to read.upto end-to;
         outside = read.outside;
         back = read.back ∙ ap (end_or start) (sym e);
         previous_is = read.previous_is ∙ ap byte_of (sym e);
@@ -211,8 +212,8 @@ module _ (bytes : List ℕ) (skips : List Point) (start end from to left : Point
   extended-more = omega (arith, ap length extended-seats, length-append (seats_between bytes skips start end) (filter (in_range from to) (virtual TAB bytes)))
 
 -- a gap is passed at the end of a text
-module _ (bytes : List ℕ) (skips : List Point) (start end q left : Point) (previous : Option ℕ) (are : Every (IsSkip TAB bytes end) skips)
-    (read : IsReadTo bytes skips (text_between bytes skips start end) left previous) (place : IsPlace TAB bytes end) (to : IsPlace TAB bytes q) (begins : is_upto TAB bytes start end ≡ true)
+module _ (bytes : List ℕ) (skips : List Point) (start end q after_previous : Point) (previous : Option ℕ) (are : AllByRecursion (IsSkip TAB bytes end) skips)
+    (read : IsReadTo bytes skips (text_between bytes skips start end) after_previous previous) (place : IsPlace TAB bytes end) (to : IsPlace TAB bytes q) (begins : is_upto TAB bytes start end ≡ true)
     (first : end.column ≡ 1) (line : q.line ≡ end.line) (before : stands_before end q ≡ true) (other : denotes_same TAB bytes q end ≡ false) where
   abbrev added : List Point
   added = skips ++ q ∷ []
@@ -222,51 +223,51 @@ module _ (bytes : List ℕ) (skips : List Point) (start end q left : Point) (pre
   passed-seats = added-text TAB bytes four skips start end q are place to first line before other begins
 
   -- and as many of them were read
-  pub passed-position : position_from bytes added start left ≡ position_from bytes skips start left
-  passed-position = ap length (added-read TAB bytes four skips start end q are place to first line before other left read.upto)
+  pub passed-position : position_from bytes added start after_previous ≡ position_from bytes skips start after_previous
+  passed-position = ap length (added-read TAB bytes four skips start end q are place to first line before other after_previous read.upto)
 
   passed-before : (n : ℕ) → seat_before (text_between bytes added start q) n ≡ seat_before (text_between bytes skips start end) n
   passed-before zero = refl
   passed-before (suc n) = ap (λ (xs : List Seat). slice_get xs n) passed-seats
 
-  pub passed-skips : Every (IsSkip TAB bytes q) added
+  pub passed-skips : AllByRecursion (IsSkip TAB bytes q) added
   passed-skips = added-skips TAB bytes four skips start end q are place to first line before other
 
-  pub read-passed : IsReadTo bytes added (text_between bytes added start q) left previous
+  pub read-passed : IsReadTo bytes added (text_between bytes added start q) after_previous previous
   read-passed =
-      let n = position_from bytes skips start left in
+      let n = position_from bytes skips start after_previous in
       let e = ap (seat_before (text_between bytes added start q)) passed-position ∙ passed-before n in
       record {
         place = read.place;
         from = read.from;
-        upto = upto-upto TAB bytes left end q read.upto (upto-order TAB bytes end q (after-before end.index end.vs q.index q.vs before));
-        outside = added-outside TAB bytes four skips start end q are place to first line before other left read.place read.upto read.outside;
+        upto = upto-upto TAB bytes after_previous end q read.upto (upto-order TAB bytes end q (after-before end.index end.vs q.index q.vs before));
+        outside = added-outside TAB bytes four skips start end q are place to first line before other after_previous read.place read.upto read.outside;
         back = read.back ∙ ap (end_or start) (sym e);
         previous_is = read.previous_is ∙ ap byte_of (sym e);
       }
 
   -- an enter stands where it did, or after the gap
-  pub passed-shown : stands_before (shown bytes (resumed added left)) (shown bytes (resumed skips left)) ≡ false
-  passed-shown = added-shown TAB bytes four skips start end q are place to first line before other left read.place read.upto
+  pub passed-shown : stands_before (shown bytes (resumed added after_previous)) (shown bytes (resumed skips after_previous)) ≡ false
+  passed-shown = added-shown TAB bytes four skips start end q are place to first line before other after_previous read.place read.upto
 
   -- the next byte stays the next one
-  pub passed-resumed : position_from bytes skips start left < length (seats_between bytes skips start end) → resumed added left ≡ resumed skips left
-  passed-resumed more = elim (added-resumed TAB bytes four skips start end q are place to first line before other left read.place read.upto) [
+  pub passed-resumed : position_from bytes skips start after_previous < length (seats_between bytes skips start end) → resumed added after_previous ≡ resumed skips after_previous
+  passed-resumed more = elim (added-resumed TAB bytes four skips start end q are place to first line before other after_previous read.place read.upto) [
     | inl e ↦ e
-    | inr e ↦ (let same = kept-same bytes skips start left start end (same-self TAB bytes start) e.0 in absurd (omega (arith, ap length same)))
+    | inr e ↦ (let same = kept-same bytes skips start after_previous start end (same-self TAB bytes start) e.0 in absurd (omega (arith, ap length same)))
   ]
 
 -- a byte that waits stands before a later end
-module _ (bytes : List ℕ) (skips : List Point) (start end to left : Point) (previous : Option ℕ) (are : Every (IsSkip TAB bytes end) skips)
-    (read : IsReadTo bytes skips (text_between bytes skips start end) left previous) (seat : Seat) (at : IsSeatAt TAB bytes (resumed skips left) seat) (later : is_upto TAB bytes end to ≡ true) where
+module _ (bytes : List ℕ) (skips : List Point) (start end to after_previous : Point) (previous : Option ℕ) (are : AllByRecursion (IsSkip TAB bytes end) skips)
+    (read : IsReadTo bytes skips (text_between bytes skips start end) after_previous previous) (seat : Seat) (at : IsSeatAt TAB bytes (resumed skips after_previous) seat) (later : is_upto TAB bytes end to ≡ true) where
   still-before-by : (b : Bool) → stands_before seat.point end ≡ true → stands_before seat.point to ≡ b → stands_before seat.point to ≡ true
   still-before-by true h e = e
   still-before-by false h e =
-      let r = looks bytes skips start end left previous are read in
-      let back = end-upto TAB bytes (resumed skips left) seat r.place at to e in
-      let here_after = upto-upto TAB bytes end to (resumed skips left) later back in
-      let same = kept-same bytes skips start end start (resumed skips left) (same-self TAB bytes start) (upto-same TAB bytes end (resumed skips left) here_after r.upto) in
-      let more = next-more bytes skips start end left previous are read seat at h in
+      let r = looks bytes skips start end after_previous previous are read in
+      let back = end-upto TAB bytes (resumed skips after_previous) seat r.place at to e in
+      let here_after = upto-upto TAB bytes end to (resumed skips after_previous) later back in
+      let same = kept-same bytes skips start end start (resumed skips after_previous) (same-self TAB bytes start) (upto-same TAB bytes end (resumed skips after_previous) here_after r.upto) in
+      let more = next-more bytes skips start end after_previous previous are read seat at h in
       absurd (omega (arith, ap length same, ap length r.same))
 
   pub still-before : stands_before seat.point end ≡ true → stands_before seat.point to ≡ true
@@ -281,64 +282,64 @@ pub can-feed-more : (position m n : ℕ) (closed : Bool) → m ≤ n → can_fee
 can-feed-more position m n true le h = or-true (nat_lt position n)
 can-feed-more position m n false le h = grind (arith, nat_tests)
 
-module _ (bytes : List ℕ) (skips : List Point) (start end left : Point) (previous : Option ℕ) (are : Every (IsSkip TAB bytes end) skips)
-    (read : IsReadTo bytes skips (text_between bytes skips start end) left previous) (events : List Event) (stack : List Name) where
+module _ (bytes : List ℕ) (skips : List Point) (start end after_previous : Point) (previous : Option ℕ) (are : AllByRecursion (IsSkip TAB bytes end) skips)
+    (read : IsReadTo bytes skips (text_between bytes skips start end) after_previous previous) (events : List Event) (stack : List Name) where
   abbrev MadeUpto : Point → Type 0
-  MadeUpto p = IsMade bytes events stack (shown bytes left) (shown bytes p)
+  MadeUpto p = IsMade bytes events stack (shown bytes after_previous) (shown bytes p)
 
   -- an enter may stand after a gap
-  pub made-later : MadeUpto left → MadeUpto (resumed skips left)
+  pub made-later : MadeUpto after_previous → MadeUpto (resumed skips after_previous)
   made-later m =
-      let r = looks bytes skips start end left previous are read in
-      made-bound bytes events stack (shown bytes left) (shown bytes left) m (shown bytes (resumed skips left)) r.shown_later (shown-shown TAB bytes (resumed skips left))
+      let r = looks bytes skips start end after_previous previous are read in
+      made-bound bytes events stack (shown bytes after_previous) (shown bytes after_previous) m (shown bytes (resumed skips after_previous)) r.shown_later (shown-shown TAB bytes (resumed skips after_previous))
 
-  pub made-more : (a b : Bool) → (a ≡ true → b ≡ true) → MadeUpto (reach skips left a) → MadeUpto (reach skips left b)
+  pub made-more : (a b : Bool) → (a ≡ true → b ≡ true) → MadeUpto (reach skips after_previous a) → MadeUpto (reach skips after_previous b)
   made-more true true f m = m
   made-more false false f m = m
   made-more false true f m = made-later m
   made-more true false f m = absurd (let e : false ≡ true = f refl in cc)
 
 -- what a choice saved, seen in another way, and then what those before it did
-nested-mark : (P Q : Progress → Type 0) (events stack : ℕ) (saved : Option Progress) (marks : List Mark) → ((p : Progress) → p.events_len ≤ events → p.stack_len ≤ stack → P p → Q p)
-    → ((e s : ℕ) → ((p : Progress) → p.events_len ≤ e → p.stack_len ≤ s → P p → Q p) → AreNested P e s marks → AreNested Q e s marks)
-    → IfSome saved (λ p. (p.events_len ≤ events) × (p.stack_len ≤ stack) × P p) → AreNested P (events_of events saved) (stack_of stack saved) marks
-    → IfSome saved (λ p. (p.events_len ≤ events) × (p.stack_len ≤ stack) × Q p) × AreNested Q (events_of events saved) (stack_of stack saved) marks
-nested-mark P Q events stack None marks f more h k = (tt, more events stack f k)
-nested-mark P Q events stack (Some p) marks f more h k =
+nested-mark : (P Q : Progress → Type 0) (events stack : ℕ) (saved : Option Progress) (kept_choices : List KeptChoice) → ((p : Progress) → p.events_len ≤ events → p.stack_len ≤ stack → P p → Q p)
+    → ((e s : ℕ) → ((p : Progress) → p.events_len ≤ e → p.stack_len ≤ s → P p → Q p) → AreNested P e s kept_choices → AreNested Q e s kept_choices)
+    → IfSome saved (λ p. (p.events_len ≤ events) × (p.stack_len ≤ stack) × P p) → AreNested P (events_of events saved) (stack_of stack saved) kept_choices
+    → IfSome saved (λ p. (p.events_len ≤ events) × (p.stack_len ≤ stack) × Q p) × AreNested Q (events_of events saved) (stack_of stack saved) kept_choices
+nested-mark P Q events stack None kept_choices f more h k = (tt, more events stack f k)
+nested-mark P Q events stack (Some p) kept_choices f more h k =
     ((h.0, h.1, f p h.0 h.1 h.2), more p.events_len p.stack_len (λ q a b. f q (omega (arith, h.0)) (omega (arith, h.1))) k)
 
-pub nested-map : (P Q : Progress → Type 0) (events stack : ℕ) (marks : List Mark) → ((p : Progress) → p.events_len ≤ events → p.stack_len ≤ stack → P p → Q p)
-    → AreNested P events stack marks → AreNested Q events stack marks
+pub nested-map : (P Q : Progress → Type 0) (events stack : ℕ) (kept_choices : List KeptChoice) → ((p : Progress) → p.events_len ≤ events → p.stack_len ≤ stack → P p → Q p)
+    → AreNested P events stack kept_choices → AreNested Q events stack kept_choices
 nested-map P Q events stack [] f h = tt
-nested-map P Q events stack (mark ∷ marks) f h = nested-mark P Q events stack mark.saved marks f (λ e s. nested-map P Q e s marks) h.0 h.1
+nested-map P Q events stack (mark ∷ kept_choices) f h = nested-mark P Q events stack mark.saved kept_choices f (λ e s. nested-map P Q e s kept_choices) h.0 h.1
 
-wider-mark : (P : Progress → Type 0) (a b c d : ℕ) (saved : Option Progress) (marks : List Mark) → a ≤ c → b ≤ d
-    → (AreNested P a b marks → AreNested P c d marks)
-    → IfSome saved (λ p. (p.events_len ≤ a) × (p.stack_len ≤ b) × P p) → AreNested P (events_of a saved) (stack_of b saved) marks
-    → IfSome saved (λ p. (p.events_len ≤ c) × (p.stack_len ≤ d) × P p) × AreNested P (events_of c saved) (stack_of d saved) marks
-wider-mark P a b c d None marks m n more h k = (tt, more k)
-wider-mark P a b c d (Some p) marks m n more h k = ((omega (arith, h.0), omega (arith, h.1), h.2), k)
+wider-mark : (P : Progress → Type 0) (a b c d : ℕ) (saved : Option Progress) (kept_choices : List KeptChoice) → a ≤ c → b ≤ d
+    → (AreNested P a b kept_choices → AreNested P c d kept_choices)
+    → IfSome saved (λ p. (p.events_len ≤ a) × (p.stack_len ≤ b) × P p) → AreNested P (events_of a saved) (stack_of b saved) kept_choices
+    → IfSome saved (λ p. (p.events_len ≤ c) × (p.stack_len ≤ d) × P p) × AreNested P (events_of c saved) (stack_of d saved) kept_choices
+wider-mark P a b c d None kept_choices m n more h k = (tt, more k)
+wider-mark P a b c d (Some p) kept_choices m n more h k = ((omega (arith, h.0), omega (arith, h.1), h.2), k)
 
 -- among more events and open spans
-pub nested-wider : (P : Progress → Type 0) (a b c d : ℕ) (marks : List Mark) → a ≤ c → b ≤ d → AreNested P a b marks → AreNested P c d marks
+pub nested-wider : (P : Progress → Type 0) (a b c d : ℕ) (kept_choices : List KeptChoice) → a ≤ c → b ≤ d → AreNested P a b kept_choices → AreNested P c d kept_choices
 nested-wider P a b c d [] m n h = tt
-nested-wider P a b c d (mark ∷ marks) m n h = wider-mark P a b c d mark.saved marks m n (nested-wider P a b c d marks m n) h.0 h.1
+nested-wider P a b c d (mark ∷ kept_choices) m n h = wider-mark P a b c d mark.saved kept_choices m n (nested-wider P a b c d kept_choices m n) h.0 h.1
 
-narrow-mark : (P : Progress → Type 0) (events stack : ℕ) (saved : Option Progress) (marks : List Mark) → IfSome saved (λ p. (p.events_len ≤ events) × (p.stack_len ≤ stack) × P p)
-    → AreNested P (events_of events saved) (stack_of stack saved) marks → AreNested P events stack marks
-narrow-mark P events stack None marks h k = k
-narrow-mark P events stack (Some p) marks h k = nested-wider P p.events_len p.stack_len events stack marks h.0 h.1 k
+narrow-mark : (P : Progress → Type 0) (events stack : ℕ) (saved : Option Progress) (kept_choices : List KeptChoice) → IfSome saved (λ p. (p.events_len ≤ events) × (p.stack_len ≤ stack) × P p)
+    → AreNested P (events_of events saved) (stack_of stack saved) kept_choices → AreNested P events stack kept_choices
+narrow-mark P events stack None kept_choices h k = k
+narrow-mark P events stack (Some p) kept_choices h k = nested-wider P p.events_len p.stack_len events stack kept_choices h.0 h.1 k
 
 -- but for the last choice
-pub nested-front : (P : Progress → Type 0) (events stack : ℕ) (mark : Mark) (marks : List Mark) → AreNested P events stack (mark ∷ marks) → AreNested P events stack marks
-nested-front P events stack mark marks h = narrow-mark P events stack mark.saved marks h.0 h.1
+pub nested-front : (P : Progress → Type 0) (events stack : ℕ) (mark : KeptChoice) (kept_choices : List KeptChoice) → AreNested P events stack (mark ∷ kept_choices) → AreNested P events stack kept_choices
+nested-front P events stack mark kept_choices h = narrow-mark P events stack mark.saved kept_choices h.0 h.1
 
 module _ {M R D : Type 0} (t : Inside M R D) (sound : IsSound t) where
-  waiting-closed : (bytes : List ℕ) (skips : List Point) (text : Text) (left : Point) (current : Option ℕ) (closed : Bool) (waits : Waits)
-      → IsWaiting bytes skips text left current closed waits → IsWaiting bytes skips text left current true waits
-  waiting-closed bytes skips text left current closed Nothing h = h
-  waiting-closed bytes skips text left current closed Byte h = h
-  waiting-closed bytes skips text left current closed End h = record { none = h.none; closed_too = refl; all = h.all }
+  waiting-closed : (bytes : List ℕ) (skips : List Point) (text : Text) (after_previous : Point) (current : Option ℕ) (closed : Bool) (waits : Waits)
+      → IsWhatWaits bytes skips text after_previous current closed waits → IsWhatWaits bytes skips text after_previous current true waits
+  waiting-closed bytes skips text after_previous current closed Nothing h = h
+  waiting-closed bytes skips text after_previous current closed Byte h = h
+  waiting-closed bytes skips text after_previous current closed End h = record { none = h.none; closed_too = refl; all = h.all }
 
   pub closed-sound : IsSound (record t { closed = true })
   closed-sound =
@@ -352,16 +353,16 @@ module _ {M R D : Type 0} (t : Inside M R D) (sound : IsSound t) where
         text = sound.text;
         skips = sound.skips;
         read = sound.read;
-        waiting = waiting-closed bytes skips text t.left t.current t.closed t.waits sound.waiting;
+        waiting = waiting-closed bytes skips text t.after_previous t.current t.closed t.waits sound.waiting;
         ended = λ _. refl;
         made = sound.made;
-        marks = nested-map (IsProgress t.phase bytes skips text t.events.items t.stack.items t.closed) (IsProgress t.phase bytes skips text t.events.items t.stack.items true) (length t.events.items) (length t.stack.items) (reverse t.marks.items)
+        kept_choices = nested-map (IsProgress t.phase bytes skips text t.events.items t.stack.items t.closed) (IsProgress t.phase bytes skips text t.events.items t.stack.items true) (length t.events.items) (length t.stack.items) (reverse t.kept_choices.items)
             (λ p a b h.
-            let position = position_from bytes skips t.start p.left in
+            let position = position_from bytes skips t.start p.after_previous in
             record {
               read = h.read;
               ended = λ _. refl;
-              made = λ reads. made-more bytes skips t.start text.end p.left p.previous sound.skips h.read (take p.events_len t.events.items) (take p.stack_len t.stack.items)
+              made = λ reads. made-more bytes skips t.start text.end p.after_previous p.previous sound.skips h.read (take p.events_len t.events.items) (take p.stack_len t.stack.items)
                   (can_feed position (length text.seats) t.closed) (can_feed position (length text.seats) true) (λ e. or-true _) (h.made reads);
-            }) sound.marks;
+            }) sound.kept_choices;
       }

@@ -19,9 +19,9 @@ use Rattle.markdown_base.specs.Places.{shown, stands_before}
 use Rattle.markdown_base.specs.Virtual.{Seat}
 use Rattle.markdown.specs.declared.waiting.AttemptKind.{AttemptKind}
 use Rattle.markdown.specs.declared.waiting.AttemptKind.TheVariants.{Attempt, Check}
-use Rattle.markdown.specs.declared.waiting.Goal.{Goal}
-use Rattle.markdown.specs.declared.waiting.Goal.TheVariants as goals
-use Rattle.markdown.specs.declared.waiting.Mark.{Mark}
+use Rattle.markdown.specs.declared.waiting.GoesOn.{GoesOn}
+use Rattle.markdown.specs.declared.waiting.GoesOn.TheVariants as goals
+use Rattle.markdown.specs.declared.waiting.KeptChoice.{KeptChoice}
 use Rattle.markdown.specs.declared.waiting.Progress.{Progress}
 use Rattle.markdown.specs.declared.waiting.Waits.{Waits}
 use Rattle.markdown.specs.declared.waiting.Waits.TheVariants.{Nothing, Byte, End}
@@ -35,8 +35,8 @@ use Rattle.markdown.specs.Unwound.{goal_of, saved_for, ended_by, Unwinding, unwi
 use Rattle.markdown.specs.Gaps.{resumed}
 use Rattle.markdown.specs.Made.{IsMade, last_kind}
 use Rattle.markdown.specs.Cursor.{IsSeatAt, IsNextByte, is_before_pair, rest_at}
-use Rattle.markdown.specs.View.{TAB, seen, text_of, end_point, state_of, choice_of, saved_of, position_from, standing, reach, can_feed, ByteWaits, IsWaiting, IsProgress, AreNested, events_of, stack_of, IsSound}
-use Rattle.markdown.proofs.Fields.{looks, next-more, next-past, next-none-left, nested-map, nested-wider, nested-front}
+use Rattle.markdown.specs.View.{TAB, seen, text_of, end_point, state_of, choice_of, saved_of, position_from, standing, reach, can_feed, ByteWaits, IsWhatWaits, IsProgress, AreNested, events_of, stack_of, IsSound}
+use Rattle.markdown.proofs.Fields.{looks, next-more, next-past, next-none-after_previous, nested-map, nested-wider, nested-front}
 use Rattle.markdown.proofs.Steps.{before-end, nat_lt-is, nat_lt-no}
 use Rattle.markdown.proofs.Changes.{same-choices}
 use Rattle.markdown.proofs.Choices.{progress_of, saves-here, byte-more, closed-more}
@@ -49,50 +49,50 @@ module _ (P : Progress → Type 0) where
   abbrev pub IsBehind : Progress → Progress → Type 0
   IsBehind p from = (p.events_len ≤ from.events_len) × (p.stack_len ≤ from.stack_len)
 
-  abbrev pub GoesFrom : Progress → List Mark → Progress → Type 0
-  GoesFrom from marks p = P p × AreNested P p.events_len p.stack_len marks × IsBehind p from
+  abbrev pub GoesFrom : Progress → List KeptChoice → Progress → Type 0
+  GoesFrom from kept_choices p = P p × AreNested P p.events_len p.stack_len kept_choices × IsBehind p from
 
-  from-saved : (from : Progress) (saved : Option Progress) (marks : List Mark) → P from → IfSome saved (λ p. (p.events_len ≤ from.events_len) × (p.stack_len ≤ from.stack_len) × P p)
-      → AreNested P (events_of from.events_len saved) (stack_of from.stack_len saved) marks → GoesFrom from marks (unwrap_or saved from)
-  from-saved from None marks now h k = (now, k, (omega arith, omega arith))
-  from-saved from (Some p) marks now h k = (h.2, k, (h.0, h.1))
+  from-saved : (from : Progress) (saved : Option Progress) (kept_choices : List KeptChoice) → P from → IfSome saved (λ p. (p.events_len ≤ from.events_len) × (p.stack_len ≤ from.stack_len) × P p)
+      → AreNested P (events_of from.events_len saved) (stack_of from.stack_len saved) kept_choices → GoesFrom from kept_choices (unwrap_or saved from)
+  from-saved from None kept_choices now h k = (now, k, (omega arith, omega arith))
+  from-saved from (Some p) kept_choices now h k = (h.2, k, (h.0, h.1))
 
-  from-one : (kind : AttemptKind) (ok nok : Goal) (saved : Option Progress) (marks : List Mark) (from : Progress) (b : Bool)
-      → let mark : Mark = record { kind = kind; ok = ok; nok = nok; saved = saved } in
-      P from → AreNested P from.events_len from.stack_len (mark ∷ marks) → GoesFrom from marks (unwrap_or (saved_for mark b) from)
-  from-one Attempt ok nok saved marks from true now h = (now, nested-front P from.events_len from.stack_len (record { kind = Attempt; ok = ok; nok = nok; saved = saved }) marks h, (omega arith, omega arith))
-  from-one Check ok nok saved marks from true now h = from-saved from saved marks now h.0 h.1
-  from-one Attempt ok nok saved marks from false now h = from-saved from saved marks now h.0 h.1
-  from-one Check ok nok saved marks from false now h = from-saved from saved marks now h.0 h.1
+  from-one : (kind : AttemptKind) (ok nok : GoesOn) (saved : Option Progress) (kept_choices : List KeptChoice) (from : Progress) (b : Bool)
+      → let mark : KeptChoice = record { kind = kind; ok = ok; nok = nok; saved = saved } in
+      P from → AreNested P from.events_len from.stack_len (mark ∷ kept_choices) → GoesFrom from kept_choices (unwrap_or (saved_for mark b) from)
+  from-one Attempt ok nok saved kept_choices from true now h = (now, nested-front P from.events_len from.stack_len (record { kind = Attempt; ok = ok; nok = nok; saved = saved }) kept_choices h, (omega arith, omega arith))
+  from-one Check ok nok saved kept_choices from true now h = from-saved from saved kept_choices now h.0 h.1
+  from-one Attempt ok nok saved kept_choices from false now h = from-saved from saved kept_choices now h.0 h.1
+  from-one Check ok nok saved kept_choices from false now h = from-saved from saved kept_choices now h.0 h.1
 
   behind-behind : (a b c : Progress) → IsBehind a b → IsBehind b c → IsBehind a c
   behind-behind a b c h k = (omega (arith, h.0, k.0), omega (arith, h.1, k.1))
 
-  pub from-all : (marks : List Mark) (goal : Goal) (from : Progress) → P from → AreNested P from.events_len from.stack_len marks
-      → let u = unwound marks goal from in GoesFrom from u.marks u.from
+  pub from-all : (kept_choices : List KeptChoice) (goal : GoesOn) (from : Progress) → P from → AreNested P from.events_len from.stack_len kept_choices
+      → let u = unwound kept_choices goal from in GoesFrom from u.kept_choices u.from
   from-all [] goal from now h = (now, tt, (omega arith, omega arith))
-  from-all (mark ∷ marks) (goals.Next name) from now h = (now, h, (omega arith, omega arith))
-  from-all (mark ∷ marks) goals.Ok from now h =
-      let one = from-one mark.kind mark.ok mark.nok mark.saved marks from true now h in
+  from-all (mark ∷ kept_choices) (goals.Next name) from now h = (now, h, (omega arith, omega arith))
+  from-all (mark ∷ kept_choices) goals.Ok from now h =
+      let one = from-one mark.kind mark.ok mark.nok mark.saved kept_choices from true now h in
       let next = unwrap_or (saved_for mark true) from in
-      let all = from-all marks (goal_of mark true) next one.0 one.1 in
-      (all.0, all.1, behind-behind (unwound marks (goal_of mark true) next).from next from all.2 one.2)
-  from-all (mark ∷ marks) goals.Nok from now h =
-      let one = from-one mark.kind mark.ok mark.nok mark.saved marks from false now h in
+      let all = from-all kept_choices (goal_of mark true) next one.0 one.1 in
+      (all.0, all.1, behind-behind (unwound kept_choices (goal_of mark true) next).from next from all.2 one.2)
+  from-all (mark ∷ kept_choices) goals.Nok from now h =
+      let one = from-one mark.kind mark.ok mark.nok mark.saved kept_choices from false now h in
       let next = unwrap_or (saved_for mark false) from in
-      let all = from-all marks (goal_of mark false) next one.0 one.1 in
-      (all.0, all.1, behind-behind (unwound marks (goal_of mark false) next).from next from all.2 one.2)
+      let all = from-all kept_choices (goal_of mark false) next one.0 one.1 in
+      (all.0, all.1, behind-behind (unwound kept_choices (goal_of mark false) next).from next from all.2 one.2)
 
 -- what one goes on from
 module _ {R D : Type 0} (position : Point → ℕ) (events : List Event) (stack : List Name) (local : Local R D) where
   abbrev pub at_from : Progress → Configuration R D
-  at_from from = record { position = position from.left; waiting = Nothing; ended = from.ended; events = take from.events_len events; stack = take from.stack_len stack; local = local }
+  at_from from = record { position = position from.after_previous; waiting = Nothing; ended = from.ended; events = take from.events_len events; stack = take from.stack_len stack; local = local }
 
   settled-saved : (from : Progress) (saved : Option Progress) → IfSome saved (λ p. p.events_len ≤ from.events_len) → restored (saved_of position stack saved) (at_from from) ≡ at_from (unwrap_or saved from)
   settled-saved from None h = refl
   settled-saved from (Some p) h = let e = take-take p.events_len from.events_len events h in rw e refl
 
-  settled-one : (kind : AttemptKind) (ok nok : Goal) (saved : Option Progress) (from : Progress) (b : Bool) → IfSome saved (λ p. p.events_len ≤ from.events_len)
+  settled-one : (kind : AttemptKind) (ok nok : GoesOn) (saved : Option Progress) (from : Progress) (b : Bool) → IfSome saved (λ p. p.events_len ≤ from.events_len)
       → settled_at kind (saved_of position stack saved) (answer_of b) (at_from from) ≡ at_from (unwrap_or (saved_for (record { kind = kind; ok = ok; nok = nok; saved = saved }) b) from)
   settled-one Attempt ok nok saved from true h = refl
   settled-one Check ok nok saved from true h = settled-saved from saved h
@@ -103,27 +103,27 @@ module _ {R D : Type 0} (position : Point → ℕ) (events : List Event) (stack 
   fewer P from None h = tt
   fewer P from (Some p) h = h.0
 
-  abbrev pub choices_of : List Mark → List Choice
-  choices_of marks = map (choice_of position stack) marks
+  abbrev pub choices_of : List KeptChoice → List Choice
+  choices_of kept_choices = map (choice_of position stack) kept_choices
 
   abbrev pub step_of : Unwinding → Step R D
-  step_of u = record { configuration = at_from u.from; choices = choices_of u.marks; answer = state_of u.goal }
+  step_of u = record { configuration = at_from u.from; choices = choices_of u.kept_choices; answer = state_of u.goal }
 
   -- the code and the definition end the same choices
-  pub settled-unwound : (P : Progress → Type 0) (marks : List Mark) (goal : Goal) (from : Progress) → P from → AreNested P from.events_len from.stack_len marks
-      → settled_all (at_from from) (choices_of marks) (state_of goal) ≡ step_of (unwound marks goal from)
+  pub settled-unwound : (P : Progress → Type 0) (kept_choices : List KeptChoice) (goal : GoesOn) (from : Progress) → P from → AreNested P from.events_len from.stack_len kept_choices
+      → settled_all (at_from from) (choices_of kept_choices) (state_of goal) ≡ step_of (unwound kept_choices goal from)
   settled-unwound P [] (goals.Next name) from now h = refl
   settled-unwound P [] goals.Ok from now h = refl
   settled-unwound P [] goals.Nok from now h = refl
-  settled-unwound P (mark ∷ marks) (goals.Next name) from now h = refl
-  settled-unwound P (mark ∷ marks) goals.Ok from now h =
-      let one = from-one P mark.kind mark.ok mark.nok mark.saved marks from true now h in
+  settled-unwound P (mark ∷ kept_choices) (goals.Next name) from now h = refl
+  settled-unwound P (mark ∷ kept_choices) goals.Ok from now h =
+      let one = from-one P mark.kind mark.ok mark.nok mark.saved kept_choices from true now h in
       let e = settled-one mark.kind mark.ok mark.nok mark.saved from true (fewer P from mark.saved h.0) in
-      ap (λ (k : Configuration R D). settled_all k (choices_of marks) (state_of mark.ok)) e ∙ settled-unwound P marks (goal_of mark true) (unwrap_or (saved_for mark true) from) one.0 one.1
-  settled-unwound P (mark ∷ marks) goals.Nok from now h =
-      let one = from-one P mark.kind mark.ok mark.nok mark.saved marks from false now h in
+      ap (λ (k : Configuration R D). settled_all k (choices_of kept_choices) (state_of mark.ok)) e ∙ settled-unwound P kept_choices (goal_of mark true) (unwrap_or (saved_for mark true) from) one.0 one.1
+  settled-unwound P (mark ∷ kept_choices) goals.Nok from now h =
+      let one = from-one P mark.kind mark.ok mark.nok mark.saved kept_choices from false now h in
       let e = settled-one mark.kind mark.ok mark.nok mark.saved from false (fewer P from mark.saved h.0) in
-      ap (λ (k : Configuration R D). settled_all k (choices_of marks) (state_of mark.nok)) e ∙ settled-unwound P marks (goal_of mark false) (unwrap_or (saved_for mark false) from) one.0 one.1
+      ap (λ (k : Configuration R D). settled_all k (choices_of kept_choices) (state_of mark.nok)) e ∙ settled-unwound P kept_choices (goal_of mark false) (unwrap_or (saved_for mark false) from) one.0 one.1
 
 -- what waits makes no difference where a choice ends
 restored-unfed : {R D : Type 0} (saved : Option Saved) (k : Configuration R D) → restored saved k ≡ restored saved (unfed k)
@@ -172,22 +172,22 @@ map-none : (events : List Event) → map (λ (e : Event). e.name) events ≡ [] 
 map-none [] h = refl
 map-none (e ∷ es) h = absurd cc
 
-pub made-closed : (bytes : List ℕ) (events : List Event) (stack : List Name) (left bound : Point) → IsMade bytes events stack left bound → stack ≡ [] → IsMade bytes events stack left left
-made-closed bytes events stack left bound m e = record {
+pub made-closed : (bytes : List ℕ) (events : List Event) (stack : List Name) (after_previous bound : Point) → IsMade bytes events stack after_previous bound → stack ≡ [] → IsMade bytes events stack after_previous after_previous
+made-closed bytes events stack after_previous bound m e = record {
   names = m.names;
   nested = m.nested;
   tight = m.tight;
   in_order = m.in_order;
   behind = m.read (exit-last events (map-none (open_events events) (m.names ∙ e)));
   read = m.read;
-  left_bound = upto-self left;
+  left_bound = upto-self after_previous;
   left_shown = m.left_shown;
   bound_shown = m.left_shown;
 }
 
 -- a tokenizer whose choices end
-module _ {M R D : Type 0} (t : Inside M R D) (sound : IsSound t) (ok : Bool) (some : t.marks.items ≡ [] → ⊥) (list : List Mark) (goal : Goal) (from : Progress)
-    (ends : unwinding (reverse list) goal from ≡ unwound (reverse t.marks.items) (ended_by ok) (progress_of t)) where
+module _ {M R D : Type 0} (t : Inside M R D) (sound : IsSound t) (ok : Bool) (some : t.kept_choices.items ≡ [] → ⊥) (list : List KeptChoice) (goal : GoesOn) (from : Progress)
+    (ends : unwinding (reverse list) goal from ≡ unwound (reverse t.kept_choices.items) (ended_by ok) (progress_of t)) where
   abbrev bytes_in : List ℕ
   bytes_in = t.parse_state.now.bytes.now
 
@@ -198,17 +198,17 @@ module _ {M R D : Type 0} (t : Inside M R D) (sound : IsSound t) (ok : Bool) (so
   Kept = IsProgress t.phase bytes_in t.skips.items (text_of t) t.events.items t.stack.items t.closed
 
   goes-from : GoesFrom Kept (progress_of t) (reverse list) from
-  goes-from = subst (λ (u : Unwinding). GoesFrom Kept (progress_of t) u.marks u.from) (sym ends) (from-all Kept (reverse t.marks.items) (ended_by ok) (progress_of t) (saves-here t sound) sound.marks)
+  goes-from = subst (λ (u : Unwinding). GoesFrom Kept (progress_of t) u.kept_choices u.from) (sym ends) (from-all Kept (reverse t.kept_choices.items) (ended_by ok) (progress_of t) (saves-here t sound) sound.kept_choices)
 
   pub kept-here : Kept from
   kept-here = goes-from.0
 
-  some-choices : map (choice_of position_in t.stack.items) (reverse t.marks.items) ≡ [] → ⊥
-  some-choices = cases (last_view t.marks.items)
+  some-choices : map (choice_of position_in t.stack.items) (reverse t.kept_choices.items) ≡ [] → ⊥
+  some-choices = cases (last_view t.kept_choices.items)
     where
-      cases : (t.marks.items ≡ []) ⊎ ((ms : List Mark) × (m : Mark) × (t.marks.items ≡ ms ++ m ∷ [])) → map (choice_of position_in t.stack.items) (reverse t.marks.items) ≡ [] → ⊥
+      cases : (t.kept_choices.items ≡ []) ⊎ ((ms : List KeptChoice) × (m : KeptChoice) × (t.kept_choices.items ≡ ms ++ m ∷ [])) → map (choice_of position_in t.stack.items) (reverse t.kept_choices.items) ≡ [] → ⊥
       cases (inl none) h = some none
-      cases (inr p) h = (let e = ap (map (choice_of position_in t.stack.items)) (reverse-last t.marks.items p.0 p.1 p.2) in let g = sym e ∙ h in cc)
+      cases (inr p) h = (let e = ap (map (choice_of position_in t.stack.items)) (reverse-last t.kept_choices.items p.0 p.1 p.2) in let g = sym e ∙ h in cc)
 
   unfed-here : unfed (seen t).configuration ≡ at_from position_in t.events.items t.stack.items (seen t).configuration.local (progress_of t)
   unfed-here =
@@ -223,7 +223,7 @@ module _ {M R D : Type 0} (t : Inside M R D) (sound : IsSound t) (ok : Bool) (so
       some-unfed (seen t).choices ok (seen t).configuration some-choices
       ∙ ap (λ (k : Configuration R D). settled_all k (seen t).choices (answer_of ok)) unfed-here
       ∙ ap (settled_all (at_from position_in t.events.items t.stack.items local (progress_of t)) (seen t).choices) (sym (ended-state ok))
-      ∙ settled-unwound position_in t.events.items t.stack.items local Kept (reverse t.marks.items) (ended_by ok) (progress_of t) (saves-here t sound) sound.marks
+      ∙ settled-unwound position_in t.events.items t.stack.items local Kept (reverse t.kept_choices.items) (ended_by ok) (progress_of t) (saves-here t sound) sound.kept_choices
       ∙ ap (step_of position_in t.events.items t.stack.items local) (sym ends)
 
   module _ (events : List Event) (stack : List Name) (cut : events ≡ take from.events_len t.events.items) (top : stack ≡ take from.stack_len t.stack.items) where
@@ -233,8 +233,8 @@ module _ {M R D : Type 0} (t : Inside M R D) (sound : IsSound t) (ok : Bool) (so
     front-stack : (n : ℕ) → n ≤ from.stack_len → take n stack ≡ take n t.stack.items
     front-stack n le = rw top (take-take n from.stack_len t.stack.items le)
 
-    pub going-marks : AreNested (IsProgress t.phase bytes_in t.skips.items (text_of t) events stack t.closed) (length events) (length stack) (reverse list)
-    going-marks =
+    pub going-kept_choices : AreNested (IsProgress t.phase bytes_in t.skips.items (text_of t) events stack t.closed) (length events) (length stack) (reverse list)
+    going-kept_choices =
         let Q = IsProgress t.phase bytes_in t.skips.items (text_of t) events stack t.closed in
         nested-wider Q from.events_len from.stack_len (length events) (length stack) (reverse list)
         (omega (arith, goes-from.2.0, ap length cut, length-take from.events_len t.events.items))
@@ -250,62 +250,62 @@ module _ {M R D : Type 0} (t : Inside M R D) (sound : IsSound t) (ok : Bool) (so
     size_in = length (text_of t).seats
 
     abbrev MadeUpto : Point → Type 0
-    MadeUpto p = t.phase ≡ Reading → IsMade bytes_in events stack (shown bytes_in from.left) (shown bytes_in p)
+    MadeUpto p = t.phase ≡ Reading → IsMade bytes_in events stack (shown bytes_in from.after_previous) (shown bytes_in p)
 
-    going-reach : MadeUpto (reach t.skips.items from.left (can_feed (position_in from.left) size_in t.closed))
+    going-reach : MadeUpto (reach t.skips.items from.after_previous (can_feed (position_in from.after_previous) size_in t.closed))
     going-reach = rw (cut, top) kept-here.made
 
-    reach-is : (b : Bool) → can_feed (position_in from.left) size_in t.closed ≡ b → MadeUpto (reach t.skips.items from.left b)
-    reach-is b e = subst (λ (c : Bool). MadeUpto (reach t.skips.items from.left c)) e going-reach
+    reach-is : (b : Bool) → can_feed (position_in from.after_previous) size_in t.closed ≡ b → MadeUpto (reach t.skips.items from.after_previous b)
+    reach-is b e = subst (λ (c : Bool). MadeUpto (reach t.skips.items from.after_previous c)) e going-reach
 
     -- a byte is fed
-    module _ (byte : ℕ) (n : IsNextByte TAB bytes_in (resumed t.skips.items from.left) t.end (Some byte)) where
-      pub byte-left : position_in from.left < size_in
-      byte-left = next-more bytes_in t.skips.items t.start (text_of t).end from.left from.previous sound.skips kept-here.read n.0 n.1 (before-end t sound n.0.point ∙ n.2)
+    module _ (byte : ℕ) (n : IsNextByte TAB bytes_in (resumed t.skips.items from.after_previous) t.end (Some byte)) where
+      pub byte-after_previous : position_in from.after_previous < size_in
+      byte-after_previous = next-more bytes_in t.skips.items t.start (text_of t).end from.after_previous from.previous sound.skips kept-here.read n.0 n.1 (before-end t sound n.0.point ∙ n.2)
 
-      pub byte-waits-there : ByteWaits bytes_in t.skips.items from.left (text_of t).end (Some byte)
+      pub byte-waits-there : ByteWaits bytes_in t.skips.items from.after_previous (text_of t).end (Some byte)
       byte-waits-there = record { seat = n.0; at = n.1; before = before-end t sound n.0.point ∙ n.2; is = ap Some (sym n.3) }
 
-      pub byte-made : MadeUpto (resumed t.skips.items from.left)
-      byte-made = reach-is true (byte-more (position_in from.left) size_in t.closed byte-left)
+      pub byte-made : MadeUpto (resumed t.skips.items from.after_previous)
+      byte-made = reach-is true (byte-more (position_in from.after_previous) size_in t.closed byte-after_previous)
 
     -- no byte is left
-    module _ (n : IsNextByte TAB bytes_in (resumed t.skips.items from.left) t.end None) where
-      pub none-left-there : size_in ≤ position_in from.left
-      none-left-there = by n
+    module _ (n : IsNextByte TAB bytes_in (resumed t.skips.items from.after_previous) t.end None) where
+      pub none-after_previous-there : size_in ≤ position_in from.after_previous
+      none-after_previous-there = by n
         where
-          by : IsNextByte TAB bytes_in (resumed t.skips.items from.left) t.end None → size_in ≤ position_in from.left
-          by (inl e) = next-none-left bytes_in t.skips.items t.start (text_of t).end from.left from.previous sound.skips kept-here.read e
-          by (inr m) = next-past bytes_in t.skips.items t.start (text_of t).end from.left from.previous sound.skips kept-here.read m.0 m.1 (before-end t sound m.0.point ∙ m.2)
+          by : IsNextByte TAB bytes_in (resumed t.skips.items from.after_previous) t.end None → size_in ≤ position_in from.after_previous
+          by (inl e) = next-none-after_previous bytes_in t.skips.items t.start (text_of t).end from.after_previous from.previous sound.skips kept-here.read e
+          by (inr m) = next-past bytes_in t.skips.items t.start (text_of t).end from.after_previous from.previous sound.skips kept-here.read m.0 m.1 (before-end t sound m.0.point ∙ m.2)
 
-      pub end-made : t.closed ≡ true → MadeUpto (resumed t.skips.items from.left)
-      end-made closed = reach-is true (closed-more (position_in from.left) size_in t.closed closed)
+      pub end-made : t.closed ≡ true → MadeUpto (resumed t.skips.items from.after_previous)
+      end-made closed = reach-is true (closed-more (position_in from.after_previous) size_in t.closed closed)
 
-      pub none-made : t.closed ≡ false → MadeUpto from.left
-      none-made still = reach-is false (none-more (position_in from.left) size_in t.closed none-left-there still)
+      pub none-made : t.closed ≡ false → MadeUpto from.after_previous
+      none-made still = reach-is false (none-more (position_in from.after_previous) size_in t.closed none-after_previous-there still)
         where
           none-more : (position size : ℕ) (closed : Bool) → size ≤ position → closed ≡ false → can_feed position size closed ≡ false
           none-more position size closed le e = let f = nat_lt-no position size le in rw (e, f) refl
 
     -- the reading has ended
-    pub ended-made : stack ≡ [] → MadeUpto from.left
-    ended-made e reads = made-closed bytes_in events stack (shown bytes_in from.left) (shown bytes_in (reach t.skips.items from.left (can_feed (position_in from.left) size_in t.closed))) (going-reach reads) e
+    pub ended-made : stack ≡ [] → MadeUpto from.after_previous
+    ended-made e reads = made-closed bytes_in events stack (shown bytes_in from.after_previous) (shown bytes_in (reach t.skips.items from.after_previous (can_feed (position_in from.after_previous) size_in t.closed))) (going-reach reads) e
 
 -- where the code looks for the next byte
-module _ (skips : List Point) (left : Point) (slice : List Point) (place : Point) (same : slice ≡ skips) (here : place ≡ resumed slice left) where
-  going-at : place ≡ resumed skips left
-  going-at = here ∙ ap (λ (xs : List Point). resumed xs left) same
+module _ (skips : List Point) (after_previous : Point) (slice : List Point) (place : Point) (same : slice ≡ skips) (here : place ≡ resumed slice after_previous) where
+  going-at : place ≡ resumed skips after_previous
+  going-at = here ∙ ap (λ (xs : List Point). resumed xs after_previous) same
 
-  pub going-next : (bytes : List ℕ) (end : ℕ × ℕ) (o : Option ℕ) → IsNextByte TAB bytes place end o → IsNextByte TAB bytes (resumed skips left) end o
+  pub going-next : (bytes : List ℕ) (end : ℕ × ℕ) (o : Option ℕ) → IsNextByte TAB bytes place end o → IsNextByte TAB bytes (resumed skips after_previous) end o
   going-next bytes end o h = subst (λ (p : Point). IsNextByte TAB bytes p end o) going-at h
 
-  pub going-within : (bytes : List ℕ) → (0 < (resumed skips left).vs → (resumed skips left).index < length bytes) → 0 < place.vs → place.index < length bytes
+  pub going-within : (bytes : List ℕ) → (0 < (resumed skips after_previous).vs → (resumed skips after_previous).index < length bytes) → 0 < place.vs → place.index < length bytes
   going-within bytes h = subst (λ (p : Point). 0 < p.vs → p.index < length bytes) (sym going-at) h
 
-pub some-by : (items : List Mark) (n : ℕ) (b : Bool) → b ≡ (n == 0) → b ≡ false → n ≡ length items → items ≡ [] → ⊥
+pub some-by : (items : List KeptChoice) (n : ℕ) (b : Bool) → b ≡ (n == 0) → b ≡ false → n ≡ length items → items ≡ [] → ⊥
 some-by items n b e f g none = let z : n ≡ 0 = g ∙ ap length none in let same : b ≡ true = e ∙ ap (λ (k : ℕ). k == 0) z in let c : true ≡ false = sym same ∙ f in cc
 
-pub none-by : (items : List Mark) (n : ℕ) (b : Bool) → b ≡ (n == 0) → b ≡ true → n ≡ length items → items ≡ []
+pub none-by : (items : List KeptChoice) (n : ℕ) (b : Bool) → b ≡ (n == 0) → b ≡ true → n ≡ length items → items ≡ []
 none-by [] n b e f g = refl
 none-by (x ∷ xs) n b e f g = absurd (by n (sym e ∙ f) g)
   where
@@ -319,67 +319,67 @@ takes-ended flush q true answer e f = rw e (refl, f)
 takes-ended flush q false answer e f = rw e (refl, f)
 
 -- the fields once choices have ended
-module _ {M R D : Type 0} (t : Inside M R D) (sound : IsSound t) (flush ok : Bool) (some : t.marks.items ≡ [] → ⊥) (marks : Vec Mark) (goal : Goal) (from : Progress)
-    (ends : unwinding (reverse marks.items) goal from ≡ unwound (reverse t.marks.items) (ended_by ok) (progress_of t))
+module _ {M R D : Type 0} (t : Inside M R D) (sound : IsSound t) (flush ok : Bool) (some : t.kept_choices.items ≡ [] → ⊥) (kept_choices : Vec KeptChoice) (goal : GoesOn) (from : Progress)
+    (ends : unwinding (reverse kept_choices.items) goal from ≡ unwound (reverse t.kept_choices.items) (ended_by ok) (progress_of t))
     (events : Vec Event) (stack : Vec Name) (cut : events.items ≡ take from.events_len t.events.items) (top : stack.items ≡ take from.stack_len t.stack.items) where
   abbrev bytes_there : List ℕ
   bytes_there = t.parse_state.now.bytes.now
 
   abbrev position_there : ℕ
-  position_there = position_from bytes_there t.skips.items t.start from.left
+  position_there = position_from bytes_there t.skips.items t.start from.after_previous
 
   abbrev size_there : ℕ
   size_there = length (text_of t).seats
 
   abbrev pub after : Waits → Bool → Option ℕ → Inside M R D
-  after waits ended current = record t { marks = marks; left = from.left; previous = from.previous; events = events; stack = stack; waits = waits; ended = ended; current = current }
+  after waits ended current = record t { kept_choices = kept_choices; after_previous = from.after_previous; previous = from.previous; events = events; stack = stack; waits = waits; ended = ended; current = current }
 
   abbrev NextThere : Option ℕ → Type 0
-  NextThere o = IsNextByte TAB bytes_there (resumed t.skips.items from.left) t.end o
+  NextThere o = IsNextByte TAB bytes_there (resumed t.skips.items from.after_previous) t.end o
 
-  sound-by : (waits : Waits) (ended : Bool) (current : Option ℕ) → IsWaiting bytes_there t.skips.items (text_of t) from.left current t.closed waits → (ended ≡ true → t.closed ≡ true)
-      → (t.phase ≡ Reading → IsMade bytes_there events.items stack.items (shown bytes_there from.left) (shown bytes_there (standing t.skips.items from.left waits))) → IsSound (after waits ended current)
+  sound-by : (waits : Waits) (ended : Bool) (current : Option ℕ) → IsWhatWaits bytes_there t.skips.items (text_of t) from.after_previous current t.closed waits → (ended ≡ true → t.closed ≡ true)
+      → (t.phase ≡ Reading → IsMade bytes_there events.items stack.items (shown bytes_there from.after_previous) (shown bytes_there (standing t.skips.items from.after_previous waits))) → IsSound (after waits ended current)
   sound-by waits ended current w e m = record {
     limit = sound.limit;
     reads = sound.reads;
     end_at = sound.end_at;
     text = sound.text;
     skips = sound.skips;
-    read = (kept-here t sound ok some marks.items goal from ends).read;
+    read = (kept-here t sound ok some kept_choices.items goal from ends).read;
     waiting = w;
     ended = e;
     made = m;
-    marks = going-marks t sound ok some marks.items goal from ends events.items stack.items cut top;
+    kept_choices = going-kept_choices t sound ok some kept_choices.items goal from ends events.items stack.items cut top;
   }
 
   -- a byte
   pub byte-sound : (byte : ℕ) → NextThere (Some byte) → IsSound (after Byte from.ended (Some byte))
-  byte-sound byte n = sound-by Byte from.ended (Some byte) (byte-waits-there t sound ok some marks.items goal from ends events.items stack.items cut top byte n)
-      (kept-here t sound ok some marks.items goal from ends).ended (byte-made t sound ok some marks.items goal from ends events.items stack.items cut top byte n)
+  byte-sound byte n = sound-by Byte from.ended (Some byte) (byte-waits-there t sound ok some kept_choices.items goal from ends events.items stack.items cut top byte n)
+      (kept-here t sound ok some kept_choices.items goal from ends).ended (byte-made t sound ok some kept_choices.items goal from ends events.items stack.items cut top byte n)
 
   -- the end
   pub end-sound : NextThere None → t.closed ≡ true → IsSound (after End true None)
-  end-sound n closed = sound-by End true None (record { none = refl; closed_too = closed; all = none-left-there t sound ok some marks.items goal from ends events.items stack.items cut top n })
-      (λ _. closed) (end-made t sound ok some marks.items goal from ends events.items stack.items cut top n closed)
+  end-sound n closed = sound-by End true None (record { none = refl; closed_too = closed; all = none-after_previous-there t sound ok some kept_choices.items goal from ends events.items stack.items cut top n })
+      (λ _. closed) (end-made t sound ok some kept_choices.items goal from ends events.items stack.items cut top n closed)
 
   -- nothing
   pub none-sound : NextThere None → t.closed ≡ false → IsSound (after Nothing from.ended None)
-  none-sound n still = sound-by Nothing from.ended None refl (kept-here t sound ok some marks.items goal from ends).ended
-      (none-made t sound ok some marks.items goal from ends events.items stack.items cut top n still)
+  none-sound n still = sound-by Nothing from.ended None refl (kept-here t sound ok some kept_choices.items goal from ends).ended
+      (none-made t sound ok some kept_choices.items goal from ends events.items stack.items cut top n still)
 
   -- the reading has ended
   pub ended-sound : stack.items ≡ [] → IsSound (after Nothing from.ended None)
-  ended-sound e = sound-by Nothing from.ended None refl (kept-here t sound ok some marks.items goal from ends).ended
-      (ended-made t sound ok some marks.items goal from ends events.items stack.items cut top e)
+  ended-sound e = sound-by Nothing from.ended None refl (kept-here t sound ok some kept_choices.items goal from ends).ended
+      (ended-made t sound ok some kept_choices.items goal from ends events.items stack.items cut top e)
 
   abbrev step_there : Step R D
-  step_there = step_of (position_from bytes_there t.skips.items t.start) t.events.items t.stack.items (seen t).configuration.local (unwinding (reverse marks.items) goal from)
+  step_there = step_of (position_from bytes_there t.skips.items t.start) t.events.items t.stack.items (seen t).configuration.local (unwinding (reverse kept_choices.items) goal from)
 
   abbrev TakesThere : Seen M R D → Result StateName State → Type 0
   TakesThere new answer = let s = settled_all (seen t).configuration (seen t).choices (answer_of ok) in TakesUp flush (settled_to (seen t) s) new s.answer answer
 
   by-step : (new : Seen M R D) (answer : Result StateName State) → TakesUp flush (settled_to (seen t) step_there) new (state_of goal) answer → TakesThere new answer
-  by-step new answer h = subst (λ (s : Step R D). TakesUp flush (settled_to (seen t) s) new s.answer answer) (sym (settled-is t sound ok some marks.items goal from ends)) h
+  by-step new answer h = subst (λ (s : Step R D). TakesUp flush (settled_to (seen t) s) new s.answer answer) (sym (settled-is t sound ok some kept_choices.items goal from ends)) h
 
   abbrev waiting_there : Waits → Bool → Seen M R D
   waiting_there waits ended = record {
@@ -401,7 +401,7 @@ module _ {M R D : Type 0} (t : Inside M R D) (sound : IsSound t) (flush ok : Boo
   }
 
   seen-there : (waits : Waits) (ended : Bool) (current : Option ℕ) → seen (after waits ended current) ≡ waiting_there waits ended
-  seen-there waits ended current = let c = going-choices t sound ok some marks.items goal from ends events.items stack.items cut top in rw (c, cut, top) refl
+  seen-there waits ended current = let c = going-choices t sound ok some kept_choices.items goal from ends events.items stack.items cut top in rw (c, cut, top) refl
 
   fed-there : (b : Bool) → nat_lt position_there size_there ≡ b
       → at_configuration (settled_to (seen t) step_there) (fed (seen t).text step_there.configuration) ≡ cond b (waiting_there Byte from.ended) (waiting_there End true)
@@ -411,17 +411,17 @@ module _ {M R D : Type 0} (t : Inside M R D) (sound : IsSound t) (flush ok : Boo
   -- what waits, and for which state
   pub takes-byte : (name : StateName) (byte : ℕ) → goal ≡ goals.Next name → NextThere (Some byte) → TakesThere (seen (after Byte from.ended (Some byte))) (result.Ok name)
   takes-byte name byte e n =
-      let lt = byte-left t sound ok some marks.items goal from ends events.items stack.items cut top byte n in
+      let lt = byte-after_previous t sound ok some kept_choices.items goal from ends events.items stack.items cut top byte n in
       by-step _ _ (rw e (refl, seen-there Byte from.ended (Some byte) ∙ sym (fed-there true (nat_lt-is position_there size_there lt)), λ f. lt))
 
   pub takes-end : (name : StateName) → goal ≡ goals.Next name → flush ≡ true → NextThere None → TakesThere (seen (after End true None)) (result.Ok name)
   takes-end name e f n =
-      let le = none-left-there t sound ok some marks.items goal from ends events.items stack.items cut top n in
+      let le = none-after_previous-there t sound ok some kept_choices.items goal from ends events.items stack.items cut top n in
       by-step _ _ (rw e (refl, seen-there End true None ∙ sym (fed-there false (nat_lt-no position_there size_there le)), λ g. absurd (let c : true ≡ false = sym f ∙ g in cc)))
 
   pub takes-none : (name : StateName) → goal ≡ goals.Next name → flush ≡ false → NextThere None → TakesThere (seen (after Nothing from.ended None)) (result.Err (Next name))
   takes-none name e f n =
-      let le = none-left-there t sound ok some marks.items goal from ends events.items stack.items cut top n in
+      let le = none-after_previous-there t sound ok some kept_choices.items goal from ends events.items stack.items cut top n in
       by-step _ _ (rw e (seen-there Nothing from.ended None, refl, f, le))
 
   pub takes-ok : goal ≡ goals.Ok → TakesThere (seen (after Nothing from.ended None)) (result.Err Ok)
@@ -432,11 +432,11 @@ module _ {M R D : Type 0} (t : Inside M R D) (sound : IsSound t) (flush ok : Boo
 
   -- no span is open where the reading has ended
   pub closes : EndsClosed (settled_all (seen t).configuration (seen t).choices (answer_of ok)) → (goal ≡ goals.Ok) ⊎ (goal ≡ goals.Nok) → stack.items ≡ []
-  closes h o = top ∙ subst EndsClosed (settled-is t sound ok some marks.items goal from ends) h (answered o)
+  closes h o = top ∙ subst EndsClosed (settled-is t sound ok some kept_choices.items goal from ends) h (answered o)
     where
       answered : (goal ≡ goals.Ok) ⊎ (goal ≡ goals.Nok) → IsSome (answer_in (state_of goal))
       answered (inl e) = rw e refl
       answered (inr e) = rw e refl
 
-  pub within-there : 0 < (resumed t.skips.items from.left).vs → (resumed t.skips.items from.left).index < length bytes_there
-  within-there = (looks bytes_there t.skips.items t.start (text_of t).end from.left from.previous sound.skips (kept-here t sound ok some marks.items goal from ends).read).place.bounds.tab
+  pub within-there : 0 < (resumed t.skips.items from.after_previous).vs → (resumed t.skips.items from.after_previous).index < length bytes_there
+  within-there = (looks bytes_there t.skips.items t.start (text_of t).end from.after_previous from.previous sound.skips (kept-here t sound ok some kept_choices.items goal from ends).read).place.bounds.tab

@@ -104,14 +104,14 @@ module _ (void : Name → Bool) where
 -- ---- calls
 
 -- nothing is made yet
-pub made-new : (bytes : List ℕ) (left bound : Point) → stands_before bound left ≡ false → IsShown bytes left → IsShown bytes bound → IsMade bytes [] [] left bound
-made-new bytes left bound upto l b = record {
+pub made-new : (bytes : List ℕ) (after_previous bound : Point) → stands_before bound after_previous ≡ false → IsShown bytes after_previous → IsShown bytes bound → IsMade bytes [] [] after_previous bound
+made-new bytes after_previous bound upto l b = record {
   names = refl;
   nested = refl;
   tight = tt;
   in_order = (λ i j d lt within. absurd (omega arith), All-nil (λ e. IsShown bytes e.point));
   behind = All-nil (λ e. stands_before bound e.point ≡ false);
-  read = λ _. All-nil (λ e. stands_before left e.point ≡ false);
+  read = λ _. All-nil (λ e. stands_before after_previous e.point ≡ false);
   left_bound = upto;
   left_shown = l;
   bound_shown = b;
@@ -145,25 +145,25 @@ pairs-last R xs x h k d lt =
     rw (get_or_append_left xs (x ∷ []) d k lt, get_or_push xs x d (length xs) refl) at pair
 
 -- a list that ends in an enter, which is before a place
-upto_enter : (bytes : List ℕ) (events : List Event) (left : Point) → IsInOrder bytes events → last_kind Exit events ≡ Enter
-    → ((o : Event) → last_or None (open_events events) ≡ Some o → stands_before o.point left ≡ true) → AreUpto left events
-upto_enter bytes events left order enters before = cases (last_view events)
+upto_enter : (bytes : List ℕ) (events : List Event) (after_previous : Point) → IsInOrder bytes events → last_kind Exit events ≡ Enter
+    → ((o : Event) → last_or None (open_events events) ≡ Some o → stands_before o.point after_previous ≡ true) → AreUpto after_previous events
+upto_enter bytes events after_previous order enters before = cases (last_view events)
   where
-    cases : (events ≡ []) ⊎ ((ys : List Event) × (y : Event) × (events ≡ ys ++ y ∷ [])) → AreUpto left events
+    cases : (events ≡ []) ⊎ ((ys : List Event) × (y : Event) × (events ≡ ys ++ y ∷ [])) → AreUpto after_previous events
     cases (inl none) = enter-is-no-exit (sym enters ∙ ap (last_kind Exit) none)
     cases (inr p) =
         let k : p.1.kind ≡ Enter = sym (last_kind-append Exit p.0 (p.1 ∷ [])) ∙ ap (last_kind Exit) (sym p.2) ∙ enters in
         let opened : open_events events ≡ open_events p.0 ++ p.1 ∷ [] = ap open_events p.2 ∙ open_events-enter p.0 p.1 k in
-        let lt : stands_before p.1.point left ≡ true = before p.1 (ap (last_or None) opened ∙ last_or-push None (open_events p.0) p.1) in
-        let upto : stands_before left p.1.point ≡ false = before-upto p.1.point left lt in
+        let lt : stands_before p.1.point after_previous ≡ true = before p.1 (ap (last_or None) opened ∙ last_or-push None (open_events p.0) p.1) in
+        let upto : stands_before after_previous p.1.point ≡ false = before-upto p.1.point after_previous lt in
         let pairs : AllPairs (λ (d f : Event). stands_before f.point d.point ≡ false) (p.0 ++ p.1 ∷ []) = subst (λ (es : List Event). AllPairs (λ (d f : Event). stands_before f.point d.point ≡ false) es) p.2 order.0 in
         let front : AreUpto p.1.point p.0 = pairs-last (λ (d f : Event). stands_before f.point d.point ≡ false) p.0 p.1 pairs in
-        subst (AreUpto left) (sym p.2) (All-push (λ d. stands_before left d.point ≡ false) p.0 p.1 (AreUpto-later p.1.point left p.0 upto front) upto)
+        subst (AreUpto after_previous) (sym p.2) (All-push (λ d. stands_before after_previous d.point ≡ false) p.0 p.1 (AreUpto-later p.1.point after_previous p.0 upto front) upto)
 
-module _ (bytes : List ℕ) (events : List Event) (stack : List Name) (left bound : Point) where
+module _ (bytes : List ℕ) (events : List Event) (stack : List Name) (after_previous bound : Point) where
   -- an enter, at the place where one would stand
-  pub made-enter : IsMade bytes events stack left bound → (e : Event) → e.kind ≡ Enter → stands_before e.point bound ≡ false → stands_before bound e.point ≡ false → IsShown bytes e.point
-      → IsMade bytes (events ++ e ∷ []) (stack ++ e.name ∷ []) left bound
+  pub made-enter : IsMade bytes events stack after_previous bound → (e : Event) → e.kind ≡ Enter → stands_before e.point bound ≡ false → stands_before bound e.point ≡ false → IsShown bytes e.point
+      → IsMade bytes (events ++ e ∷ []) (stack ++ e.name ∷ []) after_previous bound
   made-enter m e k from upto is = record {
     names = ap (map (λ (e : Event). e.name)) (open_events-enter events e k) ∙ map-append (λ (e : Event). e.name) (open_events events) (e ∷ []) ∙ ap (λ (ns : List Name). ns ++ e.name ∷ []) m.names;
     nested = names-push events e (reverse stack) m.nested ∙ ap (λ (k : Kind). names_after k e.name (reverse stack)) k ∙ ap Some (sym (reverse-push stack e.name));
@@ -177,24 +177,24 @@ module _ (bytes : List ℕ) (events : List Event) (stack : List Name) (left boun
   }
 
   -- where the last open enter is before an exit's place, each event is up to it
-  upto_left : IsMade bytes events stack left bound → ((o : Event) → last_or None (open_events events) ≡ Some o → stands_before o.point left ≡ true) → AreUpto left events
+  upto_left : IsMade bytes events stack after_previous bound → ((o : Event) → last_or None (open_events events) ≡ Some o → stands_before o.point after_previous ≡ true) → AreUpto after_previous events
   upto_left m before = cases (last_kind Exit events) refl
     where
-      cases : (k : Kind) → last_kind Exit events ≡ k → AreUpto left events
-      cases Enter e = upto_enter bytes events left m.in_order e before
+      cases : (k : Kind) → last_kind Exit events ≡ k → AreUpto after_previous events
+      cases Enter e = upto_enter bytes events after_previous m.in_order e before
       cases Exit e = m.read e
 
   -- an exit of the last open name, at the place where one stands
-  pub made-exit : IsMade bytes events stack left bound → (e : Event) → e.kind ≡ Exit → e.point ≡ left → last_or None stack ≡ Some e.name
-      → ((o : Event) → last_or None (open_events events) ≡ Some o → stands_before o.point left ≡ true)
+  pub made-exit : IsMade bytes events stack after_previous bound → (e : Event) → e.kind ≡ Exit → e.point ≡ after_previous → last_or None stack ≡ Some e.name
+      → ((o : Event) → last_or None (open_events events) ≡ Some o → stands_before o.point after_previous ≡ true)
       → (is_void e.name ≡ true → (o : Event) × (last_or None events ≡ Some o) × (o.kind ≡ Enter))
-      → IsMade bytes (events ++ e ∷ []) (take (length stack - 1) stack) left bound
+      → IsMade bytes (events ++ e ∷ []) (take (length stack - 1) stack) after_previous bound
   made-exit m e k at top before last =
       let upto = upto_left m before in
       let rest = take (length stack - 1) stack in
       let whole : stack ≡ rest ++ e.name ∷ [] = push_from_last stack e.name top in
       let same : same_name e.name e.name ≡ true = same_name-refl e.name in
-      let here : AreUpto left (events ++ e ∷ []) = All-push (λ d. stands_before left d.point ≡ false) events e upto (ap (stands_before left) at ∙ upto-self left) in
+      let here : AreUpto after_previous (events ++ e ∷ []) = All-push (λ d. stands_before after_previous d.point ≡ false) events e upto (ap (stands_before after_previous) at ∙ upto-self after_previous) in
       record {
         names = ap (map (λ (e : Event). e.name)) (open_events-exit events e k) ∙ sym (take-map (λ (e : Event). e.name) (length (open_events events) - 1) (open_events events))
             ∙ ap (λ (n : ℕ). take (n - 1) (map (λ (e : Event). e.name) (open_events events))) (sym (length-map (open_events events) (λ (e : Event). e.name)))
@@ -203,7 +203,7 @@ module _ (bytes : List ℕ) (events : List Event) (stack : List Name) (left boun
             ∙ ap (names_after Exit e.name) (ap reverse whole ∙ reverse-push rest e.name) ∙ ap (λ (t : Bool). cond t (Some (reverse rest)) None) same;
         tight = void_exits-append is_void Exit events (e ∷ []) m.tight (λ _ v. follows (last v), tt);
         in_order = in_order-push bytes events e m.in_order (subst (λ (p : Point). AreUpto p events) (sym at) upto) (subst (IsShown bytes) (sym at) m.left_shown);
-        behind = AreUpto-later left bound (events ++ e ∷ []) m.left_bound here;
+        behind = AreUpto-later after_previous bound (events ++ e ∷ []) m.left_bound here;
         read = λ _. here;
         left_bound = m.left_bound;
         left_shown = m.left_shown;
@@ -214,22 +214,22 @@ module _ (bytes : List ℕ) (events : List Event) (stack : List Name) (left boun
       follows p = ap (last_kind Exit) (push_from_last events p.0 p.1) ∙ last_kind-append Exit (take (length events - 1) events) (p.0 ∷ []) ∙ p.2
 
   -- a byte is consumed: an exit stands at its end, and no event after
-  pub made-consume : IsMade bytes events stack left bound → (left' bound' : Point) → stands_before left' bound ≡ false → stands_before bound' left' ≡ false → IsShown bytes left' → IsShown bytes bound'
-      → IsMade bytes events stack left' bound'
-  made-consume m left' bound' after upto l b = record {
+  pub made-consume : IsMade bytes events stack after_previous bound → (after_previous' bound' : Point) → stands_before after_previous' bound ≡ false → stands_before bound' after_previous' ≡ false → IsShown bytes after_previous' → IsShown bytes bound'
+      → IsMade bytes events stack after_previous' bound'
+  made-consume m after_previous' bound' after upto l b = record {
     names = m.names;
     nested = m.nested;
     tight = m.tight;
     in_order = m.in_order;
-    behind = AreUpto-later left' bound' events upto (AreUpto-later bound left' events after m.behind);
-    read = λ _. AreUpto-later bound left' events after m.behind;
+    behind = AreUpto-later after_previous' bound' events upto (AreUpto-later bound after_previous' events after m.behind);
+    read = λ _. AreUpto-later bound after_previous' events after m.behind;
     left_bound = upto;
     left_shown = l;
     bound_shown = b;
   }
 
   -- an enter would stand later
-  pub made-bound : IsMade bytes events stack left bound → (bound' : Point) → stands_before bound' bound ≡ false → IsShown bytes bound' → IsMade bytes events stack left bound'
+  pub made-bound : IsMade bytes events stack after_previous bound → (bound' : Point) → stands_before bound' bound ≡ false → IsShown bytes bound' → IsMade bytes events stack after_previous bound'
   made-bound m bound' later b = record {
     names = m.names;
     nested = m.nested;
@@ -237,30 +237,30 @@ module _ (bytes : List ℕ) (events : List Event) (stack : List Name) (left boun
     in_order = m.in_order;
     behind = AreUpto-later bound bound' events later m.behind;
     read = m.read;
-    left_bound = upto-upto left bound bound' m.left_bound later;
+    left_bound = upto-upto after_previous bound bound' m.left_bound later;
     left_shown = m.left_shown;
     bound_shown = b;
   }
 
 -- an enter at the place where one stands
-pub made-enter-at : (bytes : List ℕ) (events : List Event) (stack : List Name) (left bound : Point) → IsMade bytes events stack left bound → (name : Name) (link : Option Link)
-    → IsMade bytes (events ++ record { kind = Enter; name = name; point = bound; link = link } ∷ []) (stack ++ name ∷ []) left bound
-made-enter-at bytes events stack left bound m name link =
-    made-enter bytes events stack left bound m (record { kind = Enter; name = name; point = bound; link = link }) refl (upto-self bound) (upto-self bound) m.bound_shown
+pub made-enter-at : (bytes : List ℕ) (events : List Event) (stack : List Name) (after_previous bound : Point) → IsMade bytes events stack after_previous bound → (name : Name) (link : Option Link)
+    → IsMade bytes (events ++ record { kind = Enter; name = name; point = bound; link = link } ∷ []) (stack ++ name ∷ []) after_previous bound
+made-enter-at bytes events stack after_previous bound m name link =
+    made-enter bytes events stack after_previous bound m (record { kind = Enter; name = name; point = bound; link = link }) refl (upto-self bound) (upto-self bound) m.bound_shown
 
 -- an enter where an exit would stand, where that is the same place
-pub made-enter-left : (bytes : List ℕ) (events : List Event) (stack : List Name) (left bound : Point) → IsMade bytes events stack left bound → stands_before left bound ≡ false → (name : Name) (link : Option Link)
-    → IsMade bytes (events ++ record { kind = Enter; name = name; point = left; link = link } ∷ []) (stack ++ name ∷ []) left bound
-made-enter-left bytes events stack left bound m same name link =
-    made-enter bytes events stack left bound m (record { kind = Enter; name = name; point = left; link = link }) refl same m.left_bound m.left_shown
+pub made-enter-after_previous : (bytes : List ℕ) (events : List Event) (stack : List Name) (after_previous bound : Point) → IsMade bytes events stack after_previous bound → stands_before after_previous bound ≡ false → (name : Name) (link : Option Link)
+    → IsMade bytes (events ++ record { kind = Enter; name = name; point = after_previous; link = link } ∷ []) (stack ++ name ∷ []) after_previous bound
+made-enter-after_previous bytes events stack after_previous bound m same name link =
+    made-enter bytes events stack after_previous bound m (record { kind = Enter; name = name; point = after_previous; link = link }) refl same m.left_bound m.left_shown
 
 -- an exit of the last open name
-pub made-exit-at : (bytes : List ℕ) (events : List Event) (stack : List Name) (left bound : Point) → IsMade bytes events stack left bound → (name : Name) → last_or None stack ≡ Some name
-    → ((o : Event) → last_or None (open_events events) ≡ Some o → stands_before o.point left ≡ true)
+pub made-exit-at : (bytes : List ℕ) (events : List Event) (stack : List Name) (after_previous bound : Point) → IsMade bytes events stack after_previous bound → (name : Name) → last_or None stack ≡ Some name
+    → ((o : Event) → last_or None (open_events events) ≡ Some o → stands_before o.point after_previous ≡ true)
     → (is_void name ≡ true → (o : Event) × (last_or None events ≡ Some o) × (o.kind ≡ Enter))
-    → IsMade bytes (events ++ record { kind = Exit; name = name; point = left; link = None } ∷ []) (take (length stack - 1) stack) left bound
-made-exit-at bytes events stack left bound m name top read last =
-    made-exit bytes events stack left bound m (record { kind = Exit; name = name; point = left; link = None }) refl refl top read last
+    → IsMade bytes (events ++ record { kind = Exit; name = name; point = after_previous; link = None } ∷ []) (take (length stack - 1) stack) after_previous bound
+made-exit-at bytes events stack after_previous bound m name top read last =
+    made-exit bytes events stack after_previous bound m (record { kind = Exit; name = name; point = after_previous; link = None }) refl refl top read last
 
 -- ---- ends
 
@@ -323,17 +323,17 @@ module _ (void : Name → Bool) where
   followed-at (x ∷ es) h (suc k) e is en v = let n : suc k + 1 ≡ suc (k + 1) = omega arith in rw n (followed-at es h.1 k e is en v)
 
 -- what was made is balanced, void-tight and in order, where no enter is left open
-pub made-end : (bytes : List ℕ) (events : List Event) (left bound : Point) → IsMade bytes events [] left bound → IsBalanced events × IsVoidTight events × IsInOrder bytes events
-made-end bytes events left bound m =
+pub made-end : (bytes : List ℕ) (events : List Event) (after_previous bound : Point) → IsMade bytes events [] after_previous bound → IsBalanced events × IsVoidTight events × IsInOrder bytes events
+made-end bytes events after_previous bound m =
     let balanced : IsBalanced events = balanced_from_open events m.nested in
     (balanced, λ k e is en v. followed-at is_void events (balanced-followed is_void balanced Exit m.tight) k e is en v, m.in_order)
 
 -- ---- what choices saved
 
 -- one more event keeps what was made of a front
-pub made-front : (bytes : List ℕ) (events : List Event) (e : Event) (n : ℕ) (stack : List Name) (left bound : Point) → n ≤ length events
-    → IsMade bytes (take n events) stack left bound → IsMade bytes (take n (events ++ e ∷ [])) stack left bound
-made-front bytes events e n stack left bound le m = subst (λ (es : List Event). IsMade bytes es stack left bound) (sym (take-append-le n events (e ∷ []) le)) m
+pub made-front : (bytes : List ℕ) (events : List Event) (e : Event) (n : ℕ) (stack : List Name) (after_previous bound : Point) → n ≤ length events
+    → IsMade bytes (take n events) stack after_previous bound → IsMade bytes (take n (events ++ e ∷ [])) stack after_previous bound
+made-front bytes events e n stack after_previous bound le m = subst (λ (es : List Event). IsMade bytes es stack after_previous bound) (sym (take-append-le n events (e ∷ []) le)) m
 
 -- a front of a stack is one after an enter
 pub front-enter : (stack saved : List Name) (name : Name) → saved ≡ take (length saved) stack → saved ≡ take (length saved) (stack ++ name ∷ [])
@@ -395,26 +395,26 @@ module _ (xs ys : List Event) (same : map unlinked xs ≡ map unlinked ys) where
   all-unlinked P h k d lt = subst P (point-unlinked k d) (h k d (omega (arith, length-unlinked)))
 
   -- other links
-  pub made-linked : (bytes : List ℕ) (stack : List Name) (left bound : Point) → IsMade bytes xs stack left bound → IsMade bytes ys stack left bound
-  made-linked bytes stack left bound m = record {
+  pub made-linked : (bytes : List ℕ) (stack : List Name) (after_previous bound : Point) → IsMade bytes xs stack after_previous bound → IsMade bytes ys stack after_previous bound
+  made-linked bytes stack after_previous bound m = record {
     names = sym (open_names-unlinked ys) ∙ ap (λ (es : List Event). map (λ (e : Event). e.name) (open_events es)) (sym same) ∙ open_names-unlinked xs ∙ m.names;
     nested = sym (names_after_all-unlinked (Some []) ys) ∙ ap (names_after_all (Some [])) (sym same) ∙ names_after_all-unlinked (Some []) xs ∙ m.nested;
     tight = void_exits-linked is_void Exit ys (subst (VoidExitsFollow is_void Exit) same (void_exits-unlinked is_void Exit xs m.tight));
     in_order = (λ i j d lt within. moved_point (m.in_order.0 i j d lt (omega (arith, length-unlinked))) (point-unlinked i d) (point-unlinked j d), all-unlinked (IsShown bytes) m.in_order.1);
     behind = all-unlinked (λ p. stands_before bound p ≡ false) m.behind;
-    read = λ k. all-unlinked (λ p. stands_before left p ≡ false) (m.read (sym (last_kind-unlinked Exit xs) ∙ ap (last_kind Exit) same ∙ last_kind-unlinked Exit ys ∙ k));
+    read = λ k. all-unlinked (λ p. stands_before after_previous p ≡ false) (m.read (sym (last_kind-unlinked Exit xs) ∙ ap (last_kind Exit) same ∙ last_kind-unlinked Exit ys ∙ k));
     left_bound = m.left_bound;
     left_shown = m.left_shown;
     bound_shown = m.bound_shown;
   }
 
 -- what was made of a front stays, where events are added and links are changed
-pub made-kept : (bytes : List ℕ) (old new : List Event) (n : ℕ) (stack : List Name) (left bound : Point) → n ≤ length old → HasFrontUpToLinkEnds new old
-    → IsMade bytes (take n old) stack left bound → IsMade bytes (take n new) stack left bound
-made-kept bytes old new n stack left bound le front m =
+pub made-kept : (bytes : List ℕ) (old new : List Event) (n : ℕ) (stack : List Name) (after_previous bound : Point) → n ≤ length old → HasFrontUpToLinkEnds new old
+    → IsMade bytes (take n old) stack after_previous bound → IsMade bytes (take n new) stack after_previous bound
+made-kept bytes old new n stack after_previous bound le front m =
     made-linked (take n old) (take n new)
     (sym (take-map unlinked n old) ∙ ap (take n) (sym front) ∙ take-map unlinked n (take (length old) new) ∙ ap (map unlinked) (take-take n (length old) new le))
-    bytes stack left bound m
+    bytes stack after_previous bound m
 
 -- ---- shown places
 

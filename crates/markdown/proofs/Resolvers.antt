@@ -17,7 +17,7 @@ use Rattle.markdown.specs.Calls.{with_resolvers}
 use Rattle.markdown.specs.Resolving.{Resolved, resolving, taken, found, done, refused, with_more, edits_made, resolved_by, CanBeEdited, IsInShape}
 use Rattle.markdown.specs.Lawful.{ResolversKeep}
 use Rattle.markdown.specs.Work.{resolved_in, GoneOver}
-use Rattle.markdown.specs.declared.waiting.Mark.{Mark}
+use Rattle.markdown.specs.declared.waiting.KeptChoice.{KeptChoice}
 use Rattle.markdown.specs.declared.waiting.Progress.{Progress}
 use Rattle.markdown.specs.Edits.{Edit}
 use Rattle.markdown.specs.View.{seen, text_of, choice_of, position_from, AreNested, IsProgress, IsSound}
@@ -38,16 +38,16 @@ phase-sound t sound phase resolvers other closed =
       ended = sound.ended;
       reads = λ e. absurd (let f : true ≡ false = sym closed ∙ e in cc);
       made = λ e. absurd (other e);
-      marks = nested-map (IsProgress t.phase bytes t.skips.items (text_of t) t.events.items t.stack.items t.closed) (IsProgress phase bytes t.skips.items (text_of t) t.events.items t.stack.items t.closed)
-          (length t.events.items) (length t.stack.items) (reverse t.marks.items) (λ p a b h. record { read = h.read; ended = h.ended; made = λ e. absurd (other e) }) sound.marks;
+      kept_choices = nested-map (IsProgress t.phase bytes t.skips.items (text_of t) t.events.items t.stack.items t.closed) (IsProgress phase bytes t.skips.items (text_of t) t.events.items t.stack.items t.closed)
+          (length t.events.items) (length t.stack.items) (reverse t.kept_choices.items) (λ p a b h. record { read = h.read; ended = h.ended; made = λ e. absurd (other e) }) sound.kept_choices;
     }
 
 none-of : {A B : Type 0} (f : A → B) (xs : List A) → map f xs ≡ [] → xs ≡ []
 none-of f [] h = refl
 none-of f (x ∷ xs) h = absurd cc
 
-nested-none : (P : Progress → Type 0) (events stack : ℕ) (marks : List Mark) → marks ≡ [] → AreNested P events stack marks
-nested-none P events stack marks e = rw e tt
+nested-none : (P : Progress → Type 0) (events stack : ℕ) (kept_choices : List KeptChoice) → kept_choices ≡ [] → AreNested P events stack kept_choices
+nested-none P events stack kept_choices e = rw e tt
 
 -- while resolvers go over the events, and no choice waits, the events and the edits may be any
 pub events-sound : {M R D : Type 0} (t : Inside M R D) → IsSound t → t.phase ≡ Resolving → (seen t).choices ≡ [] → (edits : List Edit) (events : Vec Event)
@@ -63,8 +63,8 @@ events-sound t sound resolves alone edits events =
       ended = sound.ended;
       reads = sound.reads;
       made = λ e. absurd (let f : Resolving ≡ Reading = sym resolves ∙ e in cc);
-      marks = nested-none (IsProgress t.phase bytes t.skips.items (text_of t) events.items t.stack.items t.closed) (length events.items) (length t.stack.items) (reverse t.marks.items)
-          (none-of (choice_of (position_from bytes t.skips.items t.start) t.stack.items) (reverse t.marks.items) alone);
+      kept_choices = nested-none (IsProgress t.phase bytes t.skips.items (text_of t) events.items t.stack.items t.closed) (length events.items) (length t.stack.items) (reverse t.kept_choices.items)
+          (none-of (choice_of (position_from bytes t.skips.items t.start) t.stack.items) (reverse t.kept_choices.items) alone);
     }
 
 module _ {R D : Type 0} (resolver : Sight → Configuration R D → R → Resolved R D) (g : Given) (text : Text) where
@@ -89,18 +89,18 @@ module _ {M R D : Type 0} (rules : M → Given → Rules R D) where
   rules_of t = rules t.machine t.given
 
   -- after some resolvers, the others lead on to the same
-  pub record ResolvesOn (start : Seen M R D) (names left : List R) (sub : Subresult) (now : Seen M R D) (found : Subresult) : Type 0 where
+  pub record ResolvesOn (start : Seen M R D) (names after_previous : List R) (sub : Subresult) (now : Seen M R D) (found : Subresult) : Type 0 where
     pub same : now ≡ at_configuration start now.configuration
-    pub holds : (rules_of start).resolves start.text left now.configuration
-    pub leads : resolved_in (rules_of start) start names start.configuration sub ≡ resolved_in (rules_of start) start left now.configuration found
+    pub holds : (rules_of start).resolves start.text after_previous now.configuration
+    pub leads : resolved_in (rules_of start) start names start.configuration sub ≡ resolved_in (rules_of start) start after_previous now.configuration found
 
   module _ (start : Seen M R D) (names : List R) (sub : Subresult) (is : IsText start.given start.text) (law : ResolversKeep start.given (rules_of start)) where
     pub resolves-first : (rules_of start).resolves start.text names start.configuration → ResolvesOn start names names sub start sub
     resolves-first h = record { same = refl; holds = h; leads = refl }
 
     module _ (now : Seen M R D) (found : Subresult) where
-      pub resolves-left : (a b : List R) → a ≡ b → ResolvesOn start names a sub now found → ResolvesOn start names b sub now found
-      resolves-left a b e r = subst (λ (x : List R). ResolvesOn start names x sub now found) e r
+      pub resolves-after_previous : (a b : List R) → a ≡ b → ResolvesOn start names a sub now found → ResolvesOn start names b sub now found
+      resolves-after_previous a b e r = subst (λ (x : List R). ResolvesOn start names x sub now found) e r
 
       module _ (x : R) (rest : List R) (r : ResolvesOn start names (x ∷ rest) sub now found) where
         pub resolves-holds : (rules_of now).resolves now.text (x ∷ rest) now.configuration

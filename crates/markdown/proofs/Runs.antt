@@ -1,4 +1,5 @@
 -- A run over the whole document: where it begins and ends, and what it leads on to at each cut.
+use Rattle.std.specs.List.{AllByRecursion}
 use Rattle.std.proofs.Common.{◌≡◌, ◌≢◌, ◌+◌, ◌≤◌, ◌<◌, ◌==◌, ◌-◌, ◌*◌, ◌^◌, ℕ, zero, suc, List, [], ◌∷◌, ◌++◌, Bool, true, false, cond, Some, length, ◌⊎◌, inl, inr, refl, sym, ap, ◌∙◌, arith, subst}
 use Rattle.std.specs.Prelude.{filter, find, slice_index, nat_lt, ◌&&◌, ◌||◌, drop, get_or, Contains, Result, IsErrAnd, IfErr}
 use Rattle.std.specs.declared.result.Result.TheVariants as result
@@ -24,12 +25,12 @@ use Rattle.markdown.specs.declared.subtokenize.Subresult.{Subresult}
 use Rattle.markdown_base.specs.declared.configuration.ParseOptions.{ParseOptions}
 use Rattle.markdown_base.specs.declared.event.Event.{Event}
 use Rattle.markdown_base.specs.declared.message.Message.{Message}
-use Rattle.markdown.specs.Cursor.{rest_at, Every, IsPlace, IsNextSeat, Bounds}
-use Rattle.markdown.proofs.Orders.{every-map, filter-every}
-use Rattle.markdown.proofs.Seats.{seat-in-tab, seat-other, seat-cr, seat-crlf}
-use Rattle.markdown.proofs.Chains.{IsChain, whole-chain}
-use Rattle.markdown.proofs.Standing.{end-place, place-of-point, rest-after}
-use Rattle.markdown.proofs.Cursors.{upto-order, same-self, range-empty, range-extended}
+use Rattle.markdown.specs.Cursor.{rest_at, IsPlace, IsNextSeat, Bounds}
+use Rattle.markdown.proofs.PlaceOrder.{every-map, filter-every}
+use Rattle.markdown.proofs.PlaceSeats.{seat-in-tab, seat-other, seat-cr, seat-crlf}
+use Rattle.markdown.proofs.PlaceChains.{IsChain, whole-chain}
+use Rattle.markdown.proofs.PlaceStanding.{end-place, place-of-point, rest-after}
+use Rattle.markdown.proofs.PlaceCursors.{upto-order, same-self, range-empty, range-extended}
 use Rattle.markdown.proofs.Working.{leads-trans, leads-refl, holds-on}
 
 -- where a search comes to, among places of seats that it does not want
@@ -89,8 +90,8 @@ tab-comes : (bytes : List ℕ) (p : Point) → Bounds 4 bytes p → 0 < p.vs →
 tab-comes bytes p b v none = some-seat bytes p (32, p) (seat-in-tab 4 bytes p (omega arith) v (b.tab v)) none
 
 -- where nothing is left, a place is at the end of the bytes
-nothing-left : (bytes : List ℕ) (p : Point) → Bounds 4 bytes p → rest_at 4 bytes p ≡ [] → (p.index ≡ length bytes) × (p.vs ≡ 0)
-nothing-left bytes p b none =
+nothing-after_previous : (bytes : List ℕ) (p : Point) → Bounds 4 bytes p → rest_at 4 bytes p ≡ [] → (p.index ≡ length bytes) × (p.vs ≡ 0)
+nothing-after_previous bytes p b none =
     let flat : p.vs ≡ 0 = elim (cases_lt 0 p.vs) [ inl v ↦ absurd (tab-comes bytes p b v none) | inr v ↦ omega arith ] in
     let inside = b.inside in (
       (elim (cases_lt p.index (length bytes)) [
@@ -101,7 +102,7 @@ nothing-left bytes p b none =
     )
 
 end-numbers : (bytes : List ℕ) → ((document_end 4 bytes).index ≡ length bytes) × ((document_end 4 bytes).vs ≡ 0)
-end-numbers bytes = nothing-left bytes (document_end 4 bytes) (end-place 4 bytes (omega arith)).bounds
+end-numbers bytes = nothing-after_previous bytes (document_end 4 bytes) (end-place 4 bytes (omega arith)).bounds
     (rest-after 4 bytes (omega arith) (virtual 4 bytes) [] (sym (append-nil (virtual 4 bytes))))
 
 not-shown-at-end : (bytes : List ℕ) (p : Point) (b : Bool) (n : ℕ) → p.index < n → is_at (n, 0) (cond b (record { line = p.line; column = p.column; index = p.index - 1; vs = p.vs }) p) ≡ false
@@ -173,7 +174,7 @@ module _ (given : Given) (four : given.tab ≡ 4) where
       let place = end-place given.tab given.bytes (omega (arith, four)) in
       let none = rest-after given.tab given.bytes (omega (arith, four)) (virtual given.tab given.bytes) [] (sym (append-nil (virtual given.tab given.bytes))) in
       let all : virtual given.tab given.bytes ≡ place.before = place.splits ∙ ap (λ (ys : List Seat). place.before ++ ys) none ∙ append-nil place.before in
-      let behind = subst (Every (λ s. stands_before s.point e ≡ true)) (sym all) place.behind in
+      let behind = subst (AllByRecursion (λ s. stands_before s.point e ≡ true)) (sym all) place.behind in
       ap (λ (s : List Seat). record { start = point 1 1 0 0; seats = s; end = e })
       (filter-every (in_range (point 1 1 0 0) e) (virtual given.tab given.bytes)
       (every-map (λ s. stands_before s.point e ≡ true) (λ s. in_range (point 1 1 0 0) e s ≡ true) (λ s h. first-in s e h) (virtual given.tab given.bytes) behind))

@@ -19,16 +19,16 @@ use Rattle.markdown.specs.Reading.{fed}
 use Rattle.markdown.specs.Engine.{IsWellFormed}
 use Rattle.markdown.specs.Work.{IsInText}
 use Rattle.markdown.specs.Gaps.{resumed}
-use Rattle.markdown.specs.View.{TAB, seen, text_of, end_point, seats_between, position_from, standing, IsReadTo, ByteWaits, EndWaits, IsWaiting, IsSound}
+use Rattle.markdown.specs.View.{TAB, seen, text_of, end_point, seats_between, position_from, standing, IsReadTo, ByteWaits, EndWaits, IsWhatWaits, IsSound}
 use Rattle.markdown.specs.Cursor.{IsPlace, IsSeatAt, rest_at, is_before_pair, IsNextByte}
-use Rattle.markdown.proofs.Orders.{later-later}
-use Rattle.markdown.proofs.Seats.{one-seat}
-use Rattle.markdown.proofs.Standing.{place-of-point, shown-shown, shown-upto, seat-shown, seat-passes}
-use Rattle.markdown.proofs.GapLaws.{IsResumed}
-use Rattle.markdown.proofs.Points.{point_at-is, shown-line, shown-column, same-numbers}
+use Rattle.markdown.proofs.PlaceOrder.{later-later}
+use Rattle.markdown.proofs.PlaceSeats.{one-seat}
+use Rattle.markdown.proofs.PlaceStanding.{place-of-point, shown-shown, shown-upto, seat-shown, seat-passes}
+use Rattle.markdown.proofs.PlaceGaps.{IsResumed}
+use Rattle.markdown.proofs.PlacePoints.{point_at-is, shown-line, shown-column, same-numbers}
 use Rattle.markdown.specs.Made.{IsMade}
 use Rattle.markdown.proofs.MadeLemmas.{made-consume, made-end}
-use Rattle.markdown.proofs.Fields.{four, looks, within, next-shown, next-seat, next-more, next-past, next-number, read-next, next-none-left, end-shown, made-later}
+use Rattle.markdown.proofs.Fields.{four, looks, within, next-shown, next-seat, next-more, next-past, next-number, read-next, next-none-after_previous, end-shown, made-later}
 
 pub nat_lt-is : (a b : ℕ) → a < b → nat_lt a b ≡ true
 nat_lt-is a b h = search (rules, lt-ltb)
@@ -47,27 +47,27 @@ module _ {M R D : Type 0} (t : Inside M R D) (sound : IsSound t) where
   skips_in = t.skips.items
 
   abbrev here_in : Point
-  here_in = resumed skips_in t.left
+  here_in = resumed skips_in t.after_previous
 
   abbrev position_in : ℕ
-  position_in = position_from bytes_in skips_in t.start t.left
+  position_in = position_from bytes_in skips_in t.start t.after_previous
 
   -- the place from which the next byte is looked for
-  looks_in : IsResumed TAB bytes_in skips_in t.start end_in t.left here_in
-  looks_in = looks bytes_in skips_in t.start end_in t.left t.previous sound.skips sound.read
+  looks_in : IsResumed TAB bytes_in skips_in t.start end_in t.after_previous here_in
+  looks_in = looks bytes_in skips_in t.start end_in t.after_previous t.previous sound.skips sound.read
 
   pub end-place-in : IsPlace TAB bytes_in end_in
   end-place-in = place-of-point TAB bytes_in four end_in (point_at-is TAB bytes_in t.end end_in sound.end_at).is_point
 
-  bytes-wait : (w : Waits) → IsWaiting bytes_in skips_in (text_of t) t.left t.current t.closed w → w ≡ Byte → ByteWaits bytes_in skips_in t.left end_in t.current
+  bytes-wait : (w : Waits) → IsWhatWaits bytes_in skips_in (text_of t) t.after_previous t.current t.closed w → w ≡ Byte → ByteWaits bytes_in skips_in t.after_previous end_in t.current
   bytes-wait Nothing h e = absurd cc
   bytes-wait Byte h e = h
   bytes-wait End h e = absurd cc
 
-  pub byte-waits : t.waits ≡ Byte → ByteWaits bytes_in skips_in t.left end_in t.current
+  pub byte-waits : t.waits ≡ Byte → ByteWaits bytes_in skips_in t.after_previous end_in t.current
   byte-waits e = bytes-wait t.waits sound.waiting e
 
-  ends-wait : (w : Waits) → IsWaiting bytes_in skips_in (text_of t) t.left t.current t.closed w → w ≡ End → EndWaits t.current t.closed position_in (length (seats_between bytes_in skips_in t.start end_in))
+  ends-wait : (w : Waits) → IsWhatWaits bytes_in skips_in (text_of t) t.after_previous t.current t.closed w → w ≡ End → EndWaits t.current t.closed position_in (length (seats_between bytes_in skips_in t.start end_in))
   ends-wait Nothing h e = absurd cc
   ends-wait Byte h e = absurd cc
   ends-wait End h e = h
@@ -79,21 +79,21 @@ module _ {M R D : Type 0} (t : Inside M R D) (sound : IsSound t) where
   end-is : length (seen t).text.seats ≤ (seen t).configuration.position → record { line = here_in.line; column = here_in.column; index = t.end.0; vs = t.end.1 } ≡ end_in
   end-is all =
       let at = point_at-is TAB bytes_in t.end end_in sound.end_at in
-      let s = end-shown bytes_in skips_in t.start end_in t.left t.previous sound.skips sound.read all end-place-in in
+      let s = end-shown bytes_in skips_in t.start end_in t.after_previous t.previous sound.skips sound.read all end-place-in in
       same-numbers here_in.line here_in.column t.end.0 t.end.1 end_in.line end_in.column end_in.index end_in.vs
       (sym (shown-line bytes_in here_in) ∙ ap (λ (p : Point). p.line) (sym s) ∙ shown-line bytes_in end_in)
       (sym (shown-column bytes_in here_in) ∙ ap (λ (p : Point). p.column) (sym s) ∙ shown-column bytes_in end_in)
       (sym at.index) (sym at.vs)
 
   -- where one stands: nothing waits
-  pub point-nothing : t.waits ≡ Nothing → t.left ≡ (sight (seen t).given (seen t).text (seen t).configuration).point
+  pub point-nothing : t.waits ≡ Nothing → t.after_previous ≡ (sight (seen t).given (seen t).text (seen t).configuration).point
   point-nothing e = rw e sound.read.back
 
   -- a byte waits
   pub point-byte : t.waits ≡ Byte → (seat : Seat) → IsSeatAt TAB bytes_in here_in seat → seat.point ≡ (sight (seen t).given (seen t).text (seen t).configuration).point
   point-byte e seat n =
       let w = byte-waits e in
-      let is = ap (point_or end_in) (next-seat bytes_in skips_in t.start end_in t.left t.previous sound.skips sound.read w.seat w.at w.before) in
+      let is = ap (point_or end_in) (next-seat bytes_in skips_in t.start end_in t.after_previous t.previous sound.skips sound.read w.seat w.at w.before) in
       rw e (ap (λ (s : Seat). s.point) (one-seat TAB bytes_in here_in seat w.seat n w.at) ∙ sym is)
 
   pub byte-is-there : t.waits ≡ Byte → rest_at TAB bytes_in here_in ≡ [] → ⊥
@@ -103,42 +103,42 @@ module _ {M R D : Type 0} (t : Inside M R D) (sound : IsSound t) where
   pub point-end : t.waits ≡ End → record { line = here_in.line; column = here_in.column; index = t.end.0; vs = t.end.1 } ≡ (sight (seen t).given (seen t).text (seen t).configuration).point
   point-end e = rw e (end-is (end-waits e).all)
 
-  current-by : (w : Waits) → IsWaiting bytes_in skips_in (text_of t) t.left t.current t.closed w → t.current ≡ current_of (text_of t) position_in w
+  current-by : (w : Waits) → IsWhatWaits bytes_in skips_in (text_of t) t.after_previous t.current t.closed w → t.current ≡ current_of (text_of t) position_in w
   current-by Nothing h = h
-  current-by Byte h = h.is ∙ ap byte_of (sym (next-seat bytes_in skips_in t.start end_in t.left t.previous sound.skips sound.read h.seat h.at h.before))
+  current-by Byte h = h.is ∙ ap byte_of (sym (next-seat bytes_in skips_in t.start end_in t.after_previous t.previous sound.skips sound.read h.seat h.at h.before))
   current-by End h = h.none
 
   pub current-is : t.current ≡ (sight (seen t).given (seen t).text (seen t).configuration).current
   current-is = current-by t.waits sound.waiting
 
-  here-by : (w : Waits) → IsWaiting bytes_in skips_in (text_of t) t.left t.current t.closed w → shown bytes_in (standing skips_in t.left w) ≡ shown bytes_in (point_of (text_of t) position_in w)
+  here-by : (w : Waits) → IsWhatWaits bytes_in skips_in (text_of t) t.after_previous t.current t.closed w → shown bytes_in (standing skips_in t.after_previous w) ≡ shown bytes_in (point_of (text_of t) position_in w)
   here-by Nothing h = ap (shown bytes_in) sound.read.back
   here-by Byte h =
-      sym (next-shown bytes_in skips_in t.start end_in t.left t.previous sound.skips sound.read h.seat h.at)
-      ∙ ap (λ (o : Option Seat). shown bytes_in (point_or end_in o)) (sym (next-seat bytes_in skips_in t.start end_in t.left t.previous sound.skips sound.read h.seat h.at h.before))
-  here-by End h = sym (end-shown bytes_in skips_in t.start end_in t.left t.previous sound.skips sound.read h.all end-place-in)
+      sym (next-shown bytes_in skips_in t.start end_in t.after_previous t.previous sound.skips sound.read h.seat h.at)
+      ∙ ap (λ (o : Option Seat). shown bytes_in (point_or end_in o)) (sym (next-seat bytes_in skips_in t.start end_in t.after_previous t.previous sound.skips sound.read h.seat h.at h.before))
+  here-by End h = sym (end-shown bytes_in skips_in t.start end_in t.after_previous t.previous sound.skips sound.read h.all end-place-in)
 
   -- where an enter stands
-  pub here-is : shown bytes_in (standing skips_in t.left t.waits) ≡ (sight (seen t).given (seen t).text (seen t).configuration).here
+  pub here-is : shown bytes_in (standing skips_in t.after_previous t.waits) ≡ (sight (seen t).given (seen t).text (seen t).configuration).here
   here-is = here-by t.waits sound.waiting
 
-  pub left-is : shown bytes_in t.left ≡ (sight (seen t).given (seen t).text (seen t).configuration).left
-  left-is = ap (shown bytes_in) sound.read.back
+  pub after_previous-is : shown bytes_in t.after_previous ≡ (sight (seen t).given (seen t).text (seen t).configuration).after_previous
+  after_previous-is = ap (shown bytes_in) sound.read.back
 
-  closed-by : (w : Waits) → t.waits ≡ w → IsWaiting bytes_in skips_in (text_of t) t.left t.current t.closed w → w ≡ End → t.closed ≡ true
+  closed-by : (w : Waits) → t.waits ≡ w → IsWhatWaits bytes_in skips_in (text_of t) t.after_previous t.current t.closed w → w ≡ End → t.closed ≡ true
   closed-by Nothing e h f = absurd cc
   closed-by Byte e h f = absurd cc
   closed-by End e h f = h.closed_too
 
-  more-by : (w : Waits) → IsWaiting bytes_in skips_in (text_of t) t.left t.current t.closed w → w ≡ Byte → position_in < length (seats_between bytes_in skips_in t.start end_in)
+  more-by : (w : Waits) → IsWhatWaits bytes_in skips_in (text_of t) t.after_previous t.current t.closed w → w ≡ Byte → position_in < length (seats_between bytes_in skips_in t.start end_in)
   more-by Nothing h f = absurd cc
-  more-by Byte h f = next-more bytes_in skips_in t.start end_in t.left t.previous sound.skips sound.read h.seat h.at h.before
+  more-by Byte h f = next-more bytes_in skips_in t.start end_in t.after_previous t.previous sound.skips sound.read h.seat h.at h.before
   more-by End h f = absurd cc
 
   pub in-text : IsInText (seen t)
   in-text = record {
     text = sound.text;
-    within = within bytes_in skips_in t.start end_in t.left t.previous sound.skips sound.read;
+    within = within bytes_in skips_in t.start end_in t.after_previous t.previous sound.skips sound.read;
     byte = more-by t.waits sound.waiting;
     end = closed-by t.waits refl sound.waiting;
     ended = sound.ended;
@@ -147,9 +147,9 @@ module _ {M R D : Type 0} (t : Inside M R D) (sound : IsSound t) where
 
   pub well-formed : t.phase ≡ Reading → t.stack.items ≡ [] → IsWellFormed bytes_in (seen t).configuration
   well-formed reads e =
-      let left = shown bytes_in t.left in let bound = shown bytes_in (standing skips_in t.left t.waits) in
-      let m = subst (λ (stack : List Name). IsMade bytes_in t.events.items stack left bound) e (sound.made reads) in
-      let w = made-end bytes_in t.events.items left bound m in
+      let after_previous = shown bytes_in t.after_previous in let bound = shown bytes_in (standing skips_in t.after_previous t.waits) in
+      let m = subst (λ (stack : List Name). IsMade bytes_in t.events.items stack after_previous bound) e (sound.made reads) in
+      let w = made-end bytes_in t.events.items after_previous bound m in
       record { balanced = w.0; void_tight = w.1; in_order = w.2 }
 
   pub stack-is : t.phase ≡ Reading → t.stack.items ≡ map (λ e. e.name) (open_events t.events.items)
@@ -161,10 +161,10 @@ module _ {M R D : Type 0} (t : Inside M R D) (sound : IsSound t) where
 
   -- an enter may stand after what is passed
   abbrev MadeHere : Type 0
-  MadeHere = IsMade bytes_in t.events.items t.stack.items (shown bytes_in t.left) (shown bytes_in here_in)
+  MadeHere = IsMade bytes_in t.events.items t.stack.items (shown bytes_in t.after_previous) (shown bytes_in here_in)
 
-  stands-here : (w : Waits) → IsMade bytes_in t.events.items t.stack.items (shown bytes_in t.left) (shown bytes_in (standing skips_in t.left w)) → MadeHere
-  stands-here Nothing m = made-later bytes_in skips_in t.start end_in t.left t.previous sound.skips sound.read t.events.items t.stack.items m
+  stands-here : (w : Waits) → IsMade bytes_in t.events.items t.stack.items (shown bytes_in t.after_previous) (shown bytes_in (standing skips_in t.after_previous w)) → MadeHere
+  stands-here Nothing m = made-later bytes_in skips_in t.start end_in t.after_previous t.previous sound.skips sound.read t.events.items t.stack.items m
   stands-here Byte m = m
   stands-here End m = m
 
@@ -174,7 +174,7 @@ module _ {M R D : Type 0} (t : Inside M R D) (sound : IsSound t) where
   -- the next byte is fed
   module _ (seat : Seat) (n : IsSeatAt TAB bytes_in here_in seat) where
     pub fed-more : is_before_pair seat.point t.end ≡ true → (seen t).configuration.position < length (seen t).text.seats
-    fed-more lt = next-more bytes_in skips_in t.start end_in t.left t.previous sound.skips sound.read seat n (before-end seat.point ∙ lt)
+    fed-more lt = next-more bytes_in skips_in t.start end_in t.after_previous t.previous sound.skips sound.read seat n (before-end seat.point ∙ lt)
 
     pub fed-seen : (byte : ℕ) → is_before_pair seat.point t.end ≡ true
         → seen (record t { waits = Byte; current = Some byte }) ≡ at_configuration (seen t) (fed (seen t).text (seen t).configuration)
@@ -191,14 +191,14 @@ module _ {M R D : Type 0} (t : Inside M R D) (sound : IsSound t) where
       waiting = record { seat = seat; at = n; before = before-end seat.point ∙ lt; is = ap Some (sym e) };
       ended = sound.ended;
       made = made-here;
-      marks = sound.marks;
+      kept_choices = sound.kept_choices;
     }
 
     pub fed-past : is_before_pair seat.point t.end ≡ false → length (seen t).text.seats ≤ (seen t).configuration.position
-    fed-past lt = next-past bytes_in skips_in t.start end_in t.left t.previous sound.skips sound.read seat n (before-end seat.point ∙ lt)
+    fed-past lt = next-past bytes_in skips_in t.start end_in t.after_previous t.previous sound.skips sound.read seat n (before-end seat.point ∙ lt)
 
   fed-nothing : rest_at TAB bytes_in here_in ≡ [] → length (seen t).text.seats ≤ (seen t).configuration.position
-  fed-nothing e = next-none-left bytes_in skips_in t.start end_in t.left t.previous sound.skips sound.read e
+  fed-nothing e = next-none-after_previous bytes_in skips_in t.start end_in t.after_previous t.previous sound.skips sound.read e
 
   -- no byte is left
   pub fed-none : IsNextByte TAB bytes_in here_in t.end None → length (seen t).text.seats ≤ (seen t).configuration.position
@@ -217,31 +217,31 @@ module _ {M R D : Type 0} (t : Inside M R D) (sound : IsSound t) where
     waiting = record { none = refl; closed_too = closed; all = all };
     ended = λ _. closed;
     made = made-here;
-    marks = sound.marks;
+    kept_choices = sound.kept_choices;
   }
 
   -- a byte is consumed
-  module _ (waits : ByteWaits bytes_in skips_in t.left end_in t.current) where
-    module _ (left : Point) (l : left ≡ waits.seat.end) where
-      pub consumed-read : IsReadTo bytes_in skips_in (text_of t) left t.current
+  module _ (waits : ByteWaits bytes_in skips_in t.after_previous end_in t.current) where
+    module _ (after_previous : Point) (l : after_previous ≡ waits.seat.end) where
+      pub consumed-read : IsReadTo bytes_in skips_in (text_of t) after_previous t.current
       consumed-read =
-          let r = read-next bytes_in skips_in t.start end_in t.left t.previous sound.skips sound.read waits.seat waits.at waits.before in
+          let r = read-next bytes_in skips_in t.start end_in t.after_previous t.previous sound.skips sound.read waits.seat waits.at waits.before in
           let f = waits.is in rw (l, f) r
 
-      consumed-later : stands_before (shown bytes_in left) (shown bytes_in here_in) ≡ false
+      consumed-later : stands_before (shown bytes_in after_previous) (shown bytes_in here_in) ≡ false
       consumed-later =
           let s = seat-shown TAB bytes_in four here_in waits.seat looks_in.place waits.at in
           let q = shown bytes_in here_in in
           rw (l, s) (later-later waits.seat.end.index waits.seat.end.vs here_in.index here_in.vs q.index q.vs (seat-passes TAB bytes_in four here_in waits.seat looks_in.place waits.at) (shown-upto TAB bytes_in here_in))
 
-      pub consumed-made : t.phase ≡ Reading → IsMade bytes_in t.events.items t.stack.items (shown bytes_in left) (shown bytes_in left)
-      consumed-made reads = made-consume bytes_in t.events.items t.stack.items (shown bytes_in t.left) (shown bytes_in here_in) (made-here reads) (shown bytes_in left) (shown bytes_in left)
-          consumed-later (stands-self (shown bytes_in left)) (shown-shown TAB bytes_in left) (shown-shown TAB bytes_in left)
+      pub consumed-made : t.phase ≡ Reading → IsMade bytes_in t.events.items t.stack.items (shown bytes_in after_previous) (shown bytes_in after_previous)
+      consumed-made reads = made-consume bytes_in t.events.items t.stack.items (shown bytes_in t.after_previous) (shown bytes_in here_in) (made-here reads) (shown bytes_in after_previous) (shown bytes_in after_previous)
+          consumed-later (stands-self (shown bytes_in after_previous)) (shown-shown TAB bytes_in after_previous) (shown-shown TAB bytes_in after_previous)
         where
           stands-self : (p : Point) → stands_before p p ≡ false
           stands-self p = grind (arith, nat_tests)
 
-      pub consumed-sound : IsSound (record t { left = left; previous = t.current; current = None; ended = false; waits = Nothing })
+      pub consumed-sound : IsSound (record t { after_previous = after_previous; previous = t.current; current = None; ended = false; waits = Nothing })
       consumed-sound = record {
         limit = sound.limit;
         reads = sound.reads;
@@ -252,17 +252,17 @@ module _ {M R D : Type 0} (t : Inside M R D) (sound : IsSound t) where
         waiting = refl;
         ended = λ h. absurd cc;
         made = consumed-made;
-        marks = sound.marks;
+        kept_choices = sound.kept_choices;
       }
 
-  pub consumed-seen : (waits : ByteWaits bytes_in skips_in t.left end_in t.current) (left : Point) → left ≡ waits.seat.end
-      → seen (record t { left = left; previous = t.current; current = None; ended = false; waits = Nothing }) ≡ at_configuration (seen t) (consumed (seen t).configuration)
-  consumed-seen waits left l =
-      let n = next-number bytes_in skips_in t.start end_in t.left t.previous sound.skips sound.read waits.seat waits.at ∙ sym (add-one position_in) in
+  pub consumed-seen : (waits : ByteWaits bytes_in skips_in t.after_previous end_in t.current) (after_previous : Point) → after_previous ≡ waits.seat.end
+      → seen (record t { after_previous = after_previous; previous = t.current; current = None; ended = false; waits = Nothing }) ≡ at_configuration (seen t) (consumed (seen t).configuration)
+  consumed-seen waits after_previous l =
+      let n = next-number bytes_in skips_in t.start end_in t.after_previous t.previous sound.skips sound.read waits.seat waits.at ∙ sym (add-one position_in) in
       rw (l, n) refl
 
   -- the byte that is consumed is the next of the document
-  pub byte-of-seat : (waits : ByteWaits bytes_in skips_in t.left end_in t.current) (byte : ℕ) → t.current ≡ Some byte → waits.seat.byte ≡ byte
+  pub byte-of-seat : (waits : ByteWaits bytes_in skips_in t.after_previous end_in t.current) (byte : ℕ) → t.current ≡ Some byte → waits.seat.byte ≡ byte
   byte-of-seat waits byte e = let same : Some waits.seat.byte ≡ Some byte = sym waits.is ∙ e in cc
 
   pub byte-is-known : t.waits ≡ Byte → t.current ≡ None → ⊥
@@ -276,29 +276,29 @@ module _ {M R D : Type 0} (t : Inside M R D) (sound : IsSound t) where
   here-place = looks_in.place
 
   -- the code's place, from its list of gaps
-  pub at-here : (slice : List Point) (place : Point) → slice ≡ t.skips.items → place ≡ resumed slice t.left → place ≡ here_in
-  at-here slice place e f = f ∙ ap (λ (skips : List Point). resumed skips t.left) e
+  pub at-here : (slice : List Point) (place : Point) → slice ≡ t.skips.items → place ≡ resumed slice t.after_previous → place ≡ here_in
+  at-here slice place e f = f ∙ ap (λ (skips : List Point). resumed skips t.after_previous) e
 
-  pub within-at : (slice : List Point) (place : Point) → slice ≡ t.skips.items → place ≡ resumed slice t.left → 0 < place.vs → place.index < length bytes_in
+  pub within-at : (slice : List Point) (place : Point) → slice ≡ t.skips.items → place ≡ resumed slice t.after_previous → 0 < place.vs → place.index < length bytes_in
   within-at slice place e f = let is = at-here slice place e f in rw is here-within
 
-  pub byte-at : (slice : List Point) (place : Point) (o : Option ℕ) → slice ≡ t.skips.items → place ≡ resumed slice t.left → IsNextByte TAB bytes_in place t.end o → IsNextByte TAB bytes_in here_in t.end o
+  pub byte-at : (slice : List Point) (place : Point) (o : Option ℕ) → slice ≡ t.skips.items → place ≡ resumed slice t.after_previous → IsNextByte TAB bytes_in place t.end o → IsNextByte TAB bytes_in here_in t.end o
   byte-at slice place o e f h = subst (λ (p : Point). IsNextByte TAB bytes_in p t.end o) (at-here slice place e f) h
 
-  pub place-at : (slice : List Point) (place : Point) → slice ≡ t.skips.items → place ≡ resumed slice t.left → IsPlace TAB bytes_in place
+  pub place-at : (slice : List Point) (place : Point) → slice ≡ t.skips.items → place ≡ resumed slice t.after_previous → IsPlace TAB bytes_in place
   place-at slice place e f = subst (IsPlace TAB bytes_in) (sym (at-here slice place e f)) here-place
 
-  pub seat-at : (slice : List Point) (place : Point) (seat : Seat) → slice ≡ t.skips.items → place ≡ resumed slice t.left → IsSeatAt TAB bytes_in here_in seat → IsSeatAt TAB bytes_in place seat
+  pub seat-at : (slice : List Point) (place : Point) (seat : Seat) → slice ≡ t.skips.items → place ≡ resumed slice t.after_previous → IsSeatAt TAB bytes_in here_in seat → IsSeatAt TAB bytes_in place seat
   seat-at slice place seat e f h = subst (λ (p : Point). IsSeatAt TAB bytes_in p seat) (sym (at-here slice place e f)) h
 
-  pub point-byte-at : (slice : List Point) (place : Point) → slice ≡ t.skips.items → place ≡ resumed slice t.left → t.waits ≡ Byte → (seat : Seat) → IsSeatAt TAB bytes_in place seat
+  pub point-byte-at : (slice : List Point) (place : Point) → slice ≡ t.skips.items → place ≡ resumed slice t.after_previous → t.waits ≡ Byte → (seat : Seat) → IsSeatAt TAB bytes_in place seat
       → seat.point ≡ (sight (seen t).given (seen t).text (seen t).configuration).point
   point-byte-at slice place e f w seat n = point-byte w seat (subst (λ (p : Point). IsSeatAt TAB bytes_in p seat) (at-here slice place e f) n)
 
-  pub byte-is-there-at : (slice : List Point) (place : Point) → slice ≡ t.skips.items → place ≡ resumed slice t.left → t.waits ≡ Byte → rest_at TAB bytes_in place ≡ [] → ⊥
+  pub byte-is-there-at : (slice : List Point) (place : Point) → slice ≡ t.skips.items → place ≡ resumed slice t.after_previous → t.waits ≡ Byte → rest_at TAB bytes_in place ≡ [] → ⊥
   byte-is-there-at slice place e f w n = byte-is-there w (subst (λ (p : Point). rest_at TAB bytes_in p ≡ []) (at-here slice place e f) n)
 
-  pub point-end-at : (slice : List Point) (place : Point) → slice ≡ t.skips.items → place ≡ resumed slice t.left → t.waits ≡ End
+  pub point-end-at : (slice : List Point) (place : Point) → slice ≡ t.skips.items → place ≡ resumed slice t.after_previous → t.waits ≡ End
       → record { line = place.line; column = place.column; index = t.end.0; vs = t.end.1 } ≡ (sight (seen t).given (seen t).text (seen t).configuration).point
   point-end-at slice place e f w =
       ap (λ (p : Point). record { line = p.line; column = p.column; index = t.end.0; vs = t.end.1 }) (at-here slice place e f) ∙ point-end w

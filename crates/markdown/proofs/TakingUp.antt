@@ -69,11 +69,11 @@ module _ {M R D : Type 0} (rules : M → Given → Rules R D) (laws : (m : M) (g
       (subst (λ (q : Given). IsText q u.text) (sym k.same.given) (text-worked t.given t u is k.same)) (holds-there flush t u a s k)
 
   -- a call, after which a state is taken up, leaves fewer
-  pub fewer-left : (flush : Bool) (t u v w : Seen M R D) (a s : State) (n next : Name) → IsText t.given t.text → KeptFrom flush t a v s
+  pub fewer-after_previous : (flush : Bool) (t u v w : Seen M R D) (a s : State) (n next : Name) → IsText t.given t.text → KeptFrom flush t a v s
       → IsCalled u v ((rules u.machine u.given).step (sight u.given u.text u.configuration) u.configuration n) s
       → (let e = settled_all v.configuration v.choices s in TakesUp flush (settled_to v e) w e.answer (result.Ok next))
       → let all = budget (rules t.machine t.given) t.text t a in all - w.calls < all - u.calls
-  fewer-left flush t u v w a s n next is k called takes =
+  fewer-after_previous flush t u v w a s n next is k called takes =
       let e = settled_all v.configuration v.choices s in
       smaller (budget (rules t.machine t.given) t.text t a) u.calls w.calls
       (kept-calls rules t.machine t.given flush t w a (Retry next) (kept-next flush t v w a s next is k takes))

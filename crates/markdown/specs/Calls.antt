@@ -62,7 +62,7 @@ registered_before same r rs = if list_any (λ q. same q r) rs then rs else r ∷
 -- event, and the span began after the last waiting choice that would put the stack back
 pub record CanExit {M R D : Type 0} (name : Name) (t : Seen M R D) : Type 0 where
   pub top : last_or None t.configuration.stack ≡ Some name
-  pub read : (e : Event) → last_or None (open_events t.configuration.events) ≡ Some e → stands_before e.point (sight t.given t.text t.configuration).left ≡ true
+  pub read : (e : Event) → last_or None (open_events t.configuration.events) ≡ Some e → stands_before e.point (sight t.given t.text t.configuration).after_previous ≡ true
   pub void : is_void name ≡ true → (e : Event) × (last_or None t.configuration.events ≡ Some e) × (e.kind ≡ Enter)
   pub above : All (λ c. IfSome c.saved (λ s. length s.stack < length t.configuration.stack)) t.choices
 

@@ -1,4 +1,5 @@
 -- What stands at a place, in the bytes and in the virtual text. An inner file: no public clause names what stands here.
+use Rattle.std.specs.List.{AllByRecursion}
 use Rattle.std.specs.Prelude.{◌≡◌, ℕ, suc, ◌+◌, ◌*◌, ◌%◌, ◌≤◌, ◌<◌, ◌==◌, nat_lt, ◌&&◌, ◌||◌, not, Bool, true, false, cond, ◌⊎◌, slice_index, List, [], ◌∷◌, ◌++◌, drop, length, filter, Option, Some, None}
 use Rattle.markdown_base.specs.declared.event.Point.{Point}
 use Rattle.markdown_base.specs.Virtual.{Seat, point, tab_width, in_tab, virtual_from, virtual, end_after}
@@ -11,11 +12,6 @@ rest_at t bytes p =
     cond (p.vs == 0)
     (virtual_from t p.line p.column p.index (drop p.index bytes))
     (in_tab 32 (tab_width t p.column) p.line p.column p.index p.vs ++ virtual_from t p.line (p.column + tab_width t p.column) (suc p.index) (drop (suc p.index) bytes))
-
--- each element
-abbrev pub Every : {A : Type 0} → (A → Type 0) → List A → Type 0
-Every P [] = Unit {0}
-Every P (x ∷ xs) = P x × Every P xs
 
 -- the numbers of a place are no larger than its index allows, and it is in the document
 pub record Bounds (t : ℕ) (bytes : List ℕ) (p : Point) : Type 0 where
@@ -30,7 +26,7 @@ pub record Bounds (t : ℕ) (bytes : List ℕ) (p : Point) : Type 0 where
 pub record IsPlace (t : ℕ) (bytes : List ℕ) (p : Point) : Type 0 where
   pub before : List Seat
   pub splits : virtual t bytes ≡ before ++ rest_at t bytes p
-  pub behind : Every (λ s. stands_before s.point p ≡ true) before
+  pub behind : AllByRecursion (λ s. stands_before s.point p ≡ true) before
   pub stands : shown bytes p ≡ end_after (point 1 1 0 0) before
   pub bounds : Bounds t bytes p
 

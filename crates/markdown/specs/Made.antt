@@ -19,17 +19,17 @@ abbrev pub VoidExitsFollow : (Name → Bool) → Kind → List Event → Type 0
 VoidExitsFollow void k [] = Unit {0}
 VoidExitsFollow void k (e ∷ es) = (e.kind ≡ Exit → void e.name ≡ true → k ≡ Enter) × VoidExitsFollow void e.kind es
 
--- `left` is where an exit would stand, `bound` where an enter would
-pub record IsMade (bytes : List ℕ) (events : List Event) (stack : List Name) (left bound : Point) : Type 0 where
+-- `after_previous` is where an exit would stand, `bound` where an enter would
+pub record IsMade (bytes : List ℕ) (events : List Event) (stack : List Name) (after_previous bound : Point) : Type 0 where
   -- the stack has the names of the open enters
   pub names : map (λ e. e.name) (open_events events) ≡ stack
   -- each exit ended the last of them
   pub nested : names_after_all (Some []) events ≡ Some (reverse stack)
   pub tight : VoidExitsFollow is_void Exit events
   pub in_order : IsInOrder bytes events
-  -- no event is after `bound`, nor after `left` where the last one is no enter
+  -- no event is after `bound`, nor after `after_previous` where the last one is no enter
   pub behind : All (λ e. stands_before bound e.point ≡ false) events
-  pub read : last_kind Exit events ≡ Exit → All (λ e. stands_before left e.point ≡ false) events
-  pub left_bound : stands_before bound left ≡ false
-  pub left_shown : IsShown bytes left
+  pub read : last_kind Exit events ≡ Exit → All (λ e. stands_before after_previous e.point ≡ false) events
+  pub left_bound : stands_before bound after_previous ≡ false
+  pub left_shown : IsShown bytes after_previous
   pub bound_shown : IsShown bytes bound

@@ -15,7 +15,7 @@ pub record Sight : Type 0 where
   pub current : Option ℕ
   pub point : Point
   pub here : Point
-  pub left : Point
+  pub after_previous : Point
   pub next : Point
 
 -- the virtual byte before position p of the text
@@ -50,10 +50,10 @@ current_of text p Nothing = None
 current_of text p Byte = byte_of (slice_get text.seats p)
 current_of text p End = None
 
-abbrev pub next_of : Text → ℕ → Waits → Point
-next_of text p Nothing = end_place text p
-next_of text p Byte = end_or text.end (slice_get text.seats p)
-next_of text p End = end_place text p
+abbrev pub next_place : Text → ℕ → Waits → Point
+next_place text p Nothing = end_place text p
+next_place text p Byte = end_or text.end (slice_get text.seats p)
+next_place text p End = end_place text p
 
 abbrev pub sight_of : Given → Text → ℕ → Waits → Sight
 sight_of g text p waits = record {
@@ -61,8 +61,8 @@ sight_of g text p waits = record {
   current = current_of text p waits;
   point = point_of text p waits;
   here = shown g.bytes (point_of text p waits);
-  left = shown g.bytes (end_place text p);
-  next = shown g.bytes (next_of text p waits);
+  after_previous = shown g.bytes (end_place text p);
+  next = shown g.bytes (next_place text p waits);
 }
 
 abbrev pub sight : {R D : Type 0} → Given → Text → Configuration R D → Sight

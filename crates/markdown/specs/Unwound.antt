@@ -1,37 +1,37 @@
 -- Choices that end, the last first, as the code keeps them. An inner file: no public clause names what stands here.
 use Rattle.std.specs.Prelude.{List, [], ◌∷◌, Bool, true, false, Option, Some, None, unwrap_or}
-use Rattle.markdown.specs.declared.waiting.Goal.{Goal}
-use Rattle.markdown.specs.declared.waiting.Goal.TheVariants.{Next, Ok, Nok}
-use Rattle.markdown.specs.declared.waiting.Mark.{Mark}
+use Rattle.markdown.specs.declared.waiting.GoesOn.{GoesOn}
+use Rattle.markdown.specs.declared.waiting.GoesOn.TheVariants.{Next, Ok, Nok}
+use Rattle.markdown.specs.declared.waiting.KeptChoice.{KeptChoice}
 use Rattle.markdown.specs.declared.waiting.Progress.{Progress}
 use Rattle.markdown.specs.declared.waiting.AttemptKind.TheVariants.{Attempt, Check}
 
 -- what a choice goes on with, by its answer
-abbrev pub goal_of : Mark → Bool → Goal
+abbrev pub goal_of : KeptChoice → Bool → GoesOn
 goal_of mark true = mark.ok
 goal_of mark false = mark.nok
 
 -- what a choice puts back, by its answer
-abbrev pub saved_for : Mark → Bool → Option Progress
+abbrev pub saved_for : KeptChoice → Bool → Option Progress
 saved_for mark true = elim mark.kind [ Attempt ↦ None | Check ↦ mark.saved ]
 saved_for mark false = mark.saved
 
-abbrev pub ended_by : Bool → Goal
+abbrev pub ended_by : Bool → GoesOn
 ended_by true = Ok
 ended_by false = Nok
 
 -- The choices that still wait, what is gone on with, and from where
 pub record Unwinding : Type 0 where
-  pub marks : List Mark
-  pub goal : Goal
+  pub kept_choices : List KeptChoice
+  pub goal : GoesOn
   pub from : Progress
 
-abbrev pub unwinding : List Mark → Goal → Progress → Unwinding
-unwinding marks goal from = record { marks = marks; goal = goal; from = from }
+abbrev pub unwinding : List KeptChoice → GoesOn → Progress → Unwinding
+unwinding kept_choices goal from = record { kept_choices = kept_choices; goal = goal; from = from }
 
 -- choices end, the last first, until one goes on with a state, or none is left
-abbrev pub unwound : List Mark → Goal → Progress → Unwinding
+abbrev pub unwound : List KeptChoice → GoesOn → Progress → Unwinding
 unwound [] goal from = unwinding [] goal from
-unwound (mark ∷ marks) (Next name) from = unwinding (mark ∷ marks) (Next name) from
-unwound (mark ∷ marks) Ok from = unwound marks (goal_of mark true) (unwrap_or (saved_for mark true) from)
-unwound (mark ∷ marks) Nok from = unwound marks (goal_of mark false) (unwrap_or (saved_for mark false) from)
+unwound (mark ∷ kept_choices) (Next name) from = unwinding (mark ∷ kept_choices) (Next name) from
+unwound (mark ∷ kept_choices) Ok from = unwound kept_choices (goal_of mark true) (unwrap_or (saved_for mark true) from)
+unwound (mark ∷ kept_choices) Nok from = unwound kept_choices (goal_of mark false) (unwrap_or (saved_for mark false) from)

@@ -1,4 +1,5 @@
 -- What the fields of a tokenizer mean. An inner file: no public clause names what stands here.
+use Rattle.std.specs.List.{AllByRecursion}
 use Rattle.std.specs.Prelude.{◌≡◌, ℕ, ◌+◌, ◌*◌, ◌<◌, ◌≤◌, ◌^◌, List, [], ◌∷◌, Bool, true, false, cond, nat_lt, ◌||◌, Option, None, Some, length, map, take, reverse, unwrap_or, IfSome, Result}
 use Rattle.std.specs.declared.result.Result.TheVariants as result
 use Rattle.markdown_base.specs.declared.event.Event.{Event}
@@ -13,9 +14,9 @@ use Rattle.markdown.specs.declared.waiting.Waits.{Waits}
 use Rattle.markdown.specs.declared.waiting.Waits.TheVariants.{Nothing, Byte, End}
 use Rattle.markdown.specs.declared.waiting.Phase.{Phase}
 use Rattle.markdown.specs.declared.waiting.Phase.TheVariants.{Reading}
-use Rattle.markdown.specs.declared.waiting.Goal.{Goal}
-use Rattle.markdown.specs.declared.waiting.Goal.TheVariants as goal
-use Rattle.markdown.specs.declared.waiting.Mark.{Mark}
+use Rattle.markdown.specs.declared.waiting.GoesOn.{GoesOn}
+use Rattle.markdown.specs.declared.waiting.GoesOn.TheVariants as goal
+use Rattle.markdown.specs.declared.waiting.KeptChoice.{KeptChoice}
 use Rattle.markdown.specs.declared.waiting.Progress.{Progress}
 use Rattle.markdown.specs.declared.waiting.AttemptKind.{AttemptKind}
 use Rattle.markdown.specs.declared.tokenizer.Tokenizer.TheInside.{Inside}
@@ -23,17 +24,17 @@ use Rattle.markdown.specs.Text.{Text, IsText}
 use Rattle.markdown.specs.Configuration.{Configuration, Choice, Saved, Seen}
 use Rattle.markdown.specs.Calls.{saved_at}
 use Rattle.markdown.specs.Sight.{seat_before, byte_of, end_place}
-use Rattle.markdown.specs.Cursor.{Every, IsPlace, IsSeatAt}
+use Rattle.markdown.specs.Cursor.{IsPlace, IsSeatAt}
 use Rattle.markdown.specs.Gaps.{kept_between, resumed, IsSkip, IsOutside}
 use Rattle.markdown.specs.Made.{IsMade}
 
-abbrev pub state_of : Goal → State
+abbrev pub state_of : GoesOn → State
 state_of (goal.Next name) = Next name
 state_of goal.Ok = Ok
 state_of goal.Nok = Nok
 
 -- a name to go on with, or the answer at which the work ends
-abbrev pub taken_goal : Result StateName Goal → Result StateName State
+abbrev pub taken_goal : Result StateName GoesOn → Result StateName State
 taken_goal (result.Ok name) = result.Ok name
 taken_goal (result.Err end) = result.Err (state_of end)
 
@@ -59,13 +60,13 @@ position_from bytes skips start p = length (seats_between bytes skips start p)
 
 -- what the code saved of a choice, with `position` as the number of bytes before a place, and the stack
 abbrev pub saved_at_place : (Point → ℕ) → List Name → Progress → Saved
-saved_at_place position stack p = record { position = position p.left; ended = p.ended; events = p.events_len; stack = take p.stack_len stack }
+saved_at_place position stack p = record { position = position p.after_previous; ended = p.ended; events = p.events_len; stack = take p.stack_len stack }
 
 abbrev pub saved_of : (Point → ℕ) → List Name → Option Progress → Option Saved
 saved_of position stack None = None
 saved_of position stack (Some p) = Some (saved_at_place position stack p)
 
-abbrev pub choice_of : (Point → ℕ) → List Name → Mark → Choice
+abbrev pub choice_of : (Point → ℕ) → List Name → KeptChoice → Choice
 choice_of position stack mark = record { kind = mark.kind; ok = state_of mark.ok; nok = state_of mark.nok; saved = saved_of position stack mark.saved }
 
 abbrev pub seen : {M R D : Type 0} → Inside M R D → Seen M R D
@@ -76,7 +77,7 @@ seen t =
       machine = t.parse_state.now.machine.now;
       text = record { start = t.start; seats = seats_between bytes t.skips.items t.start (end_point bytes t.end); end = end_point bytes t.end };
       configuration = record {
-        position = position t.left;
+        position = position t.after_previous;
         waiting = t.waits;
         ended = t.ended;
         events = t.events.items;
@@ -91,7 +92,7 @@ seen t =
           lazy = t.lazy;
         };
       };
-      choices = map (choice_of position t.stack.items) (reverse t.marks.items);
+      choices = map (choice_of position t.stack.items) (reverse t.kept_choices.items);
       calls = t.calls.made;
       closed = t.closed;
       phase = t.phase;
@@ -102,18 +103,18 @@ abbrev pub text_of : {M R D : Type 0} → Inside M R D → Text
 text_of t = (seen t).text
 
 -- A text was read up to a place: it is where the byte before ends, or the start, and that byte is known
-pub record IsReadTo (bytes : List ℕ) (skips : List Point) (text : Text) (left : Point) (previous : Option ℕ) : Type 0 where
-  pub place : IsPlace TAB bytes left
-  pub from : is_upto TAB bytes text.start left ≡ true
-  pub upto : is_upto TAB bytes left text.end ≡ true
-  pub outside : IsOutside skips left
-  pub back : left ≡ end_place text (position_from bytes skips text.start left)
-  pub previous_is : previous ≡ byte_of (seat_before text (position_from bytes skips text.start left))
+pub record IsReadTo (bytes : List ℕ) (skips : List Point) (text : Text) (after_previous : Point) (previous : Option ℕ) : Type 0 where
+  pub place : IsPlace TAB bytes after_previous
+  pub from : is_upto TAB bytes text.start after_previous ≡ true
+  pub upto : is_upto TAB bytes after_previous text.end ≡ true
+  pub outside : IsOutside skips after_previous
+  pub back : after_previous ≡ end_place text (position_from bytes skips text.start after_previous)
+  pub previous_is : previous ≡ byte_of (seat_before text (position_from bytes skips text.start after_previous))
 
 -- What waits is the next virtual byte
-pub record ByteWaits (bytes : List ℕ) (skips : List Point) (left end : Point) (current : Option ℕ) : Type 0 where
+pub record ByteWaits (bytes : List ℕ) (skips : List Point) (after_previous end : Point) (current : Option ℕ) : Type 0 where
   pub seat : Seat
-  pub at : IsSeatAt TAB bytes (resumed skips left) seat
+  pub at : IsSeatAt TAB bytes (resumed skips after_previous) seat
   pub before : stands_before seat.point end ≡ true
   pub is : current ≡ Some seat.byte
 
@@ -124,20 +125,20 @@ pub record EndWaits (current : Option ℕ) (closed : Bool) (position size : ℕ)
   pub all : size ≤ position
 
 -- what waits
-abbrev pub IsWaiting : List ℕ → List Point → Text → Point → Option ℕ → Bool → Waits → Type 0
-IsWaiting bytes skips text left current closed Nothing = current ≡ None
-IsWaiting bytes skips text left current closed Byte = ByteWaits bytes skips left text.end current
-IsWaiting bytes skips text left current closed End = EndWaits current closed (position_from bytes skips text.start left) (length text.seats)
+abbrev pub IsWhatWaits : List ℕ → List Point → Text → Point → Option ℕ → Bool → Waits → Type 0
+IsWhatWaits bytes skips text after_previous current closed Nothing = current ≡ None
+IsWhatWaits bytes skips text after_previous current closed Byte = ByteWaits bytes skips after_previous text.end current
+IsWhatWaits bytes skips text after_previous current closed End = EndWaits current closed (position_from bytes skips text.start after_previous) (length text.seats)
 
 -- where an enter stands: after what is passed of a line, once something waits there
 abbrev pub standing : List Point → Point → Waits → Point
-standing skips left Nothing = left
-standing skips left Byte = resumed skips left
-standing skips left End = resumed skips left
+standing skips after_previous Nothing = after_previous
+standing skips after_previous Byte = resumed skips after_previous
+standing skips after_previous End = resumed skips after_previous
 
 -- the furthest place at which an enter may stand before more is read: after what is passed of a line, where more can be fed
 abbrev pub reach : List Point → Point → Bool → Point
-reach skips left more = cond more (resumed skips left) left
+reach skips after_previous more = cond more (resumed skips after_previous) after_previous
 
 -- more can be fed than was read up to a place: a byte, or the end
 abbrev pub can_feed : (position size : ℕ) → (closed : Bool) → Bool
@@ -145,10 +146,10 @@ can_feed position size closed = nat_lt position size || closed
 
 -- What a choice saved: a place up to which the text was read, with the events and the stack that were there, until a flush resolves
 pub record IsProgress (phase : Phase) (bytes : List ℕ) (skips : List Point) (text : Text) (events : List Event) (stack : List Name) (closed : Bool) (p : Progress) : Type 0 where
-  pub read : IsReadTo bytes skips text p.left p.previous
+  pub read : IsReadTo bytes skips text p.after_previous p.previous
   pub ended : p.ended ≡ true → closed ≡ true
-  pub made : phase ≡ Reading → IsMade bytes (take p.events_len events) (take p.stack_len stack) (shown bytes p.left)
-      (shown bytes (reach skips p.left (can_feed (position_from bytes skips text.start p.left) (length text.seats) closed)))
+  pub made : phase ≡ Reading → IsMade bytes (take p.events_len events) (take p.stack_len stack) (shown bytes p.after_previous)
+      (shown bytes (reach skips p.after_previous (can_feed (position_from bytes skips text.start p.after_previous) (length text.seats) closed)))
 
 abbrev pub events_of : ℕ → Option Progress → ℕ
 events_of n None = n
@@ -159,20 +160,20 @@ stack_of n None = n
 stack_of n (Some p) = p.stack_len
 
 -- what choices saved, the last first: each no more events and open spans than the one after it
-abbrev pub AreNested : (Progress → Type 0) → (events stack : ℕ) → List Mark → Type 0
+abbrev pub AreNested : (Progress → Type 0) → (events stack : ℕ) → List KeptChoice → Type 0
 AreNested P events stack [] = Unit {0}
-AreNested P events stack (mark ∷ marks) =
-    IfSome mark.saved (λ p. (p.events_len ≤ events) × (p.stack_len ≤ stack) × P p) × AreNested P (events_of events mark.saved) (stack_of stack mark.saved) marks
+AreNested P events stack (mark ∷ kept_choices) =
+    IfSome mark.saved (λ p. (p.events_len ≤ events) × (p.stack_len ≤ stack) × P p) × AreNested P (events_of events mark.saved) (stack_of stack mark.saved) kept_choices
 
 -- what holds of the fields. Of the events it holds until a flush resolves, as resolvers may change them freely.
 pub record IsSound {M R D : Type 0} (t : Inside M R D) : Type 0 where
   pub limit : 4 * length t.parse_state.now.bytes.now + 1 < 2 ^ 64
   pub end_at : point_at TAB t.parse_state.now.bytes.now t.end ≡ Some (text_of t).end
   pub text : IsText (seen t).given (text_of t)
-  pub skips : Every (IsSkip TAB t.parse_state.now.bytes.now (text_of t).end) t.skips.items
-  pub read : IsReadTo t.parse_state.now.bytes.now t.skips.items (text_of t) t.left t.previous
-  pub waiting : IsWaiting t.parse_state.now.bytes.now t.skips.items (text_of t) t.left t.current t.closed t.waits
+  pub skips : AllByRecursion (IsSkip TAB t.parse_state.now.bytes.now (text_of t).end) t.skips.items
+  pub read : IsReadTo t.parse_state.now.bytes.now t.skips.items (text_of t) t.after_previous t.previous
+  pub waiting : IsWhatWaits t.parse_state.now.bytes.now t.skips.items (text_of t) t.after_previous t.current t.closed t.waits
   pub ended : t.ended ≡ true → t.closed ≡ true
   pub reads : t.closed ≡ false → t.phase ≡ Reading
-  pub made : t.phase ≡ Reading → IsMade t.parse_state.now.bytes.now t.events.items t.stack.items (shown t.parse_state.now.bytes.now t.left) (shown t.parse_state.now.bytes.now (standing t.skips.items t.left t.waits))
-  pub marks : AreNested (IsProgress t.phase t.parse_state.now.bytes.now t.skips.items (text_of t) t.events.items t.stack.items t.closed) (length t.events.items) (length t.stack.items) (reverse t.marks.items)
+  pub made : t.phase ≡ Reading → IsMade t.parse_state.now.bytes.now t.events.items t.stack.items (shown t.parse_state.now.bytes.now t.after_previous) (shown t.parse_state.now.bytes.now (standing t.skips.items t.after_previous t.waits))
+  pub kept_choices : AreNested (IsProgress t.phase t.parse_state.now.bytes.now t.skips.items (text_of t) t.events.items t.stack.items t.closed) (length t.events.items) (length t.stack.items) (reverse t.kept_choices.items)

@@ -30,8 +30,8 @@ pub fn point_at(bytes: &[u8], place: (usize, usize)) -> Option<Point>
     requires fits { 4 * length bytes.now + 1 < 2 ^ 64 }
     ensures { result ≡ Places.point_at 4 bytes.now place }
 {
-    let mut left = START;
-    while let Some((byte, seat)) = seat_at(bytes, left) {
+    let mut after_previous = START;
+    while let Some((byte, seat)) = seat_at(bytes, after_previous) {
         let first = shown(bytes, seat);
         if is_at(first, place) {
             return Some(first);
@@ -39,9 +39,13 @@ pub fn point_at(bytes: &[u8], place: (usize, usize)) -> Option<Point>
         if is_at(seat, place) {
             return Some(seat);
         }
-        pass(bytes, &mut left, byte);
+        pass(bytes, &mut after_previous, byte);
     }
-    if is_at(left, place) { Some(left) } else { None }
+    if is_at(after_previous, place) {
+        Some(after_previous)
+    } else {
+        None
+    }
 }
 
 /// The places (byte index, number in a tab) of the virtual bytes number `n`, `2n`, `3n`, .., numbered from 0:
@@ -52,14 +56,14 @@ pub fn cuts_every(alloc: Global, bytes: &[u8], n: usize) -> Result<Vec<(usize, u
     ensures { IfOk result (λ cuts. cuts.items ≡ Cuts.cuts_every 4 bytes.now n) }
 {
     let mut cuts = Vec::new(alloc);
-    let mut left = START;
+    let mut after_previous = START;
     let mut number: usize = 0;
-    while let Some((byte, seat)) = seat_at(bytes, left) {
+    while let Some((byte, seat)) = seat_at(bytes, after_previous) {
         if number > 0 && number % n == 0 {
             cuts.push((seat.index, seat.vs))?;
         }
         number += 1;
-        pass(bytes, &mut left, byte);
+        pass(bytes, &mut after_previous, byte);
     }
     Ok(cuts)
 }

@@ -11,7 +11,7 @@ pub use crate::places::{cuts_every, point_at};
 use crate::state::{self, MachineTypes, State};
 use crate::subtokenize::{self, Subresult};
 use crate::util::edit_map::EditMap;
-use crate::waiting::{AttemptKind, Goal, Mark, Phase, Progress, Waits, standing, unwind};
+use crate::waiting::{AttemptKind, GoesOn, KeptChoice, Phase, Progress, Waits, standing, unwind};
 pub use crate::work::{reads_in_one_way, run};
 use markdown_base::event::{Content, Event, Kind, Link, Name, Point};
 use markdown_base::message::Message;
@@ -197,7 +197,7 @@ pub struct Tokenizer<'a, M: MachineTypes> {
     /// Up to where lines are passed, one place for each line with a gap, in order.
     skips: Vec<Point>,
     /// The place after the byte before, or the start.
-    left: Point,
+    after_previous: Point,
     /// What waits.
     waits: Waits,
     /// Whether the end was fed here.
@@ -213,7 +213,7 @@ pub struct Tokenizer<'a, M: MachineTypes> {
     /// The resolvers that were registered.
     resolvers: Vec<M::Resolver>,
     /// The waiting choices, the last one last.
-    marks: Vec<Mark>,
+    kept_choices: Vec<KeptChoice>,
     /// Whether nothing more is pushed: memory was refused, or the end was fed.
     closed: bool,
     /// Whether a flush resolves, or has resolved.
@@ -318,7 +318,7 @@ impl<'a, M: MachineTypes> Tokenizer<'a, M> {
         let events = Vec::new(alloc);
         let stack = Vec::new(alloc);
         let resolvers = Vec::new(alloc);
-        let marks = Vec::new(alloc);
+        let kept_choices = Vec::new(alloc);
         let skips = Vec::new(alloc);
         let calls = Calls::new();
         Tokenizer {
@@ -332,7 +332,7 @@ impl<'a, M: MachineTypes> Tokenizer<'a, M> {
             start: point,
             end: (point.index, point.vs),
             skips,
-            left: point,
+            after_previous: point,
             waits: Waits::Nothing,
             ended: false,
             previous: None,
@@ -340,7 +340,7 @@ impl<'a, M: MachineTypes> Tokenizer<'a, M> {
             events,
             stack,
             resolvers,
-            marks,
+            kept_choices,
             closed: false,
             phase: Phase::Reading,
             calls,
@@ -367,8 +367,8 @@ impl<'a, M: MachineTypes> Tokenizer<'a, M> {
             Some(byte) => byte,
             None => unreachable!(),
         };
-        resume(&self.skips, &mut self.left);
-        pass(self.parse_state.bytes, &mut self.left, byte);
+        resume(&self.skips, &mut self.after_previous);
+        pass(self.parse_state.bytes, &mut self.after_previous, byte);
         self.previous = self.current;
         self.current = None;
         self.ended = false;
@@ -380,7 +380,7 @@ impl<'a, M: MachineTypes> Tokenizer<'a, M> {
         ensures ok { OnOk result (self.new ≡ at_configuration self.old (entered name None (sight_seen self.old).here self.old.configuration)) }
         ensures err { OnErr result (self.new ≡ self.old) }
     {
-        self.begin(name, None)
+        self.enter_with(name, None)
     }
 
     /// As `enter`, with a link. Where memory is refused, events and stack stay as they were.
@@ -388,14 +388,14 @@ impl<'a, M: MachineTypes> Tokenizer<'a, M> {
         ensures ok { OnOk result (self.new ≡ at_configuration self.old (entered name (Some link) (sight_seen self.old).here self.old.configuration)) }
         ensures err { OnErr result (self.new ≡ self.old) }
     {
-        self.begin(name, Some(link))
+        self.enter_with(name, Some(link))
     }
 
-    fn begin(&mut self, name: Name, link: Option<Link>) -> Result<(), AllocError>
+    fn enter_with(&mut self, name: Name, link: Option<Link>) -> Result<(), AllocError>
         ensures ok { OnOk result (self.new ≡ at_configuration self.old (entered name link (sight_seen self.old).here self.old.configuration)) }
         ensures err { OnErr result (self.new ≡ self.old) }
     {
-        let place = standing(&self.skips, self.left, self.waits);
+        let place = standing(&self.skips, self.after_previous, self.waits);
         let point = shown(self.parse_state.bytes, place);
         let open_len = self.stack.len();
         self.stack.push(name)?;
@@ -420,10 +420,10 @@ impl<'a, M: MachineTypes> Tokenizer<'a, M> {
     /// memory is refused, events and stack stay as they were.
     pub fn exit(&mut self, name: Name) -> Result<(), AllocError>
         requires { CanExit name self.old }
-        ensures ok { OnOk result (self.new ≡ at_configuration self.old (exited name (sight_seen self.old).left self.old.configuration)) }
+        ensures ok { OnOk result (self.new ≡ at_configuration self.old (exited name (sight_seen self.old).after_previous self.old.configuration)) }
         ensures err { OnErr result (self.new ≡ self.old) }
     {
-        let point = shown(self.parse_state.bytes, self.left);
+        let point = shown(self.parse_state.bytes, self.after_previous);
         self.events.push(Event {
             kind: Kind::Exit,
             name,
@@ -466,9 +466,9 @@ impl<'a, M: MachineTypes> Tokenizer<'a, M> {
         ensures ok { OnOk result (self.new ≡ with_choice self.old (attempt_at ok nok self.old.configuration)) }
         ensures err { OnErr result (self.new ≡ self.old) }
     {
-        let nok = Goal::of(nok);
-        let saves = !matches!(nok, Goal::Nok);
-        self.choose(AttemptKind::Attempt, Goal::of(ok), nok, saves)
+        let nok = GoesOn::of(nok);
+        let saves = !matches!(nok, GoesOn::Nok);
+        self.push_choice(AttemptKind::Attempt, GoesOn::of(ok), nok, saves)
     }
 
     /// As `attempt`, for a look ahead: after `Ok` too it goes on from here, as after `Nok`, and with `ok`.
@@ -478,15 +478,15 @@ impl<'a, M: MachineTypes> Tokenizer<'a, M> {
         ensures ok { OnOk result (self.new ≡ with_choice self.old (check_at ok nok self.old.configuration)) }
         ensures err { OnErr result (self.new ≡ self.old) }
     {
-        self.choose(AttemptKind::Check, Goal::of(ok), Goal::of(nok), true)
+        self.push_choice(AttemptKind::Check, GoesOn::of(ok), GoesOn::of(nok), true)
     }
 
     /// One more choice waits.
-    fn choose(
+    fn push_choice(
         &mut self,
         kind: AttemptKind,
-        ok: Goal,
-        nok: Goal,
+        ok: GoesOn,
+        nok: GoesOn,
         saves: bool,
     ) -> Result<(), AllocError>
         ensures ok { OnOk result (self.new ≡ with_choice self.old (choice_at kind (state_of ok) (state_of nok) saves self.old.configuration)) }
@@ -494,7 +494,7 @@ impl<'a, M: MachineTypes> Tokenizer<'a, M> {
     {
         let saved = if saves {
             Some(Progress {
-                left: self.left,
+                after_previous: self.after_previous,
                 previous: self.previous,
                 ended: self.ended,
                 events_len: self.events.len(),
@@ -503,7 +503,7 @@ impl<'a, M: MachineTypes> Tokenizer<'a, M> {
         } else {
             None
         };
-        self.marks.push(Mark {
+        self.kept_choices.push(KeptChoice {
             kind,
             ok,
             nok,
@@ -536,7 +536,7 @@ impl<'a, M: MachineTypes> Tokenizer<'a, M> {
         ensures same { OnFalse result (self.new ≡ self.old) }
         ensures end { OnFalse result (length self.old.text.seats ≤ self.old.configuration.position) }
     {
-        let place = resumed(&self.skips, &self.left);
+        let place = resumed(&self.skips, &self.after_previous);
         match next_byte(self.parse_state.bytes, *place, self.end) {
             None => false,
             Some(byte) => {
@@ -563,24 +563,24 @@ impl<'a, M: MachineTypes> Tokenizer<'a, M> {
     ///
     /// This is one step, as in between an enter could stand before an event that is there.
     #[inline(never)]
-    pub(crate) fn go_on(&mut self, flush: bool, ok: bool) -> Result<state::Name, Goal>
+    pub(crate) fn go_on(&mut self, flush: bool, ok: bool) -> Result<state::Name, GoesOn>
         requires closed { self.old.closed ≡ flush }
         requires ends { EndsClosed (settled_all self.old.configuration self.old.choices (answer_of ok)) }
         ensures { let s = settled_all self.old.configuration self.old.choices (answer_of ok) in TakesUp flush (settled_to self.old s) self.new s.answer (taken_goal result) }
     {
-        if self.marks.is_empty() {
-            let last = if ok { Goal::Ok } else { Goal::Nok };
+        if self.kept_choices.is_empty() {
+            let last = if ok { GoesOn::Ok } else { GoesOn::Nok };
             return Err(last);
         }
         let from = Progress {
-            left: self.left,
+            after_previous: self.after_previous,
             previous: self.previous,
             ended: self.ended,
             events_len: self.events.len(),
             stack_len: self.stack.len(),
         };
-        let (goal, from) = unwind(&mut self.marks, ok, from);
-        self.left = from.left;
+        let (goal, from) = unwind(&mut self.kept_choices, ok, from);
+        self.after_previous = from.after_previous;
         self.previous = from.previous;
         self.ended = from.ended;
         self.events.truncate(from.events_len);
@@ -588,11 +588,11 @@ impl<'a, M: MachineTypes> Tokenizer<'a, M> {
         self.waits = Waits::Nothing;
         self.current = None;
         let name = match goal {
-            Goal::Next(name) => name,
-            Goal::Ok => return Err(Goal::Ok),
-            Goal::Nok => return Err(Goal::Nok),
+            GoesOn::Next(name) => name,
+            GoesOn::Ok => return Err(GoesOn::Ok),
+            GoesOn::Nok => return Err(GoesOn::Nok),
         };
-        let again = resumed(&self.skips, &self.left);
+        let again = resumed(&self.skips, &self.after_previous);
         match next_byte(self.parse_state.bytes, *again, self.end) {
             Some(byte) => {
                 self.current = Some(byte);
@@ -604,22 +604,22 @@ impl<'a, M: MachineTypes> Tokenizer<'a, M> {
                 self.ended = true;
                 Ok(name)
             }
-            None => Err(Goal::Next(name)),
+            None => Err(GoesOn::Next(name)),
         }
     }
 
     /// A tokenizer has read no more than its text.
-    pub(crate) fn tells(&self)
+    pub(crate) fn shows_in_text(&self)
         ensures { IsInText self.now }
     {
-        let _ = &self.left;
+        let _ = &self.after_previous;
     }
 
     /// Where no span is open, the events are well formed, until a flush resolves.
-    pub(crate) fn tells_events(&self)
+    pub(crate) fn shows_events(&self)
         ensures { self.now.phase ≡ Phase.Reading → self.now.configuration.stack ≡ [] → IsWellFormed self.now.given.bytes self.now.configuration }
     {
-        let _ = &self.left;
+        let _ = &self.after_previous;
     }
 
     /// Nothing more is pushed.

@@ -37,7 +37,7 @@ pub enum Phase {
 
 /// What a choice goes on with.
 #[derive(Clone, Copy, Debug, PartialEq, Eq)]
-pub(crate) enum Goal {
+pub(crate) enum GoesOn {
     /// This state, with the next byte.
     Next(Name),
     /// It ends well, and with it what is around it.
@@ -46,20 +46,20 @@ pub(crate) enum Goal {
     Nok,
 }
 
-impl Goal {
+impl GoesOn {
     ghost use Rattle.std.specs.Prelude.{◌≡◌};
     ghost use Rattle.markdown.specs.Calls.{CanGoOn};
     ghost use Rattle.markdown.specs.View.{state_of};
 
     /// What goes on with this state.
-    pub(crate) fn of(state: State) -> Goal
+    pub(crate) fn of(state: State) -> GoesOn
         requires { CanGoOn state }
         ensures { state_of result ≡ state }
     {
         match state {
-            State::Next(name) => Goal::Next(name),
-            State::Ok => Goal::Ok,
-            State::Nok => Goal::Nok,
+            State::Next(name) => GoesOn::Next(name),
+            State::Ok => GoesOn::Ok,
+            State::Nok => GoesOn::Nok,
             State::Retry(_) => unreachable!(),
             State::Error(_) => unreachable!(),
         }
@@ -70,9 +70,9 @@ impl Goal {
         ensures { result ≡ state_of self }
     {
         match self {
-            Goal::Next(name) => State::Next(name),
-            Goal::Ok => State::Ok,
-            Goal::Nok => State::Nok,
+            GoesOn::Next(name) => State::Next(name),
+            GoesOn::Ok => State::Ok,
+            GoesOn::Nok => State::Nok,
         }
     }
 }
@@ -81,7 +81,7 @@ impl Goal {
 #[derive(Clone, Copy, Debug, PartialEq, Eq)]
 pub(crate) struct Progress {
     /// The place after the byte before.
-    pub(crate) left: Point,
+    pub(crate) after_previous: Point,
     /// The byte before.
     pub(crate) previous: Option<u8>,
     /// Whether the end was fed.
@@ -94,19 +94,19 @@ pub(crate) struct Progress {
 
 /// A waiting choice.
 #[derive(Clone, Copy, Debug, PartialEq, Eq)]
-pub(crate) struct Mark {
+pub(crate) struct KeptChoice {
     pub(crate) kind: AttemptKind,
-    pub(crate) ok: Goal,
-    pub(crate) nok: Goal,
+    pub(crate) ok: GoesOn,
+    pub(crate) nok: GoesOn,
     pub(crate) saved: Option<Progress>,
 }
 
-impl Mark {
+impl KeptChoice {
     ghost use Rattle.std.specs.Prelude.{◌≡◌};
     ghost use Rattle.markdown.specs.Unwound.{goal_of, saved_for};
 
     /// What it goes on with.
-    pub(crate) fn goal(&self, ok: bool) -> Goal
+    pub(crate) fn goal(&self, ok: bool) -> GoesOn
         ensures { result ≡ goal_of self.now ok }
     {
         if ok { self.ok } else { self.nok }
@@ -129,29 +129,33 @@ ghost use Rattle.markdown.specs.View.{standing};
 ghost use Rattle.markdown.specs.Unwound.{unwound, ended_by, unwinding};
 
 /// Where an enter stands: after the byte before, or after what is passed of a line, once something waits there.
-pub(crate) fn standing(skips: &Vec<Point>, left: Point, waits: Waits) -> Point
-    ensures { result ≡ standing skips.now.items left waits }
+pub(crate) fn standing(skips: &Vec<Point>, after_previous: Point, waits: Waits) -> Point
+    ensures { result ≡ standing skips.now.items after_previous waits }
 {
     match waits {
-        Waits::Nothing => left,
-        Waits::Byte | Waits::End => *resumed(skips, &left),
+        Waits::Nothing => after_previous,
+        Waits::Byte | Waits::End => *resumed(skips, &after_previous),
     }
 }
 
 /// Choices end, the last first, until one goes on with a state, or none is left. A choice that goes back does so to what
 /// it saved: the answer is what is gone on with, and from where.
-pub(crate) fn unwind(marks: &mut Vec<Mark>, ok: bool, from: Progress) -> (Goal, Progress)
-    ensures { unwinding (reverse marks.new.items) result.0 result.1 ≡ unwound (reverse marks.old.items) (ended_by ok) from }
+pub(crate) fn unwind(
+    kept_choices: &mut Vec<KeptChoice>,
+    ok: bool,
+    from: Progress,
+) -> (GoesOn, Progress)
+    ensures { unwinding (reverse kept_choices.new.items) result.0 result.1 ≡ unwound (reverse kept_choices.old.items) (ended_by ok) from }
 {
-    let mut goal = if ok { Goal::Ok } else { Goal::Nok };
+    let mut goal = if ok { GoesOn::Ok } else { GoesOn::Nok };
     let mut from = from;
     loop {
         let ok = match goal {
-            Goal::Next(_) => return (goal, from),
-            Goal::Ok => true,
-            Goal::Nok => false,
+            GoesOn::Next(_) => return (goal, from),
+            GoesOn::Ok => true,
+            GoesOn::Nok => false,
         };
-        match marks.pop() {
+        match kept_choices.pop() {
             None => return (goal, from),
             Some(mark) => {
                 goal = mark.goal(ok);

@@ -67,7 +67,7 @@ pub fn run<M: Machine>(
 impl<'a, M: Machine> Tokenizer<'a, M> {
     /// Which state is called next, with what it is fed; or `None` where the work ends, and then the state is its answer.
     #[inline(always)]
-    fn take_up(&mut self, flush: bool, state: &mut State) -> Option<Name>
+    fn next_call(&mut self, flush: bool, state: &mut State) -> Option<Name>
         requires closed { self.old.closed ≡ flush }
         requires ends { EndsClosed (settled_all self.old.configuration self.old.choices state.old) }
         ensures { let s = settled_all self.old.configuration self.old.choices state.old in TakesUp flush (settled_to self.old s) self.new s.answer (taken_up result state.new) }
@@ -98,7 +98,7 @@ impl<'a, M: Machine> Tokenizer<'a, M> {
     }
 
     /// One state is called.
-    fn once(&mut self, name: Name) -> Result<State, AllocError>
+    fn call_state(&mut self, name: Name) -> Result<State, AllocError>
         requires waits { self.old.configuration.waiting ≢ Nothing }
         requires holds { HoldsOf (M.rules self.old.machine self.old.given) self.old (State.Retry name) }
         ensures { IfOk result (IsCalled self.old self.new ((M.rules self.old.machine self.old.given).step (sight_seen self.old) self.old.configuration name)) }
@@ -108,7 +108,7 @@ impl<'a, M: Machine> Tokenizer<'a, M> {
     }
 
     /// States are called until the text is used up, or until the reading has ended.
-    fn work(&mut self, flush: bool, state: State) -> Result<State, AllocError>
+    fn run_states(&mut self, flush: bool, state: State) -> Result<State, AllocError>
         requires text { IsText self.old.given self.old.text }
         requires holds { HoldsAll (M.rules self.old.machine self.old.given) flush self.old state }
         requires closed { self.old.closed ≡ flush }
@@ -119,14 +119,14 @@ impl<'a, M: Machine> Tokenizer<'a, M> {
         ensures message { (m : _) → state ≡ State.Error m → IfOk result (λ answer. (answer ≡ State.Error m) × (self.new ≡ self.old)) }
     {
         let mut state = state;
-        let mut name = match self.take_up(flush, &mut state) {
+        let mut name = match self.next_call(flush, &mut state) {
             Some(name) => name,
             None => return Ok(state),
         };
         loop {
-            self.tells();
-            let mut answer = self.once(name)?;
-            name = match self.take_up(flush, &mut answer) {
+            self.shows_in_text();
+            let mut answer = self.call_state(name)?;
+            name = match self.next_call(flush, &mut answer) {
                 Some(name) => name,
                 None => return Ok(answer),
             };
@@ -207,11 +207,11 @@ impl<'a, M: Machine> Tokenizer<'a, M> {
         if self.is_closed() {
             return Err(Fault::Failed);
         }
-        self.tells();
+        self.shows_in_text();
         self.extend(from, to);
-        match self.work(false, state) {
+        match self.run_states(false, state) {
             Ok(answer) => {
-                self.tells();
+                self.shows_in_text();
                 Ok(answer)
             }
             Err(_) => {
@@ -239,13 +239,13 @@ impl<'a, M: Machine> Tokenizer<'a, M> {
         if self.is_closed() {
             return Err(Fault::Failed);
         }
-        self.tells();
+        self.shows_in_text();
         self.close();
-        match self.work(true, state) {
+        match self.run_states(true, state) {
             Ok(answer) => match answer {
                 State::Error(message) => Err(Fault::Message(message)),
                 State::Ok => {
-                    self.tells_events();
+                    self.shows_events();
                     let sub = self.take_definitions();
                     if resolve {
                         self.resolve_all(sub)

@@ -5,8 +5,8 @@ use Rattle.std.proofs.lemmas.Bool.{ne_eqb, eq-eqb, lt-ltb, le-ltb, cases_lt, cas
 use Rattle.std.proofs.lemmas.List.{length-take-le}
 use Rattle.markdown_base.specs.declared.event.Event.{Event}
 use Rattle.markdown.specs.Woven.{Identity, of_child, Tagged, place_in, Change}
-use Rattle.markdown.proofs.Passes.{olds, pass, AreApart, AreApart-le}
-use Rattle.markdown.proofs.FinalPlaces.{or_after, place_in-append, length-olds, HasNo}
+use Rattle.markdown.proofs.EditPasses.{olds, pass, AreApart, AreApart-le}
+use Rattle.markdown.proofs.EditFinalPlaces.{or_after, place_in-append, length-olds, HasNo}
 use Rattle.mdchildren.specs.Parts.{child_place, total}
 use Rattle.mdchildren.specs.Children.{tagged_child, part_changes}
 

@@ -1,6 +1,6 @@
 -- The chains of a ready list that fit lead forward, and the edits of one of them.
 use Rattle.std.proofs.Common.{◌≡◌, ℕ, ◌+◌, ◌<◌, ◌≤◌, ⊎_elim, true, List, [], ◌∷◌, ◌++◌, length, Option, Some, None, refl, sym, ◌∙◌, ap, subst, arith, append-nil}
-use Rattle.std.specs.Prelude.{All, IfSome, slice_get, slice_index_or, is_none, option_and_then, flat_map}
+use Rattle.std.specs.Prelude.{All, IfSome, slice_get, slice_index_or, is_none, option_and_then}
 use Rattle.std.specs.List.{AllByRecursion}
 use Rattle.std.proofs.lemmas.Bool.{cases_lt, cases_eq}
 use Rattle.std.proofs.lemmas.Option.{none-some, slice_get_past, slice_get-get_or}

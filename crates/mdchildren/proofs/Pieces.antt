@@ -9,7 +9,7 @@ use Rattle.markdown_base.specs.Places.{stands_before, denotes_same}
 use Rattle.markdown.specs.Engine.{given_by}
 use Rattle.markdown.specs.Links.{next_of, previous_of}
 use Rattle.markdown.specs.Text.{Given, Text, pushed, passed, followed_by, empty_text, FitsAfter, CanFollow}
-use Rattle.markdown.proofs.Cursors.{upto-order, upto-same, same-self}
+use Rattle.markdown.proofs.PlaceCursors.{upto-order, upto-same, same-self}
 use Rattle.mdchildren.specs.Chains.{chain_of, fits, begins}
 use Rattle.mdchildren.specs.Ready.{IsReady, place_at}
 use Rattle.mdchildren.specs.Laws.{LeadOnFrom}

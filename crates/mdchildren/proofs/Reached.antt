@@ -10,9 +10,9 @@ use Rattle.markdown_base.specs.Virtual.{Seat, point, tab_width, in_tab, begins_w
 use Rattle.markdown_base.specs.Places.{shown, follows_cr, IsPointOf, IsShown, point_at}
 use Rattle.markdown_base.proofs.Scans.{IsReached, IsSeatPlace, IsReturnPlace, tab_width-least, reached_start, reached-line_feed, reached-return, reached-crlf, reached-tab, reached-plain, place-of, byte_here}
 use Rattle.markdown_base.proofs.PointAt.{point-of_reached}
-use Rattle.markdown.proofs.Points.{point_at-point, point_at-is}
-use Rattle.markdown.proofs.Standing.{IsAmong}
-use Rattle.markdown.proofs.SeatLaws.{seat-is-point}
+use Rattle.markdown.proofs.PlacePoints.{point_at-point, point_at-is}
+use Rattle.markdown.proofs.PlaceStanding.{IsAmong}
+use Rattle.markdown.proofs.PlaceSeatLaws.{seat-is-point}
 use Rattle.mdchildren.specs.Ready.{IsShownPlace}
 use Rattle.mdchildren.specs.Rows.{is_lf, width_at, ends_line, line_after, column_after, line_at, column_at, row_at, rows_upto, rows, is_in_row, is_in_some_row}
 use Rattle.mdchildren.specs.declared.rows.Row.{Row}

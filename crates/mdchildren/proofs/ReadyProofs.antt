@@ -23,7 +23,7 @@ use Rattle.markdown_base.specs.Places.{stands_before}
 use Rattle.markdown.specs.Links.{content_of, next_of, previous_of, AreMutual}
 use Rattle.markdown.specs.OpenNames.{names_after_all}
 use Rattle.markdown.proofs.Balanced.{balanced_from_open, names_after_balanced, same_name-true}
-use Rattle.markdown.proofs.Points.{same-numbers}
+use Rattle.markdown.proofs.PlacePoints.{same-numbers}
 use Rattle.mdchildren.proofs.Following.{apart, fits_next}
 use Rattle.mdchildren.specs.Chains.{content_at, lets_through, some_fits, fits}
 use Rattle.mdchildren.specs.Ready.{place_at, IsChunk, IsShownPlace, IsGap, IsReady}

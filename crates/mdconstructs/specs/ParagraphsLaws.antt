@@ -15,7 +15,7 @@ use Rattle.markdown.specs.Configuration.{Configuration, Local, Choice, start_con
 use Rattle.markdown.specs.Links.{IsLinkedEnter, IsEndedBy, CanLink, content_of, updated_at, with_next, with_previous, linked_to, next_of, previous_of}
 use Rattle.markdown.specs.Edited.{edited}
 use Rattle.markdown.specs.Resolving.{CanBeEdited, IsInShape}
-use Rattle.markdown.proofs.Splices.{edited-none}
+use Rattle.markdown.proofs.EditSplices.{edited-none}
 use Rattle.mdtables.specs.LinkShapes.{next_end, previous_end, AreInShape}
 use Rattle.mdtables.specs.RowTest.{misfits}
 use Rattle.mdtables.proofs.LinkShapes.{more-shape, linked-shape}

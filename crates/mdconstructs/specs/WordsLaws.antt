@@ -16,7 +16,7 @@ use Rattle.markdown.specs.Woven.{woven, placed}
 use Rattle.markdown.specs.Plain.{HaveNoLinks}
 use Rattle.markdown.specs.Resolving.{IsInShape}
 use Rattle.markdown.proofs.Balanced.{IsBalanced-pair, IsBalanced-remove}
-use Rattle.markdown.proofs.Passes.{woven-past}
+use Rattle.markdown.proofs.EditPasses.{woven-past}
 use Rattle.markdown.proofs.PlainLaws.{no-links-more, no-links-below, no-links-shape, woven-same, edited-same}
 use Rattle.markdown.specs.Configuration.{Configuration, Local, Choice, start_configuration}
 use Rattle.mdtables.specs.RowTest.{misfits}

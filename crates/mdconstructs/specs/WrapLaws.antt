@@ -23,7 +23,7 @@ use Rattle.markdown.specs.Resolving.{done, refused, taken, IsInShape}
 use Rattle.markdown.specs.Lawful.{ConsumesOnce, OnlyAdds, EndsWhenRead, KeepsInvariant, CostPays, ResolversKeep, IsAsFar}
 use Rattle.markdown.specs.Plain.{HaveNoLinks}
 use Rattle.markdown.proofs.PlainLaws.{no-links-more, no-links-below, no-links-shape, unlinked-same}
-use Rattle.markdown.proofs.Puts.{put-same, put-more}
+use Rattle.markdown.proofs.EditPuts.{put-same, put-more}
 use Rattle.mdtables.specs.Rows.{class_of, step_of, picked, step_at}
 use Rattle.mdtables.specs.RowTest.{misfits}
 use Rattle.mdtables.proofs.TableLaws.{IsFit, no-falls, table-consumes_once, table-only_adds, table-ends_when_read, table-invariant_kept}

@@ -1,33 +1,33 @@
 -- A document can be cut at every n-th of its virtual bytes.
+use Rattle.std.specs.List.{AllByRecursion}
 use Rattle.std.proofs.Common.{◌≡◌, ℕ, ◌+◌, ◌<◌, List, [], ◌∷◌, true, false, cond, refl, arith, ap}
 use Rattle.std.specs.Prelude.{filter, map}
 use Rattle.std.specs.List.{enumerate_from}
 use Rattle.markdown_base.specs.declared.event.Point.{Point}
 use Rattle.markdown_base.specs.Virtual.{Seat, point, virtual}
 use Rattle.markdown_base.specs.Places.{stands_before, IsPointOf}
-use Rattle.markdown.specs.Cursor.{Every}
-use Rattle.markdown.proofs.Orders.{after-before, not-before, every-map, every-all}
-use Rattle.markdown.proofs.Standing.{IsAmong}
-use Rattle.markdown.proofs.SeatLaws.{seat-is-point}
-use Rattle.markdown.proofs.Points.{point_at-point}
-use Rattle.markdown.proofs.Cursors.{upto-order}
+use Rattle.markdown.proofs.PlaceOrder.{after-before, not-before, every-map, every-all}
+use Rattle.markdown.proofs.PlaceStanding.{IsAmong}
+use Rattle.markdown.proofs.PlaceSeatLaws.{seat-is-point}
+use Rattle.markdown.proofs.PlacePoints.{point_at-point}
+use Rattle.markdown.proofs.PlaceCursors.{upto-order}
 use Rattle.markdown.specs.Cuts.{place_of, is_cut, cuts_every}
 use Rattle.markdown.specs.Engine.{FollowInOrder, AreCuts}
-use Rattle.markdown.proofs.TextOrder.{AreInOrder, Follows, virtual-order}
+use Rattle.markdown.proofs.PlaceTextOrder.{AreInOrder, Follows, virtual-order}
 
-every-among : (P : Seat → Type 0) (all xs : List Seat) → ((s : Seat) → IsAmong s xs → P s) → Every P xs
+every-among : (P : Seat → Type 0) (all xs : List Seat) → ((s : Seat) → IsAmong s xs → P s) → AllByRecursion P xs
 every-among P all [] h = tt
 every-among P all (x ∷ xs) h = (h x (record { front = []; back = xs; splits = refl }), every-among P all xs (λ s a. h s (record { front = x ∷ a.front; back = a.back; splits = ap (λ ys. x ∷ ys) a.splits })))
 
 module _ (t : ℕ) (bytes : List ℕ) (d : 0 < t) where
-  seats-are-points : Every (λ s. IsPointOf t bytes s.point) (virtual t bytes)
+  seats-are-points : AllByRecursion (λ s. IsPointOf t bytes s.point) (virtual t bytes)
   seats-are-points = every-among (λ s. IsPointOf t bytes s.point) [] (virtual t bytes) (λ s a. seat-is-point t bytes s a)
 
   -- those that come later are not before it
-  later : (s : Seat) (ss : List Seat) → Every (Follows s) ss → Every (λ r. stands_before r.point s.point ≡ false) ss
+  later : (s : Seat) (ss : List Seat) → AllByRecursion (Follows s) ss → AllByRecursion (λ r. stands_before r.point s.point ≡ false) ss
   later s ss h = every-map (Follows s) (λ r. stands_before r.point s.point ≡ false) (λ r k. after-before s.point.index s.point.vs r.point.index r.point.vs k.0) ss h
 
-  cuts-follow : (n number : ℕ) (p : Point) (xs : List Seat) → Every (λ s. IsPointOf t bytes s.point) xs → Every (λ s. stands_before s.point p ≡ false) xs → AreInOrder bytes xs
+  cuts-follow : (n number : ℕ) (p : Point) (xs : List Seat) → AllByRecursion (λ s. IsPointOf t bytes s.point) xs → AllByRecursion (λ s. stands_before s.point p ≡ false) xs → AreInOrder bytes xs
       → FollowInOrder t bytes p (map (λ x. place_of x.1) (filter (λ x. is_cut n x.0) (enumerate_from number xs)))
   cuts-follow n number p [] points h order = tt
   cuts-follow n number p (s ∷ ss) points h order =

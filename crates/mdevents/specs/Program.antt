@@ -35,10 +35,6 @@ module _ {R D : Type 0} (rules : Given → Rules R D) (start : Name) (bytes : Li
   abbrev pub Gives : List Event → Type 0
   Gives events = (sub : Subresult) × IsRun (document bytes) rules false start events sub
 
-  -- a run of the machine over a document is refused with this message
-  abbrev pub Refuses : Message → Type 0
-  Refuses m = IsRunRefused (document bytes) rules false start m
-
 -- the events of a document are those that its machine gives
 abbrev pub AreEventsOf : Which → List ℕ → List Event → Type 0
 AreEventsOf Lines = Gives lines_rules FlowStart
@@ -50,12 +46,12 @@ AreEventsOf Save = Gives save_rules TextStart
 
 -- a document is refused where its machine refuses it
 abbrev pub IsRefusedBy : Which → List ℕ → Message → Type 0
-IsRefusedBy Lines = Refuses lines_rules FlowStart
-IsRefusedBy Paragraphs = Refuses paragraphs_rules FlowStart
-IsRefusedBy Peek = Refuses peek_rules TextStart
-IsRefusedBy Deep = Refuses deep_rules StringStart
-IsRefusedBy Back = Refuses back_rules TextStart
-IsRefusedBy Save = Refuses save_rules TextStart
+IsRefusedBy Lines bytes = IsRunRefused (document bytes) lines_rules FlowStart
+IsRefusedBy Paragraphs bytes = IsRunRefused (document bytes) paragraphs_rules FlowStart
+IsRefusedBy Peek bytes = IsRunRefused (document bytes) peek_rules TextStart
+IsRefusedBy Deep bytes = IsRunRefused (document bytes) deep_rules StringStart
+IsRefusedBy Back bytes = IsRunRefused (document bytes) back_rules TextStart
+IsRefusedBy Save bytes = IsRunRefused (document bytes) save_rules TextStart
 
 -- where a document is cut: nowhere, or at every n-th of its virtual bytes
 abbrev pub cut_places : Choice → List ℕ → List (ℕ × ℕ)

@@ -4,7 +4,8 @@ ghost use Rattle.std.specs.Prelude.{◌≡◌, ◌≢◌, Contains, IfOk, IfErr,
 ghost use Rattle.std.specs.Io.KnownBytes.{Keeps};
 ghost use Rattle.markdown.specs.Engine.{AreCuts};
 ghost use Rattle.mdevents.specs.Failure.{IsOfMaking};
-ghost use Rattle.mdevents.specs.Program.{document, cut_places, Gives, Refuses, AreEventsOf, IsRefusedBy, IsReadAndRefused, Prints, PrintsFront};
+ghost use Rattle.markdown.specs.Engine.{IsRunRefused};
+ghost use Rattle.mdevents.specs.Program.{document, cut_places, Gives, AreEventsOf, IsRefusedBy, IsReadAndRefused, Prints, PrintsFront};
 ghost use Rattle.mdevents.specs.Reading.{IsWithinLimit, ReadsWithinLimit, ReadsPastLimit};
 ghost use Rattle.mdevents.specs.Words.{CanCut};
 
@@ -85,7 +86,7 @@ fn read_by<M: Machine>(
     requires start { Contains (M.rules machine.now (document bytes.now)).starts start }
     requires cuts { AreCuts 4 bytes.now cuts.now }
     ensures events { IfOk result (λ events. Gives (M.rules machine.now) start bytes.now events.items) }
-    ensures message { (m : _) → IsErrOf result (Failure.Message m) → Refuses (M.rules machine.now) start bytes.now m }
+    ensures message { (m : _) → IsErrOf result (Failure.Message m) → IsRunRefused (document bytes.now) (M.rules machine.now) start m }
     ensures cause { IfErr result IsOfMaking }
 {
     let options = ParseOptions::default();

@@ -48,7 +48,7 @@ module _ {M R D : Type 0} (name : Name) (t : Seen M R D) (can : IsMarkable t) wh
   abbrev read : Seen M R D
   read = at_configuration t (consumed (entered name None (sight_seen t).here t.configuration))
 
-  left : (sight_seen read).left ≡ (sight_seen t).next
+  left : (sight_seen read).after_previous ≡ (sight_seen t).next
   left = let waits = can.waits in rw waits (sym (next-left t.given t.text t.configuration.position Nothing can.inside))
 
   pub can-mark : CanExit name read
@@ -60,10 +60,10 @@ module _ {M R D : Type 0} (name : Name) (t : Seen M R D) (can : IsMarkable t) wh
       let last : Some x ≡ Some e = sym (last-more None (open_events k.events) x) ∙ ap (last_or None) (sym opened) ∙ is in cc in
       record {
         top = last-more None k.stack name;
-        read = λ e is. subst (λ e. stands_before e.point (sight_seen read).left ≡ true) (is-last e is) (subst (λ q. stands_before (sight_seen t).here q ≡ true) (sym left) can.in_order);
+        read = λ e is. subst (λ e. stands_before e.point (sight_seen read).after_previous ≡ true) (is-last e is) (subst (λ q. stands_before (sight_seen t).here q ≡ true) (sym left) can.in_order);
         void = λ v. (x, last-more None k.events x, refl);
         above = All-weaker (λ c. IfSome c.saved (λ s. length s.stack ≤ length k.stack)) (λ c. IfSome c.saved (λ s. length s.stack < length (k.stack ++ name ∷ []))) (λ c. fewer name k.stack c.saved) t.choices can.below;
       }
 
-  pub marked-is : at_configuration read (exited name (sight_seen read).left read.configuration) ≡ marked name t
+  pub marked-is : at_configuration read (exited name (sight_seen read).after_previous read.configuration) ≡ marked name t
   marked-is = ap (λ q. at_configuration read (exited name q read.configuration)) left

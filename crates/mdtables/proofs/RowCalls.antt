@@ -120,7 +120,7 @@ module _ {M W R D : Type 0} (class : ℕ → W) (state : StateRows W R D) (b w :
         let left = left-at t.given t.text k p.stage k' h.far h.waited in
         let P : Event → Type 0 = λ e. since p.fresh p.stage s e.point ≡ true in
         let opened : All P (map unlinked (open_events k'.events)) = subst (All P) (open-unlinked k'.events) h.began in
-        let began : (e : Event) → last_or None (open_events k'.events) ≡ Some e → stands_before e.point s.left ≡ true =
+        let began : (e : Event) → last_or None (open_events k'.events) ≡ Some e → stands_before e.point s.after_previous ≡ true =
         λ e is. to-before p.fresh p.stage s e.point old (last-unlinked P None (open_events k'.events) e (λ x none. absurd (cc)) opened is) in
         subst (CanExit name) (sym is) (record {
           top = ap (last_or None) h.stack ∙ last-above None base p.spans name last;
@@ -132,7 +132,7 @@ module _ {M W R D : Type 0} (class : ℕ → W) (state : StateRows W R D) (b w :
     done-at : (act : Act R D) (p : Shape) (k' : Configuration R D) → IsAsFar k' (reached p.stage t.configuration) → Waited p.stage t.text t.configuration
         → done act (sight t.given t.text k') k' ≡ done act (sight_at p.stage (sight_seen t)) k'
     done-at (enters name link) p k' far waited = ap (λ q. done (enters name link) (record (sight_seen t) { here = q }) k') (here-at t.given t.text t.configuration p.stage k' far waited)
-    done-at (exit name) p k' far waited = ap (λ q. done (exit name) (record (sight_seen t) { left = q }) k') (left-at t.given t.text t.configuration p.stage k' far waited)
+    done-at (exit name) p k' far waited = ap (λ q. done (exit name) (record (sight_seen t) { after_previous = q }) k') (left-at t.given t.text t.configuration p.stage k' far waited)
     done-at consume p k' far waited = refl
     done-at (links previous next) p k' far waited = refl
     done-at (write f) p k' far waited = refl

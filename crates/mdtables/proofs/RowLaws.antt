@@ -145,7 +145,7 @@ to-fresh : (fresh : Bool) (stage : Stage) (s : Sight) (q : Point) → IsSeenAhea
 to-fresh true stage s q sees h = h
 to-fresh false stage s q sees h = sees.later q h
 
-pub to-before : (fresh : Bool) (stage : Stage) (s : Sight) (q : Point) → not fresh ≡ true → since fresh stage s q ≡ true → stands_before q s.left ≡ true
+pub to-before : (fresh : Bool) (stage : Stage) (s : Sight) (q : Point) → not fresh ≡ true → since fresh stage s q ≡ true → stands_before q s.after_previous ≡ true
 to-before true stage s q fit h = absurd (cc)
 to-before false end_waits s q fit h = h
 to-before false byte_waits s q fit h = h
@@ -184,7 +184,7 @@ still-before false stage s q fit h = h
 
 module _ {R D : Type 0} (g : Given) (text : Text) (old : Configuration R D) where
   -- where an exit stands, by how far a call is
-  pub left-at : (stage : Stage) (k : Configuration R D) → IsAsFar k (reached stage old) → Waited stage text old → (sight g text k).left ≡ (sight_at stage (sight g text old)).left
+  pub left-at : (stage : Stage) (k : Configuration R D) → IsAsFar k (reached stage old) → Waited stage text old → (sight g text k).after_previous ≡ (sight_at stage (sight g text old)).after_previous
   left-at end_waits k far waited = rw far.0 refl
   left-at byte_waits k far waited = rw far.0 refl
   left-at byte_read k far waited = let byte = waited.0 in rw (far.0, byte) (sym (next-left g text old.position k.waiting waited.1))
@@ -231,7 +231,7 @@ module _ {R D : Type 0} (g : Given) (text : Text) (old : Configuration R D) wher
         within = h.within;
       }
   has-after (exit name) p base s k choices can sees h =
-      let e : Event = record { kind = Exit; name = name; point = s.left; link = None } in
+      let e : Event = record { kind = Exit; name = name; point = s.after_previous; link = None } in
       let P : Event → Type 0 = λ e. since p.fresh p.stage s e.point ≡ true in
       let grown : map unlinked (k.events ++ e ∷ []) ≡ outline k ++ unlinked e ∷ [] = map-append unlinked k.events (e ∷ []) in
       let top = is-last name (last_or None p.spans) (both _ _ can).0 in
@@ -343,7 +343,7 @@ module _ {R D : Type 0} where
 
   pub adds-one : (act : Act R D) (s : Sight) (k : Configuration R D) → AddsEvents (outline k) (done act s k)
   adds-one (enters name link) s k = (_, map-append unlinked k.events (record { kind = Enter; name = name; point = s.here; link = link } ∷ []))
-  adds-one (exit name) s k = (_, map-append unlinked k.events (record { kind = Exit; name = name; point = s.left; link = None } ∷ []))
+  adds-one (exit name) s k = (_, map-append unlinked k.events (record { kind = Exit; name = name; point = s.after_previous; link = None } ∷ []))
   adds-one consume s k = ([], sym (append-nil (outline k)))
   adds-one (links previous next) s k = ([], linked-unlinked (previous k) (next k) k.events ∙ sym (append-nil (outline k)))
   adds-one (write f) s k = ([], sym (append-nil (outline k)))

@@ -24,8 +24,8 @@ use Rattle.markdown.specs.Sight.{Sight, sight, sight_of, current_of, seat_before
 use Rattle.markdown.specs.Calls.{consumed, with_local, saved_at}
 use Rattle.markdown.specs.Reading.{fed, unfed, restored, settled_at}
 use Rattle.markdown.specs.Lawful.{IsAsFar, ConsumesOnce, OnlyAdds, EndsWhenRead, KeepsInvariant}
-use Rattle.markdown.proofs.TextOrder.{begins-before_end, began-before_next, ends-before_next}
-use Rattle.markdown.proofs.Orders.{upto-before}
+use Rattle.markdown.proofs.PlaceTextOrder.{begins-before_end, began-before_next, ends-before_next}
+use Rattle.markdown.proofs.PlaceOrder.{upto-before}
 use Rattle.mdtables.specs.Rows.{Act, enters, exit, consume, links, write, choose, Rows, row, when, Row, Begun, before, at_byte, here, Needs, nothing, a_choice, a_choice_once_read, StateRows, Table, no_cost, class_of, choice_at, chosen, done, seen_after, does, chooses, picked, step_of, row_at, named, step_at, table_step}
 use Rattle.mdtables.specs.RowTest.{is_void_last, saves, Stage, end_waits, byte_waits, byte_read, Shape, Frame, frame_of, allows, after, allows_all, after_all, is_at, is_end, is_fresh, is_fresh_fed, fresh_at, fresh_fed, needs_choice, is_some, is_called, goes_on, fits_choice, fits_choices, fits_answer, fits_row, fits_calls, fits_state, start_shape, first_stage, is_bare, is_byte_waiting, all_rows, may_start, misfits}
 use Rattle.mdtables.specs.RowInvariant.{outline, EndsWithEnter, Began, upto, since, IsOpen, IsInOrder, IsFed, place_at, is_read, AnyWait, IsSavedIn, IsSaved, position_of, events_of, IsBelow, AreWaiting, began_at, IsStateAt, HoldsAt, table_holds, ArePaid, table_rules}
@@ -64,7 +64,7 @@ upto-fits true true place q fit h = h
 upto-fits true false place q fit h = absurd (cc)
 upto-fits false on place q fit h = upto-any on place q h
 
-since-fits : (fresh on : Bool) (s : Sight) (q : Point) → (not fresh || on) ≡ true → (stands_before q s.left ≡ true → stands_before q s.next ≡ true)
+since-fits : (fresh on : Bool) (s : Sight) (q : Point) → (not fresh || on) ≡ true → (stands_before q s.after_previous ≡ true → stands_before q s.next ≡ true)
     → since fresh byte_waits s q ≡ true → since on byte_waits s q ≡ true
 since-fits true true s q fit later h = h
 since-fits true false s q fit later h = absurd (cc)
@@ -147,8 +147,8 @@ module _ {W R D : Type 0} (states : List (StateRows W R D)) (g : Given) (text : 
 
     is-saved : not p.fresh ≡ true → (not (is_void_last (last_or None p.spans)) || p.bare) ≡ true → IsSavedIn g text k.position (outline k) (base ++ p.spans) (frame_of p) (saved_at k)
     is-saved old_spans void =
-        let left : s.left ≡ (sight g text k).left = ap (λ s. s.left) seen ∙ sym (left-at g text old p.stage k h.far h.waited) in
-        let began = began-on (since p.fresh p.stage s) (upto false (sight g text k).left) (outline k) (λ q b. subst (λ x. stands_before q x ≡ true) left (to-before p.fresh p.stage s q old_spans b)) h.began in
+        let left : s.after_previous ≡ (sight g text k).after_previous = ap (λ s. s.after_previous) seen ∙ sym (left-at g text old p.stage k h.far h.waited) in
+        let began = began-on (since p.fresh p.stage s) (upto false (sight g text k).after_previous) (outline k) (λ q b. subst (λ x. stands_before q x ≡ true) left (to-before p.fresh p.stage s q old_spans b)) h.began in
         record {
           stack_is = h.stack;
           behind = omega arith;
@@ -260,7 +260,7 @@ module _ {W R D : Type 0} (table : Table W R D) (g : Given) where
       record { stack = o.stack; began = o.began; bare = o.void; far = (refl, refl, refl); waited = met; below = o.below; within = λ is. o.needs (ap (needs_choice state.needs) (sym read) ∙ is) }
 
   pub ahead-at : (w : Option W) (text : Text) (k : Configuration R D) → Waited (first_stage w) text k → IsInOrder k.waiting (sight g text k) → IsSeenAhead (first_stage w) (sight g text k)
-  ahead-at None text k met order = record { begins = λ e. absurd (cc); later = λ q h. before-is-upto (sight g text k).left q h }
+  ahead-at None text k met order = record { begins = λ e. absurd (cc); later = λ q h. before-is-upto (sight g text k).after_previous q h }
   ahead-at (Some w) text k met order = record { begins = λ e. order.begins met.0; later = λ q h. order.later met.0 q h }
 
   pub start-sight : (w : Option W) (s : Sight) → s ≡ sight_at (first_stage w) s
@@ -374,7 +374,7 @@ module _ {W R D : Type 0} (table : Table W R D) (g : Given) where
       record {
         base = above;
         stack = h.stack ∙ ap (λ xs. above ++ xs) none ∙ append-nil above;
-        began = began-on (since p.fresh p.stage s) (upto false (sight g text k').left) (outline k') (λ q b. subst (λ x. stands_before q x ≡ true) (sym left) (to-before p.fresh p.stage s q old b)) h.began;
+        began = began-on (since p.fresh p.stage s) (upto false (sight g text k').after_previous) (outline k') (λ q b. subst (λ x. stands_before q x ≡ true) (sym left) (to-before p.fresh p.stage s q old b)) h.began;
         waiting = waiting;
         ended = any-or-ended p.within (is_end st) choices k'.ended ends h.within (ended-at st text k k' (rw at at h.far) (rw at at h.waited));
       }
@@ -390,7 +390,7 @@ module _ {W R D : Type 0} (table : Table W R D) (g : Given) where
       let left = left-at g text k byte_read k' far can in
       let began : (state : StateRows W R D) → o ≡ Some state → Began (upto (fresh_fed state.begun) (place_at g text k'.position)) (outline k') = λ state e.
       let f : (not p.fresh || fresh_fed state.begun) ≡ true = subst (λ o. (not p.fresh || is_fresh_fed table.states o) ≡ true) e fresh in
-      began-on (upto p.fresh s.next) (upto (fresh_fed state.begun) (sight g text k').left) (outline k') (λ q b. subst (λ x. upto (fresh_fed state.begun) x q ≡ true) (sym left) (upto-fits p.fresh (fresh_fed state.begun) s.next q f b)) (rw at at h.began) in
+      began-on (upto p.fresh s.next) (upto (fresh_fed state.begun) (sight g text k').after_previous) (outline k') (λ q b. subst (λ x. upto (fresh_fed state.begun) x q ≡ true) (sym left) (upto-fits p.fresh (fresh_fed state.begun) s.next q f b)) (rw at at h.began) in
       let read_on : (n : Needs) → needs_choice n (is_read k'.position) ≡ true → needs_choice n true ≡ true = λ n. needs-more n (is_read k'.position) in
       (far.1, at-state p.spans p.within false true o (λ state. upto (fresh_fed state.begun) (place_at g text k'.position)) text k' above choices shaped h.stack began (λ v. h.bare (implied (is_void_last (last_or None p.spans)) p.bare bare v)) waiting h.within read_on (λ e. absurd (cc)))
   answered byte_waits b (Some w) p above (Retry name) text k k' choices read waits order class met fit at h waiting =
@@ -416,9 +416,9 @@ module _ {W R D : Type 0} (table : Table W R D) (g : Given) where
       let o = named table.states name in
       let (bare, rest) = both (is_bare p) _ fit in
       let (shaped, fresh) = both _ _ rest in
-      let began : (state : StateRows W R D) → o ≡ Some state → Began (upto (fresh_at state.begun None) s.left) (outline k') = λ state e.
+      let began : (state : StateRows W R D) → o ≡ Some state → Began (upto (fresh_at state.begun None) s.after_previous) (outline k') = λ state e.
       let f : (not p.fresh || fresh_at state.begun None) ≡ true = subst (λ o. (not p.fresh || is_fresh table.states None o) ≡ true) e fresh in
-      began-on (upto p.fresh s.left) (upto (fresh_at state.begun None) s.left) (outline k') (λ q. upto-fits p.fresh (fresh_at state.begun None) s.left q f) (rw at at h.began) in (
+      began-on (upto p.fresh s.after_previous) (upto (fresh_at state.begun None) s.after_previous) (outline k') (λ q. upto-fits p.fresh (fresh_at state.begun None) s.after_previous q f) (rw at at h.began) in (
         rw (far.0, far.1, far.2) waits,
         stays-in-order text k k' far order,
         stays-open o None text k k' choices far class
@@ -481,13 +481,13 @@ module _ {W R D : Type 0} (table : Table W R D) (g : Given) where
       }
 
   -- what may have begun where nothing waits may have where a byte does, or the end
-  fed-byte : (begun : Begun W) (w : W) (s : Sight) (q : Point) → (stands_before q s.left ≡ true → stands_before q s.next ≡ true) → (stands_before s.left q ≡ false → stands_before q s.next ≡ true)
-      → upto (fresh_fed begun) s.left q ≡ true → since (fresh_at begun (Some w)) byte_waits s q ≡ true
+  fed-byte : (begun : Begun W) (w : W) (s : Sight) (q : Point) → (stands_before q s.after_previous ≡ true → stands_before q s.next ≡ true) → (stands_before s.after_previous q ≡ false → stands_before q s.next ≡ true)
+      → upto (fresh_fed begun) s.after_previous q ≡ true → since (fresh_at begun (Some w)) byte_waits s q ≡ true
   fed-byte before w s q later soon h = h
   fed-byte (at_byte test) w s q later soon h = since-fits false (test w) s q refl later h
-  fed-byte here w s q later soon h = soon (off (stands_before s.left q) h)
+  fed-byte here w s q later soon h = soon (off (stands_before s.after_previous q) h)
 
-  fed-end : (begun : Begun W) (s : Sight) (q : Point) → upto (fresh_fed begun) s.left q ≡ true → since (fresh_at begun None) end_waits s q ≡ true
+  fed-end : (begun : Begun W) (s : Sight) (q : Point) → upto (fresh_fed begun) s.after_previous q ≡ true → since (fresh_at begun None) end_waits s q ≡ true
   fed-end before s q h = h
   fed-end (at_byte test) s q h = h
   fed-end here s q h = h
@@ -500,9 +500,9 @@ module _ {W R D : Type 0} (table : Table W R D) (g : Given) where
       let (seat, at) = seat-at text k.position inside in
       let w = class_of table.class s.current in
       let is_byte : w ≡ Some (table.class seat.byte) = rw at refl in
-      let later : (q : Point) → stands_before q s.left ≡ true → stands_before q s.next ≡ true = λ q. began-before_next g text k.position q is inside in
-      let soon : (q : Point) → stands_before s.left q ≡ false → stands_before q s.next ≡ true = λ q h. upto-before q.index q.vs s.left.index s.left.vs s.next.index s.next.vs h (ends-before_next g text k.position is inside) in
-      let open_at = moved (named table.states name) (λ state. upto (fresh_fed state.begun) s.left) (λ state. began_at (Some (table.class seat.byte)) state s) text k choices Byte k.ended
+      let later : (q : Point) → stands_before q s.after_previous ≡ true → stands_before q s.next ≡ true = λ q. began-before_next g text k.position q is inside in
+      let soon : (q : Point) → stands_before s.after_previous q ≡ false → stands_before q s.next ≡ true = λ q h. upto-before q.index q.vs s.after_previous.index s.after_previous.vs s.next.index s.next.vs h (ends-before_next g text k.position is inside) in
+      let open_at = moved (named table.states name) (λ state. upto (fresh_fed state.begun) s.after_previous) (λ state. began_at (Some (table.class seat.byte)) state s) text k choices Byte k.ended
       (λ state q. fed-byte state.begun (table.class seat.byte) s q (later q) (soon q)) h.1 in
       rw e (
         inside,
@@ -515,7 +515,7 @@ module _ {W R D : Type 0} (table : Table W R D) (g : Given) where
       rw e (
         (refl, past),
         record { begins = λ waits. absurd (cc); later = λ waits. absurd (cc) },
-        moved (named table.states name) (λ state. upto (fresh_fed state.begun) s.left) (λ state. began_at None state s) text k choices End true (λ state q. fed-end state.begun s q) h.1,
+        moved (named table.states name) (λ state. upto (fresh_fed state.begun) s.after_previous) (λ state. began_at None state s) text k choices End true (λ state q. fed-end state.begun s q) h.1,
       )
 
   starts-at : (o : Option (StateRows W R D)) (p : Point) (where_to : StateRows W R D → Point → Bool) (flag : Bool) → may_start table.states o ≡ true

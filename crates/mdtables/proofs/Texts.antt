@@ -34,7 +34,7 @@ last-more o [] x = refl
 last-more o (y ∷ ys) x = last-more (Some y) ys x
 
 -- where the next byte is, the byte that waits ends
-pub next-left : (g : Given) (text : Text) (p : ℕ) (w : Waits) → p < length text.seats → (sight_of g text p Byte).next ≡ (sight_of g text (p + 1) w).left
+pub next-left : (g : Given) (text : Text) (p : ℕ) (w : Waits) → p < length text.seats → (sight_of g text p Byte).next ≡ (sight_of g text (p + 1) w).after_previous
 next-left g text p w h = let (s, is) = seat-at text p h in rw (add-one, is) refl
 
 pub fed-position : {R D : Type 0} (text : Text) (k : Configuration R D) → (fed text k).position ≡ k.position

@@ -41,13 +41,13 @@ upto true place q = not (stands_before place q)
 -- where spans may have begun in a call: before the place where one stands; or, where they are fresh, before the byte that waits ends, or up to
 -- that place
 abbrev pub since : Bool → Stage → Sight → Point → Bool
-since fresh byte_waits s q = stands_before q (cond fresh s.next s.left)
-since fresh _ s q = upto fresh s.left q
+since fresh byte_waits s q = stands_before q (cond fresh s.next s.after_previous)
+since fresh _ s q = upto fresh s.after_previous q
 
 -- A byte that waits begins before it ends, and what began before it began before its end
 pub record IsInOrder (waits : Waits) (s : Sight) : Type 0 where
   pub begins : waits ≡ Byte → stands_before s.here s.next ≡ true
-  pub later : waits ≡ Byte → (q : Point) → stands_before q s.left ≡ true → stands_before q s.next ≡ true
+  pub later : waits ≡ Byte → (q : Point) → stands_before q s.after_previous ≡ true → stands_before q s.next ≡ true
 
 -- what waits is a byte of the text, or the end once it was fed where no byte is left
 abbrev pub IsFed : Waits → ℕ → Bool → Text → Type 0

@@ -92,7 +92,7 @@ plain name rows spans calls = record { name = name; rows = rows; spans = spans; 
 
 -- what is seen once the byte that waited is consumed: enters and exits stand after it
 abbrev pub past : Sight → Sight
-past s = record { previous = s.current; current = None; point = s.next; here = s.next; left = s.next; next = s.next }
+past s = record { previous = s.current; current = None; point = s.next; here = s.next; after_previous = s.next; next = s.next }
 
 -- the class of what waits, or of the byte before; None is the end, or the start
 abbrev pub class_of : {W : Type 0} → (ℕ → W) → Option ℕ → Option W
@@ -103,7 +103,7 @@ module _ {R D : Type 0} where
   -- what one act makes of the configuration
   abbrev pub done : Act R D → Sight → Configuration R D → Configuration R D
   done (enters name link) s k = entered name link s.here k
-  done (exit name) s k = exited name s.left k
+  done (exit name) s k = exited name s.after_previous k
   done consume s k = consumed k
   done (links previous next) s k = linked (previous k) (next k) k
   done (write f) s k = with_local k (f k)

@@ -32,9 +32,9 @@ impl<'a, M: MachineTypes> Tokenizer<'a, M> {
         ensures { result ≡ (sight_seen self.now).point }
     {
         match self.waits {
-            Waits::Nothing => self.left,
+            Waits::Nothing => self.after_previous,
             Waits::Byte => {
-                let place = *resumed(&self.skips, &self.left);
+                let place = *resumed(&self.skips, &self.after_previous);
                 match seat_at(self.parse_state.bytes, place) {
                     Some((_, seat)) => seat,
                     None => place,
@@ -43,7 +43,7 @@ impl<'a, M: MachineTypes> Tokenizer<'a, M> {
             Waits::End => Point {
                 index: self.end.0,
                 vs: self.end.1,
-                ..*resumed(&self.skips, &self.left)
+                ..*resumed(&self.skips, &self.after_previous)
             },
         }
     }
@@ -93,7 +93,7 @@ impl<'a, M: MachineTypes> Tokenizer<'a, M> {
             start: _,
             end: _,
             skips: _,
-            left: _,
+            after_previous: _,
             waits: _,
             ended: _,
             previous: _,
@@ -101,7 +101,7 @@ impl<'a, M: MachineTypes> Tokenizer<'a, M> {
             events,
             stack: _,
             resolvers: _,
-            marks: _,
+            kept_choices: _,
             closed: _,
             phase: _,
             calls: _,

@@ -92,7 +92,7 @@ fn total_len(edits: &[Stored], len: usize) -> Option<usize>
 }
 
 /// The events after the edits, which ascend.
-#[tactic(auto, using(crate::proofs::Turns::disjoint_next, crate::proofs::Turns::spliced_next))]
+#[tactic(auto, using(crate::proofs::EditTurns::disjoint_next, crate::proofs::EditTurns::spliced_next))]
 pub(crate) fn spliced_events(
     alloc: Global,
     edits: &[Stored],

@@ -1,7 +1,7 @@
 use Rattle.std.proofs.Common.{◌∙◌, List, sym, ap}
 use Rattle.markdown_base.specs.declared.event.Point.{Point}
 use Rattle.markdown.specs.Gaps.{skip_of}
-use Rattle.markdown.proofs.SkipSearch.{skip-past, skip-found, skip-none, found-or, none-or}
+use Rattle.markdown.proofs.PlaceSkips.{skip-past, skip-found, skip-none, found-or, none-or}
 use Rattle.markdown.proofs.cursor.after_skip.Goals as goal
 
 pub loop-skip-init : goal.loop-skip-init

@@ -1,8 +1,8 @@
 use Rattle.std.proofs.Common.{◌≡◌, ℕ, true, false, lit<, sym, ap, ◌∙◌}
 use Rattle.markdown_base.specs.Virtual.{Seat}
 use Rattle.markdown.specs.Cursor.{goes_on}
-use Rattle.markdown.proofs.Seats.{one-seat}
-use Rattle.markdown.proofs.Standing.{end-of-pair, end-of-line, end-of-other}
+use Rattle.markdown.proofs.PlaceSeats.{one-seat}
+use Rattle.markdown.proofs.PlaceStanding.{end-of-pair, end-of-line, end-of-other}
 use Rattle.markdown.proofs.cursor.pass.Goals as goal
 
 pub returns-then-is_pair : goal.returns-then-is_pair

@@ -1,5 +1,5 @@
 use Rattle.std.proofs.Common.{arith, add-one, lit<, sym, ◌∙◌}
-use Rattle.markdown.proofs.Seats.{seat-in-tab, seat-other, seat-crlf, seat-cr, pair-is, no-pair-is}
+use Rattle.markdown.proofs.PlaceSeats.{seat-in-tab, seat-other, seat-crlf, seat-cr, pair-is, no-pair-is}
 use Rattle.markdown.proofs.cursor.seat_at.Goals as goal
 
 pub returns-then-point-gt0 : goal.returns-then-point-gt0

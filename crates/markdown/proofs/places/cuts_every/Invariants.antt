@@ -1,10 +1,10 @@
 use Rattle.std.proofs.Common.{length}
 use Rattle.markdown.specs.Cursor.{rest_at}
-use Rattle.markdown.proofs.FromStart.{IsCutting}
+use Rattle.markdown.proofs.PlaceWalks.{IsCutting}
 use Rattle.markdown.proofs.places.cuts_every.Given as goal
 
 abbrev pub invariant-loop-byte : goal.invariant-loop-byte
-invariant-loop-byte l = IsCutting 4 l.bytes l.n l.left l.number l.cuts.items
+invariant-loop-byte l = IsCutting 4 l.bytes l.n l.after_previous l.number l.cuts.items
 
 abbrev pub decreases-loop-byte : goal.decreases-loop-byte
-decreases-loop-byte l = length (rest_at 4 l.bytes l.left)
+decreases-loop-byte l = length (rest_at 4 l.bytes l.after_previous)

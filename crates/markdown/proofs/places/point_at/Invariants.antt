@@ -1,10 +1,10 @@
 use Rattle.std.proofs.Common.{length}
 use Rattle.markdown.specs.Cursor.{rest_at}
-use Rattle.markdown.proofs.FromStart.{IsSearch}
+use Rattle.markdown.proofs.PlaceWalks.{IsSearch}
 use Rattle.markdown.proofs.places.point_at.Given as goal
 
 abbrev pub invariant-loop-byte : goal.invariant-loop-byte
-invariant-loop-byte l = IsSearch 4 l.bytes l.place l.left
+invariant-loop-byte l = IsSearch 4 l.bytes l.place l.after_previous
 
 abbrev pub decreases-loop-byte : goal.decreases-loop-byte
-decreases-loop-byte l = length (rest_at 4 l.bytes l.left)
+decreases-loop-byte l = length (rest_at 4 l.bytes l.after_previous)

@@ -3,4 +3,4 @@ use Rattle.markdown.proofs.Unwinding.{unwound-next}
 use Rattle.markdown.proofs.waiting.unwind.Goals as goal
 
 pub returns-in-Next : goal.returns-in-Next
-returns-in-Next c = unwound-next (reverse c.loop-goal.marks.items) c.loop-goal.goal c.in-Next.field-0 c.loop-goal.from c.in-Next.is ∙ c.loop-goal.invariant
+returns-in-Next c = unwound-next (reverse c.loop-goal.kept_choices.items) c.loop-goal.goal c.in-Next.field-0 c.loop-goal.from c.in-Next.is ∙ c.loop-goal.invariant

@@ -1,4 +1,4 @@
-use Rattle.std.proofs.Common.{◌≡◌, ◌+◌, ◌-◌, ◌*◌, ◌/◌, ℕ, zero, suc, length, refl, ap, arith, rules}
+use Rattle.std.proofs.Common.{◌≡◌, ◌+◌, ◌-◌, ◌*◌, ◌/◌, ℕ, zero, suc, length, refl, arith, rules}
 use Rattle.mdconstructs.specs.Deep.{triangle}
 use Rattle.mdconstructs.specs.DeepLaws.{triangle-is}
 use Rattle.mdconstructs.proofs.costs.costs_at_the_start.Goals as goal

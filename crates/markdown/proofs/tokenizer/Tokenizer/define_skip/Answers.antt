@@ -1,7 +1,7 @@
 use Rattle.std.proofs.Common.{◌∙◌, sym, ap}
 use Rattle.markdown_base.specs.declared.event.Point.{Point}
 use Rattle.markdown.specs.Cursor.{is_after_pair}
-use Rattle.markdown.proofs.Changes.{passes, passed-nothing, added-end_at, added-text_is, added-skips_are, added-read_to, added-waiting, added-made, added-marks, added-seen}
+use Rattle.markdown.proofs.Changes.{passes, passed-nothing, added-end_at, added-text_is, added-skips_are, added-read_to, added-waiting, added-made, added-kept_choices, added-seen}
 use Rattle.markdown.proofs.tokenizer.Tokenizer.define_skip.Goals as goal
 
 pub invariant_of-self-then-is_after : goal.invariant_of-self-then-is_after
@@ -21,7 +21,7 @@ invariant_of-self-then-is_after g c =
       waiting = added-waiting t sound q fits is c.push.new.self.items put;
       ended = sound.ended;
       made = added-made t sound q fits is c.push.new.self.items put;
-      marks = added-marks t sound q fits is c.push.new.self.items put;
+      kept_choices = added-kept_choices t sound q fits is c.push.new.self.items put;
     }
 
 pub returns-in_ok-push-clause-ok : goal.returns-in_ok-push-clause-ok

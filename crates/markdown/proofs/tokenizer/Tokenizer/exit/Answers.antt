@@ -1,5 +1,5 @@
 use Rattle.std.proofs.Common.{◌∙◌, ◌-◌, take, ℕ, ap, refl}
-use Rattle.markdown.proofs.Changes.{exited-made, exited-marks, exited-choices, exited-at}
+use Rattle.markdown.proofs.Changes.{exited-made, exited-kept_choices, exited-choices, exited-at}
 use Rattle.markdown.proofs.tokenizer.Tokenizer.exit.Goals as goal
 
 pub invariant_of-self-2 : goal.invariant_of-self-2
@@ -17,7 +17,7 @@ invariant_of-self-2 g c =
       waiting = sound.waiting;
       ended = sound.ended;
       made = exited-made t sound c.args.name can c.push.new.self.items c.pop.new.self.items c.shown-point.result c.shown-point.ensures c.in_ok-push.ensures.items stack;
-      marks = exited-marks t sound c.args.name can c.push.new.self.items c.pop.new.self.items c.shown-point.result c.shown-point.ensures c.in_ok-push.ensures.items stack;
+      kept_choices = exited-kept_choices t sound c.args.name can c.push.new.self.items c.pop.new.self.items c.shown-point.result c.shown-point.ensures c.in_ok-push.ensures.items stack;
     }
 
 pub returns-clause-ok : goal.returns-clause-ok

@@ -9,9 +9,9 @@ pub unreachable-requires : goal.unreachable-requires
 unreachable-requires g c =
     let i = g.M.Machine in
     let old = c.close.new.self in let m = old.machine in let given = old.given in
-    let u = c.work.new.self in
+    let u = c.run_states.new.self in
     let e = c.in-Ok.ensures in
-    let is = text-worked given old u (rw c.close.ensures c.tells.ensures.text) e.same in
+    let is = text-worked given old u (rw c.close.ensures c.shows_in_text.ensures.text) e.same in
     let none = rw c.in-Nok.is at e.stops in
     let h = leads-holds given (i.rules m given) true old u c.args.state c.in-Ok.answer e.leads none in
     let h' = rw c.in-Nok.is at h in
@@ -21,7 +21,7 @@ pub returns-in-Error-clause-message : goal.returns-in-Error-clause-message
 returns-in-Error-clause-message g c message is =
     let i = g.M.Machine in
     let old = c.close.new.self in let m = old.machine in let given = old.given in
-    let u = c.work.new.self in
+    let u = c.run_states.new.self in
     let e = c.in-Ok.ensures in
     let same : c.in-Error.message ≡ message = cc in
     let close = c.close.ensures in
@@ -40,32 +40,32 @@ pub resolve_all-requires-clause-invariant : goal.resolve_all-requires-clause-inv
 resolve_all-requires-clause-invariant g c =
     let i = g.M.Machine in
     let old = c.close.new.self in let m = old.machine in let given = old.given in
-    let u = c.work.new.self in
+    let u = c.run_states.new.self in
     let e = c.in-Ok.ensures in
     let close = c.close.ensures in let rest = c.take_definitions-sub.ensures.rest in
     let none = rw c.in-Ok-answer.is at e.stops in
-    let is = text-worked given old u (rw close c.tells.ensures.text) e.same in
+    let is = text-worked given old u (rw close c.shows_in_text.ensures.text) e.same in
     let held = rw c.in-Ok-answer.is at (leads-holds given (i.rules m given) true old u c.args.state c.in-Ok.answer e.leads none) in
     let closed = ((g.met.M.Machine.ends_when_read m given).ok u.text u.configuration is held).1 in
-    let reads = e.same.phase ∙ ap (λ t. t.phase) close ∙ c.tells.ensures.reads (sym c.is_closed.ensures ∙ c.if-is_closed.false) in
+    let reads = e.same.phase ∙ ap (λ t. t.phase) close ∙ c.shows_in_text.ensures.reads (sym c.is_closed.ensures ∙ c.if-is_closed.false) in
     let given_is = e.same.given in let machine_is = e.same.machine in
-    let formed = rw given_is at (c.tells_events.ensures reads closed) in
+    let formed = rw given_is at (c.shows_events.ensures reads closed) in
     rw (rest, machine_is, given_is) ((g.met.M.Machine.resolvers_keep m given).at_end u.text u.configuration is formed held)
 
 pub returns-then-resolve-clause-ok : goal.returns-then-resolve-clause-ok
 returns-then-resolve-clause-ok g c =
     let i = g.M.Machine in
     let old = c.close.new.self in let m = old.machine in let given = old.given in
-    let u = c.work.new.self in
+    let u = c.run_states.new.self in
     let e = c.in-Ok.ensures in
     let close = c.close.ensures in let rest = c.take_definitions-sub.ensures.rest in
     let none = rw c.in-Ok-answer.is at e.stops in
-    let is = text-worked given old u (rw close c.tells.ensures.text) e.same in
+    let is = text-worked given old u (rw close c.shows_in_text.ensures.text) e.same in
     let held = rw c.in-Ok-answer.is at (leads-holds given (i.rules m given) true old u c.args.state c.in-Ok.answer e.leads none) in
     let closed = ((g.met.M.Machine.ends_when_read m given).ok u.text u.configuration is held).1 in
     let given_same = rw close at e.same.given in let machine_same = rw close at e.same.machine in let text_same = rw close at e.same.text in
-    let reads = e.same.phase ∙ ap (λ t. t.phase) close ∙ c.tells.ensures.reads (sym c.is_closed.ensures ∙ c.if-is_closed.false) in
-    let formed = rw given_same at (c.tells_events.ensures reads closed) in
+    let reads = e.same.phase ∙ ap (λ t. t.phase) close ∙ c.shows_in_text.ensures.reads (sym c.is_closed.ensures ∙ c.if-is_closed.false) in
+    let formed = rw given_same at (c.shows_events.ensures reads closed) in
     let resolve = c.if-resolve.true in
     let after = c.resolve_all.ensures in
     IfOk-weaker c.resolve_all.result _ _
@@ -89,7 +89,7 @@ pub returns-then-resolve-clause-message : goal.returns-then-resolve-clause-messa
 returns-then-resolve-clause-message g c message refuses =
     let i = g.M.Machine in
     let old = c.close.new.self in let m = old.machine in let given = old.given in
-    let u = c.work.new.self in
+    let u = c.run_states.new.self in
     let e = c.in-Ok.ensures in
     let close = c.close.ensures in let rest = c.take_definitions-sub.ensures.rest in
     let none = rw c.in-Ok-answer.is at e.stops in
@@ -111,16 +111,16 @@ pub returns-else-resolve-clause-ok : goal.returns-else-resolve-clause-ok
 returns-else-resolve-clause-ok g c =
     let i = g.M.Machine in
     let old = c.close.new.self in let m = old.machine in let given = old.given in
-    let u = c.work.new.self in
+    let u = c.run_states.new.self in
     let e = c.in-Ok.ensures in
     let close = c.close.ensures in let rest = c.take_definitions-sub.ensures.rest in
     let none = rw c.in-Ok-answer.is at e.stops in
-    let is = text-worked given old u (rw close c.tells.ensures.text) e.same in
+    let is = text-worked given old u (rw close c.shows_in_text.ensures.text) e.same in
     let held = rw c.in-Ok-answer.is at (leads-holds given (i.rules m given) true old u c.args.state c.in-Ok.answer e.leads none) in
     let closed = ((g.met.M.Machine.ends_when_read m given).ok u.text u.configuration is held).1 in
     let given_same = rw close at e.same.given in
-    let reads = e.same.phase ∙ ap (λ t. t.phase) close ∙ c.tells.ensures.reads (sym c.is_closed.ensures ∙ c.if-is_closed.false) in
-    let formed = rw given_same at (c.tells_events.ensures reads closed) in
+    let reads = e.same.phase ∙ ap (λ t. t.phase) close ∙ c.shows_in_text.ensures.reads (sym c.is_closed.ensures ∙ c.if-is_closed.false) in
+    let formed = rw given_same at (c.shows_events.ensures reads closed) in
     record {
       given = ap (λ t. t.given) rest ∙ given_same;
       machine = ap (λ t. t.machine) rest ∙ (rw close at e.same.machine);

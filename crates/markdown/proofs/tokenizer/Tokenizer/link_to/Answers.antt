@@ -1,4 +1,4 @@
-use Rattle.markdown.proofs.Changes.{linked-made, linked-marks}
+use Rattle.markdown.proofs.Changes.{linked-made, linked-kept_choices}
 use Rattle.markdown.proofs.tokenizer.Tokenizer.link_to.Goals as goal
 
 pub invariant_of-self : goal.invariant_of-self
@@ -14,5 +14,5 @@ invariant_of-self g c =
       waiting = sound.waiting;
       ended = sound.ended;
       made = linked-made t sound c.args.previous c.args.next c.link_items.new.events.items c.link_items.ensures;
-      marks = linked-marks t sound c.args.previous c.args.next c.link_items.new.events.items c.link_items.ensures;
+      kept_choices = linked-kept_choices t sound c.args.previous c.args.next c.link_items.new.events.items c.link_items.ensures;
     }

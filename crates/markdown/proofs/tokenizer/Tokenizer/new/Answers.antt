@@ -11,7 +11,7 @@ invariant_of-result g c =
     let none = start-empty bytes p c.requires.place in
     let events = c.new-events.ensures.items in
     let stack = c.new-stack.ensures.items in
-    let marks = c.new-marks.ensures.items in
+    let kept_choices = c.new-kept_choices.ensures.items in
     let skips = c.new-skips.ensures.items in
     record {
       limit = c.requires.limit;
@@ -23,7 +23,7 @@ invariant_of-result g c =
       waiting = refl;
       ended = λ h. absurd cc;
       made = λ _. rw (events, stack) (start-made bytes p c.requires.place);
-      marks = rw marks tt;
+      kept_choices = rw kept_choices tt;
     }
 
 pub returns : goal.returns
@@ -35,9 +35,9 @@ returns g c =
     let events = c.new-events.ensures.items in
     let stack = c.new-stack.ensures.items in
     let resolvers = c.new-resolvers.ensures.items in
-    let marks = c.new-marks.ensures.items in
+    let kept_choices = c.new-kept_choices.ensures.items in
     let skips = c.new-skips.ensures.items in
     let map = c.new-map.ensures in
     let state = c.new-tokenize_state.ensures in
     let calls = c.new-calls.ensures in
-    rw (skips, here, none, events, stack, resolvers, marks, map, state, calls) refl
+    rw (skips, here, none, events, stack, resolvers, kept_choices, map, state, calls) refl

@@ -3,53 +3,53 @@ use Rattle.markdown.specs.Text.{pushed}
 use Rattle.markdown.proofs.Working.{holds-on, not-true, text-extended, is-pushed}
 use Rattle.markdown.proofs.tokenizer.Tokenizer.push.Goals as goal
 
-pub work-requires-clause-text : goal.work-requires-clause-text
-work-requires-clause-text g c =
+pub run_states-requires-clause-text : goal.run_states-requires-clause-text
+run_states-requires-clause-text g c =
     let old = c.args.self.now in let m = old.machine in let given = old.given in
     let open_still : old.closed ≡ false = sym c.is_closed.ensures ∙ c.if-is_closed.false in
     let r = c.requires.range open_still in
     let ext = c.extend.ensures r.0 r.1 r.2 r.3 in
-    rw ext (text-extended given old.text (pushed r.0 r.1) c.tells.ensures.text r.4)
+    rw ext (text-extended given old.text (pushed r.0 r.1) c.shows_in_text.ensures.text r.4)
 
-pub work-requires-clause-holds : goal.work-requires-clause-holds
-work-requires-clause-holds g c =
+pub run_states-requires-clause-holds : goal.run_states-requires-clause-holds
+run_states-requires-clause-holds g c =
     let i = g.M.Machine in
     let old = c.args.self.now in let m = old.machine in let given = old.given in
     let open_still : old.closed ≡ false = sym c.is_closed.ensures ∙ c.if-is_closed.false in
     let r = c.requires.range open_still in
     let ext = c.extend.ensures r.0 r.1 r.2 r.3 in
-    let fresh = not-true old.configuration.ended (λ e. let f : true ≡ false = sym (c.tells.ensures.ended e) ∙ open_still in absurd cc) in
+    let fresh = not-true old.configuration.ended (λ e. let f : true ≡ false = sym (c.shows_in_text.ensures.ended e) ∙ open_still in absurd cc) in
     rw ext (λ rest can only.
     holds-on given (i.rules m given) (g.met.M.Machine.invariant_kept m given) old.text (pushed r.0 r.1 ∷ rest) old.configuration old.choices c.args.state
-    c.tells.ensures.text (r.4, can) fresh (c.requires.holds open_still))
+    c.shows_in_text.ensures.text (r.4, can) fresh (c.requires.holds open_still))
 
-pub work-requires-clause-closed : goal.work-requires-clause-closed
-work-requires-clause-closed g c =
+pub run_states-requires-clause-closed : goal.run_states-requires-clause-closed
+run_states-requires-clause-closed g c =
     let open_still : c.args.self.now.closed ≡ false = sym c.is_closed.ensures ∙ c.if-is_closed.false in
     let r = c.requires.range open_still in
     let ext = c.extend.ensures r.0 r.1 r.2 r.3 in
     rw ext open_still
 
-pub work-requires-clause-waits : goal.work-requires-clause-waits
-work-requires-clause-waits g c =
+pub run_states-requires-clause-waits : goal.run_states-requires-clause-waits
+run_states-requires-clause-waits g c =
     let old = c.args.self.now in let m = old.machine in let given = old.given in
     let open_still : old.closed ≡ false = sym c.is_closed.ensures ∙ c.if-is_closed.false in
     let r = c.requires.range open_still in
     let ext = c.extend.ensures r.0 r.1 r.2 r.3 in
     λ _ e.
     let e' = rw ext at e in
-    let f : true ≡ false = sym (c.tells.ensures.end e') ∙ open_still in absurd cc
+    let f : true ≡ false = sym (c.shows_in_text.ensures.end e') ∙ open_still in absurd cc
 
 pub returns-in-Ok-clause-ok : goal.returns-in-Ok-clause-ok
 returns-in-Ok-clause-ok g c =
     let i = g.M.Machine in let met = g.met.M.Machine in
     let old = c.args.self.now in let m = old.machine in let given = old.given in
     let open_still : old.closed ≡ false = sym c.is_closed.ensures ∙ c.if-is_closed.false in
-    let u = c.work.new.self in
+    let u = c.run_states.new.self in
     let r = c.requires.range open_still in
     let ext = c.extend.ensures r.0 r.1 r.2 r.3 in
     let only = rw ext at c.in-Ok.ensures.same in
-    let is = rw (only.given, only.text) at c.tells-in-Ok.ensures.text in
+    let is = rw (only.given, only.text) at c.shows_in_text-in-Ok.ensures.text in
     is-pushed old (i.rules m given) (record { consumes = met.consumes_once m given; ends = met.ends_when_read m given; keeps = met.invariant_kept m given; pays = met.cost_pays m given })
     u c.args.from c.args.to r.0 r.1 c.args.state c.in-Ok.answer is open_still (λ f q f_is q_is. c.in-Ok.ensures.same.text ∙ ap (λ t. t.text) (c.extend.ensures f q f_is q_is))
-    only (rw ext at c.in-Ok.ensures.leads) c.in-Ok.ensures.stops c.tells-in-Ok.ensures (rw ext at c.in-Ok.ensures.message)
+    only (rw ext at c.in-Ok.ensures.leads) c.in-Ok.ensures.stops c.shows_in_text-in-Ok.ensures (rw ext at c.in-Ok.ensures.message)

@@ -1,6 +1,6 @@
 use Rattle.std.proofs.Common.{◌≡◌, ◌∙◌, ◌+◌, ◌∷◌, [], length, drop, sym, ap}
 use Rattle.std.proofs.lemmas.List.{drop_all}
-use Rattle.markdown.proofs.Resolvers.{drop-one, resolves-first, resolves-left, resolves-holds, resolves-next, resolves-refused, resolves-can, resolves-done}
+use Rattle.markdown.proofs.Resolvers.{drop-one, resolves-first, resolves-after_previous, resolves-holds, resolves-next, resolves-refused, resolves-can, resolves-done}
 use Rattle.markdown.proofs.tokenizer.Tokenizer.resolve_each.Goals as goal
 
 pub loop-name-init : goal.loop-name-init
@@ -16,7 +16,7 @@ resolve_next-requires-clause-invariant g c =
     let names = c.args.names.now in let n = c.loop-name.name-index in
     let x = c.name-item.result in let rest = drop (n + 1) names in
     let here : drop n names ≡ x ∷ rest = drop-one names n x c.loop-name-test.true ∙ ap (λ y. y ∷ rest) (sym c.name-item.is) in
-    let r = resolves-left rules start names c.args.sub c.requires.text law now found (drop n names) (x ∷ rest) here c.loop-name.invariant in
+    let r = resolves-after_previous rules start names c.args.sub c.requires.text law now found (drop n names) (x ∷ rest) here c.loop-name.invariant in
     (rest, resolves-holds rules start names c.args.sub c.requires.text law now found x rest r)
 
 pub returns-in_err-found-clause-message : goal.returns-in_err-found-clause-message
@@ -27,7 +27,7 @@ returns-in_err-found-clause-message g c m is =
     let names = c.args.names.now in let n = c.loop-name.name-index in
     let x = c.name-item.result in let rest = drop (n + 1) names in
     let here : drop n names ≡ x ∷ rest = drop-one names n x c.loop-name-test.true ∙ ap (λ y. y ∷ rest) (sym c.name-item.is) in
-    let r = resolves-left rules start names c.args.sub c.requires.text law now found (drop n names) (x ∷ rest) here c.loop-name.invariant in
+    let r = resolves-after_previous rules start names c.args.sub c.requires.text law now found (drop n names) (x ∷ rest) here c.loop-name.invariant in
     let from = rw is at c.from_residual.ensures.1 in
     resolves-refused rules start names c.args.sub c.requires.text law now found x rest r m (c.in_err-found.ensures.message m (cc))
 
@@ -39,7 +39,7 @@ loop-name-preserved g c =
     let names = c.args.names.now in let n = c.loop-name.name-index in
     let x = c.name-item.result in let rest = drop (n + 1) names in
     let here : drop n names ≡ x ∷ rest = drop-one names n x c.loop-name-test.true ∙ ap (λ y. y ∷ rest) (sym c.name-item.is) in
-    let r = resolves-left rules start names c.args.sub c.requires.text law now found (drop n names) (x ∷ rest) here c.loop-name.invariant in
+    let r = resolves-after_previous rules start names c.args.sub c.requires.text law now found (drop n names) (x ∷ rest) here c.loop-name.invariant in
     let gives = c.in_ok-found.ensures.ok in
     resolves-next rules start names c.args.sub c.requires.text law now found x rest r c.resolve_next.new.self c.in_ok-found.found c.in_ok-found.ensures.same gives.0 gives.1 gives.2
 
@@ -50,7 +50,7 @@ make_edits-requires-clause-can g c =
     let now = c.loop-name.self in let found = c.loop-name.found in
     let names = c.args.names.now in let n = c.loop-name.name-index in
     let past : drop n names ≡ [] = drop_all n names c.loop-name-test.false in
-    let r = resolves-left rules start names c.args.sub c.requires.text law now found (drop n names) [] past c.loop-name.invariant in
+    let r = resolves-after_previous rules start names c.args.sub c.requires.text law now found (drop n names) [] past c.loop-name.invariant in
     resolves-can rules start names c.args.sub c.requires.text law now found r
 
 pub returns-clause-ok : goal.returns-clause-ok
@@ -60,5 +60,5 @@ returns-clause-ok g c =
     let now = c.loop-name.self in let found = c.loop-name.found in
     let names = c.args.names.now in let n = c.loop-name.name-index in
     let past : drop n names ≡ [] = drop_all n names c.loop-name-test.false in
-    let r = resolves-left rules start names c.args.sub c.requires.text law now found (drop n names) [] past c.loop-name.invariant in
+    let r = resolves-after_previous rules start names c.args.sub c.requires.text law now found (drop n names) [] past c.loop-name.invariant in
     resolves-done rules start names c.args.sub c.requires.text law now found r c.make_edits.new.self c.in_ok-make_edits.ensures.ok

@@ -1,5 +1,5 @@
 use Rattle.std.proofs.Common.{arith, length}
-use Rattle.markdown.proofs.Turns.{disjoint_next}
+use Rattle.markdown.proofs.EditTurns.{disjoint_next}
 use Rattle.markdown.proofs.util.splice.spliced_events.Goals as goal
 
 pub push_moved-requires-clause-within : goal.push_moved-requires-clause-within

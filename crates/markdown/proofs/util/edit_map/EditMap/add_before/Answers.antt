@@ -5,7 +5,7 @@ use Rattle.markdown.specs.Edits.{Edit, edit_at, is_no_edit, put_before, removal_
 use Rattle.markdown.specs.Stored.{by_index}
 use Rattle.markdown.specs.declared.util.stored.Stored.{Stored}
 use Rattle.markdown.proofs.Common.{OnErr_from}
-use Rattle.markdown.proofs.StoredLemmas.{HasNoTwins-push, by_index-push, by_index-set, by_index-same, HasNoTwins-set, HasNone, remove-le-removal_at, added_before-put}
+use Rattle.markdown.proofs.EditStored.{HasNoTwins-push, by_index-push, by_index-set, by_index-same, HasNoTwins-set, HasNone, remove-le-removal_at, added_before-put}
 use Rattle.markdown.proofs.util.edit_map.EditMap.add_before.Goals as goal
 use Rattle.markdown.proofs.util.edit_map.EditMap.add_before.Goals.{else-remove-eq0-via-then-remove-eq0+else-is_empty, else-remove-eq0-via-else-remove-eq0}
 

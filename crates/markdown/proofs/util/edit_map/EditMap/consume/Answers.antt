@@ -4,8 +4,8 @@ use Rattle.std.specs.List.Sorted.{IsNonDecreasingBy}
 use Rattle.markdown.specs.Stored.{as_edit, by_index}
 use Rattle.markdown.specs.declared.util.stored.Stored.{Stored}
 use Rattle.markdown.proofs.Common.{OnErr_from}
-use Rattle.markdown.proofs.Order.{sorted_edits, by_index-permutation, HasNoTwins-permutation, length_of_none}
-use Rattle.markdown.proofs.Splices.{edited-none, edited-spliced}
+use Rattle.markdown.proofs.EditOrder.{sorted_edits, by_index-permutation, HasNoTwins-permutation, length_of_none}
+use Rattle.markdown.proofs.EditSplices.{edited-none, edited-spliced}
 use Rattle.std.proofs.lemmas.Bool.{eqb-true, eq-eqb, false≢true}
 use Rattle.markdown.proofs.Common.{no_items}
 use Rattle.markdown.proofs.util.edit_map.EditMap.consume.Goals as goal

@@ -1,4 +1,4 @@
-use Rattle.markdown.proofs.Splices.{AreNew-edits}
+use Rattle.markdown.proofs.EditSplices.{AreNew-edits}
 use Rattle.markdown.proofs.util.edit_map.laws.additions_are_new.Goals as goal
 
 pub returns : goal.returns

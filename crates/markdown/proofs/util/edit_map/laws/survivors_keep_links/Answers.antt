@@ -1,4 +1,4 @@
-use Rattle.markdown.proofs.Survivors.{stays_as_it_was, keeps_links}
+use Rattle.markdown.proofs.EditSurvivors.{stays_as_it_was, keeps_links}
 use Rattle.markdown.proofs.util.edit_map.laws.survivors_keep_links.Goals as goal
 
 pub returns-clause-events : goal.returns-clause-events

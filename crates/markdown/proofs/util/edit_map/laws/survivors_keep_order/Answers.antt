@@ -1,4 +1,4 @@
-use Rattle.markdown.proofs.Survivors.{stays_unless_removed, keeps_order}
+use Rattle.markdown.proofs.EditSurvivors.{stays_unless_removed, keeps_order}
 use Rattle.markdown.proofs.util.edit_map.laws.survivors_keep_order.Goals as goal
 
 pub returns-clause-stays : goal.returns-clause-stays

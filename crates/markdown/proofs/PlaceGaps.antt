@@ -1,4 +1,5 @@
 -- Laws of gaps: where places lie in lines and columns, and what a gap leaves to be read.
+use Rattle.std.specs.List.{AllByRecursion}
 use Rattle.std.proofs.Common.{◌≡◌, ℕ, suc, ◌≤◌, ◌<◌, ◌==◌, List, [], ◌∷◌, ◌++◌, Bool, true, false, cond, Option, Some, None, refl, sym, ap, ◌∙◌, subst, arith, append_assoc, ◌⊎◌, inl, inr}
 use Rattle.std.specs.Prelude.{filter, unwrap_or, nat_lt, not, ◌&&◌, ◌||◌}
 use Rattle.std.specs.List.{list_all}
@@ -8,14 +9,14 @@ use Rattle.std.proofs.lemmas.List.{append-nil, append_cancel_left}
 use Rattle.markdown_base.specs.declared.event.Point.{Point}
 use Rattle.markdown_base.specs.Virtual.{Seat, point, virtual, end_after}
 use Rattle.markdown_base.specs.Places.{stands_before, shown, is_upto, denotes_same}
-use Rattle.markdown.specs.Cursor.{rest_at, Every, IsPlace, IsSeatAt, goes_on, end_at}
+use Rattle.markdown.specs.Cursor.{rest_at, IsPlace, IsSeatAt, goes_on, end_at}
 use Rattle.markdown.specs.Text.{in_range}
-use Rattle.markdown.proofs.Orders.{later-later, before-self, is-number, is-not, before-upto, upto-before, after-before, below-before, more-before, every-map, every-both, every-append, every-front, every-back, every-all, filter-none, filter-every, filter-same}
-use Rattle.markdown.proofs.Seats.{rest-later}
-use Rattle.markdown.proofs.Chains.{Begins, IsChain, whole-chain}
-use Rattle.markdown.proofs.Standing.{chain-split, next-begins, shown-upto}
-use Rattle.markdown.proofs.Cursors.{upto-order, upto-self, upto-upto, same-upto, upto-same, same-back, same-self, rest-upto, left_of, text-splits, range-same, range-empty}
-use Rattle.markdown.proofs.Points.{shown-line, shown-column, same-shown}
+use Rattle.markdown.proofs.PlaceOrder.{later-later, before-self, is-number, is-not, before-upto, upto-before, after-before, below-before, more-before, every-map, every-both, every-append, every-front, every-back, every-all, filter-none, filter-every, filter-same}
+use Rattle.markdown.proofs.PlaceSeats.{rest-later}
+use Rattle.markdown.proofs.PlaceChains.{Begins, IsChain, whole-chain}
+use Rattle.markdown.proofs.PlaceStanding.{chain-split, next-begins, shown-upto}
+use Rattle.markdown.proofs.PlaceCursors.{upto-order, upto-self, upto-upto, same-upto, upto-same, same-back, same-self, rest-upto, left_of, text-splits, range-same, range-empty}
+use Rattle.markdown.proofs.PlacePoints.{shown-line, shown-column, same-shown}
 use Rattle.markdown.specs.Gaps.{skip_of, is_kept_by, is_kept, resumed, kept_between, IsSkip, IsOutside}
 
 -- by line, then by column, one place is before another
@@ -66,9 +67,9 @@ abbrev Leads : Point → Point → Seat → Type 0
 Leads p q s = stands_before s.point p ≡ true → stands_before s.point q ≡ true
 
 -- copied from Cursors
-list-every : {A : Type 0} (f : A → Bool) (xs : List A) → list_all f xs ≡ true → Every (λ x. f x ≡ true) xs
+list-every : {A : Type 0} (f : A → Bool) (xs : List A) → list_all f xs ≡ true → AllByRecursion (λ x. f x ≡ true) xs
 list-every f [] h = tt
-list-every f (x ∷ xs) h = elim (f x) as (λ b. (f x ≡ b) → (b && list_all f xs) ≡ true → Every (λ y. f y ≡ true) (x ∷ xs)) [
+list-every f (x ∷ xs) h = elim (f x) as (λ b. (f x ≡ b) → (b && list_all f xs) ≡ true → AllByRecursion (λ y. f y ≡ true) (x ∷ xs)) [
   | true ↦ λ e k. (e, list-every f xs k)
   | false ↦ λ e k. absurd (cc)
 ] refl h
@@ -78,27 +79,27 @@ or-leads : (a b : Bool) → (not a || b) ≡ true → a ≡ true → b ≡ true
 or-leads true b h e = h
 or-leads false b h e = absurd (cc)
 
-every-unfilter : (P : Seat → Type 0) (f : Seat → Bool) (xs : List Seat) → Every P (filter f xs) → Every (λ s. f s ≡ true → P s) xs
+every-unfilter : (P : Seat → Type 0) (f : Seat → Bool) (xs : List Seat) → AllByRecursion P (filter f xs) → AllByRecursion (λ s. f s ≡ true → P s) xs
 every-unfilter P f [] h = tt
-every-unfilter P f (x ∷ xs) h = elim (f x) as (λ b. (f x ≡ b) → Every P (cond b (x ∷ filter f xs) (filter f xs)) → Every (λ s. f s ≡ true → P s) (x ∷ xs)) [
+every-unfilter P f (x ∷ xs) h = elim (f x) as (λ b. (f x ≡ b) → AllByRecursion P (cond b (x ∷ filter f xs) (filter f xs)) → AllByRecursion (λ s. f s ≡ true → P s) (x ∷ xs)) [
   | true ↦ λ e k. (λ g. k.0, every-unfilter P f xs k.1)
   | false ↦ λ e k. (λ g. absurd (cc), every-unfilter P f xs k)
 ] refl h
 
 -- what a filter keeps passes it
-every-kept : (P : Seat → Type 0) (f : Seat → Bool) (xs : List Seat) → Every P xs → Every (λ s. P s × (f s ≡ true)) (filter f xs)
+every-kept : (P : Seat → Type 0) (f : Seat → Bool) (xs : List Seat) → AllByRecursion P xs → AllByRecursion (λ s. P s × (f s ≡ true)) (filter f xs)
 every-kept P f [] h = tt
-every-kept P f (x ∷ xs) h = elim (f x) as (λ b. (f x ≡ b) → Every (λ s. P s × (f s ≡ true)) (cond b (x ∷ filter f xs) (filter f xs))) [
+every-kept P f (x ∷ xs) h = elim (f x) as (λ b. (f x ≡ b) → AllByRecursion (λ s. P s × (f s ≡ true)) (cond b (x ∷ filter f xs) (filter f xs))) [
   | true ↦ λ e. ((h.0, e), every-kept P f xs h.1)
   | false ↦ λ e. every-kept P f xs h.1
 ] refl
 
 -- each of many facts holds of each element
-every-for : {A : Type 0} {X : Type 0} (P : X → A → Type 0) (xs : List A) → ((x : X) → Every (P x) xs) → Every (λ a. (x : X) → P x a) xs
+every-for : {A : Type 0} {X : Type 0} (P : X → A → Type 0) (xs : List A) → ((x : X) → AllByRecursion (P x) xs) → AllByRecursion (λ a. (x : X) → P x a) xs
 every-for P [] h = tt
 every-for P (a ∷ rest) h = (λ x. (h x).0, every-for P rest (λ x. (h x).1))
 
-every-given : (b : Bool) (P : Seat → Type 0) (xs : List Seat) → (b ≡ true → Every P xs) → Every (λ s. b ≡ true → P s) xs
+every-given : (b : Bool) (P : Seat → Type 0) (xs : List Seat) → (b ≡ true → AllByRecursion P xs) → AllByRecursion (λ s. b ≡ true → P s) xs
 every-given true P xs h = every-map P (λ s. true ≡ true → P s) (λ s k e. k) xs (h refl)
 every-given false P xs h = every-all (λ s. false ≡ true → P s) (λ s e. absurd (cc)) xs
 
@@ -126,7 +127,7 @@ module _ (t : ℕ) (bytes : List ℕ) where
       let q = end_after s.end ss in
       before-upto p.line p.column s.end.line s.end.column q.line q.column (begins-lies p s (ss ++ ys) c.1) (chain-rises s.end ss ys c.2)
 
-  chain-between : (p : Point) (xs ys : List Seat) → IsChain t bytes p (xs ++ ys) → Every (LiesIn p (end_after p xs)) xs
+  chain-between : (p : Point) (xs ys : List Seat) → IsChain t bytes p (xs ++ ys) → AllByRecursion (LiesIn p (end_after p xs)) xs
   chain-between p [] ys c = tt
   chain-between p (s ∷ ss) ys c =
       let q = end_after s.end ss in
@@ -149,13 +150,13 @@ module _ (t : ℕ) (bytes : List ℕ) where
       (later-later s.end.index s.end.vs s.point.index s.point.vs p.index p.vs after c.1.later)
 
   -- copied from Cursors
-  upto-leads : (p q : Point) → is_upto t bytes p q ≡ true → Every (Leads p q) (virtual t bytes)
+  upto-leads : (p q : Point) → is_upto t bytes p q ≡ true → AllByRecursion (Leads p q) (virtual t bytes)
   upto-leads p q h = every-map (λ s. (not (stands_before s.point p) || stands_before s.point q) ≡ true) (Leads p q) (λ s k. or-leads (stands_before s.point p) (stands_before s.point q) k) (virtual t bytes)
       (list-every (λ (s : Seat). not (stands_before s.point p) || stands_before s.point q) (virtual t bytes) h)
 
   -- copied from Cursors
-  split-every : (P : Seat → Type 0) (p : Point) (place : IsPlace t bytes p) → Every P (virtual t bytes) → Every P place.before × Every P (rest_at t bytes p)
-  split-every P p place h = let k = subst (Every P) place.splits h in (every-front P place.before (rest_at t bytes p) k, every-back P place.before (rest_at t bytes p) k)
+  split-every : (P : Seat → Type 0) (p : Point) (place : IsPlace t bytes p) → AllByRecursion P (virtual t bytes) → AllByRecursion P place.before × AllByRecursion P (rest_at t bytes p)
+  split-every P p place h = let k = subst (AllByRecursion P) place.splits h in (every-front P place.before (rest_at t bytes p) k, every-back P place.before (rest_at t bytes p) k)
 
   -- what a place has behind it, by its order
   -- copied from Cursors
@@ -220,7 +221,7 @@ module _ (t : ℕ) (bytes : List ℕ) where
     between-below s h = lies-alike s.point b (shown bytes b) (sym (shown-line bytes b)) (sym (shown-column bytes b)) ∙ ap (lies_before s.point) way-ends ∙ h
 
     -- and what stands between them lies between them
-    pub between-lies : Every (LiesIn a b) (left_of t bytes a b)
+    pub between-lies : AllByRecursion (LiesIn a b) (left_of t bytes a b)
     between-lies =
         let p = shown bytes a in
         let q = end_after p (left_of t bytes a b) in
@@ -234,11 +235,11 @@ module _ (t : ℕ) (bytes : List ℕ) where
     pub places-rise : (denotes_same t bytes a b ≡ true) ⊎ ((a.line < b.line) ⊎ ((a.line ≡ b.line) × (a.column < b.column)))
     places-rise = elim upto-lies [ inl h ↦ inl h | inr h ↦ inr (lies-later a b h) ]
 
-    pub seats-between : Every (StandsBetween a b) (left_of t bytes a b)
+    pub seats-between : AllByRecursion (StandsBetween a b) (left_of t bytes a b)
     seats-between = every-map (LiesIn a b) (StandsBetween a b) (λ s h. lies-in-numbers a.line a.column s.point.line s.point.column b.line b.column h.0 h.1) (left_of t bytes a b) between-lies
 
     -- said of what is left at the first place
-    pub seats-rise : Every (λ s. stands_before s.point b ≡ true → StandsBetween a b s) (rest_at t bytes a)
+    pub seats-rise : AllByRecursion (λ s. stands_before s.point b ≡ true → StandsBetween a b s) (rest_at t bytes a)
     seats-rise = every-unfilter (StandsBetween a b) (λ s. stands_before s.point b) (rest_at t bytes a) seats-between
 
 skip-cases : (P : Point → Type 0) (x : Point) (xs : List Point) (line : ℕ) (p : Point) (b : Bool) → (x.line == line) ≡ b → P x → (skip_of xs line ≡ Some p → (p.line ≡ line) × P p)
@@ -247,7 +248,7 @@ skip-cases P x xs line p true e h k f = let is : x ≡ p = cc in subst (λ (y : 
 skip-cases P x xs line p false e h k f = k f
 
 -- the place up to which a line is passed is in that line, and one of those listed
-skip-is : (P : Point → Type 0) (skips : List Point) (line : ℕ) (p : Point) → Every P skips → skip_of skips line ≡ Some p → (p.line ≡ line) × P p
+skip-is : (P : Point → Type 0) (skips : List Point) (line : ℕ) (p : Point) → AllByRecursion P skips → skip_of skips line ≡ Some p → (p.line ≡ line) × P p
 skip-is P [] line p h e = absurd (cc)
 skip-is P (x ∷ xs) line p h e = skip-cases P x xs line p (x.line == line) refl h.0 (skip-is P xs line p h.1) e
 
@@ -262,14 +263,14 @@ not-false : (b : Bool) → b ≡ false → not b ≡ true
 not-false b e = ap not e
 
 -- What holds of the place from which on the next byte is looked for
-pub record IsResumed (t : ℕ) (bytes : List ℕ) (skips : List Point) (start end left r : Point) : Type 0 where
+pub record IsResumed (t : ℕ) (bytes : List ℕ) (skips : List Point) (start end after_previous r : Point) : Type 0 where
   pub place : IsPlace t bytes r
-  pub later : is_upto t bytes left r ≡ true
-  pub not_before : stands_before r left ≡ false
-  pub shown_later : stands_before (shown bytes r) (shown bytes left) ≡ false
+  pub later : is_upto t bytes after_previous r ≡ true
+  pub not_before : stands_before r after_previous ≡ false
+  pub shown_later : stands_before (shown bytes r) (shown bytes after_previous) ≡ false
   pub from : is_upto t bytes start r ≡ true
   pub upto : is_upto t bytes r end ≡ true
-  pub same : kept_between t bytes skips start r ≡ kept_between t bytes skips start left
+  pub same : kept_between t bytes skips start r ≡ kept_between t bytes skips start after_previous
   pub fresh : (seat : Seat) → IsSeatAt t bytes r seat → is_kept skips seat ≡ true
 
 module _ (t : ℕ) (bytes : List ℕ) (d : 0 < t) where
@@ -292,82 +293,82 @@ module _ (t : ℕ) (bytes : List ℕ) (d : 0 < t) where
   ]
 
   -- a gap from a place on
-  module _ (skips : List Point) (left : Point) (place : IsPlace t bytes left) where
+  module _ (skips : List Point) (after_previous : Point) (place : IsPlace t bytes after_previous) where
     -- all that is passed is in the gap
-    jump-none : (q : Point) → IsPlace t bytes q → q.line ≡ left.line → skip_of skips left.line ≡ Some q → is_upto t bytes left q ≡ true → filter (is_kept skips) (left_of t bytes left q) ≡ []
+    jump-none : (q : Point) → IsPlace t bytes q → q.line ≡ after_previous.line → skip_of skips after_previous.line ≡ Some q → is_upto t bytes after_previous q ≡ true → filter (is_kept skips) (left_of t bytes after_previous q) ≡ []
     jump-none q at line e later =
         let f = λ (s : Seat). stands_before s.point q in
-        filter-none (is_kept skips) (left_of t bytes left q)
-        (every-map (λ s. (stands_before s.point q ≡ true → StandsBetween left q s) × (f s ≡ true)) (λ s. is_kept skips s ≡ false)
-        (λ s h. let between = h.0 h.1 in let same : s.point.line ≡ left.line = omega (arith, between.0, between.1) in kept-by skips s left.line (Some q) same e ∙ not-true (stands_before s.point q) h.1)
-        (left_of t bytes left q) (every-kept (λ s. stands_before s.point q ≡ true → StandsBetween left q s) f (rest_at t bytes left) (seats-rise t bytes d left q place at later)))
+        filter-none (is_kept skips) (left_of t bytes after_previous q)
+        (every-map (λ s. (stands_before s.point q ≡ true → StandsBetween after_previous q s) × (f s ≡ true)) (λ s. is_kept skips s ≡ false)
+        (λ s h. let between = h.0 h.1 in let same : s.point.line ≡ after_previous.line = omega (arith, between.0, between.1) in kept-by skips s after_previous.line (Some q) same e ∙ not-true (stands_before s.point q) h.1)
+        (left_of t bytes after_previous q) (every-kept (λ s. stands_before s.point q ≡ true → StandsBetween after_previous q s) f (rest_at t bytes after_previous) (seats-rise t bytes d after_previous q place at later)))
 
-    jump-same : (start q : Point) → is_upto t bytes start left ≡ true → IsPlace t bytes q → q.line ≡ left.line → skip_of skips left.line ≡ Some q → is_upto t bytes left q ≡ true → kept_between t bytes skips start q ≡ kept_between t bytes skips start left
+    jump-same : (start q : Point) → is_upto t bytes start after_previous ≡ true → IsPlace t bytes q → q.line ≡ after_previous.line → skip_of skips after_previous.line ≡ Some q → is_upto t bytes after_previous q ≡ true → kept_between t bytes skips start q ≡ kept_between t bytes skips start after_previous
     jump-same start q from at line e later =
-        let read = filter (in_range start left) (virtual t bytes) in
-        ap (filter (is_kept skips)) (text-splits t bytes start left q place from later) ∙ filter-append (is_kept skips) read (left_of t bytes left q)
+        let read = filter (in_range start after_previous) (virtual t bytes) in
+        ap (filter (is_kept skips)) (text-splits t bytes start after_previous q place from later) ∙ filter-append (is_kept skips) read (left_of t bytes after_previous q)
         ∙ ap (λ (xs : List Seat). filter (is_kept skips) read ++ xs) (jump-none q at line e later) ∙ append-nil (filter (is_kept skips) read)
 
-  module _ (skips : List Point) (start end left : Point) (are : Every (IsSkip t bytes end) skips) (place : IsPlace t bytes left)
-      (from : is_upto t bytes start left ≡ true) (upto : is_upto t bytes left end ≡ true) (outside : IsOutside skips left) where
-    stays : ((seat : Seat) → IsSeatAt t bytes left seat → is_kept skips seat ≡ true) → IsResumed t bytes skips start end left left
+  module _ (skips : List Point) (start end after_previous : Point) (are : AllByRecursion (IsSkip t bytes end) skips) (place : IsPlace t bytes after_previous)
+      (from : is_upto t bytes start after_previous ≡ true) (upto : is_upto t bytes after_previous end ≡ true) (outside : IsOutside skips after_previous) where
+    stays : ((seat : Seat) → IsSeatAt t bytes after_previous seat → is_kept skips seat ≡ true) → IsResumed t bytes skips start end after_previous after_previous
     stays fresh = record {
       place = place;
-      later = upto-self t bytes left;
-      not_before = before-self left.index left.vs;
-      shown_later = before-self (shown bytes left).index (shown bytes left).vs;
+      later = upto-self t bytes after_previous;
+      not_before = before-self after_previous.index after_previous.vs;
+      shown_later = before-self (shown bytes after_previous).index (shown bytes after_previous).vs;
       from = from;
       upto = upto;
       same = refl;
       fresh = fresh;
     }
 
-    fresh-none : skip_of skips left.line ≡ None → (seat : Seat) → IsSeatAt t bytes left seat → is_kept skips seat ≡ true
-    fresh-none e seat n = kept-by skips seat left.line None (seat-line left seat place n) e
+    fresh-none : skip_of skips after_previous.line ≡ None → (seat : Seat) → IsSeatAt t bytes after_previous seat → is_kept skips seat ≡ true
+    fresh-none e seat n = kept-by skips seat after_previous.line None (seat-line after_previous seat place n) e
 
     -- after a gap
-    fresh-after : (p q : Point) → IsPlace t bytes p → p.line ≡ left.line → skip_of skips left.line ≡ Some q → stands_before p q ≡ false → (seat : Seat) → IsSeatAt t bytes p seat → is_kept skips seat ≡ true
+    fresh-after : (p q : Point) → IsPlace t bytes p → p.line ≡ after_previous.line → skip_of skips after_previous.line ≡ Some q → stands_before p q ≡ false → (seat : Seat) → IsSeatAt t bytes p seat → is_kept skips seat ≡ true
     fresh-after p q at line e later seat n =
-        kept-by skips seat left.line (Some q) (seat-line p seat at n ∙ line) e
+        kept-by skips seat after_previous.line (Some q) (seat-line p seat at n ∙ line) e
         ∙ not-false (stands_before seat.point q) (later-later seat.point.index seat.point.vs p.index p.vs q.index q.vs n.later later)
 
-    stays-after : (q : Point) → (left.column == 1) ≡ false → skip_of skips left.line ≡ Some q → IsResumed t bytes skips start end left left
+    stays-after : (q : Point) → (after_previous.column == 1) ≡ false → skip_of skips after_previous.line ≡ Some q → IsResumed t bytes skips start end after_previous after_previous
     stays-after q e f = elim (outside q f) [
-      | inl h ↦ absurd (is-not left.column 1 e h)
-      | inr h ↦ stays (fresh-after left q place refl f h)
+      | inl h ↦ absurd (is-not after_previous.column 1 e h)
+      | inr h ↦ stays (fresh-after after_previous q place refl f h)
     ]
 
-    jump-before : (q : Point) → IsPlace t bytes q → left.column ≡ 1 → q.line ≡ left.line → 1 < q.column → stands_before left q ≡ true
-    jump-before q at first line inside = elim (stands_before left q) as (λ b. (stands_before left q ≡ b) → b ≡ true) [
+    jump-before : (q : Point) → IsPlace t bytes q → after_previous.column ≡ 1 → q.line ≡ after_previous.line → 1 < q.column → stands_before after_previous q ≡ true
+    jump-before q at first line inside = elim (stands_before after_previous q) as (λ b. (stands_before after_previous q ≡ b) → b ≡ true) [
       | true ↦ λ e. refl
-      | false ↦ λ e. (let f = column-rises q left at place (upto-order t bytes q left e) line in absurd (omega arith))
+      | false ↦ λ e. (let f = column-rises q after_previous at place (upto-order t bytes q after_previous e) line in absurd (omega arith))
     ] refl
 
-    jumps : (q : Point) → left.column ≡ 1 → skip_of skips left.line ≡ Some q → IsResumed t bytes skips start end left q
+    jumps : (q : Point) → after_previous.column ≡ 1 → skip_of skips after_previous.line ≡ Some q → IsResumed t bytes skips start end after_previous q
     jumps q first e =
-        let found = skip-is (IsSkip t bytes end) skips left.line q are e in
+        let found = skip-is (IsSkip t bytes end) skips after_previous.line q are e in
         let skip = found.1 in
         let before = jump-before q skip.place first found.0 skip.inside in
-        let later = upto-order t bytes left q (after-before left.index left.vs q.index q.vs before) in
+        let later = upto-order t bytes after_previous q (after-before after_previous.index after_previous.vs q.index q.vs before) in
         record {
           place = skip.place;
           later = later;
-          not_before = after-before left.index left.vs q.index q.vs before;
-          shown_later = upto-shown t bytes d left q place skip.place later;
-          from = upto-upto t bytes start left q from later;
+          not_before = after-before after_previous.index after_previous.vs q.index q.vs before;
+          shown_later = upto-shown t bytes d after_previous q place skip.place later;
+          from = upto-upto t bytes start after_previous q from later;
           upto = skip.upto;
-          same = jump-same skips left place start q from skip.place found.0 e later;
+          same = jump-same skips after_previous place start q from skip.place found.0 e later;
           fresh = fresh-after q q skip.place found.0 e (before-self q.index q.vs);
         }
 
-    resumed-by : (b : Bool) (o : Option Point) → (left.column == 1) ≡ b → skip_of skips left.line ≡ o → IsResumed t bytes skips start end left (cond b (unwrap_or o left) left)
+    resumed-by : (b : Bool) (o : Option Point) → (after_previous.column == 1) ≡ b → skip_of skips after_previous.line ≡ o → IsResumed t bytes skips start end after_previous (cond b (unwrap_or o after_previous) after_previous)
     resumed-by false None e f = stays (fresh-none f)
     resumed-by false (Some q) e f = stays-after q e f
     resumed-by true None e f = stays (fresh-none f)
-    resumed-by true (Some q) e f = jumps q (is-number left.column 1 e) f
+    resumed-by true (Some q) e f = jumps q (is-number after_previous.column 1 e) f
 
-    pub resumed-at : IsResumed t bytes skips start end left (resumed skips left)
-    resumed-at = resumed-by (left.column == 1) (skip_of skips left.line) refl refl
+    pub resumed-at : IsResumed t bytes skips start end after_previous (resumed skips after_previous)
+    resumed-at = resumed-by (after_previous.column == 1) (skip_of skips after_previous.line) refl refl
 
 -- a virtual byte ends at the beginning of a line, or in the line where it is
 end_at-line : (t byte : ℕ) (p : Point) (b c : Bool) → (byte == 10) ≡ b → goes_on t byte p ≡ c → ((end_at t byte p).column ≡ 1) ⊎ ((end_at t byte p).line ≡ p.line)
@@ -406,28 +407,28 @@ module _ (t : ℕ) (bytes : List ℕ) (d : 0 < t) where
   leads-back true b h e = absurd (let f = h refl in cc)
   leads-back false b h e = refl
 
-  rest-past : (p end : Point) → IsPlace t bytes end → is_upto t bytes p end ≡ true → Every (λ s. stands_before s.point p ≡ false) (rest_at t bytes end)
+  rest-past : (p end : Point) → IsPlace t bytes end → is_upto t bytes p end ≡ true → AllByRecursion (λ s. stands_before s.point p ≡ false) (rest_at t bytes end)
   rest-past p end place upto =
       every-both (Leads p end) (λ s. stands_before s.point end ≡ false) (λ s. stands_before s.point p ≡ false) (λ s h k. leads-back (stands_before s.point p) (stands_before s.point end) h k) (rest_at t bytes end)
       (split-every t bytes (Leads p end) end place (upto-leads t bytes p end upto)).1 (rest-later t bytes end)
 
   -- gaps that end by a place end by a later one
-  pub skips-upto : (skips : List Point) (end to : Point) → Every (IsSkip t bytes end) skips → is_upto t bytes end to ≡ true → Every (IsSkip t bytes to) skips
+  pub skips-upto : (skips : List Point) (end to : Point) → AllByRecursion (IsSkip t bytes end) skips → is_upto t bytes end to ≡ true → AllByRecursion (IsSkip t bytes to) skips
   skips-upto skips end to are h = every-map (IsSkip t bytes end) (IsSkip t bytes to)
       (λ p k. record { place = k.place; inside = k.inside; upto = upto-upto t bytes p end to k.upto h }) skips are
 
-  past-gaps : (end : Point) → IsPlace t bytes end → Every (PastGaps end) (rest_at t bytes end)
+  past-gaps : (end : Point) → IsPlace t bytes end → AllByRecursion (PastGaps end) (rest_at t bytes end)
   past-gaps end place = every-for (λ (p : Point) (s : Seat). is_upto t bytes p end ≡ true → stands_before s.point p ≡ false) (rest_at t bytes end)
       (λ p. every-given (is_upto t bytes p end) (λ s. stands_before s.point p ≡ false) (rest_at t bytes end) (rest-past p end place))
 
-  kept-past : (skips : List Point) (end : Point) → Every (IsSkip t bytes end) skips → (s : Seat) → PastGaps end s → (o : Option Point) → skip_of skips s.point.line ≡ o → is_kept skips s ≡ true
+  kept-past : (skips : List Point) (end : Point) → AllByRecursion (IsSkip t bytes end) skips → (s : Seat) → PastGaps end s → (o : Option Point) → skip_of skips s.point.line ≡ o → is_kept skips s ≡ true
   kept-past skips end are s past None e = kept-by skips s s.point.line None refl e
   kept-past skips end are s past (Some p) e =
       let found = skip-is (IsSkip t bytes end) skips s.point.line p are e in
       kept-by skips s s.point.line (Some p) refl e ∙ not-false (stands_before s.point p) (past p found.1.upto)
 
   -- a range that is pushed
-  module _ (skips : List Point) (end from to : Point) (are : Every (IsSkip t bytes end) skips) (place : IsPlace t bytes end) (same : denotes_same t bytes from end ≡ true) (upto : is_upto t bytes from to ≡ true) where
+  module _ (skips : List Point) (end from to : Point) (are : AllByRecursion (IsSkip t bytes end) skips) (place : IsPlace t bytes end) (same : denotes_same t bytes from end ≡ true) (upto : is_upto t bytes from to ≡ true) where
     end-upto : is_upto t bytes end to ≡ true
     end-upto = upto-upto t bytes end from to (same-upto t bytes from end same).1 upto
 
@@ -445,7 +446,7 @@ module _ (t : ℕ) (bytes : List ℕ) (d : 0 < t) where
         (left_of t bytes end to) (every-kept (PastGaps end) f (rest_at t bytes end) (past-gaps end place)))
         ∙ sym pushed-is
 
-    pub pushed-skips : Every (IsSkip t bytes to) skips
+    pub pushed-skips : AllByRecursion (IsSkip t bytes to) skips
     pushed-skips = skips-upto skips end to are end-upto
 
 skip-other : (skips : List Point) (q : Point) (line : ℕ) → (q.line == line) ≡ false → skip_of (skips ++ q ∷ []) line ≡ skip_of skips line
@@ -487,7 +488,7 @@ resumed-none : (skips : List Point) (p : Point) → p.column ≡ 1 → skip_of s
 resumed-none skips p e f = let g = is-line p.column 1 e in rw (g, f) refl
 
 module _ (t : ℕ) (bytes : List ℕ) (d : 0 < t) where
-  chain-columns : (p : Point) (xs ys : List Seat) → IsChain t bytes p (xs ++ ys) → Every (λ s. 1 ≤ s.point.column) xs
+  chain-columns : (p : Point) (xs ys : List Seat) → IsChain t bytes p (xs ++ ys) → AllByRecursion (λ s. 1 ≤ s.point.column) xs
   chain-columns p [] ys c = tt
   chain-columns p (s ∷ ss) ys c = (c.1.seat_bounds.first, chain-columns s.end ss ys c.2)
 
@@ -501,7 +502,7 @@ module _ (t : ℕ) (bytes : List ℕ) (d : 0 < t) where
         let lies = lies-alike s.point e (shown bytes e) (sym (shown-line bytes e)) (sym (shown-column bytes e)) ∙ ap (lies_before s.point) at.stands ∙ h.1 in
         no-seat-first e.line e.column s.point k first (lies-later s.point e lies)
 
-    behind-earlier : Every (λ s. s.point.line < e.line) at.before
+    behind-earlier : AllByRecursion (λ s. s.point.line < e.line) at.before
     behind-earlier =
         let p = point 1 1 0 0 in
         every-both (LiesIn p (end_after p at.before)) (λ s. 1 ≤ s.point.column) (λ s. s.point.line < e.line) behind-lies at.before
@@ -509,35 +510,35 @@ module _ (t : ℕ) (bytes : List ℕ) (d : 0 < t) where
 
     -- a virtual byte before a place is in an earlier line
     abbrev Earlier : Point → Seat → Type 0
-    Earlier left s = stands_before s.point left ≡ true → s.point.line < e.line
+    Earlier after_previous s = stands_before s.point after_previous ≡ true → s.point.line < e.line
 
-    seats-earlier : Every (Earlier e) (virtual t bytes)
-    seats-earlier = subst (Every (Earlier e)) (sym at.splits) (every-append (Earlier e) at.before (rest_at t bytes e)
+    seats-earlier : AllByRecursion (Earlier e) (virtual t bytes)
+    seats-earlier = subst (AllByRecursion (Earlier e)) (sym at.splits) (every-append (Earlier e) at.before (rest_at t bytes e)
         (every-map (λ s. s.point.line < e.line) (Earlier e) (λ s h k. h) at.before behind-earlier)
         (every-map (λ s. stands_before s.point e ≡ false) (Earlier e) (λ s h k. absurd (cc)) (rest_at t bytes e) (rest-later t bytes e)))
 
-    read-earlier : (start left : Point) → is_upto t bytes left e ≡ true → Every (λ s. s.point.line < e.line) (filter (in_range start left) (virtual t bytes))
-    read-earlier start left upto =
-        every-map (λ s. Earlier left s × (in_range start left s ≡ true)) (λ s. s.point.line < e.line)
-        (λ s h. h.0 (in-range-before (stands_before s.point start) (stands_before s.point left) h.1)) (filter (in_range start left) (virtual t bytes))
-        (every-kept (Earlier left) (in_range start left) (virtual t bytes)
-        (every-both (Leads left e) (Earlier e) (Earlier left) (λ s h k l. k (h l)) (virtual t bytes) (upto-leads t bytes left e upto) seats-earlier))
+    read-earlier : (start after_previous : Point) → is_upto t bytes after_previous e ≡ true → AllByRecursion (λ s. s.point.line < e.line) (filter (in_range start after_previous) (virtual t bytes))
+    read-earlier start after_previous upto =
+        every-map (λ s. Earlier after_previous s × (in_range start after_previous s ≡ true)) (λ s. s.point.line < e.line)
+        (λ s h. h.0 (in-range-before (stands_before s.point start) (stands_before s.point after_previous) h.1)) (filter (in_range start after_previous) (virtual t bytes))
+        (every-kept (Earlier after_previous) (in_range start after_previous) (virtual t bytes)
+        (every-both (Leads after_previous e) (Earlier e) (Earlier after_previous) (λ s h k l. k (h l)) (virtual t bytes) (upto-leads t bytes after_previous e upto) seats-earlier))
 
-    left-cases : (left : Point) → IsPlace t bytes left → (denotes_same t bytes left e ≡ true) ⊎ ((left.line < e.line) ⊎ ((left.line ≡ e.line) × (left.column < e.column)))
-        → (left.line < e.line) ⊎ ((left.line ≡ e.line) × (left.column ≡ 1) × (denotes_same t bytes left e ≡ true))
-    left-cases left place (inl h) =
-        let s = same-shown t bytes left e place at h in
-        inr (sym (shown-line bytes left) ∙ ap (λ (x : Point). x.line) s ∙ shown-line bytes e, same-column t bytes d left e place at h ∙ first, h)
-    left-cases left place (inr (inl h)) = inl h
-    left-cases left place (inr (inr h)) = let c = h.1 in let b = place.bounds.first in absurd (omega arith)
+    after_previous-cases : (after_previous : Point) → IsPlace t bytes after_previous → (denotes_same t bytes after_previous e ≡ true) ⊎ ((after_previous.line < e.line) ⊎ ((after_previous.line ≡ e.line) × (after_previous.column < e.column)))
+        → (after_previous.line < e.line) ⊎ ((after_previous.line ≡ e.line) × (after_previous.column ≡ 1) × (denotes_same t bytes after_previous e ≡ true))
+    after_previous-cases after_previous place (inl h) =
+        let s = same-shown t bytes after_previous e place at h in
+        inr (sym (shown-line bytes after_previous) ∙ ap (λ (x : Point). x.line) s ∙ shown-line bytes e, same-column t bytes d after_previous e place at h ∙ first, h)
+    after_previous-cases after_previous place (inr (inl h)) = inl h
+    after_previous-cases after_previous place (inr (inr h)) = let c = h.1 in let b = place.bounds.first in absurd (omega arith)
 
     -- a place that is not after the beginning of a line is in an earlier line, or denotes the same
-    pub left-earlier : (left : Point) → IsPlace t bytes left → is_upto t bytes left e ≡ true
-        → (left.line < e.line) ⊎ ((left.line ≡ e.line) × (left.column ≡ 1) × (denotes_same t bytes left e ≡ true))
-    left-earlier left place upto = left-cases left place (places-rise t bytes d left e place at upto)
+    pub after_previous-earlier : (after_previous : Point) → IsPlace t bytes after_previous → is_upto t bytes after_previous e ≡ true
+        → (after_previous.line < e.line) ⊎ ((after_previous.line ≡ e.line) × (after_previous.column ≡ 1) × (denotes_same t bytes after_previous e ≡ true))
+    after_previous-earlier after_previous place upto = after_previous-cases after_previous place (places-rise t bytes d after_previous e place at upto)
 
   -- a gap is added, from the beginning of the line where the text ends
-  module _ (skips : List Point) (start e q : Point) (are : Every (IsSkip t bytes e) skips) (at : IsPlace t bytes e) (to : IsPlace t bytes q)
+  module _ (skips : List Point) (start e q : Point) (are : AllByRecursion (IsSkip t bytes e) skips) (at : IsPlace t bytes e) (to : IsPlace t bytes q)
       (first : e.column ≡ 1) (line : q.line ≡ e.line) (before : stands_before e q ≡ true) (other : denotes_same t bytes q e ≡ false) where
     added-upto : is_upto t bytes e q ≡ true
     added-upto = upto-order t bytes e q (after-before e.index e.vs q.index q.vs before)
@@ -558,7 +559,7 @@ module _ (t : ℕ) (bytes : List ℕ) (d : 0 < t) where
       | inr (inr h) ↦ omega (arith, h.1)
     ]
 
-    pub added-skips : Every (IsSkip t bytes q) (skips ++ q ∷ [])
+    pub added-skips : AllByRecursion (IsSkip t bytes q) (skips ++ q ∷ [])
     added-skips = every-append (IsSkip t bytes q) skips (q ∷ []) (skips-upto t bytes d skips e q are added-upto)
         (record { place = to; inside = added-inside; upto = upto-self t bytes q }, tt)
 
@@ -569,40 +570,40 @@ module _ (t : ℕ) (bytes : List ℕ) (d : 0 < t) where
     added-earlier k h = skip-other skips q k (below-not q.line k (omega arith))
 
     -- what was read keeps what it kept
-    pub added-read : (left : Point) → is_upto t bytes left e ≡ true → kept_between t bytes (skips ++ q ∷ []) start left ≡ kept_between t bytes skips start left
-    added-read left upto =
-        let read = filter (in_range start left) (virtual t bytes) in
+    pub added-read : (after_previous : Point) → is_upto t bytes after_previous e ≡ true → kept_between t bytes (skips ++ q ∷ []) start after_previous ≡ kept_between t bytes skips start after_previous
+    added-read after_previous upto =
+        let read = filter (in_range start after_previous) (virtual t bytes) in
         filter-same (is_kept (skips ++ q ∷ [])) (is_kept skips) read
         (every-map (λ s. s.point.line < e.line) (λ s. is_kept (skips ++ q ∷ []) s ≡ is_kept skips s)
-        (λ s h. ap (λ (o : Option Point). is_kept_by o s) (added-earlier s.point.line h)) read (read-earlier e at first start left upto))
+        (λ s h. ap (λ (o : Option Point). is_kept_by o s) (added-earlier s.point.line h)) read (read-earlier e at first start after_previous upto))
 
     -- the gap has nothing that is kept
     pub added-text : is_upto t bytes start e ≡ true → kept_between t bytes (skips ++ q ∷ []) start q ≡ kept_between t bytes skips start e
     added-text from = jump-same t bytes d (skips ++ q ∷ []) e at start q from to line (added-there e.line refl) added-upto ∙ added-read e (upto-self t bytes e)
 
     -- a place that is not after where the text ended
-    module _ (left : Point) (place : IsPlace t bytes left) (upto : is_upto t bytes left e ≡ true) where
-      pub added-outside : IsOutside skips left → IsOutside (skips ++ q ∷ []) left
-      added-outside outside p h = elim (left-earlier e at first left place upto) [
-        | inl l ↦ outside p (sym (added-earlier left.line l) ∙ h)
+    module _ (after_previous : Point) (place : IsPlace t bytes after_previous) (upto : is_upto t bytes after_previous e ≡ true) where
+      pub added-outside : IsOutside skips after_previous → IsOutside (skips ++ q ∷ []) after_previous
+      added-outside outside p h = elim (after_previous-earlier e at first after_previous place upto) [
+        | inl l ↦ outside p (sym (added-earlier after_previous.line l) ∙ h)
         | inr l ↦ inl l.1
       ]
 
       -- the next byte is looked for where it was, or after the gap
-      pub added-resumed : (resumed (skips ++ q ∷ []) left ≡ resumed skips left) ⊎ ((denotes_same t bytes left e ≡ true) × (resumed skips left ≡ left) × (resumed (skips ++ q ∷ []) left ≡ q))
-      added-resumed = elim (left-earlier e at first left place upto) [
-        | inl l ↦ inl (resumed-like skips (skips ++ q ∷ []) left (added-earlier left.line l))
-        | inr l ↦ inr (l.2, resumed-none skips left l.1 (ap (skip_of skips) l.0 ∙ added-none), resumed-to (skips ++ q ∷ []) left q l.1 (added-there left.line l.0))
+      pub added-resumed : (resumed (skips ++ q ∷ []) after_previous ≡ resumed skips after_previous) ⊎ ((denotes_same t bytes after_previous e ≡ true) × (resumed skips after_previous ≡ after_previous) × (resumed (skips ++ q ∷ []) after_previous ≡ q))
+      added-resumed = elim (after_previous-earlier e at first after_previous place upto) [
+        | inl l ↦ inl (resumed-like skips (skips ++ q ∷ []) after_previous (added-earlier after_previous.line l))
+        | inr l ↦ inr (l.2, resumed-none skips after_previous l.1 (ap (skip_of skips) l.0 ∙ added-none), resumed-to (skips ++ q ∷ []) after_previous q l.1 (added-there after_previous.line l.0))
       ]
 
-      pub added-resumed_before : denotes_same t bytes left e ≡ false → resumed (skips ++ q ∷ []) left ≡ resumed skips left
+      pub added-resumed_before : denotes_same t bytes after_previous e ≡ false → resumed (skips ++ q ∷ []) after_previous ≡ resumed skips after_previous
       added-resumed_before h = elim added-resumed [ inl r ↦ r | inr r ↦ (let f = r.0 in absurd (cc)) ]
 
-      pub added-shown : stands_before (shown bytes (resumed (skips ++ q ∷ []) left)) (shown bytes (resumed skips left)) ≡ false
+      pub added-shown : stands_before (shown bytes (resumed (skips ++ q ∷ []) after_previous)) (shown bytes (resumed skips after_previous)) ≡ false
       added-shown = elim added-resumed [
-        | inl r ↦ (let p = shown bytes (resumed skips left) in ap (λ (x : Point). stands_before (shown bytes x) p) r ∙ before-self p.index p.vs)
-        | inr r ↦ ap (λ (x : Point). stands_before (shown bytes x) (shown bytes (resumed skips left))) r.2 ∙ ap (λ (x : Point). stands_before (shown bytes q) (shown bytes x)) r.1
-            ∙ upto-shown t bytes d left q place to (upto-upto t bytes left e q upto added-upto)
+        | inl r ↦ (let p = shown bytes (resumed skips after_previous) in ap (λ (x : Point). stands_before (shown bytes x) p) r ∙ before-self p.index p.vs)
+        | inr r ↦ ap (λ (x : Point). stands_before (shown bytes x) (shown bytes (resumed skips after_previous))) r.2 ∙ ap (λ (x : Point). stands_before (shown bytes q) (shown bytes x)) r.1
+            ∙ upto-shown t bytes d after_previous q place to (upto-upto t bytes after_previous e q upto added-upto)
       ]
 
     -- the place after the gap is in no gap
@@ -620,7 +621,7 @@ module _ (t : ℕ) (bytes : List ℕ) (d : 0 < t) where
       let ends : shown bytes p ≡ end_after s.end ss = way-ends t bytes d e p b a upto ∙ ap (end_after (shown bytes e)) h in
       let f = λ (r : Seat). stands_before r.point p in
       let after = λ (r : Seat). (stands_before r.point e ≡ false) × (f r ≡ true) in
-      let later = subst (Every after) h (every-kept (λ r. stands_before r.point e ≡ false) f (rest_at t bytes e) (rest-later t bytes e)) in
+      let later = subst (AllByRecursion after) h (every-kept (λ r. stands_before r.point e ≡ false) f (rest_at t bytes e) (rest-later t bytes e)) in
       let q = end_after s.end ss in
       let passes = upto-before e.index e.vs s.point.index s.point.vs s.end.index s.end.vs later.0.0 c.1.ends in
       inr (ap (stands_before e) ends ∙ before-upto e.index e.vs s.end.index s.end.vs q.index q.vs passes (chain-upto t bytes s.end ss (rest_at t bytes p) c.2))

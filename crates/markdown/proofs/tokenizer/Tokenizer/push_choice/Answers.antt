@@ -1,8 +1,8 @@
 use Rattle.std.proofs.Common.{◌≡◌, ◌∙◌, ◌++◌, ◌∷◌, [], Option, ap, refl}
 use Rattle.markdown.specs.declared.waiting.Progress.{Progress}
-use Rattle.markdown.proofs.Choices.{saved_if, chosen-marks, chosen-choices}
-use Rattle.markdown.proofs.tokenizer.Tokenizer.choose.Goals.{then-saves, else-saves}
-use Rattle.markdown.proofs.tokenizer.Tokenizer.choose.Goals as goal
+use Rattle.markdown.proofs.Choices.{saved_if, chosen-kept_choices, chosen-choices}
+use Rattle.markdown.proofs.tokenizer.Tokenizer.push_choice.Goals.{then-saves, else-saves}
+use Rattle.markdown.proofs.tokenizer.Tokenizer.push_choice.Goals as goal
 
 pub invariant_of-self-2 : goal.invariant_of-self-2
 invariant_of-self-2 g c =
@@ -11,8 +11,8 @@ invariant_of-self-2 g c =
       | then-saves w ↦ w.saved-is ∙ (let e = w.if-saves.true in let a = w.len.ensures ∙ t.events.ok.0 in let b = w.len-then-saves.ensures ∙ t.stack.ok.0 in rw (e, a, b) refl)
       | else-saves w ↦ w.saved-is ∙ (let e = w.if-saves.false in rw e refl)
     ]) in
-    let put : c.push.new.self.items ≡ t.marks.items ++ record { kind = c.args.kind; ok = c.args.ok; nok = c.args.nok; saved = saved_if c.args.saves t } ∷ [] =
-    c.in_ok-push.ensures.items ∙ ap (λ (s : Option Progress). t.marks.items ++ record { kind = c.args.kind; ok = c.args.ok; nok = c.args.nok; saved = s } ∷ []) saved in
+    let put : c.push.new.self.items ≡ t.kept_choices.items ++ record { kind = c.args.kind; ok = c.args.ok; nok = c.args.nok; saved = saved_if c.args.saves t } ∷ [] =
+    c.in_ok-push.ensures.items ∙ ap (λ (s : Option Progress). t.kept_choices.items ++ record { kind = c.args.kind; ok = c.args.ok; nok = c.args.nok; saved = s } ∷ []) saved in
     record {
       limit = sound.limit;
       reads = sound.reads;
@@ -23,7 +23,7 @@ invariant_of-self-2 g c =
       waiting = sound.waiting;
       ended = sound.ended;
       made = sound.made;
-      marks = chosen-marks t sound c.args.kind c.args.ok c.args.nok c.args.saves c.push.new.self.items put;
+      kept_choices = chosen-kept_choices t sound c.args.kind c.args.ok c.args.nok c.args.saves c.push.new.self.items put;
     }
 
 pub returns-clause-ok : goal.returns-clause-ok
@@ -33,7 +33,7 @@ returns-clause-ok g c =
       | then-saves w ↦ w.saved-is ∙ (let e = w.if-saves.true in let a = w.len.ensures ∙ t.events.ok.0 in let b = w.len-then-saves.ensures ∙ t.stack.ok.0 in rw (e, a, b) refl)
       | else-saves w ↦ w.saved-is ∙ (let e = w.if-saves.false in rw e refl)
     ]) in
-    let put : c.push.new.self.items ≡ t.marks.items ++ record { kind = c.args.kind; ok = c.args.ok; nok = c.args.nok; saved = saved_if c.args.saves t } ∷ [] =
-    c.in_ok-push.ensures.items ∙ ap (λ (s : Option Progress). t.marks.items ++ record { kind = c.args.kind; ok = c.args.ok; nok = c.args.nok; saved = s } ∷ []) saved in
+    let put : c.push.new.self.items ≡ t.kept_choices.items ++ record { kind = c.args.kind; ok = c.args.ok; nok = c.args.nok; saved = saved_if c.args.saves t } ∷ [] =
+    c.in_ok-push.ensures.items ∙ ap (λ (s : Option Progress). t.kept_choices.items ++ record { kind = c.args.kind; ok = c.args.ok; nok = c.args.nok; saved = s } ∷ []) saved in
     let choices = chosen-choices t sound c.args.kind c.args.ok c.args.nok c.args.saves c.push.new.self.items put in
     rw (← c.self.view_is) (rw choices refl)

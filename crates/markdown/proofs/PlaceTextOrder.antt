@@ -1,4 +1,5 @@
 -- The virtual bytes of a text stand in order: each begins before it ends, and none begins before the one before it ends.
+use Rattle.std.specs.List.{AllByRecursion}
 use Rattle.std.proofs.Common.{◌≡◌, ◌≢◌, ℕ, zero, suc, ◌+◌, ◌<◌, ◌≤◌, List, [], ◌∷◌, ◌++◌, Bool, true, false, cond, Some, length, refl, sym, ap, ◌∙◌, subst, arith, inl, inr}
 use Rattle.std.specs.Prelude.{slice_get, slice_index, drop, ◌==◌, nat_lt, not, ◌&&◌, ◌||◌, filter}
 use Rattle.std.specs.List.{list_all}
@@ -11,12 +12,11 @@ use Rattle.markdown_base.specs.Places.{stands_before, shown, IsShown, is_upto, d
 use Rattle.markdown.specs.declared.waiting.Waits.TheVariants.{Byte}
 use Rattle.markdown.specs.Text.{Given, Text, Piece, pushed, passed, IsText, empty_text, followed_by, followed_by_all, FitsAfter, CanFollow, in_range}
 use Rattle.markdown.specs.Sight.{sight_of}
-use Rattle.markdown.specs.Cursor.{Every}
-use Rattle.markdown.proofs.Orders.{before-self, above-later, below-before, more-before, not-before, not-before-in, is-number, is-not, after-before, before-upto, upto-before, later-later, every-append, every-map, every-both, every-all}
-use Rattle.markdown.proofs.Seats.{virtual-index}
-use Rattle.markdown.proofs.Chains.{shown-other, shown-after}
-use Rattle.markdown.proofs.Standing.{shown-upto}
-use Rattle.markdown.proofs.Cursors.{same-before}
+use Rattle.markdown.proofs.PlaceOrder.{before-self, above-later, below-before, more-before, not-before, not-before-in, is-number, is-not, after-before, before-upto, upto-before, later-later, every-append, every-map, every-both, every-all}
+use Rattle.markdown.proofs.PlaceSeats.{virtual-index}
+use Rattle.markdown.proofs.PlaceChains.{shown-other, shown-after}
+use Rattle.markdown.proofs.PlaceStanding.{shown-upto}
+use Rattle.markdown.proofs.PlaceCursors.{same-before}
 
 -- a virtual byte begins before it ends, at a place that is shown at itself
 abbrev pub IsGood : List ℕ → Seat → Type 0
@@ -29,26 +29,26 @@ Follows s r = (stands_before s.point r.point ≡ true) × (stands_before r.point
 -- virtual bytes, each good, in order
 abbrev pub AreInOrder : List ℕ → List Seat → Type 0
 AreInOrder bytes [] = Unit {0}
-AreInOrder bytes (s ∷ ss) = IsGood bytes s × Every (Follows s) ss × AreInOrder bytes ss
+AreInOrder bytes (s ∷ ss) = IsGood bytes s × AllByRecursion (Follows s) ss × AreInOrder bytes ss
 
-and-left : (a b : Bool) → (a && b) ≡ true → (a ≡ true) × (b ≡ true)
-and-left true b h = (refl, h)
-and-left false b h = absurd (cc)
+and-after_previous : (a b : Bool) → (a && b) ≡ true → (a ≡ true) × (b ≡ true)
+and-after_previous true b h = (refl, h)
+and-after_previous false b h = absurd (cc)
 
-list-every : (f : Seat → Bool) (xs : List Seat) → list_all f xs ≡ true → Every (λ x. f x ≡ true) xs
+list-every : (f : Seat → Bool) (xs : List Seat) → list_all f xs ≡ true → AllByRecursion (λ x. f x ≡ true) xs
 list-every f [] h = tt
-list-every f (x ∷ xs) h = let both = and-left (f x) (list_all f xs) h in (both.0, list-every f xs both.1)
+list-every f (x ∷ xs) h = let both = and-after_previous (f x) (list_all f xs) h in (both.0, list-every f xs both.1)
 
-given-at : (P : Seat → Type 0) (x : Seat) (ys : List Seat) (b : Bool) → (b ≡ true → P x) → Every P ys → Every P (cond b (x ∷ ys) ys)
+given-at : (P : Seat → Type 0) (x : Seat) (ys : List Seat) (b : Bool) → (b ≡ true → P x) → AllByRecursion P ys → AllByRecursion P (cond b (x ∷ ys) ys)
 given-at P x ys true h k = (h refl, k)
 given-at P x ys false h k = k
 
-every-given : (P : Seat → Type 0) (f : Seat → Bool) (xs : List Seat) → Every (λ x. f x ≡ true → P x) xs → Every P (filter f xs)
+every-given : (P : Seat → Type 0) (f : Seat → Bool) (xs : List Seat) → AllByRecursion (λ x. f x ≡ true → P x) xs → AllByRecursion P (filter f xs)
 every-given P f [] h = tt
 every-given P f (x ∷ xs) h = given-at P x (filter f xs) (f x) h.0 (every-given P f xs h.1)
 
 module _ (bytes : List ℕ) where
-  order-append : (xs ys : List Seat) → AreInOrder bytes xs → AreInOrder bytes ys → Every (λ s. Every (Follows s) ys) xs → AreInOrder bytes (xs ++ ys)
+  order-append : (xs ys : List Seat) → AreInOrder bytes xs → AreInOrder bytes ys → AllByRecursion (λ s. AllByRecursion (Follows s) ys) xs → AreInOrder bytes (xs ++ ys)
   order-append [] ys h k f = k
   order-append (s ∷ ss) ys h k f = (h.0, every-append (Follows s) ss ys h.1 f.0, order-append ss ys h.2 k f.1)
 
@@ -72,7 +72,7 @@ no-lf-at zero (x ∷ xs) bs e f = is-not x 10 (ap begins_with_lf e ∙ f)
 no-lf-at (suc j) (x ∷ xs) bs e f = no-lf-at j xs bs e f
 
 -- the virtual bytes of a tab are at its index, one after another
-in-tab-at : (byte n l c i v : ℕ) → Every (λ s. (s.point.index ≡ i) × (v ≤ s.point.vs)) (in_tab byte n l c i v)
+in-tab-at : (byte n l c i v : ℕ) → AllByRecursion (λ s. (s.point.index ≡ i) × (v ≤ s.point.vs)) (in_tab byte n l c i v)
 in-tab-at byte zero l c i v = tt
 in-tab-at byte (suc n) l c i v = (
   (refl, omega arith),
@@ -84,14 +84,14 @@ in-tab-before i v j w e h = grind (arith, nat_tests)
 
 -- all that is not before a place follows these
 abbrev IsBehind : List Seat → List Seat → Point → Type 0
-IsBehind all xs p = Every (λ s. Every (λ r. stands_before r.point p ≡ false → Follows s r) all) xs
+IsBehind all xs p = AllByRecursion (λ s. AllByRecursion (λ r. stands_before r.point p ≡ false → Follows s r) all) xs
 
 -- a text in order: its virtual bytes are, all that is not before its end follows them, and none is before its start
 record IsInOrder (g : Given) (text : Text) : Type 0 where
   order : AreInOrder g.bytes text.seats
   behind : IsBehind (virtual g.tab g.bytes) text.seats text.end
-  after_start : Every (λ s. stands_before s.point text.start ≡ false) text.seats
-  upto : Every (λ r. stands_before r.point text.end ≡ false → stands_before r.point text.start ≡ false) (virtual g.tab g.bytes)
+  after_start : AllByRecursion (λ s. stands_before s.point text.start ≡ false) text.seats
+  upto : AllByRecursion (λ r. stands_before r.point text.end ≡ false → stands_before r.point text.start ≡ false) (virtual g.tab g.bytes)
 
 module _ (t : ℕ) (bytes : List ℕ) where
   -- what comes at a later index follows a virtual byte that ends there at the latest
@@ -108,12 +108,12 @@ module _ (t : ℕ) (bytes : List ℕ) where
     upto : s.end.index ≤ suc i
     last : s.end.index ≡ suc i → s.end.vs ≡ 0
 
-  all-follow : (i : ℕ) (s : Seat) (xs : List Seat) → IsOf i s → Every (λ r. suc i ≤ r.point.index) xs → Every (Follows s) xs
+  all-follow : (i : ℕ) (s : Seat) (xs : List Seat) → IsOf i s → AllByRecursion (λ r. suc i ≤ r.point.index) xs → AllByRecursion (Follows s) xs
   all-follow i s xs h k =
       every-map (λ r. suc i ≤ r.point.index) (Follows s)
       (λ r l. (below-before s.point.index s.point.vs r.point.index r.point.vs (omega (arith, h.at)), not-yet s r i (nat_lt s.end.index (suc i)) refl h.upto h.last l)) xs k
 
-  one-order : (i : ℕ) (s : Seat) (xs : List Seat) → IsOf i s → Every (λ r. suc i ≤ r.point.index) xs → AreInOrder bytes xs → AreInOrder bytes (s ∷ xs)
+  one-order : (i : ℕ) (s : Seat) (xs : List Seat) → IsOf i s → AllByRecursion (λ r. suc i ≤ r.point.index) xs → AreInOrder bytes xs → AreInOrder bytes (s ∷ xs)
   one-order i s xs h k o = (h.good, all-follow i s xs h k, o)
 
   plain-of : (byte l c m d i : ℕ) → IsShown bytes (point m d (suc i) 0) → IsOf i (record { byte = byte; point = point l c i 0; end = point m d (suc i) 0 })
@@ -134,14 +134,14 @@ module _ (t : ℕ) (bytes : List ℕ) where
   }
 
   -- the later virtual bytes of a tab follow one of them
-  tab-follows : (byte n l c i v : ℕ) → Every (Follows (record { byte = byte; point = point l c i v; end = end_in_tab n l c i v })) (in_tab 32 n l (suc c) i (suc v))
+  tab-follows : (byte n l c i v : ℕ) → AllByRecursion (Follows (record { byte = byte; point = point l c i v; end = end_in_tab n l c i v })) (in_tab 32 n l (suc c) i (suc v))
   tab-follows byte zero l c i v = tt
   tab-follows byte (suc n) l c i v =
       every-map (λ r. (r.point.index ≡ i) × (suc v ≤ r.point.vs)) (Follows (record { byte = byte; point = point l c i v; end = point l (suc c) i (suc v) }))
       (λ r h. (in-tab-before i v r.point.index r.point.vs h.0 h.1, not-before-in r.point.index r.point.vs i (suc v) h.0 h.1)) (in_tab 32 (suc n) l (suc c) i (suc v)) (in-tab-at 32 (suc n) l (suc c) i (suc v))
 
   -- the virtual bytes of a tab
-  tab-of : (byte n l c i v : ℕ) → slice_index bytes i ≡ 9 → Every (IsOf i) (in_tab byte n l c i v)
+  tab-of : (byte n l c i v : ℕ) → slice_index bytes i ≡ 9 → AllByRecursion (IsOf i) (in_tab byte n l c i v)
   tab-of byte zero l c i v tab = tt
   tab-of byte (suc n) l c i v tab = (tab-one byte n l c i v tab, tab-of 32 n l (suc c) i (suc v) tab)
 
@@ -149,8 +149,8 @@ module _ (t : ℕ) (bytes : List ℕ) where
   tab-order byte zero l c i v tab = tt
   tab-order byte (suc n) l c i v tab = ((tab-one byte n l c i v tab).good, tab-follows byte n l c i v, tab-order 32 n l (suc c) i (suc v) tab)
 
-  tabs-follow : (i : ℕ) (xs ys : List Seat) → Every (IsOf i) xs → Every (λ r. suc i ≤ r.point.index) ys → Every (λ s. Every (Follows s) ys) xs
-  tabs-follow i xs ys h k = every-map (IsOf i) (λ s. Every (Follows s) ys) (λ s l. all-follow i s ys l k) xs h
+  tabs-follow : (i : ℕ) (xs ys : List Seat) → AllByRecursion (IsOf i) xs → AllByRecursion (λ r. suc i ≤ r.point.index) ys → AllByRecursion (λ s. AllByRecursion (Follows s) ys) xs
+  tabs-follow i xs ys h k = every-map (IsOf i) (λ s. AllByRecursion (Follows s) ys) (λ s l. all-follow i s ys l k) xs h
 
   -- one byte of the document, and what follows it
   byte-order : (l c i b : ℕ) (bs : List ℕ) (x y z w : Bool) → (b == 10) ≡ x → (b == 13) ≡ y → begins_with_lf bs ≡ z → (b == 9) ≡ w → drop i bytes ≡ b ∷ bs → slice_index bytes i ≡ b
@@ -183,7 +183,7 @@ module _ (t : ℕ) (bytes : List ℕ) where
 
   -- of two virtual bytes, the one that begins later follows the other
   abbrev AreCompared : List Seat → List Seat → Type 0
-  AreCompared xs ys = Every (λ s. Every (λ r. stands_before s.point r.point ≡ true → Follows s r) ys) xs
+  AreCompared xs ys = AllByRecursion (λ s. AllByRecursion (λ r. stands_before s.point r.point ≡ true → Follows s r) ys) xs
 
   not-after : (s r : Seat) → Follows s r → stands_before r.point s.point ≡ true → Follows r s
   not-after s r h k = absurd (let no = after-before s.point.index s.point.vs r.point.index r.point.vs h.0 in let e : true ≡ false = sym k ∙ no in cc)
@@ -191,7 +191,7 @@ module _ (t : ℕ) (bytes : List ℕ) where
   not-itself : (s : Seat) → stands_before s.point s.point ≡ true → Follows s s
   not-itself s k = absurd (let e : true ≡ false = sym k ∙ before-self s.point.index s.point.vs in cc)
 
-  compared-more : (s : Seat) (xs ys : List Seat) → Every (Follows s) xs → AreCompared xs ys → AreCompared xs (s ∷ ys)
+  compared-more : (s : Seat) (xs ys : List Seat) → AllByRecursion (Follows s) xs → AreCompared xs ys → AreCompared xs (s ∷ ys)
   compared-more s [] ys h k = tt
   compared-more s (r ∷ rs) ys h k = ((not-after s r h.0, k.0), compared-more s rs ys h.1 k.1)
 
@@ -209,17 +209,17 @@ module _ (t : ℕ) (bytes : List ℕ) where
   or-before true false h e = absurd (cc)
   or-before false b h e = refl
 
-  upto-later : (p q : Point) → is_upto t bytes p q ≡ true → Every (λ r. stands_before r.point q ≡ false → stands_before r.point p ≡ false) (virtual t bytes)
+  upto-later : (p q : Point) → is_upto t bytes p q ≡ true → AllByRecursion (λ r. stands_before r.point q ≡ false → stands_before r.point p ≡ false) (virtual t bytes)
   upto-later p q h =
       every-map (λ r. (not (stands_before r.point p) || stands_before r.point q) ≡ true) (λ r. stands_before r.point q ≡ false → stands_before r.point p ≡ false)
       (λ r e. or-before (stands_before r.point p) (stands_before r.point q) e) (virtual t bytes) (list-every (λ r. not (stands_before r.point p) || stands_before r.point q) (virtual t bytes) h)
 
-  same-later : (p q : Point) → denotes_same t bytes p q ≡ true → Every (λ r. stands_before r.point p ≡ false → stands_before r.point q ≡ false) (virtual t bytes)
+  same-later : (p q : Point) → denotes_same t bytes p q ≡ true → AllByRecursion (λ r. stands_before r.point p ≡ false → stands_before r.point q ≡ false) (virtual t bytes)
   same-later p q h = every-map (λ r. stands_before r.point p ≡ stands_before r.point q) (λ r. stands_before r.point p ≡ false → stands_before r.point q ≡ false) (λ r e k. sym e ∙ k) (virtual t bytes) (same-before t bytes p q h)
 
-  behind-further : (xs : List Seat) (p q : Point) → Every (λ r. stands_before r.point q ≡ false → stands_before r.point p ≡ false) (virtual t bytes) → IsBehind (virtual t bytes) xs p → IsBehind (virtual t bytes) xs q
+  behind-further : (xs : List Seat) (p q : Point) → AllByRecursion (λ r. stands_before r.point q ≡ false → stands_before r.point p ≡ false) (virtual t bytes) → IsBehind (virtual t bytes) xs p → IsBehind (virtual t bytes) xs q
   behind-further xs p q h b =
-      every-map (λ s. Every (λ r. stands_before r.point p ≡ false → Follows s r) (virtual t bytes)) (λ s. Every (λ r. stands_before r.point q ≡ false → Follows s r) (virtual t bytes))
+      every-map (λ s. AllByRecursion (λ r. stands_before r.point p ≡ false → Follows s r) (virtual t bytes)) (λ s. AllByRecursion (λ r. stands_before r.point q ≡ false → Follows s r) (virtual t bytes))
       (λ s k. every-both (λ r. stands_before r.point q ≡ false → stands_before r.point p ≡ false) (λ r. stands_before r.point p ≡ false → Follows s r) (λ r. stands_before r.point q ≡ false → Follows s r) (λ r a c e. c (a e)) (virtual t bytes) h k) xs b
 
   parts : (a b : Bool) → (not a && b) ≡ true → (a ≡ false) × (b ≡ true)
@@ -229,21 +229,21 @@ module _ (t : ℕ) (bytes : List ℕ) where
   -- the virtual bytes of a range are behind its end
   range-behind : (from to : Point) → IsBehind (virtual t bytes) (filter (in_range from to) (virtual t bytes)) to
   range-behind from to =
-      every-given (λ s. Every (λ r. stands_before r.point to ≡ false → Follows s r) (virtual t bytes)) (in_range from to) (virtual t bytes)
-      (every-map (λ s. Every (λ r. stands_before s.point r.point ≡ true → Follows s r) (virtual t bytes)) (λ s. in_range from to s ≡ true → Every (λ r. stands_before r.point to ≡ false → Follows s r) (virtual t bytes))
+      every-given (λ s. AllByRecursion (λ r. stands_before r.point to ≡ false → Follows s r) (virtual t bytes)) (in_range from to) (virtual t bytes)
+      (every-map (λ s. AllByRecursion (λ r. stands_before s.point r.point ≡ true → Follows s r) (virtual t bytes)) (λ s. in_range from to s ≡ true → AllByRecursion (λ r. stands_before r.point to ≡ false → Follows s r) (virtual t bytes))
       (λ s k e. let inside = (parts (stands_before s.point from) (stands_before s.point to) e).1 in
       every-map (λ r. stands_before s.point r.point ≡ true → Follows s r) (λ r. stands_before r.point to ≡ false → Follows s r)
       (λ r f later. f (before-upto s.point.index s.point.vs to.index to.vs r.point.index r.point.vs inside later)) (virtual t bytes) k)
       (virtual t bytes) virtual-compared)
 
   -- what holds of all virtual bytes that are not before a place holds of those of a range from there
-  range-all : (P : Seat → Type 0) (from to : Point) → Every (λ r. stands_before r.point from ≡ false → P r) (virtual t bytes) → Every P (filter (in_range from to) (virtual t bytes))
+  range-all : (P : Seat → Type 0) (from to : Point) → AllByRecursion (λ r. stands_before r.point from ≡ false → P r) (virtual t bytes) → AllByRecursion P (filter (in_range from to) (virtual t bytes))
   range-all P from to h =
       every-given P (in_range from to) (virtual t bytes)
       (every-map (λ r. stands_before r.point from ≡ false → P r) (λ r. in_range from to r ≡ true → P r) (λ r k e. k (parts (stands_before r.point from) (stands_before r.point to) e).0) (virtual t bytes) h)
 
-  composed : (p q r : Point) → Every (λ s. stands_before s.point p ≡ false → stands_before s.point q ≡ false) (virtual t bytes) → Every (λ s. stands_before s.point q ≡ false → stands_before s.point r ≡ false) (virtual t bytes)
-      → Every (λ s. stands_before s.point p ≡ false → stands_before s.point r ≡ false) (virtual t bytes)
+  composed : (p q r : Point) → AllByRecursion (λ s. stands_before s.point p ≡ false → stands_before s.point q ≡ false) (virtual t bytes) → AllByRecursion (λ s. stands_before s.point q ≡ false → stands_before s.point r ≡ false) (virtual t bytes)
+      → AllByRecursion (λ s. stands_before s.point p ≡ false → stands_before s.point r ≡ false) (virtual t bytes)
   composed p q r h k =
       every-both (λ s. stands_before s.point p ≡ false → stands_before s.point q ≡ false) (λ s. stands_before s.point q ≡ false → stands_before s.point r ≡ false) (λ s. stands_before s.point p ≡ false → stands_before s.point r ≡ false)
       (λ s a b e. b (a e)) (virtual t bytes) h k
@@ -259,17 +259,17 @@ module _ (g : Given) where
       let to_end = composed g.tab g.bytes to from text.end to_from from_end in
       let from_start = composed g.tab g.bytes from text.end text.start from_end h.upto in
       let more = filter (in_range from to) all_seats in
-      let follow : Every (λ s. Every (Follows s) more) text.seats =
-      every-map (λ s. Every (λ r. stands_before r.point text.end ≡ false → Follows s r) all_seats) (λ s. Every (Follows s) more)
+      let follow : AllByRecursion (λ s. AllByRecursion (Follows s) more) text.seats =
+      every-map (λ s. AllByRecursion (λ r. stands_before r.point text.end ≡ false → Follows s r) all_seats) (λ s. AllByRecursion (Follows s) more)
       (λ s k. range-all g.tab g.bytes (Follows s) from to (every-both (λ r. stands_before r.point from ≡ false → stands_before r.point text.end ≡ false) (λ r. stands_before r.point text.end ≡ false → Follows s r) (λ r. stands_before r.point from ≡ false → Follows s r) (λ r a b e. b (a e)) all_seats from_end k))
       text.seats h.behind in record {
         order = order-append g.bytes text.seats more h.order (order-filter g.bytes (in_range from to) all_seats (virtual-order g.tab g.bytes)) follow;
-        behind = every-append (λ s. Every (λ r. stands_before r.point to ≡ false → Follows s r) all_seats) text.seats more (behind-further g.tab g.bytes text.seats text.end to to_end h.behind) (range-behind g.tab g.bytes from to);
+        behind = every-append (λ s. AllByRecursion (λ r. stands_before r.point to ≡ false → Follows s r) all_seats) text.seats more (behind-further g.tab g.bytes text.seats text.end to to_end h.behind) (range-behind g.tab g.bytes from to);
         after_start = every-append (λ s. stands_before s.point text.start ≡ false) text.seats more h.after_start (range-all g.tab g.bytes (λ s. stands_before s.point text.start ≡ false) from to from_start);
         upto = composed g.tab g.bytes to text.end text.start to_end h.upto;
       }
 
-  ended-order : (text : Text) (p : Point) → IsInOrder g text → Every (λ r. stands_before r.point p ≡ false → stands_before r.point text.end ≡ false) all_seats
+  ended-order : (text : Text) (p : Point) → IsInOrder g text → AllByRecursion (λ r. stands_before r.point p ≡ false → stands_before r.point text.end ≡ false) all_seats
       → IsInOrder g (record { start = text.start; seats = text.seats; end = p })
   ended-order text p h on = record {
     order = h.order;
@@ -278,11 +278,11 @@ module _ (g : Given) where
     upto = composed g.tab g.bytes p text.end text.start on h.upto;
   }
 
-  later-than : (p q : Point) → stands_before q p ≡ true → Every (λ r. stands_before r.point p ≡ false → stands_before r.point q ≡ false) all_seats
+  later-than : (p q : Point) → stands_before q p ≡ true → AllByRecursion (λ r. stands_before r.point p ≡ false → stands_before r.point q ≡ false) all_seats
   later-than p q h = every-all (λ r. stands_before r.point p ≡ false → stands_before r.point q ≡ false)
       (λ r e. after-before q.index q.vs r.point.index r.point.vs (before-upto q.index q.vs p.index p.vs r.point.index r.point.vs h e)) all_seats
 
-  passed-order : (b : Bool) (text : Text) (p : Point) → IsInOrder g text → (b ≡ false → Every (λ r. stands_before r.point p ≡ false → stands_before r.point text.end ≡ false) all_seats)
+  passed-order : (b : Bool) (text : Text) (p : Point) → IsInOrder g text → (b ≡ false → AllByRecursion (λ r. stands_before r.point p ≡ false → stands_before r.point text.end ≡ false) all_seats)
       → IsInOrder g (cond b text (record { start = text.start; seats = text.seats; end = p }))
   passed-order true text p h on = h
   passed-order false text p h on = ended-order text p h (on refl)
@@ -303,7 +303,7 @@ module _ (g : Given) where
       (pieces-order (empty_text text.start) is.pieces (record { order = tt; behind = tt; after_start = tt; upto = every-all (λ r. stands_before r.point text.start ≡ false → stands_before r.point text.start ≡ false) (λ r e. e) all_seats }) is.follow)
 
 -- the element at an index of a list
-every-get : (P : Seat → Type 0) (xs : List Seat) (i : ℕ) (s : Seat) → Every P xs → slice_get xs i ≡ Some s → P s
+every-get : (P : Seat → Type 0) (xs : List Seat) (i : ℕ) (s : Seat) → AllByRecursion P xs → slice_get xs i ≡ Some s → P s
 every-get P [] i s h e = absurd (cc)
 every-get P (x ∷ xs) zero s h e = let is : x ≡ s = cc in subst P is h.0
 every-get P (x ∷ xs) (suc i) s h e = every-get P xs i s h.1 e
@@ -339,7 +339,7 @@ begins-before_end g text p is inside =
 
 -- What began before the end of the byte before began before the end of the byte that waits
 pub began-before_next : (g : Given) (text : Text) (p : ℕ) (q : Point) → IsText g text → p < length text.seats
-    → stands_before q (sight_of g text p Byte).left ≡ true → stands_before q (sight_of g text p Byte).next ≡ true
+    → stands_before q (sight_of g text p Byte).after_previous ≡ true → stands_before q (sight_of g text p Byte).next ≡ true
 began-before_next g text zero q is inside h =
     let (s, at) = there text 0 inside in
     let order = text-order g text is in
@@ -361,7 +361,7 @@ began-before_next g text (suc j) q is inside h =
 
 -- The byte before ends before the end of the byte that waits
 pub ends-before_next : (g : Given) (text : Text) (p : ℕ) → IsText g text → p < length text.seats
-    → stands_before (sight_of g text p Byte).left (sight_of g text p Byte).next ≡ true
+    → stands_before (sight_of g text p Byte).after_previous (sight_of g text p Byte).next ≡ true
 ends-before_next g text zero is inside =
     let (s, at) = there text 0 inside in
     let order = text-order g text is in

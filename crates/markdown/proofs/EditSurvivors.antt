@@ -11,7 +11,7 @@ use Rattle.markdown_base.specs.Events.{relinked, with_ends}
 use Rattle.markdown.specs.Links.{next_of, previous_of}
 use Rattle.markdown.specs.Woven.{Identity, of_list, Tagged, as_listed, place_in, placed_end, Change, events_at, is_removed, woven, changed}
 use Rattle.markdown.specs.Survivors.{AreNew, place_after, StaysUnlessRemoved, StaysAsItWas, KeepsOrder, KeepsLinks}
-use Rattle.markdown.proofs.FinalPlaces.{HasNo, place_in-append}
+use Rattle.markdown.proofs.EditFinalPlaces.{HasNo, place_in-append}
 
 same_value : (a b : ℕ) → Some a ≡ Some b → a ≡ b
 same_value a b e = ap (λ o. unwrap_or o 0) e

@@ -1,4 +1,5 @@
 -- Places of a document: where each virtual byte begins, is shown and ends, and what is left there.
+use Rattle.std.specs.List.{AllByRecursion}
 use Rattle.std.proofs.Common.{◌≡◌, ◌≢◌, ℕ, zero, suc, ◌+◌, ◌-◌, ◌<◌, ◌==◌, List, [], ◌∷◌, ◌++◌, Bool, true, false, cond, refl, sym, ap, ◌∙◌, subst, arith, append_assoc, ◌⊎◌, inl, inr}
 use Rattle.std.specs.Prelude.{slice_index, nat_lt, ◌&&◌, ◌||◌, Contains, filter}
 use Rattle.std.specs.List.{flat_map}
@@ -8,10 +9,10 @@ use Rattle.std.proofs.lemmas.List.Elements.{Contains-append_cases}
 use Rattle.markdown_base.specs.declared.event.Point.{Point}
 use Rattle.markdown_base.specs.Virtual.{Seat, point, virtual, end_after, document_end}
 use Rattle.markdown_base.specs.Places.{stands_before, shown, follows_cr, IsShown, IsPointOf}
-use Rattle.markdown.specs.Cursor.{rest_at, Every, IsPlace, IsSeatAt, begins_pair, goes_on, end_at}
-use Rattle.markdown.proofs.Orders.{is-number, not-number, before-self, later-later, after-before, before-upto, every-map}
-use Rattle.markdown.proofs.Seats.{rest-later, StandsThere, stands-there}
-use Rattle.markdown.proofs.Chains.{IsAt, Begins, IsChain, whole-chain, shown-other}
+use Rattle.markdown.specs.Cursor.{rest_at, IsPlace, IsSeatAt, begins_pair, goes_on, end_at}
+use Rattle.markdown.proofs.PlaceOrder.{is-number, not-number, before-self, later-later, after-before, before-upto, every-map}
+use Rattle.markdown.proofs.PlaceSeats.{rest-later, StandsThere, stands-there}
+use Rattle.markdown.proofs.PlaceChains.{IsAt, Begins, IsChain, whole-chain, shown-other}
 
 point-of-numbers : (a b c d e f : ℕ) → a ≡ b → d ≡ e → point a c d f ≡ point b c e f
 point-of-numbers a b c d e f h k = rw (h, k) refl
@@ -34,14 +35,14 @@ module _ (t : ℕ) (bytes : List ℕ) where
       later-later q.index q.vs s.end.index s.end.vs p.index p.vs (chain-upto s.end ss ys c.2)
       (later-later s.end.index s.end.vs s.point.index s.point.vs p.index p.vs after c.1.later)
 
-  chain-behind : (p : Point) (xs ys : List Seat) → IsChain t bytes p (xs ++ ys) → Every (λ s. stands_before s.point (end_after p xs) ≡ true) xs
+  chain-behind : (p : Point) (xs ys : List Seat) → IsChain t bytes p (xs ++ ys) → AllByRecursion (λ s. stands_before s.point (end_after p xs) ≡ true) xs
   chain-behind p [] ys c = tt
   chain-behind p (s ∷ ss) ys c =
       let q = end_after s.end ss in
       (before-upto s.point.index s.point.vs s.end.index s.end.vs q.index q.vs c.1.ends (chain-upto s.end ss ys c.2), chain-behind s.end ss ys c.2)
 
   -- what comes in a chain is not shown before its place
-  chain-later : (p : Point) (xs : List Seat) → IsChain t bytes p xs → Every (λ s. stands_before (shown bytes s.point) p ≡ false) xs
+  chain-later : (p : Point) (xs : List Seat) → IsChain t bytes p xs → AllByRecursion (λ s. stands_before (shown bytes s.point) p ≡ false) xs
   chain-later p [] c = tt
   chain-later p (s ∷ ss) c =
       let after = after-before s.point.index s.point.vs s.end.index s.end.vs c.1.ends in
@@ -51,13 +52,13 @@ module _ (t : ℕ) (bytes : List ℕ) where
             (λ r h. let q = shown bytes r.point in later-later q.index q.vs s.end.index s.end.vs p.index p.vs h upto) ss (chain-later s.end ss c.2),
       )
 
-  chain-after : (p : Point) (xs : List Seat) → IsChain t bytes p xs → Every (λ s. stands_before s.point p ≡ false) xs
-  chain-after p xs c = subst (Every (λ s. stands_before s.point p ≡ false)) (chain-at p xs c).is (rest-later t bytes p)
+  chain-after : (p : Point) (xs : List Seat) → IsChain t bytes p xs → AllByRecursion (λ s. stands_before s.point p ≡ false) xs
+  chain-after p xs c = subst (AllByRecursion (λ s. stands_before s.point p ≡ false)) (chain-at p xs c).is (rest-later t bytes p)
 
   -- each seat ends before, or where, the next ones are shown
   abbrev pub Ascends : List Seat → Type 0
   Ascends [] = Unit {0}
-  Ascends (s ∷ ss) = Every (λ r. stands_before (shown bytes r.point) s.end ≡ false) ss × Every (λ r. stands_before s.point r.point ≡ true) ss × Ascends ss
+  Ascends (s ∷ ss) = AllByRecursion (λ r. stands_before (shown bytes r.point) s.end ≡ false) ss × AllByRecursion (λ r. stands_before s.point r.point ≡ true) ss × Ascends ss
 
   pub chain-ascends : (p : Point) (xs : List Seat) → IsChain t bytes p xs → Ascends xs
   chain-ascends p [] c = tt
@@ -68,9 +69,9 @@ module _ (t : ℕ) (bytes : List ℕ) where
     chain-ascends s.end ss c.2,
   )
 
-  every-filter : (P : Seat → Type 0) (f : Seat → Bool) (xs : List Seat) → Every P xs → Every P (filter f xs)
+  every-filter : (P : Seat → Type 0) (f : Seat → Bool) (xs : List Seat) → AllByRecursion P xs → AllByRecursion P (filter f xs)
   every-filter P f [] h = tt
-  every-filter P f (x ∷ xs) h = elim (f x) as (λ b. Every P (cond b (x ∷ filter f xs) (filter f xs))) [ true ↦ (h.0, every-filter P f xs h.1) | false ↦ every-filter P f xs h.1 ]
+  every-filter P f (x ∷ xs) h = elim (f x) as (λ b. AllByRecursion P (cond b (x ∷ filter f xs) (filter f xs))) [ true ↦ (h.0, every-filter P f xs h.1) | false ↦ every-filter P f xs h.1 ]
 
   pub ascends-filter : (f : Seat → Bool) (xs : List Seat) → Ascends xs → Ascends (filter f xs)
   ascends-filter f [] h = tt
@@ -157,7 +158,7 @@ module _ (t : ℕ) (bytes : List ℕ) (d : 0 < t) where
     pub seat-begins : Begins t bytes (end_after (point 1 1 0 0) xs) s ys
     seat-begins = from-here.1
 
-    behind-seat : (q : Point) → stands_before q (end_after (point 1 1 0 0) xs) ≡ false → Every (λ r. stands_before r.point q ≡ true) xs
+    behind-seat : (q : Point) → stands_before q (end_after (point 1 1 0 0) xs) ≡ false → AllByRecursion (λ r. stands_before r.point q ≡ true) xs
     behind-seat q later =
         let p = end_after (point 1 1 0 0) xs in
         every-map (λ r. stands_before r.point p ≡ true) (λ r. stands_before r.point q ≡ true) (λ r h. before-upto r.point.index r.point.vs p.index p.vs q.index q.vs h later) xs

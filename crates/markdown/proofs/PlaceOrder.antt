@@ -1,8 +1,8 @@
 -- The order of places, and lists of seats.
+use Rattle.std.specs.List.{AllByRecursion}
 use Rattle.std.proofs.Common.{◌≡◌, ◌≢◌, ℕ, suc, ◌≤◌, ◌<◌, ◌==◌, List, [], ◌∷◌, ◌++◌, Bool, true, false, cond, refl, ap, arith}
 use Rattle.std.specs.Prelude.{filter, nat_lt, ◌&&◌, ◌||◌}
 use Rattle.std.proofs.lemmas.Bool.Decides.{nat_tests}
-use Rattle.markdown.specs.Cursor.{Every}
 
 pub before-later : (i j m n u v : ℕ) → (nat_lt i m || ((i == m) && nat_lt j n)) ≡ true → (nat_lt u m || ((u == m) && nat_lt v n)) ≡ false → (nat_lt i u || ((i == u) && nat_lt j v)) ≡ true
 before-later i j m n u v h k = grind (arith, nat_tests)
@@ -52,42 +52,42 @@ pub not-number : (b n : ℕ) → b ≢ n → (b == n) ≡ false
 not-number b n h = grind (arith, nat_tests)
 
 module _ {A : Type 0} (P : A → Type 0) where
-  pub every-append : (xs ys : List A) → Every P xs → Every P ys → Every P (xs ++ ys)
+  pub every-append : (xs ys : List A) → AllByRecursion P xs → AllByRecursion P ys → AllByRecursion P (xs ++ ys)
   every-append [] ys h k = k
   every-append (x ∷ xs) ys h k = (h.0, every-append xs ys h.1 k)
 
-  pub every-cond : (b : Bool) (xs ys : List A) → Every P xs → Every P ys → Every P (cond b xs ys)
+  pub every-cond : (b : Bool) (xs ys : List A) → AllByRecursion P xs → AllByRecursion P ys → AllByRecursion P (cond b xs ys)
   every-cond true xs ys h k = h
   every-cond false xs ys h k = k
 
-  pub every-front : (xs ys : List A) → Every P (xs ++ ys) → Every P xs
+  pub every-front : (xs ys : List A) → AllByRecursion P (xs ++ ys) → AllByRecursion P xs
   every-front [] ys h = tt
   every-front (x ∷ xs) ys h = (h.0, every-front xs ys h.1)
 
-  pub every-back : (xs ys : List A) → Every P (xs ++ ys) → Every P ys
+  pub every-back : (xs ys : List A) → AllByRecursion P (xs ++ ys) → AllByRecursion P ys
   every-back [] ys h = h
   every-back (x ∷ xs) ys h = every-back xs ys h.1
 
-  pub every-all : ((x : A) → P x) → (xs : List A) → Every P xs
+  pub every-all : ((x : A) → P x) → (xs : List A) → AllByRecursion P xs
   every-all f [] = tt
   every-all f (x ∷ xs) = (f x, every-all f xs)
 
-pub every-map : {A : Type 0} (P Q : A → Type 0) → ((x : A) → P x → Q x) → (xs : List A) → Every P xs → Every Q xs
+pub every-map : {A : Type 0} (P Q : A → Type 0) → ((x : A) → P x → Q x) → (xs : List A) → AllByRecursion P xs → AllByRecursion Q xs
 every-map P Q f [] h = tt
 every-map P Q f (x ∷ xs) h = (f x h.0, every-map P Q f xs h.1)
 
-pub every-both : {A : Type 0} (P Q R : A → Type 0) → ((x : A) → P x → Q x → R x) → (xs : List A) → Every P xs → Every Q xs → Every R xs
+pub every-both : {A : Type 0} (P Q R : A → Type 0) → ((x : A) → P x → Q x → R x) → (xs : List A) → AllByRecursion P xs → AllByRecursion Q xs → AllByRecursion R xs
 every-both P Q R f [] h k = tt
 every-both P Q R f (x ∷ xs) h k = (f x h.0 k.0, every-both P Q R f xs h.1 k.1)
 
-pub filter-none : {A : Type 0} (f : A → Bool) (xs : List A) → Every (λ x. f x ≡ false) xs → filter f xs ≡ []
+pub filter-none : {A : Type 0} (f : A → Bool) (xs : List A) → AllByRecursion (λ x. f x ≡ false) xs → filter f xs ≡ []
 filter-none f [] h = refl
 filter-none f (x ∷ xs) h = let e = h.0 in rw e (filter-none f xs h.1)
 
-pub filter-every : {A : Type 0} (f : A → Bool) (xs : List A) → Every (λ x. f x ≡ true) xs → filter f xs ≡ xs
+pub filter-every : {A : Type 0} (f : A → Bool) (xs : List A) → AllByRecursion (λ x. f x ≡ true) xs → filter f xs ≡ xs
 filter-every f [] h = refl
 filter-every f (x ∷ xs) h = let e = h.0 in rw e (ap (λ (ys : List _). x ∷ ys) (filter-every f xs h.1))
 
-pub filter-same : {A : Type 0} (f g : A → Bool) (xs : List A) → Every (λ x. f x ≡ g x) xs → filter f xs ≡ filter g xs
+pub filter-same : {A : Type 0} (f g : A → Bool) (xs : List A) → AllByRecursion (λ x. f x ≡ g x) xs → filter f xs ≡ filter g xs
 filter-same f g [] h = refl
 filter-same f g (x ∷ xs) h = let e = h.0 in rw e (ap (λ (ys : List _). cond (g x) (x ∷ ys) ys) (filter-same f g xs h.1))

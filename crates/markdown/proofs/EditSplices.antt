@@ -12,8 +12,8 @@ use Rattle.markdown.specs.Edited.{as_addition, as_change, edited}
 use Rattle.markdown.specs.Woven.{Change, of_list, Tagged, place_in, placed_end, woven, placed_in}
 use Rattle.markdown.specs.Survivors.{AreNew}
 use Rattle.markdown.specs.Spliced.{place_from, moved, spliced}
-use Rattle.markdown.proofs.Passes.{olds, pass, AreApart, woven-pass}
-use Rattle.markdown.proofs.FinalPlaces.{HasNo, old_place, old_place-pass}
+use Rattle.markdown.proofs.EditPasses.{olds, pass, AreApart, woven-pass}
+use Rattle.markdown.proofs.EditFinalPlaces.{HasNo, old_place, old_place-pass}
 
 -- disjoint edits are disjoint changes
 pub AreApart-edits : (es : List Edit) (from n : ℕ) → AreDisjoint from es n → AreApart from (map as_change es) n

@@ -7,7 +7,7 @@ use Rattle.std.proofs.lemmas.Bool.{eq-eqb, cases_order}
 use Rattle.markdown.specs.Edits.{Edit, merged, put_by, put_after, put_before, removal_at, is_no_edit, added_after, added_before}
 use Rattle.markdown.specs.Stored.{as_edit, by_index, HasNoTwins}
 use Rattle.markdown.specs.declared.util.stored.Stored.{Stored}
-use Rattle.markdown.proofs.Puts.{put-less, put-same, put-more, put-comm, put-put, put-absent, IsAbsent, IsAbsent-put}
+use Rattle.markdown.proofs.EditPuts.{put-less, put-same, put-more, put-comm, put-put, put-absent, IsAbsent, IsAbsent-put}
 
 -- the edits es, and then the stored ones
 abbrev pub all_put : List Edit → List Stored → List Edit

@@ -15,9 +15,9 @@ use Rattle.markdown_base.specs.Virtual.{Seat, point, virtual, end_after, documen
 use Rattle.markdown_base.specs.Places.{shown, points, point_at}
 use Rattle.markdown.specs.Cursor.{rest_at, IsPlace, IsSeatAt, Bounds}
 use Rattle.markdown.specs.Cuts.{place_of, is_cut, cuts_every}
-use Rattle.markdown.proofs.Orders.{upto-before}
-use Rattle.markdown.proofs.Chains.{IsChain, Begins, whole-chain}
-use Rattle.markdown.proofs.Standing.{place-after, seat-begins, chain-at, after-rest}
+use Rattle.markdown.proofs.PlaceOrder.{upto-before}
+use Rattle.markdown.proofs.PlaceChains.{IsChain, Begins, whole-chain}
+use Rattle.markdown.proofs.PlaceStanding.{place-after, seat-begins, chain-at, after-rest}
 
 -- a walk stands at a place, and has passed these virtual bytes
 pub record IsWalk (t : ℕ) (bytes : List ℕ) (p : Point) (passed : List Seat) : Type 0 where

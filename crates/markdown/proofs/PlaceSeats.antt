@@ -1,4 +1,5 @@
 -- Which virtual byte stands at a place, read from the bytes.
+use Rattle.std.specs.List.{AllByRecursion}
 use Rattle.std.proofs.Common.{◌≡◌, ◌≢◌, ℕ, zero, suc, ◌+◌, ◌-◌, ◌≤◌, ◌<◌, ◌==◌, List, [], ◌∷◌, ◌++◌, Bool, true, false, cond, length, drop, Some, ◌⊎◌, inl, inr, refl, sym, ap, ◌∙◌, arith, drop-cons, add-one, rules}
 use Rattle.std.specs.Prelude.{slice_index, nat_lt, ◌&&◌}
 use Rattle.std.proofs.lemmas.List.{drop_all}
@@ -8,22 +9,22 @@ use Rattle.std.proofs.Math.Nat.{mod-lt}
 use Rattle.markdown_base.specs.declared.event.Point.{Point}
 use Rattle.markdown_base.specs.Virtual.{Seat, point, tab_width, in_tab, end_in_tab, virtual_from, begins_with_lf}
 use Rattle.markdown_base.specs.Places.{stands_before}
-use Rattle.markdown.specs.Cursor.{rest_at, begins_pair, Every, IsSeatAt, IsNextSeat}
-use Rattle.markdown.proofs.Orders.{every-map, every-append, every-cond, not-before, not-before-in, above-later, before-self, eq-zero, is-number, is-not, not-number}
+use Rattle.markdown.specs.Cursor.{rest_at, begins_pair, IsSeatAt, IsNextSeat}
+use Rattle.markdown.proofs.PlaceOrder.{every-map, every-append, every-cond, not-before, not-before-in, above-later, before-self, eq-zero, is-number, is-not, not-number}
 
 -- seats from an index on
 abbrev FromIndex : ℕ → Seat → Type 0
 FromIndex i s = i ≤ s.point.index
 
-from-later : (i : ℕ) (xs : List Seat) → Every (FromIndex (suc i)) xs → Every (FromIndex i) xs
+from-later : (i : ℕ) (xs : List Seat) → AllByRecursion (FromIndex (suc i)) xs → AllByRecursion (FromIndex i) xs
 from-later i xs h = every-map (FromIndex (suc i)) (FromIndex i) (λ s k. omega (arith, k)) xs h
 
-tab-index : (byte n line column index vs : ℕ) → Every (λ s. (s.point.index ≡ index) × (vs ≤ s.point.vs)) (in_tab byte n line column index vs)
+tab-index : (byte n line column index vs : ℕ) → AllByRecursion (λ s. (s.point.index ≡ index) × (vs ≤ s.point.vs)) (in_tab byte n line column index vs)
 tab-index byte zero line column index vs = tt
 tab-index byte (suc n) line column index vs =
     ((refl, omega arith), every-map (λ s. (s.point.index ≡ index) × (suc vs ≤ s.point.vs)) (λ s. (s.point.index ≡ index) × (vs ≤ s.point.vs)) (λ s h. (h.0, omega (arith, h.1))) (in_tab 32 n line (suc column) index (suc vs)) (tab-index 32 n line (suc column) index (suc vs)))
 
-pub virtual-index : (t line column index : ℕ) (bs : List ℕ) → Every (FromIndex index) (virtual_from t line column index bs)
+pub virtual-index : (t line column index : ℕ) (bs : List ℕ) → AllByRecursion (FromIndex index) (virtual_from t line column index bs)
 virtual-index t line column index [] = tt
 virtual-index t line column index (b ∷ bs) =
     let P = FromIndex index in
@@ -36,7 +37,7 @@ virtual-index t line column index (b ∷ bs) =
     (here, next line (suc column))))
 
 -- what follows a place does not stand before it
-rest-later-at : (t : ℕ) (bytes : List ℕ) (p : Point) (b : Bool) → (p.vs == 0) ≡ b → Every (λ s. stands_before s.point p ≡ false) (rest_at t bytes p)
+rest-later-at : (t : ℕ) (bytes : List ℕ) (p : Point) (b : Bool) → (p.vs == 0) ≡ b → AllByRecursion (λ s. stands_before s.point p ≡ false) (rest_at t bytes p)
 rest-later-at t bytes p true e = rw e
     (every-map (FromIndex p.index) (λ s. stands_before s.point p ≡ false) (λ s h. not-before s.point.index s.point.vs p.index p.vs h (eq-zero p.vs e))
     (virtual_from t p.line p.column p.index (drop p.index bytes)) (virtual-index t p.line p.column p.index (drop p.index bytes)))
@@ -47,7 +48,7 @@ rest-later-at t bytes p false e = rw e
     (every-map (FromIndex (suc p.index)) (λ s. stands_before s.point p ≡ false) (λ s h. above-later s.point.index s.point.vs p.index p.vs (omega (arith, h)))
     (virtual_from t p.line (p.column + tab_width t p.column) (suc p.index) (drop (suc p.index) bytes)) (virtual-index t p.line (p.column + tab_width t p.column) (suc p.index) (drop (suc p.index) bytes))))
 
-pub rest-later : (t : ℕ) (bytes : List ℕ) (p : Point) → Every (λ s. stands_before s.point p ≡ false) (rest_at t bytes p)
+pub rest-later : (t : ℕ) (bytes : List ℕ) (p : Point) → AllByRecursion (λ s. stands_before s.point p ≡ false) (rest_at t bytes p)
 rest-later t bytes p = rest-later-at t bytes p (p.vs == 0) refl
 
 pub drop-at : (bytes : List ℕ) (i : ℕ) → i < length bytes → drop i bytes ≡ slice_index bytes i ∷ drop (suc i) bytes

@@ -10,8 +10,8 @@ use Rattle.std.proofs.lemmas.Map.Keys.{IsDistinct-IsPermutation}
 use Rattle.markdown.specs.Edits.{Edit, put_by, put_after}
 use Rattle.markdown.specs.Stored.{as_edit, by_index, HasNoTwins}
 use Rattle.markdown.specs.declared.util.stored.Stored.{Stored}
-use Rattle.markdown.proofs.Puts.{put-comm, put-less, put-same, put-more}
-use Rattle.markdown.proofs.StoredLemmas.{all_put}
+use Rattle.markdown.proofs.EditPuts.{put-comm, put-less, put-same, put-more}
+use Rattle.markdown.proofs.EditStored.{all_put}
 use Rattle.markdown_base.specs.declared.event.Event.{Event}
 
 -- the indices

@@ -6,8 +6,8 @@ use Rattle.markdown_base.specs.declared.event.Point.{Point}
 use Rattle.markdown_base.specs.Virtual.{point, end_after}
 use Rattle.markdown_base.specs.Places.{shown, follows_cr, is_upto, denotes_same, IsPointOf, points, point_at}
 use Rattle.markdown.specs.Cursor.{IsPlace}
-use Rattle.markdown.proofs.Standing.{place-of-point}
-use Rattle.markdown.proofs.Cursors.{same-behind, upto-order, upto-same}
+use Rattle.markdown.proofs.PlaceStanding.{place-of-point}
+use Rattle.markdown.proofs.PlaceCursors.{same-behind, upto-order, upto-same}
 
 line-of : (b : Bool) (p q : Point) → q.line ≡ p.line → (cond b q p).line ≡ p.line
 line-of true p q e = e

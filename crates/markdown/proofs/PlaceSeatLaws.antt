@@ -1,4 +1,5 @@
 -- Seats of a text, and the points of places at which they begin, are shown and end.
+use Rattle.std.specs.List.{AllByRecursion}
 use Rattle.std.proofs.Common.{◌≡◌, ℕ, zero, suc, ◌<◌, List, [], ◌∷◌, ◌++◌, Bool, true, false, cond, Some, refl, sym, ap, ◌∙◌, subst, arith, append_assoc}
 use Rattle.std.specs.Prelude.{slice_get, Contains, filter}
 use Rattle.std.specs.List.{flat_map}
@@ -8,9 +9,9 @@ use Rattle.std.proofs.lemmas.List.Elements.{Contains-append_right}
 use Rattle.markdown_base.specs.declared.event.Point.{Point}
 use Rattle.markdown_base.specs.Virtual.{Seat, point, virtual, end_after, document_end}
 use Rattle.markdown_base.specs.Places.{stands_before, shown, IsPointOf, points}
-use Rattle.markdown.specs.Cursor.{Every, IsSeatAt}
-use Rattle.markdown.proofs.Orders.{before-self, every-back}
-use Rattle.markdown.proofs.Standing.{IsAmong, Ascends, seat-begins}
+use Rattle.markdown.specs.Cursor.{IsSeatAt}
+use Rattle.markdown.proofs.PlaceOrder.{before-self, every-back}
+use Rattle.markdown.proofs.PlaceStanding.{IsAmong, Ascends, seat-begins}
 
 append-one : (xs : List Seat) (s : Seat) (ys : List Seat) → xs ++ s ∷ ys ≡ (xs ++ s ∷ []) ++ ys
 append-one xs s ys = sym (append_assoc xs (s ∷ []) ys)
@@ -37,8 +38,8 @@ get-among (x ∷ xs) (suc k) s e =
     let a = get-among xs k s e in
     record { front = x ∷ a.front; back = a.back; splits = ap (λ (ys : List Seat). x ∷ ys) a.splits }
 
-pub every-among : (P : Seat → Type 0) (xs : List Seat) (s : Seat) → Every P xs → IsAmong s xs → P s
-every-among P xs s h a = (every-back P a.front (s ∷ a.back) (subst (Every P) a.splits h)).0
+pub every-among : (P : Seat → Type 0) (xs : List Seat) (s : Seat) → AllByRecursion P xs → IsAmong s xs → P s
+every-among P xs s h a = (every-back P a.front (s ∷ a.back) (subst (AllByRecursion P) a.splits h)).0
 
 among-later : (x : Seat) (xs : List Seat) (s : Seat) → IsAmong s xs → IsAmong s (x ∷ xs)
 among-later x xs s a = record { front = x ∷ a.front; back = a.back; splits = ap (λ (ys : List Seat). x ∷ ys) a.splits }
@@ -58,7 +59,7 @@ get-front [] ys k x e = absurd (cc)
 get-front (y ∷ xs) ys zero x e = e
 get-front (y ∷ xs) ys (suc k) x e = get-front xs ys k x e
 
-get-every : (P : Seat → Type 0) (xs : List Seat) (k : ℕ) (s : Seat) → Every P xs → slice_get xs k ≡ Some s → P s
+get-every : (P : Seat → Type 0) (xs : List Seat) (k : ℕ) (s : Seat) → AllByRecursion P xs → slice_get xs k ≡ Some s → P s
 get-every P xs k s h e = every-among P xs s h (get-among xs k s e)
 
 -- of two seats of a text the later is shown at, or after, the end of the earlier

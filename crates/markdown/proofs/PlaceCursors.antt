@@ -1,4 +1,5 @@
 -- Laws of the cursor: what was read and what is left, with the order of places up to CR and LF of one CR LF.
+use Rattle.std.specs.List.{AllByRecursion}
 use Rattle.std.proofs.Common.{◌≡◌, ℕ, ◌+◌, ◌-◌, ◌≤◌, ◌<◌, List, [], ◌∷◌, ◌++◌, Bool, true, false, Some, length, refl, sym, ap, ◌∙◌, subst, arith, length-append}
 use Rattle.std.specs.Prelude.{filter, slice_get, not, ◌&&◌, ◌||◌}
 use Rattle.std.specs.List.{list_all}
@@ -7,21 +8,21 @@ use Rattle.std.proofs.lemmas.List.{append-nil, append_cancel_left}
 use Rattle.markdown_base.specs.declared.event.Point.{Point}
 use Rattle.markdown_base.specs.Virtual.{Seat, virtual}
 use Rattle.markdown_base.specs.Places.{stands_before, is_upto, denotes_same}
-use Rattle.markdown.specs.Cursor.{rest_at, Every, IsPlace, IsSeatAt, number_of}
+use Rattle.markdown.specs.Cursor.{rest_at, IsPlace, IsSeatAt, number_of}
 use Rattle.markdown.specs.Text.{in_range}
-use Rattle.markdown.proofs.Orders.{later-later, before-self, before-upto, every-map, every-both, every-append, every-front, every-back, every-all, filter-none, filter-every, filter-same}
-use Rattle.markdown.proofs.Seats.{rest-later}
-use Rattle.markdown.proofs.Standing.{seat-splits, next-begins, seat-rest, seat-passes}
+use Rattle.markdown.proofs.PlaceOrder.{later-later, before-self, before-upto, every-map, every-both, every-append, every-front, every-back, every-all, filter-none, filter-every, filter-same}
+use Rattle.markdown.proofs.PlaceSeats.{rest-later}
+use Rattle.markdown.proofs.PlaceStanding.{seat-splits, next-begins, seat-rest, seat-passes}
 
 module _ {A : Type 0} (f : A → Bool) where
-  list-every : (xs : List A) → list_all f xs ≡ true → Every (λ x. f x ≡ true) xs
+  list-every : (xs : List A) → list_all f xs ≡ true → AllByRecursion (λ x. f x ≡ true) xs
   list-every [] h = tt
-  list-every (x ∷ xs) h = elim (f x) as (λ b. (f x ≡ b) → (b && list_all f xs) ≡ true → Every (λ y. f y ≡ true) (x ∷ xs)) [
+  list-every (x ∷ xs) h = elim (f x) as (λ b. (f x ≡ b) → (b && list_all f xs) ≡ true → AllByRecursion (λ y. f y ≡ true) (x ∷ xs)) [
     | true ↦ λ e k. (e, list-every xs k)
     | false ↦ λ e k. absurd (cc)
   ] refl h
 
-  every-list : (xs : List A) → Every (λ x. f x ≡ true) xs → list_all f xs ≡ true
+  every-list : (xs : List A) → AllByRecursion (λ x. f x ≡ true) xs → list_all f xs ≡ true
   every-list [] h = refl
   every-list (x ∷ xs) h = let e = h.0 in rw e (every-list xs h.1)
 
@@ -66,11 +67,11 @@ abbrev Leads : Point → Point → Seat → Type 0
 Leads p q s = stands_before s.point p ≡ true → stands_before s.point q ≡ true
 
 module _ (t : ℕ) (bytes : List ℕ) where
-  upto-leads : (p q : Point) → is_upto t bytes p q ≡ true → Every (Leads p q) (virtual t bytes)
+  upto-leads : (p q : Point) → is_upto t bytes p q ≡ true → AllByRecursion (Leads p q) (virtual t bytes)
   upto-leads p q h = every-map (λ s. (not (stands_before s.point p) || stands_before s.point q) ≡ true) (Leads p q) (λ s k. or-leads (stands_before s.point p) (stands_before s.point q) k) (virtual t bytes)
       (list-every (λ (s : Seat). not (stands_before s.point p) || stands_before s.point q) (virtual t bytes) h)
 
-  leads-upto : (p q : Point) → Every (Leads p q) (virtual t bytes) → is_upto t bytes p q ≡ true
+  leads-upto : (p q : Point) → AllByRecursion (Leads p q) (virtual t bytes) → is_upto t bytes p q ≡ true
   leads-upto p q h = every-list (λ (s : Seat). not (stands_before s.point p) || stands_before s.point q) (virtual t bytes)
       (every-map (Leads p q) (λ s. (not (stands_before s.point p) || stands_before s.point q) ≡ true) (λ s k. leads-or (stands_before s.point p) (stands_before s.point q) k) (virtual t bytes) h)
 
@@ -100,7 +101,7 @@ module _ (t : ℕ) (bytes : List ℕ) where
   same-same p q r h k = let a = same-upto p q h in let b = same-upto q r k in upto-same p r (upto-upto p q r a.0 b.0) (upto-upto r q p b.1 a.1)
 
   -- places that denote the same are before and after the same virtual bytes
-  pub same-before : (p q : Point) → denotes_same t bytes p q ≡ true → Every (λ s. stands_before s.point p ≡ stands_before s.point q) (virtual t bytes)
+  pub same-before : (p q : Point) → denotes_same t bytes p q ≡ true → AllByRecursion (λ s. stands_before s.point p ≡ stands_before s.point q) (virtual t bytes)
   same-before p q h =
       let b = same-upto p q h in
       every-both (Leads p q) (Leads q p) (λ s. stands_before s.point p ≡ stands_before s.point q) (λ s a c. both-ways (stands_before s.point p) (stands_before s.point q) a c) (virtual t bytes) (upto-leads p q b.0) (upto-leads q p b.1)
@@ -130,21 +131,21 @@ module _ (t : ℕ) (bytes : List ℕ) where
 
   -- places with the same rest denote the same
   pub rest-upto : (p q : Point) → IsPlace t bytes p → rest_at t bytes q ≡ rest_at t bytes p → is_upto t bytes q p ≡ true
-  rest-upto p q place e = leads-upto q p (subst (Every (Leads q p)) (sym place.splits) (every-append (Leads q p) place.before (rest_at t bytes p)
+  rest-upto p q place e = leads-upto q p (subst (AllByRecursion (Leads q p)) (sym place.splits) (every-append (Leads q p) place.before (rest_at t bytes p)
       (every-map (λ s. stands_before s.point p ≡ true) (Leads q p) (λ s h k. h) place.before place.behind)
-      (subst (Every (Leads q p)) e (every-map (λ s. stands_before s.point q ≡ false) (Leads q p) (λ s h k. absurd (cc)) (rest_at t bytes q) (rest-later t bytes q)))))
+      (subst (AllByRecursion (Leads q p)) e (every-map (λ s. stands_before s.point q ≡ false) (Leads q p) (λ s h k. absurd (cc)) (rest_at t bytes q) (rest-later t bytes q)))))
 
   -- where nothing is left, every place is no further
   pub rest-none : (p q : Point) → IsPlace t bytes p → rest_at t bytes p ≡ [] → is_upto t bytes q p ≡ true
-  rest-none p q place e = leads-upto q p (subst (Every (Leads q p)) (sym (place.splits ∙ ap (λ (ys : List Seat). place.before ++ ys) e ∙ append-nil place.before))
+  rest-none p q place e = leads-upto q p (subst (AllByRecursion (Leads q p)) (sym (place.splits ∙ ap (λ (ys : List Seat). place.before ++ ys) e ∙ append-nil place.before))
       (every-map (λ s. stands_before s.point p ≡ true) (Leads q p) (λ s h k. h) place.before place.behind))
 
   -- what a place and an end leave of the rest
   abbrev pub left_of : Point → Point → List Seat
   left_of p end = filter (λ s. stands_before s.point end) (rest_at t bytes p)
 
-  split-every : (P : Seat → Type 0) (p : Point) (place : IsPlace t bytes p) → Every P (virtual t bytes) → Every P place.before × Every P (rest_at t bytes p)
-  split-every P p place h = let k = subst (Every P) place.splits h in (every-front P place.before (rest_at t bytes p) k, every-back P place.before (rest_at t bytes p) k)
+  split-every : (P : Seat → Type 0) (p : Point) (place : IsPlace t bytes p) → AllByRecursion P (virtual t bytes) → AllByRecursion P place.before × AllByRecursion P (rest_at t bytes p)
+  split-every P p place h = let k = subst (AllByRecursion P) place.splits h in (every-front P place.before (rest_at t bytes p) k, every-back P place.before (rest_at t bytes p) k)
 
   -- the text is what was read and what is left
   pub text-splits : (start p end : Point) → IsPlace t bytes p → is_upto t bytes start p ≡ true → is_upto t bytes p end ≡ true
@@ -203,8 +204,8 @@ module _ (t : ℕ) (bytes : List ℕ) where
 
 -- the next virtual byte
 module _ (t : ℕ) (bytes : List ℕ) (p : Point) (seat : Seat) (place : IsPlace t bytes p) (n : IsSeatAt t bytes p seat) where
-  rest-after-seat : Every (λ s. stands_before s.point seat.point ≡ false) (rest_at t bytes p)
-  rest-after-seat = subst (Every (λ s. stands_before s.point seat.point ≡ false)) n.same (rest-later t bytes seat.point)
+  rest-after-seat : AllByRecursion (λ s. stands_before s.point seat.point ≡ false) (rest_at t bytes p)
+  rest-after-seat = subst (AllByRecursion (λ s. stands_before s.point seat.point ≡ false)) n.same (rest-later t bytes seat.point)
 
   -- its seat denotes the same as the place
   pub seat-upto : is_upto t bytes seat.point p ≡ true
@@ -225,11 +226,11 @@ module _ (t : ℕ) (bytes : List ℕ) (p : Point) (seat : Seat) (place : IsPlace
     pub next-is : stands_before seat.point end ≡ true → slice_get (filter (in_range start end) (virtual t bytes)) (number_of t bytes start p) ≡ Some seat
     next-is lt =
         let read = filter (in_range start p) (virtual t bytes) in
-        let left : left_of t bytes p end ≡ seat ∷ filter (λ s. stands_before s.point end) n.after = ap (filter (λ s. stands_before s.point end)) n.is ∙ (rw lt refl) in
-        ap (λ (xs : List Seat). slice_get xs (length read)) (text-splits t bytes start p end place from upto) ∙ get-after read (left_of t bytes p end) ∙ ap (λ (xs : List Seat). slice_get xs 0) left
+        let after_previous : left_of t bytes p end ≡ seat ∷ filter (λ s. stands_before s.point end) n.after = ap (filter (λ s. stands_before s.point end)) n.is ∙ (rw lt refl) in
+        ap (λ (xs : List Seat). slice_get xs (length read)) (text-splits t bytes start p end place from upto) ∙ get-after read (left_of t bytes p end) ∙ ap (λ (xs : List Seat). slice_get xs 0) after_previous
 
-    none-left : stands_before seat.point end ≡ false → left_of t bytes p end ≡ []
-    none-left lt = filter-none (λ s. stands_before s.point end) (rest_at t bytes p)
+    none-after_previous : stands_before seat.point end ≡ false → left_of t bytes p end ≡ []
+    none-after_previous lt = filter-none (λ s. stands_before s.point end) (rest_at t bytes p)
         (every-map (λ s. stands_before s.point seat.point ≡ false) (λ s. stands_before s.point end ≡ false)
         (λ s h. later-later s.point.index s.point.vs seat.point.index seat.point.vs end.index end.vs h lt) (rest_at t bytes p) rest-after-seat)
 
@@ -237,7 +238,7 @@ module _ (t : ℕ) (bytes : List ℕ) (p : Point) (seat : Seat) (place : IsPlace
     pub next-none : stands_before seat.point end ≡ false → number_of t bytes start p ≡ length (filter (in_range start end) (virtual t bytes))
     next-none lt =
         let read = filter (in_range start p) (virtual t bytes) in
-        sym (ap length (text-splits t bytes start p end place from upto ∙ ap (λ (ys : List Seat). read ++ ys) (none-left lt) ∙ append-nil read))
+        sym (ap length (text-splits t bytes start p end place from upto ∙ ap (λ (ys : List Seat). read ++ ys) (none-after_previous lt) ∙ append-nil read))
 
   -- and then the place denotes the end
   pub end-upto : (end : Point) → stands_before seat.point end ≡ false → is_upto t bytes end p ≡ true
@@ -249,8 +250,8 @@ module _ (t : ℕ) (bytes : List ℕ) (p : Point) (seat : Seat) (place : IsPlace
     after-upto end upto lt =
         let whole = seat-splits t bytes d p seat place n in
         let ends = split-every t bytes (Leads p end) p place (upto-leads t bytes p end upto) in
-        let past : Every (λ s. stands_before s.point seat.end ≡ false) n.after = subst (Every (λ s. stands_before s.point seat.end ≡ false)) (seat-rest t bytes d p seat place n) (rest-later t bytes seat.end) in
-        leads-upto t bytes seat.end end (subst (Every (Leads seat.end end)) (sym whole) (every-append (Leads seat.end end) place.before (seat ∷ n.after)
+        let past : AllByRecursion (λ s. stands_before s.point seat.end ≡ false) n.after = subst (AllByRecursion (λ s. stands_before s.point seat.end ≡ false)) (seat-rest t bytes d p seat place n) (rest-later t bytes seat.end) in
+        leads-upto t bytes seat.end end (subst (AllByRecursion (Leads seat.end end)) (sym whole) (every-append (Leads seat.end end) place.before (seat ∷ n.after)
         (every-both (λ s. stands_before s.point p ≡ true) (Leads p end) (Leads seat.end end) (λ s h k m. k h) place.before place.behind ends.0)
         ((λ m. lt), every-map (λ s. stands_before s.point seat.end ≡ false) (Leads seat.end end) (λ s h k. absurd (cc)) n.after past)))
 
@@ -262,7 +263,7 @@ module _ (t : ℕ) (bytes : List ℕ) (p : Point) (seat : Seat) (place : IsPlace
     next-only =
         let begins = next-begins t bytes d p seat place n in
         let f = λ (s : Seat). stands_before s.point seat.end in
-        let past : Every (λ s. stands_before s.point seat.end ≡ false) n.after = subst (Every (λ s. stands_before s.point seat.end ≡ false)) (seat-rest t bytes d p seat place n) (rest-later t bytes seat.end) in
+        let past : AllByRecursion (λ s. stands_before s.point seat.end ≡ false) n.after = subst (AllByRecursion (λ s. stands_before s.point seat.end ≡ false)) (seat-rest t bytes d p seat place n) (rest-later t bytes seat.end) in
         let ends = begins.ends in
         ap (filter f) n.is ∙ (rw ends (ap (λ (ys : List Seat). seat ∷ ys) (filter-none f n.after past)))
 

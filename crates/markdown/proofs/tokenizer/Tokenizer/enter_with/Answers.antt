@@ -1,7 +1,7 @@
 use Rattle.std.proofs.Common.{◌∙◌, take, List, ap, refl}
 use Rattle.markdown_base.specs.declared.event.Name.{Name}
-use Rattle.markdown.proofs.Changes.{entered-made, entered-marks, entered-choices, entered-at, entered-here, take-pushed}
-use Rattle.markdown.proofs.tokenizer.Tokenizer.begin.Goals as goal
+use Rattle.markdown.proofs.Changes.{entered-made, entered-kept_choices, entered-choices, entered-at, entered-here, take-pushed}
+use Rattle.markdown.proofs.tokenizer.Tokenizer.enter_with.Goals as goal
 
 pub invariant_of-self-in-Ok : goal.invariant_of-self-in-Ok
 invariant_of-self-in-Ok g c =
@@ -16,7 +16,7 @@ invariant_of-self-in-Ok g c =
       waiting = sound.waiting;
       ended = sound.ended;
       made = entered-made t sound c.args.name c.args.link c.shown-point.result (entered-here t _ _ _ refl c.standing-place.ensures c.shown-point.ensures) c.push-2.new.self.items c.push.new.self.items c.in-Ok.ensures.items c.in_ok-push.ensures.items;
-      marks = entered-marks t sound c.args.name c.args.link c.shown-point.result (entered-here t _ _ _ refl c.standing-place.ensures c.shown-point.ensures) c.push-2.new.self.items c.push.new.self.items c.in-Ok.ensures.items c.in_ok-push.ensures.items;
+      kept_choices = entered-kept_choices t sound c.args.name c.args.link c.shown-point.result (entered-here t _ _ _ refl c.standing-place.ensures c.shown-point.ensures) c.push-2.new.self.items c.push.new.self.items c.in-Ok.ensures.items c.in_ok-push.ensures.items;
     }
 
 pub invariant_of-self-in-Err : goal.invariant_of-self-in-Err
@@ -34,7 +34,7 @@ invariant_of-self-in-Err g c =
       waiting = sound.waiting;
       ended = sound.ended;
       made = rw (events, stack) sound.made;
-      marks = rw (events, stack) sound.marks;
+      kept_choices = rw (events, stack) sound.kept_choices;
     }
 
 pub returns-in-Ok-clause-ok : goal.returns-in-Ok-clause-ok

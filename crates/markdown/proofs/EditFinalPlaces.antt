@@ -6,7 +6,7 @@ use Rattle.std.proofs.lemmas.Bool.{ne_eqb, eq-eqb, lt-ltb, le-ltb, cases_lt, cas
 use Rattle.std.proofs.lemmas.List.{length-take-le}
 use Rattle.markdown_base.specs.declared.event.Event.{Event}
 use Rattle.markdown.specs.Woven.{Identity, of_list, Tagged, place_in, is_same, Change}
-use Rattle.markdown.proofs.Passes.{olds, pass, AreApart, AreApart-le}
+use Rattle.markdown.proofs.EditPasses.{olds, pass, AreApart, AreApart-le}
 
 -- the place in the first of two lists, or that in the second behind n
 abbrev pub or_after : ℕ → Option ℕ → Option ℕ → Option ℕ

@@ -2,7 +2,7 @@ use Rattle.std.proofs.Common.{◌-◌}
 use Rattle.markdown_base.specs.declared.state.State.TheVariants.{Retry}
 use Rattle.markdown.specs.Engine.{budget}
 use Rattle.markdown.proofs.Working.{KeptBy}
-use Rattle.markdown.proofs.tokenizer.Tokenizer.work.Given as goal
+use Rattle.markdown.proofs.tokenizer.Tokenizer.run_states.Given as goal
 
 abbrev pub invariant-loop-state : goal.invariant-loop-state
 invariant-loop-state g l =

@@ -10,8 +10,8 @@ use Rattle.markdown_base.specs.declared.event.Point.{Point}
 use Rattle.markdown_base.specs.Virtual.{Seat, point, tab_width, in_tab, virtual_from, virtual, begins_with_lf, line_feed, plain}
 use Rattle.markdown_base.specs.Places.{stands_before, shown, IsShown}
 use Rattle.markdown.specs.Cursor.{rest_at, Bounds, end_at}
-use Rattle.markdown.proofs.Orders.{is-not, not-number, is-number, before-self, below-before, more-before, above-later}
-use Rattle.markdown.proofs.Seats.{width-pos, drop-at}
+use Rattle.markdown.proofs.PlaceOrder.{is-not, not-number, is-number, before-self, below-before, more-before, above-later}
+use Rattle.markdown.proofs.PlaceSeats.{width-pos, drop-at}
 
 -- the place after a virtual byte, and what is left there
 pub record IsAt (t : ℕ) (bytes : List ℕ) (p : Point) (rest : List Seat) : Type 0 where
