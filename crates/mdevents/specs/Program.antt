@@ -46,12 +46,12 @@ AreEventsOf Save = Gives save_rules TextStart
 
 -- a document is refused where its machine refuses it
 abbrev pub IsRefusedBy : Which → List ℕ → Message → Type 0
-IsRefusedBy Lines bytes = IsRunRefused (document bytes) lines_rules FlowStart
-IsRefusedBy Paragraphs bytes = IsRunRefused (document bytes) paragraphs_rules FlowStart
-IsRefusedBy Peek bytes = IsRunRefused (document bytes) peek_rules TextStart
-IsRefusedBy Deep bytes = IsRunRefused (document bytes) deep_rules StringStart
-IsRefusedBy Back bytes = IsRunRefused (document bytes) back_rules TextStart
-IsRefusedBy Save bytes = IsRunRefused (document bytes) save_rules TextStart
+IsRefusedBy Lines bytes = IsRunRefused (document bytes) lines_rules false FlowStart
+IsRefusedBy Paragraphs bytes = IsRunRefused (document bytes) paragraphs_rules false FlowStart
+IsRefusedBy Peek bytes = IsRunRefused (document bytes) peek_rules false TextStart
+IsRefusedBy Deep bytes = IsRunRefused (document bytes) deep_rules false StringStart
+IsRefusedBy Back bytes = IsRunRefused (document bytes) back_rules false TextStart
+IsRefusedBy Save bytes = IsRunRefused (document bytes) save_rules false TextStart
 
 -- where a document is cut: nowhere, or at every n-th of its virtual bytes
 abbrev pub cut_places : Choice → List ℕ → List (ℕ × ℕ)

@@ -1,6 +1,6 @@
 //! What the program does, over any reader and writer.
 
-ghost use Rattle.std.specs.Prelude.{◌≡◌, ◌≢◌, Contains, IfOk, IfErr, OnOk, IsErrOf};
+ghost use Rattle.std.specs.Prelude.{◌≡◌, ◌≢◌, Contains, IfOk, IfErr, OnOk, IsErrOf, false};
 ghost use Rattle.std.specs.Io.KnownBytes.{Keeps};
 ghost use Rattle.markdown.specs.Engine.{AreCuts};
 ghost use Rattle.mdevents.specs.Failure.{IsOfMaking};
@@ -86,7 +86,7 @@ fn read_by<M: Machine>(
     requires start { Contains (M.rules machine.now (document bytes.now)).starts start }
     requires cuts { AreCuts 4 bytes.now cuts.now }
     ensures events { IfOk result (λ events. Gives (M.rules machine.now) start bytes.now events.items) }
-    ensures message { (m : _) → IsErrOf result (Failure.Message m) → IsRunRefused (document bytes.now) (M.rules machine.now) start m }
+    ensures message { (m : _) → IsErrOf result (Failure.Message m) → IsRunRefused (document bytes.now) (M.rules machine.now) false start m }
     ensures cause { IfErr result IsOfMaking }
 {
     let options = ParseOptions::default();
