@@ -18,7 +18,7 @@ use Rattle.markdown.specs.Woven.{Tagged, of_list, as_listed, placed_end, placed_
 use Rattle.markdown.specs.Links.{next_of, previous_of, AreMutual}
 use Rattle.markdown.specs.Resolving.{done, IsInShape}
 use Rattle.markdown.specs.Rules.{Rules}
-use Rattle.markdown.specs.Lawful.{ConsumesOnce, OnlyAdds, EndsWhenRead, KeepsInvariant, CostPays, ResolversKeep}
+use Rattle.markdown.specs.Lawful.{IsAsFar, ConsumesOnce, OnlyAdds, EndsWhenRead, KeepsInvariant, CostPays, ResolversKeep}
 use Rattle.markdown.specs.Plain.{HaveNoLinks, IsPlain, KeepsPlain, NothingResolves, plain}
 
 -- more events without links
@@ -128,10 +128,12 @@ module _ {R D : Type 0} (g : Given) (rules : Rules R D) where
 
   pub resolvers_keep : ResolversKeep g (plain rules)
   resolvers_keep = record {
-    at_end = λ text k is formed h. (h.0.0, (refl, h.0.1, h.0.2), formed.balanced);
-    by_resolvers = λ text r rs k new more is h e. absurd (let f : r ∷ rs ≡ [] = h.0 in cc);
+    at_end = λ text k is formed h. ((refl, h.0.1, h.0.2), formed.balanced);
+    by_resolvers = λ text r rs k new more is h e.
+        let same : k ≡ new = cc in
+        subst (λ (q : Configuration R D). NothingResolves text rs q × IsAsFar q k × (q.stack ≡ k.stack)) same (h, (refl, refl, refl), refl);
     at_last = λ text k is h.
-        let map = h.1.1 in
-        let same = edited-same k.events h.1.2 in
-        rw (map, same) ((from-zero (length k.events), no-links-below (length k.events) k.events h.1.2), no-links-shape k.events h.1.2 h.2);
+        let map = h.0.1 in
+        let same = edited-same k.events h.0.2 in
+        rw (map, same) ((from-zero (length k.events), no-links-below (length k.events) k.events h.0.2), no-links-shape k.events h.0.2 h.1);
   }

@@ -29,7 +29,7 @@ module _ {R D : Type 0} where
 
   -- nothing is there to resolve
   abbrev pub NothingResolves : Text → List R → Configuration R D → Type 0
-  NothingResolves text rs k = (rs ≡ []) × IsPlain k × IsBalanced k.events
+  NothingResolves text rs k = IsPlain k × IsBalanced k.events
 
   -- the rules of such a machine, from those that speak of its states
   abbrev pub plain : Rules R D → Rules R D

@@ -13,12 +13,12 @@ use Rattle.markdown.specs.Configuration.{Configuration, Local, Choice, Step, sta
 use Rattle.markdown.specs.Sight.{Sight, sight}
 use Rattle.markdown.specs.Calls.{with_local}
 use Rattle.markdown.specs.Reading.{settled_at}
-use Rattle.markdown.specs.Lawful.{ConsumesOnce, OnlyAdds, EndsWhenRead, KeepsInvariant, CostPays, ResolversKeep}
+use Rattle.markdown.specs.Lawful.{IsAsFar, ConsumesOnce, OnlyAdds, EndsWhenRead, KeepsInvariant, CostPays, ResolversKeep}
 use Rattle.markdown.specs.Edited.{edited}
 use Rattle.markdown.specs.Resolving.{CanBeEdited, IsInShape}
 use Rattle.markdown_base.specs.Events.{IsBalanced}
 use Rattle.mdtables.specs.Rows.{Rows, row, when, Row, StateRows, Table, class_of, picked, step_of, named, step_at, table_step}
-use Rattle.mdtables.specs.Knowledge.{knowing_rules}
+use Rattle.mdtables.specs.Knowledge.{LeavesShape, knowing_rules}
 use Rattle.mdtables.proofs.TableLaws.{IsFit, is-call, table-consumes_once, table-only_adds, table-ends_when_read, table-invariant_kept}
 use Rattle.mdtables.proofs.CostLaws.{table-cost_pays}
 
@@ -131,7 +131,9 @@ module _ {W R D : Type 0} (table : Table W R D) (knows : List Event → Local R 
 
     pub knowing-resolvers_keep : ResolversKeep g (knowing_rules table knows g)
     knowing-resolvers_keep = record {
-      at_end = λ text k is formed h. known.at_end k formed.balanced h.known;
-      by_resolvers = λ text r rs k new more is h e. absurd (let f : r ∷ rs ≡ [] = h.0 in cc);
-      at_last = λ text k is h. (h.1, h.2);
+      at_end = λ text k is formed h. let there = known.at_end k formed.balanced h.known in (there.1, there.2);
+      by_resolvers = λ text r rs k new more is h e.
+          let same : k ≡ new = cc in
+          subst (λ (q : Configuration R D). LeavesShape text rs q × IsAsFar q k × (q.stack ≡ k.stack)) same (h, (refl, refl, refl), refl);
+      at_last = λ text k is h. h;
     }

@@ -1,5 +1,5 @@
 -- What a machine knows beside what its table says: of its events, of what states share, and of the choices that wait.
-use Rattle.std.specs.Prelude.{◌≡◌, List, []}
+use Rattle.std.specs.Prelude.{List}
 use Rattle.markdown_base.specs.declared.event.Event.{Event}
 use Rattle.markdown_base.specs.declared.state.State.{State}
 use Rattle.markdown.specs.Text.{Given, Text}
@@ -10,9 +10,9 @@ use Rattle.markdown.specs.Rules.{Rules}
 use Rattle.mdtables.specs.Rows.{Table}
 use Rattle.mdtables.specs.RowInvariant.{table_holds, table_rules}
 
--- No resolver is left, and once the edits that wait are made the events are in shape
+-- the edits that wait can be made, and then the events are in shape
 abbrev pub LeavesShape : {R D : Type 0} → Text → List R → Configuration R D → Type 0
-LeavesShape text rs k = (rs ≡ []) × CanBeEdited k × IsInShape (edited k.local.map k.events)
+LeavesShape text rs k = CanBeEdited k × IsInShape (edited k.local.map k.events)
 
 module _ {W R D : Type 0} (table : Table W R D) (knows : List Event → Local R D → List Choice → State → Type 0) where
   -- The invariant of the table holds, and what the machine knows at this answer

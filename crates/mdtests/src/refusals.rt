@@ -66,6 +66,29 @@ fn read_two(alloc: Global, at: usize, resolve: bool) -> Result<Answers, AllocErr
     Ok(answers)
 }
 
+/// Reads `a` to its end, by a machine that refuses the first call.
+fn read_one(alloc: Global) -> Result<Answers, AllocError> {
+    let options = ParseOptions::default();
+    let machine = Fail { at: 0 };
+    let parse_state = ParseState {
+        bytes: b"a",
+        options: &options,
+        machine: &machine,
+    };
+    let (answers, _resolvers) = read(alloc, &parse_state, Name::TextStart, (1, 0), true)?;
+    Ok(answers)
+}
+
+#[test]
+fn one_byte_is_refused(rt: HostRuntime) -> Result<(), test::Fail> {
+    let answers = read_one(rt.alloc())?;
+    assert!(rt; is_refused(rt.alloc(), &answers.first)?);
+    assert!(rt; was_refused(rt.alloc(), &answers.flushed)?);
+    assert!(rt; had_failed(&answers.later));
+    assert_eq!(rt; answers.calls, 1);
+    Ok(())
+}
+
 #[test]
 fn first_call_refuses(rt: HostRuntime) -> Result<(), test::Fail> {
     let answers = read_two(rt.alloc(), 0, true)?;
