@@ -21,8 +21,10 @@ pub struct Subresult {
     pub definitions: Items<OwnedText>,
 }
 
-/// Definitions, and behind them those that were found later.
-pub(crate) fn joined(sub: Subresult, more: Subresult) -> Result<Subresult, AllocError>
+/// Definitions, and behind them those that were found later; `done` stays as it was.
+///
+/// Where memory is refused, both are dropped.
+pub fn joined(sub: Subresult, more: Subresult) -> Result<Subresult, AllocError>
     ensures { IfOk result (λ all. all ≡ with_more sub (Some more)) }
 {
     let gfm_footnote_definitions = joined_items(

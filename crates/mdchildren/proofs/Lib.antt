@@ -12,6 +12,9 @@ pub mod Adding
 pub mod Tabled
 pub mod ByChunk
 pub mod ReadyExample
+pub mod SoFar
+pub mod ChainReads
+pub mod ChildReading
 pub mod Reached
 pub mod ReadyProofs
 pub mod Forward

@@ -5,5 +5,6 @@ pub mod Parts
 pub mod Children
 pub mod Reads
 pub mod Tables
+pub mod SoFar
 pub mod Rows
 pub mod ReadyTests

@@ -46,7 +46,7 @@ fn part_end(child: &[Event], start: usize, end: Point) -> usize
 }
 
 /// Where the link of an event leads on.
-fn next_of(events: &[Event], index: usize) -> Option<usize>
+pub(crate) fn next_of(events: &[Event], index: usize) -> Option<usize>
     requires { index < length events.now }
     ensures { result ≡ next_of events.now index }
 {
@@ -57,7 +57,7 @@ fn next_of(events: &[Event], index: usize) -> Option<usize>
 }
 
 /// Where an event stands.
-fn place_at(events: &[Event], index: usize) -> Point
+pub(crate) fn place_at(events: &[Event], index: usize) -> Point
     requires { index < length events.now }
     ensures { result ≡ place_at events.now index }
 {

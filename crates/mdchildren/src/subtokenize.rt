@@ -1,19 +1,26 @@
 //! Content in content: a child's events are put in the place of the chunks that it was read from.
 
-ghost use Rattle.std.specs.Prelude.{◌≡◌, ◌+◌, ◌*◌, ◌^◌, ◌<◌, ◌++◌, ◌↔◌, ◌&&◌, true, length, option_map, IfOk, OnOk, OnErr, IsTrue};
+ghost use Rattle.std.specs.Prelude.{◌≡◌, ◌+◌, ◌*◌, ◌^◌, ◌<◌, ◌++◌, ◌↔◌, ◌&&◌, true, length, IfOk, IfErr, OnOk, OnErr, IsTrue};
 ghost use Rattle.std.specs.List.{AllByRecursion};
+ghost use Rattle.std.specs.Option.{option_copied};
 ghost use denote.Enum.Bare.{sameb};
 ghost use Rattle.markdown_base.specs.contracts.event.Kind.{the_type as kinds};
 ghost use Rattle.markdown_base.specs.Events.{IsBalanced, same_name};
+ghost use Rattle.markdown.specs.Engine.{given_of};
 ghost use Rattle.mdchildren.specs.Chains.{chain_of};
 ghost use Rattle.mdchildren.specs.Laws.{HasEndsWithin};
 ghost use Rattle.mdchildren.specs.Parts.{divided, chain_edits, removed_by, added_by, IsForward, StandBefore};
 ghost use Rattle.mdchildren.specs.Ready.{IsReady};
-ghost use Rattle.mdchildren.specs.Reads.{IsAtFirstParagraph};
+ghost use Rattle.mdchildren.specs.Reads.{IsAtFirstParagraph, StartAmong, IsSubtokenized, IsSubtokenizeFault};
 
+use crate::children::gather;
 use crate::division::{chunks_of, edits_of};
 use crate::readiness::{are_sound, can_be_read, closes};
 use crate::rows::rows_of;
+use markdown::parser::ParseState;
+use markdown::state::Machine;
+use markdown::subtokenize::Subresult;
+use markdown::tokenizer::Fault;
 use markdown::util::edit_map::EditMap;
 use markdown::util::skip::opt_back;
 use markdown_base::configuration::Constructs;
@@ -105,7 +112,7 @@ pub fn ready(
     filter: Option<&Content>,
 ) -> Result<bool, AllocError>
     requires limit { 4 * length bytes.now + 1 < 2 ^ 64 }
-    ensures { IfOk result (λ b. (b ≡ true) ↔ IsReady 4 bytes.now (option_map (λ c. c.now) filter.entry) events.now) }
+    ensures { IfOk result (λ b. (b ≡ true) ↔ IsReady 4 bytes.now (option_copied filter.entry) events.now) }
 {
     if !closes(alloc, events)? {
         return Ok(false);
@@ -115,4 +122,32 @@ pub fn ready(
     }
     let rows = rows_of(alloc, bytes)?;
     can_be_read(alloc, events, &rows, filter.copied())
+}
+
+/// Reads the chains that fit, and puts their children in their place, all at once.
+///
+/// `filter` is the content of the chains, or None for all. The list is ready, and the machine may start with the states of its
+/// content. Each child is read from its chain's chunks, with the gaps between them passed, and resolved; its tokenizer is told whether
+/// it is in the first paragraph of a list item. `done` is answered exactly where no chain fits, and definitions of both kinds are
+/// those of the children, in order of chains. `Message` is answered exactly where the reading of a chain, or a resolver after it, ends
+/// in one, and is that of the first such chain; `Memory` where memory is refused; `Failed` never. Where this fails, the events stay as
+/// they were.
+pub fn subtokenize<M: Machine>(
+    alloc: Global,
+    events: &mut Vec<Event>,
+    parse_state: &ParseState<M>,
+    filter: Option<&Content>,
+) -> Result<Subresult, Fault>
+    requires limit { 4 * length parse_state.now.bytes.now + 1 < 2 ^ 64 }
+    requires ready { IsReady 4 parse_state.now.bytes.now (option_copied filter) events.old.items }
+    requires starts { let p = parse_state.now in StartAmong (M.rules p.machine.now (given_of 4 p)).starts (option_copied filter) events.old.items }
+    ensures ok { let p = parse_state.now in IfOk result (IsSubtokenized (given_of 4 p) (M.rules p.machine.now) (option_copied filter.entry) events.old.items events.new.items) }
+    ensures err { let p = parse_state.now in IfErr result (IsSubtokenizeFault (given_of 4 p) (M.rules p.machine.now) (option_copied filter.entry) events.old.items) }
+    ensures left { OnErr result (events.new.items ≡ events.old.items) }
+{
+    let (mut map, found) = gather(alloc, events.as_slice(), parse_state, filter.copied())?;
+    match map.consume(events) {
+        Ok(()) => Ok(found),
+        Err(_) => Err(Fault::Memory),
+    }
 }

@@ -1,0 +1,231 @@
+-- The reading of a chain of a ready list: from its first chunk on, along its links.
+use Rattle.std.proofs.Common.{◌≡◌, ◌≢◌, ◌+◌, ◌*◌, ◌^◌, ◌<◌, ℕ, length, List, [], ◌∷◌, Option, Some, None, Bool, true, false, refl, sym, ap, ◌∙◌, subst, arith}
+use Rattle.std.specs.Prelude.{Contains, ◌↔◌}
+use Rattle.std.proofs.lemmas.Option.{none-some}
+use Rattle.markdown_base.specs.declared.configuration.ParseOptions.{ParseOptions}
+use Rattle.markdown_base.specs.declared.event.Content.{Content}
+use Rattle.markdown_base.specs.declared.event.Content.TheVariants.{Flow}
+use Rattle.markdown_base.specs.declared.event.Content.TheVariants as content
+use Rattle.markdown_base.specs.declared.event.Event.{Event}
+use Rattle.markdown_base.specs.declared.event.Point.{Point}
+use Rattle.markdown_base.specs.declared.message.Message.{Message}
+use Rattle.markdown_base.specs.declared.state.Name.{Name}
+use Rattle.markdown_base.specs.declared.state.State.{State}
+use Rattle.markdown_base.specs.declared.state.State.TheVariants.{Next}
+use Rattle.markdown_base.specs.Places.{IsPointOf}
+use Rattle.markdown.specs.declared.subtokenize.Subresult.{Subresult}
+use Rattle.markdown.specs.declared.tokenizer.Fault.{Fault}
+use Rattle.markdown.specs.declared.tokenizer.Fault.TheVariants.{Memory, Failed}
+use Rattle.markdown.specs.declared.tokenizer.Fault.TheVariants as fault
+use Rattle.markdown.specs.Links.{next_of}
+use Rattle.markdown.specs.Text.{Given, pushed, passed, empty_text, followed_by, followed_by_all, FitsAfter, CanFollow, IsText}
+use Rattle.markdown.specs.Configuration.{Seen}
+use Rattle.markdown.specs.Rules.{Rules}
+use Rattle.markdown.specs.Lawful.{KeepsInvariant}
+use Rattle.markdown.specs.Engine.{given_by, CanPush, IsPushed, IsFlushed, IsRefused}
+use Rattle.mdchildren.specs.Chains.{content_at, chain_of, fits, begins}
+use Rattle.mdchildren.specs.Ready.{IsReady, place_at}
+use Rattle.mdchildren.specs.Laws.{LeadOnFrom}
+use Rattle.mdchildren.specs.Reads.{IsAtFirstParagraph, start_name, start_at, pieces_behind, pieces_of, text_of_chain, IsChild, IsChildRefused, IsChildFault}
+use Rattle.mdchildren.proofs.Following.{fits_next, whole-from, inside}
+use Rattle.mdchildren.proofs.Pieces.{chunks_can_be_read}
+use Rattle.mdchildren.proofs.Forward.{begins-fits}
+use Rattle.mdchildren.proofs.ChainReads.{flagged, Reads, reads-start, reads-holds, reads-range, reads-pushed, reads-gap, reads-passed, reads-flushed, reads-refused}
+
+-- the place of a point
+abbrev pub place_of_point : Point → ℕ × ℕ
+place_of_point p = (p.index, p.vs)
+
+start-some : (c : Content) → (Some c ≡ Some Flow → ⊥) → (name : Name) × (start_name c ≡ Some name)
+start-some Flow h = absurd (h refl)
+start-some content.Content h = (Rattle.markdown_base.specs.declared.state.TheConstants.Name.ContentDefinitionBefore, refl)
+start-some content.String h = (Rattle.markdown_base.specs.declared.state.TheConstants.Name.StringStart, refl)
+start-some content.Text h = (Rattle.markdown_base.specs.declared.state.TheConstants.Name.TextStart, refl)
+
+module _ {M R D : Type 0} (rules : M → Given → Rules R D) (m : M) (bytes : List ℕ) (options : ParseOptions) (wanted : Option Content) (events : List Event) (c : ℕ) (start : Name) where
+  -- the chunk at an index was pushed, and these are behind it
+  pub record ReadsChain (at : ℕ) (t : Seen M R D) (state : State) : Type 0 where
+    pub flag : Bool
+    pub paragraph : (flag ≡ true) ↔ IsAtFirstParagraph events c options.constructs
+    pub behind : List ℕ
+    pub lead : LeadOnFrom events at behind
+    pub fit : fits wanted events at ≡ true
+    pub reads : Reads (given_by 4 bytes options) rules m (place_at events c) flag start (text_of_chain (given_by 4 bytes options) events (chain_of events c)) (pieces_behind events behind) t state
+
+  -- the gap in front of a chunk comes next, and then its range
+  pub record ReadsTo (d : ℕ) (t : Seen M R D) (state : State) : Type 0 where
+    pub flag : Bool
+    pub paragraph : (flag ≡ true) ↔ IsAtFirstParagraph events c options.constructs
+    pub behind : List ℕ
+    pub lead : LeadOnFrom events d behind
+    pub fit : fits wanted events d ≡ true
+    pub reads : Reads (given_by 4 bytes options) rules m (place_at events c) flag start (text_of_chain (given_by 4 bytes options) events (chain_of events c))
+        (passed (place_at events d) ∷ pushed (place_at events d) (place_at events (d + 1)) ∷ pieces_behind events behind) t state
+
+  -- the range of a chunk comes next
+  pub record ReadsOn (d : ℕ) (t : Seen M R D) (state : State) : Type 0 where
+    pub flag : Bool
+    pub paragraph : (flag ≡ true) ↔ IsAtFirstParagraph events c options.constructs
+    pub behind : List ℕ
+    pub lead : LeadOnFrom events d behind
+    pub fit : fits wanted events d ≡ true
+    pub reads : Reads (given_by 4 bytes options) rules m (place_at events c) flag start (text_of_chain (given_by 4 bytes options) events (chain_of events c)) (pushed (place_at events d) (place_at events (d + 1)) ∷ pieces_behind events behind) t state
+
+module _ {M R D : Type 0} (rules : M → Given → Rules R D) (m : M) (bytes : List ℕ) (options : ParseOptions) (wanted : Option Content) (events : List Event) (ready : IsReady 4 bytes wanted events) (c : ℕ) (start : Name) where
+  abbrev g : Given
+  g = given_by 4 bytes options
+
+  abbrev Chain : ℕ → Seen M R D → State → Type 0
+  Chain at t state = ReadsChain rules m bytes options wanted events c start at t state
+
+  abbrev To : ℕ → Seen M R D → State → Type 0
+  To d t state = ReadsTo rules m bytes options wanted events c start d t state
+
+  abbrev On : ℕ → Seen M R D → State → Type 0
+  On d t state = ReadsOn rules m bytes options wanted events c start d t state
+
+  -- where the chain begins
+  pub chain-place : begins wanted events c ≡ true → IsPointOf 4 bytes (place_at events c)
+  chain-place b = (ready.readable c (begins-fits 4 bytes wanted events ready c b)).from.0
+
+  pub chain-within : begins wanted events c ≡ true → c + 1 < length events
+  chain-within b = inside 4 bytes wanted events ready c (begins-fits 4 bytes wanted events ready c b)
+
+  -- at the first chunk
+  pub chain-first : begins wanted events c ≡ true → 4 * length bytes + 1 < 2 ^ 64 → KeepsInvariant g (rules m g) → Contains (rules m g).starts start
+      → (flag : Bool) → ((flag ≡ true) ↔ IsAtFirstParagraph events c options.constructs) → (t : Seen M R D) → t ≡ flagged g m (place_at events c) flag → On c t (Next start)
+  chain-first b limit keeps among flag paragraph t e =
+      let h = begins-fits 4 bytes wanted events ready c b in
+      let w = whole-from 4 bytes wanted events ready c h in
+      let left = pushed (place_at events c) (place_at events (c + 1)) ∷ pieces_behind events w.0 in
+      let can : CanFollow g (empty_text (place_at events c)) left = subst (λ ks. CanFollow g (empty_text (place_at events c)) (pieces_of events ks)) w.1 (chunks_can_be_read 4 bytes options wanted events ready c b) in
+      let whole : followed_by_all g (empty_text (place_at events c)) left ≡ text_of_chain g events (chain_of events c) = ap (text_of_chain g events) (sym w.1) in
+      let text : IsText g (empty_text (place_at events c)) = record { document = record { tab = (omega arith, omega arith); limit = limit }; starts = (ready.readable c h).from.0; pieces = []; follow = tt; is = refl } in
+      record {
+        flag = flag;
+        paragraph = paragraph;
+        behind = w.0;
+        lead = w.2;
+        fit = h;
+        reads = reads-start g rules m (place_at events c) flag start (text_of_chain g events (chain_of events c)) left can whole text keeps among t e;
+      }
+
+  pub on-range : (d : ℕ) (t : Seen M R D) (state : State) → On d t state → CanPush t.given t.text (place_of_point (place_at events d)) (place_of_point (place_at events (d + 1)))
+  on-range d t state r = reads-range g rules m (place_at events c) r.flag start (text_of_chain g events (chain_of events c)) t state (omega arith) (place_at events d) (place_at events (d + 1)) (pieces_behind events r.behind) r.reads
+
+  pub on-holds : (d : ℕ) (t : Seen M R D) (state : State) → On d t state → (rules t.machine t.given).holds t.text t.configuration t.choices state
+  on-holds d t state r = reads-holds g rules m (place_at events c) r.flag start (text_of_chain g events (chain_of events c)) t state (pushed (place_at events d) (place_at events (d + 1)) ∷ pieces_behind events r.behind) r.reads
+
+  pub on-pushed : (d : ℕ) (t : Seen M R D) (state : State) → On d t state → (u : Seen M R D) (answer : State)
+      → IsPushed (rules t.machine t.given) t (place_of_point (place_at events d)) (place_of_point (place_at events (d + 1))) state u answer → Chain d u answer
+  on-pushed d t state r u answer h = record {
+    flag = r.flag;
+    paragraph = r.paragraph;
+    behind = r.behind;
+    lead = r.lead;
+    fit = r.fit;
+    reads = reads-pushed g rules m (place_at events c) r.flag start (text_of_chain g events (chain_of events c)) t state (omega arith) (place_at events d) (place_at events (d + 1)) (pieces_behind events r.behind) r.reads u answer h;
+  }
+
+  -- where a link leads on, the gap in front of the next chunk comes
+  pub chain-next : (at d : ℕ) (t : Seen M R D) (state : State) → Chain at t state → next_of events at ≡ Some d → To d t state
+  chain-next at d t state r e = go r.behind r.lead r.reads
+    where
+      go : (ks : List ℕ) → LeadOnFrom events at ks → Reads g rules m (place_at events c) r.flag start (text_of_chain g events (chain_of events c)) (pieces_behind events ks) t state → To d t state
+      go [] lead reads = absurd (none-some d (sym lead ∙ e))
+      go (k ∷ ks) lead reads =
+          let same : k ≡ d = let f : Some k ≡ Some d = sym lead.0 ∙ e in cc in
+          subst (λ n. To n t state) same (record {
+            flag = r.flag;
+            paragraph = r.paragraph;
+            behind = ks;
+            lead = lead.2;
+            fit = fits_next 4 bytes wanted events ready at k r.fit lead.0;
+            reads = reads;
+          })
+
+  pub to-gap : (d : ℕ) (t : Seen M R D) (state : State) → To d t state → FitsAfter t.given t.text (passed (place_at events d))
+  to-gap d t state r =
+      reads-gap g rules m (place_at events c) r.flag start (text_of_chain g events (chain_of events c)) t state (place_at events d)
+      (pushed (place_at events d) (place_at events (d + 1)) ∷ pieces_behind events r.behind) r.reads
+
+  pub to-passed : (d : ℕ) (t : Seen M R D) (state : State) → To d t state → (u : Seen M R D) → u ≡ record t { text = followed_by t.given t.text (passed (place_at events d)) } → On d u state
+  to-passed d t state r u e = record {
+    flag = r.flag;
+    paragraph = r.paragraph;
+    behind = r.behind;
+    lead = r.lead;
+    fit = r.fit;
+    reads = reads-passed g rules m (place_at events c) r.flag start (text_of_chain g events (chain_of events c)) t state (place_at events d)
+        (pushed (place_at events d) (place_at events (d + 1)) ∷ pieces_behind events r.behind) r.reads u e;
+  }
+
+  -- the next chunk stands further on, inside the list
+  pub chain-rises : (at d : ℕ) (t : Seen M R D) (state : State) → Chain at t state → next_of events at ≡ Some d → (at < d) × (d + 1 < length events)
+  chain-rises at d t state r e = (ready.forward at d e, inside 4 bytes wanted events ready d (fits_next 4 bytes wanted events ready at d r.fit e))
+
+  pub chain-inside : (at : ℕ) (t : Seen M R D) (state : State) → Chain at t state → at + 1 < length events
+  chain-inside at t state r = inside 4 bytes wanted events ready at r.fit
+
+  pub chain-holds : (at : ℕ) (t : Seen M R D) (state : State) → Chain at t state → (rules t.machine t.given).holds t.text t.configuration t.choices state
+  chain-holds at t state r = reads-holds g rules m (place_at events c) r.flag start (text_of_chain g events (chain_of events c)) t state (pieces_behind events r.behind) r.reads
+
+  pub on-open : (d : ℕ) (t : Seen M R D) (state : State) → On d t state → t.closed ≡ false
+  on-open d t state r = r.reads.open_still
+
+  pub chain-open : (at : ℕ) (t : Seen M R D) (state : State) → Chain at t state → t.closed ≡ false
+  chain-open at t state r = r.reads.open_still
+
+  module _ (at : ℕ) (t : Seen M R D) (state : State) (r : Chain at t state) (last : next_of events at ≡ None) (starts : start_at events c ≡ Some start) where
+    all-read : Reads g rules m (place_at events c) r.flag start (text_of_chain g events (chain_of events c)) [] t state
+    all-read = go r.behind r.lead r.reads
+      where
+        go : (ks : List ℕ) → LeadOnFrom events at ks → Reads g rules m (place_at events c) r.flag start (text_of_chain g events (chain_of events c)) (pieces_behind events ks) t state
+            → Reads g rules m (place_at events c) r.flag start (text_of_chain g events (chain_of events c)) [] t state
+        go [] lead reads = reads
+        go (k ∷ ks) lead reads = absurd (none-some k (sym last ∙ lead.0))
+
+    -- what a flush leaves is the child
+    pub chain-child : (v : Seen M R D) (list : List Event) (sub : Subresult) → IsFlushed (rules t.machine t.given) true t state v sub → list ≡ v.configuration.events
+        → IsChild g (rules m) events c (record { events = list; found = sub })
+    chain-child v list sub f e =
+        let q = reads-flushed g rules m (place_at events c) r.flag start (text_of_chain g events (chain_of events c)) t state all-read v sub f in
+        record {
+          result = q.0;
+          read = record { flag = r.flag; flagged = r.paragraph; start = start; starts = starts; ends = q.1 };
+          well = q.2;
+          final = v.configuration;
+          resolved = q.3;
+          left = e;
+        }
+
+    pub chain-refused : (v : Seen M R D) (message : Message) → IsRefused (rules t.machine t.given) true t state v message → IsChildRefused g (rules m) events c message
+    chain-refused v message f =
+        let q = reads-refused g rules m (place_at events c) r.flag start (text_of_chain g events (chain_of events c)) t state all-read v message f in
+        record {
+          result = q.0;
+          read = record { flag = r.flag; flagged = r.paragraph; start = start; starts = starts; ends = q.1 };
+          message = q.2;
+        }
+
+    -- a flush fails as the chain does
+    pub chain-fault : (v : Seen M R D) (f : Fault) → f ≢ Failed → ((message : Message) → f ≡ fault.Message message → IsRefused (rules t.machine t.given) true t state v message) → IsChildFault g (rules m) events c f
+    chain-fault v Memory other told = tt
+    chain-fault v Failed other told = absurd (other refl)
+    chain-fault v (fault.Message message) other told = chain-refused v message (told message refl)
+
+-- a chain is not read where memory is refused
+pub memory-child-fault : {R D : Type 0} (g : Given) (rules : Given → Rules R D) (events : List Event) (c : ℕ) (f : Fault) → f ≡ Memory → IsChildFault g rules events c f
+memory-child-fault g rules events c f e = subst (IsChildFault g rules events c) (sym e) tt
+
+-- a chain that fits is read from some state
+pub start-there : (bytes : List ℕ) (wanted : Option Content) (events : List Event) → IsReady 4 bytes wanted events → (c : ℕ) → begins wanted events c ≡ true → start_at events c ≡ None → ⊥
+start-there bytes wanted events ready c b e =
+    let h = begins-fits 4 bytes wanted events ready c b in
+    go (content_at events c) refl (ready.readable c h).content e h
+  where
+    go : (o : Option Content) → content_at events c ≡ o → content_at events c ≢ Some Flow → start_at events c ≡ None → fits wanted events c ≡ true → ⊥
+    go None f n s h = let x : Rattle.mdchildren.specs.Chains.some_fits wanted None ≡ true = ap (Rattle.mdchildren.specs.Chains.some_fits wanted) (sym f) ∙ h in cc
+    go (Some x) f n s h =
+        let y = start-some x (λ z. n (f ∙ z)) in
+        none-some y.0 (sym (ap (Rattle.std.specs.Option.option_and_then start_name) (sym f) ∙ s) ∙ y.1)

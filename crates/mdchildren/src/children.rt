@@ -1,0 +1,171 @@
+//! The children of chains: each is read from the text of its chain's chunks.
+
+ghost use Rattle.std.specs.Prelude.{◌≡◌, ◌+◌, ◌*◌, ◌^◌, ◌<◌, ◌++◌, ℕ, true, length, IfOk, IfErr, OnOk};
+ghost use Rattle.std.specs.List.{AllByRecursion};
+ghost use Rattle.markdown_base.specs.Events.{IsBalanced};
+ghost use Rattle.markdown.specs.Engine.{given_of};
+ghost use Rattle.mdchildren.specs.Chains.{chain_of, begins};
+ghost use Rattle.mdchildren.specs.Ready.{IsReady, place_at};
+ghost use Rattle.mdchildren.specs.Laws.{HasEndsWithin};
+ghost use Rattle.mdchildren.specs.Parts.{divided, chain_edits, removed_by, added_by, IsForward, StandBefore};
+ghost use Rattle.mdchildren.specs.Reads.{start_at, StartAmong, IsChild, IsChildFault, IsSubtokenizeFault};
+ghost use Rattle.mdchildren.specs.SoFar.{SoFar, with_flag};
+
+use crate::division::{next_of, place_at};
+use crate::subtokenize::{at_first_paragraph_of_list_item, divide_events};
+use markdown::parser::ParseState;
+use markdown::state::{Machine, Name, State};
+use markdown::subtokenize::{Subresult, joined};
+use markdown::tokenizer::{Fault, Tokenizer};
+use markdown::util::edit_map::EditMap;
+use markdown_base::event::{Content, Event};
+use markdown_base::owned::Items;
+use std::alloc::Global;
+
+/// Reads the chains that fit, and gathers the edits that put their children in their place.
+pub(crate) fn gather<M: Machine>(
+    alloc: Global,
+    events: &[Event],
+    parse_state: &ParseState<M>,
+    filter: Option<Content>,
+) -> Result<(EditMap, Subresult), Fault>
+    requires limit { 4 * length parse_state.now.bytes.now + 1 < 2 ^ 64 }
+    requires ready { IsReady 4 parse_state.now.bytes.now filter events.now }
+    requires starts { let p = parse_state.now in StartAmong (M.rules p.machine.now (given_of 4 p)).starts filter events.now }
+    ensures ok { let p = parse_state.now in IfOk result (λ r. (sums : ℕ × ℕ) × SoFar (given_of 4 p) (M.rules p.machine.now) filter events.now (length events.now) r.0 sums r.1) }
+    ensures err { let p = parse_state.now in IfErr result (IsSubtokenizeFault (given_of 4 p) (M.rules p.machine.now) filter events.now) }
+{
+    let mut map = EditMap::new(alloc);
+    let mut acc = (0, 0);
+    let mut found = Subresult {
+        done: true,
+        gfm_footnote_definitions: Items::new(alloc),
+        definitions: Items::new(alloc),
+    };
+    for index in 0..events.len() {
+        if begins_at(events, index, filter) {
+            let (mut child, more) = read_child(alloc, events, index, parse_state, filter)?;
+            acc = divide(&mut map, events, index, &mut child, acc)?;
+            found = joined(found, more)?;
+            found.done = false;
+        }
+    }
+    Ok((map, found))
+}
+
+/// Whether a chain that fits begins at an index.
+fn begins_at(events: &[Event], index: usize, filter: Option<Content>) -> bool
+    requires { index < length events.now }
+    ensures { result ≡ begins filter events.now index }
+{
+    match events[index].link {
+        Some(link) => {
+            link.previous.is_none()
+                && match filter {
+                    Some(wanted) => wanted == link.content,
+                    None => true,
+                }
+        }
+        None => false,
+    }
+}
+
+/// The state with which the chain of the event at an index is read.
+fn start_at(events: &[Event], index: usize) -> Option<Name>
+    requires { index < length events.now }
+    ensures { result ≡ start_at events.now index }
+{
+    match events[index].link {
+        None => None,
+        Some(link) => match link.content {
+            Content::Flow => None,
+            Content::Content => Some(Name::ContentDefinitionBefore),
+            Content::String => Some(Name::StringStart),
+            Content::Text => Some(Name::TextStart),
+        },
+    }
+}
+
+/// Reads the child of the chain that begins at `index`: its chunks are pushed, and the gaps between them passed.
+fn read_child<M: Machine>(
+    alloc: Global,
+    events: &[Event],
+    index: usize,
+    parse_state: &ParseState<M>,
+    filter: Option<Content>,
+) -> Result<(Vec<Event>, Subresult), Fault>
+    requires limit { 4 * length parse_state.now.bytes.now + 1 < 2 ^ 64 }
+    requires ready { IsReady 4 parse_state.now.bytes.now filter events.now }
+    requires begins { begins filter events.now index ≡ true }
+    requires starts { let p = parse_state.now in StartAmong (M.rules p.machine.now (given_of 4 p)).starts filter events.now }
+    ensures ok { let p = parse_state.now in IfOk result (λ r. IsChild (given_of 4 p) (M.rules p.machine.now) events.now index (record { events = r.0.items; found = r.1 })) }
+    ensures balanced { IfOk result (λ r. IsBalanced r.0.items) }
+    ensures ends { IfOk result (λ r. HasEndsWithin r.0.items) }
+    ensures err { let p = parse_state.now in IfErr result (IsChildFault (given_of 4 p) (M.rules p.machine.now) events.now index) }
+{
+    let Some(start) = start_at(events, index) else {
+        unreachable!();
+    };
+    let place = place_at(events, index);
+    let mut tokenizer = Tokenizer::new(alloc, place, parse_state);
+    let first = at_first_paragraph_of_list_item(events, index, &parse_state.options.constructs);
+    set_first_paragraph(&mut tokenizer, first);
+    let mut at = index;
+    let (from, to) = range_of(events, at);
+    let mut state = tokenizer.push(from, to, State::Next(start))?;
+    while let Some(next) = next_of(events, at) {
+        let gap = place_at(events, next);
+        tokenizer.define_skip(gap)?;
+        let (from, to) = range_of(events, next);
+        state = tokenizer.push(from, to, state)?;
+        at = next;
+    }
+    let sub = tokenizer.flush(state, true)?;
+    Ok((tokenizer.into_events(), sub))
+}
+
+/// Tells a tokenizer whether its text is in the first paragraph of a list item.
+fn set_first_paragraph<'a, M: Machine>(t: &mut Tokenizer<'a, M>, first: bool)
+    ensures { t.new ≡ with_flag first t.old }
+{
+    t.tokenize_state.document_at_first_paragraph_of_list_item = first;
+}
+
+/// The range of a chunk, by its places.
+fn range_of(events: &[Event], index: usize) -> ((usize, usize), (usize, usize))
+    requires inside { index + 1 < length events.now }
+    ensures { result ≡ (((place_at events.now index).index, (place_at events.now index).vs), ((place_at events.now (index + 1)).index, (place_at events.now (index + 1)).vs)) }
+{
+    let from = events[index].point;
+    let to = events[index + 1].point;
+    ((from.index, from.vs), (to.index, to.vs))
+}
+
+/// Divides a child as [`divide_events`] does; `Memory` is also answered where the lists together are too long.
+fn divide(
+    map: &mut EditMap,
+    events: &[Event],
+    index: usize,
+    child: &mut Vec<Event>,
+    acc: (usize, usize),
+) -> Result<(usize, usize), Fault>
+    requires chain { AllByRecursion (IsForward events.now) (chain_of events.now index) }
+    requires within { index + 1 < length events.now }
+    requires before { StandBefore map.old index }
+    requires sums { (acc.0 ≡ removed_by map.old) × (acc.1 ≡ added_by map.old) }
+    requires ends { HasEndsWithin child.old.items }
+    ensures ok { OnOk result (map.new ≡ map.old ++ chain_edits acc.0 acc.1 (divided events.now index child.old.items)) }
+    ensures sums { IfOk result (λ r. (r.0 ≡ acc.0 + 2 * length (chain_of events.now index)) × (r.1 ≡ acc.1 + length child.old.items)) }
+    ensures err { IfErr result (λ fault. fault ≡ Fault.Memory) }
+{
+    let Some(most) = events.len().checked_add(acc.1) else {
+        return Err(Fault::Memory);
+    };
+    if most.checked_add(child.len()).is_none() {
+        return Err(Fault::Memory);
+    }
+    match divide_events(map, events, index, child, acc) {
+        Ok(sums) => Ok(sums),
+        Err(_) => Err(Fault::Memory),
+    }
+}
