@@ -10,10 +10,10 @@ use Rattle.markdown.specs.Engine.{given_by}
 use Rattle.markdown.specs.Links.{next_of, previous_of}
 use Rattle.markdown.specs.Text.{Given, Text, pushed, passed, followed_by, empty_text, FitsAfter, CanFollow}
 use Rattle.markdown.proofs.PlaceCursors.{upto-order, upto-same, same-self}
-use Rattle.mdchildren.specs.Chains.{chain_of, fits, begins}
+use Rattle.mdchildren.specs.Chains.{fits, begins}
 use Rattle.mdchildren.specs.Ready.{IsReady, place_at}
 use Rattle.mdchildren.specs.Laws.{LeadOnFrom}
-use Rattle.mdchildren.specs.Reads.{pieces_behind, pieces_of}
+use Rattle.mdchildren.specs.Reads.{pieces_behind, pieces_of, CanReadChain}
 use Rattle.mdchildren.proofs.Following.{both-first, fits_next, whole-from}
 
 module _ (tab : ℕ) (bytes : List ℕ) (options : ParseOptions) (wanted : Option Content) (events : List Event) (ready : IsReady tab bytes wanted events) where
@@ -64,7 +64,7 @@ module _ (tab : ℕ) (bytes : List ℕ) (options : ParseOptions) (wanted : Optio
       after true e = e
       after false e = same-self tab bytes (place_at events d)
 
-  pub chunks_can_be_read : (c : ℕ) → begins wanted events c ≡ true → CanFollow g (empty_text (place_at events c)) (pieces_of events (chain_of events c))
+  pub chunks_can_be_read : (c : ℕ) → begins wanted events c ≡ true → CanReadChain g events c
   chunks_can_be_read c b =
       let h = both-first (fits wanted events c) (is_none (previous_of events c)) b in
       let w = whole-from tab bytes wanted events ready c h in

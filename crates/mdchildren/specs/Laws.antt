@@ -14,6 +14,11 @@ use Rattle.markdown.specs.Edited.{edited}
 use Rattle.mdchildren.specs.Children.{child_changes, with_children}
 use Rattle.mdchildren.specs.Parts.{parts, divided_over, all_edits}
 use Rattle.mdchildren.specs.Chains.{chain_of, begins, fits, fitting_chunks, fitting_starts}
+use Rattle.mdchildren.specs.Ready.{IsReady}
+
+-- what holds of each list that is ready for a filter, over a document and with tab stops
+abbrev pub ForReadyLists : (ℕ → List ℕ → Option Content → List Event → Type 0) → Type 0
+ForReadyLists P = (tab : ℕ) (bytes : List ℕ) (wanted : Option Content) (events : List Event) → IsReady tab bytes wanted events → P tab bytes wanted events
 
 -- the chunks after the one at k lead on by links, and the last one's leads nowhere
 abbrev pub LeadOnFrom : List Event → ℕ → List ℕ → Type 0

@@ -17,7 +17,7 @@ use Rattle.markdown.specs.declared.subtokenize.Subresult.{Subresult}
 use Rattle.markdown.specs.declared.tokenizer.Fault.{Fault}
 use Rattle.markdown.specs.declared.tokenizer.Fault.TheVariants.{Memory, Failed}
 use Rattle.markdown.specs.declared.tokenizer.Fault.TheVariants as fault
-use Rattle.markdown.specs.Text.{Given, Text as TextOf, Piece, pushed, passed, empty_text, followed_by_all}
+use Rattle.markdown.specs.Text.{Given, Text as TextOf, Piece, pushed, passed, empty_text, followed_by_all, CanFollow}
 use Rattle.markdown.specs.Configuration.{Configuration, start_configuration}
 use Rattle.markdown.specs.Rules.{Rules}
 use Rattle.markdown.specs.Reading.{Reading, EndsIn}
@@ -60,6 +60,10 @@ pieces_of events (k ∷ ks) = pushed (place_at events k) (place_at events (k + 1
 -- the text of a chain
 abbrev pub text_of_chain : Given → List Event → List ℕ → TextOf
 text_of_chain g events ks = followed_by_all g (empty_text (place_at events (first_chunk ks))) (pieces_of events ks)
+
+-- the pieces of the chain that begins at an index can be read one after another
+abbrev pub CanReadChain : Given → List Event → ℕ → Type 0
+CanReadChain g events c = CanFollow g (empty_text (place_at events c)) (pieces_of events (chain_of events c))
 
 -- What reading a chain gave
 pub record Child : Type 0 where

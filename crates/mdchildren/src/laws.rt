@@ -2,37 +2,33 @@
 //!
 //! Each is a function that does nothing, whose contract is the law.
 
-ghost use Rattle.std.specs.Prelude.{◌≡◌, ◌∷◌, true, List, ℕ, Option};
-ghost use Rattle.markdown_base.specs.declared.event.Content.{Content};
+ghost use Rattle.std.specs.Prelude.{◌≡◌, ◌∷◌, true, List, ℕ};
 ghost use Rattle.markdown_base.specs.declared.event.Event.{Event};
 ghost use Rattle.markdown.specs.Engine.{given_by};
-ghost use Rattle.markdown.specs.Text.{CanFollow, empty_text};
-ghost use Rattle.mdchildren.specs.Chains.{chain_of, begins};
-ghost use Rattle.mdchildren.specs.Ready.{IsReady, place_at};
-ghost use Rattle.mdchildren.specs.Reads.{pieces_of};
-ghost use Rattle.mdchildren.specs.Laws.{HasOrderedChains, ChildrenFit, EditsGiveChildren, AreByChunk};
+ghost use Rattle.mdchildren.specs.Chains.{begins};
+ghost use Rattle.mdchildren.specs.Reads.{CanReadChain};
+ghost use Rattle.mdchildren.specs.Laws.{ForReadyLists, HasOrderedChains, ChildrenFit, EditsGiveChildren, AreByChunk};
 ghost use Rattle.markdown_base.specs.declared.event.Point.{Point};
 
 /// In a list that is ready, the chains that fit follow one another, chunk by chunk; each chunk that fits belongs to one of
 /// them; and what children of them change is disjoint and inside the list.
 pub fn a_ready_list_has_ordered_chains()
-    ensures { (tab : ℕ) → (bytes : List ℕ) → (wanted : Option Content) → (events : List Event) → IsReady tab bytes wanted events → HasOrderedChains wanted events }
+    ensures { ForReadyLists (λ tab bytes wanted events. HasOrderedChains wanted events) }
 {}
 
 /// The chunks of a chain that fits can be pushed one after another, with the gaps between them passed.
 pub fn chunks_can_be_read()
-    ensures { (tab : ℕ) → (bytes : List ℕ) → (options : _) → (wanted : Option Content) → (events : List Event) → (c : ℕ) → IsReady tab bytes wanted events → begins wanted events c ≡ true
-        → CanFollow (given_by tab bytes options) (empty_text (place_at events c)) (pieces_of events (chain_of events c)) }
+    ensures { ForReadyLists (λ tab bytes wanted events. (options : _) (c : ℕ) → begins wanted events c ≡ true → CanReadChain (given_by tab bytes options) events c) }
 {}
 
 /// Balanced children keep such a list balanced, and each link between events that stay.
 pub fn children_fit()
-    ensures { (tab : ℕ) → (bytes : List ℕ) → (wanted : Option Content) → (events : List Event) → (children : List (List Event)) → IsReady tab bytes wanted events → ChildrenFit wanted events children }
+    ensures { ForReadyLists (λ tab bytes wanted events. (children : List (List Event)) → ChildrenFit wanted events children) }
 {}
 
 /// Edits made chain by chain, each with sums of what the chains in front remove and add, give the list with children.
 pub fn edits_give_children()
-    ensures { (tab : ℕ) → (bytes : List ℕ) → (wanted : Option Content) → (events : List Event) → (children : List (List Event)) → IsReady tab bytes wanted events → EditsGiveChildren wanted events children }
+    ensures { ForReadyLists (λ tab bytes wanted events. (children : List (List Event)) → EditsGiveChildren wanted events children) }
 {}
 
 /// Child events are divided by chunks: each belongs to the first one, not before that of the event before, whose end is not before it;
