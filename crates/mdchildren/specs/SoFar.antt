@@ -1,5 +1,5 @@
 -- Inner: what the loop of `subtokenize` knows before it looks at the event at an index. No public contract speaks of it.
-use Rattle.std.specs.Prelude.{◌≡◌, ◌↔◌, ℕ, Bool, true, List, [], filter, flat_map, Option}
+use Rattle.std.specs.Prelude.{◌≡◌, ◌↔◌, ℕ, Bool, true, List, [], length, filter, flat_map, Option}
 use Rattle.std.specs.List.{AllByRecursion, range_with_len}
 use Rattle.markdown_base.specs.declared.event.Content.{Content}
 use Rattle.markdown_base.specs.declared.event.Event.{Event}
@@ -31,6 +31,10 @@ module _ {R D : Type 0} (g : Given) (rules : Given → Rules R D) (wanted : Opti
     pub done : (sub.done ≡ true) ↔ (starts_below wanted events i ≡ [])
     pub definitions : sub.definitions ≡ flat_map (λ (c : Child). c.found.definitions) children
     pub footnotes : sub.gfm_footnote_definitions ≡ flat_map (λ (c : Child). c.found.gfm_footnote_definitions) children
+
+  -- all chains were read: the map holds their edits, and this is what was found
+  abbrev pub HasGathered : List Edit → Subresult → Type 0
+  HasGathered es sub = (sums : ℕ × ℕ) × SoFar (length events) es sums sub
 
 -- a tokenizer that is told whether its text is in the first paragraph of a list item
 abbrev pub with_flag : {M R D : Type 0} → Bool → Seen M R D → Seen M R D

@@ -1,6 +1,6 @@
 //! The children of chains: each is read from the text of its chain's chunks.
 
-ghost use Rattle.std.specs.Prelude.{◌≡◌, ◌+◌, ◌*◌, ◌^◌, ◌<◌, ◌++◌, ℕ, true, length, IfOk, IfErr, OnOk};
+ghost use Rattle.std.specs.Prelude.{◌≡◌, ◌+◌, ◌*◌, ◌^◌, ◌<◌, ◌++◌, [], ℕ, true, length, IfOk, IfErr, OnOk};
 ghost use Rattle.std.specs.List.{AllByRecursion};
 ghost use Rattle.markdown_base.specs.Events.{IsBalanced};
 ghost use Rattle.markdown.specs.Engine.{given_of};
@@ -9,7 +9,7 @@ ghost use Rattle.mdchildren.specs.Ready.{IsReady, place_at};
 ghost use Rattle.mdchildren.specs.Laws.{HasEndsWithin};
 ghost use Rattle.mdchildren.specs.Parts.{divided, chain_edits, removed_by, added_by, IsForward, StandBefore};
 ghost use Rattle.mdchildren.specs.Reads.{start_at, StartAmong, IsChild, IsChildFault, IsSubtokenizeFault};
-ghost use Rattle.mdchildren.specs.SoFar.{SoFar, with_flag};
+ghost use Rattle.mdchildren.specs.SoFar.{HasGathered, with_flag};
 
 use crate::division::{next_of, place_at};
 use crate::subtokenize::{at_first_paragraph_of_list_item, divide_events};
@@ -22,20 +22,21 @@ use markdown_base::event::{Content, Event};
 use markdown_base::owned::Items;
 use std::alloc::Global;
 
-/// Reads the chains that fit, and gathers the edits that put their children in their place.
+/// Reads the chains that fit, and adds to an empty map the edits that put their children in their place.
 pub(crate) fn gather<M: Machine>(
     alloc: Global,
+    map: &mut EditMap,
     events: &[Event],
     parse_state: &ParseState<M>,
     filter: Option<Content>,
-) -> Result<(EditMap, Subresult), Fault>
+) -> Result<Subresult, Fault>
+    requires empty { map.old ≡ [] }
     requires limit { 4 * length parse_state.now.bytes.now + 1 < 2 ^ 64 }
     requires ready { IsReady 4 parse_state.now.bytes.now filter events.now }
     requires starts { let p = parse_state.now in StartAmong (M.rules p.machine.now (given_of 4 p)).starts filter events.now }
-    ensures ok { let p = parse_state.now in IfOk result (λ r. (sums : ℕ × ℕ) × SoFar (given_of 4 p) (M.rules p.machine.now) filter events.now (length events.now) r.0 sums r.1) }
+    ensures ok { let p = parse_state.now in IfOk result (HasGathered (given_of 4 p) (M.rules p.machine.now) filter events.now map.new) }
     ensures err { let p = parse_state.now in IfErr result (IsSubtokenizeFault (given_of 4 p) (M.rules p.machine.now) filter events.now) }
 {
-    let mut map = EditMap::new(alloc);
     let mut acc = (0, 0);
     let mut found = Subresult {
         done: true,
@@ -45,12 +46,12 @@ pub(crate) fn gather<M: Machine>(
     for index in 0..events.len() {
         if begins_at(events, index, filter) {
             let (mut child, more) = read_child(alloc, events, index, parse_state, filter)?;
-            acc = divide(&mut map, events, index, &mut child, acc)?;
+            acc = divide(map, events, index, &mut child, acc)?;
             found = joined(found, more)?;
             found.done = false;
         }
     }
-    Ok((map, found))
+    Ok(found)
 }
 
 /// Whether a chain that fits begins at an index.

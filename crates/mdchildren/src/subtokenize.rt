@@ -145,7 +145,14 @@ pub fn subtokenize<M: Machine>(
     ensures err { let p = parse_state.now in IfErr result (IsSubtokenizeFault (given_of 4 p) (M.rules p.machine.now) (option_copied filter.entry) events.old.items) }
     ensures left { OnErr result (events.new.items ≡ events.old.items) }
 {
-    let (mut map, found) = gather(alloc, events.as_slice(), parse_state, filter.copied())?;
+    let mut map = EditMap::new(alloc);
+    let found = gather(
+        alloc,
+        &mut map,
+        events.as_slice(),
+        parse_state,
+        filter.copied(),
+    )?;
     match map.consume(events) {
         Ok(()) => Ok(found),
         Err(_) => Err(Fault::Memory),

@@ -14,7 +14,7 @@ told a c e f = sym e ∙ f
 pub loop-index-init : goal.loop-index-init
 loop-index-init g c =
     let given = given_by 4 c.args.parse_state.now.bytes.now c.args.parse_state.now.options.now in
-    so_far-start given (g.M.Machine.rules c.args.parse_state.now.machine.now) c.args.filter c.args.events.now c.new-map.result _ c.new-map.ensures refl c.new-2.ensures c.new.ensures
+    so_far-start given (g.M.Machine.rules c.args.parse_state.now.machine.now) c.args.filter c.args.events.now c.args.map.now _ c.requires.empty refl c.new-2.ensures c.new.ensures
 
 pub divide-requires-clause-chain : goal.divide-requires-clause-chain
 divide-requires-clause-chain g c = forward-chain 4 c.args.parse_state.now.bytes.now c.args.filter c.args.events.now c.requires.ready c.loop-index.index (told _ _ c.begins_at.ensures c.if-begins_at.true)

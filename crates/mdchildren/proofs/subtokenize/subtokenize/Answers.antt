@@ -23,9 +23,9 @@ pub consume-requires-clause-disjoint : goal.consume-requires-clause-disjoint
 consume-requires-clause-disjoint g c =
     let given = given_by 4 c.args.parse_state.now.bytes.now c.args.parse_state.now.options.now in
     let rules = g.M.Machine.rules c.args.parse_state.now.machine.now in
-    let r = c.in_ok-map.ensures.ok in
-    so_far-disjoint given rules (option_copied c.args.filter) c.args.events.now.items 4 c.args.parse_state.now.bytes.now c.in_ok-map.map r.0 c.in_ok-map.found c.requires.ready
-    (moved (λ (w : Option Content) (xs : List Event). SoFar given rules w xs (length xs) c.in_ok-map.map r.0 c.in_ok-map.found) c.copied.result (option_copied c.args.filter) c.as_slice.result.now c.args.events.now.items c.copied.ensures c.as_slice.ensures.value r.1)
+    let r = c.in_ok-found.ensures.ok in
+    so_far-disjoint given rules (option_copied c.args.filter) c.args.events.now.items 4 c.args.parse_state.now.bytes.now c.gather.new.map r.0 c.in_ok-found.found c.requires.ready
+    (moved (λ (w : Option Content) (xs : List Event). SoFar given rules w xs (length xs) c.gather.new.map r.0 c.in_ok-found.found) c.copied.result (option_copied c.args.filter) c.as_slice.result.now c.args.events.now.items c.copied.ensures c.as_slice.ensures.value r.1)
 
 pub consume-requires-clause-links : goal.consume-requires-clause-links
 consume-requires-clause-links g c = ends-inside 4 c.args.parse_state.now.bytes.now (option_copied c.args.filter) c.args.events.now.items c.requires.ready
@@ -34,7 +34,7 @@ pub returns-in-Ok-clause-ok : goal.returns-in-Ok-clause-ok
 returns-in-Ok-clause-ok g c =
     let given = given_by 4 c.args.parse_state.now.bytes.now c.args.parse_state.now.options.now in
     let rules = g.M.Machine.rules c.args.parse_state.now.machine.now in
-    let r = c.in_ok-map.ensures.ok in
-    so_far-end given rules (option_copied c.args.filter) c.args.events.now.items 4 c.args.parse_state.now.bytes.now c.in_ok-map.map r.0 c.in_ok-map.found c.consume.new.events.items c.requires.ready
-    (moved (λ (w : Option Content) (xs : List Event). SoFar given rules w xs (length xs) c.in_ok-map.map r.0 c.in_ok-map.found) c.copied.result (option_copied c.args.filter) c.as_slice.result.now c.args.events.now.items c.copied.ensures c.as_slice.ensures.value r.1)
+    let r = c.in_ok-found.ensures.ok in
+    so_far-end given rules (option_copied c.args.filter) c.args.events.now.items 4 c.args.parse_state.now.bytes.now c.gather.new.map r.0 c.in_ok-found.found c.consume.new.events.items c.requires.ready
+    (moved (λ (w : Option Content) (xs : List Event). SoFar given rules w xs (length xs) c.gather.new.map r.0 c.in_ok-found.found) c.copied.result (option_copied c.args.filter) c.as_slice.result.now c.args.events.now.items c.copied.ensures c.as_slice.ensures.value r.1)
     c.in-Ok.ensures.ok
