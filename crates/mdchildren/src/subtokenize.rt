@@ -146,13 +146,7 @@ pub fn subtokenize<M: Machine>(
     ensures left { OnErr result (events.new.items ≡ events.old.items) }
 {
     let mut map = EditMap::new(alloc);
-    let found = gather(
-        alloc,
-        &mut map,
-        events.as_slice(),
-        parse_state,
-        filter.copied(),
-    )?;
+    let found = gather(alloc, &mut map, events, parse_state, filter.copied())?;
     match map.consume(events) {
         Ok(()) => Ok(found),
         Err(_) => Err(Fault::Memory),
