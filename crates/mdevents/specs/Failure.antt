@@ -22,11 +22,11 @@ IsOfReading TooLong = ⊤
 IsOfReading NotReady = ⊥
 IsOfReading (Message m) = ⊥
 
--- making the events can fail so: by memory, or by a message
+-- making the events can fail so: by memory, by links that cannot be followed, or by a message
 abbrev pub IsOfMaking : Failure → Type 0
 IsOfMaking Memory = ⊤
 IsOfMaking Read = ⊥
 IsOfMaking Write = ⊥
 IsOfMaking TooLong = ⊥
-IsOfMaking NotReady = ⊥
+IsOfMaking NotReady = ⊤
 IsOfMaking (Message m) = ⊤

@@ -1,5 +1,5 @@
 -- What the program writes.
-use Rattle.std.specs.Prelude.{[], ◌≡◌, ℕ, List, false, Option, Some, Result, Ok, take}
+use Rattle.std.specs.Prelude.{[], ◌≡◌, ◌⊎◌, ℕ, Bool, List, true, false, Option, Some, Result, Ok, take}
 use Rattle.std.specs.Option.{option_map_or}
 use Rattle.std.specs.Io.KnownBytes.{Consumes, IsAtEnd, Appends}
 use Rattle.markdown_base.specs.declared.event.Event.{Event}
@@ -12,6 +12,9 @@ use Rattle.markdown.specs.Text.{Given}
 use Rattle.markdown.specs.Rules.{Rules}
 use Rattle.markdown.specs.Engine.{given_by, IsRun, IsRunRefused}
 use Rattle.markdown.specs.Cuts.{cuts_every}
+use Rattle.markdown_base.specs.declared.event.Content.TheVariants.{Text}
+use Rattle.mdchildren.specs.Ready.{IsReady}
+use Rattle.mdchildren.specs.Reads.{IsSubtokenized, IsSubtokenizeRefused}
 use Rattle.mdevents.specs.declared.failure.Failure.{Failure}
 use Rattle.mdevents.specs.declared.words.Choice.{Choice}
 use Rattle.mdevents.specs.declared.words.Which.{Which}
@@ -29,29 +32,63 @@ use Rattle.mdevents.specs.Reading.{IsWithinLimit}
 abbrev pub document : List ℕ → Given
 document bytes = given_by 4 bytes default_parse_options
 
+-- a machine
+module _ {R D : Type 0} (rules : Given → Rules R D) (bytes : List ℕ) where
+  -- events of a document with the children of their chains of text in place of the chunks, all read by the machine
+  abbrev pub HasChildren : List Event → List Event → Type 0
+  HasChildren old new = (sub : Subresult) × IsSubtokenized (document bytes) rules (Some Text) old new sub
+
+  -- the first of these children that does not end well ends in a message
+  abbrev pub HasRefusedChild : List Event → Message → Type 0
+  HasRefusedChild old m = IsSubtokenizeRefused (document bytes) rules (Some Text) old m
+
 -- a machine with a start
 module _ {R D : Type 0} (rules : Given → Rules R D) (start : Name) (bytes : List ℕ) where
   -- a run of the machine over a document answers these events
   abbrev pub Gives : List Event → Type 0
   Gives events = (sub : Subresult) × IsRun (document bytes) rules false start events sub
 
--- the events of a document are those that its machine gives
-abbrev pub AreEventsOf : Which → List ℕ → List Event → Type 0
-AreEventsOf Lines = Gives lines_rules FlowStart
-AreEventsOf Paragraphs = Gives paragraphs_rules FlowStart
-AreEventsOf Peek = Gives peek_rules TextStart
-AreEventsOf Deep = Gives deep_rules StringStart
-AreEventsOf Back = Gives back_rules TextStart
-AreEventsOf Save = Gives save_rules TextStart
+  -- a run answers events, and these are they with the children of its chains of text
+  abbrev pub GivesDeep : List Event → Type 0
+  GivesDeep events = (flat : List Event) × Gives flat × HasChildren rules bytes flat events
 
--- a document is refused where its machine refuses it
-abbrev pub IsRefusedBy : Which → List ℕ → Message → Type 0
-IsRefusedBy Lines bytes = IsRunRefused (document bytes) lines_rules false FlowStart
-IsRefusedBy Paragraphs bytes = IsRunRefused (document bytes) paragraphs_rules false FlowStart
-IsRefusedBy Peek bytes = IsRunRefused (document bytes) peek_rules false TextStart
-IsRefusedBy Deep bytes = IsRunRefused (document bytes) deep_rules false StringStart
-IsRefusedBy Back bytes = IsRunRefused (document bytes) back_rules false TextStart
-IsRefusedBy Save bytes = IsRunRefused (document bytes) save_rules false TextStart
+  -- the run, or a child of its chains of text, ends in a message
+  abbrev pub IsRefusedDeep : Message → Type 0
+  IsRefusedDeep m = IsRunRefused (document bytes) rules false start m ⊎ ((flat : List Event) × Gives flat × HasRefusedChild rules bytes flat m)
+
+  -- a run answers events whose chains of text cannot be read
+  abbrev pub GivesUnready : Type 0
+  GivesUnready = (flat : List Event) × Gives flat × ¬ IsReady 4 bytes (Some Text) flat
+
+-- the events of a document are those that its machine gives, and with `--deep` those with children; one machine alone links
+abbrev pub AreEventsOf : (deep : Bool) → Which → List ℕ → List Event → Type 0
+AreEventsOf deep Lines = Gives lines_rules FlowStart
+AreEventsOf false Paragraphs = Gives paragraphs_rules FlowStart
+AreEventsOf true Paragraphs = GivesDeep paragraphs_rules FlowStart
+AreEventsOf deep Peek = Gives peek_rules TextStart
+AreEventsOf deep Deep = Gives deep_rules StringStart
+AreEventsOf deep Back = Gives back_rules TextStart
+AreEventsOf deep Save = Gives save_rules TextStart
+
+-- a document is refused where its machine refuses it, and with `--deep` where it refuses a child
+abbrev pub IsRefusedBy : (deep : Bool) → Which → List ℕ → Message → Type 0
+IsRefusedBy deep Lines bytes = IsRunRefused (document bytes) lines_rules false FlowStart
+IsRefusedBy false Paragraphs bytes = IsRunRefused (document bytes) paragraphs_rules false FlowStart
+IsRefusedBy true Paragraphs bytes = IsRefusedDeep paragraphs_rules FlowStart bytes
+IsRefusedBy deep Peek bytes = IsRunRefused (document bytes) peek_rules false TextStart
+IsRefusedBy deep Deep bytes = IsRunRefused (document bytes) deep_rules false StringStart
+IsRefusedBy deep Back bytes = IsRunRefused (document bytes) back_rules false TextStart
+IsRefusedBy deep Save bytes = IsRunRefused (document bytes) save_rules false TextStart
+
+-- the events of a document are not ready: with `--deep` alone, where its machine gives some that are not
+abbrev pub IsUnreadyBy : (deep : Bool) → Which → List ℕ → Type 0
+IsUnreadyBy deep Lines bytes = ⊥
+IsUnreadyBy false Paragraphs bytes = ⊥
+IsUnreadyBy true Paragraphs bytes = GivesUnready paragraphs_rules FlowStart bytes
+IsUnreadyBy deep Peek bytes = ⊥
+IsUnreadyBy deep Deep bytes = ⊥
+IsUnreadyBy deep Back bytes = ⊥
+IsUnreadyBy deep Save bytes = ⊥
 
 -- where a document is cut: nowhere, or at every n-th of its virtual bytes
 abbrev pub cut_places : Choice → List ℕ → List (ℕ × ℕ)
@@ -64,32 +101,36 @@ pub record IsReadToEnd (old new : Option (List ℕ)) (bytes : List ℕ) : Type 0
   pub within : IsWithinLimit bytes
 
 -- what was read to its end is refused with this message
-abbrev pub IsReadAndRefused : Which → Option (List ℕ) → Option (List ℕ) → Message → Type 0
-IsReadAndRefused which old new m = (bytes : List ℕ) × IsReadToEnd old new bytes × IsRefusedBy which bytes m
+abbrev pub IsReadAndRefused : Choice → Option (List ℕ) → Option (List ℕ) → Message → Type 0
+IsReadAndRefused choice old new m = (bytes : List ℕ) × IsReadToEnd old new bytes × IsRefusedBy choice.deep choice.machine bytes m
+
+-- the events of what was read to its end are not ready
+abbrev pub IsReadAndUnready : Choice → Option (List ℕ) → Option (List ℕ) → Type 0
+IsReadAndUnready choice old new = (bytes : List ℕ) × IsReadToEnd old new bytes × IsUnreadyBy choice.deep choice.machine bytes
 
 -- What was read to its end has these printed events
-pub record ArePrintedEvents (which : Which) (old new : Option (List ℕ)) (text : List ℕ) : Type 0 where
+pub record ArePrintedEvents (choice : Choice) (old new : Option (List ℕ)) (text : List ℕ) : Type 0 where
   pub bytes : List ℕ
   pub read : IsReadToEnd old new bytes
   pub events : List Event
-  pub are : AreEventsOf which bytes events
+  pub are : AreEventsOf choice.deep choice.machine bytes events
   pub lines : text ≡ printed_events events
 
-module _ {A B : Type 0} (which : Which) (remaining : A → Option (List ℕ)) (reader_old reader_new : A) (contents : B → Option (List ℕ)) (writer_old writer_new : B) where
+module _ {A B : Type 0} (choice : Choice) (remaining : A → Option (List ℕ)) (reader_old reader_new : A) (contents : B → Option (List ℕ)) (writer_old writer_new : B) where
   -- The printed events of what was read were written, and nothing else
   pub record Prints : Type 0 where
     pub text : List ℕ
-    pub printed : ArePrintedEvents which (remaining reader_old) (remaining reader_new) text
+    pub printed : ArePrintedEvents choice (remaining reader_old) (remaining reader_new) text
     pub written : Appends (contents writer_old) (contents writer_new) text
 
   -- A beginning of the printed events of what was read was written, and nothing else
   pub record PrintsFront : Type 0 where
     pub text : List ℕ
-    pub printed : ArePrintedEvents which (remaining reader_old) (remaining reader_new) text
+    pub printed : ArePrintedEvents choice (remaining reader_old) (remaining reader_new) text
     pub count : ℕ
     pub written : Appends (contents writer_old) (contents writer_new) (take count text)
 
 -- something was chosen, and what it prints was written
 abbrev pub PrintsChosen : {A B : Type 0} → Result (Option Choice) Failure → (remaining : A → Option (List ℕ)) (reader_old reader_new : A) (contents : B → Option (List ℕ)) (writer_old writer_new : B) → Type 0
 PrintsChosen choice remaining reader_old reader_new contents writer_old writer_new =
-    (c : Choice) × (choice ≡ Ok (Some c)) × Prints c.machine remaining reader_old reader_new contents writer_old writer_new
+    (c : Choice) × (choice ≡ Ok (Some c)) × Prints c remaining reader_old reader_new contents writer_old writer_new

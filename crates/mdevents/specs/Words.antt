@@ -1,5 +1,5 @@
 -- The words that the program is called with.
-use Rattle.std.specs.Prelude.{ℕ, ◌≤◌, IfSome, ◌^◌, ◌&&◌, List, [], ◌∷◌, Option, Some, None, unwrap_or, codes, nat_lt, cond, filter_map}
+use Rattle.std.specs.Prelude.{ℕ, ◌≤◌, IfSome, ◌^◌, ◌&&◌, not, Bool, true, false, List, [], ◌∷◌, Option, Some, None, unwrap_or, codes, nat_lt, cond, filter_map}
 use Rattle.std.specs.Char.{is_ascii_digit}
 use Rattle.std.specs.List.{list_all}
 use Rattle.std.specs.Option.{option_and_then, option_map}
@@ -21,9 +21,10 @@ which_of name =
     (cond (bytes_eq name (codes "peek")) (Some Peek)
     (cond (bytes_eq name (codes "deep")) (Some Deep) (cond (bytes_eq name (codes "back")) (Some Back) (cond (bytes_eq name (codes "save")) (Some Save) None)))))
 
--- An option with its value
+-- An option, with its value if it has one
 pub data Spelled : Type 0 where
   cut : ℕ → Spelled
+  deep : Spelled
   machine : Which → Spelled
 
 -- the option that two words spell, if they spell one: `--cut` and a number, or `--machine` and a name
@@ -31,20 +32,30 @@ abbrev pub option_of : List ℕ → List ℕ → Option Spelled
 option_of name value =
     cond (bytes_eq name (codes "--cut")) (option_map cut (number_of value)) (cond (bytes_eq name (codes "--machine")) (option_map machine (which_of value)) None)
 
--- the options that words spell, in order, if they spell options: each two words are an option with its value
+-- the options that words spell, in order, if they spell options: a word is `--deep`, or two words are an option with its value
 abbrev pub options_of : List (List ℕ) → Option (List Spelled)
 options_of [] = Some []
-options_of (name ∷ []) = None
-options_of (name ∷ value ∷ words) = option_and_then (λ option. option_map (λ options. option ∷ options) (options_of words)) (option_of name value)
+options_of (word ∷ []) = cond (bytes_eq word (codes "--deep")) (Some (deep ∷ [])) None
+options_of (word ∷ value ∷ words) =
+    cond (bytes_eq word (codes "--deep")) (option_map (λ options. deep ∷ options) (options_of (value ∷ words)))
+    (option_and_then (λ option. option_map (λ options. option ∷ options) (options_of words)) (option_of word value))
 
 -- the number of an option to cut
 abbrev pub cut_in : Spelled → Option ℕ
 cut_in (cut n) = Some n
+cut_in deep = None
 cut_in (machine which) = None
+
+-- that an option is `--deep`
+abbrev pub deep_in : Spelled → Option Bool
+deep_in (cut n) = None
+deep_in deep = Some true
+deep_in (machine which) = None
 
 -- the machine of an option that names one
 abbrev pub machine_in : Spelled → Option Which
 machine_in (cut n) = None
+machine_in deep = None
 machine_in (machine which) = Some which
 
 -- what a list of at most one has, if it has it; nothing for a longer list
@@ -53,10 +64,24 @@ at_most_one [] = Some None
 at_most_one (x ∷ []) = Some (Some x)
 at_most_one (x ∷ y ∷ xs) = None
 
+-- whether a machine links chunks of text
+abbrev pub links_text : Which → Bool
+links_text Lines = false
+links_text Paragraphs = true
+links_text Peek = false
+links_text Deep = false
+links_text Back = false
+links_text Save = false
+
+-- the choice of a cut, of `--deep` and of a machine, if they are taken together: `--deep` is with a machine that links
+abbrev pub taken : Option ℕ → Bool → Which → Option Choice
+taken n is_deep which = cond (is_deep && not (links_text which)) None (Some (record { cut = n; deep = is_deep; machine = which }))
+
 -- what options choose, if there is at most one of each: without a machine's name, that of lines
 abbrev pub chosen_by : List Spelled → Option Choice
 chosen_by options =
-    option_and_then (λ cut. option_map (λ which. record { cut = cut; machine = unwrap_or which Lines }) (at_most_one (filter_map machine_in options)))
+    option_and_then (λ n. option_and_then (λ is_deep. option_and_then (λ which. taken n (unwrap_or is_deep false) (unwrap_or which Lines))
+    (at_most_one (filter_map machine_in options))) (at_most_one (filter_map deep_in options)))
     (at_most_one (filter_map cut_in options))
 
 -- what words choose, if they choose anything: what the options that they spell choose

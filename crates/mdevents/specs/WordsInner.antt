@@ -1,16 +1,17 @@
 -- Inner: what words choose, word by word, as private functions speak of it. No public clause cites this file.
-use Rattle.std.specs.Prelude.{ℕ, ◌&&◌, List, [], ◌∷◌, Option, Some, None, unwrap_or, codes, cond}
+use Rattle.std.specs.Prelude.{ℕ, ◌&&◌, not, Bool, true, List, [], ◌∷◌, Option, Some, None, unwrap_or, codes, cond}
 use Rattle.std.specs.Option.{is_none, option_and_then}
 use Rattle.std.specs.Str.{bytes_eq}
 use Rattle.mdevents.specs.declared.words.Choice.{Choice}
 use Rattle.mdevents.specs.declared.words.Which.{Which}
 use Rattle.mdevents.specs.declared.words.Which.TheVariants.{Lines}
-use Rattle.mdevents.specs.Words.{number_of, which_of}
+use Rattle.mdevents.specs.Words.{number_of, which_of, taken}
 
--- what words choose after these options: `--cut` and a number, or `--machine` and a name, each where it did not come before
-abbrev pub chosen_after : Option ℕ → Option Which → List (List ℕ) → Option Choice
-chosen_after cut machine [] = Some (record { cut = cut; machine = unwrap_or machine Lines })
-chosen_after cut machine (option ∷ []) = None
-chosen_after cut machine (option ∷ word ∷ words) =
-    cond (bytes_eq option (codes "--cut") && is_none cut) (option_and_then (λ n. chosen_after (Some n) machine words) (number_of word))
-    (cond (bytes_eq option (codes "--machine") && is_none machine) (option_and_then (λ which. chosen_after cut (Some which) words) (which_of word)) None)
+-- what words choose after these options: `--deep`, `--cut` and a number, or `--machine` and a name, each where it did not come before
+abbrev pub chosen_after : Option ℕ → Bool → Option Which → List (List ℕ) → Option Choice
+chosen_after cut deep machine [] = taken cut deep (unwrap_or machine Lines)
+chosen_after cut deep machine (option ∷ []) = cond (bytes_eq option (codes "--deep") && not deep) (taken cut true (unwrap_or machine Lines)) None
+chosen_after cut deep machine (option ∷ word ∷ words) =
+    cond (bytes_eq option (codes "--deep") && not deep) (chosen_after cut true machine (word ∷ words))
+    (cond (bytes_eq option (codes "--cut") && is_none cut) (option_and_then (λ n. chosen_after (Some n) deep machine words) (number_of word))
+    (cond (bytes_eq option (codes "--machine") && is_none machine) (option_and_then (λ which. chosen_after cut deep (Some which) words) (which_of word)) None))

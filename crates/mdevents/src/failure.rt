@@ -19,7 +19,7 @@ pub enum Failure {
     Write,
     /// Four times the length of the input, and one more, do not fit `usize`.
     TooLong,
-    /// The events have links that cannot be followed. Never answered: `--deep`, which follows them, is not there yet.
+    /// The events have chains of text that cannot be read. Answered with `--deep` alone.
     NotReady,
     /// The document is refused.
     Message(Message),

@@ -1,9 +1,10 @@
 //! Prints the events of a document: reads standard input to its end and writes a line for each event.
 //!
-//! `mdevents [--cut n] [--machine name]`: with `--cut` the document is read in parts, cut after each n virtual bytes, which
-//! changes nothing in what is written; with `--machine` the machine of that name reads it, and else that of lines. The
-//! status is 0; where something fails, a line says what on standard error and the status is 1; other words are answered
-//! by a line on how to call the program, and the status is 2.
+//! `mdevents [--cut n] [--deep] [--machine name]`: with `--cut` the document is read in parts, cut after each n virtual bytes,
+//! which changes nothing in what is written; with `--machine` the machine of that name reads it, and else that of lines; with
+//! `--deep`, which goes with `--machine paragraphs` alone, the chunks of text that it links are read too, and their events stand
+//! in their place. The status is 0; where something fails, a line says what on standard error and the status is 1; other words
+//! are answered by a line on how to call the program, and the status is 2.
 #![tactic(auto)]
 
 ghost use Rattle.std.specs.Prelude.{◌≡◌, IfOk, IfSome, IsErr, IsOkUnless, Ok, None};
@@ -124,20 +125,37 @@ mod tests {
 
     #[test]
     fn takes_the_words_after_the_name(rt: HostRuntime) {
-        for (words, cut, machine) in [
-            (b"mdevents".as_slice(), None, Which::Lines),
-            (b"--cut", None, Which::Lines),
-            (b"mdevents --cut 016", Some(16), Which::Lines),
-            (b"mdevents --machine peek --cut 2", Some(2), Which::Peek),
-            (b"mdevents --cut 2 --machine save", Some(2), Which::Save),
+        for (words, cut, deep, machine) in [
+            (b"mdevents".as_slice(), None, false, Which::Lines),
+            (b"--cut", None, false, Which::Lines),
+            (b"mdevents --cut 016", Some(16), false, Which::Lines),
+            (
+                b"mdevents --machine peek --cut 2",
+                Some(2),
+                false,
+                Which::Peek,
+            ),
+            (
+                b"mdevents --cut 2 --machine save",
+                Some(2),
+                false,
+                Which::Save,
+            ),
+            (
+                b"mdevents --deep --machine paragraphs",
+                None,
+                true,
+                Which::Paragraphs,
+            ),
         ] {
-            assert!(rt; chooses(&rt, words, Some(Choice { cut, machine })));
+            assert!(rt; chooses(&rt, words, Some(Choice { cut, deep, machine })));
         }
         for words in [
             b"--cut 2".as_slice(),
             b"mdevents --cut",
             b"mdevents --cut 2 --cut 2",
             b"mdevents --cut \xff",
+            b"mdevents --machine lines --deep",
         ] {
             assert!(rt; chooses(&rt, words, None));
         }
@@ -146,6 +164,7 @@ mod tests {
         long[999] = b'7';
         let want = Choice {
             cut: Some(7),
+            deep: false,
             machine: Which::Lines,
         };
         assert!(rt; chooses(&rt, &long, Some(want)));
@@ -187,6 +206,8 @@ mod tests {
             (b"mdevents --cut 1 --machine save", 0, "", ""),
             (b"mdevents --machine forth", 2, "", USAGE_SHOWN),
             (b"mdevents --cut 0", 2, "", USAGE_SHOWN),
+            (b"mdevents --machine paragraphs --deep", 0, PARAGRAPH, ""),
+            (b"mdevents --machine lines --deep", 2, "", USAGE_SHOWN),
             (b"mdevents \xff", 2, "", USAGE_SHOWN),
         ] {
             let called = called(rt.alloc(), words, b"ab", 99, 99);

@@ -1,11 +1,12 @@
 //! What the program does, over any reader and writer.
 
-ghost use Rattle.std.specs.Prelude.{◌≡◌, ◌≢◌, Contains, IfOk, IfErr, OnOk, IsErrOf, false};
+ghost use Rattle.std.specs.Prelude.{◌≡◌, ◌≢◌, Contains, IfOk, IfErr, OnOk, IsErrOf, Some, false};
 ghost use Rattle.std.specs.Io.KnownBytes.{Keeps};
 ghost use Rattle.markdown.specs.Engine.{AreCuts};
 ghost use Rattle.mdevents.specs.Failure.{IsOfMaking};
 ghost use Rattle.markdown.specs.Engine.{IsRunRefused};
-ghost use Rattle.mdevents.specs.Program.{document, cut_places, Gives, AreEventsOf, IsRefusedBy, IsReadAndRefused, Prints, PrintsFront};
+ghost use Rattle.mdevents.specs.Program.{document, cut_places, Gives, GivesDeep, IsRefusedDeep, GivesUnready, HasChildren, HasRefusedChild, AreEventsOf, IsRefusedBy, IsUnreadyBy, IsReadAndRefused, IsReadAndUnready, Prints, PrintsFront};
+ghost use Rattle.mdchildren.specs.Ready.{IsReady};
 ghost use Rattle.mdevents.specs.Reading.{IsWithinLimit, ReadsWithinLimit, ReadsPastLimit};
 ghost use Rattle.mdevents.specs.Words.{CanCut};
 
@@ -15,10 +16,11 @@ use crate::read::read_to_end;
 use crate::words::{Choice, Which};
 use crate::write::write_all;
 use markdown::configuration::ParseOptions;
-use markdown::event::Event;
+use markdown::event::{Content, Event};
 use markdown::parser::ParseState;
 use markdown::state::{Machine, Name};
 use markdown::tokenizer::{Fault, cuts_every, run};
+use mdchildren::subtokenize::{ready, subtokenize};
 use mdconstructs::back::Back;
 use mdconstructs::deep::Deep;
 use mdconstructs::lines::Lines;
@@ -32,7 +34,8 @@ use std::io::{Read, Write};
 ///
 /// A cut in the choice is at least 1. The first failure met is answered, in the order of reading, length, making the
 /// events, and writing. Where it is not that of the writer nothing was written; where it is, a beginning of the lines.
-/// But for `TooLong`, what was read is within the limit. `NotReady` is never answered yet.
+/// But for `TooLong`, what was read is within the limit. `NotReady` is answered only with `--deep`, where the chains of text in
+/// the machine's events cannot be read.
 pub fn write_events<R: Read, W: Write>(
     alloc: Global,
     reader: &mut R,
@@ -40,12 +43,12 @@ pub fn write_events<R: Read, W: Write>(
     choice: &Choice,
 ) -> Result<(), Failure>
     requires { CanCut choice.now }
-    ensures written { OnOk result (Prints choice.now.machine R.remaining reader.old reader.new W.contents writer.old writer.new) }
+    ensures written { OnOk result (Prints choice.now R.remaining reader.old reader.new W.contents writer.old writer.new) }
     ensures too_long { IsErrOf result Failure.TooLong → ReadsPastLimit (R.remaining reader.old) (R.remaining reader.new) }
     ensures within_else { IfErr result (λ failure. failure ≢ Failure.TooLong → ReadsWithinLimit (R.remaining reader.old) (R.remaining reader.new)) }
-    ensures ready { ¬ IsErrOf result Failure.NotReady }
-    ensures message { (m : _) → IsErrOf result (Failure.Message m) → IsReadAndRefused choice.now.machine (R.remaining reader.old) (R.remaining reader.new) m }
-    ensures cut_short { IsErrOf result Failure.Write → PrintsFront choice.now.machine R.remaining reader.old reader.new W.contents writer.old writer.new }
+    ensures unready { IsErrOf result Failure.NotReady → IsReadAndUnready choice.now (R.remaining reader.old) (R.remaining reader.new) }
+    ensures message { (m : _) → IsErrOf result (Failure.Message m) → IsReadAndRefused choice.now (R.remaining reader.old) (R.remaining reader.new) m }
+    ensures cut_short { IsErrOf result Failure.Write → PrintsFront choice.now R.remaining reader.old reader.new W.contents writer.old writer.new }
     ensures nothing { IfErr result (λ failure. failure ≢ Failure.Write → Keeps (W.contents writer.old) (W.contents writer.new)) }
 {
     let bytes = read_to_end(alloc, reader)?;
@@ -58,14 +61,18 @@ pub fn write_events<R: Read, W: Write>(
 fn events_of(alloc: Global, bytes: &[u8], choice: &Choice) -> Result<Vec<Event>, Failure>
     requires limit { IsWithinLimit bytes.now }
     requires cut { CanCut choice.now }
-    ensures events { IfOk result (λ events. AreEventsOf choice.now.machine bytes.now events.items) }
-    ensures message { (m : _) → IsErrOf result (Failure.Message m) → IsRefusedBy choice.now.machine bytes.now m }
+    ensures events { IfOk result (λ events. AreEventsOf choice.now.deep choice.now.machine bytes.now events.items) }
+    ensures message { (m : _) → IsErrOf result (Failure.Message m) → IsRefusedBy choice.now.deep choice.now.machine bytes.now m }
+    ensures unready { IsErrOf result Failure.NotReady → IsUnreadyBy choice.now.deep choice.now.machine bytes.now }
     ensures cause { IfErr result IsOfMaking }
 {
     let cuts = cuts_of(alloc, bytes, choice)?;
     let cuts = cuts.as_slice();
     match choice.machine {
         Which::Lines => read_by(alloc, &Lines {}, Name::FlowStart, bytes, cuts),
+        Which::Paragraphs if choice.deep => {
+            read_deep_by(alloc, &Paragraphs {}, Name::FlowStart, bytes, cuts)
+        }
         Which::Paragraphs => read_by(alloc, &Paragraphs {}, Name::FlowStart, bytes, cuts),
         Which::Peek => read_by(alloc, &Peek {}, Name::TextStart, bytes, cuts),
         Which::Deep => read_by(alloc, &Deep {}, Name::StringStart, bytes, cuts),
@@ -87,6 +94,7 @@ fn read_by<M: Machine>(
     requires cuts { AreCuts 4 bytes.now cuts.now }
     ensures events { IfOk result (λ events. Gives (M.rules machine.now) start bytes.now events.items) }
     ensures message { (m : _) → IsErrOf result (Failure.Message m) → IsRunRefused (document bytes.now) (M.rules machine.now) false start m }
+    ensures ready { ¬ IsErrOf result Failure.NotReady }
     ensures cause { IfErr result IsOfMaking }
 {
     let options = ParseOptions::default();
@@ -97,6 +105,58 @@ fn read_by<M: Machine>(
     };
     match run(alloc, &parse_state, start, cuts, false) {
         Ok((events, _)) => Ok(events),
+        Err(Fault::Memory) => Err(Failure::Memory),
+        Err(Fault::Message(message)) => Err(Failure::Message(message)),
+        Err(Fault::Failed) => unreachable!(),
+    }
+}
+
+/// The events of a document, as a machine reads it from this start, with the children of their chains of text.
+fn read_deep_by<M: Machine>(
+    alloc: Global,
+    machine: &M,
+    start: Name,
+    bytes: &[u8],
+    cuts: &[(usize, usize)],
+) -> Result<Vec<Event>, Failure>
+    requires limit { IsWithinLimit bytes.now }
+    requires start { Contains (M.rules machine.now (document bytes.now)).starts start }
+    requires text { Contains (M.rules machine.now (document bytes.now)).starts Name.TextStart }
+    requires cuts { AreCuts 4 bytes.now cuts.now }
+    ensures events { IfOk result (λ events. GivesDeep (M.rules machine.now) start bytes.now events.items) }
+    ensures message { (m : _) → IsErrOf result (Failure.Message m) → IsRefusedDeep (M.rules machine.now) start bytes.now m }
+    ensures unready { IsErrOf result Failure.NotReady → GivesUnready (M.rules machine.now) start bytes.now }
+    ensures cause { IfErr result IsOfMaking }
+{
+    let events = read_by(alloc, machine, start, bytes, cuts)?;
+    with_children(alloc, machine, bytes, events)
+}
+
+/// The events with the children of their chains of text in place of the chunks, each read from its start by the same machine.
+fn with_children<M: Machine>(
+    alloc: Global,
+    machine: &M,
+    bytes: &[u8],
+    mut events: Vec<Event>,
+) -> Result<Vec<Event>, Failure>
+    requires limit { IsWithinLimit bytes.now }
+    requires start { Contains (M.rules machine.now (document bytes.now)).starts Name.TextStart }
+    ensures events { IfOk result (λ new. HasChildren (M.rules machine.now) bytes.now events.items new.items) }
+    ensures message { (m : _) → IsErrOf result (Failure.Message m) → HasRefusedChild (M.rules machine.now) bytes.now events.items m }
+    ensures unready { IsErrOf result Failure.NotReady → ¬ IsReady 4 bytes.now (Some Content.Text) events.items }
+    ensures cause { IfErr result IsOfMaking }
+{
+    if !ready(alloc, events.as_slice(), bytes, Some(&Content::Text))? {
+        return Err(Failure::NotReady);
+    }
+    let options = ParseOptions::default();
+    let parse_state = ParseState {
+        bytes,
+        options: &options,
+        machine,
+    };
+    match subtokenize(alloc, &mut events, &parse_state, Some(&Content::Text)) {
+        Ok(_) => Ok(events),
         Err(Fault::Memory) => Err(Failure::Memory),
         Err(Fault::Message(message)) => Err(Failure::Message(message)),
         Err(Fault::Failed) => unreachable!(),
@@ -124,6 +184,7 @@ mod tests {
 
     const UNCUT: Choice = Choice {
         cut: None,
+        deep: false,
         machine: Which::Lines,
     };
 
@@ -132,6 +193,15 @@ mod tests {
 
     const TWO_CHUNKS: &str =
         "enter Paragraph 1:1 (0+0)\nenter BlockQuoteMarker 1:1 (0+0)\nexit BlockQuoteMarker 1:2 (1+0)\nenter Data 1:2 (1+0)\nexit Data 2:1 (3+0)\nenter BlockQuoteMarker 2:1 (3+0)\nexit BlockQuoteMarker 2:2 (4+0)\nenter Data 2:2 (4+0)\nexit Data 2:3 (5+0)\nexit Paragraph 2:3 (5+0)\n";
+
+    const TWO_LINES_OF_TEXT: &str =
+        "enter Paragraph 1:1 (0+0)\nenter BlockQuoteMarker 1:1 (0+0)\nexit BlockQuoteMarker 1:2 (1+0)\nenter Data 1:2 (1+0)\nexit Data 1:3 (2+0)\nenter LineEnding 1:3 (2+0)\nexit LineEnding 2:1 (3+0)\nenter BlockQuoteMarker 2:1 (3+0)\nexit BlockQuoteMarker 2:2 (4+0)\nenter Data 2:2 (4+0)\nexit Data 2:3 (5+0)\nexit Paragraph 2:3 (5+0)\n";
+
+    const TWO_LINES_WITH_CRLF: &str =
+        "enter Paragraph 1:1 (0+0)\nenter BlockQuoteMarker 1:1 (0+0)\nexit BlockQuoteMarker 1:2 (1+0)\nenter Data 1:2 (1+0)\nexit Data 1:3 (2+0)\nenter LineEnding 1:3 (2+0)\nexit LineEnding 2:1 (4+0)\nenter BlockQuoteMarker 2:1 (4+0)\nexit BlockQuoteMarker 2:2 (5+0)\nenter Data 2:2 (5+0)\nexit Data 2:3 (6+0)\nexit Paragraph 2:3 (6+0)\n";
+
+    const TWO_PARAGRAPHS_OF_TEXT: &str =
+        "enter BlankLineEnding 1:1 (0+0)\nexit BlankLineEnding 2:1 (1+0)\nenter Paragraph 2:1 (1+0)\nenter Data 2:1 (1+0)\nexit Data 2:2 (2+0)\nenter LineEnding 2:2 (2+0)\nexit LineEnding 3:1 (3+0)\nexit Paragraph 3:1 (3+0)\nenter BlankLineEnding 3:1 (3+0)\nexit BlankLineEnding 4:1 (4+0)\nenter Paragraph 4:1 (4+0)\nenter Data 4:1 (4+0)\nexit Data 4:2 (5+0)\nexit Paragraph 4:2 (5+0)\n";
 
     const TWO_PARAGRAPHS: &str =
         "enter BlankLineEnding 1:1 (0+0)\nexit BlankLineEnding 2:1 (1+0)\nenter Paragraph 2:1 (1+0)\nenter Data 2:1 (1+0)\nexit Data 3:1 (3+0)\nexit Paragraph 3:1 (3+0)\nenter BlankLineEnding 3:1 (3+0)\nexit BlankLineEnding 4:1 (4+0)\nenter Paragraph 4:1 (4+0)\nenter Data 4:1 (4+0)\nexit Data 4:2 (5+0)\nexit Paragraph 4:2 (5+0)\n";
@@ -165,7 +235,11 @@ mod tests {
         for cut in [None, Some(1), Some(2)] {
             let mut reader = document;
             let mut written = Vec::new(alloc);
-            let choice = Choice { cut, machine };
+            let choice = Choice {
+                cut,
+                deep: false,
+                machine,
+            };
             let result = write_events(alloc, &mut reader, &mut written, &choice);
             if result.is_err() || written.as_slice() != want.as_bytes() {
                 return false;
@@ -265,21 +339,26 @@ mod tests {
 
     #[test]
     fn writes_paragraphs(rt: HostRuntime) -> Result<(), Fail> {
-        for (document, cut, want) in [
-            (">a\n>b", None, TWO_CHUNKS),
-            (">a\n>b", Some(1), TWO_CHUNKS),
-            ("\na\n\nb", None, TWO_PARAGRAPHS),
-            ("\na\n\nb", Some(1), TWO_PARAGRAPHS),
+        for (document, deep, want) in [
+            (">a\n>b", false, TWO_CHUNKS),
+            (">a\n>b", true, TWO_LINES_OF_TEXT),
+            (">a\r\n>b", true, TWO_LINES_WITH_CRLF),
+            ("\na\n\nb", false, TWO_PARAGRAPHS),
+            ("\na\n\nb", true, TWO_PARAGRAPHS_OF_TEXT),
+            ("", true, ""),
         ] {
-            let mut reader = document.as_bytes();
-            let mut written = Vec::new(rt.alloc());
-            let choice = Choice {
-                cut,
-                machine: Which::Paragraphs,
-            };
-            let result = write_events(rt.alloc(), &mut reader, &mut written, &choice);
-            assert!(rt; result.is_ok());
-            assert_eq!(rt; written.as_slice(), want.as_bytes());
+            for cut in [None, Some(1)] {
+                let mut reader = document.as_bytes();
+                let mut written = Vec::new(rt.alloc());
+                let choice = Choice {
+                    cut,
+                    deep,
+                    machine: Which::Paragraphs,
+                };
+                let result = write_events(rt.alloc(), &mut reader, &mut written, &choice);
+                assert!(rt; result.is_ok());
+                assert_eq!(rt; written.as_slice(), want.as_bytes());
+            }
         }
         Ok(())
     }

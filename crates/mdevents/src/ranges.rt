@@ -11,6 +11,7 @@ use markdown::event::{Event, Point};
 use markdown::parser::ParseState;
 use markdown::state::{Machine, Name, State};
 use markdown::tokenizer::Tokenizer;
+use mdconstructs::deep::Deep;
 use mdconstructs::lines::Lines;
 use mdconstructs::peek::Peek;
 use mdconstructs::save::Save;
@@ -94,6 +95,38 @@ fn choice_goes_back_over_a_gap(rt: HostRuntime) -> Result<(), Fail> {
     assert_eq!(rt;
         text.as_str(),
         "enter Data 2:3 (4+0)\nexit Data 2:4 (5+0)\n"
+    );
+    Ok(())
+}
+
+/// Each attempt goes back over the gap, and what follows passes it again.
+#[test]
+fn attempts_go_back_over_a_gap(rt: HostRuntime) -> Result<(), Fail> {
+    let options = ParseOptions::default();
+    let parse_state = ParseState {
+        bytes: b"a\n> b",
+        options: &options,
+        machine: &Deep {},
+    };
+    let ranges = [
+        (None, (0, 0), (2, 0)),
+        (
+            Some(Point {
+                line: 2,
+                column: 3,
+                index: 4,
+                vs: 0,
+            }),
+            (4, 0),
+            (5, 0),
+        ),
+    ];
+    let seen = read_ranges(rt.alloc(), &parse_state, Name::StringStart, &ranges)?;
+    assert_eq!(rt; seen.all, 16);
+    let text = printed(rt.alloc(), seen.events.as_slice())?;
+    assert_eq!(rt;
+        text.as_str(),
+        "enter Data 1:1 (0+0)\nexit Data 1:2 (1+0)\nenter LineEnding 1:2 (1+0)\nexit LineEnding 2:1 (2+0)\nenter Data 2:3 (4+0)\nexit Data 2:4 (5+0)\n"
     );
     Ok(())
 }

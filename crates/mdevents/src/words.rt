@@ -29,20 +29,24 @@ pub enum Which {
 pub struct Choice {
     /// After how many virtual bytes the text is cut each time, if it is; at least 1.
     pub cut: Option<usize>,
+    /// Whether the chunks of text that the machine links are read too, and their events put in their place. The machine of
+    /// paragraphs alone links any.
+    pub deep: bool,
     /// The machine that reads.
     pub machine: Which,
 }
 
-ghost use Rattle.mdevents.specs.Words.{chosen, which_of, number_of, CanCut};
+ghost use Rattle.mdevents.specs.Words.{chosen, taken, links_text, which_of, number_of, CanCut};
 ghost use Rattle.mdevents.specs.WordsInner.{chosen_after};
 
-/// What the words after the program's name choose: `--cut` with a number and `--machine` with a name, in any order, each
-/// at most once. The machine is that of lines where none is named. None asks for [`USAGE`].
+/// What the words after the program's name choose: `--cut` with a number, `--deep`, and `--machine` with a name, in any order,
+/// each at most once. The machine is that of lines where none is named; `--deep` is taken with that of paragraphs alone. None
+/// asks for [`USAGE`].
 pub fn read_words(words: &[String]) -> Option<Choice>
     ensures chosen { result ≡ chosen (map string_bytes words.now) }
     ensures cut { IfSome result CanCut }
 {
-    read_options(words, None, None)
+    read_options(words, None, false, None)
 }
 
 /// The line that answers words which choose nothing has this text.
@@ -51,25 +55,54 @@ pub fn usage_line_stays()
 {}
 
 /// The rest of the words, where some options came before.
-fn read_options(words: &[String], cut: Option<usize>, machine: Option<Which>) -> Option<Choice>
+fn read_options(
+    words: &[String],
+    cut: Option<usize>,
+    deep: bool,
+    machine: Option<Which>,
+) -> Option<Choice>
     requires cut { IfSome cut (λ n. 1 ≤ n) }
-    ensures chosen { result ≡ chosen_after cut machine (map string_bytes words.now) }
+    ensures chosen { result ≡ chosen_after cut deep machine (map string_bytes words.now) }
     ensures cut { IfSome result CanCut }
 {
-    match words {
-        [] => Some(Choice {
-            cut,
-            machine: machine.unwrap_or(Which::Lines),
-        }),
-        [option, word, rest @ ..] if option.as_str() == "--cut" && cut.is_none() => {
-            let n = read_number(word.as_str())?;
-            read_options(rest, Some(n), machine)
-        }
-        [option, word, rest @ ..] if option.as_str() == "--machine" && machine.is_none() => {
-            let which = read_which(word.as_str())?;
-            read_options(rest, cut, Some(which))
-        }
-        _ => None,
+    let Some((option, rest)) = words.split_first() else {
+        return taken(cut, deep, machine.unwrap_or(Which::Lines));
+    };
+    let option = option.as_str();
+    if option == "--deep" && !deep {
+        return read_options(rest, cut, true, machine);
+    }
+    let (value, rest) = rest.split_first()?;
+    if option == "--cut" && cut.is_none() {
+        let n = read_number(value.as_str())?;
+        return read_options(rest, Some(n), deep, machine);
+    }
+    if option == "--machine" && machine.is_none() {
+        let which = read_which(value.as_str())?;
+        return read_options(rest, cut, deep, Some(which));
+    }
+    None
+}
+
+/// The choice of these, if they are taken together.
+fn taken(cut: Option<usize>, deep: bool, machine: Which) -> Option<Choice>
+    requires cut { IfSome cut (λ n. 1 ≤ n) }
+    ensures taken { result ≡ taken cut deep machine }
+    ensures cut { IfSome result CanCut }
+{
+    if deep && !links_text(machine) {
+        return None;
+    }
+    Some(Choice { cut, deep, machine })
+}
+
+/// Whether a machine links chunks of text.
+fn links_text(machine: Which) -> bool
+    ensures { result ≡ links_text machine }
+{
+    match machine {
+        Which::Paragraphs => true,
+        Which::Lines | Which::Peek | Which::Deep | Which::Back | Which::Save => false,
     }
 }
 
@@ -123,21 +156,36 @@ mod tests {
     #[test]
     fn answers_words(rt: HostRuntime) -> Result<(), Fail> {
         let lines = Which::Lines;
+        let paragraphs = Which::Paragraphs;
         for (text, want) in [
-            ("", Some((None, lines))),
-            ("--cut 2", Some((Some(2), lines))),
-            ("--cut 016", Some((Some(16), lines))),
+            ("", Some((None, false, lines))),
+            ("--cut 2", Some((Some(2), false, lines))),
+            ("--cut 016", Some((Some(16), false, lines))),
             (
                 "--cut 18446744073709551615",
-                Some((Some(usize::MAX), lines)),
+                Some((Some(usize::MAX), false, lines)),
             ),
-            ("--machine lines", Some((None, lines))),
-            ("--machine paragraphs", Some((None, Which::Paragraphs))),
-            ("--machine peek", Some((None, Which::Peek))),
-            ("--machine deep --cut 3", Some((Some(3), Which::Deep))),
-            ("--cut 3 --machine deep", Some((Some(3), Which::Deep))),
-            ("--machine back", Some((None, Which::Back))),
-            ("--machine save", Some((None, Which::Save))),
+            ("--machine lines", Some((None, false, lines))),
+            ("--machine paragraphs", Some((None, false, paragraphs))),
+            ("--machine peek", Some((None, false, Which::Peek))),
+            (
+                "--machine deep --cut 3",
+                Some((Some(3), false, Which::Deep)),
+            ),
+            (
+                "--cut 3 --machine deep",
+                Some((Some(3), false, Which::Deep)),
+            ),
+            ("--machine back", Some((None, false, Which::Back))),
+            ("--machine save", Some((None, false, Which::Save))),
+            (
+                "--deep --machine paragraphs",
+                Some((None, true, paragraphs)),
+            ),
+            (
+                "--machine paragraphs --deep --cut 1",
+                Some((Some(1), true, paragraphs)),
+            ),
             ("--cut 18446744073709551616", None),
             ("--cut 0", None),
             ("--cut +1", None),
@@ -145,7 +193,11 @@ mod tests {
             ("--cut=1", None),
             ("--cut 1 --cut 1", None),
             ("--deep", None),
+            ("--machine lines --deep", None),
+            ("--deep --machine deep", None),
+            ("--deep --machine paragraphs --deep", None),
             ("--machine", None),
+            ("--machine --deep", None),
             ("--machine Lines", None),
             ("--machine lines --machine lines", None),
             ("--machine forth", None),
@@ -154,7 +206,7 @@ mod tests {
             for word in text.split_whitespace() {
                 words.push(String::from_str(rt.alloc(), word)?)?;
             }
-            let choice = want.map(|(cut, machine)| Choice { cut, machine });
+            let choice = want.map(|(cut, deep, machine)| Choice { cut, deep, machine });
             assert_eq!(rt; read_words(words.as_slice()), choice, "{text}");
         }
         let empty = String::new(rt.alloc());

@@ -7,10 +7,19 @@ pub returns-in-Lines-clause-message : goal.returns-in-Lines-clause-message
 returns-in-Lines-clause-message c = let e = c.in-Lines.is in rw e c.read_by.ensures.message
 
 pub returns-in-Paragraphs-clause-events : goal.returns-in-Paragraphs-clause-events
-returns-in-Paragraphs-clause-events c = let e = c.in-Paragraphs.is in rw e c.read_by-in-Paragraphs.ensures.events
+returns-in-Paragraphs-clause-events c = let e = c.in-Paragraphs.is in let d = c.if-choice.true in rw (e, d) c.read_deep_by.ensures.events
 
 pub returns-in-Paragraphs-clause-message : goal.returns-in-Paragraphs-clause-message
-returns-in-Paragraphs-clause-message c = let e = c.in-Paragraphs.is in rw e c.read_by-in-Paragraphs.ensures.message
+returns-in-Paragraphs-clause-message c = let e = c.in-Paragraphs.is in let d = c.if-choice.true in rw (e, d) c.read_deep_by.ensures.message
+
+pub returns-in-Paragraphs-clause-unready : goal.returns-in-Paragraphs-clause-unready
+returns-in-Paragraphs-clause-unready c = let e = c.in-Paragraphs.is in let d = c.if-choice.true in rw (e, d) c.read_deep_by.ensures.unready
+
+pub returns-in-Paragraphs-2-clause-events : goal.returns-in-Paragraphs-2-clause-events
+returns-in-Paragraphs-2-clause-events c = let e = c.in-Paragraphs-2.is in let d = c.if-choice.false in rw (e, d) c.read_by-in-Paragraphs-2.ensures.events
+
+pub returns-in-Paragraphs-2-clause-message : goal.returns-in-Paragraphs-2-clause-message
+returns-in-Paragraphs-2-clause-message c = let e = c.in-Paragraphs-2.is in let d = c.if-choice.false in rw (e, d) c.read_by-in-Paragraphs-2.ensures.message
 
 pub returns-in-Peek-clause-events : goal.returns-in-Peek-clause-events
 returns-in-Peek-clause-events c = let e = c.in-Peek.is in rw e c.read_by-in-Peek.ensures.events
