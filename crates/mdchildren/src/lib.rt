@@ -7,5 +7,3 @@ pub mod laws;
 mod readiness;
 mod rows;
 pub mod subtokenize;
-#[cfg(test)]
-mod tests;

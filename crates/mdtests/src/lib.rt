@@ -4,7 +4,11 @@
 #[cfg(test)]
 mod chars;
 #[cfg(test)]
+mod chunks;
+#[cfg(test)]
 mod constants;
+#[cfg(test)]
+mod division;
 #[cfg(test)]
 mod driven;
 #[cfg(test)]
@@ -30,6 +34,8 @@ mod places;
 #[cfg(test)]
 mod points;
 #[cfg(test)]
+mod ready;
+#[cfg(test)]
 mod refusals;
 #[cfg(test)]
 mod resolving;
@@ -39,6 +45,8 @@ mod skip;
 mod slices;
 #[cfg(test)]
 mod states;
+#[cfg(test)]
+mod subtokenize;
 #[cfg(test)]
 mod tokenizer;
 #[cfg(test)]

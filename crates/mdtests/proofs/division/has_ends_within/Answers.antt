@@ -2,7 +2,7 @@ use Rattle.std.proofs.Common.{◌≡◌, ℕ, ◌+◌, ◌<◌, ⊎_elim, length
 use Rattle.std.proofs.lemmas.Bool.{cases_eq}
 use Rattle.markdown_base.specs.declared.event.Event.{Event}
 use Rattle.markdown_base.specs.Events.{EndsBelow}
-use Rattle.mdchildren.proofs.tests.has_ends_within.Goals as goal
+use Rattle.mdtests.proofs.division.has_ends_within.Goals as goal
 
 -- inside a list it does not matter what stands for a missing element
 any-default : (es : List Event) (k : ℕ) (d e : Event) → k < length es → get_or es k d ≡ get_or es k e

@@ -4,7 +4,7 @@ use Rattle.markdown.specs.Edits.{Edit, AreDisjoint}
 use Rattle.mdchildren.specs.Laws.{HasEndsWithin}
 use Rattle.mdchildren.specs.Parts.{divided, chain_edits}
 use Rattle.mdchildren.proofs.Forward.{forward-chain, within, one-chain-disjoint, ends-inside}
-use Rattle.mdchildren.proofs.tests.edits_of.Goals as goal
+use Rattle.mdtests.proofs.division.edits_of.Goals as goal
 
 pub divide_events-requires-clause-chain : goal.divide_events-requires-clause-chain
 divide_events-requires-clause-chain c =

@@ -1,7 +1,7 @@
 use Rattle.std.proofs.Common.{ℕ, ◌<◌, length, get_or}
 use Rattle.markdown_base.specs.declared.event.Event.{Event}
 use Rattle.markdown_base.specs.Events.{EndsBelow}
-use Rattle.mdchildren.proofs.tests.has_ends_within.Given as goal
+use Rattle.mdtests.proofs.division.has_ends_within.Given as goal
 
 abbrev pub invariant-loop-event : goal.invariant-loop-event
 invariant-loop-event l = (k : ℕ) (d : Event) → k < l.event-index → EndsBelow (length l.events) (get_or l.events k d)
