@@ -15,6 +15,7 @@ pub mod ReadyExample
 pub mod SoFar
 pub mod ChainReads
 pub mod ChildReading
+pub mod OneAnswer
 pub mod Reached
 pub mod ReadyProofs
 pub mod Forward

@@ -137,6 +137,12 @@ module _ {R D : Type 0} (g : Given) (rules : Given → Rules R D) where
   IsSubtokenizeFault wanted events Failed = ⊥
   IsSubtokenizeFault wanted events (fault.Message m) = IsSubtokenizeRefused wanted events m
 
+  -- A list is given its children in one way: what is left of it, and what was found, is one; it is not refused too; and one message refuses it
+  pub record HasOneAnswer (wanted : Option Content) (events : List Event) : Type 0 where
+    pub list : (new other : List Event) (sub more : Subresult) → IsSubtokenized wanted events new sub → IsSubtokenized wanted events other more → (new ≡ other) × (sub ≡ more)
+    pub well : (new : List Event) (sub : Subresult) (m : Message) → IsSubtokenized wanted events new sub → IsSubtokenizeRefused wanted events m → ⊥
+    pub message : (m n : Message) → IsSubtokenizeRefused wanted events m → IsSubtokenizeRefused wanted events n → m ≡ n
+
 -- the chains that fit are read from start names among these
 abbrev pub StartAmong : List Name → Option Content → List Event → Type 0
 StartAmong starts wanted events = (c : ℕ) (name : Name) → begins wanted events c ≡ true → start_at events c ≡ Some name → Contains starts name

@@ -6,9 +6,11 @@ ghost use Rattle.std.specs.Prelude.{◌≡◌, ◌∷◌, true, List, ℕ};
 ghost use Rattle.markdown_base.specs.declared.event.Event.{Event};
 ghost use Rattle.markdown.specs.Engine.{given_by};
 ghost use Rattle.mdchildren.specs.Chains.{begins};
-ghost use Rattle.mdchildren.specs.Reads.{CanReadChain};
+ghost use Rattle.mdchildren.specs.Reads.{CanReadChain, HasOneAnswer};
 ghost use Rattle.mdchildren.specs.Laws.{ForReadyLists, HasOrderedChains, ChildrenFit, EditsGiveChildren, AreByChunk};
 ghost use Rattle.markdown_base.specs.declared.event.Point.{Point};
+
+use markdown::state::Machine;
 
 /// In a list that is ready, the chains that fit follow one another, chunk by chunk; each chunk that fits belongs to one of
 /// them; and what children of them change is disjoint and inside the list.
@@ -35,4 +37,9 @@ pub fn edits_give_children()
 /// to the last one if there is none.
 pub fn parts_are_by_chunk()
     ensures { (end : Point) → (ends : List Point) → (child : List Event) → AreByChunk (end ∷ ends) child }
+{}
+
+/// By the rules of a machine a list is given its children in one way, or refused with one message.
+pub fn children_are_read_in_one_way<M: Machine>()
+    ensures { (m : _) (g : _) (wanted : _) (events : _) → HasOneAnswer g (M.rules m) wanted events }
 {}
