@@ -6,6 +6,7 @@
 
 ghost use Rattle.std.specs.Prelude.{◌≡◌, ◌<◌, ◌≤◌, ◌+◌, ◌-◌, ◌*◌, ◌%◌, ◌^◌, ℕ, length, Some};
 ghost use Rattle.markdown_base.specs.EventNames.{text_of};
+ghost use Rattle.markdown_base.specs.Events.{is_void};
 ghost use Rattle.markdown_base.specs.Lines.{HasNoLineEnding};
 ghost use Rattle.markdown_base.specs.Places.{IsPointOf, point_at};
 ghost use Rattle.markdown_base.specs.Virtual.{tab_width};
@@ -378,6 +379,77 @@ pub fn void_events_are_stated()
 {}
 
 impl Name {
+    /// Whether this is a void name: its span holds no other events. Takes no memory.
+    ///
+    /// These are the names in [`VOID_EVENTS`].
+    pub fn is_void(self) -> bool
+        ensures { result ≡ is_void self }
+    {
+        match self {
+            Name::AttentionSequence
+            | Name::AutolinkEmail
+            | Name::AutolinkMarker
+            | Name::AutolinkProtocol
+            | Name::BlankLineEnding
+            | Name::BlockQuoteMarker
+            | Name::ByteOrderMark
+            | Name::CharacterEscapeMarker
+            | Name::CharacterEscapeValue
+            | Name::CharacterReferenceMarker
+            | Name::CharacterReferenceMarkerHexadecimal
+            | Name::CharacterReferenceMarkerNumeric
+            | Name::CharacterReferenceMarkerSemi
+            | Name::CharacterReferenceValue
+            | Name::CodeFencedFenceSequence
+            | Name::CodeFlowChunk
+            | Name::CodeTextData
+            | Name::CodeTextSequence
+            | Name::Data
+            | Name::DefinitionDestinationLiteralMarker
+            | Name::DefinitionLabelMarker
+            | Name::DefinitionMarker
+            | Name::DefinitionTitleMarker
+            | Name::EmphasisSequence
+            | Name::FrontmatterChunk
+            | Name::GfmAutolinkLiteralEmail
+            | Name::GfmAutolinkLiteralProtocol
+            | Name::GfmAutolinkLiteralWww
+            | Name::GfmFootnoteCallMarker
+            | Name::GfmFootnoteDefinitionLabelMarker
+            | Name::GfmFootnoteDefinitionMarker
+            | Name::GfmStrikethroughSequence
+            | Name::GfmTableCellDivider
+            | Name::GfmTableDelimiterMarker
+            | Name::GfmTableDelimiterFiller
+            | Name::GfmTaskListItemMarker
+            | Name::GfmTaskListItemValueChecked
+            | Name::GfmTaskListItemValueUnchecked
+            | Name::FrontmatterSequence
+            | Name::HardBreakEscape
+            | Name::HardBreakTrailing
+            | Name::HeadingAtxSequence
+            | Name::HeadingSetextUnderlineSequence
+            | Name::HtmlFlowData
+            | Name::HtmlTextData
+            | Name::LabelImageMarker
+            | Name::LabelMarker
+            | Name::LineEnding
+            | Name::ListItemMarker
+            | Name::ListItemValue
+            | Name::MathFlowFenceSequence
+            | Name::MathFlowChunk
+            | Name::MathTextData
+            | Name::MathTextSequence
+            | Name::ReferenceMarker
+            | Name::ResourceMarker
+            | Name::ResourceTitleMarker
+            | Name::SpaceOrTab
+            | Name::StrongSequence
+            | Name::ThematicBreakSequence => true,
+            _ => false,
+        }
+    }
+
     /// The name as it is written in this enum.
     pub fn as_str(&self) -> &'static str
         ensures { result.now ≡ text_of self.now }
