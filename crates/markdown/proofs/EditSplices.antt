@@ -11,9 +11,11 @@ use Rattle.markdown.specs.Edits.{Edit, AreDisjoint}
 use Rattle.markdown.specs.Edited.{as_addition, as_change, edited}
 use Rattle.markdown.specs.Woven.{Change, of_list, Tagged, place_in, placed_end, woven, placed_in}
 use Rattle.markdown.specs.Survivors.{AreNew}
+use Rattle.markdown.specs.Shifts.{shifts, place_by}
 use Rattle.markdown.specs.Spliced.{place_from, moved, spliced}
 use Rattle.markdown.proofs.EditPasses.{olds, pass, AreApart, woven-pass}
 use Rattle.markdown.proofs.EditFinalPlaces.{HasNo, old_place, old_place-pass}
+use Rattle.markdown.proofs.EditShifts.{place_by-shifts}
 
 -- disjoint edits are disjoint changes
 pub AreApart-edits : (es : List Edit) (from n : ℕ) → AreDisjoint from es n → AreApart from (map as_change es) n
@@ -69,17 +71,17 @@ placed_in-additions ts (x ∷ xs) = rw (relinked-same x, placed_in-additions ts 
 pub placed_in-append : (ts us vs : List Tagged) → placed_in ts (us ++ vs) ≡ placed_in ts us ++ placed_in ts vs
 placed_in-append ts us vs = map-append (λ (u : Tagged). relinked (placed_end ts u.identity) u.event) us vs
 
-pub placed_in-olds : (ts : List Tagged) (all : List Edit) (n i : ℕ) (xs : List Event) → ((k : ℕ) → k < n → place_in (of_list k) ts ≡ place_from all 0 0 k) → All (EndsBelow n) xs → placed_in ts (olds i xs) ≡ moved all xs
-placed_in-olds ts all n i [] h b = refl
-placed_in-olds ts all n i (x ∷ xs) h b =
-    rw (placed_in-olds ts all n (i + 1) xs h (All-tail (EndsBelow n) x xs b))
-    (ap (λ (y : Event). y ∷ moved all xs) (relinked-agree (λ k. place_in (of_list k) ts) (place_from all 0 0) n x h (All-head (EndsBelow n) x xs b)))
+pub placed_in-olds : (ts : List Tagged) (place : ℕ → Option ℕ) (n i : ℕ) (xs : List Event) → ((k : ℕ) → k < n → place_in (of_list k) ts ≡ place k) → All (EndsBelow n) xs → placed_in ts (olds i xs) ≡ moved place xs
+placed_in-olds ts place n i [] h b = refl
+placed_in-olds ts place n i (x ∷ xs) h b =
+    rw (placed_in-olds ts place n (i + 1) xs h (All-tail (EndsBelow n) x xs b))
+    (ap (λ (y : Event). y ∷ moved place xs) (relinked-agree (λ k. place_in (of_list k) ts) place n x h (All-head (EndsBelow n) x xs b)))
 
-pub placed_in-pass : (ts : List Tagged) (all : List Edit) (n : ℕ) → ((k : ℕ) → k < n → place_in (of_list k) ts ≡ place_from all 0 0 k) → (es : List Edit) (i : ℕ) (xs : List Event) → All (EndsBelow n) xs → placed_in ts (pass (map as_change es) i xs) ≡ spliced all es i xs
-placed_in-pass ts all n h [] i xs b = placed_in-olds ts all n i xs h b
-placed_in-pass ts all n h (e ∷ es) i xs b =
-    let rest = placed_in-pass ts all n h es (e.index + e.remove) (drop (e.index + e.remove - i) xs) (All-drop (EndsBelow n) (e.index + e.remove - i) xs b) in
-    let front = placed_in-olds ts all n i (take (e.index - i) xs) h (All-take (EndsBelow n) (e.index - i) xs b) in
+pub placed_in-pass : (ts : List Tagged) (place : ℕ → Option ℕ) (n : ℕ) → ((k : ℕ) → k < n → place_in (of_list k) ts ≡ place k) → (es : List Edit) (i : ℕ) (xs : List Event) → All (EndsBelow n) xs → placed_in ts (pass (map as_change es) i xs) ≡ spliced place es i xs
+placed_in-pass ts place n h [] i xs b = placed_in-olds ts place n i xs h b
+placed_in-pass ts place n h (e ∷ es) i xs b =
+    let rest = placed_in-pass ts place n h es (e.index + e.remove) (drop (e.index + e.remove - i) xs) (All-drop (EndsBelow n) (e.index + e.remove - i) xs b) in
+    let front = placed_in-olds ts place n i (take (e.index - i) xs) h (All-take (EndsBelow n) (e.index - i) xs b) in
     rw (
       placed_in-append ts (olds i (take (e.index - i) xs)) (map as_addition e.additions ++ pass (map as_change es) (e.index + e.remove) (drop (e.index + e.remove - i) xs)),
       placed_in-append ts (map as_addition e.additions) (pass (map as_change es) (e.index + e.remove) (drop (e.index + e.remove - i) xs)),
@@ -102,26 +104,31 @@ place_in-woven es xs d k l =
     ∙ old_place-pass (map as_change es) k 0 0 0 xs (HasNo-edits k es) d' (omega arith) (omega arith) (omega arith)
     ∙ old_place-edits es 0 0 k)
 
+-- where the events of a list come to stand after edits, by the table of their shifts
+abbrev pub place_after : List Edit → ℕ → Option ℕ
+place_after es = place_by (shifts 0 0 es) 0 0
+
 -- the list by identities is the list by prefix sums
-pub edited-spliced : (es : List Edit) (xs : List Event) → AreDisjoint 0 es (length xs) → All (EndsBelow (length xs)) xs → edited es xs ≡ spliced es es 0 xs
+pub edited-spliced : (es : List Edit) (xs : List Event) → AreDisjoint 0 es (length xs) → All (EndsBelow (length xs)) xs → edited es xs ≡ spliced (place_after es) es 0 xs
 edited-spliced es xs d b =
     let z : length xs ≡ 0 + length xs = omega arith in
     let d' : AreApart 0 (map as_change es) (0 + length xs) = subst (λ m. AreApart 0 (map as_change es) m) z (AreApart-edits es 0 (length xs) d) in
     let all : List Tagged = woven (map as_change es) 0 xs in
-    ap (placed_in all) (woven-pass (map as_change es) 0 xs d') ∙ placed_in-pass all es (length xs) (place_in-woven es xs d) es 0 xs b
+    ap (placed_in all) (woven-pass (map as_change es) 0 xs d')
+    ∙ placed_in-pass all (place_after es) (length xs) (λ k l. place_in-woven es xs d k l ∙ sym (place_by-shifts es 0 0 k)) es 0 xs b
 
-end_stays : (o : Option ℕ) → option_and_then (place_from [] 0 0) o ≡ o
+end_stays : (o : Option ℕ) → option_and_then (place_by [] 0 0) o ≡ o
 end_stays None = refl
 end_stays (Some n) = let z : n - 0 + 0 ≡ n = omega arith in ap Some z
 
-link_stays : (o : Option Link) → option_map (with_ends (place_from [] 0 0)) o ≡ o
+link_stays : (o : Option Link) → option_map (with_ends (place_by [] 0 0)) o ≡ o
 link_stays None = refl
 link_stays (Some l) = rw (end_stays l.previous, end_stays l.next) refl
 
-moved-none : (xs : List Event) → moved [] xs ≡ xs
+moved-none : (xs : List Event) → moved (place_by [] 0 0) xs ≡ xs
 moved-none [] = refl
 moved-none (x ∷ xs) =
-    let e : relinked (place_from [] 0 0) x ≡ x = ap (λ (l : Option Link). record x { link = l }) (link_stays x.link) in
+    let e : relinked (place_by [] 0 0) x ≡ x = ap (λ (l : Option Link). record x { link = l }) (link_stays x.link) in
     rw (e, moved-none xs) refl
 
 -- no edits change nothing

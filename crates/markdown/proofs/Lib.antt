@@ -4,12 +4,12 @@ pub mod Working
 pub mod TakingUp
 pub mod Common
 pub mod Links
-pub mod EditOrder
 pub mod EditPasses
+pub mod EditEntries
 pub mod EditFinalPlaces
 pub mod EditPuts
+pub mod EditShifts
 pub mod EditSplices
-pub mod EditStored
 pub mod EditSurvivors
 pub mod EditTurns
 pub mod Mirrors
@@ -36,4 +36,3 @@ pub mod Unwinding
 pub mod PlaceGaps
 pub mod GoingOn
 pub mod PlaceSkips
-pub mod Appended

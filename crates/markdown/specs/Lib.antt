@@ -19,6 +19,7 @@ pub mod Edits
 pub mod Laws
 pub mod Lent
 pub mod Links
+pub mod Shifts
 pub mod Spliced
 pub mod Stored
 pub mod Survivors

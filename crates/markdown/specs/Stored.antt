@@ -1,18 +1,12 @@
--- Inner: what stored edits, in the order of their first addition, mean. No public contract speaks of it.
-use Rattle.std.specs.Prelude.{◌≡◌, List, [], ◌∷◌}
-use Rattle.std.specs.List.{fold, AllByRecursion}
-use Rattle.markdown.specs.Edits.{Edit, put_after}
-use Rattle.markdown.specs.declared.util.stored.Stored.{Stored}
+-- Inner: what the entries of an edit map mean. No public contract speaks of it.
+use Rattle.std.specs.Prelude.{ℕ, List, map}
+use Rattle.markdown.specs.Edits.{Edit}
+use Rattle.markdown.specs.declared.util.replacement.Replacement.{Replacement}
 
--- the edit that is stored
-abbrev pub as_edit : Stored → Edit
-as_edit s = record { index = s.index; remove = s.remove; additions = s.additions.items }
+-- the edit that is kept at an index
+abbrev pub as_edit : ℕ × Replacement → Edit
+as_edit e = record { index = e.0; remove = e.1.remove; additions = e.1.additions.items }
 
--- the edits, each put to its place in the order of the indices
-abbrev pub by_index : List Stored → List Edit
-by_index ss = fold (λ es s. put_after es (as_edit s)) [] ss
-
--- no two stored edits have one index
-abbrev pub HasNoTwins : List Stored → Type 0
-HasNoTwins [] = Unit {0}
-HasNoTwins (s ∷ ss) = AllByRecursion (λ t. s.index ≡ t.index → ⊥) ss × HasNoTwins ss
+-- the edits that are kept
+abbrev pub edits_of : List (ℕ × Replacement) → List Edit
+edits_of es = map as_edit es

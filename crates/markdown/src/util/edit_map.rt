@@ -3,23 +3,26 @@
 //! An edit made by itself would move what stands behind it, and links would have to follow each time. So a map holds
 //! edits at indices into the events as they are, and every event and link end is moved once.
 
-ghost use Rattle.std.specs.Prelude.{◌≡◌, ◌++◌, ◌+◌, ◌<◌, ◌^◌, [], length, OnOk, OnErr, IsOk, All, IsTrue};
+ghost use Rattle.std.specs.List.{AllByRecursion};
+ghost use Rattle.std.specs.Prelude.{◌≡◌, ◌++◌, ◌+◌, ◌<◌, ◌≤◌, ◌^◌, [], ◌∷◌, length, take, OnOk, OnErr, IsOk, All, IsTrue};
 ghost use Rattle.markdown_base.specs.Events.{EndsBelow};
-ghost use Rattle.markdown.specs.Edits.{edit_at, is_no_edit, added_after, added_before, removal_at, AreDisjoint, AreBehind};
+ghost use Rattle.markdown.specs.Edits.{Edit, edit_at, is_no_edit, added_after, added_before, removal_at, AreDisjoint, AreBehind};
 ghost use Rattle.markdown.specs.Edited.{edited};
+ghost use Rattle.markdown.specs.Stored.{as_edit, edits_of};
 
 pub mod laws;
 
+use crate::util::replacement::Replacement;
 use crate::util::splice::spliced_events;
-use crate::util::stored::{Stored, position_of};
 use markdown_base::event::Event;
 use std::alloc::{AllocError, Global};
+use std::collections::BTreeMap;
 use std::marker::Model;
 
 /// Edits of a list of events, to be made at once: at an index, how many events go, and which come in their place.
 #[derive(Drop)]
 pub struct EditMap {
-    edits: Vec<Stored>,
+    edits: BTreeMap<usize, Replacement>,
 }
 
 impl Model for EditMap {
@@ -28,11 +31,9 @@ impl Model for EditMap {
 
     ghost Value = { List Edit };
 
-    ghost use Rattle.markdown.specs.Stored.{by_index, HasNoTwins};
+    ghost use Rattle.markdown.specs.Stored.{edits_of};
 
-    ghost view = { λ m. by_index m.edits.items };
-
-    ghost invariant = { λ m. HasNoTwins m.edits.items };
+    ghost view = { λ m. edits_of m.edits.entries };
 }
 
 impl EditMap {
@@ -41,7 +42,7 @@ impl EditMap {
         ensures { result ≡ [] }
     {
         EditMap {
-            edits: Vec::new(alloc),
+            edits: BTreeMap::new(alloc),
         }
     }
 
@@ -64,13 +65,11 @@ impl EditMap {
         if remove == 0 && additions.is_empty() {
             return Ok(());
         }
-        match position_of(&self.edits, index) {
-            Some(at) => self.edits[at].append(remove, &additions)?,
-            None => self.edits.push(Stored {
-                index,
-                remove,
-                additions,
-            })?,
+        match self.edits.get_mut(&index) {
+            Some(there) => there.append(remove, &additions)?,
+            None => {
+                self.edits.insert(index, Replacement { remove, additions })?;
+            }
         }
         Ok(())
     }
@@ -90,13 +89,11 @@ impl EditMap {
         if remove == 0 && additions.is_empty() {
             return Ok(());
         }
-        match position_of(&self.edits, index) {
-            Some(at) => self.edits[at].prepend(remove, additions)?,
-            None => self.edits.push(Stored {
-                index,
-                remove,
-                additions,
-            })?,
+        match self.edits.get_mut(&index) {
+            Some(there) => there.prepend(remove, additions)?,
+            None => {
+                self.edits.insert(index, Replacement { remove, additions })?;
+            }
         }
         Ok(())
     }
@@ -108,7 +105,9 @@ impl EditMap {
         ensures ok { OnOk result ((self.new ≡ self.old ++ more.old) × (more.new ≡ [])) }
         ensures err { OnErr result ((self.new ≡ self.old) × (more.new ≡ more.old)) }
     {
-        self.edits.append(&mut more.edits)
+        push_copies(&mut self.edits, &more.edits)?;
+        more.edits.clear();
+        Ok(())
     }
 
     /// Makes all edits at once, and leaves the map empty.
@@ -128,10 +127,60 @@ impl EditMap {
         if self.edits.is_empty() {
             return Ok(());
         }
-        self.edits.sort_unstable_by_key(|edit| edit.index);
         let alloc = *events.allocator();
         *events = spliced_events(alloc, &self.edits, events.as_slice())?;
         self.edits.clear();
         Ok(())
+    }
+}
+
+/// Puts a copy of an edit behind all that are there.
+fn push_copy(
+    edits: &mut BTreeMap<usize, Replacement>,
+    index: usize,
+    edit: &Replacement,
+) -> Result<(), AllocError>
+    requires { AllByRecursion (λ (e : Edit). e.index < index) (edits_of edits.old.entries) }
+    ensures ok { OnOk result (edits_of edits.new.entries ≡ edits_of edits.old.entries ++ as_edit (index, edit.now) ∷ []) }
+    ensures err { OnErr result (edits.new.entries ≡ edits.old.entries) }
+{
+    let alloc = *edit.additions.allocator();
+    let additions = Vec::from_slice(alloc, &edit.additions)?;
+    edits.insert(
+        index,
+        Replacement {
+            remove: edit.remove,
+            additions,
+        },
+    )?;
+    Ok(())
+}
+
+/// Puts copies of edits behind all that are there: of each of them, or none where memory is refused.
+fn push_copies(
+    edits: &mut BTreeMap<usize, Replacement>,
+    more: &BTreeMap<usize, Replacement>,
+) -> Result<(), AllocError>
+    requires { AreBehind (edits_of edits.old.entries) (edits_of more.now.entries) }
+    ensures ok { OnOk result (edits_of edits.new.entries ≡ edits_of edits.old.entries ++ edits_of more.now.entries) }
+    ensures err { OnErr result (edits_of edits.new.entries ≡ edits_of edits.old.entries) }
+{
+    let len = edits.len();
+    for (index, edit) in more {
+        if push_copy(edits, *index, edit).is_err() {
+            truncate(edits, len);
+            return Err(AllocError);
+        }
+    }
+    Ok(())
+}
+
+/// Takes out all edits but the first `len`.
+fn truncate(edits: &mut BTreeMap<usize, Replacement>, len: usize)
+    requires { len ≤ length edits.old.entries }
+    ensures { edits.new.entries ≡ take len edits.old.entries }
+{
+    while edits.len() > len {
+        let _ = edits.pop_last();
     }
 }

@@ -1,58 +1,38 @@
-//! The list of events that stored edits give.
+//! The list of events that edits give.
 
-ghost use Rattle.std.specs.Prelude.{◌≡◌, ◌+◌, ◌-◌, ◌<◌, ◌≤◌, ◌^◌, ◌++◌, length, map, take, drop, OnOk, IfOk, IfSome, All, option_and_then};
+ghost use Rattle.std.specs.Prelude.{◌≡◌, ◌-◌, ◌≤◌, ◌++◌, length, take, drop, OnOk, IfOk, IfSome, All, option_and_then};
 ghost use Rattle.markdown_base.specs.Events.{EndsBelow, EachEnd, relinked};
 ghost use Rattle.markdown.specs.Edits.{AreDisjoint};
-ghost use Rattle.markdown.specs.Spliced.{AreApart, added_by, place_from, moved, spliced};
-ghost use Rattle.markdown.specs.Stored.{as_edit};
+ghost use Rattle.markdown.specs.Shifts.{shifts, place_by, AreShifts, EndsFit};
+ghost use Rattle.markdown.specs.Spliced.{moved, spliced};
+ghost use Rattle.markdown.specs.Stored.{edits_of};
 
-use crate::util::stored::Stored;
+use crate::util::replacement::Replacement;
+use crate::util::shift::{Shift, place_after, shifts_of};
 use markdown_base::event::{Event, Link};
 use std::alloc::{AllocError, Global};
+use std::collections::BTreeMap;
 
-/// Where the event at an index comes to stand, unless an edit removes it. The edits ascend.
-fn place_after(edits: &[Stored], index: usize) -> Option<usize>
-    requires apart { AreApart (map as_edit edits.now) }
-    requires fits { index + added_by (map as_edit edits.now) < 2 ^ 64 }
-    ensures { result ≡ place_from (map as_edit edits.now) 0 0 index }
-{
-    let mut removed = 0;
-    let mut added = 0;
-    for edit in edits {
-        if index < edit.index {
-            return Some(index - removed + added);
-        }
-        if index - edit.index < edit.remove {
-            return None;
-        }
-        removed += edit.remove;
-        added += edit.additions.len();
-    }
-    Some(index - removed + added)
-}
-
-fn moved_end(edits: &[Stored], end: Option<usize>) -> Option<usize>
-    requires apart { AreApart (map as_edit edits.now) }
-    requires fits { IfSome end (λ n. n + added_by (map as_edit edits.now) < 2 ^ 64) }
-    ensures { result ≡ option_and_then (place_from (map as_edit edits.now) 0 0) end }
+fn moved_end(shifts: &[Shift], end: Option<usize>) -> Option<usize>
+    requires { IfSome end (λ n. AreShifts n 0 shifts.now) }
+    ensures { result ≡ option_and_then (place_by shifts.now 0 0) end }
 {
     match end {
         None => None,
-        Some(index) => place_after(edits, index),
+        Some(index) => place_after(shifts, index),
     }
 }
 
-fn moved_event(edits: &[Stored], event: Event) -> Event
-    requires apart { AreApart (map as_edit edits.now) }
-    requires fits { IfSome event.link (EachEnd (λ n. n + added_by (map as_edit edits.now) < 2 ^ 64)) }
-    ensures { result ≡ relinked (place_from (map as_edit edits.now) 0 0) event }
+fn moved_event(shifts: &[Shift], event: Event) -> Event
+    requires { EndsFit shifts.now event }
+    ensures { result ≡ relinked (place_by shifts.now 0 0) event }
 {
     match event.link {
         None => event,
         Some(link) => Event {
             link: Some(Link {
-                previous: moved_end(edits, link.previous),
-                next: moved_end(edits, link.next),
+                previous: moved_end(shifts, link.previous),
+                next: moved_end(shifts, link.next),
                 ..link
             }),
             ..event
@@ -63,55 +43,43 @@ fn moved_event(edits: &[Stored], event: Event) -> Event
 /// Appends the events from one index to another, with their link ends moved.
 fn push_moved(
     out: &mut Vec<Event>,
-    edits: &[Stored],
+    shifts: &[Shift],
     events: &[Event],
     from: usize,
     to: usize,
 ) -> Result<(), AllocError>
-    requires apart { AreApart (map as_edit edits.now) }
-    requires fits { All (λ e. IfSome e.link (EachEnd (λ n. n + added_by (map as_edit edits.now) < 2 ^ 64))) events.now }
+    requires ends { All (EndsFit shifts.now) events.now }
     requires order { from ≤ to }
     requires within { to ≤ length events.now }
-    ensures { OnOk result (out.new.items ≡ out.old.items ++ moved (map as_edit edits.now) (take (to - from) (drop from events.now))) }
+    ensures { OnOk result (out.new.items ≡ out.old.items ++ moved (place_by shifts.now 0 0) (take (to - from) (drop from events.now))) }
 {
     for event in &events[from..to] {
-        out.push(moved_event(edits, *event))?;
+        out.push(moved_event(shifts, *event))?;
     }
     Ok(())
 }
 
-/// The sum of all lengths, if it fits.
-fn total_len(edits: &[Stored], len: usize) -> Option<usize>
-    ensures { IfSome result (λ n. n ≡ len + added_by (map as_edit edits.now)) }
-{
-    let mut total = len;
-    for edit in edits {
-        total = total.checked_add(edit.additions.len())?;
-    }
-    Some(total)
-}
-
-/// The events after the edits, which ascend.
-#[tactic(auto, using(crate::proofs::EditTurns::disjoint_next, crate::proofs::EditTurns::spliced_next))]
+/// The events after the edits.
+///
+/// The end of the list comes to stand where the new list ends: so many events there will be.
 pub(crate) fn spliced_events(
     alloc: Global,
-    edits: &[Stored],
+    edits: &BTreeMap<usize, Replacement>,
     events: &[Event],
 ) -> Result<Vec<Event>, AllocError>
-    requires disjoint { AreDisjoint 0 (map as_edit edits.now) (length events.now) }
+    requires disjoint { AreDisjoint 0 (edits_of edits.now.entries) (length events.now) }
     requires links { All (EndsBelow (length events.now)) events.now }
-    ensures { IfOk result (λ v. v.items ≡ spliced (map as_edit edits.now) (map as_edit edits.now) 0 events.now) }
+    ensures { let es = edits_of edits.now.entries in IfOk result (λ v. v.items ≡ spliced (place_by (shifts 0 0 es) 0 0) es 0 events.now) }
 {
-    let Some(total) = total_len(edits, events.len()) else {
-        return Err(AllocError);
-    };
+    let shifts = shifts_of(alloc, edits, events.len())?;
+    let total = place_after(&shifts, events.len()).unwrap_or(events.len());
     let mut out = Vec::with_capacity(alloc, total)?;
     let mut from = 0;
-    for edit in edits {
-        push_moved(&mut out, edits, events, from, edit.index)?;
+    for (at, edit) in edits {
+        push_moved(&mut out, &shifts, events, from, *at)?;
         out.extend_from_slice(&edit.additions)?;
-        from = edit.index + edit.remove;
+        from = *at + edit.remove;
     }
-    push_moved(&mut out, edits, events, from, events.len())?;
+    push_moved(&mut out, &shifts, events, from, events.len())?;
     Ok(out)
 }

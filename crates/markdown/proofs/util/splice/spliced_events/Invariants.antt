@@ -1,11 +1,12 @@
-use Rattle.std.proofs.Common.{◌≡◌, ◌++◌, map, drop, length}
+use Rattle.std.proofs.Common.{◌≡◌, ◌++◌, drop, length}
 use Rattle.markdown.specs.Edits.{AreDisjoint}
+use Rattle.markdown.specs.Shifts.{place_by}
 use Rattle.markdown.specs.Spliced.{spliced}
-use Rattle.markdown.specs.Stored.{as_edit}
+use Rattle.markdown.specs.Stored.{edits_of}
 use Rattle.markdown.proofs.util.splice.spliced_events.Given as goal
 
-abbrev pub invariant-loop-edit : goal.invariant-loop-edit
-invariant-loop-edit l = record {
-  built : l.out.items ++ spliced (map as_edit l.edits) (map as_edit (drop l.edit-index l.edits)) l.from (drop l.from l.events) ≡ spliced (map as_edit l.edits) (map as_edit l.edits) 0 l.events;
-  rest : AreDisjoint l.from (map as_edit (drop l.edit-index l.edits)) (length l.events);
+abbrev pub invariant-loop-at : goal.invariant-loop-at
+invariant-loop-at l = record {
+  built : l.out.items ++ spliced (place_by l.shifts.items 0 0) (edits_of l.at-iterator) l.from (drop l.from l.events) ≡ spliced (place_by l.shifts.items 0 0) (edits_of l.edits.entries) 0 l.events;
+  rest : AreDisjoint l.from (edits_of l.at-iterator) (length l.events);
 }
