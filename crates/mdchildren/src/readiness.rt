@@ -2,7 +2,6 @@
 
 ghost use Rattle.std.specs.Prelude.{◌≡◌, ◌+◌, ◌<◌, false, true, cond, length, reverse, slice_get, Some, None, IfOk};
 ghost use Rattle.markdown_base.specs.declared.event.Kind.TheVariants.{Exit};
-ghost use Rattle.markdown_base.specs.Events.{is_void};
 ghost use Rattle.markdown_base.specs.Places.{stands_before};
 ghost use Rattle.markdown.specs.OpenNames.{names_after};
 ghost use Rattle.mdchildren.specs.Chains.{lets_through};
@@ -11,7 +10,7 @@ ghost use Rattle.mdchildren.specs.ReadyTests.{closes, link_at, is_number, is_chu
 ghost use Rattle.mdchildren.specs.Rows.{is_in_some_row};
 
 use crate::rows::{Row, is_place};
-use markdown_base::event::{Content, Event, Kind, Link, Name, Point, VOID_EVENTS};
+use markdown_base::event::{Content, Event, Kind, Link, Name, Point};
 use std::alloc::{AllocError, Global};
 
 /// Whether a list is balanced, by a stack of the open names.
@@ -62,13 +61,6 @@ fn is_number(number: Option<usize>, wanted: usize) -> bool
     }
 }
 
-/// Whether the name is void.
-fn is_void(name: Name) -> bool
-    ensures { result ≡ is_void name }
-{
-    VOID_EVENTS.iter().any(|void| *void == name)
-}
-
 /// Whether an event enters a void name, and the next one exits it.
 fn is_chunk(events: &[Event], index: usize) -> bool
     requires inside { index < length events.now }
@@ -78,7 +70,7 @@ fn is_chunk(events: &[Event], index: usize) -> bool
     match events.get(index + 1) {
         None => false,
         Some(exit) => {
-            (enter.kind == Kind::Enter && is_void(enter.name))
+            (enter.kind == Kind::Enter && enter.name.is_void())
                 && (exit.kind == Kind::Exit && exit.name == enter.name)
         }
     }
