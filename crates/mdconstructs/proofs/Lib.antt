@@ -1,3 +1,2 @@
 -- Each machine's answers stand in a folder of its own.
-pub mod Chunks
 pub mod Mapped

@@ -9,9 +9,10 @@ use Rattle.markdown_base.specs.declared.state.State.{State}
 use Rattle.markdown_base.specs.declared.state.State.TheVariants.{Next, Retry, Ok}
 use Rattle.markdown_base.specs.declared.state.TheConstants.Name.{FlowStart, ParagraphLineStart, ParagraphStart, ParagraphInside, TextStart, DataStart}
 use Rattle.markdown.specs.Text.{Given}
-use Rattle.markdown.specs.Configuration.{Configuration, Local, Choice}
-use Rattle.markdown.specs.Sight.{Sight}
-use Rattle.markdown.specs.Links.{IsLinkedEnter, IsEndedBy, content_of}
+use Rattle.markdown.specs.Configuration.{Configuration, Local, Choice, Seen}
+use Rattle.markdown.specs.Sight.{Sight, sight_seen}
+use Rattle.markdown.specs.Calls.{entered, linked}
+use Rattle.markdown.specs.Links.{CanLink, IsLinkedEnter, IsEndedBy, content_of}
 use Rattle.markdown.specs.Rules.{Rules}
 use Rattle.mdtables.specs.Rows.{enter, enter_link, exit, consume, links, write, Rows, row, when, at_byte, StateRows, calls, no_cost, plain, Table}
 use Rattle.mdtables.specs.Knowledge.{knowing_rules}
@@ -49,6 +50,16 @@ connected k = record k.local { tokenize_state = record k.local.tokenize_state { 
 -- a chunk is read as text
 abbrev pub text_link : Link
 text_link = record { previous = None; next = None; content = TextContent }
+
+-- the chunk that the last event begins is linked to the one that came before
+abbrev pub chained : Configuration Unit Unit → Configuration Unit Unit
+chained k = linked (chunk_before k) (last_event k) k
+
+-- a chunk that begins here can be linked to the one that came before, if one did
+abbrev pub CanLinkChunk : {M : Type 0} → Seen M Unit Unit → Type 0
+CanLinkChunk t =
+    let k = entered Data (Some text_link) (sight_seen t).here t.configuration in
+    k.local.tokenize_state.connect ≡ true → CanLink k.events (chunk_before k) (last_event k)
 
 -- before a paragraph
 abbrev pub flow_start_rows : (previous current : Option LineByte) → Rows Unit Unit

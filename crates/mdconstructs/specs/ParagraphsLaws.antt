@@ -11,7 +11,8 @@ use Rattle.markdown_base.specs.Events.{EndsBelow, IsBalanced}
 use Rattle.markdown_base.specs.declared.state.Name.{Name}
 use Rattle.markdown_base.specs.declared.state.State.TheVariants.{Next, Retry, Ok}
 use Rattle.markdown_base.specs.declared.state.TheConstants.Name.{FlowStart, TextStart, ParagraphStart, ParagraphInside}
-use Rattle.markdown.specs.Configuration.{Configuration, Local, Choice, start_configuration}
+use Rattle.markdown.specs.Configuration.{Configuration, Local, Choice, Seen, start_configuration}
+use Rattle.markdown.specs.Sight.{sight_seen}
 use Rattle.markdown.specs.Links.{IsLinkedEnter, IsEndedBy, CanLink, content_of, updated_at, with_next, with_previous, linked_to, next_of, previous_of}
 use Rattle.markdown.specs.Edited.{edited}
 use Rattle.markdown.specs.Resolving.{CanBeEdited, IsInShape}
@@ -23,7 +24,7 @@ use Rattle.mdtables.proofs.TableLaws.{IsFit, no-falls}
 use Rattle.mdtables.proofs.KnowledgeLaws.{KeepsKnowing, IsKnown}
 use Rattle.mdconstructs.specs.Tables.{LineByte, line_ending, other}
 use Rattle.mdconstructs.specs.Reading.{data_start, data_inside}
-use Rattle.mdconstructs.specs.Paragraphs.{text_link, flow_start, paragraph_line_start, paragraph_start, paragraph_inside, text_start, paragraphs, BeginsChunk, EndsWithChunk, HasChunk, KnowsChunk, Knows, knows_chunk}
+use Rattle.mdconstructs.specs.Paragraphs.{text_link, flow_start, paragraph_line_start, paragraph_start, paragraph_inside, text_start, paragraphs, BeginsChunk, EndsWithChunk, HasChunk, KnowsChunk, Knows, knows_chunk, CanLinkChunk}
 
 fits : (previous current : Option LineByte) → misfits paragraphs previous current ≡ []
 fits previous None = refl
@@ -238,6 +239,13 @@ pub known-before : (events : List Event) (local : Local Unit Unit) (choices : Li
     → KnowsChunk false events local
 known-before events local [] n e h = let elsewhere : (n == ParagraphInside.number) ≡ false = rw e refl in subst (λ (b : Bool). KnowsChunk b events local) elsewhere h.chunk
 known-before events local (c ∷ cs) n e h = absurd h
+
+-- and so a chunk that begins can be linked to the one that came before
+pub can-follow : {M : Type 0} (t : Seen M Unit Unit) → KnowsChunk false t.configuration.events t.configuration.local → CanLinkChunk t
+can-follow t known =
+    let k = t.configuration in
+    let place = (sight_seen t).here in
+    λ there. can-link k.events place k.local.tokenize_state.start _ (known there) (last-index k.events (chunk_at place))
 
 -- where all was read no edit waits, and the events stay in shape
 at-end : (k : Configuration Unit Unit) → IsBalanced k.events → knows_chunk k.events k.local [] Ok

@@ -1,9 +1,11 @@
 //! The machine that fails: it passes each byte, and refuses the document at a call of a stated number.
 
-ghost use Rattle.std.specs.Prelude.{IfOk};
+ghost use Rattle.std.specs.Prelude.{◌≡◌, ◌==◌, IfOk};
+ghost use Rattle.markdown.specs.Calls.{with_local};
+ghost use Rattle.markdown.specs.Configuration.{at_configuration};
 ghost use Rattle.mdtables.specs.RowInvariant.{DoesAll, IsCallable, step_in};
 ghost use Rattle.mdconstructs.specs.Tables.{line_byte};
-ghost use Rattle.mdconstructs.specs.Fail.{text_start};
+ghost use Rattle.mdconstructs.specs.Fail.{counted, text_start};
 
 use crate::refusal::refusal;
 use markdown::state::{Machine, MachineTypes, Name, State};
@@ -81,9 +83,9 @@ fn text_start<'a>(
     requires { IsCallable line_byte (text_start at) t.old }
     ensures { IfOk result (DoesAll (step_in line_byte (text_start at) t.old) t.old t.new) }
 {
-    let size = t.tokenize_state.size;
-    t.tokenize_state.size = size.saturating_add(1);
-    if size == at {
+    let refuses = is_refused(t, at);
+    count(t);
+    if refuses {
         return Ok(State::Error(refusal(alloc)?));
     }
     match t.current() {
@@ -93,4 +95,18 @@ fn text_start<'a>(
             Ok(State::Next(Name::TextStart))
         }
     }
+}
+
+/// Whether this call refuses the document: as many were counted before it as stated.
+fn is_refused<'a>(t: &Tokenizer<'a, Fail>, at: usize) -> bool
+    ensures { result ≡ (t.now.configuration.local.tokenize_state.size == at) }
+{
+    t.tokenize_state.size == at
+}
+
+/// Counts a call.
+fn count<'a>(t: &mut Tokenizer<'a, Fail>)
+    ensures { t.new ≡ at_configuration t.old (with_local t.old.configuration (counted t.old.configuration)) }
+{
+    t.tokenize_state.size = t.tokenize_state.size.saturating_add(1);
 }

@@ -1,12 +1,13 @@
 //! The machine of paragraphs: lines that follow one another are a paragraph, in which each line is a chunk of text, linked to
 //! the one before; a line may begin with a quote mark.
 
-ghost use Rattle.std.specs.Prelude.{◌≡◌, false, cond, Some, None, IfOk};
+ghost use Rattle.std.specs.Prelude.{◌≡◌, IfOk};
 ghost use Rattle.markdown.specs.Calls.{with_local};
 ghost use Rattle.markdown.specs.Configuration.{at_configuration};
+ghost use Rattle.markdown.specs.Links.{CanLink};
 ghost use Rattle.mdtables.specs.RowInvariant.{DoesAll, IsCallable, step_in};
 ghost use Rattle.mdconstructs.specs.Tables.{line_byte};
-ghost use Rattle.mdconstructs.specs.Paragraphs.{flow_start, paragraph_line_start, paragraph_start, paragraph_inside, text_start, alone, chunk_before, connected, last_event, KnowsChunk};
+ghost use Rattle.mdconstructs.specs.Paragraphs.{flow_start, paragraph_line_start, paragraph_start, paragraph_inside, text_start, alone, chunk_before, connected, last_event, chained, CanLinkChunk};
 
 use crate::begin::begin;
 use crate::reading::{data_inside, data_start};
@@ -131,19 +132,17 @@ fn paragraph_line_start<'a>(t: &mut Tokenizer<'a, Paragraphs>) -> Result<State, 
 /// Before the chunk of a line, which is linked to the one before it in the paragraph.
 fn paragraph_start<'a>(t: &mut Tokenizer<'a, Paragraphs>) -> Result<State, AllocError>
     requires called { IsCallable line_byte paragraph_start t.old }
-    requires chunk { KnowsChunk false t.old.configuration.events t.old.configuration.local }
+    requires chunk { CanLinkChunk t.old }
     ensures { IfOk result (DoesAll (step_in line_byte paragraph_start t.old) t.old t.new) }
 {
     match t.current() {
         None => Ok(State::Retry(Name::ParagraphLineStart)),
         Some(_) => {
             t.enter_link(event::Name::Data, CHUNK)?;
-            let index = t.events().len() - 1;
-            match chunk_before(t) {
-                Some(before) => t.link_to(before, index),
-                None => {}
+            if is_connected(t) {
+                link_chunk(t);
             }
-            connect(t, index);
+            connect(t);
             Ok(State::Retry(Name::ParagraphInside))
         }
     }
@@ -171,15 +170,27 @@ fn paragraph_inside<'a>(t: &mut Tokenizer<'a, Paragraphs>) -> Result<State, Allo
     }
 }
 
-/// Where the chunk that came before in the paragraph begins in the events, if one did.
-fn chunk_before<'a>(t: &Tokenizer<'a, Paragraphs>) -> Option<usize>
-    ensures { result ≡ cond t.now.configuration.local.tokenize_state.connect (Some (chunk_before t.now.configuration)) None }
+/// The index of the last event.
+fn last_event<'a>(t: &Tokenizer<'a, Paragraphs>) -> usize
+    ensures { result ≡ last_event t.now.configuration }
 {
-    if t.tokenize_state.connect {
-        Some(t.tokenize_state.start)
-    } else {
-        None
-    }
+    t.events().len().saturating_sub(1)
+}
+
+/// Whether a chunk came before in the paragraph.
+fn is_connected<'a>(t: &Tokenizer<'a, Paragraphs>) -> bool
+    ensures { result ≡ t.now.configuration.local.tokenize_state.connect }
+{
+    t.tokenize_state.connect
+}
+
+/// The chunk that the last event begins is linked to the one that came before.
+fn link_chunk<'a>(t: &mut Tokenizer<'a, Paragraphs>)
+    requires { CanLink t.old.configuration.events (chunk_before t.old.configuration) (last_event t.old.configuration) }
+    ensures { t.new ≡ at_configuration t.old (chained t.old.configuration) }
+{
+    let before = t.tokenize_state.start;
+    t.link_to(before, last_event(t));
 }
 
 /// No chunk came before in the paragraph.
@@ -190,10 +201,9 @@ fn disconnect<'a>(t: &mut Tokenizer<'a, Paragraphs>)
 }
 
 /// The last event is the chunk that came before.
-fn connect<'a>(t: &mut Tokenizer<'a, Paragraphs>, index: usize)
-    requires { index ≡ last_event t.old.configuration }
+fn connect<'a>(t: &mut Tokenizer<'a, Paragraphs>)
     ensures { t.new ≡ at_configuration t.old (with_local t.old.configuration (connected t.old.configuration)) }
 {
-    t.tokenize_state.start = index;
+    t.tokenize_state.start = last_event(t);
     t.tokenize_state.connect = true;
 }

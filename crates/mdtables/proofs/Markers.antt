@@ -1,6 +1,6 @@
 -- A byte that waits can be a span of its own.
 use Rattle.std.proofs.Common.{◌≡◌, ℕ, ◌<◌, ◌≤◌, List, [], ◌∷◌, ◌++◌, true, Option, Some, None, length, refl, sym, ap, ◌∙◌, subst, arith, length-append}
-use Rattle.std.specs.Prelude.{IfSome}
+use Rattle.std.specs.Prelude.{All, IfSome}
 use Rattle.std.specs.List.{last_or}
 use Rattle.std.proofs.lemmas.List.Elements.{All-weaker}
 use Rattle.markdown_base.specs.declared.event.Event.{Event}
@@ -8,14 +8,12 @@ use Rattle.markdown_base.specs.declared.event.Kind.TheVariants.{Enter}
 use Rattle.markdown_base.specs.declared.event.Name.{Name}
 use Rattle.markdown_base.specs.Events.{open_events}
 use Rattle.markdown_base.specs.Places.{stands_before}
-use Rattle.markdown.specs.declared.waiting.Waits.{Waits}
-use Rattle.markdown.specs.declared.waiting.Waits.TheVariants.{Nothing, Byte, End}
-use Rattle.markdown.specs.Text.{Text}
-use Rattle.markdown.specs.Configuration.{Saved, Seen, at_configuration}
-use Rattle.markdown.specs.Sight.{sight_seen, current_of}
+use Rattle.markdown.specs.declared.waiting.Waits.TheVariants.{Nothing, Byte}
+use Rattle.markdown.specs.Configuration.{Choice, Saved, Seen, at_configuration}
+use Rattle.markdown.specs.Sight.{sight_seen}
 use Rattle.markdown.specs.Calls.{CanExit, consumed, entered, exited}
 use Rattle.mdtables.specs.Rows.{StateRows}
-use Rattle.mdtables.specs.RowInvariant.{IsBelow, IsCallable}
+use Rattle.mdtables.specs.RowInvariant.{IsBelow, IsCalled}
 use Rattle.mdtables.specs.Markers.{IsMarkable, marked}
 use Rattle.mdtables.proofs.Texts.{open-more, last-more, next-left}
 
@@ -27,21 +25,19 @@ fewer : (name : Name) (stack : List Name) (saved : Option Saved) → IfSome save
 fewer name stack None h = tt
 fewer name stack (Some saved) h = omega (arith, length-append stack (name ∷ []), h)
 
-byte-waits : (text : Text) (p : ℕ) (w : Waits) (byte : ℕ) → current_of text p w ≡ Some byte → w ≡ Byte
-byte-waits text p Nothing byte h = absurd (cc)
-byte-waits text p Byte byte h = refl
-byte-waits text p End byte h = absurd (cc)
+-- choices that are below some spans saved no more of the stack than there is
+pub stack-below : (base more stack : List Name) (cs : List Choice) → stack ≡ base ++ more → All (IsBelow base) cs → All (IsBelow stack) cs
+stack-below base more stack cs same h = All-weaker (IsBelow base) (IsBelow stack) (λ c. longer base more stack c.saved same) cs h
 
--- where a state can be called and a byte was seen to wait
-pub markable : {M W R D : Type 0} (class : ℕ → W) (state : StateRows W R D) (t : Seen M R D) (looked : Option ℕ) (byte : ℕ) → IsCallable class state t → looked ≡ (sight_seen t).current → looked ≡ Some byte → IsMarkable t
-markable class state t looked byte can same is =
+-- where a state is called and a byte waits
+pub markable : {M W R D : Type 0} (class : ℕ → W) (state : StateRows W R D) (t : Seen M R D) → IsCalled class state t → t.configuration.waiting ≡ Byte → IsMarkable t
+markable class state t can waits =
     let k = t.configuration in
-    let waits = byte-waits t.text k.position k.waiting byte (sym same ∙ is) in
     record {
       waits = waits;
       inside = rw waits at can.fed;
       in_order = can.in_order.begins waits;
-      below = All-weaker (IsBelow can.base) (λ c. IfSome c.saved (λ s. length s.stack ≤ length k.stack)) (λ c. longer can.base state.spans k.stack c.saved can.spans.stack) t.choices can.spans.below;
+      below = stack-below can.base state.spans k.stack t.choices can.spans.stack can.spans.below;
     }
 
 module _ {M R D : Type 0} (name : Name) (t : Seen M R D) (can : IsMarkable t) where

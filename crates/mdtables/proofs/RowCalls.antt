@@ -1,6 +1,6 @@
--- What the code of a state needs where it exits a span, and what its calls come to, from the test of its acts.
-use Rattle.std.proofs.Common.{◌≡◌, ◌≢◌, ◌==◌, ℕ, ◌<◌, ◌≤◌, ◌&&◌, ◌||◌, not, List, [], ◌∷◌, ◌++◌, Bool, true, false, cond, Option, Some, None, length, map, refl, sym, ap, ◌∙◌, subst, arith, length-append}
-use Rattle.std.specs.Prelude.{All, IfSome}
+-- What the code of a state may do where it is called, from the test of its acts.
+use Rattle.std.proofs.Common.{◌≡◌, ◌≢◌, ◌==◌, ℕ, ◌<◌, ◌≤◌, ◌&&◌, ◌||◌, not, List, [], ◌∷◌, ◌++◌, Bool, true, false, cond, Option, Some, None, length, map, refl, sym, ap, ◌∙◌, subst, arith, append_assoc, length-append}
+use Rattle.std.specs.Prelude.{All, IfSome, reverse}
 use Rattle.std.specs.List.{last_or}
 use Rattle.std.proofs.lemmas.Bool.Decides.{nat_tests}
 use Rattle.std.proofs.lemmas.List.Elements.{All-head, All-tail, All-weaker}
@@ -8,7 +8,6 @@ use Rattle.markdown_base.specs.declared.event.Event.{Event}
 use Rattle.markdown_base.specs.declared.event.Kind.TheVariants.{Enter}
 use Rattle.markdown_base.specs.declared.event.Name.{Name as EventName}
 use Rattle.markdown_base.specs.declared.state.Name.{Name}
-use Rattle.markdown_base.specs.declared.state.State.{State}
 use Rattle.markdown_base.specs.declared.state.State.TheVariants.{Retry}
 use Rattle.markdown_base.specs.Events.{open_events, is_void, unlinked}
 use Rattle.markdown_base.specs.Places.{stands_before}
@@ -19,18 +18,14 @@ use Rattle.markdown.specs.Configuration.{Configuration, Local, Choice, Saved, Se
 use Rattle.markdown.specs.Sight.{sight, sight_seen}
 use Rattle.markdown.specs.Calls.{CanExit}
 use Rattle.markdown.specs.Lawful.{IsAsFar}
-use Rattle.mdtables.specs.Rows.{Act, enters, exit, consume, links, write, choose, done, chosen, Row, StateRows, Table, no_cost, class_of, does, chooses, step_of, picked, row_at, named}
-use Rattle.mdtables.specs.RowTest.{Shape, is_last, allows_all, after_all, start_shape, is_some}
-use Rattle.mdtables.specs.RowInvariant.{EndsWithEnter, since, IsFed, begun, DoesAll, IsBelow, table_holds, IsCallable, step_in}
-use Rattle.mdtables.proofs.RowLaws.{both, implied, Waited, reached, sight_at, HasShape, below_all, is-last, last-above, last-long, to-before, open-unlinked, left-at, here-at, has-after-all, does-then, chooses-then, chooses-append, allows-then}
+use Rattle.mdtables.specs.Rows.{Act, enters, exit, consume, links, write, choose, done, chosen, StateRows, Table, no_cost, class_of, does, chooses, named}
+use Rattle.mdtables.specs.RowTest.{Stage, end_waits, byte_waits, byte_read, Shape, is_last, allows_all, after_all, start_shape, is_some}
+use Rattle.mdtables.specs.RowInvariant.{EndsWithEnter, since, IsFed, begun, IsBelow, table_holds, IsCalled, once_read, CanEnd, IsCallable}
+use Rattle.mdtables.proofs.RowLaws.{both, implied, Waited, reached, sight_at, HasShape, below_all, is-last, last-above, last-long, to-before, open-unlinked, left-at, here-at, has-after-all, does-then, chooses-then, allows-then, allows-front}
+use Rattle.mdtables.proofs.Texts.{next-left}
+use Rattle.mdtables.specs.Markers.{IsMarkable}
+use Rattle.mdtables.proofs.Markers.{markable, stack-below}
 use Rattle.mdtables.proofs.TableLaws.{met-at, read-before, ahead-at, start-sight, begins}
-
--- what waits is of a class, by what was looked at
-pub at-end : {W : Type 0} (class : ℕ → W) (waiting looked : Option ℕ) → looked ≡ waiting → looked ≡ None → class_of class waiting ≡ None
-at-end class waiting looked same is = rw (← same, is) refl
-
-pub at-byte : {W : Type 0} (class : ℕ → W) (w : W) (waiting looked : Option ℕ) (byte : ℕ) → looked ≡ waiting → looked ≡ Some byte → class byte ≡ w → class_of class waiting ≡ Some w
-at-byte class w waiting looked byte same is of = rw (← same, is) (ap Some of)
 
 last-holds : (P : Event → Type 0) (o : Option Event) (es : List Event) (e : Event) → ((x : Event) → o ≡ Some x → P x) → All P es → last_or o es ≡ Some e → P e
 last-holds P o [] e before h is = before e is
@@ -58,6 +53,12 @@ above-one base spans stack (Some saved) same some h = omega (arith, ap length sa
 
 above-all : (base spans stack : List EventName) (cs : List Choice) → stack ≡ base ++ spans → 1 ≤ length spans → All (IsBelow base) cs → All (λ c. IfSome c.saved (λ s. length s.stack < length stack)) cs
 above-all base spans stack cs same some h = All-weaker (IsBelow base) (λ c. IfSome c.saved (λ s. length s.stack < length stack)) (λ c. above-one base spans stack c.saved same some) cs h
+
+-- where a byte still waits, nothing was read
+still-waiting : {R D : Type 0} (stage : Stage) (k k' : Configuration R D) → IsAsFar k' (reached stage k) → k'.waiting ≡ Byte → (k'.position ≡ k.position) × (k'.waiting ≡ k.waiting)
+still-waiting end_waits k k' far is = (far.0, far.1)
+still-waiting byte_waits k k' far is = (far.0, far.1)
+still-waiting byte_read k k' far is = absurd (let e : Nothing ≡ Byte = sym far.1 ∙ is in cc)
 
 -- the tokenizer after one act
 abbrev pub acted_once : {M R D : Type 0} → Act R D → Seen M R D → Seen M R D
@@ -94,7 +95,7 @@ module _ {M W R D : Type 0} (class : ℕ → W) (state : StateRows W R D) (b w :
   abbrev classes : Table W R D
   classes = record { class = class; first = λ local. local; states = []; starts = []; cost = no_cost }
 
-  module _ (can : IsCallable class state t) (is_before : class_of class (sight_seen t).previous ≡ b) (is_class : class_of class (sight_seen t).current ≡ w) where
+  module _ (can : IsCalled class state t) (is_before : class_of class (sight_seen t).previous ≡ b) (is_class : class_of class (sight_seen t).current ≡ w) where
     shaped : (acts : List (Act R D)) → are_allowed acts ≡ true
         → let p = after_all acts (start_shape b w state) in HasShape p (below_all acts (start_shape b w state) can.base) (sight_at p.stage (sight_seen t)) t.given t.text t.configuration (acted acts).configuration (acted acts).choices
     shaped acts allowed =
@@ -152,25 +153,56 @@ module _ {M W R D : Type 0} (class : ℕ → W) (state : StateRows W R D) (b w :
         ∙ ap (λ cs. record { given = t.given; machine = t.machine; text = t.text; configuration = (acted (acts ++ act ∷ [])).configuration; choices = cs; calls = t.calls; closed = t.closed; phase = t.phase })
         (sym (chooses-then acts act (sight_seen t) t.configuration t.choices))
 
-    -- the acts of a row and its answer are what the state does
-    pub does-row : (acts : List (Act R D)) (answer : State) (t' : Seen M R D) → picked (state.rows b w) t.given (sight_seen t) t.configuration ≡ record { acts = acts; answer = answer } → t' ≡ acted acts
-        → DoesAll (step_in class state t) t t' answer
-    does-row acts answer t' row is =
-        let r : Row R D = record { acts = acts; answer = answer } in
-        let wait : (acted acts).choices ≡ chooses acts (sight_seen t) t.configuration [] ++ t.choices = sym (chooses-append acts (sight_seen t) t.configuration [] t.choices) in
-        let same : row_at class state t.given (sight_seen t) t.configuration ≡ r =
-        ap (λ b. picked (state.rows b (class_of class (sight_seen t).current)) t.given (sight_seen t) t.configuration) is_before
-        ∙ ap (λ w. picked (state.rows b w) t.given (sight_seen t) t.configuration) is_class ∙ row in
-        subst (λ r. DoesAll (step_of r (sight_seen t) t.configuration) t t' answer) (sym same) (record {
-          answered = refl;
-          became = is ∙ ap (λ cs. record { given = t.given; machine = t.machine; text = t.text; configuration = (acted acts).configuration; choices = cs; calls = t.calls; closed = t.closed; phase = t.phase }) wait;
+    -- and so may spans that allowed acts exit, one after another
+    pub can-end : (acts : List (Act R D)) (names : List EventName) (t' : Seen M R D) → are_allowed (acts ++ map exit names) ≡ true → t' ≡ acted acts → CanEnd names t'
+    can-end acts [] t' allowed is = tt
+    can-end acts (name ∷ names) t' allowed is =
+        let whole : are_allowed ((acts ++ exit name ∷ []) ++ map exit names) ≡ true = ap are_allowed (append_assoc acts (exit name ∷ []) (map exit names)) ∙ allowed in
+        let one = allows-front (acts ++ exit name ∷ []) (map exit names) (start_shape b w state) whole in
+        (can-exit acts name t' one is, can-end (acts ++ exit name ∷ []) names (acted_once (exit name) t') whole (then acts (exit name) t' (acted_once (exit name) t') one is refl))
+
+    -- behind allowed acts a byte that still waits can be a span of its own
+    pub can-mark : (acts : List (Act R D)) (t' : Seen M R D) → are_allowed acts ≡ true → t' ≡ acted acts → t'.configuration.waiting ≡ Byte → IsMarkable t'
+    can-mark acts t' allowed is waits =
+        let k = t.configuration in
+        let p = after_all acts (start_shape b w state) in
+        let base = below_all acts (start_shape b w state) can.base in
+        let h = shaped acts allowed in
+        let same = still-waiting p.stage k (acted acts).configuration h.far (ap (λ t. t.configuration.waiting) (sym is) ∙ waits) in
+        let byte : k.waiting ≡ Byte = sym same.1 ∙ ap (λ t. t.configuration.waiting) (sym is) ∙ waits in
+        subst IsMarkable (sym is) (record {
+          waits = same.1 ∙ byte;
+          inside = rw same.0 (rw byte at can.fed);
+          in_order = rw (same.0, same.1) (can.in_order.begins byte);
+          below = stack-below base p.spans (acted acts).configuration.stack (acted acts).choices h.stack h.below;
         })
 
-    -- the same, by the last of the acts
-    pub does-last : (acts : List (Act R D)) (act : Act R D) (answer : State) (t' t'' : Seen M R D) → are_allowed (acts ++ act ∷ []) ≡ true
-        → picked (state.rows b w) t.given (sight_seen t) t.configuration ≡ record { acts = acts ++ act ∷ []; answer = answer } → t' ≡ acted acts → t'' ≡ acted_once act t'
-        → DoesAll (step_in class state t) t t'' answer
-    does-last acts act answer t' t'' allowed row one two = does-row (acts ++ act ∷ []) answer t'' row (then acts act t' t'' allowed one two)
+-- where a state is called that is never called at the end, a byte waits
+fed-byte : (w : Waits) (p : ℕ) (ended : Bool) (text : Text) → IsFed w p ended text → p < length text.seats → w ≡ Byte
+fed-byte Nothing p ended text h left = absurd h
+fed-byte Byte p ended text h left = refl
+fed-byte End p ended text h left = absurd (omega (arith, h.1, left))
+
+-- where a byte ends, an exit stands once it is consumed
+stands-past : {M R D : Type 0} (t : Seen M R D) → IsFed t.configuration.waiting t.configuration.position t.configuration.ended t.text → t.configuration.waiting ≡ Byte
+    → (sight_seen (once_read t)).after_previous ≡ (sight_seen t).next
+stands-past t fed waits = let inside = rw waits at fed in rw waits (sym (next-left t.given t.text t.configuration.position Nothing inside))
+
+-- what the code of a state may do follows where it is called
+allowed : {M W R D : Type 0} (class : ℕ → W) (state : StateRows W R D) (t : Seen M R D) → IsCalled class state t → IsCallable class state t
+allowed class state t can =
+    let k = t.configuration in
+    let before = class_of class (sight_seen t).previous in
+    let waits = class_of class (sight_seen t).current in
+    let names = reverse state.spans in
+    record {
+      called = can;
+      byte = λ needs. fed-byte k.waiting k.position k.ended t.text can.fed (can.spans.needs_byte needs);
+      stands = stands-past t can.fed;
+      marks = markable class state t can;
+      ends = λ fit. can-end class state before waits t can refl refl [] names t fit refl;
+      ends_read = λ fit. can-end class state before waits t can refl refl (consume ∷ []) names (once_read t) fit refl;
+    }
 
 -- what holds where a machine is called is what its state asks for
 pub callable : {M W R D : Type 0} (table : Table W R D) (first : Local R D → Local R D) (name : Name) (state : StateRows W R D) (t t' : Seen M R D) → name.number ≡ state.name.number
@@ -179,13 +211,13 @@ callable table first name state t t' same is h began =
     let one : named table.states name ≡ Some state = ap (λ n. named table.states (record { number = n })) same ∙ is in
     let there = rw one at h.1.2 in
     let o = there.spans in
-    subst (IsCallable table.class state) (sym began) (record {
+    subst (IsCallable table.class state) (sym began) (allowed table.class state (begun first t) (record {
       inside = h.0;
       fed = h.1.0;
       in_order = h.1.1;
       base = there.base;
       spans = record { stack = o.stack; began = o.began; void = o.void; below = o.below; needs = o.needs; needs_byte = o.needs_byte };
-    })
+    }))
 
 -- a name is none of the states'
 abbrev pub IsNoneOf : {W R D : Type 0} → List (StateRows W R D) → Name → Type 0
@@ -206,12 +238,3 @@ not-named (state ∷ states) name h =
 -- such a name is never called
 pub never-called : {M W R D : Type 0} (table : Table W R D) (name : Name) (t : Seen M R D) → IsNoneOf table.states name → table_holds table t.given t.text t.configuration t.choices (Retry name) → ⊥
 never-called table name t none h = rw (not-named table.states name none) at h.1.2
-
--- where a state is called that is never called at the end, a byte waits
-fed-byte : (w : Waits) (p : ℕ) (ended : Bool) (text : Text) → IsFed w p ended text → p < length text.seats → w ≡ Byte
-fed-byte Nothing p ended text h left = absurd h
-fed-byte Byte p ended text h left = refl
-fed-byte End p ended text h left = absurd (omega (arith, h.1, left))
-
-pub byte-waits : {M W R D : Type 0} (class : ℕ → W) (state : StateRows W R D) (t : Seen M R D) → state.needs_byte ≡ true → IsCallable class state t → t.configuration.waiting ≡ Byte
-byte-waits class state t needs can = let k = t.configuration in fed-byte k.waiting k.position k.ended t.text can.fed (can.spans.needs_byte needs)

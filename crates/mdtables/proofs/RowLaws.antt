@@ -324,6 +324,12 @@ module _ {R D : Type 0} where
       let (some, last) = allows-then acts act (after a p) rest in
       (and_from (allows a p) (allows_all acts (after a p)) one some, last)
 
+  -- of acts that are allowed the first are allowed
+  pub allows-front : (acts more : List (Act R D)) (p : Shape) → allows_all (acts ++ more) p ≡ true → allows_all acts p ≡ true
+  allows-front [] more p can = refl
+  allows-front (a ∷ acts) more p can =
+      let (one, rest) = both (allows a p) (allows_all (acts ++ more) (after a p)) can in and_from (allows a p) (allows_all acts (after a p)) one (allows-front acts more (after a p) rest)
+
   -- the choices that a row makes wait above the old ones
   chosen-append : (act : Act R D) (k : Configuration R D) (xs ys : List Choice) → chosen act k xs ++ ys ≡ chosen act k (xs ++ ys)
   chosen-append (enters name link) k xs ys = refl

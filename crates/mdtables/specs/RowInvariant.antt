@@ -1,5 +1,5 @@
 -- What holds at the states of a table, and what their calls cost.
-use Rattle.std.specs.Prelude.{◌≡◌, ℕ, zero, suc, ◌+◌, ◌-◌, ◌*◌, ◌<◌, ◌≤◌, ◌⊎◌, List, [], ◌∷◌, ◌++◌, Bool, not, true, false, cond, Option, Some, None, IfSome, All, map, max, take, length}
+use Rattle.std.specs.Prelude.{◌≡◌, ℕ, zero, suc, ◌+◌, ◌-◌, ◌*◌, ◌<◌, ◌≤◌, ◌⊎◌, List, [], ◌∷◌, ◌++◌, Bool, not, true, false, cond, Option, Some, None, IfSome, All, map, max, take, length, reverse}
 use Rattle.std.specs.List.{last_or}
 use Rattle.markdown_base.specs.declared.event.Event.{Event}
 use Rattle.markdown_base.specs.declared.event.Kind.TheVariants.{Enter}
@@ -13,13 +13,14 @@ use Rattle.markdown.specs.declared.waiting.AttemptKind.{AttemptKind}
 use Rattle.markdown.specs.declared.waiting.Waits.{Waits}
 use Rattle.markdown.specs.declared.waiting.Waits.TheVariants.{Nothing, Byte, End}
 use Rattle.markdown.specs.Text.{Given, Text}
-use Rattle.markdown.specs.Configuration.{Configuration, Local, Choice, Saved, Step, Seen}
+use Rattle.markdown.specs.Configuration.{Configuration, Local, Choice, Saved, Step, Seen, at_configuration}
 use Rattle.markdown.specs.Sight.{Sight, sight, sight_seen, end_place}
-use Rattle.markdown.specs.Calls.{with_local}
+use Rattle.markdown.specs.Calls.{with_local, consumed, exited, CanExit}
 use Rattle.markdown.specs.Rules.{Rules}
 use Rattle.markdown.specs.Plain.{finds_nothing, NothingResolves}
-use Rattle.mdtables.specs.Rows.{Act, consume, choose, Rows, row, when, Row, Calls, StateRows, Table, class_of, step_of, row_at, named, table_step}
-use Rattle.mdtables.specs.RowTest.{is_void_last, Stage, byte_waits, Frame, first_stage, saves, fresh_at, fresh_fed, needs_choice, is_some, fits_choice, calls_at}
+use Rattle.mdtables.specs.Rows.{Act, exit, consume, choose, Rows, row, when, Row, Calls, StateRows, Table, class_of, step_of, row_at, named, table_step}
+use Rattle.mdtables.specs.RowTest.{is_void_last, Stage, byte_waits, Frame, allows_all, first_stage, start_shape, saves, fresh_at, fresh_fed, needs_choice, is_some, fits_choice, calls_at}
+use Rattle.mdtables.specs.Markers.{IsMarkable}
 
 -- the events of a configuration, without the ends of their links
 abbrev pub outline : {R D : Type 0} → Configuration R D → List Event
@@ -140,29 +141,44 @@ pub record IsOpen {W R D : Type 0} (state : StateRows W R D) (base : List EventN
 
 -- A call began: it is counted, and the machine's own fields are others
 abbrev pub begun : {M R D : Type 0} → (Local R D → Local R D) → Seen M R D → Seen M R D
-begun first t = record {
-  given = t.given;
-  machine = t.machine;
-  text = t.text;
-  configuration = with_local t.configuration (first t.configuration.local);
-  choices = t.choices;
-  calls = t.calls + 1;
-  closed = t.closed;
-  phase = t.phase;
-}
+begun first t = record t { configuration = with_local t.configuration (first t.configuration.local); calls = t.calls + 1 }
 
 -- A state did a step: this is its answer, the step's choices wait above the old ones, and the configuration is the step's
 pub record DoesAll {M R D : Type 0} (s : Step R D) (old new : Seen M R D) (answer : State) : Type 0 where
   pub answered : answer ≡ s.answer
   pub became : new ≡ record old { configuration = s.configuration; choices = s.choices ++ old.choices }
 
--- A state can be called: something waits, and open spans and choices are those of the state
-pub record IsCallable {M W R D : Type 0} (class : ℕ → W) (state : StateRows W R D) (t : Seen M R D) : Type 0 where
+-- A state is called: something waits, and open spans and choices are those of the state
+pub record IsCalled {M W R D : Type 0} (class : ℕ → W) (state : StateRows W R D) (t : Seen M R D) : Type 0 where
   pub inside : t.configuration.position ≤ length t.text.seats
   pub fed : IsFed t.configuration.waiting t.configuration.position t.configuration.ended t.text
   pub in_order : IsInOrder t.configuration.waiting (sight_seen t)
   pub base : List EventName
   pub spans : IsOpen state base (began_at (class_of class (sight_seen t).current) state (sight_seen t)) t.text t.configuration t.choices
+
+-- once the byte that waits is consumed
+abbrev pub once_read : {M R D : Type 0} → Seen M R D → Seen M R D
+once_read t = at_configuration t (consumed t.configuration)
+
+-- the innermost spans may end under these names, one after another
+abbrev pub CanEnd : {M R D : Type 0} → List EventName → Seen M R D → Type 0
+CanEnd [] t = Unit {0}
+CanEnd (name ∷ names) t = CanExit name t × CanEnd names (at_configuration t (exited name (sight_seen t).after_previous t.configuration))
+
+-- what a state that is called begins with passes the test of acts
+abbrev pub are_allowed : {M W R D : Type 0} → (ℕ → W) → StateRows W R D → Seen M R D → List (Act R D) → Bool
+are_allowed class state t acts = allows_all acts (start_shape (class_of class (sight_seen t).previous) (class_of class (sight_seen t).current) state)
+
+-- A state can be called. What follows for its code from the spans that are open is said as code asks for it: a byte waits where the state
+-- needs one; once that is consumed, an exit stands where its end was seen; it can be a span of its own; and all spans of the state may end,
+-- before it or behind it, where the test allows that.
+pub record IsCallable {M W R D : Type 0} (class : ℕ → W) (state : StateRows W R D) (t : Seen M R D) : Type 0 where
+  pub called : IsCalled class state t
+  pub byte : state.needs_byte ≡ true → t.configuration.waiting ≡ Byte
+  pub stands : t.configuration.waiting ≡ Byte → (sight_seen (once_read t)).after_previous ≡ (sight_seen t).next
+  pub marks : t.configuration.waiting ≡ Byte → IsMarkable t
+  pub ends : are_allowed class state t (map exit (reverse state.spans)) ≡ true → CanEnd (reverse state.spans) t
+  pub ends_read : are_allowed class state t (consume ∷ map exit (reverse state.spans)) ≡ true → CanEnd (reverse state.spans) (once_read t)
 
 -- what a state does in a tokenizer
 abbrev pub step_in : {M W R D : Type 0} → (class : ℕ → W) → StateRows W R D → Seen M R D → Step R D

@@ -1,9 +1,10 @@
-use Rattle.std.proofs.Common.{false, refl, rules, sym, subst}
+use Rattle.std.proofs.Common.{refl, rules, sym, subst}
+use Rattle.mdtables.specs.RowInvariant.{begun}
 use Rattle.mdtables.proofs.RowCalls.{callable, never-called}
 use Rattle.mdconstructs.specs.Tables.{counts}
-use Rattle.mdconstructs.specs.Paragraphs.{paragraphs, flow_start, paragraph_line_start, paragraph_start, paragraph_inside, KnowsChunk}
+use Rattle.mdconstructs.specs.Paragraphs.{paragraphs, flow_start, paragraph_line_start, paragraph_start, paragraph_inside, CanLinkChunk}
 use Rattle.mdconstructs.specs.Reading.{data_start, data_inside}
-use Rattle.mdconstructs.specs.ParagraphsLaws.{known-before}
+use Rattle.mdconstructs.specs.ParagraphsLaws.{known-before, can-follow}
 use Rattle.mdconstructs.proofs.paragraphs.ParagraphsMachine.call.Goals as goal
 
 pub flow_start-requires : goal.flow_start-requires
@@ -15,8 +16,8 @@ paragraph_line_start-requires c = callable paragraphs counts c.args.name paragra
 pub paragraph_start-requires : goal.paragraph_start-requires
 paragraph_start-requires c = record {
   called = callable paragraphs counts c.args.name paragraph_start _ _ (search rules) refl c.requires.invariant.holds c.begin.ensures;
-  chunk = subst (λ t. KnowsChunk false t.configuration.events t.configuration.local) (sym c.begin.ensures)
-      (known-before c.args.t.now.configuration.events c.args.t.now.configuration.local c.args.t.now.choices c.args.name.number (search rules) c.requires.invariant.known);
+  chunk = subst CanLinkChunk (sym c.begin.ensures)
+      (can-follow (begun counts c.args.t.now) (known-before c.args.t.now.configuration.events c.args.t.now.configuration.local c.args.t.now.choices c.args.name.number (search rules) c.requires.invariant.known));
 }
 
 pub paragraph_inside-requires : goal.paragraph_inside-requires
