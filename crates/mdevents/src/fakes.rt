@@ -18,6 +18,7 @@ pub struct FailingReader<'a> {
 }
 
 impl<'a> FailingReader<'a> {
+    /// A reader of this text, whose first reads, so many, are good.
     pub fn new(rest: &'a [u8], good_reads: usize) -> FailingReader<'a> {
         FailingReader {
             rest,
@@ -49,6 +50,7 @@ pub struct FailingWriter {
 }
 
 impl FailingWriter {
+    /// A writer that takes at most so many bytes a write, and whose first writes, so many, are good.
     pub fn new(most: usize, good_writes: usize) -> FailingWriter {
         FailingWriter {
             written: Line::new(),
@@ -85,6 +87,7 @@ pub struct Line {
 }
 
 impl Line {
+    /// No text yet.
     pub fn new() -> Line {
         Line {
             bytes: [0; 400],
@@ -139,6 +142,7 @@ pub struct CalledWith<'a> {
 }
 
 impl<'a> CalledWith<'a> {
+    /// The program was called with these words, and has shown nothing.
     pub fn new(words: &'a [u8]) -> CalledWith<'a> {
         CalledWith {
             words,
