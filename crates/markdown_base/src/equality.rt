@@ -23,6 +23,11 @@ pub fn equal_points_and_links_are_one()
     ensures links { (a : _) (b : _) → (⟦<event::Link as PartialEq>⟧.eq a b ≡ true) ↔ (a ≡ b) }
 {}
 
+/// Events: equal ones are one.
+pub fn equal_events_are_one()
+    ensures { (a : _) (b : _) → (⟦<event::Event as PartialEq>⟧.eq a b ≡ true) ↔ (a ≡ b) }
+{}
+
 /// Points and positions of unist, and places: equal ones are one.
 pub fn equal_places_are_one()
     ensures points { (a : _) (b : _) → (⟦<unist::Point as PartialEq>⟧.eq a b ≡ true) ↔ (a ≡ b) }

@@ -1,0 +1,55 @@
+-- Lemmas on the equality of events.
+use Rattle.std.proofs.Common.{◌≡◌, ◌↔◌, ℕ, Bool, true, false, ◌&&◌, refl, sym, ap, ◌∙◌, subst, eqb-true, eq-eqb}
+use Rattle.std.specs.Prelude.{Option, Some, None, nat_eq}
+use Rattle.std.specs.Option.{option_eq}
+use Rattle.std.proofs.lemmas.Bool.{false≢true}
+use denote.Enum.Bare.{sameb, same_true, true_same}
+use Rattle.markdown_base.specs.contracts.event.Kind.{the_type as kinds}
+use Rattle.markdown_base.specs.contracts.event.Name.{the_type as names}
+use Rattle.markdown_base.specs.declared.event.Event.{Event}
+use Rattle.markdown_base.specs.declared.event.Link.{Link}
+
+-- a conjunction of seven, as the derive nests them
+abbrev all_seven : (k n l c i v o : Bool) → Bool
+all_seven k n l c i v o = k && (n && ((l && (c && (i && v))) && o))
+
+pieces : (k n l c i v o : Bool) → all_seven k n l c i v o ≡ true → (k ≡ true) × (n ≡ true) × (l ≡ true) × (c ≡ true) × (i ≡ true) × (v ≡ true) × (o ≡ true)
+pieces false n l c i v o h = absurd (false≢true h)
+pieces true false l c i v o h = absurd (false≢true h)
+pieces true true false c i v o h = absurd (false≢true h)
+pieces true true true false i v o h = absurd (false≢true h)
+pieces true true true true false v o h = absurd (false≢true h)
+pieces true true true true true false o h = absurd (false≢true h)
+pieces true true true true true true o h = (refl, refl, refl, refl, refl, refl, h)
+
+module _ (E : Link → Link → Bool) (link : (x y : Link) → (E x y ≡ true) ↔ (x ≡ y)) where
+  same-link : (x y : Option Link) → option_eq E x y ≡ true → x ≡ y
+  same-link None None h = refl
+  same-link None (Some y) h = absurd (false≢true h)
+  same-link (Some x) None h = absurd (false≢true h)
+  same-link (Some x) (Some y) h = ap (λ l. Some l) ((link x y).0 h)
+
+  self-link : (x : Option Link) → option_eq E x x ≡ true
+  self-link None = refl
+  self-link (Some x) = (link x x).1 refl
+
+  pub event-same : (a b : Event)
+      → (all_seven (sameb kinds a.kind b.kind) (sameb names a.name b.name) (nat_eq a.point.line b.point.line) (nat_eq a.point.column b.point.column) (nat_eq a.point.index b.point.index) (nat_eq a.point.vs b.point.vs) (option_eq E a.link b.link) ≡ true) ↔ (a ≡ b)
+  event-same a b = (forwards, backwards)
+    where
+      forwards : all_seven (sameb kinds a.kind b.kind) (sameb names a.name b.name) (nat_eq a.point.line b.point.line) (nat_eq a.point.column b.point.column) (nat_eq a.point.index b.point.index) (nat_eq a.point.vs b.point.vs) (option_eq E a.link b.link) ≡ true → a ≡ b
+      forwards h =
+          let f = pieces (sameb kinds a.kind b.kind) (sameb names a.name b.name) (nat_eq a.point.line b.point.line) (nat_eq a.point.column b.point.column) (nat_eq a.point.index b.point.index) (nat_eq a.point.vs b.point.vs) (option_eq E a.link b.link) h in
+          ap (λ k. record a { kind = k }) (same_true kinds tt a.kind b.kind f.0)
+          ∙ ap (λ n. record a { kind = b.kind; name = n }) (same_true names tt a.name b.name f.1)
+          ∙ ap (λ l. record b { point = record a.point { line = l }; link = a.link }) (eqb-true a.point.line b.point.line f.2)
+          ∙ ap (λ c. record b { point = record b.point { column = c; index = a.point.index; vs = a.point.vs }; link = a.link }) (eqb-true a.point.column b.point.column f.3)
+          ∙ ap (λ i. record b { point = record b.point { index = i; vs = a.point.vs }; link = a.link }) (eqb-true a.point.index b.point.index f.4)
+          ∙ ap (λ v. record b { point = record b.point { vs = v }; link = a.link }) (eqb-true a.point.vs b.point.vs f.5)
+          ∙ ap (λ l. record b { link = l }) (same-link a.link b.link f.6)
+
+      backwards : a ≡ b → all_seven (sameb kinds a.kind b.kind) (sameb names a.name b.name) (nat_eq a.point.line b.point.line) (nat_eq a.point.column b.point.column) (nat_eq a.point.index b.point.index) (nat_eq a.point.vs b.point.vs) (option_eq E a.link b.link) ≡ true
+      backwards e =
+          rw (true_same kinds a.kind b.kind (ap (λ (x : Event). x.kind) e), true_same names a.name b.name (ap (λ (x : Event). x.name) e), eq-eqb a.point.line b.point.line (ap (λ (x : Event). x.point.line) e),
+          eq-eqb a.point.column b.point.column (ap (λ (x : Event). x.point.column) e), eq-eqb a.point.index b.point.index (ap (λ (x : Event). x.point.index) e), eq-eqb a.point.vs b.point.vs (ap (λ (x : Event). x.point.vs) e))
+          (subst (λ o. option_eq E a.link o ≡ true) (ap (λ (x : Event). x.link) e) (self-link a.link))
