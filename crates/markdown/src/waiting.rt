@@ -35,7 +35,8 @@ pub enum Phase {
     Resolved,
 }
 
-/// What a choice goes on with.
+/// What a choice goes on with: of a state's answers those with which one can go on, and no others. Contracts see the answer
+/// (`state_of`).
 #[derive(Clone, Copy, Debug, PartialEq, Eq)]
 pub(crate) enum GoesOn {
     /// This state, with the next byte.
@@ -92,7 +93,8 @@ pub(crate) struct Progress {
     pub(crate) stack_len: usize,
 }
 
-/// A waiting choice.
+/// A waiting choice as the tokenizer keeps it. Contracts see the choice that it means (`choice_of`), which puts back a number
+/// of bytes read and a list of open spans, where this one keeps a place and a length of the stack.
 #[derive(Clone, Copy, Debug, PartialEq, Eq)]
 pub(crate) struct KeptChoice {
     pub(crate) kind: AttemptKind,
