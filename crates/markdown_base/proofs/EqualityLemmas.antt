@@ -50,6 +50,12 @@ module _ (E : Link → Link → Bool) (link : (x y : Link) → (E x y ≡ true) 
 
       backwards : a ≡ b → all_seven (sameb kinds a.kind b.kind) (sameb names a.name b.name) (nat_eq a.point.line b.point.line) (nat_eq a.point.column b.point.column) (nat_eq a.point.index b.point.index) (nat_eq a.point.vs b.point.vs) (option_eq E a.link b.link) ≡ true
       backwards e =
-          rw (true_same kinds a.kind b.kind (ap (λ (x : Event). x.kind) e), true_same names a.name b.name (ap (λ (x : Event). x.name) e), eq-eqb a.point.line b.point.line (ap (λ (x : Event). x.point.line) e),
-          eq-eqb a.point.column b.point.column (ap (λ (x : Event). x.point.column) e), eq-eqb a.point.index b.point.index (ap (λ (x : Event). x.point.index) e), eq-eqb a.point.vs b.point.vs (ap (λ (x : Event). x.point.vs) e))
+          rw (
+            true_same kinds a.kind b.kind (ap (λ (x : Event). x.kind) e),
+            true_same names a.name b.name (ap (λ (x : Event). x.name) e),
+            eq-eqb a.point.line b.point.line (ap (λ (x : Event). x.point.line) e),
+            eq-eqb a.point.column b.point.column (ap (λ (x : Event). x.point.column) e),
+            eq-eqb a.point.index b.point.index (ap (λ (x : Event). x.point.index) e),
+            eq-eqb a.point.vs b.point.vs (ap (λ (x : Event). x.point.vs) e),
+          )
           (subst (λ o. option_eq E a.link o ≡ true) (ap (λ (x : Event). x.link) e) (self-link a.link))
