@@ -6,6 +6,7 @@ pub mod DeepLaws
 pub mod Fail
 pub mod FailLaws
 pub mod Lines
+pub mod Misfits
 pub mod LinesLaws
 pub mod Paragraphs
 pub mod ParagraphsLaws

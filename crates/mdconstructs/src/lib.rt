@@ -7,6 +7,7 @@ pub mod costs;
 pub mod deep;
 pub mod fail;
 pub mod lines;
+pub mod misfits;
 pub mod paragraphs;
 pub mod peek;
 mod reading;
