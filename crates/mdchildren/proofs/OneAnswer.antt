@@ -5,7 +5,6 @@ use Rattle.markdown_base.specs.declared.event.Content.{Content}
 use Rattle.markdown_base.specs.declared.event.Event.{Event}
 use Rattle.markdown_base.specs.declared.message.Message.{Message}
 use Rattle.markdown_base.specs.declared.state.Name.{Name}
-use Rattle.markdown_base.specs.declared.state.State.{State}
 use Rattle.markdown_base.specs.declared.state.State.TheVariants.{Next, Ok, Error}
 use Rattle.markdown.specs.declared.subtokenize.Subresult.{Subresult}
 use Rattle.markdown.specs.Text.{Given, Text}
@@ -16,7 +15,7 @@ use Rattle.markdown.specs.Resolving.{Resolved, done, refused, resolving, IsResol
 use Rattle.markdown.proofs.Readings.{one-end}
 use Rattle.mdchildren.specs.Chains.{chain_of, fitting_starts}
 use Rattle.mdchildren.specs.Children.{with_children}
-use Rattle.mdchildren.specs.Reads.{IsAtFirstParagraph, text_of_chain, Child, lists, IsRead, IsChild, IsChildRefused, AreChildren, IsSubtokenized, IsSubtokenizeRefused, HasOneAnswer}
+use Rattle.mdchildren.specs.Reads.{IsAtFirstParagraph, text_of_chain, Child, lists, IsRead, IsChild, IsChildRefused, AreChildren, HasOneAnswer}
 
 same-flag : (a b : Bool) (P : Type 0) → (a ≡ true) ↔ P → (b ≡ true) ↔ P → a ≡ b
 same-flag true true P f h = refl
