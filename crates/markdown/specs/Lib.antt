@@ -6,6 +6,7 @@ pub mod Reading
 pub mod Resolving
 pub mod Rules
 pub mod Plain
+pub mod Registering
 pub mod Lawful
 pub mod Engine
 pub mod Fault

@@ -5,7 +5,8 @@ ghost use Rattle.std.specs.Borrow.{sem};
 ghost use Rattle.markdown.specs.declared.waiting.Phase.TheVariants.{Resolving, Resolved};
 ghost use Rattle.markdown.specs.Configuration.{at_configuration};
 ghost use Rattle.markdown.specs.Resolving.{edits_made, CanBeEdited};
-ghost use Rattle.markdown.specs.Calls.{with_resolvers, registered, registered_before};
+ghost use Rattle.markdown.specs.Calls.{with_resolvers};
+ghost use Rattle.markdown.specs.Registering.{with_resolver, with_resolver_before};
 
 use super::Tokenizer;
 use crate::state::MachineTypes;
@@ -19,7 +20,7 @@ impl<'a, M: MachineTypes> Tokenizer<'a, M> {
     ///
     /// A flush that resolves runs those that are registered once all was read. Where memory is refused, nothing changes.
     pub fn register_resolver(&mut self, name: M::Resolver) -> Result<(), AllocError>
-        ensures ok { OnOk result (self.new ≡ at_configuration self.old (with_resolvers self.old.configuration (registered M.Resolver.eq name self.old.configuration.local.resolvers))) }
+        ensures ok { OnOk result (self.new ≡ with_resolver M.Resolver.eq name self.old) }
         ensures err { OnErr result (self.new ≡ self.old) }
     {
         if self.resolvers.contains(&name) {
@@ -31,7 +32,7 @@ impl<'a, M: MachineTypes> Tokenizer<'a, M> {
 
     /// As `register_resolver`, in front of those that are there.
     pub fn register_resolver_before(&mut self, name: M::Resolver) -> Result<(), AllocError>
-        ensures ok { OnOk result (self.new ≡ at_configuration self.old (with_resolvers self.old.configuration (registered_before M.Resolver.eq name self.old.configuration.local.resolvers))) }
+        ensures ok { OnOk result (self.new ≡ with_resolver_before M.Resolver.eq name self.old) }
         ensures err { OnErr result (self.new ≡ self.old) }
     {
         if !self.resolvers.contains(&name) {
