@@ -32,7 +32,7 @@ use Rattle.markdown.specs.View.{TAB, seen, text_of, end_point, seats_between, po
 use Rattle.markdown.specs.Cursor.{IsPlace, IsSeatAt, is_after_pair}
 use Rattle.markdown.proofs.PlaceStanding.{shown-shown, place-of-point}
 use Rattle.markdown.proofs.PlaceOrder.{after-before}
-use Rattle.markdown.proofs.PlaceGaps.{same-not_before, other-before}
+use Rattle.markdown.proofs.PlaceGaps.{same-not_before, other-before, skips-earlier}
 use Rattle.markdown.proofs.PlaceCursors.{upto-order, upto-upto, same-upto}
 use Rattle.markdown.proofs.PlacePoints.{point_at-point, point_at-is}
 use Rattle.markdown.specs.Made.{IsMade}
@@ -98,7 +98,7 @@ module _ {M R D : Type 0} (t : Inside M R D) (sound : IsSound t) where
   end_in = end_point bytes_in t.end
 
   abbrev skips_in : List Point
-  skips_in = t.skips.items
+  skips_in = t.skips
 
   abbrev size_in : ℕ
   size_in = length (seats_between bytes_in skips_in t.start end_in)
@@ -229,6 +229,10 @@ module _ {M R D : Type 0} (t : Inside M R D) (sound : IsSound t) where
           let seats = passed-seats bytes_in skips_in t.start end_in q t.after_previous t.previous sound.skips sound.read (end-place-in t sound) passed-place starts-upto is.first is.line is.before is.other in
           rw o (ap (λ (xs : List Seat). record { start = t.start; seats = xs; end = q }) (sym seats))
 
+      -- the gaps so far are in earlier lines
+      pub passed-behind : AllByRecursion (λ (p : Point). p.line < q.line) skips_in
+      passed-behind = let l = is.line in subst (λ (k : ℕ). AllByRecursion (λ (p : Point). p.line < k) skips_in) (sym l) (skips-earlier TAB bytes_in four end_in (end-place-in t sound) is.first skips_in sound.skips)
+
       passed-later : is_upto TAB bytes_in end_in q ≡ true
       passed-later = upto-order TAB bytes_in end_in q (after-before end_in.index end_in.vs q.index q.vs is.before)
 
@@ -317,9 +321,9 @@ module _ {M R D : Type 0} (t : Inside M R D) (sound : IsSound t) where
             rw put (same-positions (position_from bytes_in added t.start) (position_from bytes_in skips_in t.start) t.stack.items (IsProgress t.phase bytes_in skips_in (text_of t) t.events.items t.stack.items t.closed)
             (λ p h. position-same p.after_previous p.previous h.read) (length t.events.items) (length t.stack.items) (reverse t.kept_choices.items) sound.kept_choices)
 
-      pub added-seen : (skips : Vec Point) (put : skips.items ≡ added) → seen (record t { skips = skips; end = (q.index, q.vs) }) ≡ extended (seen t) (followed_by (seen t).given (seen t).text (passed q))
+      pub added-seen : (skips : List Point) (put : skips ≡ added) → seen (record t { skips = skips; end = (q.index, q.vs) }) ≡ extended (seen t) (followed_by (seen t).given (seen t).text (passed q))
       added-seen skips put =
-          let text = added-text_seen skips.items put in let position = added-position skips.items put in let choices = added-choices skips.items put in
+          let text = added-text_seen skips put in let position = added-position skips put in let choices = added-choices skips put in
           rw (text, position, choices) refl
 
 pub same-some : {A : Type 0} {x y : A} → Some x ≡ Some y → x ≡ y
@@ -351,19 +355,19 @@ same-choices position a b P events stack (mark ∷ kept_choices) same h =
     ap (λ (c : Choice). c ∷ map (choice_of position a) kept_choices) first ∙ ap (λ (cs : List Choice). choice_of position b mark ∷ cs) others
 
 -- the code's place, from its list of gaps
-pub entered-here : {M R D : Type 0} (t : Inside M R D) (slice : List Point) (place here : Point) → slice ≡ t.skips.items → place ≡ standing slice t.after_previous t.waits
-    → here ≡ shown t.parse_state.now.bytes.now place → here ≡ shown t.parse_state.now.bytes.now (standing t.skips.items t.after_previous t.waits)
+pub entered-here : {M R D : Type 0} (t : Inside M R D) (slice : List Point) (place here : Point) → slice ≡ t.skips → place ≡ standing slice t.after_previous t.waits
+    → here ≡ shown t.parse_state.now.bytes.now place → here ≡ shown t.parse_state.now.bytes.now (standing t.skips t.after_previous t.waits)
 entered-here t slice place here e f g = g ∙ ap (shown t.parse_state.now.bytes.now) (f ∙ ap (λ (skips : List Point). standing skips t.after_previous t.waits) e)
 
 module _ {M R D : Type 0} (t : Inside M R D) (sound : IsSound t) where
   -- a span begins
-  module _ (name : Name) (link : Option Link) (here : Point) (is : here ≡ shown t.parse_state.now.bytes.now (standing t.skips.items t.after_previous t.waits)) (events : List Event) (stack : List Name)
+  module _ (name : Name) (link : Option Link) (here : Point) (is : here ≡ shown t.parse_state.now.bytes.now (standing t.skips t.after_previous t.waits)) (events : List Event) (stack : List Name)
       (put : events ≡ t.events.items ++ record { kind = Enter; name = name; point = here; link = link } ∷ []) (top : stack ≡ t.stack.items ++ name ∷ []) where
     abbrev left_in : Point
     left_in = shown t.parse_state.now.bytes.now t.after_previous
 
     abbrev bound_in : Point
-    bound_in = shown t.parse_state.now.bytes.now (standing t.skips.items t.after_previous t.waits)
+    bound_in = shown t.parse_state.now.bytes.now (standing t.skips t.after_previous t.waits)
 
     pub entered-made : t.phase ≡ Reading → IsMade t.parse_state.now.bytes.now events stack left_in bound_in
     entered-made reads =
@@ -375,10 +379,10 @@ module _ {M R D : Type 0} (t : Inside M R D) (sound : IsSound t) where
     entered-events : (n : ℕ) → n ≤ length t.events.items → take n events ≡ take n t.events.items
     entered-events n le = rw put (take-append-le n t.events.items (record { kind = Enter; name = name; point = here; link = link } ∷ []) le)
 
-    pub entered-kept_choices : AreNested (IsProgress t.phase t.parse_state.now.bytes.now t.skips.items (text_of t) events stack t.closed) (length events) (length stack) (reverse t.kept_choices.items)
+    pub entered-kept_choices : AreNested (IsProgress t.phase t.parse_state.now.bytes.now t.skips (text_of t) events stack t.closed) (length events) (length stack) (reverse t.kept_choices.items)
     entered-kept_choices =
-        let P = IsProgress t.phase t.parse_state.now.bytes.now t.skips.items (text_of t) t.events.items t.stack.items t.closed in
-        let Q = IsProgress t.phase t.parse_state.now.bytes.now t.skips.items (text_of t) events stack t.closed in
+        let P = IsProgress t.phase t.parse_state.now.bytes.now t.skips (text_of t) t.events.items t.stack.items t.closed in
+        let Q = IsProgress t.phase t.parse_state.now.bytes.now t.skips (text_of t) events stack t.closed in
         nested-wider Q (length t.events.items) (length t.stack.items) (length events) (length stack) (reverse t.kept_choices.items)
         (omega (arith, ap length put, length-append t.events.items (record { kind = Enter; name = name; point = here; link = link } ∷ [])))
         (omega (arith, ap length top, length-append t.stack.items (name ∷ [])))
@@ -386,9 +390,9 @@ module _ {M R D : Type 0} (t : Inside M R D) (sound : IsSound t) where
         (λ p a b h. let e = entered-events p.events_len a in let s = entered-front p.stack_len b in
         record { read = h.read; ended = h.ended; made = rw (e, s) h.made }) sound.kept_choices)
 
-    pub entered-choices : map (choice_of (position_from t.parse_state.now.bytes.now t.skips.items t.start) stack) (reverse t.kept_choices.items) ≡ map (choice_of (position_from t.parse_state.now.bytes.now t.skips.items t.start) t.stack.items) (reverse t.kept_choices.items)
+    pub entered-choices : map (choice_of (position_from t.parse_state.now.bytes.now t.skips t.start) stack) (reverse t.kept_choices.items) ≡ map (choice_of (position_from t.parse_state.now.bytes.now t.skips t.start) t.stack.items) (reverse t.kept_choices.items)
     entered-choices =
-        same-choices (position_from t.parse_state.now.bytes.now t.skips.items t.start) stack t.stack.items (IsProgress t.phase t.parse_state.now.bytes.now t.skips.items (text_of t) t.events.items t.stack.items t.closed)
+        same-choices (position_from t.parse_state.now.bytes.now t.skips t.start) stack t.stack.items (IsProgress t.phase t.parse_state.now.bytes.now t.skips (text_of t) t.events.items t.stack.items t.closed)
         (length t.events.items) (length t.stack.items) (reverse t.kept_choices.items) entered-front sound.kept_choices
 
     pub entered-at : here ≡ (sight (seen t).given (seen t).text (seen t).configuration).here
@@ -432,7 +436,7 @@ module _ {M R D : Type 0} (t : Inside M R D) (sound : IsSound t) (name : Name) (
   left_at = shown t.parse_state.now.bytes.now t.after_previous
 
   abbrev bound_at : Point
-  bound_at = shown t.parse_state.now.bytes.now (standing t.skips.items t.after_previous t.waits)
+  bound_at = shown t.parse_state.now.bytes.now (standing t.skips t.after_previous t.waits)
 
   pub exited-made : t.phase ≡ Reading → IsMade t.parse_state.now.bytes.now events stack left_at bound_at
   exited-made reads =
@@ -446,15 +450,15 @@ module _ {M R D : Type 0} (t : Inside M R D) (sound : IsSound t) (name : Name) (
   exited-events : (n : ℕ) → n ≤ length t.events.items → take n events ≡ take n t.events.items
   exited-events n le = rw put (take-append-le n t.events.items (record { kind = Exit; name = name; point = here; link = None } ∷ []) le)
 
-  exited-nested : AreNested (IsProgress t.phase t.parse_state.now.bytes.now t.skips.items (text_of t) t.events.items t.stack.items t.closed) (length t.events.items) (length t.stack.items - 1) (reverse t.kept_choices.items)
+  exited-nested : AreNested (IsProgress t.phase t.parse_state.now.bytes.now t.skips (text_of t) t.events.items t.stack.items t.closed) (length t.events.items) (length t.stack.items - 1) (reverse t.kept_choices.items)
   exited-nested =
-      nested-below (position_from t.parse_state.now.bytes.now t.skips.items t.start) t.stack.items (IsProgress t.phase t.parse_state.now.bytes.now t.skips.items (text_of t) t.events.items t.stack.items t.closed)
+      nested-below (position_from t.parse_state.now.bytes.now t.skips t.start) t.stack.items (IsProgress t.phase t.parse_state.now.bytes.now t.skips (text_of t) t.events.items t.stack.items t.closed)
       (length t.events.items) (reverse t.kept_choices.items) can.above sound.kept_choices
 
-  pub exited-kept_choices : AreNested (IsProgress t.phase t.parse_state.now.bytes.now t.skips.items (text_of t) events stack t.closed) (length events) (length stack) (reverse t.kept_choices.items)
+  pub exited-kept_choices : AreNested (IsProgress t.phase t.parse_state.now.bytes.now t.skips (text_of t) events stack t.closed) (length events) (length stack) (reverse t.kept_choices.items)
   exited-kept_choices =
-      let P = IsProgress t.phase t.parse_state.now.bytes.now t.skips.items (text_of t) t.events.items t.stack.items t.closed in
-      let Q = IsProgress t.phase t.parse_state.now.bytes.now t.skips.items (text_of t) events stack t.closed in
+      let P = IsProgress t.phase t.parse_state.now.bytes.now t.skips (text_of t) t.events.items t.stack.items t.closed in
+      let Q = IsProgress t.phase t.parse_state.now.bytes.now t.skips (text_of t) events stack t.closed in
       let m = length t.stack.items - 1 in
       nested-wider Q (length t.events.items) m (length events) (length stack) (reverse t.kept_choices.items)
       (omega (arith, ap length put, length-append t.events.items (record { kind = Exit; name = name; point = here; link = None } ∷ [])))
@@ -463,9 +467,9 @@ module _ {M R D : Type 0} (t : Inside M R D) (sound : IsSound t) (name : Name) (
       (λ p a b h. let e = exited-events p.events_len a in let s = exited-front p.stack_len b in
       record { read = h.read; ended = h.ended; made = rw (e, s) h.made }) exited-nested)
 
-  pub exited-choices : map (choice_of (position_from t.parse_state.now.bytes.now t.skips.items t.start) stack) (reverse t.kept_choices.items) ≡ map (choice_of (position_from t.parse_state.now.bytes.now t.skips.items t.start) t.stack.items) (reverse t.kept_choices.items)
+  pub exited-choices : map (choice_of (position_from t.parse_state.now.bytes.now t.skips t.start) stack) (reverse t.kept_choices.items) ≡ map (choice_of (position_from t.parse_state.now.bytes.now t.skips t.start) t.stack.items) (reverse t.kept_choices.items)
   exited-choices =
-      same-choices (position_from t.parse_state.now.bytes.now t.skips.items t.start) stack t.stack.items (IsProgress t.phase t.parse_state.now.bytes.now t.skips.items (text_of t) t.events.items t.stack.items t.closed)
+      same-choices (position_from t.parse_state.now.bytes.now t.skips t.start) stack t.stack.items (IsProgress t.phase t.parse_state.now.bytes.now t.skips (text_of t) t.events.items t.stack.items t.closed)
       (length t.events.items) (length t.stack.items - 1) (reverse t.kept_choices.items) exited-front exited-nested
 
   pub exited-at : here ≡ (sight (seen t).given (seen t).text (seen t).configuration).after_previous
@@ -519,17 +523,17 @@ module _ {M R D : Type 0} (t : Inside M R D) (sound : IsSound t) (previous next 
   same-length : length events ≡ length t.events.items
   same-length = sym (length-map events unlinked) ∙ ap length events-unlinked ∙ length-map t.events.items unlinked
 
-  pub linked-made : t.phase ≡ Reading → IsMade t.parse_state.now.bytes.now events t.stack.items (shown t.parse_state.now.bytes.now t.after_previous) (shown t.parse_state.now.bytes.now (standing t.skips.items t.after_previous t.waits))
+  pub linked-made : t.phase ≡ Reading → IsMade t.parse_state.now.bytes.now events t.stack.items (shown t.parse_state.now.bytes.now t.after_previous) (shown t.parse_state.now.bytes.now (standing t.skips t.after_previous t.waits))
   linked-made reads = made-linked t.events.items events (sym events-unlinked) t.parse_state.now.bytes.now t.stack.items (shown t.parse_state.now.bytes.now t.after_previous)
-      (shown t.parse_state.now.bytes.now (standing t.skips.items t.after_previous t.waits)) (sound.made reads)
+      (shown t.parse_state.now.bytes.now (standing t.skips t.after_previous t.waits)) (sound.made reads)
 
   front-kept : HasFrontUpToLinkEnds events t.events.items
   front-kept = ap (λ (xs : List Event). map unlinked xs) (take_all (length t.events.items) events (omega (arith, same-length))) ∙ events-unlinked
 
-  pub linked-kept_choices : AreNested (IsProgress t.phase t.parse_state.now.bytes.now t.skips.items (text_of t) events t.stack.items t.closed) (length events) (length t.stack.items) (reverse t.kept_choices.items)
+  pub linked-kept_choices : AreNested (IsProgress t.phase t.parse_state.now.bytes.now t.skips (text_of t) events t.stack.items t.closed) (length events) (length t.stack.items) (reverse t.kept_choices.items)
   linked-kept_choices =
-      let P = IsProgress t.phase t.parse_state.now.bytes.now t.skips.items (text_of t) t.events.items t.stack.items t.closed in
-      let Q = IsProgress t.phase t.parse_state.now.bytes.now t.skips.items (text_of t) events t.stack.items t.closed in
+      let P = IsProgress t.phase t.parse_state.now.bytes.now t.skips (text_of t) t.events.items t.stack.items t.closed in
+      let Q = IsProgress t.phase t.parse_state.now.bytes.now t.skips (text_of t) events t.stack.items t.closed in
       nested-wider Q (length t.events.items) (length t.stack.items) (length events) (length t.stack.items) (reverse t.kept_choices.items) (omega (arith, same-length)) (omega arith)
       (nested-map P Q (length t.events.items) (length t.stack.items) (reverse t.kept_choices.items)
       (λ p a b h. record {
@@ -537,5 +541,5 @@ module _ {M R D : Type 0} (t : Inside M R D) (sound : IsSound t) (previous next 
         ended = h.ended;
         made = λ reads. made-kept t.parse_state.now.bytes.now t.events.items events p.events_len (take p.stack_len t.stack.items)
             (shown t.parse_state.now.bytes.now p.after_previous)
-            (shown t.parse_state.now.bytes.now (reach t.skips.items p.after_previous (can_feed (position_from t.parse_state.now.bytes.now t.skips.items t.start p.after_previous) (length (text_of t).seats) t.closed))) a front-kept (h.made reads);
+            (shown t.parse_state.now.bytes.now (reach t.skips p.after_previous (can_feed (position_from t.parse_state.now.bytes.now t.skips t.start p.after_previous) (length (text_of t).seats) t.closed))) a front-kept (h.made reads);
       }) sound.kept_choices)

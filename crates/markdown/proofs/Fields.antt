@@ -344,7 +344,7 @@ module _ {M R D : Type 0} (t : Inside M R D) (sound : IsSound t) where
   pub closed-sound : IsSound (record t { closed = true })
   closed-sound =
       let bytes = t.parse_state.now.bytes.now in
-      let skips = t.skips.items in
+      let skips = t.skips in
       let text = text_of t in
       record {
         limit = sound.limit;

@@ -537,6 +537,14 @@ module _ (t : ℕ) (bytes : List ℕ) (d : 0 < t) where
         → (after_previous.line < e.line) ⊎ ((after_previous.line ≡ e.line) × (after_previous.column ≡ 1) × (denotes_same t bytes after_previous e ≡ true))
     after_previous-earlier after_previous place upto = after_previous-cases after_previous place (places-rise t bytes d after_previous e place at upto)
 
+    -- gaps that end up to there are in earlier lines
+    pub skips-earlier : (skips : List Point) → AllByRecursion (IsSkip t bytes e) skips → AllByRecursion (λ (p : Point). p.line < e.line) skips
+    skips-earlier skips are = every-map (IsSkip t bytes e) (λ (p : Point). p.line < e.line)
+        (λ p h. elim (after_previous-earlier p h.place h.upto) [
+          | inl l ↦ l
+          | inr r ↦ (let a = h.inside in let b = r.1 in absurd (omega arith))
+        ]) skips are
+
   -- a gap is added, from the beginning of the line where the text ends
   module _ (skips : List Point) (start e q : Point) (are : AllByRecursion (IsSkip t bytes e) skips) (at : IsPlace t bytes e) (to : IsPlace t bytes q)
       (first : e.column ≡ 1) (line : q.line ≡ e.line) (before : stands_before e q ≡ true) (other : denotes_same t bytes q e ≡ false) where

@@ -38,7 +38,7 @@ phase-sound t sound phase resolvers other closed =
       ended = sound.ended;
       reads = λ e. absurd (let f : true ≡ false = sym closed ∙ e in cc);
       made = λ e. absurd (other e);
-      kept_choices = nested-map (IsProgress t.phase bytes t.skips.items (text_of t) t.events.items t.stack.items t.closed) (IsProgress phase bytes t.skips.items (text_of t) t.events.items t.stack.items t.closed)
+      kept_choices = nested-map (IsProgress t.phase bytes t.skips (text_of t) t.events.items t.stack.items t.closed) (IsProgress phase bytes t.skips (text_of t) t.events.items t.stack.items t.closed)
           (length t.events.items) (length t.stack.items) (reverse t.kept_choices.items) (λ p a b h. record { read = h.read; ended = h.ended; made = λ e. absurd (other e) }) sound.kept_choices;
     }
 
@@ -63,8 +63,8 @@ events-sound t sound resolves alone edits events =
       ended = sound.ended;
       reads = sound.reads;
       made = λ e. absurd (let f : Resolving ≡ Reading = sym resolves ∙ e in cc);
-      kept_choices = nested-none (IsProgress t.phase bytes t.skips.items (text_of t) events.items t.stack.items t.closed) (length events.items) (length t.stack.items) (reverse t.kept_choices.items)
-          (none-of (choice_of (position_from bytes t.skips.items t.start) t.stack.items) (reverse t.kept_choices.items) alone);
+      kept_choices = nested-none (IsProgress t.phase bytes t.skips (text_of t) events.items t.stack.items t.closed) (length events.items) (length t.stack.items) (reverse t.kept_choices.items)
+          (none-of (choice_of (position_from bytes t.skips t.start) t.stack.items) (reverse t.kept_choices.items) alone);
     }
 
 module _ {R D : Type 0} (resolver : Sight → Configuration R D → R → Resolved R D) (g : Given) (text : Text) where

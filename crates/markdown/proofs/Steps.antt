@@ -44,7 +44,7 @@ module _ {M R D : Type 0} (t : Inside M R D) (sound : IsSound t) where
   end_in = end_point bytes_in t.end
 
   abbrev skips_in : List Point
-  skips_in = t.skips.items
+  skips_in = t.skips
 
   abbrev here_in : Point
   here_in = resumed skips_in t.after_previous
@@ -276,29 +276,29 @@ module _ {M R D : Type 0} (t : Inside M R D) (sound : IsSound t) where
   here-place = looks_in.place
 
   -- the code's place, from its list of gaps
-  pub at-here : (slice : List Point) (place : Point) → slice ≡ t.skips.items → place ≡ resumed slice t.after_previous → place ≡ here_in
+  pub at-here : (slice : List Point) (place : Point) → slice ≡ t.skips → place ≡ resumed slice t.after_previous → place ≡ here_in
   at-here slice place e f = f ∙ ap (λ (skips : List Point). resumed skips t.after_previous) e
 
-  pub within-at : (slice : List Point) (place : Point) → slice ≡ t.skips.items → place ≡ resumed slice t.after_previous → 0 < place.vs → place.index < length bytes_in
+  pub within-at : (slice : List Point) (place : Point) → slice ≡ t.skips → place ≡ resumed slice t.after_previous → 0 < place.vs → place.index < length bytes_in
   within-at slice place e f = let is = at-here slice place e f in rw is here-within
 
-  pub byte-at : (slice : List Point) (place : Point) (o : Option ℕ) → slice ≡ t.skips.items → place ≡ resumed slice t.after_previous → IsNextByte TAB bytes_in place t.end o → IsNextByte TAB bytes_in here_in t.end o
+  pub byte-at : (slice : List Point) (place : Point) (o : Option ℕ) → slice ≡ t.skips → place ≡ resumed slice t.after_previous → IsNextByte TAB bytes_in place t.end o → IsNextByte TAB bytes_in here_in t.end o
   byte-at slice place o e f h = subst (λ (p : Point). IsNextByte TAB bytes_in p t.end o) (at-here slice place e f) h
 
-  pub place-at : (slice : List Point) (place : Point) → slice ≡ t.skips.items → place ≡ resumed slice t.after_previous → IsPlace TAB bytes_in place
+  pub place-at : (slice : List Point) (place : Point) → slice ≡ t.skips → place ≡ resumed slice t.after_previous → IsPlace TAB bytes_in place
   place-at slice place e f = subst (IsPlace TAB bytes_in) (sym (at-here slice place e f)) here-place
 
-  pub seat-at : (slice : List Point) (place : Point) (seat : Seat) → slice ≡ t.skips.items → place ≡ resumed slice t.after_previous → IsSeatAt TAB bytes_in here_in seat → IsSeatAt TAB bytes_in place seat
+  pub seat-at : (slice : List Point) (place : Point) (seat : Seat) → slice ≡ t.skips → place ≡ resumed slice t.after_previous → IsSeatAt TAB bytes_in here_in seat → IsSeatAt TAB bytes_in place seat
   seat-at slice place seat e f h = subst (λ (p : Point). IsSeatAt TAB bytes_in p seat) (sym (at-here slice place e f)) h
 
-  pub point-byte-at : (slice : List Point) (place : Point) → slice ≡ t.skips.items → place ≡ resumed slice t.after_previous → t.waits ≡ Byte → (seat : Seat) → IsSeatAt TAB bytes_in place seat
+  pub point-byte-at : (slice : List Point) (place : Point) → slice ≡ t.skips → place ≡ resumed slice t.after_previous → t.waits ≡ Byte → (seat : Seat) → IsSeatAt TAB bytes_in place seat
       → seat.point ≡ (sight (seen t).given (seen t).text (seen t).configuration).point
   point-byte-at slice place e f w seat n = point-byte w seat (subst (λ (p : Point). IsSeatAt TAB bytes_in p seat) (at-here slice place e f) n)
 
-  pub byte-is-there-at : (slice : List Point) (place : Point) → slice ≡ t.skips.items → place ≡ resumed slice t.after_previous → t.waits ≡ Byte → rest_at TAB bytes_in place ≡ [] → ⊥
+  pub byte-is-there-at : (slice : List Point) (place : Point) → slice ≡ t.skips → place ≡ resumed slice t.after_previous → t.waits ≡ Byte → rest_at TAB bytes_in place ≡ [] → ⊥
   byte-is-there-at slice place e f w n = byte-is-there w (subst (λ (p : Point). rest_at TAB bytes_in p ≡ []) (at-here slice place e f) n)
 
-  pub point-end-at : (slice : List Point) (place : Point) → slice ≡ t.skips.items → place ≡ resumed slice t.after_previous → t.waits ≡ End
+  pub point-end-at : (slice : List Point) (place : Point) → slice ≡ t.skips → place ≡ resumed slice t.after_previous → t.waits ≡ End
       → record { line = place.line; column = place.column; index = t.end.0; vs = t.end.1 } ≡ (sight (seen t).given (seen t).text (seen t).configuration).point
   point-end-at slice place e f w =
       ap (λ (p : Point). record { line = p.line; column = p.column; index = t.end.0; vs = t.end.1 }) (at-here slice place e f) ∙ point-end w

@@ -1,5 +1,6 @@
 -- Gaps: beginnings of lines that are passed and never read. An inner file: no public clause names what stands here.
-use Rattle.std.specs.Prelude.{◌≡◌, ℕ, ◌<◌, ◌==◌, not, Bool, true, false, cond, List, Option, Some, None, find, filter, unwrap_or, ◌⊎◌}
+use Rattle.std.specs.List.{AllByRecursion}
+use Rattle.std.specs.Prelude.{◌≡◌, ℕ, ◌<◌, ◌==◌, not, Bool, true, false, cond, List, [], ◌∷◌, Option, Some, None, find, filter, unwrap_or, ◌⊎◌}
 use Rattle.markdown_base.specs.declared.event.Point.{Point}
 use Rattle.markdown_base.specs.Virtual.{Seat, virtual}
 use Rattle.markdown_base.specs.Places.{stands_before, is_upto}
@@ -9,6 +10,11 @@ use Rattle.markdown.specs.Cursor.{IsPlace}
 -- the place up to which the beginning of a line is passed, if it is
 abbrev pub skip_of : List Point → ℕ → Option Point
 skip_of skips line = find (λ p. p.line == line) skips
+
+-- the places stand in one line each, sorted by line
+abbrev pub AreSorted : List Point → Type 0
+AreSorted [] = Unit {0}
+AreSorted (p ∷ ps) = AllByRecursion (λ (q : Point). p.line < q.line) ps × AreSorted ps
 
 abbrev pub is_kept_by : Option Point → Seat → Bool
 is_kept_by None s = true

@@ -72,10 +72,10 @@ choice_of position stack mark = record { kind = mark.kind; ok = state_of mark.ok
 abbrev pub seen : {M R D : Type 0} → Inside M R D → Seen M R D
 seen t =
     let bytes = t.parse_state.now.bytes.now in
-    let position = position_from bytes t.skips.items t.start in record {
+    let position = position_from bytes t.skips t.start in record {
       given = record { bytes = bytes; options = t.parse_state.now.options.now; tab = TAB };
       machine = t.parse_state.now.machine.now;
-      text = record { start = t.start; seats = seats_between bytes t.skips.items t.start (end_point bytes t.end); end = end_point bytes t.end };
+      text = record { start = t.start; seats = seats_between bytes t.skips t.start (end_point bytes t.end); end = end_point bytes t.end };
       configuration = record {
         position = position t.after_previous;
         waiting = t.waits;
@@ -170,10 +170,10 @@ pub record IsSound {M R D : Type 0} (t : Inside M R D) : Type 0 where
   pub limit : 4 * length t.parse_state.now.bytes.now + 1 < 2 ^ 64
   pub end_at : point_at TAB t.parse_state.now.bytes.now t.end ≡ Some (text_of t).end
   pub text : IsText (seen t).given (text_of t)
-  pub skips : AllByRecursion (IsSkip TAB t.parse_state.now.bytes.now (text_of t).end) t.skips.items
-  pub read : IsReadTo t.parse_state.now.bytes.now t.skips.items (text_of t) t.after_previous t.previous
-  pub waiting : IsWhatWaits t.parse_state.now.bytes.now t.skips.items (text_of t) t.after_previous t.current t.closed t.waits
+  pub skips : AllByRecursion (IsSkip TAB t.parse_state.now.bytes.now (text_of t).end) t.skips
+  pub read : IsReadTo t.parse_state.now.bytes.now t.skips (text_of t) t.after_previous t.previous
+  pub waiting : IsWhatWaits t.parse_state.now.bytes.now t.skips (text_of t) t.after_previous t.current t.closed t.waits
   pub ended : t.ended ≡ true → t.closed ≡ true
   pub reads : t.closed ≡ false → t.phase ≡ Reading
-  pub made : t.phase ≡ Reading → IsMade t.parse_state.now.bytes.now t.events.items t.stack.items (shown t.parse_state.now.bytes.now t.after_previous) (shown t.parse_state.now.bytes.now (standing t.skips.items t.after_previous t.waits))
-  pub kept_choices : AreNested (IsProgress t.phase t.parse_state.now.bytes.now t.skips.items (text_of t) t.events.items t.stack.items t.closed) (length t.events.items) (length t.stack.items) (reverse t.kept_choices.items)
+  pub made : t.phase ≡ Reading → IsMade t.parse_state.now.bytes.now t.events.items t.stack.items (shown t.parse_state.now.bytes.now t.after_previous) (shown t.parse_state.now.bytes.now (standing t.skips t.after_previous t.waits))
+  pub kept_choices : AreNested (IsProgress t.phase t.parse_state.now.bytes.now t.skips (text_of t) t.events.items t.stack.items t.closed) (length t.events.items) (length t.stack.items) (reverse t.kept_choices.items)

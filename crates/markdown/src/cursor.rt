@@ -6,6 +6,7 @@ ghost use Rattle.markdown_base.specs.Places;
 ghost use Rattle.markdown_base.specs.Virtual.{Seat};
 ghost use Rattle.std.specs.Prelude.{◌≡◌, ◌==◌, ◌&&◌, ◌||◌, nat_lt, ◌+◌, ◌*◌, ◌^◌, ◌<◌, ◌≤◌, length, unwrap_or};
 
+use crate::skips::Skips;
 use markdown_base::event::Point;
 
 /// Tab stops stand at every so many columns.
@@ -60,27 +61,13 @@ pub(crate) fn next_byte(bytes: &[u8], point: Point, end: (usize, usize)) -> Opti
     }
 }
 
-/// Where the next byte is looked for from the beginning of a line on: after what is passed of it.
-#[cold]
-#[inline(never)]
-fn after_skip<'a>(skips: &'a Vec<Point>, place: &'a Point) -> &'a Point
-    ensures { result.now ≡ unwrap_or (skip_of skips.now.items place.now.line) place.now }
-{
-    for skip in skips {
-        if skip.line == place.line {
-            return skip;
-        }
-    }
-    place
-}
-
 /// Where the next byte is looked for: at the beginning of a line, after what is passed of it.
 #[inline(always)]
-pub(crate) fn resumed<'a>(skips: &'a Vec<Point>, place: &'a Point) -> &'a Point
-    ensures { result.now ≡ resumed skips.now.items place.now }
+pub(crate) fn resumed<'a>(skips: &'a Skips, place: &'a Point) -> &'a Point
+    ensures { result.now ≡ resumed skips.now place.now }
 {
     if !skips.is_empty() && place.column == 1 {
-        after_skip(skips, place)
+        skips.after(place)
     } else {
         place
     }
@@ -89,16 +76,16 @@ pub(crate) fn resumed<'a>(skips: &'a Vec<Point>, place: &'a Point) -> &'a Point
 /// Moves a place at the beginning of a line to after what is passed of it.
 #[cold]
 #[inline(never)]
-fn pass_skip(skips: &Vec<Point>, place: &mut Point)
-    ensures { place.new ≡ unwrap_or (skip_of skips.now.items place.old.line) place.old }
+fn pass_skip(skips: &Skips, place: &mut Point)
+    ensures { place.new ≡ unwrap_or (skip_of skips.now place.old.line) place.old }
 {
-    *place = *after_skip(skips, &*place);
+    *place = *skips.after(&*place);
 }
 
 /// Moves a place to where the next byte is looked for.
 #[inline(always)]
-pub(crate) fn resume(skips: &Vec<Point>, place: &mut Point)
-    ensures { place.new ≡ resumed skips.now.items place.old }
+pub(crate) fn resume(skips: &Skips, place: &mut Point)
+    ensures { place.new ≡ resumed skips.now place.old }
 {
     if !skips.is_empty() && place.column == 1 {
         pass_skip(skips, place);

@@ -8,6 +8,7 @@ use crate::count::Calls;
 use crate::cursor::{is_after, next_byte, pass, resume, resumed, shown};
 use crate::parser::ParseState;
 pub use crate::places::{cuts_every, point_at};
+use crate::skips::Skips;
 use crate::state::{self, MachineTypes, State};
 use crate::subtokenize::{self, Subresult};
 use crate::util::edit_map::EditMap;
@@ -194,8 +195,8 @@ pub struct Tokenizer<'a, M: MachineTypes> {
     start: Point,
     /// Where the text ends: byte index and number in a tab.
     end: (usize, usize),
-    /// Up to where lines are passed, one place for each line with a gap, in order.
-    skips: Vec<Point>,
+    /// Up to where lines are passed.
+    skips: Skips,
     /// The place after the byte before, or the start.
     after_previous: Point,
     /// What waits.
@@ -319,7 +320,7 @@ impl<'a, M: MachineTypes> Tokenizer<'a, M> {
         let stack = Vec::new(alloc);
         let resolvers = Vec::new(alloc);
         let kept_choices = Vec::new(alloc);
-        let skips = Vec::new(alloc);
+        let skips = Skips::new(alloc);
         let calls = Calls::new();
         Tokenizer {
             tokenize_state,

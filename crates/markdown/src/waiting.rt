@@ -1,6 +1,7 @@
 //! What waits in a tokenizer: a byte, the end, or choices.
 
 use crate::cursor::resumed;
+use crate::skips::Skips;
 use markdown_base::event::Point;
 use markdown_base::state::{Name, State};
 
@@ -131,8 +132,8 @@ ghost use Rattle.markdown.specs.View.{standing};
 ghost use Rattle.markdown.specs.Unwound.{unwound, ended_by, unwinding};
 
 /// Where an enter stands: after the byte before, or after what is passed of a line, once something waits there.
-pub(crate) fn standing(skips: &Vec<Point>, after_previous: Point, waits: Waits) -> Point
-    ensures { result ≡ standing skips.now.items after_previous waits }
+pub(crate) fn standing(skips: &Skips, after_previous: Point, waits: Waits) -> Point
+    ensures { result ≡ standing skips.now after_previous waits }
 {
     match waits {
         Waits::Nothing => after_previous,

@@ -1,4 +1,4 @@
-use Rattle.std.proofs.Common.{◌≢◌, ◌+◌, ℕ, [], length, get_or, refl}
+use Rattle.std.proofs.Common.{◌≢◌, ◌+◌, ◌∙◌, ℕ, [], Err, length, get_or, refl, sym, ap}
 use Rattle.std.specs.Prelude.{drop}
 use Rattle.markdown.specs.declared.tokenizer.Fault.TheVariants.{Failed}
 use Rattle.markdown.specs.Engine.{given_by}
@@ -71,7 +71,7 @@ returns-in_err-sub-clause-message g c =
     let e = run-pushed i.rules bytes options m c.args.start c.loop-cut.from (length bytes, 0) [] t c.loop-cut.state r u c.in_ok-state-2.state c.in_ok-state-2.ensures.ok in
     λ message is.
     let from = rw is at c.from_residual-in_err-sub.ensures.1 in
-    run-refused i.rules bytes options m c.args.start u c.in_ok-state-2.state e c.args.resolve c.flush.new.self message (c.in_err-sub.ensures.message message (cc))
+    run-refused i.rules bytes options m c.args.start u c.in_ok-state-2.state e c.args.resolve c.flush.new.self message (c.in_err-sub.ensures.message message (ap Err (sym from)))
 
 pub returns-in_err-sub-clause-err : goal.returns-in_err-sub-clause-err
 returns-in_err-sub-clause-err g c =
@@ -81,7 +81,7 @@ returns-in_err-sub-clause-err g c =
     let r = run-last i.rules bytes options m c.args.start c.loop-cut.from (drop c.loop-cut.cut-index c.args.cuts.now) t c.loop-cut.state c.loop-cut.invariant in
     let u = c.push-2.new.self in
     let e = run-pushed i.rules bytes options m c.args.start c.loop-cut.from (length bytes, 0) [] t c.loop-cut.state r u c.in_ok-state-2.state c.in_ok-state-2.ensures.ok in
-    err-if c.from_residual-in_err-sub.result _ (λ fault. fault ≢ Failed) (λ fault is failed. c.in_err-sub.ensures.err e.open_still (cc)) c.from_residual-in_err-sub.ensures.1
+    err-if c.from_residual-in_err-sub.result _ (λ fault. fault ≢ Failed) (λ fault is failed. c.in_err-sub.ensures.err e.open_still (sym is ∙ failed)) c.from_residual-in_err-sub.ensures.1
 
 pub returns-clause-ok : goal.returns-clause-ok
 returns-clause-ok g c =

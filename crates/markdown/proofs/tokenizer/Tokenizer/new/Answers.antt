@@ -12,7 +12,7 @@ invariant_of-result g c =
     let events = c.new-events.ensures.items in
     let stack = c.new-stack.ensures.items in
     let kept_choices = c.new-kept_choices.ensures.items in
-    let skips = c.new-skips.ensures.items in
+    let skips = c.new-skips.ensures in
     record {
       limit = c.requires.limit;
       reads = λ _. refl;
@@ -36,7 +36,7 @@ returns g c =
     let stack = c.new-stack.ensures.items in
     let resolvers = c.new-resolvers.ensures.items in
     let kept_choices = c.new-kept_choices.ensures.items in
-    let skips = c.new-skips.ensures.items in
+    let skips = c.new-skips.ensures in
     let map = c.new-map.ensures in
     let state = c.new-tokenize_state.ensures in
     let calls = c.new-calls.ensures in
