@@ -13,6 +13,8 @@ ghost use Rattle.std.specs.Process.{exit_status};
 ghost use Rattle.mdevents.specs.Program.{PrintsChosen};
 ghost use Rattle.mdevents.specs.Words.{CanCut};
 
+#[cfg(test)]
+mod every_cut;
 mod failure;
 #[cfg(test)]
 mod fakes;

@@ -20,16 +20,16 @@ use std::test::Fail;
 /// What was seen as a document was read: the byte before, the number of calls and the number of events, after each push;
 /// the number of calls in all; and the events.
 #[derive(Drop)]
-struct Seen {
+pub(crate) struct Seen {
     previous: Vec<Option<u8>>,
     calls: Vec<usize>,
     counts: Vec<usize>,
-    all: usize,
-    events: Vec<Event>,
+    pub(crate) all: usize,
+    pub(crate) events: Vec<Event>,
 }
 
 /// Reads a document, cut at these places: pushes one range up to each, and one up to the end, and flushes.
-fn read<M: Machine>(
+pub(crate) fn read<M: Machine>(
     alloc: Global,
     parse_state: &ParseState<M>,
     start: Name,
