@@ -1,7 +1,7 @@
 -- A run over the whole document: where it begins and ends, and what it leads on to at each cut.
 use Rattle.std.specs.List.{AllByRecursion}
 use Rattle.std.proofs.Common.{◌≡◌, ◌≢◌, ◌+◌, ◌≤◌, ◌<◌, ◌==◌, ◌-◌, ◌*◌, ◌^◌, ℕ, zero, suc, List, [], ◌∷◌, ◌++◌, Bool, true, false, cond, Some, length, ◌⊎◌, inl, inr, refl, sym, ap, ◌∙◌, arith, subst}
-use Rattle.std.specs.Prelude.{filter, find, slice_index, nat_lt, ◌&&◌, ◌||◌, drop, get_or, Contains, Result, IsErrAnd, IfErr}
+use Rattle.std.specs.Prelude.{All, filter, find, slice_index, nat_lt, ◌&&◌, ◌||◌, drop, get_or, Contains, Result, IsErrAnd, IfErr}
 use Rattle.std.specs.declared.result.Result.TheVariants as result
 use Rattle.std.specs.List.{flat_map}
 use Rattle.std.proofs.lemmas.Bool.Decides.{nat_tests}
@@ -184,9 +184,9 @@ drop-get [] n d lt = absurd (omega arith)
 drop-get (y ∷ ys) zero d lt = refl
 drop-get (y ∷ ys) (suc n) d lt = drop-get ys n d (omega arith)
 
-pub start-is-text : (bytes : List ℕ) (options : ParseOptions) → 4 * length bytes + 1 < 2 ^ 64 → IsText (given_by 4 bytes options) (empty_text (point 1 1 0 0))
-start-is-text bytes options limit = record {
-  document = record { tab = (omega arith, omega arith); limit = limit };
+pub start-is-text : (bytes : List ℕ) (options : ParseOptions) → All (λ b. b < 256) bytes → 4 * length bytes + 1 < 2 ^ 64 → IsText (given_by 4 bytes options) (empty_text (point 1 1 0 0))
+start-is-text bytes options below limit = record {
+  document = record { bytes = below; tab = (omega arith, omega arith); limit = limit };
   starts = start-is-point (given_by 4 bytes options) refl;
   pieces = [];
   follow = tt;
@@ -221,12 +221,12 @@ module _ {M R D : Type 0} (rules : M → Given → Rules R D) where
   abbrev PushedBy : M → Given → Seen M R D → ℕ × ℕ → ℕ × ℕ → State → Seen M R D → State → Type 0
   PushedBy m given t from to state u answer = IsPushed (rules m given) t from to state u answer
 
-  pub run-start : (bytes : List ℕ) (options : ParseOptions) (m : M) → 4 * length bytes + 1 < 2 ^ 64 → (let given = given_by 4 bytes options in KeepsInvariant given (rules m given))
+  pub run-start : (bytes : List ℕ) (options : ParseOptions) (m : M) → All (λ b. b < 256) bytes → 4 * length bytes + 1 < 2 ^ 64 → (let given = given_by 4 bytes options in KeepsInvariant given (rules m given))
       → (start : Name) → Contains (rules m (given_by 4 bytes options)).starts start → (cuts : List (ℕ × ℕ)) → AreCuts 4 bytes cuts → (t : Seen M R D) → t ≡ StartsWith bytes options m
       → RunsBy bytes options m start (0, 0) cuts t (Next start)
-  run-start bytes options m limit keeps start among cuts order t e =
+  run-start bytes options m below limit keeps start among cuts order t e =
       let given = given_by 4 bytes options in
-      let text = start-is-text bytes options limit in
+      let text = start-is-text bytes options below limit in
       let p = point 1 1 0 0 in
       rw e (record {
         same_given = refl;

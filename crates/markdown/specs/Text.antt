@@ -1,5 +1,5 @@
 -- The text of a tokenizer: the virtual bytes of the ranges that were pushed, in order.
-use Rattle.std.specs.Prelude.{◌≡◌, ℕ, ◌+◌, ◌*◌, ◌^◌, ◌<◌, ◌≤◌, ◌&&◌, not, Bool, true, cond, List, [], ◌∷◌, ◌++◌, ◌⊎◌, filter, length}
+use Rattle.std.specs.Prelude.{◌≡◌, ℕ, ◌+◌, ◌*◌, ◌^◌, ◌<◌, ◌≤◌, ◌&&◌, not, Bool, true, cond, List, [], ◌∷◌, ◌++◌, ◌⊎◌, filter, length, All}
 use Rattle.markdown_base.specs.declared.event.Point.{Point}
 use Rattle.markdown_base.specs.declared.configuration.ParseOptions.{ParseOptions}
 use Rattle.markdown_base.specs.Virtual.{Seat, virtual}
@@ -50,8 +50,10 @@ abbrev pub CanFollow : Given → Text → List Piece → Type 0
 CanFollow g text [] = Unit {0}
 CanFollow g text (piece ∷ rest) = FitsAfter g text piece × CanFollow g (followed_by g text piece) rest
 
--- A document that there can be: tab stops stand at every 1 to 16 columns, and its virtual columns can be counted
+-- A document that there can be: its bytes are below 256, tab stops stand at every 1 to 16 columns, and its virtual columns can be
+-- counted
 pub record IsDocument (g : Given) : Type 0 where
+  pub bytes : All (λ b. b < 256) g.bytes
   pub tab : (1 ≤ g.tab) × (g.tab ≤ 16)
   pub limit : g.tab * length g.bytes + 1 < 2 ^ 64
 

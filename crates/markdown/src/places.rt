@@ -2,7 +2,7 @@
 
 ghost use Rattle.markdown.specs.Cuts;
 ghost use Rattle.markdown_base.specs.Places;
-ghost use Rattle.std.specs.Prelude.{◌==◌, ◌≡◌, ◌&&◌, ◌+◌, ◌*◌, ◌^◌, ◌<◌, IfOk, length};
+ghost use Rattle.std.specs.Prelude.{◌==◌, ◌≡◌, ◌&&◌, ◌+◌, ◌*◌, ◌^◌, ◌<◌, All, IfOk, length};
 
 use crate::cursor::{pass, seat_at, shown};
 use markdown_base::event::Point;
@@ -15,6 +15,11 @@ const START: Point = Point {
     index: 0,
     vs: 0,
 };
+
+/// A document's bytes are below 256: a law, told by their type.
+pub fn bytes_are_below_256(bytes: &[u8])
+    ensures { All (λ b. b < 256) bytes.now }
+{}
 
 /// A point is at a place, given by byte index and number in a tab.
 fn is_at(point: Point, place: (usize, usize)) -> bool

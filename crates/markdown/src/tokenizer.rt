@@ -7,6 +7,7 @@ mod resolving;
 use crate::count::Calls;
 use crate::cursor::{is_after, next_byte, pass, resume, resumed, shown};
 use crate::parser::ParseState;
+use crate::places::bytes_are_below_256;
 pub use crate::places::{cuts_every, point_at};
 use crate::skips::Skips;
 use crate::state::{self, MachineTypes, State};
@@ -235,7 +236,7 @@ impl<'a, M: MachineTypes> Model for Tokenizer<'a, M> {
     ghost invariant = { IsSound };
 }
 
-ghost use Rattle.std.specs.Prelude.{◌≡◌, ◌≢◌, ◌+◌, ◌-◌, ◌*◌, ◌^◌, ◌++◌, ◌∷◌, ◌<◌, ◌≤◌, [], List, false, true, length, IfOk, OnOk, OnErr, None, Some, IsTrue};
+ghost use Rattle.std.specs.Prelude.{◌≡◌, ◌≢◌, ◌+◌, ◌-◌, ◌*◌, ◌^◌, ◌++◌, ◌∷◌, ◌<◌, ◌≤◌, [], List, All, false, true, length, IfOk, OnOk, OnErr, None, Some, IsTrue};
 ghost use Rattle.std.specs.Bool.{OnTrue, OnFalse};
 ghost use Rattle.markdown_base.specs.Places.{IsPointOf};
 ghost use Rattle.markdown.specs.Text.{FitsAfter, followed_by, pushed, passed, empty_text};
@@ -308,12 +309,15 @@ fn link_items(events: &mut Vec<Event>, previous: usize, next: usize)
 impl<'a, M: MachineTypes> Tokenizer<'a, M> {
     /// A tokenizer that has read nothing, from this place of the document on. Takes no memory.
     ///
-    /// The point is that of a place; four times the document's length, and one more, fits `usize`.
+    /// The point is that of a place; four times the document's length, and one more, fits `usize`. That the document's bytes are
+    /// below 256 is said for callers: what they read is a document that there can be.
     pub fn new(alloc: Global, point: Point, parse_state: &'a ParseState<'a, M>) -> Self
         requires place { IsPointOf 4 parse_state.now.bytes.now point }
         requires limit { 4 * length parse_state.now.bytes.now + 1 < 2 ^ 64 }
-        ensures { result ≡ start_seen (given_of 4 parse_state.now) parse_state.now.machine.now (empty_text point) }
+        ensures start { result ≡ start_seen (given_of 4 parse_state.now) parse_state.now.machine.now (empty_text point) }
+        ensures bytes { All (λ b. b < 256) parse_state.now.bytes.now }
     {
+        bytes_are_below_256(parse_state.bytes);
         let tokenize_state = TokenizeState::new(alloc);
         let map = EditMap::new(alloc);
         let events = Vec::new(alloc);

@@ -1,6 +1,6 @@
 -- The reading of a chain of a ready list: from its first chunk on, along its links.
 use Rattle.std.proofs.Common.{◌≡◌, ◌≢◌, ◌+◌, ◌*◌, ◌^◌, ◌<◌, ℕ, length, List, [], ◌∷◌, Option, Some, None, Bool, true, false, refl, sym, ap, ◌∙◌, subst, arith}
-use Rattle.std.specs.Prelude.{Contains, ◌↔◌}
+use Rattle.std.specs.Prelude.{All, Contains, ◌↔◌}
 use Rattle.std.proofs.lemmas.Option.{none-some}
 use Rattle.markdown_base.specs.declared.configuration.ParseOptions.{ParseOptions}
 use Rattle.markdown_base.specs.declared.event.Content.{Content}
@@ -92,15 +92,15 @@ module _ {M R D : Type 0} (rules : M → Given → Rules R D) (m : M) (bytes : L
   chain-within b = inside 4 bytes wanted events ready c (begins-fits 4 bytes wanted events ready c b)
 
   -- at the first chunk
-  pub chain-first : begins wanted events c ≡ true → 4 * length bytes + 1 < 2 ^ 64 → KeepsInvariant g (rules m g) → Contains (rules m g).starts start
+  pub chain-first : begins wanted events c ≡ true → All (λ b. b < 256) bytes → 4 * length bytes + 1 < 2 ^ 64 → KeepsInvariant g (rules m g) → Contains (rules m g).starts start
       → (flag : Bool) → ((flag ≡ true) ↔ IsAtFirstParagraph events c options.constructs) → (t : Seen M R D) → t ≡ flagged g m (place_at events c) flag → On c t (Next start)
-  chain-first b limit keeps among flag paragraph t e =
+  chain-first b below limit keeps among flag paragraph t e =
       let h = begins-fits 4 bytes wanted events ready c b in
       let w = whole-from 4 bytes wanted events ready c h in
       let left = pushed (place_at events c) (place_at events (c + 1)) ∷ pieces_behind events w.0 in
       let can : CanFollow g (empty_text (place_at events c)) left = subst (λ ks. CanFollow g (empty_text (place_at events c)) (pieces_of events ks)) w.1 (chunks_can_be_read 4 bytes options wanted events ready c b) in
       let whole : followed_by_all g (empty_text (place_at events c)) left ≡ text_of_chain g events (chain_of events c) = ap (text_of_chain g events) (sym w.1) in
-      let text : IsText g (empty_text (place_at events c)) = record { document = record { tab = (omega arith, omega arith); limit = limit }; starts = (ready.readable c h).from.0; pieces = []; follow = tt; is = refl } in
+      let text : IsText g (empty_text (place_at events c)) = record { document = record { bytes = below; tab = (omega arith, omega arith); limit = limit }; starts = (ready.readable c h).from.0; pieces = []; follow = tt; is = refl } in
       record {
         flag = flag;
         paragraph = paragraph;

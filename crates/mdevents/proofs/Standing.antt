@@ -1,6 +1,6 @@
 -- An open tokenizer, from its start over ranges and gaps.
 use Rattle.std.proofs.Common.{◌≡◌, ◌+◌, ◌*◌, ◌^◌, ◌<◌, ◌⊎◌, inl, inr, ℕ, length, List, [], ◌∷◌, Option, Some, None, Bool, true, false, cond, drop, get_or, refl, sym, ap, ◌∙◌, subst}
-use Rattle.std.specs.Prelude.{Contains}
+use Rattle.std.specs.Prelude.{All, Contains}
 use Rattle.std.proofs.lemmas.List.{drop_more}
 use Rattle.markdown_base.specs.declared.configuration.ParseOptions.{ParseOptions}
 use Rattle.markdown_base.specs.declared.event.Point.{Point}
@@ -46,12 +46,12 @@ module _ {M R D : Type 0} (rules : M → Given → Rules R D) where
     pub rest : FollowOn bytes place ranges
 
   -- a new tokenizer stands at the document's start
-  stands-first : (bytes : List ℕ) (options : ParseOptions) (m : M) → 4 * length bytes + 1 < 2 ^ 64 → KeepsInvariant (given_by 4 bytes options) (rules m (given_by 4 bytes options))
+  stands-first : (bytes : List ℕ) (options : ParseOptions) (m : M) → All (λ b. b < 256) bytes → 4 * length bytes + 1 < 2 ^ 64 → KeepsInvariant (given_by 4 bytes options) (rules m (given_by 4 bytes options))
       → (start : Name) → Contains (rules m (given_by 4 bytes options)).starts start → (t : Seen M R D) → t ≡ start_seen (given_by 4 bytes options) m (empty_text (point 1 1 0 0)) → Stands bytes (point 1 1 0 0) t (Next start)
-  stands-first bytes options m limit keeps start starts_so t e =
+  stands-first bytes options m below limit keeps start starts_so t e =
       let given = given_by 4 bytes options in
       let p = point 1 1 0 0 in
-      let text = start-is-text bytes options limit in
+      let text = start-is-text bytes options below limit in
       rw e (record {
         options = options;
         given = refl;
@@ -60,12 +60,12 @@ module _ {M R D : Type 0} (rules : M → Given → Rules R D) where
       })
 
   -- a new tokenizer has all ranges to come
-  pub reads-all : (bytes : List ℕ) (options : ParseOptions) (m : M) → 4 * length bytes + 1 < 2 ^ 64 → KeepsInvariant (given_by 4 bytes options) (rules m (given_by 4 bytes options))
+  pub reads-all : (bytes : List ℕ) (options : ParseOptions) (m : M) → All (λ b. b < 256) bytes → 4 * length bytes + 1 < 2 ^ 64 → KeepsInvariant (given_by 4 bytes options) (rules m (given_by 4 bytes options))
       → (start : Name) → Contains (rules m (given_by 4 bytes options)).starts start → (ranges : List AfterGap) → FollowOn bytes (point 1 1 0 0) ranges
       → (t : Seen M R D) → t ≡ start_seen (given_by 4 bytes options) m (empty_text (point 1 1 0 0)) → Reads bytes ranges t (Next start)
-  reads-all bytes options m limit keeps start starts_so ranges rest t e = record {
+  reads-all bytes options m below limit keeps start starts_so ranges rest t e = record {
     place = point 1 1 0 0;
-    stands = stands-first bytes options m limit keeps start starts_so t e;
+    stands = stands-first bytes options m below limit keeps start starts_so t e;
     rest = rest;
   }
 

@@ -12,8 +12,8 @@ pub loop-cut-init : goal.loop-cut-init
 loop-cut-init g c =
     let i = g.M.Machine in
     let bytes = c.args.parse_state.now.bytes.now in let options = c.args.parse_state.now.options.now in let m = c.args.parse_state.now.machine.now in
-    run-start i.rules bytes options m c.requires.limit (g.met.M.Machine.invariant_kept m (given_by 4 bytes options)) c.args.start c.requires.start c.args.cuts.now c.requires.cuts
-    c.new-tokenizer.result c.new-tokenizer.ensures
+    run-start i.rules bytes options m c.new-tokenizer.ensures.bytes c.requires.limit (g.met.M.Machine.invariant_kept m (given_by 4 bytes options)) c.args.start c.requires.start c.args.cuts.now c.requires.cuts
+    c.new-tokenizer.result c.new-tokenizer.ensures.start
 
 pub push-requires-clause-range : goal.push-requires-clause-range
 push-requires-clause-range g c =

@@ -28,8 +28,8 @@ push-requires-clause-range g c =
     let p = c.args.parse_state.now in
     let given = given_by 4 p.bytes.now p.options.now in
     let t = c.set_first_paragraph.new.t in
-    let e = c.set_first_paragraph.ensures ∙ ap (with_flag c.at_first_paragraph_of_list_item-first.result) (c.new-tokenizer.ensures ∙ ap (λ (q : Point). start_seen given p.machine.now (empty_text q)) c.place_at-place.ensures) in
-    let s = chain-first g.M.Machine.rules p.machine.now p.bytes.now p.options.now c.args.filter c.args.events.now c.requires.ready c.args.index c.in-Some.start c.requires.begins c.requires.limit
+    let e = c.set_first_paragraph.ensures ∙ ap (with_flag c.at_first_paragraph_of_list_item-first.result) (c.new-tokenizer.ensures.start ∙ ap (λ (q : Point). start_seen given p.machine.now (empty_text q)) c.place_at-place.ensures) in
+    let s = chain-first g.M.Machine.rules p.machine.now p.bytes.now p.options.now c.args.filter c.args.events.now c.requires.ready c.args.index c.in-Some.start c.requires.begins c.new-tokenizer.ensures.bytes c.requires.limit
     (g.met.M.Machine.invariant_kept p.machine.now given) (c.requires.starts c.args.index c.in-Some.start c.requires.begins (sym c.start_at.ensures ∙ c.in-Some.is)) c.at_first_paragraph_of_list_item-first.result c.at_first_paragraph_of_list_item-first.ensures t e in
     λ _. subst (λ (r : (ℕ × ℕ) × (ℕ × ℕ)). CanPush t.given t.text r.0 r.1) (sym c.range_of.ensures)
     (on-range g.M.Machine.rules p.machine.now p.bytes.now p.options.now c.args.filter c.args.events.now c.requires.ready c.args.index c.in-Some.start c.args.index t _ s)
@@ -46,8 +46,8 @@ push-requires-clause-holds g c =
     let p = c.args.parse_state.now in
     let given = given_by 4 p.bytes.now p.options.now in
     let t = c.set_first_paragraph.new.t in
-    let e = c.set_first_paragraph.ensures ∙ ap (with_flag c.at_first_paragraph_of_list_item-first.result) (c.new-tokenizer.ensures ∙ ap (λ (q : Point). start_seen given p.machine.now (empty_text q)) c.place_at-place.ensures) in
-    let s = chain-first g.M.Machine.rules p.machine.now p.bytes.now p.options.now c.args.filter c.args.events.now c.requires.ready c.args.index c.in-Some.start c.requires.begins c.requires.limit
+    let e = c.set_first_paragraph.ensures ∙ ap (with_flag c.at_first_paragraph_of_list_item-first.result) (c.new-tokenizer.ensures.start ∙ ap (λ (q : Point). start_seen given p.machine.now (empty_text q)) c.place_at-place.ensures) in
+    let s = chain-first g.M.Machine.rules p.machine.now p.bytes.now p.options.now c.args.filter c.args.events.now c.requires.ready c.args.index c.in-Some.start c.requires.begins c.new-tokenizer.ensures.bytes c.requires.limit
     (g.met.M.Machine.invariant_kept p.machine.now given) (c.requires.starts c.args.index c.in-Some.start c.requires.begins (sym c.start_at.ensures ∙ c.in-Some.is)) c.at_first_paragraph_of_list_item-first.result c.at_first_paragraph_of_list_item-first.ensures t e in
     λ _. on-holds g.M.Machine.rules p.machine.now p.bytes.now p.options.now c.args.filter c.args.events.now c.requires.ready c.args.index c.in-Some.start c.args.index t _ s
 
@@ -56,8 +56,8 @@ loop-next-init g c =
     let p = c.args.parse_state.now in
     let given = given_by 4 p.bytes.now p.options.now in
     let t = c.set_first_paragraph.new.t in
-    let e = c.set_first_paragraph.ensures ∙ ap (with_flag c.at_first_paragraph_of_list_item-first.result) (c.new-tokenizer.ensures ∙ ap (λ (q : Point). start_seen given p.machine.now (empty_text q)) c.place_at-place.ensures) in
-    let s = chain-first g.M.Machine.rules p.machine.now p.bytes.now p.options.now c.args.filter c.args.events.now c.requires.ready c.args.index c.in-Some.start c.requires.begins c.requires.limit
+    let e = c.set_first_paragraph.ensures ∙ ap (with_flag c.at_first_paragraph_of_list_item-first.result) (c.new-tokenizer.ensures.start ∙ ap (λ (q : Point). start_seen given p.machine.now (empty_text q)) c.place_at-place.ensures) in
+    let s = chain-first g.M.Machine.rules p.machine.now p.bytes.now p.options.now c.args.filter c.args.events.now c.requires.ready c.args.index c.in-Some.start c.requires.begins c.new-tokenizer.ensures.bytes c.requires.limit
     (g.met.M.Machine.invariant_kept p.machine.now given) (c.requires.starts c.args.index c.in-Some.start c.requires.begins (sym c.start_at.ensures ∙ c.in-Some.is)) c.at_first_paragraph_of_list_item-first.result c.at_first_paragraph_of_list_item-first.ensures t e in
     let h = subst (λ (r : (ℕ × ℕ) × (ℕ × ℕ)). IsPushed (g.M.Machine.rules t.machine t.given) t r.0 r.1 (Next c.in-Some.start) c.push.new.self c.in_ok-state.state) c.range_of.ensures c.in_ok-state.ensures.ok in
     (c.in-Some.start, (sym c.start_at.ensures ∙ c.in-Some.is), on-pushed g.M.Machine.rules p.machine.now p.bytes.now p.options.now c.args.filter c.args.events.now c.requires.ready c.args.index c.in-Some.start c.args.index t (Next c.in-Some.start) s c.push.new.self c.in_ok-state.state h)

@@ -13,8 +13,8 @@ pub loop-gap-init : goal.loop-gap-init
 loop-gap-init g c =
     let i = g.M.Machine in
     let bytes = c.args.parse_state.now.bytes.now in let options = c.args.parse_state.now.options.now in let m = c.args.parse_state.now.machine.now in
-    reads-all i.rules bytes options m c.requires.limit (g.met.M.Machine.invariant_kept m (given_by 4 bytes options)) c.args.start c.requires.start c.args.ranges.now c.requires.ranges
-    c.new-tokenizer.result c.new-tokenizer.ensures
+    reads-all i.rules bytes options m c.new-tokenizer.ensures.bytes c.requires.limit (g.met.M.Machine.invariant_kept m (given_by 4 bytes options)) c.args.start c.requires.start c.args.ranges.now c.requires.ranges
+    c.new-tokenizer.result c.new-tokenizer.ensures.start
 
 pub define_skip-requires : goal.define_skip-requires
 define_skip-requires g c =

@@ -12,7 +12,7 @@ push-requires-clause-range g c =
     let i = g.M.Machine in
     let bytes = c.args.parse_state.now.bytes.now in let options = c.args.parse_state.now.options.now in let m = c.args.parse_state.now.machine.now in
     let t = c.new-tokenizer.result in let s = Next c.args.start in
-    let r = run-start i.rules bytes options m c.requires.limit (g.met.M.Machine.invariant_kept m (given_by 4 bytes options)) c.args.start c.requires.start (c.args.cut ∷ []) c.requires.cut t c.new-tokenizer.ensures in
+    let r = run-start i.rules bytes options m c.new-tokenizer.ensures.bytes c.requires.limit (g.met.M.Machine.invariant_kept m (given_by 4 bytes options)) c.args.start c.requires.start (c.args.cut ∷ []) c.requires.cut t c.new-tokenizer.ensures.start in
     λ _. run-range i.rules bytes options m c.args.start (0, 0) c.args.cut [] t s r
 
 pub push-requires-clause-holds : goal.push-requires-clause-holds
@@ -20,7 +20,7 @@ push-requires-clause-holds g c =
     let i = g.M.Machine in
     let bytes = c.args.parse_state.now.bytes.now in let options = c.args.parse_state.now.options.now in let m = c.args.parse_state.now.machine.now in
     let t = c.new-tokenizer.result in let s = Next c.args.start in
-    let r = run-start i.rules bytes options m c.requires.limit (g.met.M.Machine.invariant_kept m (given_by 4 bytes options)) c.args.start c.requires.start (c.args.cut ∷ []) c.requires.cut t c.new-tokenizer.ensures in
+    let r = run-start i.rules bytes options m c.new-tokenizer.ensures.bytes c.requires.limit (g.met.M.Machine.invariant_kept m (given_by 4 bytes options)) c.args.start c.requires.start (c.args.cut ∷ []) c.requires.cut t c.new-tokenizer.ensures.start in
     λ _. run-holds i.rules bytes options m c.args.start (0, 0) (c.args.cut ∷ []) t s r
 
 pub push-requires-2-clause-range : goal.push-requires-2-clause-range
@@ -28,7 +28,7 @@ push-requires-2-clause-range g c =
     let i = g.M.Machine in
     let bytes = c.args.parse_state.now.bytes.now in let options = c.args.parse_state.now.options.now in let m = c.args.parse_state.now.machine.now in
     let t = c.new-tokenizer.result in let s = Next c.args.start in let cut = c.args.cut in
-    let r = run-start i.rules bytes options m c.requires.limit (g.met.M.Machine.invariant_kept m (given_by 4 bytes options)) c.args.start c.requires.start (cut ∷ []) c.requires.cut t c.new-tokenizer.ensures in
+    let r = run-start i.rules bytes options m c.new-tokenizer.ensures.bytes c.requires.limit (g.met.M.Machine.invariant_kept m (given_by 4 bytes options)) c.args.start c.requires.start (cut ∷ []) c.requires.cut t c.new-tokenizer.ensures.start in
     let u = c.push.new.self in let a = c.in-Ok.state in
     let q = run-pushed i.rules bytes options m c.args.start (0, 0) cut [] t s r u a c.in-Ok.ensures.ok in
     λ _. run-range i.rules bytes options m c.args.start cut (length bytes, 0) [] u a (run-last i.rules bytes options m c.args.start cut [] u a q)
@@ -38,7 +38,7 @@ push-requires-2-clause-holds g c =
     let i = g.M.Machine in
     let bytes = c.args.parse_state.now.bytes.now in let options = c.args.parse_state.now.options.now in let m = c.args.parse_state.now.machine.now in
     let t = c.new-tokenizer.result in let s = Next c.args.start in let cut = c.args.cut in
-    let r = run-start i.rules bytes options m c.requires.limit (g.met.M.Machine.invariant_kept m (given_by 4 bytes options)) c.args.start c.requires.start (cut ∷ []) c.requires.cut t c.new-tokenizer.ensures in
+    let r = run-start i.rules bytes options m c.new-tokenizer.ensures.bytes c.requires.limit (g.met.M.Machine.invariant_kept m (given_by 4 bytes options)) c.args.start c.requires.start (cut ∷ []) c.requires.cut t c.new-tokenizer.ensures.start in
     let u = c.push.new.self in let a = c.in-Ok.state in
     let q = run-pushed i.rules bytes options m c.args.start (0, 0) cut [] t s r u a c.in-Ok.ensures.ok in
     λ _. subst (HoldsOf (i.rules u.machine u.given) u) (sym c.in_ok-try_clone.ensures.equal) (run-holds i.rules bytes options m c.args.start cut [] u a q)
@@ -48,7 +48,7 @@ flush-flushed-requires g c =
     let i = g.M.Machine in
     let bytes = c.args.parse_state.now.bytes.now in let options = c.args.parse_state.now.options.now in let m = c.args.parse_state.now.machine.now in
     let t = c.new-tokenizer.result in let s = Next c.args.start in let cut = c.args.cut in
-    let r = run-start i.rules bytes options m c.requires.limit (g.met.M.Machine.invariant_kept m (given_by 4 bytes options)) c.args.start c.requires.start (cut ∷ []) c.requires.cut t c.new-tokenizer.ensures in
+    let r = run-start i.rules bytes options m c.new-tokenizer.ensures.bytes c.requires.limit (g.met.M.Machine.invariant_kept m (given_by 4 bytes options)) c.args.start c.requires.start (cut ∷ []) c.requires.cut t c.new-tokenizer.ensures.start in
     let u = c.push.new.self in let a = c.in-Ok.state in
     let q = run-pushed i.rules bytes options m c.args.start (0, 0) cut [] t s r u a c.in-Ok.ensures.ok in
     let a' = c.in_ok-try_clone.field-0 in

@@ -17,7 +17,7 @@ invariant_of-result g c =
       limit = c.requires.limit;
       reads = λ _. refl;
       end_at = rw here (start-found bytes p c.requires.place);
-      text = rw (skips, here, none) (start-text bytes p c.requires.place c.args.parse_state.now.options.now (record { tab = (omega arith, omega arith); limit = c.requires.limit }));
+      text = rw (skips, here, none) (start-text bytes p c.requires.place c.args.parse_state.now.options.now (record { bytes = c.bytes_are_below_256.ensures; tab = (omega arith, omega arith); limit = c.requires.limit }));
       skips = rw skips tt;
       read = rw (skips, here) (read-start bytes p c.requires.place);
       waiting = refl;
@@ -26,8 +26,8 @@ invariant_of-result g c =
       kept_choices = rw kept_choices tt;
     }
 
-pub returns : goal.returns
-returns g c =
+pub returns-clause-start : goal.returns-clause-start
+returns-clause-start g c =
     let bytes = c.args.parse_state.now.bytes.now in
     let p = c.args.point in
     let here = start-end bytes p c.requires.place in

@@ -1,0 +1,8 @@
+use Rattle.markdown.proofs.Resolvers.{events-sound}
+use Rattle.markdown.proofs.tokenizer.Tokenizer.events_mut.Goals as goal
+
+pub invariant_of-self-lent : goal.invariant_of-self-lent
+invariant_of-self-lent g c =
+    let resolves = rw (← c.self.view_is) at c.requires.resolving in
+    let alone = rw (← c.self.view_is) at c.requires.alone in
+    λ w. events-sound c.self.inside c.self.invariant resolves alone c.self.inside.map w
