@@ -1,6 +1,7 @@
 //! Edits of small lists, with answers worked by hand.
 
-ghost use Rattle.std.specs.Prelude.{◌≡◌, None, IfSome};
+ghost use Rattle.markdown_base.specs.Events.{EndsBelow};
+ghost use Rattle.std.specs.Prelude.{◌≡◌, ◌*◌, ◌^◌, ◌<◌, length, All, None, IfOk, IfSome};
 
 use markdown::event::{Content, Event, Kind, Link, Name, Point};
 use markdown::util::edit_map::EditMap;
@@ -216,5 +217,64 @@ fn thousand_edits_are_made(rt: HostRuntime) {
     assert!(rt; events.len() == 3000);
     for (index, event) in events.iter().enumerate() {
         assert!(rt; event.point.column == [91, 92, 1][index % 3]);
+    }
+}
+
+/// The enter of the span before span k.
+fn enter_before(k: usize) -> Option<usize>
+    requires { 2 * k < 2 ^ 64 }
+    ensures { IfSome result (λ p. p < 2 * k) }
+{
+    if k > 0 { Some(2 * k - 2) } else { None }
+}
+
+/// The enter of the span behind span k, of so many.
+fn enter_behind(k: usize, count: usize) -> Option<usize>
+    requires fits { 2 * count < 2 ^ 64 }
+    requires inside { k < count }
+    ensures { IfSome result (λ n. n < 2 * count) }
+{
+    if k + 1 < count { Some(2 * k + 2) } else { None }
+}
+
+/// The spans of a chain, one behind the other: event 2 k enters span k, and is linked to the enters beside it.
+fn chain(alloc: Global, count: usize) -> Result<Vec<Event>, AllocError>
+    requires { 2 * count < 2 ^ 64 }
+    ensures len { IfOk result (λ v. length v.items ≡ 2 * count) }
+    ensures ends { IfOk result (λ v. All (EndsBelow (2 * count)) v.items) }
+{
+    let mut events = Vec::new(alloc);
+    for k in 0..count {
+        events.push(linked(enter_before(k), enter_behind(k, count)))?;
+        events.push(event_at(2))?;
+    }
+    Ok(events)
+}
+
+/// Two events are added in front of each span of a chain of a hundred, the last span first.
+fn chain_edited(alloc: Global) -> Result<Vec<Event>, AllocError> {
+    let mut events = chain(alloc, 100)?;
+    let mut map = EditMap::new(alloc);
+    for step in 0..100 {
+        let k = 99 - step;
+        map.add(2 * k, 0, vec![in alloc; event_at(91), event_at(92)]?)?;
+    }
+    map.consume(&mut events)?;
+    Ok(events)
+}
+
+#[test]
+fn edits_from_the_last_to_the_first_are_made(rt: HostRuntime) {
+    let events = chain_edited(rt.alloc()).expect(&rt, "memory");
+    assert!(rt; events.len() == 400);
+    for (index, event) in events.iter().enumerate() {
+        assert!(rt; event.point.column == [91, 92, 1, 2][index % 4]);
+        if index % 4 == 2 {
+            let previous = index.checked_sub(4);
+            let next = index.checked_add(4).filter(|next| *next < 400);
+            assert!(rt; event.link == linked(previous, next).link);
+        } else {
+            assert!(rt; event.link.is_none());
+        }
     }
 }
