@@ -56,7 +56,7 @@ fn read_cut_once<M: Machine>(
 }
 
 /// Whether a point stands before another one.
-fn stands_before(point: Point, other: Point) -> bool
+pub(crate) fn stands_before(point: Point, other: Point) -> bool
     ensures { result ≡ stands_before point other }
 {
     point.index < other.index || point.index == other.index && point.vs < other.vs

@@ -1,16 +1,18 @@
 //! The tokenizer, driven over ranges and gaps.
 
-ghost use Rattle.std.specs.Prelude.{◌+◌, ◌*◌, ◌^◌, ◌<◌, length, Contains};
+ghost use Rattle.std.specs.Prelude.{◌≡◌, ◌+◌, ◌*◌, ◌^◌, ◌<◌, true, length, Contains, IfSome};
 ghost use Rattle.markdown_base.specs.Virtual.{point};
 ghost use Rattle.markdown.specs.Engine.{given_of};
-ghost use Rattle.mdevents.specs.Ranges.{FollowOn};
+ghost use Rattle.mdevents.specs.Ranges.{FollowOn, IsGapFrom, LeadsFrom, after_any};
+ghost use Rattle.markdown_base.specs.Places.{denotes_same};
 
+use crate::every_cut::stands_before;
 use crate::print::printed;
 use markdown::configuration::ParseOptions;
 use markdown::event::{Event, Point};
 use markdown::parser::ParseState;
 use markdown::state::{Machine, Name, State};
-use markdown::tokenizer::Tokenizer;
+use markdown::tokenizer::{Tokenizer, point_at};
 use mdconstructs::deep::Deep;
 use mdconstructs::lines::Lines;
 use mdconstructs::peek::Peek;
@@ -67,6 +69,58 @@ fn read_ranges<M: Machine>(
         all: tokenizer.tokenize_state.size,
         events: tokenizer.into_events(),
     })
+}
+
+/// Whether ranges follow on a text that ends at a place: each after its gap, which passes the beginning of a line, if it has one.
+fn follow_on(bytes: &[u8], end: Point, ranges: &[AfterGap]) -> bool
+    requires limit { 4 * length bytes.now + 1 < 2 ^ 64 }
+    ensures { result ≡ true → FollowOn bytes.now end ranges.now }
+{
+    let Some((range, rest)) = ranges.split_first() else {
+        return true;
+    };
+    let Some(start) = start_after(bytes, end, range.0) else {
+        return false;
+    };
+    let Some(from) = point_at(bytes, range.1) else {
+        return false;
+    };
+    let Some(to) = point_at(bytes, range.2) else {
+        return false;
+    };
+    if stands_before(from, start) || stands_before(start, from) || stands_before(to, from) {
+        return false;
+    }
+    follow_on(bytes, to, rest)
+}
+
+/// Where what follows on a text begins that ends at a place: after the gap, if there is one that passes the beginning of a line.
+fn start_after(bytes: &[u8], end: Point, gap: Option<Point>) -> Option<Point>
+    requires limit { 4 * length bytes.now + 1 < 2 ^ 64 }
+    ensures leads { IfSome result (λ _. LeadsFrom bytes.now end gap) }
+    ensures start { IfSome result (λ start. denotes_same 4 bytes.now start (after_any bytes.now end gap) ≡ true) }
+{
+    match gap {
+        None => Some(end),
+        Some(place) => {
+            if passes_beginning(bytes, end, place) {
+                Some(place)
+            } else {
+                None
+            }
+        }
+    }
+}
+
+/// Whether a place comes later in the line that begins at another one.
+fn passes_beginning(bytes: &[u8], beginning: Point, place: Point) -> bool
+    requires limit { 4 * length bytes.now + 1 < 2 ^ 64 }
+    ensures { result ≡ true → IsGapFrom bytes.now beginning place }
+{
+    point_at(bytes, (place.index, place.vs)) == Some(place)
+        && beginning.column == 1
+        && place.line == beginning.line
+        && stands_before(beginning, place)
 }
 
 #[test]
@@ -195,6 +249,60 @@ fn gaps_that_pass_nothing_change_nothing(rt: HostRuntime) -> Result<(), Fail> {
     assert_eq!(rt;
         text.as_str(),
         "enter Data 1:1 (0+0)\nexit Data 1:2 (1+0)\nenter LineEnding 1:2 (1+0)\nexit LineEnding 2:1 (2+0)\nenter Data 2:1 (2+0)\nexit Data 2:3 (4+0)\n"
+    );
+    Ok(())
+}
+
+/// The line of this number is `> a`, ended by LF if it is not the last, and its `> ` is passed.
+fn line_after_gap(number: usize, last: bool) -> AfterGap
+    requires { number < 50 }
+{
+    let index = 4 * number + 2;
+    let gap = Point {
+        line: number + 1,
+        column: 3,
+        index,
+        vs: 0,
+    };
+    let size = if last { 1 } else { 2 };
+    (Some(gap), (index, 0), (index + size, 0))
+}
+
+/// Each of fifty lines begins with a gap.
+#[test]
+fn each_line_begins_with_a_gap(rt: HostRuntime) -> Result<(), Fail> {
+    let mut document = Vec::new(rt.alloc());
+    let mut ranges = Vec::new(rt.alloc());
+    for number in 0..50 {
+        document.extend_from_slice(b"> a")?;
+        if number < 49 {
+            document.push(b'\n')?;
+        }
+        ranges.push(line_after_gap(number, number == 49))?;
+    }
+    let bytes = document.as_slice();
+    let start = Point {
+        line: 1,
+        column: 1,
+        index: 0,
+        vs: 0,
+    };
+    assert!(rt; bytes.len() == 199);
+    assert!(rt; follow_on(bytes, start, ranges.as_slice()));
+    let options = ParseOptions::default();
+    let parse_state = ParseState {
+        bytes,
+        options: &options,
+        machine: &Peek {},
+    };
+    let seen = read_ranges(rt.alloc(), &parse_state, Name::TextStart, ranges.as_slice())?;
+    assert_eq!(rt; seen.events.len(), 198);
+    let text = printed(rt.alloc(), seen.events.as_slice())?;
+    assert_eq!(rt; text.as_str().matches("enter Data ").count(), 50);
+    assert_eq!(rt; text.as_str().matches("enter LineEnding ").count(), 49);
+    assert!(rt;
+        text.as_str()
+            .ends_with("enter Data 50:3 (198+0)\nexit Data 50:4 (199+0)\n")
     );
     Ok(())
 }
