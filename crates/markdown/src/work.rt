@@ -1,13 +1,14 @@
 //! The work of a tokenizer: states are called until a range is used up, or until the reading has ended.
 
-ghost use Rattle.std.specs.Prelude.{◌≡◌, ◌≢◌, ◌+◌, ◌*◌, ◌^◌, ◌≤◌, ◌<◌, Contains, length, List, [], ◌∷◌, Option, false, true, IfOk, IfErr, IsErrOf, IsTrue};
+ghost use Rattle.std.specs.Prelude.{◌≡◌, ◌≢◌, ◌+◌, ◌*◌, ◌^◌, ◌≤◌, ◌<◌, All, Contains, length, List, [], ◌∷◌, Option, false, true, IfOk, IfErr, IsErrOf, IsTrue};
 ghost use Rattle.markdown.specs.declared.waiting.Waits.TheVariants.{Nothing, End};
 ghost use Rattle.markdown.specs.declared.waiting.Phase.TheVariants.{Resolving, Resolved};
 ghost use Rattle.markdown.specs.declared.subtokenize.Subresult.{Subresult};
-ghost use Rattle.markdown.specs.Configuration.{at_configuration};
+ghost use Rattle.markdown_base.specs.Virtual.{point};
+ghost use Rattle.markdown.specs.Configuration.{at_configuration, start_seen};
 ghost use Rattle.markdown.specs.Calls.{with_resolvers};
 ghost use Rattle.markdown.specs.Resolving.{done, refused, with_more};
-ghost use Rattle.markdown.specs.Text.{IsText};
+ghost use Rattle.markdown.specs.Text.{IsText, empty_text};
 ghost use Rattle.markdown.specs.Sight.{sight_seen};
 ghost use Rattle.markdown.specs.Lawful.{IsCalled};
 ghost use Rattle.markdown.specs.Engine.{HoldsOf, CanPush, IsPushed, IsFlushed, IsRefused, HasOneEnd, AreCuts, IsRun, IsRunRefused, given_of};
@@ -52,6 +53,27 @@ pub fn run<M: Machine>(
         vs: 0,
     };
     let mut tokenizer = Tokenizer::new(alloc, point, parse_state);
+    let sub = read_cut(&mut tokenizer, parse_state, start, cuts, resolve)?;
+    Ok((tokenizer.into_events(), sub))
+}
+
+/// A tokenizer that has read nothing pushes one range up to each cut, and one up to the end, and flushes.
+fn read_cut<M: Machine>(
+    tokenizer: &mut Tokenizer<M>,
+    parse_state: &ParseState<M>,
+    start: Name,
+    cuts: &[(usize, usize)],
+    resolve: bool,
+) -> Result<Subresult, Fault>
+    requires begins { tokenizer.old ≡ start_seen (given_of 4 parse_state.now) parse_state.now.machine.now (empty_text (point 1 1 0 0)) }
+    requires bytes { All (λ b. b < 256) parse_state.now.bytes.now }
+    requires limit { 4 * length parse_state.now.bytes.now + 1 < 2 ^ 64 }
+    requires start { Contains (M.rules parse_state.now.machine.now (given_of 4 parse_state.now)).starts start }
+    requires cuts { AreCuts 4 parse_state.now.bytes.now cuts.now }
+    ensures ok { IfOk result (λ sub. IsRun (given_of 4 parse_state.now) (M.rules parse_state.now.machine.now) resolve start tokenizer.new.configuration.events sub) }
+    ensures message { (m : _) → IsErrOf result (Fault.Message m) → IsRunRefused (given_of 4 parse_state.now) (M.rules parse_state.now.machine.now) resolve start m }
+    ensures err { IfErr result (λ fault. fault ≢ Fault.Failed) }
+{
     let mut state = State::Next(start);
     let mut from = (0, 0);
     for cut in cuts {
@@ -60,8 +82,7 @@ pub fn run<M: Machine>(
     }
     let end = (parse_state.bytes.len(), 0);
     let state = tokenizer.push(from, end, state)?;
-    let sub = tokenizer.flush(state, resolve)?;
-    Ok((tokenizer.into_events(), sub))
+    tokenizer.flush(state, resolve)
 }
 
 impl<'a, M: Machine> Tokenizer<'a, M> {

@@ -1,6 +1,6 @@
 use Rattle.std.specs.Prelude.{drop}
 use Rattle.markdown.proofs.Runs.{RunsBy}
-use Rattle.markdown.proofs.work.run.Given as goal
+use Rattle.markdown.proofs.work.read_cut.Given as goal
 
 abbrev pub invariant-loop-cut : goal.invariant-loop-cut
 invariant-loop-cut g l =
