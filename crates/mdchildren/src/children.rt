@@ -1,8 +1,10 @@
 //! The children of chains: each is read from the text of its chain's chunks.
 
-ghost use Rattle.std.specs.Prelude.{◌≡◌, ◌+◌, ◌*◌, ◌^◌, ◌<◌, ◌++◌, [], ℕ, true, length, IfOk, IfErr, OnOk};
+ghost use Rattle.std.specs.Prelude.{◌≡◌, ◌+◌, ◌*◌, ◌^◌, ◌<◌, ◌++◌, [], ℕ, true, length, Some, All, IfOk, IfErr, OnOk};
 ghost use Rattle.std.specs.List.{AllByRecursion};
 ghost use Rattle.markdown_base.specs.Events.{IsBalanced};
+ghost use Rattle.markdown.specs.Text.{empty_text};
+ghost use Rattle.markdown.specs.Configuration.{start_seen};
 ghost use Rattle.markdown.specs.Engine.{given_of};
 ghost use Rattle.mdchildren.specs.Chains.{chain_of, begins};
 ghost use Rattle.mdchildren.specs.Ready.{IsReady, place_at};
@@ -109,8 +111,34 @@ fn read_child<M: Machine>(
     };
     let place = place_at(events, index);
     let mut tokenizer = Tokenizer::new(alloc, place, parse_state);
+    let sub = read_chunks(&mut tokenizer, events, index, parse_state, filter, start)?;
+    Ok((tokenizer.into_events(), sub))
+}
+
+/// A tokenizer that has read nothing reads the chain that begins at `index`: its chunks are pushed, the gaps between them
+/// passed, and the end is fed.
+fn read_chunks<M: Machine>(
+    tokenizer: &mut Tokenizer<M>,
+    events: &[Event],
+    index: usize,
+    parse_state: &ParseState<M>,
+    filter: Option<Content>,
+    start: Name,
+) -> Result<Subresult, Fault>
+    requires new { let p = parse_state.now in tokenizer.old ≡ start_seen (given_of 4 p) p.machine.now (empty_text (place_at events.now index)) }
+    requires bytes { All (λ b. b < 256) parse_state.now.bytes.now }
+    requires limit { 4 * length parse_state.now.bytes.now + 1 < 2 ^ 64 }
+    requires ready { IsReady 4 parse_state.now.bytes.now filter events.now }
+    requires begins { begins filter events.now index ≡ true }
+    requires start { start_at events.now index ≡ Some start }
+    requires starts { let p = parse_state.now in StartAmong (M.rules p.machine.now (given_of 4 p)).starts filter events.now }
+    ensures ok { let p = parse_state.now in IfOk result (λ sub. IsChild (given_of 4 p) (M.rules p.machine.now) events.now index (record { events = tokenizer.new.configuration.events; found = sub })) }
+    ensures balanced { OnOk result (IsBalanced tokenizer.new.configuration.events) }
+    ensures ends { OnOk result (HasEndsWithin tokenizer.new.configuration.events) }
+    ensures err { let p = parse_state.now in IfErr result (IsChildFault (given_of 4 p) (M.rules p.machine.now) events.now index) }
+{
     let first = at_first_paragraph_of_list_item(events, index, &parse_state.options.constructs);
-    set_first_paragraph(&mut tokenizer, first);
+    set_first_paragraph(tokenizer, first);
     let mut at = index;
     let (from, to) = range_of(events, at);
     let mut state = tokenizer.push(from, to, State::Next(start))?;
@@ -121,8 +149,7 @@ fn read_child<M: Machine>(
         state = tokenizer.push(from, to, state)?;
         at = next;
     }
-    let sub = tokenizer.flush(state, true)?;
-    Ok((tokenizer.into_events(), sub))
+    tokenizer.flush(state, true)
 }
 
 /// Tells a tokenizer whether its text is in the first paragraph of a list item.

@@ -2,7 +2,7 @@ use Rattle.std.proofs.Common.{◌≡◌, ◌-◌, length, Some}
 use Rattle.markdown_base.specs.declared.state.Name.{Name}
 use Rattle.mdchildren.specs.Reads.{start_at}
 use Rattle.mdchildren.proofs.ChildReading.{ReadsChain}
-use Rattle.mdchildren.proofs.children.read_child.Given as goal
+use Rattle.mdchildren.proofs.children.read_chunks.Given as goal
 
 abbrev pub invariant-loop-next : goal.invariant-loop-next
 invariant-loop-next g l =
