@@ -1,0 +1,123 @@
+//! Measures the edit map: `bench/run.sh` counts the instructions of its runs.
+//!
+//! Standard input has one byte for each span of a list of linked spans, and an edit for each span puts two events in front of
+//! it. Where the first byte is `d` the edits are made at descending indices, and else at ascending ones. The number of events
+//! afterwards is printed.
+#![tactic(auto)]
+
+ghost use Rattle.std.specs.Prelude.{◌≡◌, ◌+◌, ◌*◌, ◌^◌, ◌<◌, length, All, None, IfOk, IfSome};
+ghost use Rattle.markdown_base.specs.Events.{EndsBelow};
+ghost use Rattle.markdown.specs.Edits.{AreDisjoint};
+
+use markdown::event::{Content, Event, Kind, Link, Name, Point};
+use markdown::util::edit_map::EditMap;
+use std::alloc::{AllocError, Global};
+use std::io::{self, Read};
+
+fn main(rt: HostRuntime) -> io::Result<()> {
+    let mut input = Vec::new(rt.alloc());
+    rt.stdin().read_to_end(&mut input)?;
+    let descending = input.first() == Some(&b'd');
+    let count = edited(rt.alloc(), input.len(), descending)?;
+    println!(rt; "{count} events")?;
+    Ok(())
+}
+
+/// An event without a link.
+fn event_of(kind: Kind) -> Event
+    ensures { result.link ≡ None }
+{
+    let point = Point {
+        line: 1,
+        column: 1,
+        index: 0,
+        vs: 0,
+    };
+    Event {
+        kind,
+        name: Name::Data,
+        point,
+        link: None,
+    }
+}
+
+/// The enter of the span before span `k`.
+fn enter_before(k: usize) -> Option<usize>
+    requires { 2 * k < 2 ^ 64 }
+    ensures { IfSome result (λ p. p < 2 * k) }
+{
+    if k > 0 { Some(2 * k - 2) } else { None }
+}
+
+/// The enter of the span behind span `k`, of so many.
+fn enter_behind(k: usize, count: usize) -> Option<usize>
+    requires fits { 2 * count < 2 ^ 64 }
+    requires inside { k < count }
+    ensures { IfSome result (λ n. n < 2 * count) }
+{
+    if k + 1 < count { Some(2 * k + 2) } else { None }
+}
+
+/// The enter of span `k`, of so many, which is linked to those beside it.
+fn linked_enter(k: usize, count: usize) -> Event
+    requires fits { 2 * count < 2 ^ 64 }
+    requires inside { k < count }
+    ensures { EndsBelow (2 * count) result }
+{
+    let link = Link {
+        previous: enter_before(k),
+        next: enter_behind(k, count),
+        content: Content::Text,
+    };
+    Event {
+        link: Some(link),
+        ..event_of(Kind::Enter)
+    }
+}
+
+/// So many spans in one chain.
+fn chain(alloc: Global, count: usize) -> Result<Vec<Event>, AllocError>
+    requires { 2 * count < 2 ^ 64 }
+    ensures len { IfOk result (λ v. length v.items ≡ 2 * count) }
+    ensures ends { IfOk result (λ v. All (EndsBelow (2 * count)) v.items) }
+{
+    let mut events = Vec::new(alloc);
+    for k in 0..count {
+        events.push(linked_enter(k, count))?;
+        events.push(event_of(Kind::Exit))?;
+    }
+    Ok(events)
+}
+
+/// The span that is edited at a step, of so many.
+fn span_at(step: usize, count: usize, descending: bool) -> usize
+    requires { step < count }
+    ensures { result < count }
+{
+    if descending { count - 1 - step } else { step }
+}
+
+/// An edit in front of each span, from the first to the last, or from the last to the first.
+fn edits(alloc: Global, count: usize, descending: bool) -> Result<EditMap, AllocError>
+    requires { 2 * count < 2 ^ 64 }
+    ensures { IfOk result (λ map. AreDisjoint 0 map (2 * count)) }
+{
+    let mut map = EditMap::new(alloc);
+    for step in 0..count {
+        let k = span_at(step, count, descending);
+        let additions = vec![in alloc; event_of(Kind::Enter), event_of(Kind::Exit)]?;
+        map.add(2 * k, 0, additions)?;
+    }
+    Ok(map)
+}
+
+/// The number of events of a chain of so many spans, once its edits are made.
+fn edited(alloc: Global, count: usize, descending: bool) -> Result<usize, AllocError> {
+    if count >= usize::MAX / 2 {
+        return Err(AllocError);
+    }
+    let mut events = chain(alloc, count)?;
+    let mut map = edits(alloc, count, descending)?;
+    map.consume(&mut events)?;
+    Ok(events.len())
+}
