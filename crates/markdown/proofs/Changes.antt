@@ -1,16 +1,14 @@
 -- Each call that changes a text, the events or the choices of a tokenizer keeps what holds of its fields.
 use Rattle.std.specs.List.{AllByRecursion}
-use Rattle.std.proofs.Common.{◌≡◌, ℕ, zero, suc, ◌-◌, ◌≤◌, ◌⊎◌, inl, inr, ◌<◌, List, [], ◌∷◌, ◌++◌, Bool, true, false, cond, Option, Some, None, length, refl, sym, ap, ◌∙◌, subst, arith, length-append, take, length-take}
+use Rattle.std.proofs.Common.{◌≡◌, ℕ, zero, suc, ◌-◌, ◌≤◌, inl, inr, ◌<◌, List, [], ◌∷◌, ◌++◌, Bool, true, false, cond, Option, Some, None, length, refl, sym, ap, ◌∙◌, subst, arith, length-append, take, length-take}
 use Rattle.std.specs.Prelude.{map, option_map, option_and_then, reverse, IfSome, All, unwrap_or}
 use Rattle.std.specs.List.{last_or}
-use Rattle.std.specs.Global.{Vec}
-use Rattle.std.proofs.lemmas.List.{take-append-le, take-take, reverse-append, take_all}
+use Rattle.std.proofs.lemmas.List.{take-append-le, take-take, take_all}
 use Rattle.markdown_base.specs.declared.event.Point.{Point}
 use Rattle.markdown_base.specs.declared.event.Event.{Event}
 use Rattle.markdown_base.specs.declared.event.Link.{Link}
 use Rattle.markdown_base.specs.declared.event.Name.{Name}
 use Rattle.markdown_base.specs.declared.event.Kind.TheVariants.{Enter, Exit}
-use Rattle.markdown_base.specs.declared.state.State.{State}
 use Rattle.markdown_base.specs.declared.configuration.ParseOptions.{ParseOptions}
 use Rattle.markdown_base.specs.Virtual.{Seat, point}
 use Rattle.markdown_base.specs.Places.{shown, stands_before, is_upto, denotes_same, IsPointOf, point_at}
@@ -18,13 +16,12 @@ use Rattle.markdown.specs.declared.waiting.Waits.{Waits}
 use Rattle.markdown.specs.declared.waiting.Waits.TheVariants.{Nothing, Byte, End}
 use Rattle.markdown.specs.declared.waiting.Phase.TheVariants.{Reading}
 use Rattle.markdown.specs.declared.waiting.AttemptKind.{AttemptKind}
-use Rattle.markdown.specs.declared.waiting.AttemptKind.TheVariants.{Attempt, Check}
 use Rattle.markdown.specs.declared.waiting.GoesOn.{GoesOn}
 use Rattle.markdown.specs.declared.waiting.KeptChoice.{KeptChoice}
 use Rattle.markdown.specs.declared.waiting.Progress.{Progress}
 use Rattle.markdown.specs.declared.tokenizer.Tokenizer.TheInside.{Inside}
 use Rattle.markdown.specs.Text.{Given, Text, Piece, pushed, passed, IsDocument, IsText, CanFollow, FitsAfter, followed_by, followed_by_all, empty_text}
-use Rattle.markdown.specs.Configuration.{Seen, Configuration, Choice}
+use Rattle.markdown.specs.Configuration.{Choice}
 use Rattle.markdown.specs.Calls.{CanExit}
 use Rattle.markdown.specs.Work.{extended}
 use Rattle.markdown.specs.Gaps.{resumed, IsSkip}

@@ -13,7 +13,6 @@ use Rattle.markdown_base.specs.declared.event.Point.{Point}
 use Rattle.markdown_base.specs.Places.{shown}
 use Rattle.markdown.specs.declared.waiting.Waits.{Waits}
 use Rattle.markdown.specs.declared.waiting.Waits.TheVariants.{Nothing, Byte, End}
-use Rattle.markdown.specs.declared.waiting.Phase.TheVariants.{Reading}
 use Rattle.markdown.specs.Made.{IsMade}
 use Rattle.markdown.specs.View.{seen, text_of, state_of, choice_at, choice_of, position_from, standing, reach, can_feed, IsWhatWaits, IsProgress, AreNested, IsSound}
 use Rattle.markdown.proofs.Fields.{next-more, made-more, or-true}

@@ -6,8 +6,8 @@ use Rattle.markdown_base.specs.declared.state.Name.{Name}
 use Rattle.markdown_base.specs.declared.state.State.{State}
 use Rattle.markdown_base.specs.declared.state.State.TheVariants.{Next, Retry, Ok, Nok, Error}
 use Rattle.markdown.specs.Text.{Given, Text, IsText}
-use Rattle.markdown.specs.Configuration.{Configuration, Choice, Step}
-use Rattle.markdown.specs.Sight.{Sight, sight}
+use Rattle.markdown.specs.Configuration.{Configuration, Choice}
+use Rattle.markdown.specs.Sight.{sight}
 use Rattle.markdown.specs.Reading.{Reading, fed, settled_at, more_calls, after_choices, read, EndsIn}
 use Rattle.markdown.specs.Rules.{Rules}
 use Rattle.markdown.specs.Lawful.{KeepsInvariant, CostPays}

@@ -12,13 +12,12 @@ use Rattle.markdown_base.specs.Virtual.{Seat, virtual}
 use Rattle.markdown_base.specs.Places.{shown, stands_before, is_upto, denotes_same, IsPointOf}
 use Rattle.markdown.specs.declared.waiting.Waits.{Waits}
 use Rattle.markdown.specs.declared.waiting.Waits.TheVariants.{Nothing, Byte, End}
-use Rattle.markdown.specs.declared.waiting.Phase.TheVariants.{Reading}
 use Rattle.markdown.specs.declared.tokenizer.Tokenizer.TheInside.{Inside}
 use Rattle.markdown.specs.Text.{Text, in_range}
 use Rattle.markdown.specs.Sight.{seat_before, byte_of, end_or}
 use Rattle.markdown.specs.Gaps.{is_kept, resumed, IsSkip}
 use Rattle.markdown.specs.Made.{IsMade}
-use Rattle.markdown.specs.View.{TAB, seen, text_of, seats_between, position_from, reach, can_feed, IsReadTo, IsWhatWaits, IsProgress, AreNested, events_of, stack_of, IsSound}
+use Rattle.markdown.specs.View.{TAB, text_of, seats_between, position_from, reach, can_feed, IsReadTo, IsWhatWaits, IsProgress, AreNested, events_of, stack_of, IsSound}
 use Rattle.markdown.specs.declared.waiting.KeptChoice.{KeptChoice}
 use Rattle.markdown.specs.declared.waiting.Progress.{Progress}
 use Rattle.markdown.specs.Cursor.{IsPlace, IsSeatAt, rest_at}

@@ -1,9 +1,8 @@
 -- Choices end, and what they go on with is fed: what that does to the fields of a tokenizer, and what it means.
-use Rattle.std.proofs.Common.{◌≡◌, ◌≢◌, ◌==◌, ℕ, ◌≤◌, ◌<◌, List, [], ◌∷◌, ◌++◌, Bool, true, false, cond, Option, Some, None, length, refl, sym, ap, ◌∙◌, subst, arith, take, length-take, ◌⊎◌, inl, inr}
+use Rattle.std.proofs.Common.{◌≡◌, ◌==◌, ℕ, ◌≤◌, ◌<◌, List, [], ◌∷◌, ◌++◌, Bool, true, false, cond, Option, Some, None, length, refl, sym, ap, ◌∙◌, subst, arith, take, length-take, ◌⊎◌, inl, inr}
 use Rattle.std.specs.Prelude.{map, reverse, IfSome, IsSome, unwrap_or, nat_lt, Result}
 use Rattle.std.specs.Global.{Vec}
 use Rattle.std.specs.declared.result.Result.TheVariants as result
-use Rattle.std.specs.List.{last_or}
 use Rattle.std.proofs.lemmas.Bool.Decides.{nat_tests}
 use Rattle.std.proofs.lemmas.List.{take-take, take_all}
 use Rattle.markdown_base.specs.declared.event.Event.{Event}
@@ -13,10 +12,9 @@ use Rattle.markdown_base.specs.declared.event.Name.{Name}
 use Rattle.markdown_base.specs.declared.event.Point.{Point}
 use Rattle.markdown_base.specs.declared.state.Name.{Name as StateName}
 use Rattle.markdown_base.specs.declared.state.State.{State}
-use Rattle.markdown_base.specs.declared.state.State.TheVariants.{Next, Retry, Ok, Nok, Error}
+use Rattle.markdown_base.specs.declared.state.State.TheVariants.{Next, Ok, Nok}
 use Rattle.markdown_base.specs.Events.{open_events}
-use Rattle.markdown_base.specs.Places.{shown, stands_before}
-use Rattle.markdown_base.specs.Virtual.{Seat}
+use Rattle.markdown_base.specs.Places.{shown}
 use Rattle.markdown.specs.declared.waiting.AttemptKind.{AttemptKind}
 use Rattle.markdown.specs.declared.waiting.AttemptKind.TheVariants.{Attempt, Check}
 use Rattle.markdown.specs.declared.waiting.GoesOn.{GoesOn}
@@ -27,15 +25,14 @@ use Rattle.markdown.specs.declared.waiting.Waits.{Waits}
 use Rattle.markdown.specs.declared.waiting.Waits.TheVariants.{Nothing, Byte, End}
 use Rattle.markdown.specs.declared.waiting.Phase.TheVariants.{Reading}
 use Rattle.markdown.specs.declared.tokenizer.Tokenizer.TheInside.{Inside}
-use Rattle.markdown.specs.Text.{Text}
 use Rattle.markdown.specs.Configuration.{Configuration, Choice, Saved, Step, Local, Seen, at_configuration}
 use Rattle.markdown.specs.Reading.{fed, unfed, restored, settled_at}
 use Rattle.markdown.specs.Work.{settled_all, settled_to, answer_of, answer_in, EndsClosed, TakesUp}
 use Rattle.markdown.specs.Unwound.{goal_of, saved_for, ended_by, Unwinding, unwinding, unwound}
 use Rattle.markdown.specs.Gaps.{resumed}
 use Rattle.markdown.specs.Made.{IsMade, last_kind}
-use Rattle.markdown.specs.Cursor.{IsSeatAt, IsNextByte, is_before_pair, rest_at}
-use Rattle.markdown.specs.View.{TAB, seen, text_of, end_point, state_of, choice_of, saved_of, position_from, standing, reach, can_feed, ByteWaits, IsWhatWaits, IsProgress, AreNested, events_of, stack_of, IsSound}
+use Rattle.markdown.specs.Cursor.{IsNextByte}
+use Rattle.markdown.specs.View.{TAB, seen, text_of, state_of, choice_of, saved_of, position_from, standing, reach, can_feed, ByteWaits, IsWhatWaits, IsProgress, AreNested, events_of, stack_of, IsSound}
 use Rattle.markdown.proofs.Fields.{looks, next-more, next-past, next-none-after_previous, nested-map, nested-wider, nested-front}
 use Rattle.markdown.proofs.Steps.{before-end, nat_lt-is, nat_lt-no}
 use Rattle.markdown.proofs.Changes.{same-choices}

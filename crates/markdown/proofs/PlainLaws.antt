@@ -1,8 +1,7 @@
 -- The laws of machines without resolvers and links, from those of their states.
-use Rattle.std.proofs.Common.{◌≡◌, ◌≢◌, ℕ, zero, suc, ◌+◌, ◌≤◌, ◌<◌, List, [], ◌∷◌, ◌++◌, Bool, true, false, cond, Option, Some, None, length, refl, sym, ap, ◌∙◌, subst, arith, take}
-use Rattle.std.specs.Prelude.{nat_lt, slice_get, slice_index_or, All}
+use Rattle.std.proofs.Common.{◌≡◌, ℕ, zero, suc, ◌+◌, ◌≤◌, List, [], ◌∷◌, ◌++◌, Bool, true, false, cond, Option, Some, None, length, refl, sym, ap, ◌∙◌, subst, arith, take}
+use Rattle.std.specs.Prelude.{nat_lt, All}
 use Rattle.markdown_base.specs.declared.event.Event.{Event}
-use Rattle.markdown_base.specs.declared.state.Name.{Name}
 use Rattle.markdown_base.specs.declared.state.State.{State}
 use Rattle.markdown_base.specs.declared.state.State.TheVariants.{Next, Retry, Ok, Nok, Error}
 use Rattle.markdown_base.specs.Events.{IsBalanced, EndsBelow, relinked}
@@ -10,13 +9,13 @@ use Rattle.markdown.specs.declared.waiting.Waits.TheVariants.{Byte, End}
 use Rattle.markdown.specs.declared.waiting.AttemptKind.{AttemptKind}
 use Rattle.markdown.specs.declared.waiting.AttemptKind.TheVariants.{Attempt, Check}
 use Rattle.markdown.specs.Text.{Given, Text}
-use Rattle.markdown.specs.Configuration.{Configuration, Choice, Saved, Step, start_configuration}
-use Rattle.markdown.specs.Sight.{Sight, sight}
-use Rattle.markdown.specs.Reading.{fed, restored, settled_at}
+use Rattle.markdown.specs.Configuration.{Configuration, Saved}
+use Rattle.markdown.specs.Sight.{sight}
+use Rattle.markdown.specs.Reading.{restored, settled_at}
 use Rattle.markdown.specs.Edited.{edited}
-use Rattle.markdown.specs.Woven.{Tagged, of_list, as_listed, placed_end, placed_in, woven}
+use Rattle.markdown.specs.Woven.{Tagged, of_list, placed_end, placed_in, woven}
 use Rattle.markdown.specs.Links.{next_of, previous_of, AreMutual}
-use Rattle.markdown.specs.Resolving.{done, IsInShape}
+use Rattle.markdown.specs.Resolving.{IsInShape}
 use Rattle.markdown.specs.Rules.{Rules}
 use Rattle.markdown.specs.Lawful.{IsAsFar, ConsumesOnce, OnlyAdds, EndsWhenRead, KeepsInvariant, CostPays, ResolversKeep}
 use Rattle.markdown.specs.Plain.{HaveNoLinks, IsPlain, KeepsPlain, NothingResolves, plain}

@@ -1,5 +1,5 @@
 -- Resolvers go over the events.
-use Rattle.std.proofs.Common.{◌≡◌, ℕ, zero, suc, ◌+◌, ◌≤◌, ◌<◌, List, [], ◌∷◌, true, false, Option, Some, length, refl, sym, ap, ◌∙◌, subst, arith, drop, get_or}
+use Rattle.std.proofs.Common.{◌≡◌, ℕ, suc, ◌+◌, ◌<◌, List, [], ◌∷◌, true, false, Option, Some, length, refl, sym, ap, ◌∙◌, subst, arith, drop, get_or}
 use Rattle.std.specs.Prelude.{map, reverse}
 use Rattle.std.specs.Global.{Vec}
 use Rattle.markdown_base.specs.declared.event.Event.{Event}
@@ -11,7 +11,6 @@ use Rattle.markdown.specs.declared.waiting.Phase.TheVariants.{Reading, Resolving
 use Rattle.markdown.specs.Text.{Given, Text, IsText}
 use Rattle.markdown.specs.Configuration.{Configuration, Seen, at_configuration}
 use Rattle.markdown.specs.Sight.{Sight, sight, sight_seen}
-use Rattle.markdown.specs.Edited.{edited}
 use Rattle.markdown.specs.Rules.{Rules}
 use Rattle.markdown.specs.Calls.{with_resolvers}
 use Rattle.markdown.specs.Resolving.{Resolved, resolving, taken, found, done, refused, with_more, edits_made, resolved_by, CanBeEdited, IsInShape}

@@ -14,8 +14,7 @@ use Rattle.markdown_base.specs.declared.state.State.TheVariants.{Next}
 use Rattle.markdown_base.specs.Virtual.{Seat, point, virtual, end_after, document_end}
 use Rattle.markdown_base.specs.Places.{stands_before, shown, follows_cr, points, point_at, IsPointOf, is_upto}
 use Rattle.markdown.specs.Text.{Given, Text, pushed, in_range, empty_text, followed_by, followed_by_all, FitsAfter, CanFollow, IsText}
-use Rattle.markdown.specs.Configuration.{Configuration, Choice, Step, Seen, start_configuration, start_seen}
-use Rattle.markdown.specs.Sight.{Sight}
+use Rattle.markdown.specs.Configuration.{Seen, start_configuration, start_seen}
 use Rattle.markdown.specs.Rules.{Rules}
 use Rattle.markdown.specs.Lawful.{KeepsInvariant}
 use Rattle.markdown.specs.Engine.{LeadsOn, KeepsOutcome, CanPush, IsPushed, IsFlushed, IsRefused, IsWellFormed, IsRun, IsRunRefused, AreCuts, budget, given_by, whole_text, FollowInOrder}

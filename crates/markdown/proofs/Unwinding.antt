@@ -1,5 +1,5 @@
 -- Laws of choices that end.
-use Rattle.std.proofs.Common.{◌≡◌, List, [], ◌∷◌, ◌++◌, true, false, refl, sym, ap, ◌∙◌}
+use Rattle.std.proofs.Common.{◌≡◌, List, [], ◌∷◌, ◌++◌, true, false, refl, sym, ap}
 use Rattle.std.specs.Prelude.{reverse, unwrap_or}
 use Rattle.std.proofs.lemmas.List.{reverse-append}
 use Rattle.markdown_base.specs.declared.state.Name.{Name}
@@ -7,7 +7,7 @@ use Rattle.markdown.specs.declared.waiting.GoesOn.{GoesOn}
 use Rattle.markdown.specs.declared.waiting.GoesOn.TheVariants.{Next, Ok, Nok}
 use Rattle.markdown.specs.declared.waiting.KeptChoice.{KeptChoice}
 use Rattle.markdown.specs.declared.waiting.Progress.{Progress}
-use Rattle.markdown.specs.Unwound.{goal_of, saved_for, ended_by, Unwinding, unwinding, unwound}
+use Rattle.markdown.specs.Unwound.{goal_of, saved_for, unwinding, unwound}
 
 -- the last of some choices
 pub reverse-last : (items ms : List KeptChoice) (mark : KeptChoice) → items ≡ ms ++ mark ∷ [] → reverse items ≡ mark ∷ reverse ms

@@ -1,5 +1,5 @@
 -- Inner to the walks over spans: how far one goes, event by event, and lists seen from behind. No public contract cites these.
-use Rattle.std.specs.Prelude.{ℕ, ◌+◌, ◌-◌, Bool, true, false, not, ◌&&◌, ◌==◌, List, [], ◌∷◌, ◌++◌, if◌then◌else◌}
+use Rattle.std.specs.Prelude.{ℕ, ◌+◌, ◌-◌, Bool, not, ◌&&◌, ◌==◌, List, [], ◌∷◌, ◌++◌, if◌then◌else◌}
 use Rattle.markdown_base.specs.declared.event.Event.{Event}
 use Rattle.markdown_base.specs.declared.event.Kind.{Kind}
 use Rattle.markdown_base.specs.declared.event.Kind.TheVariants.{Enter, Exit}

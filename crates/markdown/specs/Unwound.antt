@@ -1,5 +1,5 @@
 -- Choices that end, the last first, as the code keeps them. An inner file: no public clause names what stands here.
-use Rattle.std.specs.Prelude.{List, [], ◌∷◌, Bool, true, false, Option, Some, None, unwrap_or}
+use Rattle.std.specs.Prelude.{List, [], ◌∷◌, Bool, true, false, Option, None, unwrap_or}
 use Rattle.markdown.specs.declared.waiting.GoesOn.{GoesOn}
 use Rattle.markdown.specs.declared.waiting.GoesOn.TheVariants.{Next, Ok, Nok}
 use Rattle.markdown.specs.declared.waiting.KeptChoice.{KeptChoice}

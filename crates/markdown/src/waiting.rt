@@ -38,7 +38,7 @@ pub enum Phase {
 
 /// What a choice goes on with: of a state's answers those with which one can go on, and no others. Contracts see the answer
 /// (`state_of`).
-#[derive(Clone, Copy, Debug, PartialEq, Eq)]
+#[derive(Clone, Copy)]
 pub(crate) enum GoesOn {
     /// This state, with the next byte.
     Next(Name),
@@ -80,7 +80,7 @@ impl GoesOn {
 }
 
 /// How far a text was read, as a choice saves it.
-#[derive(Clone, Copy, Debug, PartialEq, Eq)]
+#[derive(Clone, Copy)]
 pub(crate) struct Progress {
     /// The place after the byte before.
     pub(crate) after_previous: Point,
@@ -96,7 +96,7 @@ pub(crate) struct Progress {
 
 /// A waiting choice as the tokenizer keeps it. Contracts see the choice that it means (`choice_of`), which puts back a number
 /// of bytes read and a list of open spans, where this one keeps a place and a length of the stack.
-#[derive(Clone, Copy, Debug, PartialEq, Eq)]
+#[derive(Clone, Copy)]
 pub(crate) struct KeptChoice {
     pub(crate) kind: AttemptKind,
     pub(crate) ok: GoesOn,

@@ -2,7 +2,7 @@ use Rattle.std.proofs.Common.{◌≡◌, ◌++◌, List, true, sym, ap, ◌∙�
 use Rattle.std.specs.Prelude.{filter}
 use Rattle.markdown_base.specs.Virtual.{Seat, virtual}
 use Rattle.markdown_base.specs.Places.{is_upto}
-use Rattle.markdown.specs.Text.{Text, in_range}
+use Rattle.markdown.specs.Text.{in_range}
 use Rattle.markdown.proofs.PlaceStanding.{place-of-point}
 use Rattle.markdown.proofs.PlaceCursors.{same-back, same-upto, upto-upto, range-continued}
 use Rattle.markdown.proofs.laws.cuts_leave_no_trace.Goals as goal

@@ -1,4 +1,4 @@
-use Rattle.std.proofs.Common.{◌≡◌, ◌∙◌, ◌+◌, ◌∷◌, [], length, drop, sym, ap}
+use Rattle.std.proofs.Common.{◌≡◌, ◌∙◌, ◌+◌, ◌∷◌, [], drop, sym, ap}
 use Rattle.std.proofs.lemmas.List.{drop_all}
 use Rattle.markdown.proofs.Resolvers.{drop-one, resolves-first, resolves-after_previous, resolves-holds, resolves-next, resolves-refused, resolves-can, resolves-done}
 use Rattle.markdown.proofs.tokenizer.Tokenizer.resolve_each.Goals as goal
