@@ -1,9 +1,26 @@
-//! Events of chunks, as the tests of children write them.
+//! Lists of events, as the tests of children write them.
 
+use crate::chunks::Row::{Chunk, Enter, Exit};
 use markdown::event::{Content, Event, Kind, Link, Name, Point};
+use std::alloc::{AllocError, Global};
 
-/// A point; the index counts bytes, and `vs` the columns into a tab.
-pub(crate) fn at(line: usize, column: usize, index: usize, vs: usize) -> Point {
+/// Line, column, byte index, and number in a tab.
+pub(crate) type Place = (usize, usize, usize, usize);
+
+/// An event as tests write it.
+#[derive(Clone, Copy)]
+pub(crate) enum Row {
+    /// An enter without a link.
+    Enter(Name, Place),
+    /// An exit.
+    Exit(Name, Place),
+    /// The enter of a chunk of data, with the chunks before and behind it in its chain.
+    Chunk(Place, Content, Option<usize>, Option<usize>),
+}
+
+/// The point of a place.
+fn point_of(place: Place) -> Point {
+    let (line, column, index, vs) = place;
     Point {
         line,
         column,
@@ -12,88 +29,95 @@ pub(crate) fn at(line: usize, column: usize, index: usize, vs: usize) -> Point {
     }
 }
 
-/// An enter without a link.
-pub(crate) fn enter(name: Name, point: Point) -> Event {
+/// The event of a row.
+fn event_of(row: Row) -> Event {
+    let (kind, name, place, link) = match row {
+        Enter(name, place) => (Kind::Enter, name, place, None),
+        Exit(name, place) => (Kind::Exit, name, place, None),
+        Chunk(place, content, previous, next) => {
+            let link = Link {
+                previous,
+                next,
+                content,
+            };
+            (Kind::Enter, Name::Data, place, Some(link))
+        }
+    };
     Event {
-        kind: Kind::Enter,
+        kind,
         name,
-        point,
-        link: None,
+        point: point_of(place),
+        link,
     }
 }
 
-/// An exit.
-pub(crate) fn exit(name: Name, point: Point) -> Event {
-    Event {
-        kind: Kind::Exit,
-        name,
-        point,
-        link: None,
+/// The events of rows.
+pub(crate) fn listed(alloc: Global, rows: &[Row]) -> Result<Vec<Event>, AllocError> {
+    let mut events = Vec::new(alloc);
+    for row in rows {
+        events.push(event_of(*row))?;
     }
-}
-
-/// The enter of a chunk of data.
-pub(crate) fn chunk(
-    point: Point,
-    content: Content,
-    previous: Option<usize>,
-    next: Option<usize>,
-) -> Event {
-    Event {
-        kind: Kind::Enter,
-        name: Name::Data,
-        point,
-        link: Some(Link {
-            previous,
-            next,
-            content,
-        }),
-    }
+    Ok(events)
 }
 
 /// `"ab"`, a byte a chunk, in one chain.
-pub(crate) fn two_chunks() -> [Event; 4] {
-    [
-        chunk(at(1, 1, 0, 0), Content::Text, None, Some(2)),
-        exit(Name::Data, at(1, 2, 1, 0)),
-        chunk(at(1, 2, 1, 0), Content::Text, Some(0), None),
-        exit(Name::Data, at(1, 3, 2, 0)),
-    ]
-}
+pub(crate) const TWO_CHUNKS: [Row; 4] = [
+    Chunk((1, 1, 0, 0), Content::Text, None, Some(2)),
+    Exit(Name::Data, (1, 2, 1, 0)),
+    Chunk((1, 2, 1, 0), Content::Text, Some(0), None),
+    Exit(Name::Data, (1, 3, 2, 0)),
+];
 
 /// A quoted paragraph of two lines.
-pub(crate) fn quote() -> [Event; 12] {
-    [
-        enter(Name::BlockQuote, at(1, 1, 0, 0)),
-        enter(Name::BlockQuotePrefix, at(1, 1, 0, 0)),
-        exit(Name::BlockQuotePrefix, at(1, 3, 2, 0)),
-        enter(Name::Paragraph, at(1, 3, 2, 0)),
-        chunk(at(1, 3, 2, 0), Content::Text, None, Some(8)),
-        exit(Name::Data, at(2, 1, 4, 0)),
-        enter(Name::BlockQuotePrefix, at(2, 1, 4, 0)),
-        exit(Name::BlockQuotePrefix, at(2, 3, 6, 0)),
-        chunk(at(2, 3, 6, 0), Content::Text, Some(4), None),
-        exit(Name::Data, at(2, 4, 7, 0)),
-        exit(Name::Paragraph, at(2, 4, 7, 0)),
-        exit(Name::BlockQuote, at(2, 4, 7, 0)),
-    ]
-}
+pub(crate) const QUOTE: [Row; 12] = [
+    Enter(Name::BlockQuote, (1, 1, 0, 0)),
+    Enter(Name::BlockQuotePrefix, (1, 1, 0, 0)),
+    Exit(Name::BlockQuotePrefix, (1, 3, 2, 0)),
+    Enter(Name::Paragraph, (1, 3, 2, 0)),
+    Chunk((1, 3, 2, 0), Content::Text, None, Some(8)),
+    Exit(Name::Data, (2, 1, 4, 0)),
+    Enter(Name::BlockQuotePrefix, (2, 1, 4, 0)),
+    Exit(Name::BlockQuotePrefix, (2, 3, 6, 0)),
+    Chunk((2, 3, 6, 0), Content::Text, Some(4), None),
+    Exit(Name::Data, (2, 4, 7, 0)),
+    Exit(Name::Paragraph, (2, 4, 7, 0)),
+    Exit(Name::BlockQuote, (2, 4, 7, 0)),
+];
 
-/// One chunk.
-pub(crate) fn one_chunk(from: Point, to: Point, content: Content) -> [Event; 2] {
-    [chunk(from, content, None, None), exit(Name::Data, to)]
-}
+/// A paragraph of two lines in three chunks, the second of which has no text.
+pub(crate) const EMPTY_CHUNK: [Row; 8] = [
+    Enter(Name::Paragraph, (1, 1, 0, 0)),
+    Chunk((1, 1, 0, 0), Content::Text, None, Some(3)),
+    Exit(Name::Data, (2, 1, 2, 0)),
+    Chunk((2, 1, 2, 0), Content::Text, Some(1), Some(5)),
+    Exit(Name::Data, (2, 1, 2, 0)),
+    Chunk((2, 1, 2, 0), Content::Text, Some(3), None),
+    Exit(Name::Data, (2, 2, 3, 0)),
+    Exit(Name::Paragraph, (2, 2, 3, 0)),
+];
 
 /// A chain around another one, in `"ab\ncd"`.
-pub(crate) fn chain_around_another() -> [Event; 8] {
-    [
-        chunk(at(1, 1, 0, 0), Content::String, None, Some(6)),
-        exit(Name::Data, at(1, 2, 1, 0)),
-        chunk(at(1, 2, 1, 0), Content::Text, None, Some(4)),
-        exit(Name::Data, at(2, 1, 3, 0)),
-        chunk(at(2, 1, 3, 0), Content::Text, Some(2), None),
-        exit(Name::Data, at(2, 2, 4, 0)),
-        chunk(at(2, 2, 4, 0), Content::String, Some(0), None),
-        exit(Name::Data, at(2, 3, 5, 0)),
-    ]
-}
+pub(crate) const CHAIN_AROUND_ANOTHER: [Row; 8] = [
+    Chunk((1, 1, 0, 0), Content::String, None, Some(6)),
+    Exit(Name::Data, (1, 2, 1, 0)),
+    Chunk((1, 2, 1, 0), Content::Text, None, Some(4)),
+    Exit(Name::Data, (2, 1, 3, 0)),
+    Chunk((2, 1, 3, 0), Content::Text, Some(2), None),
+    Exit(Name::Data, (2, 2, 4, 0)),
+    Chunk((2, 2, 4, 0), Content::String, Some(0), None),
+    Exit(Name::Data, (2, 3, 5, 0)),
+];
+
+/// A chain around what another one became.
+pub(crate) const CHAIN_AROUND_CHILDREN: [Row; 10] = [
+    Chunk((1, 1, 0, 0), Content::String, None, Some(8)),
+    Exit(Name::Data, (1, 2, 1, 0)),
+    Enter(Name::Data, (1, 2, 1, 0)),
+    Exit(Name::Data, (1, 3, 2, 0)),
+    Enter(Name::LineEnding, (1, 3, 2, 0)),
+    Exit(Name::LineEnding, (2, 1, 3, 0)),
+    Enter(Name::Data, (2, 1, 3, 0)),
+    Exit(Name::Data, (2, 2, 4, 0)),
+    Chunk((2, 2, 4, 0), Content::String, Some(0), None),
+    Exit(Name::Data, (2, 3, 5, 0)),
+];

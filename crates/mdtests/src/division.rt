@@ -6,7 +6,9 @@ ghost use Rattle.markdown.specs.Edits.{AreDisjoint};
 ghost use Rattle.mdchildren.specs.Chains.{begins};
 ghost use Rattle.mdchildren.specs.Laws.{HasEndsWithin};
 
-use crate::chunks::{at, chunk, enter, exit, quote};
+use crate::chunks::Row::{Chunk, Enter, Exit};
+use crate::chunks::{EMPTY_CHUNK, QUOTE, Row, listed};
+use crate::shown::shown;
 use markdown::event::{Content, Event, Name};
 use markdown::util::edit_map::EditMap;
 use mdchildren::subtokenize::{divide_events, ready};
@@ -86,96 +88,109 @@ fn edits_of(
     Ok(Some((sums, map)))
 }
 
-/// Puts a child in the place of the chain that begins at an index.
+/// Puts a child in the place of the chain that begins at an index: the sums, how many events of the child are left, and the list.
 fn put(
     alloc: Global,
-    events: &mut Vec<Event>,
+    list: &[Row],
     bytes: &[u8],
     index: usize,
-    child: &mut Vec<Event>,
-) -> Result<Option<(usize, usize)>, AllocError>
+    child: &[Row],
+) -> Result<String, AllocError>
     requires limit { 4 * length bytes.now + 1 < 2 ^ 64 }
 {
-    match edits_of(alloc, events.as_slice(), bytes, index, child)? {
-        None => Ok(None),
-        Some((sums, mut map)) => {
-            map.consume(events)?;
-            Ok(Some(sums))
+    let mut events = listed(alloc, list)?;
+    let mut child = listed(alloc, child)?;
+    match edits_of(alloc, events.as_slice(), bytes, index, &mut child)? {
+        None => String::from_str(alloc, "not ready"),
+        Some(((removed, added), mut map)) => {
+            map.consume(&mut events)?;
+            let left = child.len();
+            let lines = shown(alloc, events.as_slice())?;
+            format!(in alloc; "removed {removed}, added {added}, left {left}\n{lines}")
         }
     }
 }
 
+/// `"a\nb\nc"`, a line a chunk, in one chain.
+const THREE_LINES: [Row; 6] = [
+    Chunk((1, 1, 0, 0), Content::Text, None, Some(2)),
+    Exit(Name::Data, (2, 1, 2, 0)),
+    Chunk((2, 1, 2, 0), Content::Text, Some(0), Some(4)),
+    Exit(Name::Data, (3, 1, 4, 0)),
+    Chunk((3, 1, 4, 0), Content::Text, Some(2), None),
+    Exit(Name::Data, (3, 2, 5, 0)),
+];
+
+/// Data over all three lines.
+const ONE_DATA: [Row; 2] = [
+    Enter(Name::Data, (1, 1, 0, 0)),
+    Exit(Name::Data, (3, 2, 5, 0)),
+];
+
 #[test]
 fn chunk_without_events_becomes_nothing(rt: HostRuntime) -> Result<(), AllocError> {
-    let alloc = rt.alloc();
-    let text = Content::Text;
-    let mut events = vec![in alloc;
-        chunk(at(1, 1, 0, 0), text, None, Some(2)),
-        exit(Name::Data, at(2, 1, 2, 0)),
-        chunk(at(2, 1, 2, 0), text, Some(0), Some(4)),
-        exit(Name::Data, at(3, 1, 4, 0)),
-        chunk(at(3, 1, 4, 0), text, Some(2), None),
-        exit(Name::Data, at(3, 2, 5, 0)),
-    ]?;
-    let mut child = vec![in alloc;
-        enter(Name::Data, at(1, 1, 0, 0)),
-        exit(Name::Data, at(3, 2, 5, 0)),
-    ]?;
-    assert!(rt; put(alloc, &mut events, b"a\nb\nc", 0, &mut child)? == Some((6, 2)));
-    assert!(rt; child.is_empty());
-    assert!(rt; events.len() == 2);
-    assert!(rt; events[0] == enter(Name::Data, at(1, 1, 0, 0)));
-    assert!(rt; events[1] == exit(Name::Data, at(3, 2, 5, 0)));
+    let text = put(rt.alloc(), &THREE_LINES, b"a\nb\nc", 0, &ONE_DATA)?;
+    let want = "removed 6, added 2, left 0\n\
+        enter Data 1:1 (0+0)\n\
+        exit Data 3:2 (5+0)\n";
+    assert_eq!(rt; text.as_str(), want);
     Ok(())
 }
+
+/// Two lines of data, which are linked.
+const LINKED_DATA: [Row; 6] = [
+    Chunk((1, 3, 2, 0), Content::String, None, Some(4)),
+    Exit(Name::Data, (1, 4, 3, 0)),
+    Enter(Name::LineEnding, (1, 4, 3, 0)),
+    Exit(Name::LineEnding, (2, 1, 4, 0)),
+    Chunk((2, 3, 6, 0), Content::String, Some(0), None),
+    Exit(Name::Data, (2, 4, 7, 0)),
+];
 
 #[test]
 fn links_of_a_child_lead_to_their_places(rt: HostRuntime) -> Result<(), AllocError> {
-    let alloc = rt.alloc();
-    let mut events = Vec::from_array(alloc, quote())?;
-    let mut child = vec![in alloc;
-        chunk(at(1, 3, 2, 0), Content::String, None, Some(4)),
-        exit(Name::Data, at(1, 4, 3, 0)),
-        enter(Name::LineEnding, at(1, 4, 3, 0)),
-        exit(Name::LineEnding, at(2, 1, 4, 0)),
-        chunk(at(2, 3, 6, 0), Content::String, Some(0), None),
-        exit(Name::Data, at(2, 4, 7, 0)),
-    ]?;
-    assert!(rt; put(alloc, &mut events, b"> a\n> b", 4, &mut child)? == Some((4, 6)));
-    assert!(rt; events.len() == 14);
-    assert!(rt; events[4] == chunk(at(1, 3, 2, 0), Content::String, None, Some(10)));
-    assert!(rt; events[10] == chunk(at(2, 3, 6, 0), Content::String, Some(4), None));
-    assert!(rt; events[8] == quote()[6]);
-    assert!(rt; events[13] == quote()[11]);
+    let text = put(rt.alloc(), &QUOTE, b"> a\n> b", 4, &LINKED_DATA)?;
+    let want = "removed 4, added 6, left 0\n\
+        enter BlockQuote 1:1 (0+0)\n\
+        enter BlockQuotePrefix 1:1 (0+0)\n\
+        exit BlockQuotePrefix 1:3 (2+0)\n\
+        enter Paragraph 1:3 (2+0)\n\
+        enter Data 1:3 (2+0) String None Some(10)\n\
+        exit Data 1:4 (3+0)\n\
+        enter LineEnding 1:4 (3+0)\n\
+        exit LineEnding 2:1 (4+0)\n\
+        enter BlockQuotePrefix 2:1 (4+0)\n\
+        exit BlockQuotePrefix 2:3 (6+0)\n\
+        enter Data 2:3 (6+0) String Some(4) None\n\
+        exit Data 2:4 (7+0)\n\
+        exit Paragraph 2:4 (7+0)\n\
+        exit BlockQuote 2:4 (7+0)\n";
+    assert_eq!(rt; text.as_str(), want);
     Ok(())
 }
 
+/// Two lines of data.
+const TWO_DATA: [Row; 6] = [
+    Enter(Name::Data, (1, 1, 0, 0)),
+    Exit(Name::Data, (1, 2, 1, 0)),
+    Enter(Name::LineEnding, (1, 2, 1, 0)),
+    Exit(Name::LineEnding, (2, 1, 2, 0)),
+    Enter(Name::Data, (2, 1, 2, 0)),
+    Exit(Name::Data, (2, 2, 3, 0)),
+];
+
 #[test]
 fn empty_chunk_gets_no_event(rt: HostRuntime) -> Result<(), AllocError> {
-    let alloc = rt.alloc();
-    let text = Content::Text;
-    let mut events = vec![in alloc;
-        enter(Name::Paragraph, at(1, 1, 0, 0)),
-        chunk(at(1, 1, 0, 0), text, None, Some(3)),
-        exit(Name::Data, at(2, 1, 2, 0)),
-        chunk(at(2, 1, 2, 0), text, Some(1), Some(5)),
-        exit(Name::Data, at(2, 1, 2, 0)),
-        chunk(at(2, 1, 2, 0), text, Some(3), None),
-        exit(Name::Data, at(2, 2, 3, 0)),
-        exit(Name::Paragraph, at(2, 2, 3, 0)),
-    ]?;
-    let mut child = vec![in alloc;
-        enter(Name::Data, at(1, 1, 0, 0)),
-        exit(Name::Data, at(1, 2, 1, 0)),
-        enter(Name::LineEnding, at(1, 2, 1, 0)),
-        exit(Name::LineEnding, at(2, 1, 2, 0)),
-        enter(Name::Data, at(2, 1, 2, 0)),
-        exit(Name::Data, at(2, 2, 3, 0)),
-    ]?;
-    assert!(rt; put(alloc, &mut events, b"a\nb", 1, &mut child)? == Some((6, 6)));
-    assert!(rt; events.len() == 8);
-    assert!(rt; events[5] == enter(Name::Data, at(2, 1, 2, 0)));
-    assert!(rt; events[6] == exit(Name::Data, at(2, 2, 3, 0)));
-    assert!(rt; events[7] == exit(Name::Paragraph, at(2, 2, 3, 0)));
+    let text = put(rt.alloc(), &EMPTY_CHUNK, b"a\nb", 1, &TWO_DATA)?;
+    let want = "removed 6, added 6, left 0\n\
+        enter Paragraph 1:1 (0+0)\n\
+        enter Data 1:1 (0+0)\n\
+        exit Data 1:2 (1+0)\n\
+        enter LineEnding 1:2 (1+0)\n\
+        exit LineEnding 2:1 (2+0)\n\
+        enter Data 2:1 (2+0)\n\
+        exit Data 2:2 (3+0)\n\
+        exit Paragraph 2:2 (3+0)\n";
+    assert_eq!(rt; text.as_str(), want);
     Ok(())
 }

@@ -1,35 +1,27 @@
 //! A document, read call by call.
 
-ghost use Rattle.std.specs.Prelude.{◌+◌, ◌*◌, ◌^◌, ◌<◌, ◌∷◌, [], length, Contains};
-ghost use Rattle.markdown.specs.Engine.{AreCuts, given_of};
+ghost use Rattle.std.specs.Prelude.{◌≡◌, ◌+◌, ◌*◌, ◌^◌, ◌<◌, ◌∷◌, [], true, false, length, Contains, IfOk};
+ghost use Rattle.markdown.specs.Engine.{AreCuts, CanPush, HoldsOf, IsPushed, given_of};
 
-use markdown::event::{Event, Point};
+use crate::shown::{push_answer, push_lines};
+use markdown::event::Point;
 use markdown::parser::ParseState;
 use markdown::state::{Machine, Name, State};
 use markdown::subtokenize::Subresult;
 use markdown::tokenizer::{Fault, Tokenizer};
 use std::alloc::{AllocError, Global};
 
-/// What two pushes and a flush answered, and a push after them; and then the number of calls, and the events.
-#[derive(Drop)]
-pub struct Answers {
-    pub first: State,
-    pub second: State,
-    pub flushed: Result<Subresult, Fault>,
-    pub later: Result<State, Fault>,
-    pub calls: usize,
-    pub events: Vec<Event>,
-}
-
-/// Reads a document, cut at one place: pushes a range up to it and one up to the end, flushes, and pushes once more. The
-/// answer has the resolvers that are registered then.
+/// Reads a document, cut at one place: pushes a range up to it and one up to the end, flushes, and pushes once more. Appends
+/// what was answered, a line for each call, and how the tokenizer was left: whether these resolvers are registered, and the events.
 pub fn read<M: Machine>(
     alloc: Global,
+    text: &mut String,
     parse_state: &ParseState<M>,
     start: Name,
     cut: (usize, usize),
     resolve: bool,
-) -> Result<(Answers, Vec<M::Resolver>), AllocError>
+    resolvers: &[M::Resolver],
+) -> Result<(), AllocError>
     requires limit { 4 * length parse_state.now.bytes.now + 1 < 2 ^ 64 }
     requires start { Contains (M.rules parse_state.now.machine.now (given_of 4 parse_state.now)).starts start }
     requires cut { AreCuts 4 parse_state.now.bytes.now (cut ∷ []) }
@@ -41,29 +33,75 @@ pub fn read<M: Machine>(
         vs: 0,
     };
     let mut tokenizer = Tokenizer::new(alloc, point, parse_state);
-    let first = match tokenizer.push((0, 0), cut, State::Next(start)) {
-        Ok(state) => state,
-        Err(_) => return Err(AllocError),
-    };
+    let first = push_shown(text, &mut tokenizer, (0, 0), cut, State::Next(start), start)?;
     let end = (parse_state.bytes.len(), 0);
-    let second = match tokenizer.push(cut, end, first.try_clone(alloc)?) {
-        Ok(state) => state,
-        Err(_) => return Err(AllocError),
-    };
-    let flushed = tokenizer.flush(second.try_clone(alloc)?, resolve);
-    let later = tokenizer.push((0, 0), (0, 0), State::Ok);
-    let mut resolvers = Vec::new(alloc);
-    for name in tokenizer.resolvers() {
-        resolvers.push(*name)?;
+    let second = push_shown(text, &mut tokenizer, cut, end, first, start)?;
+    let flushed = tokenizer.flush(second, resolve);
+    push_end(text, &mut tokenizer, &flushed, resolvers)
+}
+
+/// Pushes a range, and appends the state that is answered.
+fn push_shown<M: Machine>(
+    text: &mut String,
+    tokenizer: &mut Tokenizer<M>,
+    from: (usize, usize),
+    to: (usize, usize),
+    state: State,
+    start: Name,
+) -> Result<State, AllocError>
+    requires range { tokenizer.old.closed ≡ false → CanPush tokenizer.old.given tokenizer.old.text from to }
+    requires holds { tokenizer.old.closed ≡ false → HoldsOf (M.rules tokenizer.old.machine tokenizer.old.given) tokenizer.old state }
+    ensures { IfOk result (λ answer. IsPushed (M.rules tokenizer.old.machine tokenizer.old.given) tokenizer.old from to state tokenizer.new answer) }
+{
+    match tokenizer.push(from, to, state) {
+        Ok(next) => {
+            push_state(text, &next, start)?;
+            Ok(next)
+        }
+        Err(_) => Err(AllocError),
     }
+}
+
+/// Appends what a flush answered, and a push after it; then the number of calls, and where the flush succeeded, whether these
+/// resolvers are registered, and the events.
+fn push_end<M: Machine>(
+    text: &mut String,
+    tokenizer: &mut Tokenizer<M>,
+    flushed: &Result<Subresult, Fault>,
+    resolvers: &[M::Resolver],
+) -> Result<(), AllocError>
+    requires { tokenizer.old.closed ≡ true }
+{
+    push_answer(text, flushed)?;
+    push_later(text, tokenizer)?;
     let calls = tokenizer.tokenize_state.size;
-    let answers = Answers {
-        first,
-        second,
-        flushed,
-        later,
-        calls,
-        events: tokenizer.into_events(),
-    };
-    Ok((answers, resolvers))
+    writeln!(text, "{calls} calls")?;
+    if flushed.is_err() {
+        return Ok(());
+    }
+    let same = tokenizer.resolvers() == resolvers;
+    writeln!(text, "these resolvers: {same}")?;
+    push_lines(text, tokenizer.events())
+}
+
+/// Pushes where a tokenizer was flushed, and appends what is answered.
+fn push_later<M: Machine>(text: &mut String, tokenizer: &mut Tokenizer<M>) -> Result<(), AllocError>
+    requires closed { tokenizer.old.closed ≡ true }
+{
+    match tokenizer.push((0, 0), (0, 0), State::Ok) {
+        Ok(_state) => text.push_str("pushed\n"),
+        Err(fault) => writeln!(text, "{fault}"),
+    }
+}
+
+/// Appends a state; of names only that of this start is told.
+fn push_state(text: &mut String, state: &State, start: Name) -> Result<(), AllocError> {
+    match state {
+        State::Error(message) => writeln!(text, "{message}"),
+        State::Next(name) if *name == start => text.push_str("next is the start\n"),
+        State::Next(_) => text.push_str("next\n"),
+        State::Retry(_) => text.push_str("retry\n"),
+        State::Ok => text.push_str("ok\n"),
+        State::Nok => text.push_str("nok\n"),
+    }
 }

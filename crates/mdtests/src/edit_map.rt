@@ -1,8 +1,10 @@
 //! Edits of small lists, with answers worked by hand.
 
+ghost use Rattle.markdown.specs.Edits.{AreDisjoint};
 ghost use Rattle.markdown_base.specs.Events.{EndsBelow};
 ghost use Rattle.std.specs.Prelude.{◌≡◌, ◌*◌, ◌^◌, ◌<◌, length, All, None, IfOk, IfSome};
 
+use crate::shown::shown;
 use markdown::event::{Content, Event, Kind, Link, Name, Point};
 use markdown::util::edit_map::EditMap;
 use std::alloc::{AllocError, Global};
@@ -41,12 +43,25 @@ fn linked(previous: Option<usize>, next: Option<usize>) -> Event
     }
 }
 
-fn columns(alloc: Global, events: &[Event]) -> Result<Vec<usize>, AllocError> {
-    let mut out = Vec::new(alloc);
+/// The columns of events, which tell them apart.
+fn columns(alloc: Global, events: &[Event]) -> Result<String, AllocError> {
+    let mut text = String::new(alloc);
     for event in events {
-        out.push(event.point.column)?;
+        let column = event.point.column;
+        write!(text, "{column} ")?;
     }
-    Ok(out)
+    Ok(text)
+}
+
+/// Makes the edits; where memory is refused, once more, as map and events are as they were then.
+fn make(map: &mut EditMap, events: &mut Vec<Event>) -> Result<(), AllocError>
+    requires disjoint { AreDisjoint 0 map.old (length events.old.items) }
+    requires links { All (EndsBelow (length events.old.items)) events.old.items }
+{
+    match map.consume(events) {
+        Ok(()) => Ok(()),
+        Err(_) => map.consume(events),
+    }
 }
 
 /// Six events, with three edits at index 2.
@@ -66,15 +81,16 @@ fn edits_at_one_index(alloc: Global) -> Result<Vec<Event>, AllocError> {
     map.add(2, 2, vec![in alloc; event_at(91)]?)?;
     map.add(2, 0, vec![in alloc; event_at(92)]?)?;
     map.add_before(2, 0, vec![in alloc; event_at(93)]?)?;
-    map.consume(&mut events)?;
+    make(&mut map, &mut events)?;
     Ok(events)
 }
 
 #[test]
-fn edits_at_one_index_merge(rt: HostRuntime) {
-    let events = edits_at_one_index(rt.alloc()).expect(&rt, "memory");
-    let columns = columns(rt.alloc(), &events).expect(&rt, "memory");
-    assert!(rt; columns.as_slice() == [1, 2, 93, 91, 92, 5, 6].as_slice());
+fn edits_at_one_index_merge(rt: HostRuntime) -> Result<(), AllocError> {
+    let events = edits_at_one_index(rt.alloc())?;
+    let text = columns(rt.alloc(), events.as_slice())?;
+    assert_eq!(rt; text.as_str(), "1 2 93 91 92 5 6 ");
+    Ok(())
 }
 
 /// Two chains, one within the stretch of the other, with two events added in front of most.
@@ -94,18 +110,26 @@ fn chains_moved(alloc: Global) -> Result<Vec<Event>, AllocError> {
     )?;
     let mut map = EditMap::new(alloc);
     map.add(1, 0, vec![in alloc; event_at(91), event_at(92)]?)?;
-    map.consume(&mut events)?;
+    make(&mut map, &mut events)?;
     Ok(events)
 }
 
 #[test]
-fn interleaved_chains_are_moved(rt: HostRuntime) {
-    let events = chains_moved(rt.alloc()).expect(&rt, "memory");
-    assert!(rt; events.len() == 10);
-    assert!(rt; events[0].link == linked(None, Some(6)).link);
-    assert!(rt; events[4].link == linked(None, Some(8)).link);
-    assert!(rt; events[6].link == linked(Some(0), None).link);
-    assert!(rt; events[8].link == linked(Some(4), None).link);
+fn interleaved_chains_are_moved(rt: HostRuntime) -> Result<(), AllocError> {
+    let events = chains_moved(rt.alloc())?;
+    let text = shown(rt.alloc(), events.as_slice())?;
+    let want = "enter Data 1:1 (0+0) Text None Some(6)\n\
+        enter Data 1:91 (0+0)\n\
+        enter Data 1:92 (0+0)\n\
+        enter Data 1:2 (0+0)\n\
+        enter Data 1:1 (0+0) Text None Some(8)\n\
+        enter Data 1:4 (0+0)\n\
+        enter Data 1:1 (0+0) Text Some(0) None\n\
+        enter Data 1:6 (0+0)\n\
+        enter Data 1:1 (0+0) Text Some(4) None\n\
+        enter Data 1:8 (0+0)\n";
+    assert_eq!(rt; text.as_str(), want);
+    Ok(())
 }
 
 /// Two chunks in a chain, the second of which goes.
@@ -126,10 +150,13 @@ fn end_removed(alloc: Global) -> Result<Vec<Event>, AllocError> {
 }
 
 #[test]
-fn removed_end_is_none(rt: HostRuntime) {
-    let events = end_removed(rt.alloc()).expect(&rt, "memory");
-    assert!(rt; events.len() == 2);
-    assert!(rt; events[0].link == linked(None, None).link);
+fn removed_end_is_none(rt: HostRuntime) -> Result<(), AllocError> {
+    let events = end_removed(rt.alloc())?;
+    let text = shown(rt.alloc(), events.as_slice())?;
+    let want = "enter Data 1:1 (0+0) Text None None\n\
+        enter Data 1:2 (0+0)\n";
+    assert_eq!(rt; text.as_str(), want);
+    Ok(())
 }
 
 /// An addition at the end, and an edit that is none.
@@ -143,10 +170,11 @@ fn added_at_end(alloc: Global) -> Result<Vec<Event>, AllocError> {
 }
 
 #[test]
-fn addition_at_end_is_last(rt: HostRuntime) {
-    let events = added_at_end(rt.alloc()).expect(&rt, "memory");
-    let columns = columns(rt.alloc(), &events).expect(&rt, "memory");
-    assert!(rt; columns.as_slice() == [1, 2, 91].as_slice());
+fn addition_at_end_is_last(rt: HostRuntime) -> Result<(), AllocError> {
+    let events = added_at_end(rt.alloc())?;
+    let text = columns(rt.alloc(), events.as_slice())?;
+    assert_eq!(rt; text.as_str(), "1 2 91 ");
+    Ok(())
 }
 
 /// An edit that is none, alone.
@@ -159,10 +187,11 @@ fn edited_by_nothing(alloc: Global) -> Result<Vec<Event>, AllocError> {
 }
 
 #[test]
-fn edit_that_is_none_changes_nothing(rt: HostRuntime) {
-    let events = edited_by_nothing(rt.alloc()).expect(&rt, "memory");
-    let columns = columns(rt.alloc(), &events).expect(&rt, "memory");
-    assert!(rt; columns.as_slice() == [1, 2].as_slice());
+fn edit_that_is_none_changes_nothing(rt: HostRuntime) -> Result<(), AllocError> {
+    let events = edited_by_nothing(rt.alloc())?;
+    let text = columns(rt.alloc(), events.as_slice())?;
+    assert_eq!(rt; text.as_str(), "1 2 ");
+    Ok(())
 }
 
 /// Two removals at one index, and an addition in front at an index that has no edit.
@@ -177,10 +206,11 @@ fn removed_twice(alloc: Global) -> Result<Vec<Event>, AllocError> {
 }
 
 #[test]
-fn removals_add_up(rt: HostRuntime) {
-    let events = removed_twice(rt.alloc()).expect(&rt, "memory");
-    let columns = columns(rt.alloc(), &events).expect(&rt, "memory");
-    assert!(rt; columns.as_slice() == [1, 91, 92, 4, 93].as_slice());
+fn removals_add_up(rt: HostRuntime) -> Result<(), AllocError> {
+    let events = removed_twice(rt.alloc())?;
+    let text = columns(rt.alloc(), events.as_slice())?;
+    assert_eq!(rt; text.as_str(), "1 91 92 4 93 ");
+    Ok(())
 }
 
 /// An addition to a list that has no events.
@@ -193,10 +223,11 @@ fn added_to_nothing(alloc: Global) -> Result<Vec<Event>, AllocError> {
 }
 
 #[test]
-fn empty_list_takes_additions(rt: HostRuntime) {
-    let events = added_to_nothing(rt.alloc()).expect(&rt, "memory");
-    let columns = columns(rt.alloc(), &events).expect(&rt, "memory");
-    assert!(rt; columns.as_slice() == [91].as_slice());
+fn empty_list_takes_additions(rt: HostRuntime) -> Result<(), AllocError> {
+    let events = added_to_nothing(rt.alloc())?;
+    let text = columns(rt.alloc(), events.as_slice())?;
+    assert_eq!(rt; text.as_str(), "91 ");
+    Ok(())
 }
 
 /// Two events are added in front of each of a thousand, by an edit of its own.

@@ -1,34 +1,21 @@
 //! Faults: printed forms.
 
-use markdown::message::{Message, Place};
-use markdown::owned::{Boxed, OwnedText};
+use crate::messages::message;
 use markdown::tokenizer::Fault;
-use markdown::unist::Point;
 use std::alloc::{AllocError, Global};
-use std::test::Fail;
 
-/// A message at 1:2.
-fn message(alloc: Global) -> Result<Message, AllocError> {
-    let place = Place::Point(Point::new(1, 2, 1));
-    let rule = OwnedText::from_string(String::from_str(alloc, "r")?);
-    let source = OwnedText::from_string(String::from_str(alloc, "markdown")?);
-    Ok(Message {
-        place: Some(Boxed::from_box(Box::new(alloc, place)?)),
-        reason: OwnedText::from_string(String::from_str(alloc, "x")?),
-        rule_id: Boxed::from_box(Box::new(alloc, rule)?),
-        source: Boxed::from_box(Box::new(alloc, source)?),
-    })
+/// The lines of the faults.
+fn lines(alloc: Global) -> Result<String, AllocError> {
+    let refused = Fault::Message(message(alloc)?);
+    let memory = Fault::from(AllocError);
+    let failed = Fault::Failed;
+    format!(in alloc; "{memory}\n{failed}\n{refused}\n")
 }
 
 #[test]
-fn shows_faults(rt: HostRuntime) -> Result<(), Fail> {
-    for (fault, line) in [
-        (Fault::from(AllocError), "out of memory"),
-        (Fault::Failed, "tokenizer has failed"),
-        (Fault::Message(message(rt.alloc())?), "1:2: x (markdown:r)"),
-    ] {
-        let text = fault.to_string(rt.alloc())?;
-        assert_eq!(rt; text.as_str(), line);
-    }
+fn shows_faults(rt: HostRuntime) -> Result<(), AllocError> {
+    let lines = lines(rt.alloc())?;
+    let want = "out of memory\ntokenizer has failed\n1:2: x (markdown:r)\n";
+    assert_eq!(rt; lines.as_str(), want);
     Ok(())
 }

@@ -42,6 +42,8 @@ mod refusals;
 #[cfg(test)]
 mod resolving;
 #[cfg(test)]
+mod shown;
+#[cfg(test)]
 mod skip;
 #[cfg(test)]
 mod slices;

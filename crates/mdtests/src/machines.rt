@@ -4,40 +4,26 @@ ghost use Rattle.std.specs.Prelude.{◌+◌, ◌*◌, ◌^◌, ◌<◌, length, 
 ghost use Rattle.markdown_base.specs.Presets.{default_parse_options};
 ghost use Rattle.markdown.specs.Engine.{given_by};
 
+use crate::driven::read;
+use crate::shown::shown;
 use markdown::configuration::ParseOptions;
-use markdown::event::{self, Event};
 use markdown::parser::ParseState;
 use markdown::state::{Machine, Name};
-use markdown::tokenizer::{Fault, run};
+use markdown::tokenizer::run;
+use mdconstructs::deep::Deep;
+use mdconstructs::lines::Lines;
 use mdconstructs::paragraphs::Paragraphs;
+use mdconstructs::peek::Peek;
 use mdconstructs::words::Words;
 use std::alloc::{AllocError, Global};
-use std::test::Fail;
 
-/// The ends of an event's link, if it has one.
-fn ends(event: Option<&Event>) -> Option<(Option<usize>, Option<usize>)> {
-    match event {
-        Some(event) => event.link.map(|link| (link.previous, link.next)),
-        None => None,
-    }
-}
-
-/// The names of events, each with its column.
-fn spans(alloc: Global, events: &[Event]) -> Result<Vec<(event::Name, usize)>, AllocError> {
-    let mut spans = Vec::new(alloc);
-    for event in events {
-        spans.push((event.name, event.point.column))?;
-    }
-    Ok(spans)
-}
-
-/// The events of a document, which a machine reads from this start with the default options.
-fn events_of<M: Machine>(
+/// The events of a document, which a machine reads from this start with the default options, or why it is refused.
+pub(crate) fn lines_of<M: Machine>(
     alloc: Global,
     machine: &M,
     start: Name,
     bytes: &[u8],
-) -> Result<Vec<Event>, AllocError>
+) -> Result<String, AllocError>
     requires limit { 4 * length bytes.now + 1 < 2 ^ 64 }
     requires start { Contains (M.rules machine.now (given_by 4 bytes.now default_parse_options)).starts start }
 {
@@ -48,80 +34,155 @@ fn events_of<M: Machine>(
         machine,
     };
     match run(alloc, &parse_state, start, &[], false) {
-        Ok((events, _)) => Ok(events),
-        Err(_fault) => Err(AllocError),
+        Ok((events, _)) => shown(alloc, events.as_slice()),
+        Err(fault) => fault.to_string(alloc),
     }
 }
 
-/// The message by which the machine of words refuses a document, or nothing.
-fn refusal(alloc: Global, bytes: &[u8]) -> Result<String, AllocError>
-    requires { 4 * length bytes.now + 1 < 2 ^ 64 }
-{
+#[test]
+fn chunks_of_a_paragraph_are_linked(rt: HostRuntime) -> Result<(), AllocError> {
+    let text = lines_of(rt.alloc(), &Paragraphs {}, Name::FlowStart, b">a\n>b\n\nc")?;
+    let want = "enter Paragraph 1:1 (0+0)\n\
+        enter BlockQuoteMarker 1:1 (0+0)\n\
+        exit BlockQuoteMarker 1:2 (1+0)\n\
+        enter Data 1:2 (1+0) Text None Some(7)\n\
+        exit Data 2:1 (3+0)\n\
+        enter BlockQuoteMarker 2:1 (3+0)\n\
+        exit BlockQuoteMarker 2:2 (4+0)\n\
+        enter Data 2:2 (4+0) Text Some(3) None\n\
+        exit Data 3:1 (6+0)\n\
+        exit Paragraph 3:1 (6+0)\n\
+        enter BlankLineEnding 3:1 (6+0)\n\
+        exit BlankLineEnding 4:1 (7+0)\n\
+        enter Paragraph 4:1 (7+0)\n\
+        enter Data 4:1 (7+0) Text None None\n\
+        exit Data 4:2 (8+0)\n\
+        exit Paragraph 4:2 (8+0)\n";
+    assert_eq!(rt; text.as_str(), want);
+    Ok(())
+}
+
+#[test]
+fn text_of_chunks_is_data(rt: HostRuntime) -> Result<(), AllocError> {
+    let text = lines_of(rt.alloc(), &Paragraphs {}, Name::TextStart, b"a\nb")?;
+    let want = "enter Data 1:1 (0+0)\n\
+        exit Data 1:2 (1+0)\n\
+        enter LineEnding 1:2 (1+0)\n\
+        exit LineEnding 2:1 (2+0)\n\
+        enter Data 2:1 (2+0)\n\
+        exit Data 2:2 (3+0)\n";
+    assert_eq!(rt; text.as_str(), want);
+    Ok(())
+}
+
+#[test]
+fn words_and_tags_are_data(rt: HostRuntime) -> Result<(), AllocError> {
+    let text = lines_of(rt.alloc(), &Words {}, Name::TextStart, b" a  #b")?;
+    let want = "enter SpaceOrTab 1:1 (0+0)\n\
+        exit SpaceOrTab 1:2 (1+0)\n\
+        enter Data 1:2 (1+0)\n\
+        exit Data 1:3 (2+0)\n\
+        enter SpaceOrTab 1:3 (2+0)\n\
+        exit SpaceOrTab 1:5 (4+0)\n\
+        enter HeadingAtxSequence 1:5 (4+0)\n\
+        exit HeadingAtxSequence 1:6 (5+0)\n\
+        enter Data 1:6 (5+0)\n\
+        exit Data 1:7 (6+0)\n";
+    assert_eq!(rt; text.as_str(), want);
+    Ok(())
+}
+
+#[test]
+fn words_that_stand_badly_are_refused(rt: HostRuntime) -> Result<(), AllocError> {
+    for (bytes, want) in [
+        (
+            b"a   b".as_slice(),
+            "a third blank in a row (limecove:words)",
+        ),
+        (b"a # b".as_slice(), "a tag without a word (limecove:words)"),
+        (b"a #".as_slice(), "a tag without a word (limecove:words)"),
+    ] {
+        assert!(rt; bytes.len() < 9);
+        let text = lines_of(rt.alloc(), &Words {}, Name::TextStart, bytes)?;
+        assert_eq!(rt; text.as_str(), want);
+    }
+    Ok(())
+}
+
+#[test]
+fn lines_are_paragraphs(rt: HostRuntime) -> Result<(), AllocError> {
+    let text = lines_of(rt.alloc(), &Lines {}, Name::FlowStart, b"a\r\nb")?;
+    let want = "enter Paragraph 1:1 (0+0)\n\
+        enter Data 1:1 (0+0)\n\
+        exit Data 1:2 (1+0)\n\
+        exit Paragraph 1:2 (1+0)\n\
+        enter LineEnding 1:2 (1+0)\n\
+        exit LineEnding 2:1 (3+0)\n\
+        enter Paragraph 2:1 (3+0)\n\
+        enter Data 2:1 (3+0)\n\
+        exit Data 2:2 (4+0)\n\
+        exit Paragraph 2:2 (4+0)\n";
+    assert_eq!(rt; text.as_str(), want);
+    Ok(())
+}
+
+#[test]
+fn look_ahead_goes_back(rt: HostRuntime) -> Result<(), AllocError> {
+    let text = lines_of(rt.alloc(), &Peek {}, Name::TextStart, b"a\nb\nc")?;
+    let want = "enter Data 1:1 (0+0)\n\
+        exit Data 1:2 (1+0)\n\
+        enter LineEnding 1:2 (1+0)\n\
+        exit LineEnding 2:1 (2+0)\n\
+        enter Data 2:1 (2+0)\n\
+        exit Data 2:2 (3+0)\n\
+        enter LineEnding 2:2 (3+0)\n\
+        exit LineEnding 3:1 (4+0)\n\
+        enter Data 3:1 (4+0)\n\
+        exit Data 3:2 (5+0)\n";
+    assert_eq!(rt; text.as_str(), want);
+    Ok(())
+}
+
+#[test]
+fn attempts_go_back_one_by_one(rt: HostRuntime) -> Result<(), AllocError> {
+    let text = lines_of(rt.alloc(), &Deep {}, Name::StringStart, b"ab")?;
+    let want = "enter Data 1:1 (0+0)\nexit Data 1:3 (2+0)\n";
+    assert_eq!(rt; text.as_str(), want);
+    Ok(())
+}
+
+/// What is answered where 64 bytes are read by the machine that makes an attempt at each of them.
+fn many_attempts(alloc: Global) -> Result<String, AllocError> {
     let options = ParseOptions::default();
     let parse_state = ParseState {
-        bytes,
+        bytes: b"aaaaaaaaaaaaaaaaaaaaaaaaaaaaaaaaaaaaaaaaaaaaaaaaaaaaaaaaaaaaaaaa",
         options: &options,
-        machine: &Words {},
+        machine: &Deep {},
     };
-    match run(alloc, &parse_state, Name::TextStart, &[], false) {
-        Err(Fault::Message(message)) => format!(in alloc; "{message}"),
-        _ => Ok(String::new(alloc)),
-    }
+    let mut text = String::new(alloc);
+    read(
+        alloc,
+        &mut text,
+        &parse_state,
+        Name::StringStart,
+        (1, 0),
+        false,
+        &[],
+    )?;
+    Ok(text)
 }
 
 #[test]
-fn chunks_of_a_paragraph_are_linked(rt: HostRuntime) -> Result<(), Fail> {
-    let events = events_of(rt.alloc(), &Paragraphs {}, Name::FlowStart, b">a\n>b\n\nc")?;
-    assert_eq!(rt; events.len(), 16);
-    assert_eq!(rt; ends(events.get(3)), Some((None, Some(7))));
-    assert_eq!(rt; ends(events.get(7)), Some((Some(3), None)));
-    assert_eq!(rt; ends(events.get(13)), Some((None, None)));
-    Ok(())
-}
-
-#[test]
-fn text_of_chunks_is_data(rt: HostRuntime) -> Result<(), Fail> {
-    let events = events_of(rt.alloc(), &Paragraphs {}, Name::TextStart, b"a\nb")?;
-    let spans = spans(rt.alloc(), events.as_slice())?;
-    let want = [
-        (event::Name::Data, 1),
-        (event::Name::Data, 2),
-        (event::Name::LineEnding, 2),
-        (event::Name::LineEnding, 1),
-        (event::Name::Data, 1),
-        (event::Name::Data, 2),
-    ];
-    assert_eq!(rt; spans.as_slice(), want.as_slice());
-    Ok(())
-}
-
-#[test]
-fn words_and_tags_are_data(rt: HostRuntime) -> Result<(), Fail> {
-    let events = events_of(rt.alloc(), &Words {}, Name::TextStart, b" a  #b")?;
-    let spans = spans(rt.alloc(), events.as_slice())?;
-    let want = [
-        (event::Name::SpaceOrTab, 1),
-        (event::Name::SpaceOrTab, 2),
-        (event::Name::Data, 2),
-        (event::Name::Data, 3),
-        (event::Name::SpaceOrTab, 3),
-        (event::Name::SpaceOrTab, 5),
-        (event::Name::HeadingAtxSequence, 5),
-        (event::Name::HeadingAtxSequence, 6),
-        (event::Name::Data, 6),
-        (event::Name::Data, 7),
-    ];
-    assert_eq!(rt; spans.as_slice(), want.as_slice());
-    Ok(())
-}
-
-#[test]
-fn words_that_stand_badly_are_refused(rt: HostRuntime) -> Result<(), Fail> {
-    let blanks = refusal(rt.alloc(), b"a   b")?;
-    assert_eq!(rt; blanks.as_str(), "a third blank in a row (limecove:words)");
-    let tag = refusal(rt.alloc(), b"a # b")?;
-    assert_eq!(rt; tag.as_str(), "a tag without a word (limecove:words)");
-    let last = refusal(rt.alloc(), b"a #")?;
-    assert_eq!(rt; last.as_str(), "a tag without a word (limecove:words)");
+fn attempts_may_be_many(rt: HostRuntime) -> Result<(), AllocError> {
+    let text = many_attempts(rt.alloc())?;
+    let want = "next is the start\n\
+        next is the start\n\
+        done: false, notes: 0, definitions:\n\
+        tokenizer has failed\n\
+        2210 calls\n\
+        these resolvers: true\n\
+        enter Data 1:1 (0+0)\n\
+        exit Data 1:65 (64+0)\n";
+    assert_eq!(rt; text.as_str(), want);
     Ok(())
 }

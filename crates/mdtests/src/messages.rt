@@ -4,12 +4,96 @@ use markdown::message::{Message, Place};
 use markdown::owned::{Boxed, OwnedText};
 use markdown::unist::{Point, Position};
 use std::alloc::{AllocError, Global};
-use std::test::Fail;
+
+/// A text of its own.
+fn owned(alloc: Global, text: &str) -> Result<OwnedText, AllocError> {
+    Ok(OwnedText::from_string(String::from_str(alloc, text)?))
+}
 
 /// A text in a box.
-fn boxed_text(text: &str, alloc: Global) -> Result<Boxed<OwnedText>, AllocError> {
-    let text = OwnedText::from_string(String::from_str(alloc, text)?);
-    Ok(Boxed::from_box(Box::new(alloc, text)?))
+fn boxed(alloc: Global, text: &str) -> Result<Boxed<OwnedText>, AllocError> {
+    Ok(Boxed::from_box(Box::new(alloc, owned(alloc, text)?)?))
+}
+
+/// A message without a place, of the rule `r` of `markdown`.
+fn placeless(alloc: Global, reason: &str) -> Result<Message, AllocError> {
+    Ok(Message {
+        place: None,
+        reason: owned(alloc, reason)?,
+        rule_id: boxed(alloc, "r")?,
+        source: boxed(alloc, "markdown")?,
+    })
+}
+
+/// A message of the rule `r` of `markdown`.
+fn placed(alloc: Global, place: Place, reason: &str) -> Result<Message, AllocError> {
+    let place = Some(Boxed::from_box(Box::new(alloc, place)?));
+    Ok(Message {
+        place,
+        ..placeless(alloc, reason)?
+    })
+}
+
+/// The message `1:2: x (markdown:r)`.
+pub(crate) fn message(alloc: Global) -> Result<Message, AllocError> {
+    placed(alloc, Place::Point(Point::new(1, 2, 1)), "x")
+}
+
+/// The line of a message.
+fn line(alloc: Global, place: Place) -> Result<String, AllocError> {
+    let message = placed(alloc, place, "x")?;
+    message.to_string(alloc)
+}
+
+#[test]
+fn shows_messages(rt: HostRuntime) -> Result<(), AllocError> {
+    let later = Place::Point(Point::new(12, 7, 345));
+    let stretch = Place::Position(Position::new(1, 1, 0, 2, 3, 5));
+    for (place, want) in [
+        (later, "12:7: x (markdown:r)"),
+        (stretch, "1:1-2:3: x (markdown:r)"),
+    ] {
+        let line = line(rt.alloc(), place)?;
+        assert_eq!(rt; line.as_str(), want);
+    }
+    Ok(())
+}
+
+#[test]
+fn shows_messages_without_a_place(rt: HostRuntime) -> Result<(), AllocError> {
+    let shown = placeless(rt.alloc(), "x")?.to_string(rt.alloc())?;
+    assert_eq!(rt; shown.as_str(), "x (markdown:r)");
+    Ok(())
+}
+
+#[test]
+fn shows_places(rt: HostRuntime) -> Result<(), AllocError> {
+    let point = Place::Point(Point::new(12, 7, 345));
+    let stretch = Place::Position(Position::new(2, 3, 5, 10, 1, 99));
+    let shown = format!(in rt.alloc(); "{point} {stretch}")?;
+    assert_eq!(rt; shown.as_str(), "12:7 2:3-10:1");
+    Ok(())
+}
+
+/// A clone of a message as it is shown, and whether it is equal.
+fn cloned(alloc: Global, message: &Message) -> Result<String, AllocError> {
+    let copy = message.try_clone(alloc)?;
+    let same = copy == *message;
+    format!(in alloc; "{copy}, equal: {same}")
+}
+
+#[test]
+fn clones_are_equal(rt: HostRuntime) -> Result<(), AllocError> {
+    let point = message(rt.alloc())?;
+    let shown = cloned(rt.alloc(), &point)?;
+    assert_eq!(rt; shown.as_str(), "1:2: x (markdown:r), equal: true");
+    Ok(())
+}
+
+#[test]
+fn messages_differ_by_their_place(rt: HostRuntime) -> Result<(), AllocError> {
+    assert!(rt; message(rt.alloc())? != placeless(rt.alloc(), "x")?);
+    Ok(())
 }
 
 /// A text of 300 bytes.
@@ -21,78 +105,17 @@ fn long_text(alloc: Global) -> Result<String, AllocError> {
     Ok(text)
 }
 
-/// A message of the rule `r` of `markdown`, with the reason `x`.
-fn message(place: Option<Place>, alloc: Global) -> Result<Message, AllocError> {
-    with_reason(place, String::from_str(alloc, "x")?, alloc)
-}
-
-/// A message of the rule `r` of `markdown`.
-fn with_reason(place: Option<Place>, reason: String, alloc: Global) -> Result<Message, AllocError> {
-    let place = match place {
-        Some(place) => Some(Boxed::from_box(Box::new(alloc, place)?)),
-        None => None,
-    };
-    Ok(Message {
-        place,
-        reason: OwnedText::from_string(reason),
-        rule_id: boxed_text("r", alloc)?,
-        source: boxed_text("markdown", alloc)?,
-    })
-}
-
-#[test]
-fn shows_messages(rt: HostRuntime) -> Result<(), Fail> {
-    let point = Place::Point(Point::new(1, 2, 1));
-    let later = Place::Point(Point::new(12, 7, 345));
-    let position = Place::Position(Position::new(1, 1, 0, 2, 3, 5));
-    for (place, want) in [
-        (Some(point), "1:2: x (markdown:r)"),
-        (Some(later), "12:7: x (markdown:r)"),
-        (Some(position), "1:1-2:3: x (markdown:r)"),
-        (None, "x (markdown:r)"),
-    ] {
-        let shown = format!(in rt.alloc(); "{}", message(place, rt.alloc())?)?;
-        assert_eq!(rt; shown.as_str(), want);
-    }
-    Ok(())
-}
-
-#[test]
-fn shows_places(rt: HostRuntime) -> Result<(), Fail> {
-    for (place, want) in [
-        (Place::Point(Point::new(12, 7, 345)), "12:7"),
-        (
-            Place::Position(Position::new(2, 3, 5, 10, 1, 99)),
-            "2:3-10:1",
-        ),
-    ] {
-        let shown = format!(in rt.alloc(); "{place}")?;
-        assert_eq!(rt; shown.as_str(), want);
-    }
-    Ok(())
-}
-
-#[test]
-fn long_reasons_are_shown_and_cloned(rt: HostRuntime) -> Result<(), Fail> {
-    let reason = long_text(rt.alloc())?;
-    let want = format!(in rt.alloc(); "2:3-10:1: {reason} (markdown:r)")?;
+/// A clone of a message with a long reason, as it is shown.
+fn long_cloned(alloc: Global, reason: &str) -> Result<String, AllocError> {
     let place = Place::Position(Position::new(2, 3, 5, 10, 1, 99));
-    let long = with_reason(Some(place), reason, rt.alloc())?;
-    let copy = long.try_clone(rt.alloc())?;
-    assert!(rt; copy == long);
-    assert_eq!(rt; copy.reason.as_str().len(), 300);
-    let shown = format!(in rt.alloc(); "{copy}")?;
-    assert_eq!(rt; shown.as_str(), want.as_str());
-    Ok(())
+    cloned(alloc, &placed(alloc, place, reason)?)
 }
 
 #[test]
-fn clones_are_equal(rt: HostRuntime) -> Result<(), Fail> {
-    let point = message(Some(Place::Point(Point::new(1, 2, 1))), rt.alloc())?;
-    let copy = point.try_clone(rt.alloc())?;
-    assert!(rt; copy == point);
-    let shown = format!(in rt.alloc(); "{copy}")?;
-    assert_eq!(rt; shown.as_str(), "1:2: x (markdown:r)");
-    assert!(rt; copy != message(None, rt.alloc())?);
+fn long_reasons_are_shown_and_cloned(rt: HostRuntime) -> Result<(), AllocError> {
+    let reason = long_text(rt.alloc())?;
+    let shown = long_cloned(rt.alloc(), reason.as_str())?;
+    let want = format!(in rt.alloc(); "2:3-10:1: {reason} (markdown:r), equal: true")?;
+    assert_eq!(rt; shown.as_str(), want.as_str());
     Ok(())
 }

@@ -4,7 +4,6 @@ use markdown::configuration::{CompileOptions, Constructs, Options, ParseOptions}
 use markdown::owned::OwnedText;
 use markdown::util::line_ending::LineEnding;
 use std::alloc::{AllocError, Global};
-use std::test::Fail;
 
 /// A text of its own.
 fn text(text: &str, alloc: Global) -> Result<OwnedText, AllocError> {
@@ -12,7 +11,7 @@ fn text(text: &str, alloc: Global) -> Result<OwnedText, AllocError> {
 }
 
 #[test]
-fn shows_options(rt: HostRuntime) -> Result<(), Fail> {
+fn shows_options(rt: HostRuntime) -> Result<(), AllocError> {
     let shown = format!(in rt.alloc(); "{:?}", ParseOptions::default())?;
     let want =
         "ParseOptions { constructs: Constructs { attention: true, autolink: true, block_quote: true, \
@@ -29,58 +28,102 @@ fn shows_options(rt: HostRuntime) -> Result<(), Fail> {
     Ok(())
 }
 
-#[test]
-fn clones_are_equal(rt: HostRuntime) -> Result<(), Fail> {
-    let label = OwnedText::from_string(String::from_str(rt.alloc(), "Notes de bas de page")?);
-    let options = CompileOptions {
+/// A label as it is shown.
+fn label(label: &Option<OwnedText>) -> &str {
+    match label {
+        Some(text) => text.as_str(),
+        None => "none",
+    }
+}
+
+/// What is told apart in options for a document in HTML: line ending, flags, and each text.
+fn listed(alloc: Global, options: &CompileOptions) -> Result<String, AllocError> {
+    let ending = options.default_line_ending;
+    let html = options.allow_dangerous_html;
+    let filter = options.gfm_tagfilter;
+    let mut text = format!(in alloc; "{ending:?}, html {html}, filter {filter}\n")?;
+    for it in [
+        &options.gfm_footnote_back_label,
+        &options.gfm_footnote_clobber_prefix,
+        &options.gfm_footnote_label_attributes,
+        &options.gfm_footnote_label_tag_name,
+        &options.gfm_footnote_label,
+    ] {
+        text.push_str(label(it))?;
+        text.push('\n')?;
+    }
+    Ok(text)
+}
+
+/// What is told apart in a clone of options.
+fn cloned(alloc: Global, options: &CompileOptions) -> Result<String, AllocError> {
+    let copy = options.try_clone(alloc)?;
+    listed(alloc, &copy)
+}
+
+/// Options with a label of their own.
+fn with_label(alloc: Global) -> Result<CompileOptions, AllocError> {
+    let label = text("Notes de bas de page", alloc)?;
+    Ok(CompileOptions {
         gfm_footnote_label: Some(label),
         ..CompileOptions::gfm()
-    };
-    let copy = options.try_clone(rt.alloc())?;
-    assert!(rt; copy.gfm_footnote_label == options.gfm_footnote_label);
-    assert!(rt; copy.gfm_footnote_label.is_some());
-    assert!(rt; copy.gfm_footnote_back_label.is_none());
-    assert!(rt; copy.gfm_tagfilter);
-    assert!(rt; !copy.allow_dangerous_html);
-    assert_eq!(rt; copy.default_line_ending, LineEnding::LineFeed);
-    Ok(())
+    })
 }
 
 #[test]
-fn clones_have_all_texts(rt: HostRuntime) -> Result<(), Fail> {
-    let options = CompileOptions {
+fn clones_are_equal(rt: HostRuntime) -> Result<(), AllocError> {
+    let options = with_label(rt.alloc())?;
+    let shown = cloned(rt.alloc(), &options)?;
+    let want = "LineFeed, html false, filter true\n\
+        none\n\
+        none\n\
+        none\n\
+        none\n\
+        Notes de bas de page\n";
+    assert_eq!(rt; shown.as_str(), want);
+    Ok(())
+}
+
+/// Options with all texts.
+fn with_texts(alloc: Global) -> Result<CompileOptions, AllocError> {
+    Ok(CompileOptions {
         default_line_ending: LineEnding::CarriageReturnLineFeed,
-        gfm_footnote_back_label: Some(text("Zurück", rt.alloc())?),
-        gfm_footnote_clobber_prefix: Some(text("", rt.alloc())?),
-        gfm_footnote_label_attributes: Some(text("class=\"sr-only\"", rt.alloc())?),
-        gfm_footnote_label_tag_name: Some(text("h1", rt.alloc())?),
-        gfm_footnote_label: Some(text("Fußnoten", rt.alloc())?),
+        gfm_footnote_back_label: Some(text("Zurück", alloc)?),
+        gfm_footnote_clobber_prefix: Some(text("", alloc)?),
+        gfm_footnote_label_attributes: Some(text("class=\"sr-only\"", alloc)?),
+        gfm_footnote_label_tag_name: Some(text("h1", alloc)?),
+        gfm_footnote_label: Some(text("Fußnoten", alloc)?),
         ..CompileOptions::gfm()
-    };
-    let copy = options.try_clone(rt.alloc())?;
-    assert!(rt; copy.gfm_footnote_back_label == Some(text("Zurück", rt.alloc())?));
-    assert!(rt; copy.gfm_footnote_clobber_prefix == Some(text("", rt.alloc())?));
-    assert!(rt; copy.gfm_footnote_label_attributes == Some(text("class=\"sr-only\"", rt.alloc())?));
-    assert!(rt; copy.gfm_footnote_label_tag_name == Some(text("h1", rt.alloc())?));
-    assert!(rt; copy.gfm_footnote_label == Some(text("Fußnoten", rt.alloc())?));
-    assert_eq!(rt;
-        copy.default_line_ending,
-        LineEnding::CarriageReturnLineFeed
-    );
+    })
+}
+
+#[test]
+fn clones_have_all_texts(rt: HostRuntime) -> Result<(), AllocError> {
+    let options = with_texts(rt.alloc())?;
+    let shown = cloned(rt.alloc(), &options)?;
+    let want = "CarriageReturnLineFeed, html false, filter true\n\
+        Zurück\n\
+        \n\
+        class=\"sr-only\"\n\
+        h1\n\
+        Fußnoten\n";
+    assert_eq!(rt; shown.as_str(), want);
     Ok(())
 }
 
 #[test]
-fn presets_differ_where_they_say(rt: HostRuntime) {
+fn presets_of_documents_differ_where_they_say(rt: HostRuntime) {
     let common = Options::default();
     let github = Options::gfm();
-    assert!(rt; !common.parse.constructs.gfm_table);
-    assert!(rt; github.parse.constructs.gfm_table);
+    assert!(rt; !common.parse.constructs.gfm_table && github.parse.constructs.gfm_table);
     assert!(rt; github.parse.constructs.html_flow);
-    assert!(rt; !common.compile.gfm_tagfilter);
-    assert!(rt; github.compile.gfm_tagfilter);
-    assert!(rt; ParseOptions::mdx().constructs == Constructs::mdx());
-    assert!(rt; Constructs::mdx().mdx_jsx_text);
-    assert!(rt; !Constructs::mdx().html_text);
+    assert!(rt; !common.compile.gfm_tagfilter && github.compile.gfm_tagfilter);
+}
+
+#[test]
+fn presets_of_constructs_differ_where_they_say(rt: HostRuntime) {
+    let mdx = ParseOptions::mdx().constructs;
+    assert!(rt; mdx == Constructs::mdx());
+    assert!(rt; mdx.mdx_jsx_text && !mdx.html_text);
     assert!(rt; Constructs::gfm() != Constructs::default());
 }

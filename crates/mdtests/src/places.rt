@@ -15,23 +15,38 @@ fn at(line: usize, column: usize, index: usize, vs: usize) -> Option<Point> {
 
 #[test]
 fn points_of_places(rt: HostRuntime) {
-    let text = b"a\r\nb";
-    assert_eq!(rt; point_at(text, (1, 0)), at(1, 2, 1, 0));
-    assert_eq!(rt; point_at(text, (2, 0)), at(1, 2, 2, 0));
-    assert_eq!(rt; point_at(text, (4, 0)), at(2, 2, 4, 0));
-    assert_eq!(rt; point_at(text, (4, 1)), None);
-    assert_eq!(rt; point_at(text, (5, 0)), None);
+    for (pair, want) in [
+        ((1, 0), at(1, 2, 1, 0)),
+        ((2, 0), at(1, 2, 2, 0)),
+        ((4, 0), at(2, 2, 4, 0)),
+        ((4, 1), None),
+        ((5, 0), None),
+    ] {
+        assert!(rt; point_at(b"a\r\nb", pair) == want);
+    }
 }
 
 #[test]
 fn cuts_of_a_text(rt: HostRuntime) -> Result<(), AllocError> {
-    let text = b"a\tb\r\n\tc";
-    let cuts = cuts_every(rt.alloc(), text, 3)?;
-    assert_eq!(rt; cuts.as_slice(), [(1, 2), (5, 0), (5, 3)].as_slice());
-    let each = cuts_every(rt.alloc(), text, 1)?;
-    assert_eq!(rt; each.len(), 10);
-    assert_eq!(rt; each[4], (4, 0));
-    assert_eq!(rt; cuts_every(rt.alloc(), text, 11)?.len(), 0);
-    assert_eq!(rt; cuts_every(rt.alloc(), b"abc\td", 1)?.len(), 4);
+    for (n, want) in [
+        (
+            1,
+            "[(1, 0), (1, 1), (1, 2), (2, 0), (4, 0), (5, 0), (5, 1), (5, 2), (5, 3), (6, 0)]",
+        ),
+        (3, "[(1, 2), (5, 0), (5, 3)]"),
+        (11, "[]"),
+    ] {
+        assert!(rt; n > 0);
+        let cuts = cuts_every(rt.alloc(), b"a\tb\r\n\tc", n)?;
+        let text = format!(in rt.alloc(); "{cuts:?}")?;
+        assert_eq!(rt; text.as_str(), want);
+    }
+    Ok(())
+}
+
+#[test]
+fn tab_before_a_stop_is_one_byte(rt: HostRuntime) -> Result<(), AllocError> {
+    let cuts = cuts_every(rt.alloc(), b"abc\td", 1)?;
+    assert_eq!(rt; cuts.len(), 4);
     Ok(())
 }

@@ -12,7 +12,12 @@ fn shifts_over_a_tab(rt: HostRuntime) {
         vs: 0,
     };
     let shifted = start.shift_to(b"a\tb", 2);
-    assert_eq!(rt; (shifted.line, shifted.column), (1, 5));
-    assert_eq!(rt; (shifted.index, shifted.vs), (2, 0));
-    assert_eq!(rt; shifted.to_unist(), unist::Point::new(1, 5, 2));
+    let behind = Point {
+        line: 1,
+        column: 5,
+        index: 2,
+        vs: 0,
+    };
+    assert!(rt; shifted == behind);
+    assert!(rt; shifted.to_unist() == unist::Point::new(1, 5, 2));
 }

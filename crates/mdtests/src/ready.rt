@@ -1,151 +1,213 @@
 //! Whether the chains of a list can be read, and whether one is in the first paragraph of a list item.
 
-ghost use Rattle.std.specs.Prelude.{◌<◌, length};
-
-use crate::chunks::{at, chain_around_another, chunk, enter, exit, one_chunk, quote, two_chunks};
+use crate::chunks::Row::{Chunk, Enter, Exit};
+use crate::chunks::{
+    CHAIN_AROUND_ANOTHER, CHAIN_AROUND_CHILDREN, Place, QUOTE, Row, TWO_CHUNKS, listed,
+};
 use markdown::configuration::Constructs;
-use markdown::event::{Content, Event, Name};
+use markdown::event::{Content, Name};
 use mdchildren::subtokenize::{at_first_paragraph_of_list_item, ready};
 use std::alloc::{AllocError, Global};
 
+/// The content of the chains that fit.
+const TEXT: Option<Content> = Some(Content::Text);
+
+/// The content of the chains that fit.
+const STRING: Option<Content> = Some(Content::String);
+
+/// Whether a list over a small document is ready.
+fn is_ready(
+    alloc: Global,
+    list: &[Row],
+    bytes: &[u8],
+    filter: Option<Content>,
+) -> Result<bool, AllocError> {
+    if bytes.len() > 9 {
+        return Err(AllocError);
+    }
+    let events = listed(alloc, list)?;
+    ready(alloc, events.as_slice(), bytes, filter.as_ref())
+}
+
 #[test]
-fn list_of_a_chain_is_ready(rt: HostRuntime) -> Result<(), AllocError> {
-    let alloc = rt.alloc();
-    assert!(rt; ready(alloc, &two_chunks(), b"ab", Some(&Content::Text))?);
-    assert!(rt; ready(alloc, &two_chunks(), b"ab", None)?);
-    assert!(rt; ready(alloc, &quote(), b"> a\n> b", Some(&Content::Text))?);
-    assert!(rt; ready(alloc, &quote(), b"> a\n> b", Some(&Content::String))?);
-    assert!(rt; ready(alloc, &[], b"", None)?);
+fn chains_that_fit_can_be_read(rt: HostRuntime) -> Result<(), AllocError> {
+    for (bytes, filter, want) in [
+        (b"ab".as_slice(), TEXT, true),
+        (b"ab".as_slice(), None, true),
+        (b"a".as_slice(), TEXT, false),
+        (b"\tb".as_slice(), TEXT, false),
+        (b"a".as_slice(), STRING, true),
+    ] {
+        assert!(rt; is_ready(rt.alloc(), &TWO_CHUNKS, bytes, filter)? == want);
+    }
     Ok(())
 }
 
 #[test]
-fn list_of_places_elsewhere_is_not_ready(rt: HostRuntime) -> Result<(), AllocError> {
+fn gaps_of_chains_that_fit_can_be_passed(rt: HostRuntime) -> Result<(), AllocError> {
     let alloc = rt.alloc();
-    assert!(rt; !ready(alloc, &two_chunks(), b"a", Some(&Content::Text))?);
-    assert!(rt; !ready(alloc, &two_chunks(), b"\tb", Some(&Content::Text))?);
-    assert!(rt; ready(alloc, &two_chunks(), b"a", Some(&Content::String))?);
+    for (filter, chain, children) in [
+        (TEXT, true, true),
+        (STRING, false, false),
+        (None, false, false),
+    ] {
+        assert!(rt; is_ready(alloc, &QUOTE, b"> a\n> b", filter)?);
+        assert!(rt; is_ready(alloc, &CHAIN_AROUND_ANOTHER, b"ab\ncd", filter)? == chain);
+        assert!(rt; is_ready(alloc, &CHAIN_AROUND_CHILDREN, b"ab\ncd", filter)? == children);
+    }
     Ok(())
 }
+
+/// Where the only chunk of a list begins and ends, its content, a document, and the content of the chains that fit: whether
+/// the list is ready.
+const PLACES: [(Place, Place, Content, &[u8], Option<Content>, bool); 7] = [
+    ((1, 3, 0, 2), (1, 5, 1, 0), Content::Text, b"\t", TEXT, true),
+    (
+        (1, 3, 0, 2),
+        (1, 5, 0, 4),
+        Content::Text,
+        b"\t",
+        TEXT,
+        false,
+    ),
+    (
+        (1, 1, 0, 0),
+        (1, 1, 1, 0),
+        Content::Text,
+        b"\r\n",
+        TEXT,
+        false,
+    ),
+    (
+        (1, 1, 0, 0),
+        (1, 1, 0, 0),
+        Content::Text,
+        b"\r\n",
+        TEXT,
+        true,
+    ),
+    ((1, 2, 1, 0), (1, 1, 0, 0), Content::Text, b"a", TEXT, false),
+    ((1, 1, 0, 0), (1, 2, 1, 0), Content::Flow, b"a", None, false),
+    ((1, 1, 0, 0), (1, 2, 1, 0), Content::Flow, b"a", TEXT, true),
+];
 
 #[test]
 fn chunk_stands_at_places_that_are_shown(rt: HostRuntime) -> Result<(), AllocError> {
-    let alloc = rt.alloc();
-    let text = Some(&Content::Text);
-    let in_tab = one_chunk(at(1, 3, 0, 2), at(1, 5, 1, 0), Content::Text);
-    assert!(rt; ready(alloc, &in_tab, b"\t", text)?);
-    let behind_tab = one_chunk(at(1, 3, 0, 2), at(1, 5, 0, 4), Content::Text);
-    assert!(rt; !ready(alloc, &behind_tab, b"\t", text)?);
-    let before_lf = one_chunk(at(1, 1, 0, 0), at(1, 1, 1, 0), Content::Text);
-    assert!(rt; !ready(alloc, &before_lf, b"\r\n", text)?);
-    let before_cr = one_chunk(at(1, 1, 0, 0), at(1, 1, 0, 0), Content::Text);
-    assert!(rt; ready(alloc, &before_cr, b"\r\n", text)?);
-    let backwards = one_chunk(at(1, 2, 1, 0), at(1, 1, 0, 0), Content::Text);
-    assert!(rt; !ready(alloc, &backwards, b"a", text)?);
-    let flow = one_chunk(at(1, 1, 0, 0), at(1, 2, 1, 0), Content::Flow);
-    assert!(rt; !ready(alloc, &flow, b"a", None)?);
-    assert!(rt; ready(alloc, &flow, b"a", text)?);
-    Ok(())
-}
-
-#[test]
-fn only_chains_that_fit_are_asked_for_gaps(rt: HostRuntime) -> Result<(), AllocError> {
-    let alloc = rt.alloc();
-    let events = chain_around_another();
-    assert!(rt; ready(alloc, &events, b"ab\ncd", Some(&Content::Text))?);
-    assert!(rt; !ready(alloc, &events, b"ab\ncd", Some(&Content::String))?);
-    assert!(rt; !ready(alloc, &events, b"ab\ncd", None)?);
-    Ok(())
-}
-
-#[test]
-fn any_list_may_be_asked_about(rt: HostRuntime) -> Result<(), AllocError> {
-    let alloc = rt.alloc();
-    let place = at(1, 1, 0, 0);
-    let open = [enter(Name::Paragraph, place)];
-    assert!(rt; !ready(alloc, &open, b"", None)?);
-    let crossed = [
-        enter(Name::Paragraph, place),
-        enter(Name::Emphasis, place),
-        exit(Name::Paragraph, place),
-        exit(Name::Emphasis, place),
-    ];
-    assert!(rt; !ready(alloc, &crossed, b"", None)?);
-    for end in [0, 1, 2, usize::MAX] {
-        let leads_on = [
-            chunk(place, Content::Text, None, Some(end)),
-            exit(Name::Data, place),
-        ];
-        assert!(rt; !ready(alloc, &leads_on, b"", Some(&Content::String))?);
-        let leads_back = [
-            chunk(place, Content::Text, Some(end), None),
-            exit(Name::Data, place),
-        ];
-        assert!(rt; !ready(alloc, &leads_back, b"", Some(&Content::String))?);
+    for (from, to, content, bytes, filter, want) in PLACES {
+        let list = [Chunk(from, content, None, None), Exit(Name::Data, to)];
+        assert!(rt; is_ready(rt.alloc(), &list, bytes, filter)? == want);
     }
-    let mut not_void = one_chunk(place, place, Content::Text);
-    not_void[0].name = Name::Emphasis;
-    not_void[1].name = Name::Emphasis;
-    assert!(rt; !ready(alloc, &not_void, b"", Some(&Content::String))?);
     Ok(())
 }
 
-/// Whether a chain is in the first paragraph of a list item; `None` where the list is not balanced.
+/// Where the text begins.
+const START: Place = (1, 1, 0, 0);
+
+/// A span that does not end.
+const OPEN: [Row; 1] = [Enter(Name::Paragraph, START)];
+
+/// Spans that cross.
+const CROSSED: [Row; 4] = [
+    Enter(Name::Paragraph, START),
+    Enter(Name::Emphasis, START),
+    Exit(Name::Paragraph, START),
+    Exit(Name::Emphasis, START),
+];
+
+#[test]
+fn lists_that_are_not_balanced_are_not_ready(rt: HostRuntime) -> Result<(), AllocError> {
+    assert!(rt; is_ready(rt.alloc(), &[], b"", None)?);
+    assert!(rt; !is_ready(rt.alloc(), &OPEN, b"", None)?);
+    assert!(rt; !is_ready(rt.alloc(), &CROSSED, b"", None)?);
+    Ok(())
+}
+
+#[test]
+fn chunks_are_void(rt: HostRuntime) -> Result<(), AllocError> {
+    let list = [
+        Chunk(START, Content::Text, None, None),
+        Exit(Name::Data, START),
+    ];
+    let mut events = listed(rt.alloc(), &list)?;
+    for event in events.as_mut_slice() {
+        event.name = Name::Emphasis;
+    }
+    assert!(rt; !ready(rt.alloc(), events.as_slice(), b"", Some(&Content::String))?);
+    Ok(())
+}
+
+#[test]
+fn links_may_lead_anywhere(rt: HostRuntime) -> Result<(), AllocError> {
+    for end in [0, 1, 2, usize::MAX] {
+        let on = [
+            Chunk(START, Content::Text, None, Some(end)),
+            Exit(Name::Data, START),
+        ];
+        assert!(rt; !is_ready(rt.alloc(), &on, b"", STRING)?);
+        let back = [
+            Chunk(START, Content::Text, Some(end), None),
+            Exit(Name::Data, START),
+        ];
+        assert!(rt; !is_ready(rt.alloc(), &back, b"", STRING)?);
+    }
+    Ok(())
+}
+
+/// Whether a chain is in the first paragraph of a list item; `None` where the list is not balanced, or ends before the index.
 fn first_paragraph(
     alloc: Global,
-    events: &[Event],
+    list: &[Row],
     index: usize,
     constructs: &Constructs,
-) -> Result<Option<bool>, AllocError>
-    requires { index < length events.now }
-{
-    if !ready(alloc, events, b"", Some(&Content::Flow))? {
+) -> Result<Option<bool>, AllocError> {
+    let events = listed(alloc, list)?;
+    let events = events.as_slice();
+    if index >= events.len() || !ready(alloc, events, b"", Some(&Content::Flow))? {
         return Ok(None);
     }
     Ok(Some(at_first_paragraph_of_list_item(events, index, constructs)))
 }
 
 /// A list item of one line.
-fn item() -> [Event; 8] {
-    let place = at(1, 1, 0, 0);
-    [
-        enter(Name::ListItem, place),
-        enter(Name::ListItemPrefix, place),
-        exit(Name::ListItemPrefix, place),
-        enter(Name::Paragraph, place),
-        chunk(place, Content::Text, None, None),
-        exit(Name::Data, place),
-        exit(Name::Paragraph, place),
-        exit(Name::ListItem, place),
-    ]
-}
+const ITEM: [Row; 8] = [
+    Enter(Name::ListItem, START),
+    Enter(Name::ListItemPrefix, START),
+    Exit(Name::ListItemPrefix, START),
+    Enter(Name::Paragraph, START),
+    Chunk(START, Content::Text, None, None),
+    Exit(Name::Data, START),
+    Exit(Name::Paragraph, START),
+    Exit(Name::ListItem, START),
+];
 
 /// A list item with a blank line after its prefix.
-fn item_after_blank_line() -> [Event; 10] {
-    let place = at(1, 1, 0, 0);
-    [
-        enter(Name::ListItem, place),
-        enter(Name::ListItemPrefix, place),
-        exit(Name::ListItemPrefix, place),
-        enter(Name::BlankLineEnding, place),
-        exit(Name::BlankLineEnding, place),
-        enter(Name::Paragraph, place),
-        chunk(place, Content::Text, None, None),
-        exit(Name::Data, place),
-        exit(Name::Paragraph, place),
-        exit(Name::ListItem, place),
-    ]
-}
+const ITEM_AFTER_BLANK_LINE: [Row; 10] = [
+    Enter(Name::ListItem, START),
+    Enter(Name::ListItemPrefix, START),
+    Exit(Name::ListItemPrefix, START),
+    Enter(Name::BlankLineEnding, START),
+    Exit(Name::BlankLineEnding, START),
+    Enter(Name::Paragraph, START),
+    Chunk(START, Content::Text, None, None),
+    Exit(Name::Data, START),
+    Exit(Name::Paragraph, START),
+    Exit(Name::ListItem, START),
+];
 
 #[test]
 fn first_paragraph_of_a_list_item_is_found(rt: HostRuntime) -> Result<(), AllocError> {
     let alloc = rt.alloc();
     let on = Constructs::gfm();
+    assert!(rt; first_paragraph(alloc, &ITEM, 4, &on)? == Some(true));
+    assert!(rt; first_paragraph(alloc, &ITEM, 2, &on)? == Some(false));
+    assert!(rt; first_paragraph(alloc, &ITEM_AFTER_BLANK_LINE, 6, &on)? == Some(true));
+    assert!(rt; first_paragraph(alloc, &QUOTE, 4, &on)? == Some(false));
+    Ok(())
+}
+
+#[test]
+fn no_list_item_is_a_task_by_default(rt: HostRuntime) -> Result<(), AllocError> {
     let off = Constructs::default();
-    assert!(rt; first_paragraph(alloc, &item(), 4, &on)? == Some(true));
-    assert!(rt; first_paragraph(alloc, &item(), 4, &off)? == Some(false));
-    assert!(rt; first_paragraph(alloc, &item(), 2, &on)? == Some(false));
-    assert!(rt; first_paragraph(alloc, &item_after_blank_line(), 6, &on)? == Some(true));
-    assert!(rt; first_paragraph(alloc, &quote(), 4, &on)? == Some(false));
+    assert!(rt; first_paragraph(rt.alloc(), &ITEM, 4, &off)? == Some(false));
     Ok(())
 }

@@ -1,85 +1,22 @@
 //! Resolvers go over the events once all was read.
 
-ghost use Rattle.std.specs.Prelude.{◌<◌};
-
-use crate::driven::{Answers, read};
+use crate::driven::read;
+use crate::shown::shown;
 use markdown::configuration::ParseOptions;
-use markdown::event::{self, Event, Kind, Point};
 use markdown::parser::ParseState;
-use markdown::state::{Name, State};
-use markdown::subtokenize::Subresult;
-use markdown::tokenizer::{Fault, run};
+use markdown::state::Name;
+use markdown::tokenizer::run;
 use mdconstructs::wrap::{Resolver, Wrap};
 use std::alloc::{AllocError, Global};
-use std::test::Fail;
 
-/// An event at a place of the first line, whose bytes are one column each.
-fn event_at(kind: Kind, name: event::Name, index: usize) -> Event
-    requires { index < 9 }
-{
-    let point = Point {
-        line: 1,
-        column: index + 1,
-        index,
-        vs: 0,
-    };
-    Event {
-        kind,
-        name,
-        point,
-        link: None,
-    }
-}
-
-/// Whether `A` is the one definition that was found.
-fn finds_one(flushed: &Result<Subresult, Fault>) -> bool {
-    match flushed {
-        Ok(sub) => match sub.definitions.as_slice().first() {
-            Some(label) => {
-                label.as_str() == "A"
-                    && sub.definitions.as_slice().len() == 1
-                    && sub.gfm_footnote_definitions.as_slice().is_empty()
-                    && !sub.done
-            }
-            None => false,
-        },
-        Err(_) => false,
-    }
-}
-
-/// Whether nothing was found.
-fn finds_none(flushed: &Result<Subresult, Fault>) -> bool {
-    match flushed {
-        Ok(sub) => sub.definitions.as_slice().is_empty(),
-        Err(_) => false,
-    }
-}
-
-/// Whether a resolver's message was answered.
-fn was_refused(alloc: Global, flushed: &Result<Subresult, Fault>) -> Result<bool, AllocError> {
-    match flushed {
-        Err(Fault::Message(message)) => {
-            let text = format!(in alloc; "{message}")?;
-            Ok(text.as_str() == "1:2: x (markdown:r)")
-        }
-        _ => Ok(false),
-    }
-}
-
-/// Whether a push answered that the tokenizer had failed, or was flushed.
-fn had_failed(pushed: &Result<State, Fault>) -> bool {
-    match pushed {
-        Err(Fault::Failed) => true,
-        _ => false,
-    }
-}
-
-/// Reads `a` up to its end, by the machine that wraps.
+/// Reads `a` up to its end, by the machine that wraps: what was answered, and how the tokenizer was left, where these resolvers
+/// are to be registered.
 fn read_one(
     alloc: Global,
     refuse: bool,
     resolve: bool,
-) -> Result<(Answers, Vec<Resolver>), AllocError> {
+    resolvers: &[Resolver],
+) -> Result<String, AllocError> {
     let options = ParseOptions::default();
     let machine = Wrap { refuse };
     let parse_state = ParseState {
@@ -87,47 +24,65 @@ fn read_one(
         options: &options,
         machine: &machine,
     };
-    read(alloc, &parse_state, Name::TextStart, (1, 0), resolve)
+    let mut text = String::new(alloc);
+    read(
+        alloc,
+        &mut text,
+        &parse_state,
+        Name::TextStart,
+        (1, 0),
+        resolve,
+        resolvers,
+    )?;
+    Ok(text)
 }
 
 #[test]
-fn resolvers_wrap_what_was_read(rt: HostRuntime) -> Result<(), Fail> {
-    let (answers, resolvers) = read_one(rt.alloc(), false, true)?;
-    let want = [
-        event_at(Kind::Enter, event::Name::Paragraph, 0),
-        event_at(Kind::Enter, event::Name::CodeTextData, 0),
-        event_at(Kind::Exit, event::Name::CodeTextData, 1),
-        event_at(Kind::Exit, event::Name::Paragraph, 1),
-    ];
-    assert!(rt; answers.events.as_slice() == want.as_slice());
-    assert!(rt; finds_one(&answers.flushed));
-    assert!(rt; resolvers.as_slice() == [Resolver::C].as_slice());
+fn resolvers_wrap_what_was_read(rt: HostRuntime) -> Result<(), AllocError> {
+    let text = read_one(rt.alloc(), false, true, &[Resolver::C])?;
+    let want = "next\n\
+        next\n\
+        done: false, notes: 0, definitions: A\n\
+        tokenizer has failed\n\
+        4 calls\n\
+        these resolvers: true\n\
+        enter Paragraph 1:1 (0+0)\n\
+        enter CodeTextData 1:1 (0+0)\n\
+        exit CodeTextData 1:2 (1+0)\n\
+        exit Paragraph 1:2 (1+0)\n";
+    assert_eq!(rt; text.as_str(), want);
     Ok(())
 }
 
 #[test]
-fn resolvers_stay_where_none_resolves(rt: HostRuntime) -> Result<(), Fail> {
-    let (answers, resolvers) = read_one(rt.alloc(), true, false)?;
-    let want = [
-        event_at(Kind::Enter, event::Name::Data, 0),
-        event_at(Kind::Exit, event::Name::Data, 1),
-    ];
-    assert!(rt; answers.events.as_slice() == want.as_slice());
-    assert!(rt; finds_none(&answers.flushed));
-    assert!(rt; resolvers.as_slice() == [Resolver::B, Resolver::A].as_slice());
+fn resolvers_stay_where_none_resolves(rt: HostRuntime) -> Result<(), AllocError> {
+    let text = read_one(rt.alloc(), true, false, &[Resolver::B, Resolver::A])?;
+    let want = "next\n\
+        next\n\
+        done: false, notes: 0, definitions:\n\
+        tokenizer has failed\n\
+        4 calls\n\
+        these resolvers: true\n\
+        enter Data 1:1 (0+0)\n\
+        exit Data 1:2 (1+0)\n";
+    assert_eq!(rt; text.as_str(), want);
     Ok(())
 }
 
 #[test]
-fn resolver_refuses_the_document(rt: HostRuntime) -> Result<(), Fail> {
-    let (answers, _resolvers) = read_one(rt.alloc(), true, true)?;
-    assert!(rt; was_refused(rt.alloc(), &answers.flushed)?);
-    assert!(rt; had_failed(&answers.later));
+fn resolver_refuses_the_document(rt: HostRuntime) -> Result<(), AllocError> {
+    let text = read_one(rt.alloc(), true, true, &[])?;
+    let want = "next\n\
+        next\n\
+        1:2: x (markdown:r)\n\
+        tokenizer has failed\n\
+        4 calls\n";
+    assert_eq!(rt; text.as_str(), want);
     Ok(())
 }
 
-/// The events of a run over nothing, by the machine that wraps.
-fn run_nothing(alloc: Global) -> Result<Vec<Event>, Fault> {
+/// The events of a run over nothing, by the machine that wraps, or why it is refused.
+fn run_nothing(alloc: Global) -> Result<String, AllocError> {
     let options = ParseOptions::default();
     let machine = Wrap { refuse: false };
     let parse_state = ParseState {
@@ -135,20 +90,16 @@ fn run_nothing(alloc: Global) -> Result<Vec<Event>, Fault> {
         options: &options,
         machine: &machine,
     };
-    let (events, _sub) = run(alloc, &parse_state, Name::TextStart, &[], true)?;
-    Ok(events)
+    match run(alloc, &parse_state, Name::TextStart, &[], true) {
+        Ok((events, _)) => shown(alloc, events.as_slice()),
+        Err(fault) => fault.to_string(alloc),
+    }
 }
 
 #[test]
-fn nothing_is_wrapped_too(rt: HostRuntime) -> Result<(), Fail> {
-    let want = [
-        event_at(Kind::Enter, event::Name::Paragraph, 0),
-        event_at(Kind::Exit, event::Name::Paragraph, 0),
-    ];
-    let result = run_nothing(rt.alloc());
-    match &result {
-        Ok(events) => assert!(rt; events.as_slice() == want.as_slice()),
-        Err(_) => assert!(rt; false),
-    }
+fn nothing_is_wrapped_too(rt: HostRuntime) -> Result<(), AllocError> {
+    let text = run_nothing(rt.alloc())?;
+    let want = "enter Paragraph 1:1 (0+0)\nexit Paragraph 1:1 (0+0)\n";
+    assert_eq!(rt; text.as_str(), want);
     Ok(())
 }

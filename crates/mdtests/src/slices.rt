@@ -4,7 +4,7 @@ ghost use Rattle.std.specs.Prelude.{◌≡◌, None};
 
 use markdown::event::{Event, Kind, Name, Point};
 use markdown::util::slice::{Position, Slice};
-use std::test::Fail;
+use std::alloc::{AllocError, Global};
 
 const fn at(column: usize, index: usize, vs: usize) -> Point
     ensures { result ≡ record { line = 1; column = column; index = index; vs = vs } }
@@ -28,8 +28,23 @@ fn event(kind: Kind, name: Name, point: Point) -> Event
     }
 }
 
+/// A small slice: what it counts, its length, and what it is written as.
+fn seen(alloc: Global, slice: &Slice) -> Result<String, AllocError> {
+    let Slice {
+        bytes,
+        before,
+        after,
+    } = *slice;
+    if str::from_utf8(bytes).is_err() || bytes.len() > 9 || before > 9 || after > 9 {
+        return String::from_str(alloc, "not small");
+    }
+    let len = slice.len();
+    let written = slice.serialize(alloc)?;
+    format!(in alloc; "{before} and {after} of {len}: '{written}'")
+}
+
 #[test]
-fn begins_inside_a_tab(rt: HostRuntime) -> Result<(), Fail> {
+fn begins_inside_a_tab(rt: HostRuntime) -> Result<(), AllocError> {
     let start = at(7, 5, 1);
     let end = at(12, 9, 0);
     let slice = Slice::from_position(
@@ -39,22 +54,13 @@ fn begins_inside_a_tab(rt: HostRuntime) -> Result<(), Fail> {
             end: &end,
         },
     );
-    assert_eq!(rt; slice.before, 2);
-    assert_eq!(rt; slice.bytes, b"foo".as_slice());
-    assert_eq!(rt; slice.after, 0);
-    assert!(rt;
-        str::from_utf8(slice.bytes).is_ok()
-            && slice.bytes.len() < 4
-            && slice.before < 3
-            && slice.after < 3
-    );
-    assert_eq!(rt; slice.len(), 5);
-    assert_eq!(rt; slice.serialize(rt.alloc())?.as_str(), "  foo");
+    let text = seen(rt.alloc(), &slice)?;
+    assert_eq!(rt; text.as_str(), "2 and 0 of 5: '  foo'");
     Ok(())
 }
 
 #[test]
-fn stays_inside_a_tab(rt: HostRuntime) -> Result<(), Fail> {
+fn stays_inside_a_tab(rt: HostRuntime) -> Result<(), AllocError> {
     let start = at(7, 5, 1);
     let end = at(8, 5, 2);
     let slice = Slice::from_position(
@@ -64,92 +70,88 @@ fn stays_inside_a_tab(rt: HostRuntime) -> Result<(), Fail> {
             end: &end,
         },
     );
-    assert_eq!(rt; slice.before, 1);
-    assert_eq!(rt; slice.bytes.len(), 0);
-    assert_eq!(rt; slice.after, 0);
-    assert!(rt;
-        str::from_utf8(slice.bytes).is_ok()
-            && slice.bytes.len() < 4
-            && slice.before < 3
-            && slice.after < 3
-    );
-    assert_eq!(rt; slice.len(), 1);
-    assert_eq!(rt; slice.serialize(rt.alloc())?.as_str(), " ");
+    let text = seen(rt.alloc(), &slice)?;
+    assert_eq!(rt; text.as_str(), "1 and 0 of 1: ' '");
     Ok(())
 }
 
 #[test]
-fn ends_inside_a_tab(rt: HostRuntime) -> Result<(), Fail> {
+fn ends_inside_a_tab(rt: HostRuntime) -> Result<(), AllocError> {
+    let start = at(1, 0, 0);
+    let end = at(4, 1, 2);
+    let slice = Slice::from_position(
+        b"a\tb",
+        &Position {
+            start: &start,
+            end: &end,
+        },
+    );
+    let text = seen(rt.alloc(), &slice)?;
+    assert_eq!(rt; text.as_str(), "0 and 1 of 3: 'a\t '");
+    Ok(())
+}
+
+#[test]
+fn positions_have_indices(rt: HostRuntime) {
     let start = at(1, 0, 0);
     let end = at(4, 1, 2);
     let position = Position {
         start: &start,
         end: &end,
     };
-    assert_eq!(rt; position.to_indices(), (0, 1));
-    let slice = Slice::from_position(b"a\tb", &position);
-    assert_eq!(rt; slice.before, 0);
-    assert_eq!(rt; slice.bytes, b"a\t".as_slice());
-    assert_eq!(rt; slice.after, 1);
-    assert!(rt;
-        str::from_utf8(slice.bytes).is_ok()
-            && slice.bytes.len() < 4
-            && slice.before < 3
-            && slice.after < 3
-    );
-    assert_eq!(rt; slice.len(), 3);
-    assert_eq!(rt; slice.serialize(rt.alloc())?.as_str(), "a\t ");
-    Ok(())
+    assert!(rt; position.to_indices() == (0, 1));
 }
 
 #[test]
-fn writes_spaces_and_bytes(rt: HostRuntime) -> Result<(), Fail> {
-    for (bytes, before, after, shown) in [
-        (b"foo".as_slice(), 2, 0, "  foo"),
-        (b"".as_slice(), 1, 0, " "),
-        (b"a\t".as_slice(), 0, 1, "a\t "),
+fn writes_spaces_and_bytes(rt: HostRuntime) -> Result<(), AllocError> {
+    for (bytes, before, after, want) in [
+        (b"foo".as_slice(), 2, 0, "2 and 0 of 5: '  foo'"),
+        (b"".as_slice(), 1, 0, "1 and 0 of 1: ' '"),
+        (b"a\t".as_slice(), 0, 1, "0 and 1 of 3: 'a\t '"),
     ] {
         let slice = Slice {
             bytes,
             before,
             after,
         };
-        assert!(rt;
-            str::from_utf8(slice.bytes).is_ok() && slice.bytes.len() < 4 && before < 3 && after < 3
-        );
-        assert_eq!(rt; slice.len(), shown.len());
-        assert_eq!(rt; slice.serialize(rt.alloc())?.as_str(), shown);
+        let text = seen(rt.alloc(), &slice)?;
+        assert_eq!(rt; text.as_str(), want);
     }
     Ok(())
 }
 
+/// A byte among many spaces, as it is written.
+fn among_spaces(alloc: Global, before: usize, after: usize) -> Result<String, AllocError> {
+    let mut text = String::new(alloc);
+    for _i in 0..before {
+        text.push(' ')?;
+    }
+    text.push('x')?;
+    for _i in 0..after {
+        text.push(' ')?;
+    }
+    Ok(text)
+}
+
 #[test]
-fn writes_many_spaces(rt: HostRuntime) -> Result<(), Fail> {
-    let mut want = String::new(rt.alloc());
-    for _i in 0..300 {
-        want.push(' ')?;
-    }
-    want.push('x')?;
-    for _i in 0..200 {
-        want.push(' ')?;
-    }
+fn writes_many_spaces(rt: HostRuntime) -> Result<(), AllocError> {
+    let want = among_spaces(rt.alloc(), 300, 200)?;
     let slice = Slice {
         bytes: b"x",
         before: 300,
         after: 200,
     };
     assert!(rt; str::from_utf8(slice.bytes).is_ok());
-    assert_eq!(rt; slice.len(), 501);
-    assert_eq!(rt; slice.serialize(rt.alloc())?.as_str(), want.as_str());
+    let written = slice.serialize(rt.alloc())?;
+    assert_eq!(rt; written.as_str(), want.as_str());
     Ok(())
 }
 
 #[test]
-fn takes_bytes_between_indices(rt: HostRuntime) -> Result<(), Fail> {
+fn takes_bytes_between_indices(rt: HostRuntime) -> Result<(), AllocError> {
     let slice = Slice::from_indices(b"abc", 1, 2);
-    assert_eq!(rt; slice.before, 0);
-    assert_eq!(rt; slice.bytes, b"b".as_slice());
-    assert_eq!(rt; slice.after, 0);
+    let text = seen(rt.alloc(), &slice)?;
+    assert_eq!(rt; text.as_str(), "0 and 0 of 1: 'b'");
     Ok(())
 }
 
@@ -161,6 +163,6 @@ fn finds_the_enter_of_an_exit(rt: HostRuntime) {
         event(Kind::Exit, Name::Data, at(3, 2, 0)),
         event(Kind::Exit, Name::Paragraph, at(3, 2, 0)),
     ];
-    assert_eq!(rt; Position::from_exit_event(&events, 3).to_indices(), (0, 2));
-    assert_eq!(rt; Position::from_exit_event(&events, 2).to_indices(), (1, 2));
+    assert!(rt; Position::from_exit_event(&events, 3).to_indices() == (0, 2));
+    assert!(rt; Position::from_exit_event(&events, 2).to_indices() == (1, 2));
 }

@@ -1,48 +1,48 @@
 //! States: clones, and the message of an error.
 
-use markdown::message::{Message, Place};
-use markdown::owned::{Boxed, OwnedText};
+use crate::messages::message;
 use markdown::state::{Name, State};
-use markdown::unist::Point;
 use std::alloc::{AllocError, Global};
-use std::test::Fail;
 
-/// A message at 1:2.
-fn message(alloc: Global) -> Result<Message, AllocError> {
-    let place = Place::Point(Point::new(1, 2, 1));
-    let rule = OwnedText::from_string(String::from_str(alloc, "r")?);
-    let source = OwnedText::from_string(String::from_str(alloc, "markdown")?);
-    Ok(Message {
-        place: Some(Boxed::from_box(Box::new(alloc, place)?)),
-        reason: OwnedText::from_string(String::from_str(alloc, "x")?),
-        rule_id: Boxed::from_box(Box::new(alloc, rule)?),
-        source: Boxed::from_box(Box::new(alloc, source)?),
-    })
+/// Whether the clone of a state is equal to it.
+fn is_cloned(alloc: Global, state: State) -> Result<bool, AllocError> {
+    Ok(state.try_clone(alloc)? == state)
 }
 
 #[test]
-fn clones_are_equal(rt: HostRuntime) -> Result<(), Fail> {
-    let refused = State::Error(message(rt.alloc())?);
-    assert!(rt; refused.try_clone(rt.alloc())? == refused);
-    for state in [
-        State::Ok,
-        State::Nok,
-        State::Next(Name::TextStart),
-        State::Retry(Name::TextStart),
-    ] {
-        assert!(rt; state.try_clone(rt.alloc())? == state);
-    }
-    let next = State::Next(Name::FlowStart);
-    assert!(rt; next != State::Retry(Name::FlowStart));
-    assert!(rt; next != State::Next(Name::TextStart));
-    assert!(rt; next != refused);
+fn clones_are_equal(rt: HostRuntime) -> Result<(), AllocError> {
+    assert!(rt; is_cloned(rt.alloc(), State::Ok)?);
+    assert!(rt; is_cloned(rt.alloc(), State::Nok)?);
+    assert!(rt; is_cloned(rt.alloc(), State::Next(Name::TextStart))?);
+    assert!(rt; is_cloned(rt.alloc(), State::Retry(Name::TextStart))?);
     Ok(())
 }
 
 #[test]
-fn gives_the_message_of_an_error_alone(rt: HostRuntime) -> Result<(), Fail> {
-    assert!(rt; State::Ok.to_result() == Ok(()));
-    let refused = State::Error(message(rt.alloc())?);
-    assert!(rt; refused.to_result() == Err(message(rt.alloc())?));
+fn clones_of_errors_are_equal(rt: HostRuntime) -> Result<(), AllocError> {
+    assert!(rt; is_cloned(rt.alloc(), State::Error(message(rt.alloc())?))?);
+    Ok(())
+}
+
+#[test]
+fn states_differ(rt: HostRuntime) {
+    let next = State::Next(Name::FlowStart);
+    assert!(rt; next != State::Retry(Name::FlowStart));
+    assert!(rt; next != State::Next(Name::TextStart));
+}
+
+/// What an error state answers as a result is its message, as this line.
+fn result_of_an_error(alloc: Global) -> Result<String, AllocError> {
+    match State::Error(message(alloc)?).to_result() {
+        Ok(()) => Ok(String::new(alloc)),
+        Err(message) => message.to_string(alloc),
+    }
+}
+
+#[test]
+fn gives_the_message_of_an_error_alone(rt: HostRuntime) -> Result<(), AllocError> {
+    assert!(rt; State::Ok.to_result().is_ok());
+    let line = result_of_an_error(rt.alloc())?;
+    assert_eq!(rt; line.as_str(), "1:2: x (markdown:r)");
     Ok(())
 }

@@ -5,13 +5,13 @@ ghost use Rattle.markdown_base.specs.Presets.{default_parse_options};
 ghost use Rattle.markdown.specs.Engine.{given_by};
 ghost use Rattle.mdchildren.specs.Reads.{start_name};
 
-use crate::chunks::{at, chain_around_another, chunk, enter, exit, quote};
+use crate::chunks::Row::{Chunk, Enter, Exit};
+use crate::chunks::{CHAIN_AROUND_ANOTHER, CHAIN_AROUND_CHILDREN, EMPTY_CHUNK, QUOTE, Row, listed};
+use crate::shown::{push_answer, push_lines, shown};
 use markdown::configuration::ParseOptions;
 use markdown::event::{Content, Event, Name};
 use markdown::parser::ParseState;
 use markdown::state::{self, Machine};
-use markdown::subtokenize::Subresult;
-use markdown::tokenizer::Fault;
 use mdchildren::subtokenize::{ready, subtokenize};
 use mdconstructs::deep::Deep;
 use mdconstructs::fail::Fail;
@@ -19,22 +19,22 @@ use mdconstructs::paragraphs::Paragraphs;
 use mdconstructs::wrap::Wrap;
 use std::alloc::{AllocError, Global};
 
-/// Puts the children of the chains of one content, which are read from this start, in their place. `None` where the list is not
-/// ready.
-fn with_children<M: Machine>(
+/// Puts the children of the chains of one content, which are read from this start, in their place, and appends what was answered.
+fn put_children<M: Machine>(
     alloc: Global,
+    text: &mut String,
     events: &mut Vec<Event>,
     bytes: &[u8],
     machine: &M,
     content: Content,
     start: state::Name,
-) -> Result<Option<Result<Subresult, Fault>>, AllocError>
+) -> Result<(), AllocError>
     requires limit { 4 * length bytes.now + 1 < 2 ^ 64 }
     requires name { start_name content ≡ Some start }
     requires start { Contains (M.rules machine.now (given_by 4 bytes.now default_parse_options)).starts start }
 {
     if !ready(alloc, events.as_slice(), bytes, Some(&content))? {
-        return Ok(None);
+        return text.push_str("not ready\n");
     }
     let options = ParseOptions::default();
     let parse_state = ParseState {
@@ -42,347 +42,296 @@ fn with_children<M: Machine>(
         options: &options,
         machine,
     };
-    Ok(Some(subtokenize(alloc, events, &parse_state, Some(&content))))
+    let answer = subtokenize(alloc, events, &parse_state, Some(&content));
+    push_answer(text, &answer)
+}
+
+/// Puts the children of the chains of one content in their place: what was answered, and then the list as it is afterwards.
+pub(crate) fn with_children<M: Machine>(
+    alloc: Global,
+    list: &[Row],
+    bytes: &[u8],
+    machine: &M,
+    content: Content,
+    start: state::Name,
+) -> Result<String, AllocError>
+    requires limit { 4 * length bytes.now + 1 < 2 ^ 64 }
+    requires name { start_name content ≡ Some start }
+    requires start { Contains (M.rules machine.now (given_by 4 bytes.now default_parse_options)).starts start }
+{
+    let mut events = listed(alloc, list)?;
+    let mut text = String::new(alloc);
+    put_children(
+        alloc,
+        &mut text,
+        &mut events,
+        bytes,
+        machine,
+        content,
+        start,
+    )?;
+    push_lines(&mut text, events.as_slice())?;
+    Ok(text)
 }
 
 /// Reads the chains of text as lines of data.
-fn with_lines(
-    alloc: Global,
-    events: &mut Vec<Event>,
-    bytes: &[u8],
-) -> Result<Option<Result<Subresult, Fault>>, AllocError>
+fn with_lines(alloc: Global, list: &[Row], bytes: &[u8]) -> Result<String, AllocError>
     requires limit { 4 * length bytes.now + 1 < 2 ^ 64 }
 {
     let machine = Paragraphs {};
-    with_children(
-        alloc,
-        events,
-        bytes,
-        &machine,
-        Content::Text,
-        state::Name::TextStart,
-    )
-}
-
-/// Whether the list was ready, nothing was refused, and `done` is this.
-fn is_done(answer: &Option<Result<Subresult, Fault>>, done: bool) -> bool {
-    match answer {
-        Some(Ok(sub)) => sub.done == done,
-        _ => false,
-    }
-}
-
-/// A quoted paragraph of two lines, with the children of its chain.
-fn quote_of_data() -> [Event; 14] {
-    [
-        quote()[0],
-        quote()[1],
-        quote()[2],
-        quote()[3],
-        enter(Name::Data, at(1, 3, 2, 0)),
-        exit(Name::Data, at(1, 4, 3, 0)),
-        enter(Name::LineEnding, at(1, 4, 3, 0)),
-        exit(Name::LineEnding, at(2, 1, 4, 0)),
-        quote()[6],
-        quote()[7],
-        enter(Name::Data, at(2, 3, 6, 0)),
-        exit(Name::Data, at(2, 4, 7, 0)),
-        quote()[10],
-        quote()[11],
-    ]
+    let start = state::Name::TextStart;
+    with_children(alloc, list, bytes, &machine, Content::Text, start)
 }
 
 #[test]
 fn child_stands_in_place_of_its_chunks(rt: HostRuntime) -> Result<(), AllocError> {
-    let mut events = Vec::from_array(rt.alloc(), quote())?;
-    let answer = with_lines(rt.alloc(), &mut events, b"> a\n> b")?;
-    assert!(rt; is_done(&answer, false));
-    assert!(rt; events.as_slice() == quote_of_data().as_slice());
+    let text = with_lines(rt.alloc(), &QUOTE, b"> a\n> b")?;
+    let want = "done: false, notes: 0, definitions:\n\
+        enter BlockQuote 1:1 (0+0)\n\
+        enter BlockQuotePrefix 1:1 (0+0)\n\
+        exit BlockQuotePrefix 1:3 (2+0)\n\
+        enter Paragraph 1:3 (2+0)\n\
+        enter Data 1:3 (2+0)\n\
+        exit Data 1:4 (3+0)\n\
+        enter LineEnding 1:4 (3+0)\n\
+        exit LineEnding 2:1 (4+0)\n\
+        enter BlockQuotePrefix 2:1 (4+0)\n\
+        exit BlockQuotePrefix 2:3 (6+0)\n\
+        enter Data 2:3 (6+0)\n\
+        exit Data 2:4 (7+0)\n\
+        exit Paragraph 2:4 (7+0)\n\
+        exit BlockQuote 2:4 (7+0)\n";
+    assert_eq!(rt; text.as_str(), want);
     Ok(())
 }
 
 #[test]
 fn nothing_is_done_where_no_chain_fits(rt: HostRuntime) -> Result<(), AllocError> {
-    let mut events = Vec::from_array(rt.alloc(), quote())?;
     let start = state::Name::StringStart;
     let document = b"> a\n> b";
-    let answer = with_children(
+    let text = with_children(
         rt.alloc(),
-        &mut events,
+        &QUOTE,
         document,
         &Deep {},
         Content::String,
         start,
     )?;
-    assert!(rt; is_done(&answer, true));
-    assert!(rt; events.as_slice() == quote().as_slice());
+    let want = "done: true, notes: 0, definitions:\n\
+        enter BlockQuote 1:1 (0+0)\n\
+        enter BlockQuotePrefix 1:1 (0+0)\n\
+        exit BlockQuotePrefix 1:3 (2+0)\n\
+        enter Paragraph 1:3 (2+0)\n\
+        enter Data 1:3 (2+0) Text None Some(8)\n\
+        exit Data 2:1 (4+0)\n\
+        enter BlockQuotePrefix 2:1 (4+0)\n\
+        exit BlockQuotePrefix 2:3 (6+0)\n\
+        enter Data 2:3 (6+0) Text Some(4) None\n\
+        exit Data 2:4 (7+0)\n\
+        exit Paragraph 2:4 (7+0)\n\
+        exit BlockQuote 2:4 (7+0)\n";
+    assert_eq!(rt; text.as_str(), want);
     Ok(())
-}
-
-/// Also where some growth is refused, which `rt try --test --fail-alloc N` does.
-#[test]
-fn refused_memory_leaves_the_events(rt: HostRuntime) -> Result<(), AllocError> {
-    let mut events = Vec::from_array(rt.alloc(), quote())?;
-    let answer = with_lines(rt.alloc(), &mut events, b"> a\n> b");
-    match &answer {
-        Ok(answer) if is_done(answer, false) => {
-            assert!(rt; events.as_slice() == quote_of_data().as_slice())
-        }
-        Err(_) | Ok(Some(Err(Fault::Memory))) => {
-            assert!(rt; events.as_slice() == quote().as_slice())
-        }
-        Ok(_) => assert!(rt; false),
-    }
-    Ok(())
-}
-
-/// Whether a child was refused, with the machine's message.
-fn was_refused(
-    alloc: Global,
-    answer: &Option<Result<Subresult, Fault>>,
-) -> Result<bool, AllocError> {
-    match answer {
-        Some(Err(Fault::Message(message))) => {
-            let text = format!(in alloc; "{message}")?;
-            Ok(text.as_str() == "1:2: x (markdown:r)")
-        }
-        _ => Ok(false),
-    }
 }
 
 /// `"abc"` as two chunks, each in a chain of its own.
-fn two_chains() -> [Event; 4] {
-    [
-        chunk(at(1, 1, 0, 0), Content::Text, None, None),
-        exit(Name::Data, at(1, 2, 1, 0)),
-        chunk(at(1, 2, 1, 0), Content::Text, None, None),
-        exit(Name::Data, at(1, 4, 3, 0)),
-    ]
+const TWO_CHAINS: [Row; 4] = [
+    Chunk((1, 1, 0, 0), Content::Text, None, None),
+    Exit(Name::Data, (1, 2, 1, 0)),
+    Chunk((1, 2, 1, 0), Content::Text, None, None),
+    Exit(Name::Data, (1, 4, 3, 0)),
+];
+
+/// The lines of two chains that were left as they are, behind a machine's message.
+const REFUSED: &str = "1:2: x (markdown:r)\n\
+    enter Data 1:1 (0+0) Text None None\n\
+    exit Data 1:2 (1+0)\n\
+    enter Data 1:2 (1+0) Text None None\n\
+    exit Data 1:4 (3+0)\n";
+
+/// Reads two chains by a machine that refuses at a call.
+fn refused_at(alloc: Global, at: usize) -> Result<String, AllocError> {
+    let machine = Fail { at };
+    let start = state::Name::TextStart;
+    with_children(alloc, &TWO_CHAINS, b"abc", &machine, Content::Text, start)
 }
 
 #[test]
 fn message_of_the_second_chain_leaves_the_first(rt: HostRuntime) -> Result<(), AllocError> {
-    let start = state::Name::TextStart;
-    for (calls, refused) in [(0, true), (1, true), (2, true), (3, false)] {
-        let mut events = Vec::from_array(rt.alloc(), two_chains())?;
-        let machine = Fail { at: calls };
-        let answer = with_children(
-            rt.alloc(),
-            &mut events,
-            b"abc",
-            &machine,
-            Content::Text,
-            start,
-        )?;
-        if refused {
-            assert!(rt; was_refused(rt.alloc(), &answer)?, "after {calls}");
-            assert!(rt; events.as_slice() == two_chains().as_slice());
-        } else {
-            assert!(rt; is_done(&answer, false));
-            assert!(rt; events.is_empty());
-        }
+    for (calls, want) in [
+        (0, REFUSED),
+        (1, REFUSED),
+        (2, REFUSED),
+        (3, "done: false, notes: 0, definitions:\n"),
+    ] {
+        let text = refused_at(rt.alloc(), calls)?;
+        assert_eq!(rt; text.as_str(), want, "after {calls}");
     }
     Ok(())
 }
 
+/// Reads two chains by a machine whose resolvers wrap, or refuse.
+fn wrapped(alloc: Global, refuse: bool) -> Result<String, AllocError> {
+    let machine = Wrap { refuse };
+    let start = state::Name::TextStart;
+    with_children(alloc, &TWO_CHAINS, b"abc", &machine, Content::Text, start)
+}
+
 #[test]
 fn children_are_resolved_in_order(rt: HostRuntime) -> Result<(), AllocError> {
-    let mut events = Vec::from_array(rt.alloc(), two_chains())?;
-    let machine = Wrap { refuse: false };
-    let start = state::Name::TextStart;
-    let answer = with_children(
-        rt.alloc(),
-        &mut events,
-        b"abc",
-        &machine,
-        Content::Text,
-        start,
-    )?;
-    let want = [
-        enter(Name::Paragraph, at(1, 1, 0, 0)),
-        enter(Name::CodeTextData, at(1, 1, 0, 0)),
-        exit(Name::CodeTextData, at(1, 2, 1, 0)),
-        exit(Name::Paragraph, at(1, 2, 1, 0)),
-        enter(Name::Paragraph, at(1, 2, 1, 0)),
-        enter(Name::CodeTextData, at(1, 2, 1, 0)),
-        exit(Name::CodeTextData, at(1, 4, 3, 0)),
-        exit(Name::Paragraph, at(1, 4, 3, 0)),
-    ];
-    assert!(rt; events.as_slice() == want.as_slice());
-    match &answer {
-        Some(Ok(sub)) => {
-            assert!(rt; !sub.done);
-            let found = sub.definitions.as_slice();
-            assert_eq!(rt; found.len(), 2);
-            assert!(rt; found.iter().all(|label| label.as_str() == "A"));
-            assert!(rt; sub.gfm_footnote_definitions.as_slice().is_empty());
-        }
-        _ => assert!(rt; false),
-    }
+    let text = wrapped(rt.alloc(), false)?;
+    let want = "done: false, notes: 0, definitions: A A\n\
+        enter Paragraph 1:1 (0+0)\n\
+        enter CodeTextData 1:1 (0+0)\n\
+        exit CodeTextData 1:2 (1+0)\n\
+        exit Paragraph 1:2 (1+0)\n\
+        enter Paragraph 1:2 (1+0)\n\
+        enter CodeTextData 1:2 (1+0)\n\
+        exit CodeTextData 1:4 (3+0)\n\
+        exit Paragraph 1:4 (3+0)\n";
+    assert_eq!(rt; text.as_str(), want);
     Ok(())
 }
 
 #[test]
 fn message_of_a_resolver_leaves_the_events(rt: HostRuntime) -> Result<(), AllocError> {
-    let mut events = Vec::from_array(rt.alloc(), two_chains())?;
-    let machine = Wrap { refuse: true };
-    let start = state::Name::TextStart;
-    let answer = with_children(
-        rt.alloc(),
-        &mut events,
-        b"abc",
-        &machine,
-        Content::Text,
-        start,
-    )?;
-    assert!(rt; was_refused(rt.alloc(), &answer)?);
-    assert!(rt; events.as_slice() == two_chains().as_slice());
+    let text = wrapped(rt.alloc(), true)?;
+    assert_eq!(rt; text.as_str(), REFUSED);
     Ok(())
 }
+
+/// A paragraph of two lines, the second quoted, over a carriage return with a line feed.
+const AFTER_CRLF: [Row; 8] = [
+    Enter(Name::Paragraph, (1, 1, 0, 0)),
+    Chunk((1, 1, 0, 0), Content::Text, None, Some(5)),
+    Exit(Name::Data, (2, 1, 3, 0)),
+    Enter(Name::BlockQuotePrefix, (2, 1, 3, 0)),
+    Exit(Name::BlockQuotePrefix, (2, 3, 5, 0)),
+    Chunk((2, 3, 5, 0), Content::Text, Some(1), None),
+    Exit(Name::Data, (2, 4, 6, 0)),
+    Exit(Name::Paragraph, (2, 4, 6, 0)),
+];
 
 #[test]
 fn gap_follows_a_carriage_return_and_line_feed(rt: HostRuntime) -> Result<(), AllocError> {
-    let mut events = vec![in rt.alloc();
-        enter(Name::Paragraph, at(1, 1, 0, 0)),
-        chunk(at(1, 1, 0, 0), Content::Text, None, Some(5)),
-        exit(Name::Data, at(2, 1, 3, 0)),
-        enter(Name::BlockQuotePrefix, at(2, 1, 3, 0)),
-        exit(Name::BlockQuotePrefix, at(2, 3, 5, 0)),
-        chunk(at(2, 3, 5, 0), Content::Text, Some(1), None),
-        exit(Name::Data, at(2, 4, 6, 0)),
-        exit(Name::Paragraph, at(2, 4, 6, 0)),
-    ]?;
-    let answer = with_lines(rt.alloc(), &mut events, b"a\r\n> b")?;
-    let want = [
-        enter(Name::Paragraph, at(1, 1, 0, 0)),
-        enter(Name::Data, at(1, 1, 0, 0)),
-        exit(Name::Data, at(1, 2, 1, 0)),
-        enter(Name::LineEnding, at(1, 2, 1, 0)),
-        exit(Name::LineEnding, at(2, 1, 3, 0)),
-        enter(Name::BlockQuotePrefix, at(2, 1, 3, 0)),
-        exit(Name::BlockQuotePrefix, at(2, 3, 5, 0)),
-        enter(Name::Data, at(2, 3, 5, 0)),
-        exit(Name::Data, at(2, 4, 6, 0)),
-        exit(Name::Paragraph, at(2, 4, 6, 0)),
-    ];
-    assert!(rt; is_done(&answer, false));
-    assert!(rt; events.as_slice() == want.as_slice());
+    let text = with_lines(rt.alloc(), &AFTER_CRLF, b"a\r\n> b")?;
+    let want = "done: false, notes: 0, definitions:\n\
+        enter Paragraph 1:1 (0+0)\n\
+        enter Data 1:1 (0+0)\n\
+        exit Data 1:2 (1+0)\n\
+        enter LineEnding 1:2 (1+0)\n\
+        exit LineEnding 2:1 (3+0)\n\
+        enter BlockQuotePrefix 2:1 (3+0)\n\
+        exit BlockQuotePrefix 2:3 (5+0)\n\
+        enter Data 2:3 (5+0)\n\
+        exit Data 2:4 (6+0)\n\
+        exit Paragraph 2:4 (6+0)\n";
+    assert_eq!(rt; text.as_str(), want);
     Ok(())
 }
 
+/// A paragraph, a byte a chunk.
+const TWO_BYTES: [Row; 6] = [
+    Enter(Name::Paragraph, (1, 1, 0, 0)),
+    Chunk((1, 1, 0, 0), Content::Text, None, Some(3)),
+    Exit(Name::Data, (1, 2, 1, 0)),
+    Chunk((1, 2, 1, 0), Content::Text, Some(1), None),
+    Exit(Name::Data, (1, 3, 2, 0)),
+    Exit(Name::Paragraph, (1, 3, 2, 0)),
+];
+
 #[test]
 fn border_of_chunks_is_no_border_of_children(rt: HostRuntime) -> Result<(), AllocError> {
-    let mut events = vec![in rt.alloc();
-        enter(Name::Paragraph, at(1, 1, 0, 0)),
-        chunk(at(1, 1, 0, 0), Content::Text, None, Some(3)),
-        exit(Name::Data, at(1, 2, 1, 0)),
-        chunk(at(1, 2, 1, 0), Content::Text, Some(1), None),
-        exit(Name::Data, at(1, 3, 2, 0)),
-        exit(Name::Paragraph, at(1, 3, 2, 0)),
-    ]?;
-    let answer = with_lines(rt.alloc(), &mut events, b"ab")?;
-    let want = [
-        enter(Name::Paragraph, at(1, 1, 0, 0)),
-        enter(Name::Data, at(1, 1, 0, 0)),
-        exit(Name::Data, at(1, 3, 2, 0)),
-        exit(Name::Paragraph, at(1, 3, 2, 0)),
-    ];
-    assert!(rt; is_done(&answer, false));
-    assert!(rt; events.as_slice() == want.as_slice());
+    let text = with_lines(rt.alloc(), &TWO_BYTES, b"ab")?;
+    let want = "done: false, notes: 0, definitions:\n\
+        enter Paragraph 1:1 (0+0)\n\
+        enter Data 1:1 (0+0)\n\
+        exit Data 1:3 (2+0)\n\
+        exit Paragraph 1:3 (2+0)\n";
+    assert_eq!(rt; text.as_str(), want);
     Ok(())
 }
 
 #[test]
 fn chunk_of_no_text_gets_no_events(rt: HostRuntime) -> Result<(), AllocError> {
-    let text = Content::Text;
-    let mut events = vec![in rt.alloc();
-        enter(Name::Paragraph, at(1, 1, 0, 0)),
-        chunk(at(1, 1, 0, 0), text, None, Some(3)),
-        exit(Name::Data, at(2, 1, 2, 0)),
-        chunk(at(2, 1, 2, 0), text, Some(1), Some(5)),
-        exit(Name::Data, at(2, 1, 2, 0)),
-        chunk(at(2, 1, 2, 0), text, Some(3), None),
-        exit(Name::Data, at(2, 2, 3, 0)),
-        exit(Name::Paragraph, at(2, 2, 3, 0)),
-    ]?;
-    let answer = with_lines(rt.alloc(), &mut events, b"a\nb")?;
-    let want = [
-        enter(Name::Paragraph, at(1, 1, 0, 0)),
-        enter(Name::Data, at(1, 1, 0, 0)),
-        exit(Name::Data, at(1, 2, 1, 0)),
-        enter(Name::LineEnding, at(1, 2, 1, 0)),
-        exit(Name::LineEnding, at(2, 1, 2, 0)),
-        enter(Name::Data, at(2, 1, 2, 0)),
-        exit(Name::Data, at(2, 2, 3, 0)),
-        exit(Name::Paragraph, at(2, 2, 3, 0)),
-    ];
-    assert!(rt; is_done(&answer, false));
-    assert!(rt; events.as_slice() == want.as_slice());
+    let text = with_lines(rt.alloc(), &EMPTY_CHUNK, b"a\nb")?;
+    let want = "done: false, notes: 0, definitions:\n\
+        enter Paragraph 1:1 (0+0)\n\
+        enter Data 1:1 (0+0)\n\
+        exit Data 1:2 (1+0)\n\
+        enter LineEnding 1:2 (1+0)\n\
+        exit LineEnding 2:1 (2+0)\n\
+        enter Data 2:1 (2+0)\n\
+        exit Data 2:2 (3+0)\n\
+        exit Paragraph 2:2 (3+0)\n";
+    assert_eq!(rt; text.as_str(), want);
     Ok(())
 }
 
 #[test]
 fn chain_around_the_edits_keeps_both_ends(rt: HostRuntime) -> Result<(), AllocError> {
-    let mut events = Vec::from_array(rt.alloc(), chain_around_another())?;
-    let document = b"ab\ncd";
-    let answer = with_lines(rt.alloc(), &mut events, document)?;
-    let want = [
-        chunk(at(1, 1, 0, 0), Content::String, None, Some(8)),
-        exit(Name::Data, at(1, 2, 1, 0)),
-        enter(Name::Data, at(1, 2, 1, 0)),
-        exit(Name::Data, at(1, 3, 2, 0)),
-        enter(Name::LineEnding, at(1, 3, 2, 0)),
-        exit(Name::LineEnding, at(2, 1, 3, 0)),
-        enter(Name::Data, at(2, 1, 3, 0)),
-        exit(Name::Data, at(2, 2, 4, 0)),
-        chunk(at(2, 2, 4, 0), Content::String, Some(0), None),
-        exit(Name::Data, at(2, 3, 5, 0)),
-    ];
-    assert!(rt; is_done(&answer, false));
-    assert!(rt; events.as_slice() == want.as_slice());
-    let again = with_lines(rt.alloc(), &mut events, document)?;
-    assert!(rt; is_done(&again, true));
-    assert!(rt; events.as_slice() == want.as_slice());
-    let string = Some(&Content::String);
-    assert!(rt; !ready(rt.alloc(), events.as_slice(), document, string)?);
-    assert!(rt; !ready(rt.alloc(), events.as_slice(), document, None)?);
+    let text = with_lines(rt.alloc(), &CHAIN_AROUND_ANOTHER, b"ab\ncd")?;
+    let want = "done: false, notes: 0, definitions:\n\
+        enter Data 1:1 (0+0) String None Some(8)\n\
+        exit Data 1:2 (1+0)\n\
+        enter Data 1:2 (1+0)\n\
+        exit Data 1:3 (2+0)\n\
+        enter LineEnding 1:3 (2+0)\n\
+        exit LineEnding 2:1 (3+0)\n\
+        enter Data 2:1 (3+0)\n\
+        exit Data 2:2 (4+0)\n\
+        enter Data 2:2 (4+0) String Some(0) None\n\
+        exit Data 2:3 (5+0)\n";
+    assert_eq!(rt; text.as_str(), want);
     Ok(())
 }
 
 #[test]
+fn chains_are_read_once(rt: HostRuntime) -> Result<(), AllocError> {
+    let alloc = rt.alloc();
+    let text = with_lines(alloc, &CHAIN_AROUND_CHILDREN, b"ab\ncd")?;
+    let list = listed(alloc, &CHAIN_AROUND_CHILDREN)?;
+    let lines = shown(alloc, list.as_slice())?;
+    let want = format!(in alloc; "done: true, notes: 0, definitions:\n{lines}")?;
+    assert_eq!(rt; text.as_str(), want.as_str());
+    Ok(())
+}
+
+/// A paragraph of two lines, the second quoted, as a string.
+const AFTER_LF: [Row; 8] = [
+    Enter(Name::Paragraph, (1, 1, 0, 0)),
+    Chunk((1, 1, 0, 0), Content::String, None, Some(5)),
+    Exit(Name::Data, (2, 1, 2, 0)),
+    Enter(Name::BlockQuotePrefix, (2, 1, 2, 0)),
+    Exit(Name::BlockQuotePrefix, (2, 3, 4, 0)),
+    Chunk((2, 3, 4, 0), Content::String, Some(1), None),
+    Exit(Name::Data, (2, 4, 5, 0)),
+    Exit(Name::Paragraph, (2, 4, 5, 0)),
+];
+
+#[test]
 fn choice_of_a_child_goes_back_over_the_gap(rt: HostRuntime) -> Result<(), AllocError> {
-    let mut events = vec![in rt.alloc();
-        enter(Name::Paragraph, at(1, 1, 0, 0)),
-        chunk(at(1, 1, 0, 0), Content::String, None, Some(5)),
-        exit(Name::Data, at(2, 1, 2, 0)),
-        enter(Name::BlockQuotePrefix, at(2, 1, 2, 0)),
-        exit(Name::BlockQuotePrefix, at(2, 3, 4, 0)),
-        chunk(at(2, 3, 4, 0), Content::String, Some(1), None),
-        exit(Name::Data, at(2, 4, 5, 0)),
-        exit(Name::Paragraph, at(2, 4, 5, 0)),
-    ]?;
     let start = state::Name::StringStart;
-    let answer = with_children(
+    let document = b"a\n> b";
+    let text = with_children(
         rt.alloc(),
-        &mut events,
-        b"a\n> b",
+        &AFTER_LF,
+        document,
         &Deep {},
         Content::String,
         start,
     )?;
-    let want = [
-        enter(Name::Paragraph, at(1, 1, 0, 0)),
-        enter(Name::Data, at(1, 1, 0, 0)),
-        exit(Name::Data, at(1, 2, 1, 0)),
-        enter(Name::LineEnding, at(1, 2, 1, 0)),
-        exit(Name::LineEnding, at(2, 1, 2, 0)),
-        enter(Name::BlockQuotePrefix, at(2, 1, 2, 0)),
-        exit(Name::BlockQuotePrefix, at(2, 3, 4, 0)),
-        enter(Name::Data, at(2, 3, 4, 0)),
-        exit(Name::Data, at(2, 4, 5, 0)),
-        exit(Name::Paragraph, at(2, 4, 5, 0)),
-    ];
-    assert!(rt; is_done(&answer, false));
-    assert!(rt; events.as_slice() == want.as_slice());
+    let want = "done: false, notes: 0, definitions:\n\
+        enter Paragraph 1:1 (0+0)\n\
+        enter Data 1:1 (0+0)\n\
+        exit Data 1:2 (1+0)\n\
+        enter LineEnding 1:2 (1+0)\n\
+        exit LineEnding 2:1 (2+0)\n\
+        enter BlockQuotePrefix 2:1 (2+0)\n\
+        exit BlockQuotePrefix 2:3 (4+0)\n\
+        enter Data 2:3 (4+0)\n\
+        exit Data 2:4 (5+0)\n\
+        exit Paragraph 2:4 (5+0)\n";
+    assert_eq!(rt; text.as_str(), want);
     Ok(())
 }
