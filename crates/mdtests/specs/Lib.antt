@@ -1,0 +1,2 @@
+pub mod Starved
+pub mod StarvedLaws

@@ -48,6 +48,8 @@ mod skip;
 #[cfg(test)]
 mod slices;
 #[cfg(test)]
+mod starved;
+#[cfg(test)]
 mod states;
 #[cfg(test)]
 mod subtokenize;

@@ -1,0 +1,8 @@
+use Rattle.std.proofs.Common.{refl, rules}
+use Rattle.mdtables.proofs.RowCalls.{callable}
+use Rattle.mdconstructs.specs.Tables.{counts}
+use Rattle.mdtests.specs.Starved.{starved, text_start}
+use Rattle.mdtests.proofs.starved.StarvedMachine.call.Goals as goal
+
+pub text_start-requires : goal.text_start-requires
+text_start-requires c = callable starved counts c.args.name text_start _ _ (search rules) refl c.requires.invariant.1 c.begin.ensures
