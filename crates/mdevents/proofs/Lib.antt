@@ -1,3 +1,4 @@
 pub mod CutPlaces
 pub mod OptionWords
+pub mod ShortNames
 pub mod Standing

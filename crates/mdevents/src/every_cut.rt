@@ -1,16 +1,10 @@
 //! Short documents, cut at every place and at every two places: what is read does not tell where.
 
-ghost use Rattle.std.specs.Prelude.{◌+◌, ◌*◌, ◌^◌, ◌<◌, ◌≡◌, length, Contains};
-ghost use Rattle.markdown.specs.Engine.{given_of};
+ghost use Rattle.std.specs.Prelude.{◌+◌, ◌*◌, ◌^◌, ◌<◌, length, Contains};
 ghost use Rattle.mdevents.specs.Program.{document};
-ghost use Rattle.markdown_base.specs.Places.{stands_before};
 
-use crate::rows::{Seen, read};
-use markdown::configuration::ParseOptions;
-use markdown::event::Point;
-use markdown::parser::ParseState;
+use crate::driven::{Seen, read_cut};
 use markdown::state::{Machine, Name};
-use markdown::tokenizer::point_at;
 use mdconstructs::back::Back;
 use mdconstructs::deep::Deep;
 use mdconstructs::lines::Lines;
@@ -28,120 +22,108 @@ struct Compared {
 
 /// One more reading is compared.
 fn compare(compared: Compared, seen: &Seen, uncut: &Seen) -> Compared {
-    let same = seen.all == uncut.all && seen.events.as_slice() == uncut.events.as_slice();
+    let same = seen.calls == uncut.calls && seen.text.as_slice() == uncut.text.as_slice();
     Compared {
         all: compared.all.saturating_add(1),
-        other: if same {
-            compared.other
-        } else {
-            compared.other.saturating_add(1)
-        },
+        other: compared.other.saturating_add(usize::from(!same)),
     }
-}
-
-/// Reads a document cut at one place; `None` where it has no such place.
-fn read_cut_once<M: Machine>(
-    alloc: Global,
-    parse_state: &ParseState<M>,
-    start: Name,
-    cut: (usize, usize),
-) -> Result<Option<Seen>, AllocError>
-    requires limit { 4 * length parse_state.now.bytes.now + 1 < 2 ^ 64 }
-    requires start { Contains (M.rules parse_state.now.machine.now (given_of 4 parse_state.now)).starts start }
-{
-    let Some(_) = point_at(parse_state.bytes, cut) else {
-        return Ok(None);
-    };
-    Ok(Some(read(alloc, parse_state, start, &[cut])?))
-}
-
-/// Whether a point stands before another one.
-pub(crate) fn stands_before(point: Point, other: Point) -> bool
-    ensures { result ≡ stands_before point other }
-{
-    point.index < other.index || point.index == other.index && point.vs < other.vs
-}
-
-/// Reads a document cut at two places in order; `None` where it has no such places, or has them the other way round.
-fn read_cut_twice<M: Machine>(
-    alloc: Global,
-    parse_state: &ParseState<M>,
-    start: Name,
-    first: (usize, usize),
-    second: (usize, usize),
-) -> Result<Option<Seen>, AllocError>
-    requires limit { 4 * length parse_state.now.bytes.now + 1 < 2 ^ 64 }
-    requires start { Contains (M.rules parse_state.now.machine.now (given_of 4 parse_state.now)).starts start }
-{
-    let Some(from) = point_at(parse_state.bytes, first) else {
-        return Ok(None);
-    };
-    let Some(to) = point_at(parse_state.bytes, second) else {
-        return Ok(None);
-    };
-    if stands_before(to, from) {
-        return Ok(None);
-    }
-    Ok(Some(read(alloc, parse_state, start, &[first, second])?))
 }
 
 /// The pairs of an index and a number in a tab that may be places of a document, and more.
 fn pairs(alloc: Global, size: usize) -> Result<Vec<(usize, usize)>, AllocError> {
     let mut pairs = Vec::new(alloc);
-    for index in 0..size {
-        for vs in 0..4 {
-            pairs.push((index, vs))?;
-        }
+    for number in 0..size.saturating_mul(4) {
+        pairs.push((number / 4, number % 4))?;
     }
     Ok(pairs)
 }
 
-/// Compares the readings of a document cut at a place, and then at another one, with the uncut one.
-fn compare_seconds<M: Machine>(
+/// The cut after another one, if there is one.
+fn cut_after(
     alloc: Global,
-    parse_state: &ParseState<M>,
+    first: Option<(usize, usize)>,
+    second: (usize, usize),
+) -> Result<Vec<(usize, usize)>, AllocError> {
+    let mut cuts = Vec::new(alloc);
+    if let Some(first) = first {
+        cuts.push(first)?;
+    }
+    cuts.push(second)?;
+    Ok(cuts)
+}
+
+/// Compares the reading of a document cut at these places with the uncut one, if it has these places in this order.
+fn compare_cut<M: Machine>(
+    alloc: Global,
+    machine: &M,
     start: Name,
-    first: (usize, usize),
-    pairs: &[(usize, usize)],
+    bytes: &[u8],
+    cuts: &[(usize, usize)],
+    uncut: &Seen,
+    compared: Compared,
+) -> Compared
+    requires limit { 4 * length bytes.now + 1 < 2 ^ 64 }
+    requires start { Contains (M.rules machine.now (document bytes.now)).starts start }
+{
+    match read_cut(alloc, machine, start, bytes, cuts) {
+        Some(seen) => compare(compared, &seen, uncut),
+        None => compared,
+    }
+}
+
+/// Compares the readings of a document cut at a place, if there is one, and then at each other one, with the uncut one.
+fn compare_cuts<M: Machine>(
+    alloc: Global,
+    machine: &M,
+    start: Name,
+    bytes: &[u8],
+    first: Option<(usize, usize)>,
     uncut: &Seen,
     compared: Compared,
 ) -> Result<Compared, AllocError>
-    requires limit { 4 * length parse_state.now.bytes.now + 1 < 2 ^ 64 }
-    requires start { Contains (M.rules parse_state.now.machine.now (given_of 4 parse_state.now)).starts start }
+    requires limit { 4 * length bytes.now + 1 < 2 ^ 64 }
+    requires start { Contains (M.rules machine.now (document bytes.now)).starts start }
 {
     let mut compared = compared;
-    for second in pairs {
-        if let Some(seen) = read_cut_twice(alloc, parse_state, start, first, *second)? {
-            compared = compare(compared, &seen, uncut);
-        }
+    let pairs = pairs(alloc, bytes.len() + 1)?;
+    for second in pairs.as_slice() {
+        let cuts = cut_after(alloc, first, *second)?;
+        compared = compare_cut(
+            alloc,
+            machine,
+            start,
+            bytes,
+            cuts.as_slice(),
+            uncut,
+            compared,
+        );
     }
     Ok(compared)
 }
 
-/// Compares the readings of a document cut at one place with the uncut one.
-fn compare_firsts<M: Machine>(
+/// Compares the readings of a document cut at two places with the uncut one.
+fn compare_cuts_twice<M: Machine>(
     alloc: Global,
-    parse_state: &ParseState<M>,
+    machine: &M,
     start: Name,
-    pairs: &[(usize, usize)],
+    bytes: &[u8],
     uncut: &Seen,
     compared: Compared,
 ) -> Result<Compared, AllocError>
-    requires limit { 4 * length parse_state.now.bytes.now + 1 < 2 ^ 64 }
-    requires start { Contains (M.rules parse_state.now.machine.now (given_of 4 parse_state.now)).starts start }
+    requires limit { 4 * length bytes.now + 1 < 2 ^ 64 }
+    requires start { Contains (M.rules machine.now (document bytes.now)).starts start }
 {
     let mut compared = compared;
-    for first in pairs {
-        if let Some(seen) = read_cut_once(alloc, parse_state, start, *first)? {
-            compared = compare(compared, &seen, uncut);
-        }
+    let pairs = pairs(alloc, bytes.len() + 1)?;
+    for first in pairs.as_slice() {
+        compared = compare_cuts(alloc, machine, start, bytes, Some(*first), uncut, compared)?;
     }
     Ok(compared)
 }
 
 /// Reads a document cut at every place, and if it is to be cut twice at every two places in order, and compares each reading
 /// with the uncut one.
-fn compare_cuts<M: Machine>(
+fn compare_readings<M: Machine>(
     alloc: Global,
     machine: &M,
     start: Name,
@@ -152,30 +134,15 @@ fn compare_cuts<M: Machine>(
     requires limit { 4 * length bytes.now + 1 < 2 ^ 64 }
     requires start { Contains (M.rules machine.now (document bytes.now)).starts start }
 {
-    let options = ParseOptions::default();
-    let parse_state = ParseState {
-        bytes,
-        options: &options,
-        machine,
+    let Some(uncut) = read_cut(alloc, machine, start, bytes, &[]) else {
+        return Err(AllocError);
     };
-    let uncut = read(alloc, &parse_state, start, &[])?;
-    let pairs = pairs(alloc, bytes.len() + 1)?;
-    let places = pairs.as_slice();
-    let mut compared = compare_firsts(alloc, &parse_state, start, places, &uncut, compared)?;
+    let compared = compare_cuts(alloc, machine, start, bytes, None, &uncut, compared)?;
     if twice {
-        for first in places {
-            compared = compare_seconds(
-                alloc,
-                &parse_state,
-                start,
-                *first,
-                places,
-                &uncut,
-                compared,
-            )?;
-        }
+        compare_cuts_twice(alloc, machine, start, bytes, &uncut, compared)
+    } else {
+        Ok(compared)
     }
-    Ok(compared)
 }
 
 /// The document of a number: its digits to the base 4, the lowest first, as `a`, tab, CR and LF.
@@ -199,13 +166,28 @@ fn compare_machines(
 ) -> Result<Compared, AllocError>
     requires limit { 4 * length bytes.now + 1 < 2 ^ 64 }
 {
-    let c = compare_cuts(alloc, &Lines {}, Name::FlowStart, bytes, twice, c)?;
-    let c = compare_cuts(alloc, &Paragraphs {}, Name::FlowStart, bytes, twice, c)?;
-    let c = compare_cuts(alloc, &Paragraphs {}, Name::TextStart, bytes, twice, c)?;
-    let c = compare_cuts(alloc, &Peek {}, Name::TextStart, bytes, twice, c)?;
-    let c = compare_cuts(alloc, &Deep {}, Name::StringStart, bytes, twice, c)?;
-    let c = compare_cuts(alloc, &Back {}, Name::TextStart, bytes, twice, c)?;
-    compare_cuts(alloc, &Save {}, Name::TextStart, bytes, twice, c)
+    let c = compare_readings(alloc, &Lines {}, Name::FlowStart, bytes, twice, c)?;
+    let c = compare_readings(alloc, &Paragraphs {}, Name::FlowStart, bytes, twice, c)?;
+    let c = compare_readings(alloc, &Paragraphs {}, Name::TextStart, bytes, twice, c)?;
+    let c = compare_readings(alloc, &Peek {}, Name::TextStart, bytes, twice, c)?;
+    let c = compare_readings(alloc, &Deep {}, Name::StringStart, bytes, twice, c)?;
+    let c = compare_readings(alloc, &Back {}, Name::TextStart, bytes, twice, c)?;
+    compare_readings(alloc, &Save {}, Name::TextStart, bytes, twice, c)
+}
+
+/// Compares the readings of the document of a size and a number.
+fn compare_document(
+    alloc: Global,
+    size: usize,
+    number: usize,
+    twice: bool,
+    compared: Compared,
+) -> Result<Compared, AllocError> {
+    let document = document_of(alloc, size, number)?;
+    if document.len() > 4 {
+        return Err(AllocError);
+    }
+    compare_machines(alloc, document.as_slice(), twice, compared)
 }
 
 /// Compares the readings of all documents of some size, over these four bytes, by each machine.
@@ -217,27 +199,32 @@ fn compare_all(
 ) -> Result<Compared, AllocError> {
     let mut compared = Compared { all: 0, other: 0 };
     for number in 0..count {
-        let document = document_of(alloc, size, number)?;
-        if document.len() > 4 {
-            return Err(AllocError);
-        }
-        compared = compare_machines(alloc, document.as_slice(), twice, compared)?;
+        compared = compare_document(alloc, size, number, twice, compared)?;
     }
     Ok(compared)
 }
 
-#[test]
-fn no_cut_leaves_a_trace(rt: HostRuntime) -> Result<(), AllocError> {
-    for (size, count, twice, places) in [
-        (0, 1, true, 2),
-        (1, 4, true, 35),
-        (2, 16, true, 290),
-        (3, 64, true, 1935),
-        (4, 256, false, 1991),
-    ] {
-        let compared = compare_all(rt.alloc(), size, count, twice)?;
-        assert_eq!(rt; compared.other, 0);
-        assert_eq!(rt; compared.all, 7 * places, "of size {size}");
+/// For each size of documents: how many there are, whether they are cut twice, and how many readings each machine makes.
+const SIZES: [(usize, usize, bool, usize); 5] = [
+    (0, 1, true, 2),
+    (1, 4, true, 35),
+    (2, 16, true, 290),
+    (3, 64, true, 1935),
+    (4, 256, false, 1991),
+];
+
+/// How many readings of all documents of some size were compared, if each was as the uncut one.
+fn same_readings(alloc: Global, size: usize, count: usize, twice: bool) -> Option<usize> {
+    match compare_all(alloc, size, count, twice) {
+        Ok(compared) => (compared.other == 0).then_some(compared.all),
+        Err(_) => None,
     }
-    Ok(())
+}
+
+#[test]
+fn no_cut_leaves_a_trace(rt: HostRuntime) {
+    for (size, count, twice, places) in SIZES {
+        let same = same_readings(rt.alloc(), size, count, twice);
+        assert_eq!(rt; same, Some(7 * places), "of size {size}");
+    }
 }

@@ -1,4 +1,6 @@
-//! A reader and a writer for tests, which fail once on request, a system with given words, and a message.
+//! A reader and a writer for tests, which fail on request, a system with given words, and a message.
+
+ghost use Rattle.std.specs.Prelude.{◌≡◌, IfOk};
 
 use markdown::message::{Message, Place};
 use markdown::owned::{Boxed, OwnedText};
@@ -10,63 +12,117 @@ use std::fmt::{self, Display};
 use std::io::{self, Eprint, Error, ErrorKind, Read, Write};
 use std::rt::Env;
 
-/// Gives a text by at most two bytes a read. After its good reads one read fails, and then it goes on.
+/// How a reader or a writer fails after its good calls.
+#[derive(Clone, Copy, PartialEq, Eq)]
+pub enum Fault {
+    /// One call answers an error, and those after it are good.
+    ErrorOnce,
+    /// All calls answer an error.
+    ErrorFromThenOn,
+    /// One write takes nothing, and those after it are good.
+    NothingOnce,
+    /// All writes take nothing.
+    NothingFromThenOn,
+}
+
+impl Fault {
+    /// Whether the calls after the first that fails do so too.
+    fn lasts(self) -> bool {
+        self == Fault::ErrorFromThenOn || self == Fault::NothingFromThenOn
+    }
+
+    /// What a call that fails answers. The error is one that Rust's own loops try again after.
+    fn answer(self) -> io::Result<usize>
+        ensures { IfOk result (λ count. count ≡ 0) }
+    {
+        match self {
+            Fault::ErrorOnce | Fault::ErrorFromThenOn => Err(Error::from(ErrorKind::Interrupted)),
+            Fault::NothingOnce | Fault::NothingFromThenOn => Ok(0),
+        }
+    }
+}
+
+/// Counts good calls, and tells which ones fail.
+#[derive(Clone, Copy)]
+struct Turns {
+    good: Option<usize>,
+    fault: Fault,
+}
+
+impl Turns {
+    /// Whether this call fails.
+    fn fails(&mut self) -> bool {
+        match self.good {
+            None => false,
+            Some(0) => {
+                if !self.fault.lasts() {
+                    self.good = None;
+                }
+                true
+            }
+            Some(count) => {
+                self.good = Some(count - 1);
+                false
+            }
+        }
+    }
+}
+
+/// Gives a text by one byte a read, and fails after its good reads.
 #[derive(Drop)]
 pub struct FailingReader<'a> {
     rest: &'a [u8],
-    good_reads: Option<usize>,
+    turns: Turns,
 }
 
 impl<'a> FailingReader<'a> {
     /// A reader of this text, whose first reads, so many, are good.
-    pub fn new(rest: &'a [u8], good_reads: usize) -> FailingReader<'a> {
+    pub fn new(rest: &'a [u8], good_reads: usize, fault: Fault) -> FailingReader<'a> {
+        let good = Some(good_reads);
         FailingReader {
             rest,
-            good_reads: Some(good_reads),
+            turns: Turns { good, fault },
         }
     }
 }
 
 impl Read for FailingReader<'_> {
     fn read(&mut self, buf: &mut [u8]) -> io::Result<usize> {
-        if self.good_reads == Some(0) {
-            self.good_reads = None;
-            return Err(Error::from(ErrorKind::Interrupted));
+        if self.turns.fails() {
+            return self.turns.fault.answer();
         }
-        self.good_reads = self.good_reads.map(|count| count.saturating_sub(1));
-        let count = self.rest.len().min(buf.len()).min(2);
+        let count = self.rest.len().min(buf.len()).min(1);
         buf[..count].copy_from_slice(&self.rest[..count]);
         self.rest = &self.rest[count..];
         Ok(count)
     }
 }
 
-/// Takes at most so many bytes a write. After its good writes one write fails, and then it goes on.
+/// Takes at most so many bytes a write, and fails after its good writes.
 #[derive(Drop)]
 pub struct FailingWriter {
     pub written: Line,
     most: usize,
-    good_writes: Option<usize>,
+    turns: Turns,
 }
 
 impl FailingWriter {
     /// A writer that takes at most so many bytes a write, and whose first writes, so many, are good.
-    pub fn new(most: usize, good_writes: usize) -> FailingWriter {
+    pub fn new(most: usize, good_writes: usize, fault: Fault) -> FailingWriter {
+        let good = Some(good_writes);
         FailingWriter {
             written: Line::new(),
             most,
-            good_writes: Some(good_writes),
+            turns: Turns { good, fault },
         }
     }
 }
 
 impl Write for FailingWriter {
     fn write(&mut self, buf: &[u8]) -> io::Result<usize> {
-        if self.good_writes == Some(0) {
-            self.good_writes = None;
-            return Err(Error::from(ErrorKind::Interrupted));
+        if self.turns.fails() {
+            return self.turns.fault.answer();
         }
-        self.good_writes = self.good_writes.map(|count| count.saturating_sub(1));
         let count = buf.len().min(self.most);
         for byte in &buf[..count] {
             self.written.push(*byte);
@@ -186,15 +242,24 @@ impl Env for CalledWith<'_> {
     }
 }
 
+/// A text of its own.
+fn text(alloc: Global, text: &str) -> Result<OwnedText, AllocError> {
+    Ok(OwnedText::from_string(String::from_str(alloc, text)?))
+}
+
+/// A text of its own in a box.
+fn boxed(alloc: Global, content: &str) -> Result<Boxed<OwnedText>, AllocError> {
+    let content = text(alloc, content)?;
+    Ok(Boxed::from_box(Box::new(alloc, content)?))
+}
+
 /// A message, whose line is `1:2: x (markdown:r)`.
 pub fn message(alloc: Global) -> Result<Message, AllocError> {
-    let place = Place::Point(Point::new(1, 2, 1));
-    let rule = OwnedText::from_string(String::from_str(alloc, "r")?);
-    let source = OwnedText::from_string(String::from_str(alloc, "markdown")?);
+    let place = Box::new(alloc, Place::Point(Point::new(1, 2, 1)))?;
     Ok(Message {
-        place: Some(Boxed::from_box(Box::new(alloc, place)?)),
-        reason: OwnedText::from_string(String::from_str(alloc, "x")?),
-        rule_id: Boxed::from_box(Box::new(alloc, rule)?),
-        source: Boxed::from_box(Box::new(alloc, source)?),
+        place: Some(Boxed::from_box(place)),
+        reason: text(alloc, "x")?,
+        rule_id: boxed(alloc, "r")?,
+        source: boxed(alloc, "markdown")?,
     })
 }

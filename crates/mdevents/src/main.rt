@@ -14,7 +14,11 @@ ghost use Rattle.mdevents.specs.Program.{PrintsChosen};
 ghost use Rattle.mdevents.specs.Words.{CanCut};
 
 #[cfg(test)]
+mod driven;
+#[cfg(test)]
 mod every_cut;
+#[cfg(test)]
+mod expected;
 mod failure;
 #[cfg(test)]
 mod fakes;
@@ -25,6 +29,9 @@ mod ranges;
 mod read;
 #[cfg(test)]
 mod rows;
+#[cfg(test)]
+mod turns;
+mod waiting;
 mod words;
 mod write;
 
@@ -106,61 +113,70 @@ fn choice_of(rt: &(impl Env + AllocGlobal)) -> Result<Option<Choice>, Failure>
 #[cfg(test)]
 mod tests {
     use super::*;
-    use crate::fakes::{CalledWith, FailingReader, FailingWriter, Line, message};
+    use crate::expected::{PARAGRAPH, SHORT_DATA, TWO_LINES};
+    use crate::fakes::{CalledWith, FailingReader, FailingWriter, Fault, Line, message};
     use crate::words::Which;
     use std::alloc::{AllocError, Global};
 
-    const USAGE_SHOWN: &str = "usage: mdevents [--cut n] [--deep] [--machine name]\n";
-
-    const PARAGRAPH: &str =
-        "enter Paragraph 1:1 (0+0)\nenter Data 1:1 (0+0)\nexit Data 1:3 (2+0)\nexit Paragraph 1:3 (2+0)\n";
-
-    const DATA: &str = "enter Data 1:1 (0+0)\nexit Data 1:3 (2+0)\n";
+    const USAGE_SHOWN: &[u8] = b"usage: mdevents [--cut n] [--deep] [--machine name]\n";
 
     /// Whether the words that the program is called with choose this, and nothing fails.
-    fn chooses(rt: &HostRuntime, words: &[u8], want: Option<Choice>) -> bool {
-        match choice_of(&(CalledWith::new(words), rt.alloc())) {
+    fn chooses(alloc: Global, words: &[u8], want: Option<Choice>) -> bool {
+        match choice_of(&(CalledWith::new(words), alloc)) {
             Ok(choice) => choice == want,
             Err(_) => false,
         }
     }
 
+    const CHOSEN: [(&[u8], Option<usize>, bool, Which); 6] = [
+        (b"mdevents", None, false, Which::Lines),
+        (b"--cut", None, false, Which::Lines),
+        (b"mdevents --cut 016", Some(16), false, Which::Lines),
+        (
+            b"mdevents --machine peek --cut 2",
+            Some(2),
+            false,
+            Which::Peek,
+        ),
+        (
+            b"mdevents --cut 2 --machine save",
+            Some(2),
+            false,
+            Which::Save,
+        ),
+        (
+            b"mdevents --deep --machine paragraphs",
+            None,
+            true,
+            Which::Paragraphs,
+        ),
+    ];
+
     #[test]
     fn takes_the_words_after_the_name(rt: HostRuntime) {
-        for (words, cut, deep, machine) in [
-            (b"mdevents".as_slice(), None, false, Which::Lines),
-            (b"--cut", None, false, Which::Lines),
-            (b"mdevents --cut 016", Some(16), false, Which::Lines),
-            (
-                b"mdevents --machine peek --cut 2",
-                Some(2),
-                false,
-                Which::Peek,
-            ),
-            (
-                b"mdevents --cut 2 --machine save",
-                Some(2),
-                false,
-                Which::Save,
-            ),
-            (
-                b"mdevents --deep --machine paragraphs",
-                None,
-                true,
-                Which::Paragraphs,
-            ),
-        ] {
-            assert!(rt; chooses(&rt, words, Some(Choice { cut, deep, machine })));
+        for (words, cut, deep, machine) in CHOSEN {
+            let want = Some(Choice { cut, deep, machine });
+            assert!(rt; chooses(rt.alloc(), words, want));
         }
-        for words in [
-            b"--cut 2".as_slice(),
-            b"mdevents --cut",
-            b"mdevents --cut 2 --cut 2",
-            b"mdevents --cut \xff",
-            b"mdevents --machine lines --deep",
-        ] {
-            assert!(rt; chooses(&rt, words, None));
+    }
+
+    const REFUSED: [&[u8]; 5] = [
+        b"--cut 2",
+        b"mdevents --cut",
+        b"mdevents --cut 2 --cut 2",
+        b"mdevents --cut \xff",
+        b"mdevents --machine lines --deep",
+    ];
+
+    #[test]
+    fn takes_no_other_words(rt: HostRuntime) {
+        for words in REFUSED {
+            assert!(rt; chooses(rt.alloc(), words, None));
         }
+    }
+
+    #[test]
+    fn takes_a_long_word(rt: HostRuntime) {
         let mut long = [b'0'; 1000];
         long[..15].copy_from_slice(b"mdevents --cut ");
         long[999] = b'7';
@@ -169,103 +185,164 @@ mod tests {
             deep: false,
             machine: Which::Lines,
         };
-        assert!(rt; chooses(&rt, &long, Some(want)));
+        assert!(rt; chooses(rt.alloc(), &long, Some(want)));
     }
 
-    /// What was seen of a call of the program: its status, what it wrote and what it showed on standard error.
+    /// How a call of the program should end: its status, what it wrote and what it showed on standard error.
+    #[derive(Clone, Copy)]
+    struct Wanted {
+        status: u8,
+        written: &'static [u8],
+        shown: &'static [u8],
+    }
+
+    /// How a call of the program ended.
     #[derive(Drop)]
-    struct Outcome {
+    struct Ended {
         status: ExitCode,
         written: Line,
         shown: Line,
     }
 
-    /// Calls the program with these words over a document, where a read or a write fails after so many good ones.
-    fn called(
+    impl Ended {
+        /// Whether it ended as it should.
+        fn is(&self, want: Wanted) -> bool {
+            self.status == ExitCode::from(want.status)
+                && self.written.text() == want.written
+                && self.shown.text() == want.shown
+        }
+    }
+
+    /// Calls the program with these words, over a document of which so many reads are good, and so many writes.
+    fn call(
         alloc: Global,
         words: &[u8],
         document: &[u8],
         good_reads: usize,
         good_writes: usize,
-    ) -> Outcome {
+    ) -> Ended {
         let system = (CalledWith::new(words), alloc);
-        let mut reader = FailingReader::new(document, good_reads);
-        let mut writer = FailingWriter::new(100, good_writes);
+        let mut reader = FailingReader::new(document, good_reads, Fault::ErrorOnce);
+        let mut writer = FailingWriter::new(100, good_writes, Fault::ErrorOnce);
         let status = answer_call(&system, &mut reader, &mut writer);
-        Outcome {
+        Ended {
             status,
             written: writer.written,
             shown: system.0.shown.get(),
         }
     }
 
+    /// Whether the program, called with these words over `ab`, ends so.
+    fn does(
+        alloc: Global,
+        words: &[u8],
+        status: u8,
+        written: &'static [u8],
+        shown: &'static [u8],
+    ) -> bool {
+        call(alloc, words, b"ab", 99, 99).is(Wanted {
+            status,
+            written,
+            shown,
+        })
+    }
+
+    const DONE: [(&[u8], &[u8]); 5] = [
+        (b"mdevents", PARAGRAPH),
+        (b"mdevents --machine deep", SHORT_DATA),
+        (b"mdevents --machine deep --cut 1", SHORT_DATA),
+        (b"mdevents --cut 1 --machine save", b""),
+        (b"mdevents --machine paragraphs --deep", PARAGRAPH),
+    ];
+
     #[test]
     fn does_what_the_words_choose(rt: HostRuntime) {
-        for (words, status, want, line) in [
-            (b"mdevents".as_slice(), 0, PARAGRAPH, ""),
-            (b"mdevents --machine deep", 0, DATA, ""),
-            (b"mdevents --machine deep --cut 1", 0, DATA, ""),
-            (b"mdevents --cut 1 --machine save", 0, "", ""),
-            (b"mdevents --machine forth", 2, "", USAGE_SHOWN),
-            (b"mdevents --cut 0", 2, "", USAGE_SHOWN),
-            (b"mdevents --machine paragraphs --deep", 0, PARAGRAPH, ""),
-            (b"mdevents --machine lines --deep", 2, "", USAGE_SHOWN),
-            (b"mdevents \xff", 2, "", USAGE_SHOWN),
-        ] {
-            let called = called(rt.alloc(), words, b"ab", 99, 99);
-            assert!(rt; called.status == ExitCode::from(status));
-            assert_eq!(rt; called.written.text(), want.as_bytes());
-            assert_eq!(rt; called.shown.text(), line.as_bytes());
+        for (words, written) in DONE {
+            assert!(rt; does(rt.alloc(), words, 0, written, b""));
         }
     }
 
+    const ANSWERED_BY_USAGE: [&[u8]; 4] = [
+        b"mdevents --machine forth",
+        b"mdevents --cut 0",
+        b"mdevents --machine lines --deep",
+        b"mdevents \xff",
+    ];
+
+    #[test]
+    fn shows_how_to_call_it(rt: HostRuntime) {
+        for words in ANSWERED_BY_USAGE {
+            assert!(rt; does(rt.alloc(), words, 2, b"", USAGE_SHOWN));
+        }
+    }
+
+    /// Whether a run over a document of two lines ends so, where the read and the write after so many good ones fail.
+    fn fails(alloc: Global, good_reads: usize, good_writes: usize, want: Wanted) -> bool {
+        call(alloc, b"mdevents", b"a\r\nb", good_reads, good_writes).is(want)
+    }
+
+    const NOT_READ: Wanted = Wanted {
+        status: 1,
+        written: b"",
+        shown: b"cannot read input\n",
+    };
+
+    const NOT_WRITTEN: Wanted = Wanted {
+        status: 1,
+        written: b"",
+        shown: b"cannot write output\n",
+    };
+
+    const WELL: Wanted = Wanted {
+        status: 0,
+        written: TWO_LINES,
+        shown: b"",
+    };
+
     #[test]
     fn shows_what_failed(rt: HostRuntime) {
-        for (good_reads, good_writes, status, line) in [
-            (0, 99, 1, "cannot read input\n"),
-            (1, 0, 1, "cannot read input\n"),
-            (99, 0, 1, "cannot write output\n"),
-            (99, 1, 1, "cannot write output\n"),
-            (99, 99, 0, ""),
-        ] {
-            let called = called(rt.alloc(), b"mdevents", b"a\r\nb", good_reads, good_writes);
-            assert!(rt; called.status == ExitCode::from(status));
-            assert_eq!(rt; called.shown.text(), line.as_bytes());
-        }
+        assert!(rt; fails(rt.alloc(), 0, 99, NOT_READ));
+        assert!(rt; fails(rt.alloc(), 1, 0, NOT_READ));
+        assert!(rt; fails(rt.alloc(), 99, 0, NOT_WRITTEN));
+        assert!(rt; fails(rt.alloc(), 99, 99, WELL));
+    }
+
+    /// Whether a failure to get the words is shown as this line, and nothing is read or written.
+    fn shows(alloc: Global, failure: Failure, line: &[u8]) -> bool {
+        let system = (CalledWith::new(b"mdevents"), alloc);
+        let mut reader = b"ab".as_slice();
+        let mut written = Line::new();
+        let status = answer_choice(&system, Err(failure), &mut reader, &mut written);
+        status == ExitCode::FAILURE
+            && reader.len() == 2
+            && written.text().is_empty()
+            && system.0.shown.get().text() == line
     }
 
     #[test]
     fn failures_are_no_usage_line(rt: HostRuntime) -> Result<(), AllocError> {
-        for (failure, line) in [
-            (Failure::Memory, "out of memory\n"),
-            (
-                Failure::Message(message(rt.alloc())?),
-                "1:2: x (markdown:r)\n",
-            ),
-        ] {
-            let system = (CalledWith::new(b"mdevents"), rt.alloc());
-            let mut reader = b"ab".as_slice();
-            let mut written = Line::new();
-            let status = answer_choice(&system, Err(failure), &mut reader, &mut written);
-            assert!(rt; status == ExitCode::FAILURE);
-            assert_eq!(rt; reader, b"ab".as_slice());
-            assert!(rt; written.text().is_empty());
-            assert_eq!(rt; system.0.shown.get().text(), line.as_bytes());
-        }
+        assert!(rt; shows(rt.alloc(), Failure::Memory, b"out of memory\n"));
+        let refused = Failure::Message(message(rt.alloc())?);
+        assert!(rt; shows(rt.alloc(), refused, b"1:2: x (markdown:r)\n"));
         Ok(())
     }
+
+    const OUT_OF_MEMORY: Wanted = Wanted {
+        status: 1,
+        written: b"",
+        shown: b"out of memory\n",
+    };
+
+    const CUT_BY_ONE: Wanted = Wanted {
+        status: 0,
+        written: PARAGRAPH,
+        shown: b"",
+    };
 
     /// Also where some growth is refused, which `rt try --test --fail-alloc N` does.
     #[test]
     fn memory_is_no_fault_of_the_reader(rt: HostRuntime) {
-        let called = called(rt.alloc(), b"mdevents --cut 1", b"ab", 99, 99);
-        if called.status == ExitCode::SUCCESS {
-            assert_eq!(rt; called.written.text(), PARAGRAPH.as_bytes());
-            assert!(rt; called.shown.text().is_empty());
-        } else {
-            assert!(rt; called.status == ExitCode::FAILURE);
-            assert!(rt; called.written.text().is_empty());
-            assert_eq!(rt; called.shown.text(), "out of memory\n".as_bytes());
-        }
+        let ended = call(rt.alloc(), b"mdevents --cut 1", b"ab", 99, 99);
+        assert!(rt; ended.is(CUT_BY_ONE) || ended.is(OUT_OF_MEMORY));
     }
 }

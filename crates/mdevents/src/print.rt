@@ -1,84 +1,60 @@
-//! Printing events, a line for each.
+//! The lines of events.
 
-ghost use Rattle.std.specs.Prelude.{◌≡◌, ◌++◌, OnOk, IfOk, string_bytes};
-ghost use Rattle.mdevents.specs.Printed.{kind_text, point_text, event_line, printed_events};
+ghost use Rattle.std.specs.Prelude.{◌≡◌, ◌+◌, ◌++◌, ◌≤◌, length};
+ghost use Rattle.markdown_base.specs.EventNames.{text_of};
+ghost use Rattle.mdevents.specs.Printed.{kind_text, point_text, event_line};
 
-use markdown::event::{Event, Kind, Point};
-use std::alloc::{AllocError, Global};
+use crate::waiting::{SIZE, Waiting};
+use markdown::event::{Event, Kind, Name, Point};
 
-/// The lines of events: kind, name, line, column, index and virtual byte of each, as in
-/// `enter Paragraph 1:1 (0+0)`, each ended by a line feed.
-pub fn printed(alloc: Global, events: &[Event]) -> Result<String, AllocError>
-    ensures { IfOk result (λ text. string_bytes text ≡ printed_events events.now) }
+/// The most bytes that the line of an event has.
+pub const LONGEST: usize = 128;
+
+/// The line of an event comes behind the bytes that wait: kind, name, line, column, index and virtual byte, as in
+/// `enter Paragraph 1:1 (0+0)`, ended by a line feed.
+pub fn push_line(waiting: &mut Waiting, event: &Event)
+    requires { length waiting.old + LONGEST ≤ SIZE }
+    ensures { waiting.new ≡ waiting.old ++ event_line event.now }
 {
-    let mut text = String::new(alloc);
-    for event in events {
-        push_line(&mut text, event)?;
-    }
-    Ok(text)
+    waiting.push_text(kind_text(event.kind));
+    waiting.push(b' ');
+    waiting.push_text(name_text(event.name));
+    waiting.push(b' ');
+    push_point(waiting, event.point);
+    waiting.push(b'\n');
 }
 
-/// Appends the line of an event.
-fn push_line(text: &mut String, event: &Event) -> Result<(), AllocError>
-    ensures { OnOk result (string_bytes text.new ≡ string_bytes text.old ++ event_line event.now) }
+/// A point comes behind the bytes that wait.
+fn push_point(waiting: &mut Waiting, point: Point)
+    requires { length waiting.old + 85 ≤ SIZE }
+    ensures bytes { waiting.new ≡ waiting.old ++ point_text point }
+    ensures most { length waiting.new ≤ length waiting.old + 85 }
 {
-    let kind = kind_text(event.kind);
-    let name = event.name.as_str();
-    let Point {
-        line,
-        column,
-        index,
-        vs,
-    } = event.point;
-    writeln!(text, "{kind} {name} {line}:{column} ({index}+{vs})")
+    waiting.push_number(point.line);
+    waiting.push(b':');
+    waiting.push_number(point.column);
+    waiting.push_text(b" (");
+    waiting.push_number(point.index);
+    waiting.push(b'+');
+    waiting.push_number(point.vs);
+    waiting.push(b')');
 }
 
 /// The word of a kind.
-fn kind_text(kind: Kind) -> &'static str
-    ensures { result.now ≡ kind_text kind }
+fn kind_text(kind: Kind) -> &'static [u8]
+    ensures text { result.now ≡ kind_text kind }
+    ensures most { length result.now ≤ 5 }
 {
     match kind {
-        Kind::Enter => "enter",
-        Kind::Exit => "exit",
+        Kind::Enter => b"enter",
+        Kind::Exit => b"exit",
     }
 }
 
-#[cfg(test)]
-mod tests {
-    use super::*;
-    use markdown::event::Name;
-    use std::test::Fail;
-
-    #[test]
-    fn prints_lines(rt: HostRuntime) -> Result<(), Fail> {
-        let start = Point {
-            line: 1,
-            column: 1,
-            index: 0,
-            vs: 0,
-        };
-        let end = Point {
-            line: 1,
-            column: 3,
-            index: 0,
-            vs: 2,
-        };
-        let enter = Event {
-            kind: Kind::Enter,
-            name: Name::Paragraph,
-            point: start,
-            link: None,
-        };
-        let exit = Event {
-            kind: Kind::Exit,
-            point: end,
-            ..enter
-        };
-        let text = printed(rt.alloc(), &[enter, exit])?;
-        assert_eq!(rt;
-            text.as_str(),
-            "enter Paragraph 1:1 (0+0)\nexit Paragraph 1:3 (0+2)\n"
-        );
-        Ok(())
-    }
+/// The text of a name.
+fn name_text(name: Name) -> &'static [u8]
+    ensures text { result.now ≡ text_of name }
+    ensures most { length result.now ≤ 35 }
+{
+    name.as_str().as_bytes()
 }

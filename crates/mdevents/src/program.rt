@@ -11,10 +11,9 @@ ghost use Rattle.mdevents.specs.Reading.{IsWithinLimit, ReadsWithinLimit, ReadsP
 ghost use Rattle.mdevents.specs.Words.{CanCut};
 
 use crate::failure::Failure;
-use crate::print::printed;
 use crate::read::read_to_end;
 use crate::words::{Choice, Which};
-use crate::write::write_all;
+use crate::write::write_lines;
 use markdown::configuration::ParseOptions;
 use markdown::event::{Content, Event};
 use markdown::parser::ParseState;
@@ -30,7 +29,8 @@ use mdconstructs::save::Save;
 use std::alloc::{AllocError, Global};
 use std::io::{Read, Write};
 
-/// Reads a document to its end and writes its events, a line for each, once all are there.
+/// Reads a document to its end and writes its events, a line for each, once all are there. The lines go through a buffer of
+/// fixed size, so beside the document and the events no memory is taken for them.
 ///
 /// A cut in the choice is at least 1. The first failure met is answered, in the order of reading, length, making the
 /// events, and writing. Where it is not that of the writer nothing was written; where it is, a beginning of the lines.
@@ -53,8 +53,7 @@ pub fn write_events<R: Read, W: Write>(
 {
     let bytes = read_to_end(alloc, reader)?;
     let events = events_of(alloc, bytes.as_slice(), choice)?;
-    let text = printed(alloc, events.as_slice())?;
-    write_all(writer, text.as_bytes())
+    write_lines(writer, events.as_slice())
 }
 
 /// The events of a document, which have no trace of the cuts.
@@ -179,213 +178,203 @@ fn cuts_of(alloc: Global, bytes: &[u8], choice: &Choice) -> Result<Vec<(usize, u
 #[cfg(test)]
 mod tests {
     use super::*;
-    use crate::fakes::{FailingReader, FailingWriter};
-    use std::test::Fail;
+    use crate::driven::lines_of;
+    use crate::expected::{ONE_DATA, SHORT_DATA, THREE_DATA, TWO_LINES};
 
-    const UNCUT: Choice = Choice {
-        cut: None,
-        deep: false,
-        machine: Which::Lines,
-    };
+    const TWO_CHUNKS: &[u8] =
+        b"enter Paragraph 1:1 (0+0)\nenter BlockQuoteMarker 1:1 (0+0)\nexit BlockQuoteMarker 1:2 (1+0)\nenter Data 1:2 (1+0)\nexit Data 2:1 (3+0)\nenter BlockQuoteMarker 2:1 (3+0)\nexit BlockQuoteMarker 2:2 (4+0)\nenter Data 2:2 (4+0)\nexit Data 2:3 (5+0)\nexit Paragraph 2:3 (5+0)\n";
 
-    const TWO_LINES: &str =
-        "enter Paragraph 1:1 (0+0)\nenter Data 1:1 (0+0)\nexit Data 1:2 (1+0)\nexit Paragraph 1:2 (1+0)\nenter LineEnding 1:2 (1+0)\nexit LineEnding 2:1 (3+0)\nenter Paragraph 2:1 (3+0)\nenter Data 2:1 (3+0)\nexit Data 2:2 (4+0)\nexit Paragraph 2:2 (4+0)\n";
+    const TWO_LINES_OF_TEXT: &[u8] =
+        b"enter Paragraph 1:1 (0+0)\nenter BlockQuoteMarker 1:1 (0+0)\nexit BlockQuoteMarker 1:2 (1+0)\nenter Data 1:2 (1+0)\nexit Data 1:3 (2+0)\nenter LineEnding 1:3 (2+0)\nexit LineEnding 2:1 (3+0)\nenter BlockQuoteMarker 2:1 (3+0)\nexit BlockQuoteMarker 2:2 (4+0)\nenter Data 2:2 (4+0)\nexit Data 2:3 (5+0)\nexit Paragraph 2:3 (5+0)\n";
 
-    const TWO_CHUNKS: &str =
-        "enter Paragraph 1:1 (0+0)\nenter BlockQuoteMarker 1:1 (0+0)\nexit BlockQuoteMarker 1:2 (1+0)\nenter Data 1:2 (1+0)\nexit Data 2:1 (3+0)\nenter BlockQuoteMarker 2:1 (3+0)\nexit BlockQuoteMarker 2:2 (4+0)\nenter Data 2:2 (4+0)\nexit Data 2:3 (5+0)\nexit Paragraph 2:3 (5+0)\n";
+    const TWO_LINES_WITH_CRLF: &[u8] =
+        b"enter Paragraph 1:1 (0+0)\nenter BlockQuoteMarker 1:1 (0+0)\nexit BlockQuoteMarker 1:2 (1+0)\nenter Data 1:2 (1+0)\nexit Data 1:3 (2+0)\nenter LineEnding 1:3 (2+0)\nexit LineEnding 2:1 (4+0)\nenter BlockQuoteMarker 2:1 (4+0)\nexit BlockQuoteMarker 2:2 (5+0)\nenter Data 2:2 (5+0)\nexit Data 2:3 (6+0)\nexit Paragraph 2:3 (6+0)\n";
 
-    const TWO_LINES_OF_TEXT: &str =
-        "enter Paragraph 1:1 (0+0)\nenter BlockQuoteMarker 1:1 (0+0)\nexit BlockQuoteMarker 1:2 (1+0)\nenter Data 1:2 (1+0)\nexit Data 1:3 (2+0)\nenter LineEnding 1:3 (2+0)\nexit LineEnding 2:1 (3+0)\nenter BlockQuoteMarker 2:1 (3+0)\nexit BlockQuoteMarker 2:2 (4+0)\nenter Data 2:2 (4+0)\nexit Data 2:3 (5+0)\nexit Paragraph 2:3 (5+0)\n";
+    const TWO_PARAGRAPHS_OF_TEXT: &[u8] =
+        b"enter BlankLineEnding 1:1 (0+0)\nexit BlankLineEnding 2:1 (1+0)\nenter Paragraph 2:1 (1+0)\nenter Data 2:1 (1+0)\nexit Data 2:2 (2+0)\nenter LineEnding 2:2 (2+0)\nexit LineEnding 3:1 (3+0)\nexit Paragraph 3:1 (3+0)\nenter BlankLineEnding 3:1 (3+0)\nexit BlankLineEnding 4:1 (4+0)\nenter Paragraph 4:1 (4+0)\nenter Data 4:1 (4+0)\nexit Data 4:2 (5+0)\nexit Paragraph 4:2 (5+0)\n";
 
-    const TWO_LINES_WITH_CRLF: &str =
-        "enter Paragraph 1:1 (0+0)\nenter BlockQuoteMarker 1:1 (0+0)\nexit BlockQuoteMarker 1:2 (1+0)\nenter Data 1:2 (1+0)\nexit Data 1:3 (2+0)\nenter LineEnding 1:3 (2+0)\nexit LineEnding 2:1 (4+0)\nenter BlockQuoteMarker 2:1 (4+0)\nexit BlockQuoteMarker 2:2 (5+0)\nenter Data 2:2 (5+0)\nexit Data 2:3 (6+0)\nexit Paragraph 2:3 (6+0)\n";
+    const TWO_PARAGRAPHS: &[u8] =
+        b"enter BlankLineEnding 1:1 (0+0)\nexit BlankLineEnding 2:1 (1+0)\nenter Paragraph 2:1 (1+0)\nenter Data 2:1 (1+0)\nexit Data 3:1 (3+0)\nexit Paragraph 3:1 (3+0)\nenter BlankLineEnding 3:1 (3+0)\nexit BlankLineEnding 4:1 (4+0)\nenter Paragraph 4:1 (4+0)\nenter Data 4:1 (4+0)\nexit Data 4:2 (5+0)\nexit Paragraph 4:2 (5+0)\n";
 
-    const TWO_PARAGRAPHS_OF_TEXT: &str =
-        "enter BlankLineEnding 1:1 (0+0)\nexit BlankLineEnding 2:1 (1+0)\nenter Paragraph 2:1 (1+0)\nenter Data 2:1 (1+0)\nexit Data 2:2 (2+0)\nenter LineEnding 2:2 (2+0)\nexit LineEnding 3:1 (3+0)\nexit Paragraph 3:1 (3+0)\nenter BlankLineEnding 3:1 (3+0)\nexit BlankLineEnding 4:1 (4+0)\nenter Paragraph 4:1 (4+0)\nenter Data 4:1 (4+0)\nexit Data 4:2 (5+0)\nexit Paragraph 4:2 (5+0)\n";
+    const AFTER_TAB: &[u8] =
+        b"enter Paragraph 1:1 (0+0)\nenter Data 1:1 (0+0)\nexit Data 1:6 (2+0)\nexit Paragraph 1:6 (2+0)\n";
 
-    const TWO_PARAGRAPHS: &str =
-        "enter BlankLineEnding 1:1 (0+0)\nexit BlankLineEnding 2:1 (1+0)\nenter Paragraph 2:1 (1+0)\nenter Data 2:1 (1+0)\nexit Data 3:1 (3+0)\nexit Paragraph 3:1 (3+0)\nenter BlankLineEnding 3:1 (3+0)\nexit BlankLineEnding 4:1 (4+0)\nenter Paragraph 4:1 (4+0)\nenter Data 4:1 (4+0)\nexit Data 4:2 (5+0)\nexit Paragraph 4:2 (5+0)\n";
+    const FIRST_AND_REST: &[u8] =
+        b"enter Data 1:1 (0+0)\nexit Data 2:1 (2+0)\nenter Data 2:1 (2+0)\nexit Data 3:2 (5+0)\n";
 
-    const AFTER_TAB: &str =
-        "enter Paragraph 1:1 (0+0)\nenter Data 1:1 (0+0)\nexit Data 1:6 (2+0)\nexit Paragraph 1:6 (2+0)\n";
+    const LONG_PARAGRAPH: &[u8] =
+        b"enter Paragraph 1:1 (0+0)\nenter Data 1:1 (0+0)\nexit Data 1:100001 (100000+0)\nexit Paragraph 1:100001 (100000+0)\n";
 
-    const THREE_DATA: &str =
-        "enter Data 1:1 (0+0)\nexit Data 1:2 (1+0)\nenter LineEnding 1:2 (1+0)\nexit LineEnding 2:1 (2+0)\nenter Data 2:1 (2+0)\nexit Data 2:2 (3+0)\nenter LineEnding 2:2 (3+0)\nexit LineEnding 3:1 (4+0)\nenter Data 3:1 (4+0)\nexit Data 3:2 (5+0)\n";
+    const LONG_DATA: &[u8] = b"enter Data 1:1 (0+0)\nexit Data 1:100001 (100000+0)\n";
 
-    const ONE_DATA: &str = "enter Data 1:1 (0+0)\nexit Data 1:4 (3+0)\n";
+    const DEEP_DATA: &[u8] = b"enter Data 1:1 (0+0)\nexit Data 1:2001 (2000+0)\n";
 
-    const SHORT_DATA: &str = "enter Data 1:1 (0+0)\nexit Data 1:3 (2+0)\n";
+    const LONG_SECOND_LINE: &[u8] = b"enter Data 2:1 (1+0)\nexit Data 2:100000 (100000+0)\n";
 
-    const FIRST_AND_REST: &str =
-        "enter Data 1:1 (0+0)\nexit Data 2:1 (2+0)\nenter Data 2:1 (2+0)\nexit Data 3:2 (5+0)\n";
+    const SECOND_LINE: &[u8] = b"enter Data 2:1 (2+0)\nexit Data 2:4 (5+0)\n";
 
-    const LONG_PARAGRAPH: &str =
-        "enter Paragraph 1:1 (0+0)\nenter Data 1:1 (0+0)\nexit Data 1:100001 (100000+0)\nexit Paragraph 1:100001 (100000+0)\n";
-
-    const LONG_DATA: &str = "enter Data 1:1 (0+0)\nexit Data 1:100001 (100000+0)\n";
-
-    const DEEP_DATA: &str = "enter Data 1:1 (0+0)\nexit Data 1:2001 (2000+0)\n";
-
-    const LONG_SECOND_LINE: &str = "enter Data 2:1 (1+0)\nexit Data 2:100000 (100000+0)\n";
-
-    const SECOND_LINE: &str = "enter Data 2:1 (2+0)\nexit Data 2:4 (5+0)\n";
+    /// Whether this is written for a document.
+    fn writes_as(alloc: Global, document: &[u8], choice: &Choice, want: &[u8]) -> bool
+        requires { CanCut choice.now }
+    {
+        let mut reader = document;
+        let mut written = Vec::new(alloc);
+        let result = write_events(alloc, &mut reader, &mut written, choice);
+        result.is_ok() && written.as_slice() == want
+    }
 
     /// Whether this is written for a document, uncut and cut after each virtual byte or two.
-    fn writes(alloc: Global, document: &[u8], machine: Which, want: &str) -> bool {
-        for cut in [None, Some(1), Some(2)] {
-            let mut reader = document;
-            let mut written = Vec::new(alloc);
-            let choice = Choice {
-                cut,
-                deep: false,
-                machine,
-            };
-            let result = write_events(alloc, &mut reader, &mut written, &choice);
-            if result.is_err() || written.as_slice() != want.as_bytes() {
-                return false;
-            }
-        }
-        true
+    fn writes(alloc: Global, document: &[u8], machine: Which, deep: bool, want: &[u8]) -> bool {
+        let uncut = Choice {
+            cut: None,
+            deep,
+            machine,
+        };
+        let by_one = Choice {
+            cut: Some(1),
+            ..uncut
+        };
+        let by_two = Choice {
+            cut: Some(2),
+            ..uncut
+        };
+        writes_as(alloc, document, &uncut, want)
+            && writes_as(alloc, document, &by_one, want)
+            && writes_as(alloc, document, &by_two, want)
     }
+
+    const WRITTEN: [(&[u8], Which, &[u8]); 16] = [
+        (b"a\r\nb", Which::Lines, TWO_LINES),
+        (b"", Which::Lines, b""),
+        (b"\ta", Which::Lines, AFTER_TAB),
+        (b"a\nb\nc", Which::Peek, THREE_DATA),
+        (b"ab", Which::Peek, SHORT_DATA),
+        (b"", Which::Peek, b""),
+        (b"abc", Which::Deep, ONE_DATA),
+        (b"ab", Which::Deep, SHORT_DATA),
+        (b"", Which::Deep, b""),
+        (b"a\nb\nc", Which::Back, FIRST_AND_REST),
+        (b"ab", Which::Back, SHORT_DATA),
+        (b"", Which::Back, b""),
+        (b"a\n> b", Which::Save, SECOND_LINE),
+        (b"a\n", Which::Save, b""),
+        (b"ab", Which::Save, b""),
+        (b"", Which::Save, b""),
+    ];
 
     #[test]
     fn writes_the_events(rt: HostRuntime) {
-        for (document, machine, want) in [
-            ("a\r\nb", Which::Lines, TWO_LINES),
-            ("", Which::Lines, ""),
-            ("\ta", Which::Lines, AFTER_TAB),
-            ("a\nb\nc", Which::Peek, THREE_DATA),
-            ("ab", Which::Peek, SHORT_DATA),
-            ("", Which::Peek, ""),
-            ("abc", Which::Deep, ONE_DATA),
-            ("ab", Which::Deep, SHORT_DATA),
-            ("", Which::Deep, ""),
-            ("a\nb\nc", Which::Back, FIRST_AND_REST),
-            ("ab", Which::Back, SHORT_DATA),
-            ("", Which::Back, ""),
-            ("a\n> b", Which::Save, SECOND_LINE),
-            ("a\n", Which::Save, ""),
-            ("ab", Which::Save, ""),
-            ("", Which::Save, ""),
-        ] {
-            assert!(rt;
-                writes(rt.alloc(), document.as_bytes(), machine, want),
-                "{document}"
-            );
+        for (document, machine, want) in WRITTEN {
+            assert!(rt; writes(rt.alloc(), document, machine, false, want));
         }
     }
 
+    const OF_PARAGRAPHS: [(&[u8], bool, &[u8]); 6] = [
+        (b">a\n>b", false, TWO_CHUNKS),
+        (b">a\n>b", true, TWO_LINES_OF_TEXT),
+        (b">a\r\n>b", true, TWO_LINES_WITH_CRLF),
+        (b"\na\n\nb", false, TWO_PARAGRAPHS),
+        (b"\na\n\nb", true, TWO_PARAGRAPHS_OF_TEXT),
+        (b"", true, b""),
+    ];
+
     #[test]
-    fn cuts_around_a_carriage_return_leave_no_trace(rt: HostRuntime) -> Result<(), Fail> {
-        let text = b"a\r\nb";
-        let cuts = [(1, 0), (2, 0)];
-        let events = read_by(rt.alloc(), &Lines {}, Name::FlowStart, text, &cuts)?;
-        let written = printed(rt.alloc(), events.as_slice())?;
-        assert_eq!(rt; written.as_str(), TWO_LINES);
-        Ok(())
+    fn writes_paragraphs(rt: HostRuntime) {
+        for (document, deep, want) in OF_PARAGRAPHS {
+            assert!(rt; writes(rt.alloc(), document, Which::Paragraphs, deep, want));
+        }
     }
 
-    /// A document of a byte, and then another one so often that there are so many in all.
-    fn long(alloc: Global, first: u8, rest: u8, count: usize) -> Result<Vec<u8>, AllocError> {
+    /// Whether this is written for a document of a byte, and then another one so often that there are so many in all.
+    fn writes_long(
+        alloc: Global,
+        first: u8,
+        count: usize,
+        machine: Which,
+        want: &[u8],
+    ) -> Result<bool, AllocError> {
         let mut bytes = Vec::new(alloc);
         bytes.push(first)?;
-        bytes.resize(count, rest)?;
-        Ok(bytes)
+        bytes.resize(count, b'a')?;
+        Ok(writes(alloc, bytes.as_slice(), machine, false, want))
     }
 
     #[test]
-    fn writes_the_events_of_long_documents(rt: HostRuntime) -> Result<(), Fail> {
-        for (first, count, machine, want) in [
-            (b'a', 100_000, Which::Lines, LONG_PARAGRAPH),
-            (b'a', 100_000, Which::Peek, LONG_DATA),
-            (b'a', 2000, Which::Deep, DEEP_DATA),
-            (b'a', 100_000, Which::Back, LONG_DATA),
-            (b'a', 100_000, Which::Save, ""),
-            (b'\n', 100_000, Which::Save, LONG_SECOND_LINE),
-        ] {
-            let document = long(rt.alloc(), first, b'a', count)?;
-            assert!(rt; writes(rt.alloc(), document.as_slice(), machine, want));
-        }
+    fn writes_the_events_of_a_long_line(rt: HostRuntime) -> Result<(), AllocError> {
+        assert!(rt; writes_long(rt.alloc(), b'a', 100_000, Which::Lines, LONG_PARAGRAPH)?);
+        assert!(rt; writes_long(rt.alloc(), b'a', 100_000, Which::Peek, LONG_DATA)?);
         Ok(())
     }
 
     #[test]
-    fn writes_the_events_of_many_lines(rt: HostRuntime) -> Result<(), Fail> {
-        let document = long(rt.alloc(), b'\n', b'\n', 50_000)?;
+    fn writes_the_events_of_many_attempts(rt: HostRuntime) -> Result<(), AllocError> {
+        assert!(rt; writes_long(rt.alloc(), b'a', 2000, Which::Deep, DEEP_DATA)?);
+        Ok(())
+    }
+
+    #[test]
+    fn writes_the_events_after_a_long_choice(rt: HostRuntime) -> Result<(), AllocError> {
+        assert!(rt; writes_long(rt.alloc(), b'a', 100_000, Which::Back, LONG_DATA)?);
+        assert!(rt; writes_long(rt.alloc(), b'a', 100_000, Which::Save, b"")?);
+        assert!(rt; writes_long(rt.alloc(), b'\n', 100_000, Which::Save, LONG_SECOND_LINE)?);
+        Ok(())
+    }
+
+    /// What is written for so many line endings.
+    fn of_line_endings(alloc: Global, count: usize) -> Result<Vec<u8>, AllocError> {
+        let mut document = Vec::new(alloc);
+        document.resize(count, b'\n')?;
         let mut reader = document.as_slice();
-        let mut written = Vec::new(rt.alloc());
-        let result = write_events(rt.alloc(), &mut reader, &mut written, &UNCUT);
-        assert!(rt; result.is_ok());
+        let mut written = Vec::new(alloc);
+        let uncut = Choice {
+            cut: None,
+            deep: false,
+            machine: Which::Lines,
+        };
+        match write_events(alloc, &mut reader, &mut written, &uncut) {
+            Ok(()) => Ok(written),
+            Err(_) => Err(AllocError),
+        }
+    }
+
+    #[test]
+    fn writes_the_events_of_many_lines(rt: HostRuntime) -> Result<(), AllocError> {
+        let written = of_line_endings(rt.alloc(), 50_000)?;
         let written = written.as_slice();
         let lines = written.iter().filter(|byte| **byte == b'\n').count();
         assert_eq!(rt; lines, 100_000);
-        let first = b"enter LineEnding 1:1 (0+0)\n".as_slice();
-        assert!(rt; written.starts_with(first));
-        let last = b"\nexit LineEnding 50001:1 (50000+0)\n".as_slice();
-        assert!(rt; written.ends_with(last));
+        assert!(rt; written.starts_with(b"enter LineEnding 1:1 (0+0)\n"));
+        assert!(rt; written.ends_with(b"\nexit LineEnding 50001:1 (50000+0)\n"));
+        Ok(())
+    }
+
+    /// How many cuts there are where a text of so many bytes is cut after each, and the last one.
+    fn cuts_by_one(alloc: Global, count: usize) -> Result<(usize, (usize, usize)), AllocError> {
+        let mut bytes = Vec::new(alloc);
+        bytes.resize(count, b'a')?;
+        if bytes.len() > 100_000 {
+            return Err(AllocError);
+        }
+        let cuts = cuts_every(alloc, bytes.as_slice(), 1)?;
+        Ok((cuts.len(), cuts.last().copied().unwrap_or((0, 0))))
+    }
+
+    #[test]
+    fn many_cuts(rt: HostRuntime) -> Result<(), AllocError> {
+        let (count, last) = cuts_by_one(rt.alloc(), 100_000)?;
+        assert_eq!(rt; count, 99_999);
+        assert_eq!(rt; last, (99_999, 0));
         Ok(())
     }
 
     #[test]
-    fn many_cuts(rt: HostRuntime) -> Result<(), Fail> {
-        let bytes = long(rt.alloc(), b'a', b'a', 100_000)?;
-        assert!(rt; bytes.len() <= 100_000);
-        let cuts = cuts_every(rt.alloc(), bytes.as_slice(), 1)?;
-        assert_eq!(rt; cuts.len(), 99_999);
-        assert_eq!(rt; cuts.first(), Some(&(1, 0)));
-        assert_eq!(rt; cuts.last(), Some(&(99_999, 0)));
-        Ok(())
-    }
-
-    #[test]
-    fn writes_paragraphs(rt: HostRuntime) -> Result<(), Fail> {
-        for (document, deep, want) in [
-            (">a\n>b", false, TWO_CHUNKS),
-            (">a\n>b", true, TWO_LINES_OF_TEXT),
-            (">a\r\n>b", true, TWO_LINES_WITH_CRLF),
-            ("\na\n\nb", false, TWO_PARAGRAPHS),
-            ("\na\n\nb", true, TWO_PARAGRAPHS_OF_TEXT),
-            ("", true, ""),
-        ] {
-            for cut in [None, Some(1)] {
-                let mut reader = document.as_bytes();
-                let mut written = Vec::new(rt.alloc());
-                let choice = Choice {
-                    cut,
-                    deep,
-                    machine: Which::Paragraphs,
-                };
-                let result = write_events(rt.alloc(), &mut reader, &mut written, &choice);
-                assert!(rt; result.is_ok());
-                assert_eq!(rt; written.as_slice(), want.as_bytes());
-            }
-        }
-        Ok(())
-    }
-
-    #[test]
-    fn answers_the_first_failure(rt: HostRuntime) -> Result<(), Fail> {
-        for (good_reads, good_writes) in [(0, 9), (1, 9), (2, 9), (2, 0)] {
-            let mut reader = FailingReader::new(b"a\r\nb", good_reads);
-            let mut writer = FailingWriter::new(100, good_writes);
-            match write_events(rt.alloc(), &mut reader, &mut writer, &UNCUT) {
-                Err(Failure::Read) => assert!(rt; good_reads < 3),
-                _ => assert!(rt; false, "after {good_reads} reads"),
-            }
-            assert!(rt; writer.written.text().is_empty());
-        }
-        for good_writes in 0..5 {
-            let mut reader = b"a\r\nb".as_slice();
-            let mut writer = FailingWriter::new(100, good_writes);
-            match write_events(rt.alloc(), &mut reader, &mut writer, &UNCUT) {
-                Ok(()) => assert!(rt; good_writes >= 3),
-                Err(Failure::Write) => assert!(rt; good_writes < 3),
-                Err(_) => assert!(rt; false, "after {good_writes} writes"),
-            }
-            let written = writer.written.text();
-            assert_eq!(rt; written.len(), TWO_LINES.len().min(100 * good_writes));
-            assert!(rt; TWO_LINES.as_bytes().starts_with(written));
-        }
+    fn cuts_around_a_carriage_return_leave_no_trace(rt: HostRuntime) -> Result<(), AllocError> {
+        let cuts = [(1, 0), (2, 0)];
+        let Ok(events) = read_by(rt.alloc(), &Lines {}, Name::FlowStart, b"a\r\nb", &cuts) else {
+            return Err(AllocError);
+        };
+        let written = lines_of(rt.alloc(), events.as_slice())?;
+        assert_eq!(rt; written.as_slice(), TWO_LINES);
         Ok(())
     }
 }

@@ -59,27 +59,20 @@ fn read_more<R: Read>(reader: &mut R, bytes: &mut Vec<u8>) -> Result<bool, Failu
 #[cfg(test)]
 mod tests {
     use super::*;
-    use crate::fakes::FailingReader;
-    use std::test::Fail;
+    use crate::fakes::{FailingReader, Fault};
+
+    /// Whether all of a text is read, where the read after so many good ones fails.
+    fn reads_all(alloc: Global, good_reads: usize) -> Result<bool, Failure> {
+        let mut reader = FailingReader::new(b"a\r\nb", good_reads, Fault::ErrorOnce);
+        let all = read_to_end(alloc, &mut reader)?;
+        Ok(all.as_slice() == b"a\r\nb".as_slice())
+    }
 
     #[test]
-    fn reads_to_the_end(rt: HostRuntime) -> Result<(), Fail> {
+    fn reads_to_the_end(rt: HostRuntime) {
         for good_reads in 0..5 {
-            let mut reader = FailingReader::new(b"a\r\nb", good_reads);
-            match read_to_end(rt.alloc(), &mut reader) {
-                Ok(all) => {
-                    assert!(rt; good_reads >= 3);
-                    assert_eq!(rt; all.as_slice(), b"a\r\nb".as_slice());
-                }
-                Err(failure) => {
-                    assert!(rt; good_reads < 3);
-                    assert!(rt;
-                        matches!(&failure, Failure::Read),
-                        "after {good_reads} reads"
-                    );
-                }
-            }
+            assert!(rt; matches!(reads_all(rt.alloc(), good_reads), Err(Failure::Read)));
         }
-        Ok(())
+        assert!(rt; matches!(reads_all(rt.alloc(), 5), Ok(true)));
     }
 }

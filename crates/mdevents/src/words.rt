@@ -151,66 +151,89 @@ fn is_decimal(word: &str) -> bool
 #[cfg(test)]
 mod tests {
     use super::*;
-    use std::test::Fail;
+    use std::alloc::{AllocError, Global};
+
+    /// What words choose, which stand in a text with spaces between.
+    fn choice_of(alloc: Global, text: &str) -> Result<Option<Choice>, AllocError> {
+        let mut words = Vec::new(alloc);
+        for word in text.split_whitespace() {
+            words.push(String::from_str(alloc, word)?)?;
+        }
+        Ok(read_words(words.as_slice()))
+    }
+
+    /// Whether words choose this, which stand in a text with spaces between.
+    fn choose(alloc: Global, text: &str, want: Option<Choice>) -> bool {
+        match choice_of(alloc, text) {
+            Ok(choice) => choice == want,
+            Err(_) => false,
+        }
+    }
+
+    const CHOSEN: [(&str, Option<usize>, bool, Which); 13] = [
+        ("", None, false, Which::Lines),
+        ("--cut 2", Some(2), false, Which::Lines),
+        ("--cut 016", Some(16), false, Which::Lines),
+        (
+            "--cut 18446744073709551615",
+            Some(usize::MAX),
+            false,
+            Which::Lines,
+        ),
+        ("--machine lines", None, false, Which::Lines),
+        ("--machine paragraphs", None, false, Which::Paragraphs),
+        ("--machine peek", None, false, Which::Peek),
+        ("--machine deep --cut 3", Some(3), false, Which::Deep),
+        ("--cut 3 --machine deep", Some(3), false, Which::Deep),
+        ("--machine back", None, false, Which::Back),
+        ("--machine save", None, false, Which::Save),
+        ("--deep --machine paragraphs", None, true, Which::Paragraphs),
+        (
+            "--machine paragraphs --deep --cut 1",
+            Some(1),
+            true,
+            Which::Paragraphs,
+        ),
+    ];
 
     #[test]
-    fn answers_words(rt: HostRuntime) -> Result<(), Fail> {
-        let lines = Which::Lines;
-        let paragraphs = Which::Paragraphs;
-        for (text, want) in [
-            ("", Some((None, false, lines))),
-            ("--cut 2", Some((Some(2), false, lines))),
-            ("--cut 016", Some((Some(16), false, lines))),
-            (
-                "--cut 18446744073709551615",
-                Some((Some(usize::MAX), false, lines)),
-            ),
-            ("--machine lines", Some((None, false, lines))),
-            ("--machine paragraphs", Some((None, false, paragraphs))),
-            ("--machine peek", Some((None, false, Which::Peek))),
-            (
-                "--machine deep --cut 3",
-                Some((Some(3), false, Which::Deep)),
-            ),
-            (
-                "--cut 3 --machine deep",
-                Some((Some(3), false, Which::Deep)),
-            ),
-            ("--machine back", Some((None, false, Which::Back))),
-            ("--machine save", Some((None, false, Which::Save))),
-            (
-                "--deep --machine paragraphs",
-                Some((None, true, paragraphs)),
-            ),
-            (
-                "--machine paragraphs --deep --cut 1",
-                Some((Some(1), true, paragraphs)),
-            ),
-            ("--cut 18446744073709551616", None),
-            ("--cut 0", None),
-            ("--cut +1", None),
-            ("--cut", None),
-            ("--cut=1", None),
-            ("--cut 1 --cut 1", None),
-            ("--deep", None),
-            ("--machine lines --deep", None),
-            ("--deep --machine deep", None),
-            ("--deep --machine paragraphs --deep", None),
-            ("--machine", None),
-            ("--machine --deep", None),
-            ("--machine Lines", None),
-            ("--machine lines --machine lines", None),
-            ("--machine forth", None),
-        ] {
-            let mut words = Vec::new(rt.alloc());
-            for word in text.split_whitespace() {
-                words.push(String::from_str(rt.alloc(), word)?)?;
-            }
-            let choice = want.map(|(cut, deep, machine)| Choice { cut, deep, machine });
-            assert_eq!(rt; read_words(words.as_slice()), choice, "{text}");
+    fn words_choose(rt: HostRuntime) {
+        for (text, cut, deep, machine) in CHOSEN {
+            let want = Some(Choice { cut, deep, machine });
+            assert!(rt; choose(rt.alloc(), text, want), "{text}");
         }
-        let empty = String::new(rt.alloc());
-        assert_eq!(rt; read_words(&[empty]), None);
+    }
+
+    const REFUSED: [&str; 15] = [
+        "--cut 18446744073709551616",
+        "--cut 0",
+        "--cut +1",
+        "--cut",
+        "--cut=1",
+        "--cut 1 --cut 1",
+        "--deep",
+        "--machine lines --deep",
+        "--deep --machine deep",
+        "--deep --machine paragraphs --deep",
+        "--machine",
+        "--machine --deep",
+        "--machine Lines",
+        "--machine lines --machine lines",
+        "--machine forth",
+    ];
+
+    #[test]
+    fn other_words_choose_nothing(rt: HostRuntime) {
+        for text in REFUSED {
+            assert!(rt; choose(rt.alloc(), text, None), "{text}");
+        }
+    }
+
+    #[test]
+    fn empty_word_chooses_nothing(rt: HostRuntime) -> Result<(), AllocError> {
+        let mut words = Vec::new(rt.alloc());
+        words.push(String::new(rt.alloc()))?;
+        assert!(rt; read_words(words.as_slice()).is_none());
         Ok(())
     }
 }

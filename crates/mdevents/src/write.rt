@@ -1,14 +1,47 @@
-//! Writing a text.
+//! Writing the lines of events.
 
-ghost use Rattle.std.specs.Prelude.{◌≡◌, ◌≤◌, ℕ, take, length, IsOkUnless, OnOk, OnErr};
+ghost use Rattle.std.specs.Prelude.{◌≡◌, ◌+◌, ◌++◌, ◌≤◌, ℕ, List, take, length, IsOkUnless, OnOk, OnErr};
 ghost use Rattle.std.specs.Io.KnownBytes.{Appends};
+ghost use Rattle.mdevents.specs.Printed.{printed_events};
 
 use crate::failure::Failure;
+use crate::print::{LONGEST, push_line};
+use crate::waiting::{SIZE, Waiting};
+use markdown::event::Event;
 use std::io::Write;
+
+/// Writes a line for each event and nothing else, through a buffer of [`SIZE`] bytes, and takes no memory. Any error of
+/// the writer, and a write that takes nothing, is `Failure::Write`; what was written is then a beginning of the lines.
+pub fn write_lines<W: Write>(writer: &mut W, events: &[Event]) -> Result<(), Failure>
+    ensures all { OnOk result (Appends (W.contents writer.old) (W.contents writer.new) (printed_events events.now)) }
+    ensures failed { OnErr result ((count : ℕ) × Appends (W.contents writer.old) (W.contents writer.new) (take count (printed_events events.now))) }
+    ensures cause { IsOkUnless result Failure.Write }
+{
+    let mut lines = Waiting::new();
+    for event in events {
+        make_room(&mut lines, writer)?;
+        push_line(&mut lines, event);
+    }
+    write_all(writer, lines.as_slice())
+}
+
+/// Makes room for a line: where there is none, writes what waits.
+fn make_room<W: Write>(waiting: &mut Waiting, writer: &mut W) -> Result<(), Failure>
+    ensures room { OnOk result (length waiting.new + LONGEST ≤ SIZE) }
+    ensures passed { OnOk result ((text : List ℕ) × Appends (W.contents writer.old) (W.contents writer.new) text × (text ++ waiting.new ≡ waiting.old)) }
+    ensures failed { OnErr result ((count : ℕ) × Appends (W.contents writer.old) (W.contents writer.new) (take count waiting.old)) }
+    ensures cause { IsOkUnless result Failure.Write }
+{
+    if waiting.len() > SIZE - LONGEST {
+        write_all(writer, waiting.as_slice())?;
+        waiting.clear();
+    }
+    Ok(())
+}
 
 /// Writes all of a text and nothing else. Any error of the writer, and a write that takes nothing, is
 /// `Failure::Write`; what was written is then a beginning of the text.
-pub fn write_all<W: Write>(writer: &mut W, text: &[u8]) -> Result<(), Failure>
+fn write_all<W: Write>(writer: &mut W, text: &[u8]) -> Result<(), Failure>
     ensures all { OnOk result (Appends (W.contents writer.old) (W.contents writer.new) text.now) }
     ensures failed { OnErr result ((count : ℕ) × Appends (W.contents writer.old) (W.contents writer.new) (take count text.now)) }
     ensures cause { IsOkUnless result Failure.Write }
@@ -26,21 +59,58 @@ pub fn write_all<W: Write>(writer: &mut W, text: &[u8]) -> Result<(), Failure>
 #[cfg(test)]
 mod tests {
     use super::*;
-    use crate::fakes::FailingWriter;
+    use crate::driven::lines_of;
+    use crate::fakes::{FailingWriter, Fault};
+    use markdown::event::{Kind, Name, Point};
+    use std::alloc::AllocError;
+
+    /// Whether a text of three bytes is written, or this much of it, where a writer that takes at most so many bytes a write
+    /// takes nothing after its good ones.
+    fn writes(most: usize, good_writes: usize, want: &[u8]) -> bool {
+        let mut writer = FailingWriter::new(most, good_writes, Fault::NothingOnce);
+        let is_ok = write_all(&mut writer, b"abc").is_ok();
+        is_ok == (want.len() == 3) && writer.written.text() == want
+    }
 
     #[test]
     fn writes_all(rt: HostRuntime) {
-        for (most, good_writes, want) in [
-            (2, 9, "abc"),
-            (2, 2, "abc"),
-            (2, 1, "ab"),
-            (2, 0, ""),
-            (0, 9, ""),
-        ] {
-            let mut writer = FailingWriter::new(most, good_writes);
-            let is_ok = write_all(&mut writer, b"abc").is_ok();
-            assert_eq!(rt; is_ok, want == "abc");
-            assert_eq!(rt; writer.written.text(), want.as_bytes());
-        }
+        assert!(rt; writes(2, 9, b"abc"));
+        assert!(rt; writes(2, 2, b"abc"));
+        assert!(rt; writes(2, 1, b"ab"));
+        assert!(rt; writes(2, 0, b""));
+    }
+
+    const ENTER: Event = Event {
+        kind: Kind::Enter,
+        name: Name::Paragraph,
+        point: Point {
+            line: 1,
+            column: 1,
+            index: 0,
+            vs: 0,
+        },
+        link: None,
+    };
+
+    const EXIT: Event = Event {
+        kind: Kind::Exit,
+        name: Name::Paragraph,
+        point: Point {
+            line: 10,
+            column: 18_446_744_073_709_551_615,
+            index: 907,
+            vs: 2,
+        },
+        link: None,
+    };
+
+    #[test]
+    fn writes_lines(rt: HostRuntime) -> Result<(), AllocError> {
+        let text = lines_of(rt.alloc(), &[ENTER, EXIT])?;
+        assert_eq!(rt;
+            text.as_slice(),
+            b"enter Paragraph 1:1 (0+0)\nexit Paragraph 10:18446744073709551615 (907+2)\n".as_slice()
+        );
+        Ok(())
     }
 }

@@ -2,6 +2,6 @@ use Rattle.std.proofs.Common.{refl}
 use Rattle.markdown_base.specs.Virtual.{point}
 use Rattle.mdevents.proofs.ranges.range_begins_at_the_other_place_of_its_byte.Goals as goal
 
-pub read_ranges-requires-clause-ranges : goal.read_ranges-requires-clause-ranges
-read_ranges-requires-clause-ranges g c =
+pub read_following-seen-requires-clause-ranges : goal.read_following-seen-requires-clause-ranges
+read_following-seen-requires-clause-ranges g c =
     (tt, point 1 1 0 0, point 1 2 1 0, refl, refl, refl, refl, (tt, point 1 2 2 0, point 1 2 2 0, refl, refl, refl, refl, (tt, point 1 2 2 0, point 2 2 4 0, refl, refl, refl, refl, tt)))

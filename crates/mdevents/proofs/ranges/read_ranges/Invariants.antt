@@ -1,6 +1,0 @@
-use Rattle.std.specs.Prelude.{drop}
-use Rattle.mdevents.proofs.Standing.{Reads}
-use Rattle.mdevents.proofs.ranges.read_ranges.Given as goal
-
-abbrev pub invariant-loop-gap : goal.invariant-loop-gap
-invariant-loop-gap g l = Reads g.M.Machine.rules l.fn.parse_state.bytes.now (drop l.gap-index l.ranges) l.tokenizer l.state

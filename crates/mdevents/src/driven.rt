@@ -1,0 +1,285 @@
+//! The tokenizer, driven over the ranges and gaps of a document.
+
+ghost use Rattle.std.specs.Prelude.{◌≡◌, ◌+◌, ◌*◌, ◌^◌, ◌<◌, true, length, All, Contains, IfSome};
+ghost use Rattle.markdown_base.specs.Virtual.{point};
+ghost use Rattle.markdown_base.specs.Places.{denotes_same, stands_before};
+ghost use Rattle.markdown.specs.Configuration.{start_seen};
+ghost use Rattle.markdown.specs.Engine.{given_of};
+ghost use Rattle.markdown.specs.Text.{empty_text};
+ghost use Rattle.mdevents.specs.Program.{document};
+ghost use Rattle.mdevents.specs.Ranges.{FollowOn, IsGapFrom, LeadsFrom, after_any};
+
+use crate::write::write_lines;
+use markdown::configuration::ParseOptions;
+use markdown::event::{Event, Point};
+use markdown::parser::ParseState;
+use markdown::state::{Machine, Name, State};
+use markdown::tokenizer::{Tokenizer, point_at};
+use std::alloc::{AllocError, Global};
+
+/// A range of a document, from a place to another one, and the place up to which a gap is passed before it, if one is.
+pub type AfterGap = (Option<Point>, (usize, usize), (usize, usize));
+
+/// What was seen after a push: the byte before, the number of calls so far, and the number of events.
+#[derive(Clone, Copy, PartialEq, Eq)]
+pub struct Pushed {
+    pub previous: Option<u8>,
+    pub calls: usize,
+    pub events: usize,
+}
+
+/// What was seen as a document was read: after each push, the number of calls in all, and the lines of the events.
+#[derive(Drop)]
+pub struct Seen {
+    pub pushed: Vec<Pushed>,
+    pub calls: usize,
+    pub text: Vec<u8>,
+}
+
+/// Reads a document with the default options, cut at these places. `None` where they are no places of it, or in no order.
+pub fn read_cut<M: Machine>(
+    alloc: Global,
+    machine: &M,
+    start: Name,
+    bytes: &[u8],
+    cuts: &[(usize, usize)],
+) -> Option<Seen>
+    requires limit { 4 * length bytes.now + 1 < 2 ^ 64 }
+    requires start { Contains (M.rules machine.now (document bytes.now)).starts start }
+{
+    let ranges = ranges_between(alloc, bytes.len(), cuts).ok()?;
+    read_ranges(alloc, machine, start, bytes, ranges.as_slice())
+}
+
+/// The ranges between cuts, from the start of a document of so many bytes to its end.
+fn ranges_between(
+    alloc: Global,
+    size: usize,
+    cuts: &[(usize, usize)],
+) -> Result<Vec<AfterGap>, AllocError> {
+    let mut ranges = Vec::new(alloc);
+    let mut from = (0, 0);
+    for cut in cuts {
+        ranges.push((None, from, *cut))?;
+        from = *cut;
+    }
+    ranges.push((None, from, (size, 0)))?;
+    Ok(ranges)
+}
+
+/// Reads these ranges of a document and no other, with the default options. `None` where they do not follow on one another, each
+/// at the place where the one before ended or its gap ends.
+pub fn read_ranges<M: Machine>(
+    alloc: Global,
+    machine: &M,
+    start: Name,
+    bytes: &[u8],
+    ranges: &[AfterGap],
+) -> Option<Seen>
+    requires limit { 4 * length bytes.now + 1 < 2 ^ 64 }
+    requires start { Contains (M.rules machine.now (document bytes.now)).starts start }
+{
+    let first = Point {
+        line: 1,
+        column: 1,
+        index: 0,
+        vs: 0,
+    };
+    if !follow_on(bytes, first, ranges) {
+        return None;
+    }
+    read_following(alloc, machine, start, bytes, ranges)
+}
+
+/// Reads ranges that follow on one another.
+pub fn read_following<M: Machine>(
+    alloc: Global,
+    machine: &M,
+    start: Name,
+    bytes: &[u8],
+    ranges: &[AfterGap],
+) -> Option<Seen>
+    requires limit { 4 * length bytes.now + 1 < 2 ^ 64 }
+    requires start { Contains (M.rules machine.now (document bytes.now)).starts start }
+    requires ranges { FollowOn bytes.now (point 1 1 0 0) ranges.now }
+{
+    let options = ParseOptions::default();
+    let parse_state = ParseState {
+        bytes,
+        options: &options,
+        machine,
+    };
+    let point = Point {
+        line: 1,
+        column: 1,
+        index: 0,
+        vs: 0,
+    };
+    let mut tokenizer = Tokenizer::new(alloc, point, &parse_state);
+    drive(alloc, &mut tokenizer, &parse_state, start, ranges).ok()
+}
+
+/// Drives a new tokenizer over ranges.
+fn drive<'a, M: Machine>(
+    alloc: Global,
+    tokenizer: &mut Tokenizer<'a, M>,
+    parse_state: &ParseState<'a, M>,
+    start: Name,
+    ranges: &[AfterGap],
+) -> Result<Seen, AllocError>
+    requires limit { 4 * length parse_state.now.bytes.now + 1 < 2 ^ 64 }
+    requires bytes { All (λ b. b < 256) parse_state.now.bytes.now }
+    requires fresh { tokenizer.old ≡ start_seen (given_of 4 parse_state.now) parse_state.now.machine.now (empty_text (point 1 1 0 0)) }
+    requires start { Contains (M.rules parse_state.now.machine.now (given_of 4 parse_state.now)).starts start }
+    requires ranges { FollowOn parse_state.now.bytes.now (point 1 1 0 0) ranges.now }
+{
+    let mut pushed = Vec::new(alloc);
+    push_all(tokenizer, parse_state, start, ranges, &mut pushed)?;
+    let text = lines_of(alloc, tokenizer.events())?;
+    Ok(Seen {
+        pushed,
+        calls: tokenizer.tokenize_state.size,
+        text,
+    })
+}
+
+/// Over a new tokenizer: passes the gap before each range, if there is one, and pushes the range; and flushes at the end. What is
+/// seen after each push is added to the list.
+fn push_all<'a, M: Machine>(
+    tokenizer: &mut Tokenizer<'a, M>,
+    _parse_state: &ParseState<'a, M>,
+    start: Name,
+    ranges: &[AfterGap],
+    pushed: &mut Vec<Pushed>,
+) -> Result<(), AllocError>
+    requires limit { 4 * length _parse_state.now.bytes.now + 1 < 2 ^ 64 }
+    requires bytes { All (λ b. b < 256) _parse_state.now.bytes.now }
+    requires fresh { tokenizer.old ≡ start_seen (given_of 4 _parse_state.now) _parse_state.now.machine.now (empty_text (point 1 1 0 0)) }
+    requires start { Contains (M.rules _parse_state.now.machine.now (given_of 4 _parse_state.now)).starts start }
+    requires ranges { FollowOn _parse_state.now.bytes.now (point 1 1 0 0) ranges.now }
+{
+    let mut state = State::Next(start);
+    for (gap, from, to) in ranges {
+        if let Some(place) = gap {
+            tokenizer.define_skip(*place)?;
+        }
+        state = match tokenizer.push(*from, *to, state) {
+            Ok(next) => next,
+            Err(_) => return Err(AllocError),
+        };
+        pushed.push(seen_of(tokenizer))?;
+    }
+    match tokenizer.flush(state, false) {
+        Ok(_) => Ok(()),
+        Err(_) => Err(AllocError),
+    }
+}
+
+/// What is seen of a tokenizer.
+fn seen_of<'a, M: Machine>(tokenizer: &Tokenizer<'a, M>) -> Pushed {
+    Pushed {
+        previous: tokenizer.previous(),
+        calls: tokenizer.tokenize_state.size,
+        events: tokenizer.events().len(),
+    }
+}
+
+/// How many calls were seen in all; 0 where nothing was read.
+pub fn calls_of(seen: &Option<Seen>) -> usize {
+    match seen {
+        Some(seen) => seen.calls,
+        None => 0,
+    }
+}
+
+/// Whether a document was read in so many calls, and gave these lines.
+pub fn gives(seen: &Option<Seen>, calls: usize, want: &[u8]) -> bool {
+    match seen {
+        Some(seen) => seen.calls == calls && seen.text.as_slice() == want,
+        None => false,
+    }
+}
+
+/// What was seen after the push of this number, if there was one.
+pub fn after_push(seen: &Option<Seen>, number: usize) -> Option<Pushed> {
+    match seen {
+        Some(seen) => seen.pushed.get(number).copied(),
+        None => None,
+    }
+}
+
+/// How many calls there had been after the push of this number, if there was one.
+pub fn calls_after(seen: &Option<Seen>, number: usize) -> Option<usize> {
+    match after_push(seen, number) {
+        Some(pushed) => Some(pushed.calls),
+        None => None,
+    }
+}
+
+/// The lines of events.
+pub fn lines_of(alloc: Global, events: &[Event]) -> Result<Vec<u8>, AllocError> {
+    let mut text = Vec::new(alloc);
+    match write_lines(&mut text, events) {
+        Ok(()) => Ok(text),
+        Err(_) => Err(AllocError),
+    }
+}
+
+/// Whether ranges follow on a text that ends at a place: each after its gap, which passes the beginning of a line, if it has one.
+fn follow_on(bytes: &[u8], end: Point, ranges: &[AfterGap]) -> bool
+    requires limit { 4 * length bytes.now + 1 < 2 ^ 64 }
+    ensures { result ≡ true → FollowOn bytes.now end ranges.now }
+{
+    let Some((range, rest)) = ranges.split_first() else {
+        return true;
+    };
+    let Some(start) = start_after(bytes, end, range.0) else {
+        return false;
+    };
+    let Some(from) = point_at(bytes, range.1) else {
+        return false;
+    };
+    let Some(to) = point_at(bytes, range.2) else {
+        return false;
+    };
+    if stands_before(from, start) || stands_before(start, from) || stands_before(to, from) {
+        return false;
+    }
+    follow_on(bytes, to, rest)
+}
+
+/// Where what follows on a text begins that ends at a place: after the gap, if there is one that passes the beginning of a line.
+fn start_after(bytes: &[u8], end: Point, gap: Option<Point>) -> Option<Point>
+    requires limit { 4 * length bytes.now + 1 < 2 ^ 64 }
+    ensures leads { IfSome result (λ _. LeadsFrom bytes.now end gap) }
+    ensures start { IfSome result (λ start. denotes_same 4 bytes.now start (after_any bytes.now end gap) ≡ true) }
+{
+    match gap {
+        None => Some(end),
+        Some(place) => {
+            if passes_beginning(bytes, end, place) {
+                Some(place)
+            } else {
+                None
+            }
+        }
+    }
+}
+
+/// Whether a place comes later in the line that begins at another one.
+fn passes_beginning(bytes: &[u8], beginning: Point, place: Point) -> bool
+    requires limit { 4 * length bytes.now + 1 < 2 ^ 64 }
+    ensures { result ≡ true → IsGapFrom bytes.now beginning place }
+{
+    point_at(bytes, (place.index, place.vs)) == Some(place)
+        && beginning.column == 1
+        && place.line == beginning.line
+        && stands_before(beginning, place)
+}
+
+/// Whether a point stands before another one.
+fn stands_before(point: Point, other: Point) -> bool
+    ensures { result ≡ stands_before point other }
+{
+    point.index < other.index || point.index == other.index && point.vs < other.vs
+}
