@@ -1,0 +1,103 @@
+"""Prints what a run of mdevents needs, for each machine and several documents, as the rows of a table.
+
+Instructions are callgrind's counts, the same in each run, less those of a run over nothing; the engine's are those of the
+functions of the crate markdown. Peak memory is the most that stood on the heap at once (massif), the same in each run too.
+The bytes per second are those of the fastest of five runs.
+"""
+
+import os
+import re
+import subprocess
+import sys
+import tempfile
+import time
+
+PLAIN = "The quick brown fox jumps over the lazy dog, and does so once more, slowly.\n"
+TABS = "a\tbc\t\tdef\t\t\tg\th\n"
+COLUMNS = "name\tvalue\tother\tlast\n"
+SHORT = "ab\n"
+QUOTED = ">" + PLAIN
+
+# options, name of the document, its line, its sizes
+RUNS = [
+    ("", "plain", PLAIN, (1000, 100000, 1000000)),
+    ("", "tabs", TABS, (1000, 100000, 1000000)),
+    ("", "columns", COLUMNS, (1000, 100000, 1000000)),
+    ("", "short", SHORT, (1000, 100000, 1000000)),
+    ("--machine paragraphs", "quoted", QUOTED, (10000, 100000)),
+    ("--machine paragraphs", "short", SHORT, (10000, 100000)),
+    ("--machine paragraphs --deep", "quoted", QUOTED, (10000, 100000)),
+    ("--machine paragraphs --deep", "short", SHORT, (10000, 100000)),
+    ("--machine peek", "plain", PLAIN, (10000, 100000)),
+    ("--machine peek", "short", SHORT, (10000, 100000)),
+    ("--machine deep", "one line", "a", (500, 1000, 2000)),
+    ("--machine back", "plain", PLAIN, (10000, 100000)),
+    ("--machine save", "plain", PLAIN, (10000, 100000)),
+]
+
+
+def seconds(program, options, document):
+    """The seconds that the fastest of five runs takes."""
+    best = None
+    for _ in range(5):
+        with open(document) as text:
+            start = time.perf_counter()
+            subprocess.run([program, *options], stdin=text, stdout=subprocess.DEVNULL, check=True)
+            took = time.perf_counter() - start
+        best = took if best is None else min(best, took)
+    return best
+
+
+def valgrind(tool, settings, program, options, document):
+    """Runs the program under a tool of valgrind."""
+    command = ["valgrind", f"--tool={tool}", *settings, program, *options]
+    with open(document) as text:
+        subprocess.run(command, stdin=text, stdout=subprocess.DEVNULL, stderr=subprocess.DEVNULL, check=True)
+
+
+def peak(program, options, document, counts):
+    """The most bytes on the heap at once."""
+    valgrind("massif", ["--peak-inaccuracy=0.0", f"--massif-out-file={counts}"], program, options, document)
+    with open(counts) as snapshots:
+        return max((int(line[11:]) for line in snapshots if line.startswith("mem_heap_B=")), default=0)
+
+
+def instructions(program, options, document, counts):
+    """The instructions of a run, and those of the engine in it."""
+    valgrind("callgrind", [f"--callgrind-out-file={counts}"], program, options, document)
+    listed = subprocess.run(["callgrind_annotate", "--threshold=100", counts], capture_output=True, text=True, check=True)
+    whole = engine = 0
+    for line in listed.stdout.splitlines():
+        found = re.match(r" *([0-9,]+) \([ 0-9.]+%\)  (.*)", line)
+        if found is None:
+            continue
+        count = int(found.group(1).replace(",", ""))
+        if "PROGRAM TOTALS" in found.group(2):
+            whole = count
+        elif "markdown::" in found.group(2):
+            engine += count
+    return whole, engine
+
+
+def main(program, folder):
+    """Prints the table."""
+    counts = os.path.join(folder, "counts")
+    document = os.path.join(folder, "document")
+    open(document, "w").close()
+    base, _ = instructions(program, [], document, counts)
+    print("| Options | Document | Bytes | Whole run, instructions/byte | Engine, instructions/byte | Peak heap, KiB | Million bytes/second |")
+    print("|---|---|---|---|---|---|---|")
+    for options, name, line, sizes in RUNS:
+        for size in sizes:
+            with open(document, "w") as text:
+                text.write((line * (size // len(line) + 1))[:size])
+            words = options.split()
+            whole, engine = instructions(program, words, document, counts)
+            heap = peak(program, words, document, counts) // 1024
+            speed = size / seconds(program, words, document) / 1e6
+            print(f"| {options} | {name} | {size:,} | {(whole - base) / size:.0f} | {engine / size:.0f} | {heap:,} | {speed:.1f} |", flush=True)
+
+
+if __name__ == "__main__":
+    with tempfile.TemporaryDirectory() as scratch:
+        main(sys.argv[1], scratch)
