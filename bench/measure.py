@@ -1,4 +1,5 @@
-"""Prints what a run of mdevents needs, for each machine and several documents, as the rows of a table.
+"""Prints what a run of mdevents needs, for each machine and several documents, as the rows of a table, and then how edits and
+gaps grow.
 
 Instructions are callgrind's counts, the same in each run, less those of a run over nothing; the engine's are those of the
 functions of the crate markdown. Peak memory is the most that stood on the heap at once (massif), the same in each run too.
@@ -33,6 +34,13 @@ RUNS = [
     ("--machine deep", "one line", "a", (500, 1000, 2000)),
     ("--machine back", "plain", PLAIN, (10000, 100000)),
     ("--machine save", "plain", PLAIN, (10000, 100000)),
+]
+
+# what grows: the program, its options, what is made in it, its line, which is repeated
+GROWING = [
+    ("mdbench", "", "edits at ascending indices", "a"),
+    ("mdbench", "", "edits at descending indices", "d"),
+    ("mdevents", "--machine paragraphs --deep", "lines that begin with a gap", ">ab\n"),
 ]
 
 
@@ -79,8 +87,23 @@ def instructions(program, options, document, counts):
     return whole, engine
 
 
+def grow(programs, folder):
+    """Prints the table of what grows: the instructions for ten thousand and for a hundred thousand, and by how much they grow."""
+    counts = os.path.join(folder, "counts")
+    document = os.path.join(folder, "document")
+    print("| What | Instructions for 10,000 | For 100,000 | Times as many |")
+    print("|---|---|---|---|")
+    for name, options, what, line in GROWING:
+        few, many = 0, 0
+        for times in (10000, 100000):
+            with open(document, "w") as text:
+                text.write(line * times)
+            few, many = many, instructions(programs[name], options.split(), document, counts)[0]
+        print(f"| {what} | {few:,} | {many:,} | {many / few:.1f} |", flush=True)
+
+
 def main(program, folder):
-    """Prints the table."""
+    """Prints the table of what a run needs."""
     counts = os.path.join(folder, "counts")
     document = os.path.join(folder, "document")
     open(document, "w").close()
@@ -101,3 +124,5 @@ def main(program, folder):
 if __name__ == "__main__":
     with tempfile.TemporaryDirectory() as scratch:
         main(sys.argv[1], scratch)
+        print()
+        grow({"mdevents": sys.argv[1], "mdbench": sys.argv[2]}, scratch)

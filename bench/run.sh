@@ -1,5 +1,5 @@
 #!/usr/bin/env bash
-# Builds the program and prints a table of what it needs: see measure.py. Needs rt, valgrind and python3.
+# Builds the programs and prints two tables of what they need: see measure.py. Needs rt, valgrind and python3.
 set -eu
 for tool in rt valgrind callgrind_annotate python3; do
     if ! command -v "$tool" >/dev/null; then
@@ -22,4 +22,5 @@ log=$(mktemp)
 trap 'rm -f "$log"' EXIT
 # a further program is built so, and measured by a script beside measure.py that prints a table of its own
 build mdevents
-python3 "$here/measure.py" "$here/../crates/mdevents/out/mdevents"
+build mdbench
+python3 "$here/measure.py" "$here/../crates/mdevents/out/mdevents" "$here/../crates/mdbench/out/mdbench"
