@@ -4,7 +4,6 @@ ghost use Rattle.std.specs.Prelude.{◌+◌, ◌*◌, ◌^◌, ◌<◌, length, 
 ghost use Rattle.markdown_base.specs.Presets.{default_parse_options};
 ghost use Rattle.markdown.specs.Engine.{given_by};
 
-use crate::driven::read;
 use crate::shown::shown;
 use markdown::configuration::ParseOptions;
 use markdown::parser::ParseState;
@@ -147,42 +146,6 @@ fn look_ahead_goes_back(rt: HostRuntime) -> Result<(), AllocError> {
 fn attempts_go_back_one_by_one(rt: HostRuntime) -> Result<(), AllocError> {
     let text = lines_of(rt.alloc(), &Deep {}, Name::StringStart, b"ab")?;
     let want = "enter Data 1:1 (0+0)\nexit Data 1:3 (2+0)\n";
-    assert_eq!(rt; text.as_str(), want);
-    Ok(())
-}
-
-/// What is answered where 64 bytes are read by the machine that makes an attempt at each of them.
-fn many_attempts(alloc: Global) -> Result<String, AllocError> {
-    let options = ParseOptions::default();
-    let parse_state = ParseState {
-        bytes: b"aaaaaaaaaaaaaaaaaaaaaaaaaaaaaaaaaaaaaaaaaaaaaaaaaaaaaaaaaaaaaaaa",
-        options: &options,
-        machine: &Deep {},
-    };
-    let mut text = String::new(alloc);
-    read(
-        alloc,
-        &mut text,
-        &parse_state,
-        Name::StringStart,
-        (1, 0),
-        false,
-        &[],
-    )?;
-    Ok(text)
-}
-
-#[test]
-fn attempts_may_be_many(rt: HostRuntime) -> Result<(), AllocError> {
-    let text = many_attempts(rt.alloc())?;
-    let want = "next is the start\n\
-        next is the start\n\
-        done: false, notes: 0, definitions:\n\
-        tokenizer has failed\n\
-        2210 calls\n\
-        these resolvers: true\n\
-        enter Data 1:1 (0+0)\n\
-        exit Data 1:65 (64+0)\n";
     assert_eq!(rt; text.as_str(), want);
     Ok(())
 }
