@@ -14,6 +14,3 @@ pub returns-clause-ok : goal.returns-clause-ok
 returns-clause-ok c =
     let told = rw (c.self.view_is, c.as_slice.ensures.value) at c.in_ok-events.ensures in
     told ∙ sym (edited-spliced c.args.self.now c.args.events.now.items c.requires.disjoint c.requires.links)
-
-pub returns-clause-emptied : goal.returns-clause-emptied
-returns-clause-emptied c = ap edits_of c.clear.ensures.empty
