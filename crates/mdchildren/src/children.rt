@@ -111,8 +111,12 @@ fn read_child<M: Machine>(
     };
     let place = place_at(events, index);
     let mut tokenizer = Tokenizer::new(alloc, place, parse_state);
-    let sub = read_chunks(&mut tokenizer, events, index, parse_state, filter, start)?;
-    Ok((tokenizer.into_events(), sub))
+    let read = read_chunks(&mut tokenizer, events, index, parse_state, filter, start);
+    let events = tokenizer.into_events();
+    match read {
+        Ok(sub) => Ok((events, sub)),
+        Err(fault) => Err(fault),
+    }
 }
 
 /// A tokenizer that has read nothing reads the chain that begins at `index`: its chunks are pushed, the gaps between them
