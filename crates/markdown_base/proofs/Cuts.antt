@@ -71,7 +71,7 @@ tab_alone : (t : ℕ) (bytes : List ℕ) (line column index : ℕ) → IsReached
 tab_alone t bytes line column index r within is f other =
     let seats = in_tab 9 (tab_width t column) line column index 0 in
     let after = virtual_from t line (column + tab_width t column) (suc index) (drop (suc index) bytes) in
-    let here : virtual_from t line column index (drop index bytes) ≡ in_tab 9 (tab_width t column) line column index 0 ++ virtual_from t line (column + tab_width t column) (suc index) (drop (suc index) bytes) = rw (byte_here t bytes line column index r within, is) refl in
+    let here : virtual_from t line column index (drop index bytes) ≡ seats ++ after = rw (byte_here t bytes line column index r within, is) (refl {a = seats ++ after}) in
     let before_none = filter-none f r.front (every-imp (λ s. s.point.index < index) (λ s. f s ≡ false) (λ s h. other s (λ e. omega arith)) r.front r.below) in
     let after_none = filter-none f after (every-imp (λ s. suc index ≤ s.point.index) (λ s. f s ≡ false) (λ s h. other s (λ e. omega arith)) after (from-index t line (column + tab_width t column) (suc index) (drop (suc index) bytes))) in
     ap (λ xs. filter f xs) r.whole ∙ filter-append f r.front (virtual_from t line column index (drop index bytes))
