@@ -7,10 +7,10 @@
 //! are answered by a line on how to call the program, and the status is 2.
 #![tactic(auto)]
 
-ghost use Rattle.std.specs.Prelude.{◌≡◌, IfOk, IfSome, IsErr, IsOkUnless, Ok, None};
+ghost use Rattle.std.specs.Prelude.{◌≡◌, ◌≤◌, IfOk, IfSome, IsErr, IsOkUnless, Ok, None};
 ghost use Rattle.std.specs.Io.KnownBytes.{Keeps};
 ghost use Rattle.std.specs.Process.{exit_status};
-ghost use Rattle.mdevents.specs.Program.{PrintsChosen};
+ghost use Rattle.mdevents.specs.Program.{Prints, PrintsChosen};
 ghost use Rattle.mdevents.specs.Words.{CanCut};
 
 #[cfg(test)]
@@ -47,12 +47,18 @@ fn main(rt: HostRuntime) -> ExitCode {
     answer_call(&rt, &mut rt.stdin(), &mut rt.stdout())
 }
 
-/// Does what the words after the program's name choose.
+/// Does what the words after the program's name choose: the status is 0 only where all of it was written, and 2 only where
+/// nothing was read or written. There is no other but 1.
 fn answer_call<R: Read, W: Write>(
     rt: &(impl Env + AllocGlobal + Eprint),
     reader: &mut R,
     writer: &mut W,
-) -> ExitCode {
+) -> ExitCode
+    ensures status { exit_status result ≤ 2 }
+    ensures done { exit_status result ≡ 0 → (choice : _) × Prints choice R.remaining reader.old reader.new W.contents writer.old writer.new }
+    ensures reads { exit_status result ≡ 2 → Keeps (R.remaining reader.old) (R.remaining reader.new) }
+    ensures writes { exit_status result ≡ 2 → Keeps (W.contents writer.old) (W.contents writer.new) }
+{
     let choice = choice_of(rt);
     answer_choice(rt, choice, reader, writer)
 }
@@ -67,8 +73,10 @@ fn answer_choice<R: Read, W: Write>(
     writer: &mut W,
 ) -> ExitCode
     requires { IfOk choice (λ choice. IfSome choice CanCut) }
+    ensures status { exit_status result ≤ 2 }
     ensures done { exit_status result ≡ 0 → PrintsChosen choice R.remaining reader.old reader.new W.contents writer.old writer.new }
     ensures usage { choice ≡ Ok None → exit_status result ≡ 2 }
+    ensures usage_only { exit_status result ≡ 2 → choice ≡ Ok None }
     ensures failed { IsErr choice → exit_status result ≡ 1 }
     ensures reads { choice ≡ Ok None → Keeps (R.remaining reader.old) (R.remaining reader.new) }
     ensures writes { choice ≡ Ok None → Keeps (W.contents writer.old) (W.contents writer.new) }
