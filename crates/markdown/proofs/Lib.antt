@@ -16,9 +16,11 @@ pub mod Mirrors
 pub mod PlainLaws
 pub mod Resolvers
 pub mod Runs
+pub mod Ranges
 pub mod SpanRuns
 pub mod Balanced
 pub mod PlaceChains
+pub mod PlaceCuts
 pub mod Changes
 pub mod Choices
 pub mod PlaceCursors

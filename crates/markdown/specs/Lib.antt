@@ -9,6 +9,7 @@ pub mod Plain
 pub mod Registering
 pub mod Lawful
 pub mod Engine
+pub mod Ranges
 pub mod Fault
 pub mod Work
 pub mod View

@@ -1,4 +1,2 @@
-pub mod CutPlaces
 pub mod OptionWords
 pub mod ShortNames
-pub mod Standing

@@ -1,7 +1,6 @@
 pub mod Failure
 pub mod Printed
 pub mod Program
-pub mod Ranges
 pub mod Reading
 pub mod Words
 pub mod WordsInner

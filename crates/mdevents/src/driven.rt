@@ -5,9 +5,9 @@ ghost use Rattle.markdown_base.specs.Virtual.{point};
 ghost use Rattle.markdown_base.specs.Places.{denotes_same, stands_before};
 ghost use Rattle.markdown.specs.Configuration.{start_seen};
 ghost use Rattle.markdown.specs.Engine.{given_of};
+ghost use Rattle.markdown.specs.Ranges.{FollowOn, IsGapFrom, LeadsFrom, after_any};
 ghost use Rattle.markdown.specs.Text.{empty_text};
 ghost use Rattle.mdevents.specs.Program.{document};
-ghost use Rattle.mdevents.specs.Ranges.{FollowOn, IsGapFrom, LeadsFrom, after_any};
 
 use crate::write::write_lines;
 use markdown::configuration::ParseOptions;

@@ -1,6 +1,6 @@
 use Rattle.std.proofs.Common.{sym, ◌∙◌}
 use Rattle.markdown.proofs.PlaceCursors.{upto-order, upto-same, same-same}
-use Rattle.mdevents.specs.Ranges.{after_any}
+use Rattle.markdown.specs.Ranges.{IsRangeFrom, after_any}
 use Rattle.mdevents.proofs.driven.+follow_on.Goals as goal
 
 pub returns : goal.returns
@@ -12,13 +12,12 @@ returns t c = λ h.
     let same = upto-same 4 bytes from start (upto-order 4 bytes from start earlier) (upto-order 4 bytes start from later) in
     let begins = same-same 4 bytes from start (after_any bytes c.args.end c.in-Some.range.now.0) same c.in-Some-start_after.ensures.start in
     let are = c.in-Some.ensures.cases.0 in
-    rw are (
-      c.in-Some-start_after.ensures.leads,
-      from,
-      to,
-      sym c.point_at.ensures ∙ c.in-Some-point_at.is,
-      sym c.point_at-2.ensures ∙ c.in-Some-point_at-2.is,
-      begins,
-      upto-order 4 bytes from to (sym c.stands_before-else-stands_before-2.ensures ∙ c.if-stands_before-3.false),
-      c.follow_on.ensures h,
-    )
+    let range : IsRangeFrom bytes (after_any bytes c.args.end c.in-Some.range.now.0) c.in-Some.range.now.1 c.in-Some.range.now.2 = record {
+      first = from;
+      last = to;
+      from_is = sym c.point_at.ensures ∙ c.in-Some-point_at.is;
+      to_is = sym c.point_at-2.ensures ∙ c.in-Some-point_at-2.is;
+      begins = begins;
+      upto = upto-order 4 bytes from to (sym c.stands_before-else-stands_before-2.ensures ∙ c.if-stands_before-3.false);
+    } in
+    rw are (c.in-Some-start_after.ensures.leads, range, c.follow_on.ensures h)

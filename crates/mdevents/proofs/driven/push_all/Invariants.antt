@@ -1,6 +1,6 @@
 use Rattle.std.specs.Prelude.{drop}
-use Rattle.mdevents.proofs.Standing.{Reads}
+use Rattle.markdown.proofs.Ranges.{HasRanges}
 use Rattle.mdevents.proofs.driven.push_all.Given as goal
 
 abbrev pub invariant-loop-gap : goal.invariant-loop-gap
-invariant-loop-gap g l = Reads g.M.Machine.rules l.fn._parse_state.bytes.now (drop l.gap-index l.ranges) l.tokenizer l.state
+invariant-loop-gap g l = HasRanges g.M.Machine.rules l.fn._parse_state.bytes.now (drop l.gap-index l.ranges) l.tokenizer l.state

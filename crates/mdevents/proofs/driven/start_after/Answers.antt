@@ -2,7 +2,7 @@ use Rattle.std.proofs.Common.{◌≡◌, ℕ, List, Bool, true, false, cond, ref
 use Rattle.markdown_base.specs.declared.event.Point.{Point}
 use Rattle.markdown_base.specs.Places.{denotes_same}
 use Rattle.markdown.proofs.PlaceCursors.{same-self}
-use Rattle.mdevents.specs.Ranges.{after_gap}
+use Rattle.markdown.specs.Ranges.{after_gap}
 use Rattle.mdevents.proofs.driven.start_after.Goals as goal
 
 -- a gap that leads to the same byte leaves the text's end as it is

@@ -1,6 +1,6 @@
 use Rattle.std.proofs.Common.{IfOk, Result, Ok, Err, sym, subst}
 use Rattle.markdown.specs.Engine.{AreCuts}
-use Rattle.mdevents.proofs.CutPlaces.{cuts_every-cuts}
+use Rattle.markdown.proofs.PlaceCuts.{cuts_every-are-cuts}
 use Rattle.mdevents.proofs.program.cuts_of.Goals as goal
 
 -- what holds of a result holds where it follows
@@ -10,4 +10,4 @@ if-ok (Err e) P Q f h = h
 
 pub returns-in-Some-clause-cuts : goal.returns-in-Some-clause-cuts
 returns-in-Some-clause-cuts c =
-    if-ok c.cuts_every.result _ _ (λ cuts same. subst (AreCuts 4 c.args.bytes.now) (sym same) (cuts_every-cuts c.args.bytes.now c.in-Some.n)) c.cuts_every.ensures
+    if-ok c.cuts_every.result _ _ (λ cuts same. subst (AreCuts 4 c.args.bytes.now) (sym same) (cuts_every-are-cuts c.args.bytes.now c.in-Some.n)) c.cuts_every.ensures

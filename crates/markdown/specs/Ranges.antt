@@ -1,0 +1,42 @@
+-- Ranges of a document that a caller pushes one after another, each after its gap, if it passes one. Lemmas for callers speak of these words; no
+-- contract of the engine does.
+use Rattle.std.specs.Prelude.{◌≡◌, ◌⊎◌, ℕ, List, [], ◌∷◌, Option, Some, None, true, cond}
+use Rattle.markdown_base.specs.declared.event.Point.{Point}
+use Rattle.markdown_base.specs.Places.{point_at, is_upto, denotes_same, stands_before}
+
+-- a range, from a place to another one, and the place up to which a gap is passed in front of it, if one is
+abbrev pub AfterGap : Type 0
+AfterGap = Option Point × (ℕ × ℕ) × (ℕ × ℕ)
+
+-- A gap leads nowhere, or from the beginning of a line to a later place of it
+pub record IsGapFrom (bytes : List ℕ) (p w : Point) : Type 0 where
+  pub at : point_at 4 bytes (w.index, w.vs) ≡ Some w
+  pub leads : (denotes_same 4 bytes w p ≡ true) ⊎ ((p.column ≡ 1) × (w.line ≡ p.line) × (stands_before p w ≡ true))
+
+-- where a text that ended at the first place ends after a gap up to the second one
+abbrev pub after_gap : List ℕ → Point → Point → Point
+after_gap bytes p w = cond (denotes_same 4 bytes w p) p w
+
+-- the gap, if there is one, leads on from a place
+abbrev pub LeadsFrom : List ℕ → Point → Option Point → Type 0
+LeadsFrom bytes p None = Unit {0}
+LeadsFrom bytes p (Some w) = IsGapFrom bytes p w
+
+-- where a text that ended at a place ends after the gap, if there is one
+abbrev pub after_any : List ℕ → Point → Option Point → Point
+after_any bytes p None = p
+after_any bytes p (Some w) = after_gap bytes p w
+
+-- A range begins where a text ends, and does not run backwards
+pub record IsRangeFrom (bytes : List ℕ) (p : Point) (from to : ℕ × ℕ) : Type 0 where
+  pub first : Point
+  pub last : Point
+  pub from_is : point_at 4 bytes from ≡ Some first
+  pub to_is : point_at 4 bytes to ≡ Some last
+  pub begins : denotes_same 4 bytes first p ≡ true
+  pub upto : is_upto 4 bytes first last ≡ true
+
+-- ranges that are pushed one after another, each after its gap, if it has one, onto a text that ends at this place
+abbrev pub FollowOn : List ℕ → Point → List AfterGap → Type 0
+FollowOn bytes p [] = Unit {0}
+FollowOn bytes p ((gap, from, to) ∷ ranges) = LeadsFrom bytes p gap × (r : IsRangeFrom bytes (after_any bytes p gap) from to) × FollowOn bytes r.last ranges
