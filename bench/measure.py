@@ -118,7 +118,7 @@ def main(program, folder):
             whole, engine = instructions(program, words, document, counts)
             heap = peak(program, words, document, counts) // 1024
             speed = size / seconds(program, words, document) / 1e6
-            print(f"| {options} | {name} | {size:,} | {(whole - base) / size:.0f} | {engine / size:.0f} | {heap:,} | {speed:.1f} |", flush=True)
+            print(f"| {options or 'none'} | {name} | {size:,} | {(whole - base) / size:.0f} | {engine / size:.0f} | {heap:,} | {speed:.1f} |", flush=True)
 
 
 if __name__ == "__main__":
