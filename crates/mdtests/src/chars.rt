@@ -11,6 +11,11 @@ fn is_comma(char: char) -> bool {
     char == '\u{3001}'
 }
 
+/// Holds of no character.
+fn is_none(_char: char) -> bool {
+    false
+}
+
 #[test]
 fn decodes_the_character_before_an_index(rt: HostRuntime) {
     assert!(rt; before_index("é".as_bytes(), 2) == Some('é'));
@@ -33,7 +38,7 @@ fn classifies(rt: HostRuntime) {
     ] {
         assert!(rt; classify(char, &is_comma) == want, "of {char}");
     }
-    assert!(rt; classify('\u{3001}', &|_| false) == Kind::Other);
+    assert!(rt; classify('\u{3001}', &is_none) == Kind::Other);
 }
 
 #[test]

@@ -100,15 +100,38 @@ fn put(
 {
     let mut events = listed(alloc, list)?;
     let mut child = listed(alloc, child)?;
-    match edits_of(alloc, events.as_slice(), bytes, index, &mut child)? {
+    put_in(alloc, &mut events, bytes, index, &mut child)
+}
+
+/// Puts a child in the place of the chain that begins at an index.
+fn put_in(
+    alloc: Global,
+    events: &mut Vec<Event>,
+    bytes: &[u8],
+    index: usize,
+    child: &mut Vec<Event>,
+) -> Result<String, AllocError>
+    requires limit { 4 * length bytes.now + 1 < 2 ^ 64 }
+{
+    match edits_of(alloc, events.as_slice(), bytes, index, child)? {
         None => String::from_str(alloc, "not ready"),
-        Some(((removed, added), mut map)) => {
-            map.consume(&mut events)?;
-            let left = child.len();
-            let lines = shown(alloc, events.as_slice())?;
-            format!(in alloc; "removed {removed}, added {added}, left {left}\n{lines}")
+        Some((sums, mut map)) => {
+            map.consume(events)?;
+            told(alloc, sums, child.len(), events.as_slice())
         }
     }
+}
+
+/// The sums of edits, how many events of a child are left, and a list.
+fn told(
+    alloc: Global,
+    sums: (usize, usize),
+    left: usize,
+    events: &[Event],
+) -> Result<String, AllocError> {
+    let (removed, added) = sums;
+    let lines = shown(alloc, events)?;
+    format!(in alloc; "removed {removed}, added {added}, left {left}\n{lines}")
 }
 
 /// `"a\nb\nc"`, a line a chunk, in one chain.
@@ -127,16 +150,6 @@ const ONE_DATA: [Row; 2] = [
     Exit(Name::Data, (3, 2, 5, 0)),
 ];
 
-#[test]
-fn chunk_without_events_becomes_nothing(rt: HostRuntime) -> Result<(), AllocError> {
-    let text = put(rt.alloc(), &THREE_LINES, b"a\nb\nc", 0, &ONE_DATA)?;
-    let want = "removed 6, added 2, left 0\n\
-        enter Data 1:1 (0+0)\n\
-        exit Data 3:2 (5+0)\n";
-    assert_eq!(rt; text.as_str(), want);
-    Ok(())
-}
-
 /// Two lines of data, which are linked.
 const LINKED_DATA: [Row; 6] = [
     Chunk((1, 3, 2, 0), Content::String, None, Some(4)),
@@ -147,10 +160,34 @@ const LINKED_DATA: [Row; 6] = [
     Exit(Name::Data, (2, 4, 7, 0)),
 ];
 
-#[test]
-fn links_of_a_child_lead_to_their_places(rt: HostRuntime) -> Result<(), AllocError> {
-    let text = put(rt.alloc(), &QUOTE, b"> a\n> b", 4, &LINKED_DATA)?;
-    let want = "removed 4, added 6, left 0\n\
+/// Two lines of data.
+const TWO_DATA: [Row; 6] = [
+    Enter(Name::Data, (1, 1, 0, 0)),
+    Exit(Name::Data, (1, 2, 1, 0)),
+    Enter(Name::LineEnding, (1, 2, 1, 0)),
+    Exit(Name::LineEnding, (2, 1, 2, 0)),
+    Enter(Name::Data, (2, 1, 2, 0)),
+    Exit(Name::Data, (2, 2, 3, 0)),
+];
+
+/// A list, its document, where the chain begins, its child, and what comes of them: a chunk without events becomes nothing;
+/// links of a child lead to their places; an empty chunk gets no event.
+const PUT: [(&[Row], &[u8], usize, &[Row], &str); 3] = [
+    (
+        &THREE_LINES,
+        b"a\nb\nc",
+        0,
+        &ONE_DATA,
+        "removed 6, added 2, left 0\n\
+        enter Data 1:1 (0+0)\n\
+        exit Data 3:2 (5+0)\n",
+    ),
+    (
+        &QUOTE,
+        b"> a\n> b",
+        4,
+        &LINKED_DATA,
+        "removed 4, added 6, left 0\n\
         enter BlockQuote 1:1 (0+0)\n\
         enter BlockQuotePrefix 1:1 (0+0)\n\
         exit BlockQuotePrefix 1:3 (2+0)\n\
@@ -164,25 +201,14 @@ fn links_of_a_child_lead_to_their_places(rt: HostRuntime) -> Result<(), AllocErr
         enter Data 2:3 (6+0) String Some(4) None\n\
         exit Data 2:4 (7+0)\n\
         exit Paragraph 2:4 (7+0)\n\
-        exit BlockQuote 2:4 (7+0)\n";
-    assert_eq!(rt; text.as_str(), want);
-    Ok(())
-}
-
-/// Two lines of data.
-const TWO_DATA: [Row; 6] = [
-    Enter(Name::Data, (1, 1, 0, 0)),
-    Exit(Name::Data, (1, 2, 1, 0)),
-    Enter(Name::LineEnding, (1, 2, 1, 0)),
-    Exit(Name::LineEnding, (2, 1, 2, 0)),
-    Enter(Name::Data, (2, 1, 2, 0)),
-    Exit(Name::Data, (2, 2, 3, 0)),
-];
-
-#[test]
-fn empty_chunk_gets_no_event(rt: HostRuntime) -> Result<(), AllocError> {
-    let text = put(rt.alloc(), &EMPTY_CHUNK, b"a\nb", 1, &TWO_DATA)?;
-    let want = "removed 6, added 6, left 0\n\
+        exit BlockQuote 2:4 (7+0)\n",
+    ),
+    (
+        &EMPTY_CHUNK,
+        b"a\nb",
+        1,
+        &TWO_DATA,
+        "removed 6, added 6, left 0\n\
         enter Paragraph 1:1 (0+0)\n\
         enter Data 1:1 (0+0)\n\
         exit Data 1:2 (1+0)\n\
@@ -190,7 +216,16 @@ fn empty_chunk_gets_no_event(rt: HostRuntime) -> Result<(), AllocError> {
         exit LineEnding 2:1 (2+0)\n\
         enter Data 2:1 (2+0)\n\
         exit Data 2:2 (3+0)\n\
-        exit Paragraph 2:2 (3+0)\n";
-    assert_eq!(rt; text.as_str(), want);
+        exit Paragraph 2:2 (3+0)\n",
+    ),
+];
+
+#[test]
+fn child_is_divided_over_its_chunks(rt: HostRuntime) -> Result<(), AllocError> {
+    for (list, bytes, index, child, want) in PUT {
+        assert!(rt; bytes.len() < 9);
+        let text = put(rt.alloc(), list, bytes, index, child)?;
+        assert_eq!(rt; text.as_str(), want);
+    }
     Ok(())
 }

@@ -1,7 +1,10 @@
 //! A document, read call by call.
 
-ghost use Rattle.std.specs.Prelude.{◌≡◌, ◌+◌, ◌*◌, ◌^◌, ◌<◌, ◌∷◌, [], true, false, length, Contains, IfOk};
+ghost use Rattle.std.specs.Prelude.{◌≡◌, ◌+◌, ◌*◌, ◌^◌, ◌<◌, ◌∷◌, [], true, false, length, All, Contains, IfOk};
+ghost use Rattle.markdown_base.specs.Virtual.{point};
+ghost use Rattle.markdown.specs.Configuration.{start_seen};
 ghost use Rattle.markdown.specs.Engine.{AreCuts, CanPush, HoldsOf, IsPushed, given_of};
+ghost use Rattle.markdown.specs.Text.{empty_text};
 
 use crate::shown::{push_answer, push_lines};
 use markdown::event::Point;
@@ -33,11 +36,38 @@ pub fn read<M: Machine>(
         vs: 0,
     };
     let mut tokenizer = Tokenizer::new(alloc, point, parse_state);
-    let first = push_shown(text, &mut tokenizer, (0, 0), cut, State::Next(start), start)?;
+    read_new(
+        text,
+        &mut tokenizer,
+        parse_state,
+        start,
+        cut,
+        resolve,
+        resolvers,
+    )
+}
+
+/// Reads a document by a tokenizer that has read nothing. What owns no tokenizer is proved in less time.
+fn read_new<M: Machine>(
+    text: &mut String,
+    tokenizer: &mut Tokenizer<M>,
+    parse_state: &ParseState<M>,
+    start: Name,
+    cut: (usize, usize),
+    resolve: bool,
+    resolvers: &[M::Resolver],
+) -> Result<(), AllocError>
+    requires begins { tokenizer.old ≡ start_seen (given_of 4 parse_state.now) parse_state.now.machine.now (empty_text (point 1 1 0 0)) }
+    requires bytes { All (λ b. b < 256) parse_state.now.bytes.now }
+    requires limit { 4 * length parse_state.now.bytes.now + 1 < 2 ^ 64 }
+    requires start { Contains (M.rules parse_state.now.machine.now (given_of 4 parse_state.now)).starts start }
+    requires cut { AreCuts 4 parse_state.now.bytes.now (cut ∷ []) }
+{
+    let first = push_shown(text, tokenizer, (0, 0), cut, State::Next(start), start)?;
     let end = (parse_state.bytes.len(), 0);
-    let second = push_shown(text, &mut tokenizer, cut, end, first, start)?;
+    let second = push_shown(text, tokenizer, cut, end, first, start)?;
     let flushed = tokenizer.flush(second, resolve);
-    push_end(text, &mut tokenizer, &flushed, resolvers)
+    push_end(text, tokenizer, &flushed, resolvers)
 }
 
 /// Pushes a range, and appends the state that is answered.
@@ -88,7 +118,13 @@ fn push_end<M: Machine>(
 fn push_later<M: Machine>(text: &mut String, tokenizer: &mut Tokenizer<M>) -> Result<(), AllocError>
     requires closed { tokenizer.old.closed ≡ true }
 {
-    match tokenizer.push((0, 0), (0, 0), State::Ok) {
+    let later = tokenizer.push((0, 0), (0, 0), State::Ok);
+    push_pushed(text, &later)
+}
+
+/// Appends what a push answered where it was to fail.
+fn push_pushed(text: &mut String, pushed: &Result<State, Fault>) -> Result<(), AllocError> {
+    match pushed {
         Ok(_state) => text.push_str("pushed\n"),
         Err(fault) => writeln!(text, "{fault}"),
     }

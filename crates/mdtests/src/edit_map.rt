@@ -4,7 +4,7 @@ ghost use Rattle.markdown.specs.Edits.{AreDisjoint};
 ghost use Rattle.markdown_base.specs.Events.{EndsBelow};
 ghost use Rattle.std.specs.Prelude.{◌≡◌, ◌*◌, ◌^◌, ◌<◌, length, All, None, IfOk, IfSome};
 
-use crate::shown::shown;
+use crate::shown::push_lines;
 use markdown::event::{Content, Event, Kind, Link, Name, Point};
 use markdown::util::edit_map::EditMap;
 use std::alloc::{AllocError, Global};
@@ -43,14 +43,14 @@ fn linked(previous: Option<usize>, next: Option<usize>) -> Event
     }
 }
 
-/// The columns of events, which tell them apart.
-fn columns(alloc: Global, events: &[Event]) -> Result<String, AllocError> {
-    let mut text = String::new(alloc);
-    for event in events {
+/// Appends the columns of events that were made, which tell them apart, as a line.
+fn push_columns(text: &mut String, made: Result<Vec<Event>, AllocError>) -> Result<(), AllocError> {
+    let made = made?;
+    for event in made.as_slice() {
         let column = event.point.column;
         write!(text, "{column} ")?;
     }
-    Ok(text)
+    text.push('\n')
 }
 
 /// Makes the edits; where memory is refused, once more, as map and events are as they were then.
@@ -85,11 +85,60 @@ fn edits_at_one_index(alloc: Global) -> Result<Vec<Event>, AllocError> {
     Ok(events)
 }
 
+/// An addition at the end, and an edit that is none.
+fn added_at_end(alloc: Global) -> Result<Vec<Event>, AllocError> {
+    let mut events = Vec::from_array(alloc, [event_at(1), event_at(2)])?;
+    let mut map = EditMap::new(alloc);
+    map.add(0, 0, Vec::new(alloc))?;
+    map.add(2, 0, vec![in alloc; event_at(91)]?)?;
+    map.consume(&mut events)?;
+    Ok(events)
+}
+
+/// An edit that is none, alone.
+fn edited_by_nothing(alloc: Global) -> Result<Vec<Event>, AllocError> {
+    let mut events = Vec::from_array(alloc, [event_at(1), event_at(2)])?;
+    let mut map = EditMap::new(alloc);
+    map.add(0, 0, Vec::new(alloc))?;
+    map.consume(&mut events)?;
+    Ok(events)
+}
+
+/// Two removals at one index, and an addition in front at an index that has no edit.
+fn removed_twice(alloc: Global) -> Result<Vec<Event>, AllocError> {
+    let mut events = Vec::from_array(alloc, [event_at(1), event_at(2), event_at(3), event_at(4)])?;
+    let mut map = EditMap::new(alloc);
+    map.add(1, 1, vec![in alloc; event_at(91)]?)?;
+    map.add(1, 1, vec![in alloc; event_at(92)]?)?;
+    map.add_before(4, 0, vec![in alloc; event_at(93)]?)?;
+    map.consume(&mut events)?;
+    Ok(events)
+}
+
+/// An addition to a list that has no events.
+fn added_to_nothing(alloc: Global) -> Result<Vec<Event>, AllocError> {
+    let mut events = Vec::new(alloc);
+    let mut map = EditMap::new(alloc);
+    map.add_before(0, 0, vec![in alloc; event_at(91)]?)?;
+    map.consume(&mut events)?;
+    Ok(events)
+}
+
 #[test]
-fn edits_at_one_index_merge(rt: HostRuntime) -> Result<(), AllocError> {
-    let events = edits_at_one_index(rt.alloc())?;
-    let text = columns(rt.alloc(), events.as_slice())?;
-    assert_eq!(rt; text.as_str(), "1 2 93 91 92 5 6 ");
+fn small_edits_are_made(rt: HostRuntime) -> Result<(), AllocError> {
+    let alloc = rt.alloc();
+    let mut text = String::new(alloc);
+    push_columns(&mut text, edits_at_one_index(alloc))?;
+    push_columns(&mut text, added_at_end(alloc))?;
+    push_columns(&mut text, edited_by_nothing(alloc))?;
+    push_columns(&mut text, removed_twice(alloc))?;
+    push_columns(&mut text, added_to_nothing(alloc))?;
+    let want = "1 2 93 91 92 5 6 \n\
+        1 2 91 \n\
+        1 2 \n\
+        1 91 92 4 93 \n\
+        91 \n";
+    assert_eq!(rt; text.as_str(), want);
     Ok(())
 }
 
@@ -114,24 +163,6 @@ fn chains_moved(alloc: Global) -> Result<Vec<Event>, AllocError> {
     Ok(events)
 }
 
-#[test]
-fn interleaved_chains_are_moved(rt: HostRuntime) -> Result<(), AllocError> {
-    let events = chains_moved(rt.alloc())?;
-    let text = shown(rt.alloc(), events.as_slice())?;
-    let want = "enter Data 1:1 (0+0) Text None Some(6)\n\
-        enter Data 1:91 (0+0)\n\
-        enter Data 1:92 (0+0)\n\
-        enter Data 1:2 (0+0)\n\
-        enter Data 1:1 (0+0) Text None Some(8)\n\
-        enter Data 1:4 (0+0)\n\
-        enter Data 1:1 (0+0) Text Some(0) None\n\
-        enter Data 1:6 (0+0)\n\
-        enter Data 1:1 (0+0) Text Some(4) None\n\
-        enter Data 1:8 (0+0)\n";
-    assert_eq!(rt; text.as_str(), want);
-    Ok(())
-}
-
 /// Two chunks in a chain, the second of which goes.
 fn end_removed(alloc: Global) -> Result<Vec<Event>, AllocError> {
     let mut events = Vec::from_array(
@@ -149,84 +180,30 @@ fn end_removed(alloc: Global) -> Result<Vec<Event>, AllocError> {
     Ok(events)
 }
 
+/// Appends the lines of events that were made.
+fn push_made(text: &mut String, made: Result<Vec<Event>, AllocError>) -> Result<(), AllocError> {
+    push_lines(text, made?.as_slice())
+}
+
+/// Chains are moved, though they interleave; an end that is removed is none.
 #[test]
-fn removed_end_is_none(rt: HostRuntime) -> Result<(), AllocError> {
-    let events = end_removed(rt.alloc())?;
-    let text = shown(rt.alloc(), events.as_slice())?;
-    let want = "enter Data 1:1 (0+0) Text None None\n\
+fn ends_of_links_are_moved_or_removed(rt: HostRuntime) -> Result<(), AllocError> {
+    let mut text = String::new(rt.alloc());
+    push_made(&mut text, chains_moved(rt.alloc()))?;
+    push_made(&mut text, end_removed(rt.alloc()))?;
+    let want = "enter Data 1:1 (0+0) Text None Some(6)\n\
+        enter Data 1:91 (0+0)\n\
+        enter Data 1:92 (0+0)\n\
+        enter Data 1:2 (0+0)\n\
+        enter Data 1:1 (0+0) Text None Some(8)\n\
+        enter Data 1:4 (0+0)\n\
+        enter Data 1:1 (0+0) Text Some(0) None\n\
+        enter Data 1:6 (0+0)\n\
+        enter Data 1:1 (0+0) Text Some(4) None\n\
+        enter Data 1:8 (0+0)\n\
+        enter Data 1:1 (0+0) Text None None\n\
         enter Data 1:2 (0+0)\n";
     assert_eq!(rt; text.as_str(), want);
-    Ok(())
-}
-
-/// An addition at the end, and an edit that is none.
-fn added_at_end(alloc: Global) -> Result<Vec<Event>, AllocError> {
-    let mut events = Vec::from_array(alloc, [event_at(1), event_at(2)])?;
-    let mut map = EditMap::new(alloc);
-    map.add(0, 0, Vec::new(alloc))?;
-    map.add(2, 0, vec![in alloc; event_at(91)]?)?;
-    map.consume(&mut events)?;
-    Ok(events)
-}
-
-#[test]
-fn addition_at_end_is_last(rt: HostRuntime) -> Result<(), AllocError> {
-    let events = added_at_end(rt.alloc())?;
-    let text = columns(rt.alloc(), events.as_slice())?;
-    assert_eq!(rt; text.as_str(), "1 2 91 ");
-    Ok(())
-}
-
-/// An edit that is none, alone.
-fn edited_by_nothing(alloc: Global) -> Result<Vec<Event>, AllocError> {
-    let mut events = Vec::from_array(alloc, [event_at(1), event_at(2)])?;
-    let mut map = EditMap::new(alloc);
-    map.add(0, 0, Vec::new(alloc))?;
-    map.consume(&mut events)?;
-    Ok(events)
-}
-
-#[test]
-fn edit_that_is_none_changes_nothing(rt: HostRuntime) -> Result<(), AllocError> {
-    let events = edited_by_nothing(rt.alloc())?;
-    let text = columns(rt.alloc(), events.as_slice())?;
-    assert_eq!(rt; text.as_str(), "1 2 ");
-    Ok(())
-}
-
-/// Two removals at one index, and an addition in front at an index that has no edit.
-fn removed_twice(alloc: Global) -> Result<Vec<Event>, AllocError> {
-    let mut events = Vec::from_array(alloc, [event_at(1), event_at(2), event_at(3), event_at(4)])?;
-    let mut map = EditMap::new(alloc);
-    map.add(1, 1, vec![in alloc; event_at(91)]?)?;
-    map.add(1, 1, vec![in alloc; event_at(92)]?)?;
-    map.add_before(4, 0, vec![in alloc; event_at(93)]?)?;
-    map.consume(&mut events)?;
-    Ok(events)
-}
-
-#[test]
-fn removals_add_up(rt: HostRuntime) -> Result<(), AllocError> {
-    let events = removed_twice(rt.alloc())?;
-    let text = columns(rt.alloc(), events.as_slice())?;
-    assert_eq!(rt; text.as_str(), "1 91 92 4 93 ");
-    Ok(())
-}
-
-/// An addition to a list that has no events.
-fn added_to_nothing(alloc: Global) -> Result<Vec<Event>, AllocError> {
-    let mut events = Vec::new(alloc);
-    let mut map = EditMap::new(alloc);
-    map.add_before(0, 0, vec![in alloc; event_at(91)]?)?;
-    map.consume(&mut events)?;
-    Ok(events)
-}
-
-#[test]
-fn empty_list_takes_additions(rt: HostRuntime) -> Result<(), AllocError> {
-    let events = added_to_nothing(rt.alloc())?;
-    let text = columns(rt.alloc(), events.as_slice())?;
-    assert_eq!(rt; text.as_str(), "91 ");
     Ok(())
 }
 

@@ -4,18 +4,17 @@ use crate::messages::message;
 use markdown::tokenizer::Fault;
 use std::alloc::{AllocError, Global};
 
-/// The lines of the faults.
-fn lines(alloc: Global) -> Result<String, AllocError> {
-    let refused = Fault::Message(message(alloc)?);
-    let memory = Fault::from(AllocError);
-    let failed = Fault::Failed;
-    format!(in alloc; "{memory}\n{failed}\n{refused}\n")
+/// Whether a fault is shown as this line.
+fn shows(alloc: Global, fault: Fault, line: &str) -> Result<bool, AllocError> {
+    let text = fault.to_string(alloc)?;
+    Ok(text.as_str() == line)
 }
 
 #[test]
 fn shows_faults(rt: HostRuntime) -> Result<(), AllocError> {
-    let lines = lines(rt.alloc())?;
-    let want = "out of memory\ntokenizer has failed\n1:2: x (markdown:r)\n";
-    assert_eq!(rt; lines.as_str(), want);
+    assert!(rt; shows(rt.alloc(), Fault::from(AllocError), "out of memory")?);
+    assert!(rt; shows(rt.alloc(), Fault::Failed, "tokenizer has failed")?);
+    let refused = Fault::Message(message(rt.alloc())?);
+    assert!(rt; shows(rt.alloc(), refused, "1:2: x (markdown:r)")?);
     Ok(())
 }

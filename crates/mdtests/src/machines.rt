@@ -26,22 +26,53 @@ pub(crate) fn lines_of<M: Machine>(
     requires limit { 4 * length bytes.now + 1 < 2 ^ 64 }
     requires start { Contains (M.rules machine.now (given_by 4 bytes.now default_parse_options)).starts start }
 {
+    lines_by(alloc, machine, start, bytes, false)
+}
+
+/// The events of a document, where the resolvers go over them if they are to, or why it is refused.
+pub(crate) fn lines_by<M: Machine>(
+    alloc: Global,
+    machine: &M,
+    start: Name,
+    bytes: &[u8],
+    resolve: bool,
+) -> Result<String, AllocError>
+    requires limit { 4 * length bytes.now + 1 < 2 ^ 64 }
+    requires start { Contains (M.rules machine.now (given_by 4 bytes.now default_parse_options)).starts start }
+{
     let options = ParseOptions::default();
     let parse_state = ParseState {
         bytes,
         options: &options,
         machine,
     };
-    match run(alloc, &parse_state, start, &[], false) {
+    match run(alloc, &parse_state, start, &[], resolve) {
         Ok((events, _)) => shown(alloc, events.as_slice()),
         Err(fault) => fault.to_string(alloc),
     }
 }
 
+/// Appends a name, and what was read, and fails where memory was refused.
+fn push_read(
+    text: &mut String,
+    name: &str,
+    read: Result<String, AllocError>,
+) -> Result<(), AllocError> {
+    writeln!(text, "{name}:")?;
+    text.push_str(read?.as_str())
+}
+
+/// Chunks of a paragraph are linked, and their text is data.
 #[test]
-fn chunks_of_a_paragraph_are_linked(rt: HostRuntime) -> Result<(), AllocError> {
-    let text = lines_of(rt.alloc(), &Paragraphs {}, Name::FlowStart, b">a\n>b\n\nc")?;
-    let want = "enter Paragraph 1:1 (0+0)\n\
+fn paragraphs_are_chunks_of_text(rt: HostRuntime) -> Result<(), AllocError> {
+    let alloc = rt.alloc();
+    let mut text = String::new(alloc);
+    let read = lines_of(alloc, &Paragraphs {}, Name::FlowStart, b">a\n>b\n\nc");
+    push_read(&mut text, "paragraphs", read)?;
+    let read = lines_of(alloc, &Paragraphs {}, Name::TextStart, b"a\nb");
+    push_read(&mut text, "text of paragraphs", read)?;
+    let want = "paragraphs:\n\
+        enter Paragraph 1:1 (0+0)\n\
         enter BlockQuoteMarker 1:1 (0+0)\n\
         exit BlockQuoteMarker 1:2 (1+0)\n\
         enter Data 1:2 (1+0) Text None Some(7)\n\
@@ -56,15 +87,9 @@ fn chunks_of_a_paragraph_are_linked(rt: HostRuntime) -> Result<(), AllocError> {
         enter Paragraph 4:1 (7+0)\n\
         enter Data 4:1 (7+0) Text None None\n\
         exit Data 4:2 (8+0)\n\
-        exit Paragraph 4:2 (8+0)\n";
-    assert_eq!(rt; text.as_str(), want);
-    Ok(())
-}
-
-#[test]
-fn text_of_chunks_is_data(rt: HostRuntime) -> Result<(), AllocError> {
-    let text = lines_of(rt.alloc(), &Paragraphs {}, Name::TextStart, b"a\nb")?;
-    let want = "enter Data 1:1 (0+0)\n\
+        exit Paragraph 4:2 (8+0)\n\
+        text of paragraphs:\n\
+        enter Data 1:1 (0+0)\n\
         exit Data 1:2 (1+0)\n\
         enter LineEnding 1:2 (1+0)\n\
         exit LineEnding 2:1 (2+0)\n\
@@ -74,26 +99,62 @@ fn text_of_chunks_is_data(rt: HostRuntime) -> Result<(), AllocError> {
     Ok(())
 }
 
+/// Lines are paragraphs; a look ahead goes back, and attempts one by one.
 #[test]
-fn words_and_tags_are_data(rt: HostRuntime) -> Result<(), AllocError> {
-    let text = lines_of(rt.alloc(), &Words {}, Name::TextStart, b" a  #b")?;
-    let want = "enter SpaceOrTab 1:1 (0+0)\n\
-        exit SpaceOrTab 1:2 (1+0)\n\
-        enter Data 1:2 (1+0)\n\
-        exit Data 1:3 (2+0)\n\
-        enter SpaceOrTab 1:3 (2+0)\n\
-        exit SpaceOrTab 1:5 (4+0)\n\
-        enter HeadingAtxSequence 1:5 (4+0)\n\
-        exit HeadingAtxSequence 1:6 (5+0)\n\
-        enter Data 1:6 (5+0)\n\
-        exit Data 1:7 (6+0)\n";
+fn lines_are_read_and_choices_go_back(rt: HostRuntime) -> Result<(), AllocError> {
+    let alloc = rt.alloc();
+    let mut text = String::new(alloc);
+    let read = lines_of(alloc, &Lines {}, Name::FlowStart, b"a\r\nb");
+    push_read(&mut text, "lines", read)?;
+    let read = lines_of(alloc, &Peek {}, Name::TextStart, b"a\nb\nc");
+    push_read(&mut text, "peek", read)?;
+    let read = lines_of(alloc, &Deep {}, Name::StringStart, b"ab");
+    push_read(&mut text, "deep", read)?;
+    let want = "lines:\n\
+        enter Paragraph 1:1 (0+0)\n\
+        enter Data 1:1 (0+0)\n\
+        exit Data 1:2 (1+0)\n\
+        exit Paragraph 1:2 (1+0)\n\
+        enter LineEnding 1:2 (1+0)\n\
+        exit LineEnding 2:1 (3+0)\n\
+        enter Paragraph 2:1 (3+0)\n\
+        enter Data 2:1 (3+0)\n\
+        exit Data 2:2 (4+0)\n\
+        exit Paragraph 2:2 (4+0)\n\
+        peek:\n\
+        enter Data 1:1 (0+0)\n\
+        exit Data 1:2 (1+0)\n\
+        enter LineEnding 1:2 (1+0)\n\
+        exit LineEnding 2:1 (2+0)\n\
+        enter Data 2:1 (2+0)\n\
+        exit Data 2:2 (3+0)\n\
+        enter LineEnding 2:2 (3+0)\n\
+        exit LineEnding 3:1 (4+0)\n\
+        enter Data 3:1 (4+0)\n\
+        exit Data 3:2 (5+0)\n\
+        deep:\n\
+        enter Data 1:1 (0+0)\n\
+        exit Data 1:3 (2+0)\n";
     assert_eq!(rt; text.as_str(), want);
     Ok(())
 }
 
 #[test]
-fn words_that_stand_badly_are_refused(rt: HostRuntime) -> Result<(), AllocError> {
+fn words_and_tags_are_data_or_refused(rt: HostRuntime) -> Result<(), AllocError> {
     for (bytes, want) in [
+        (
+            b" a  #b".as_slice(),
+            "enter SpaceOrTab 1:1 (0+0)\n\
+                exit SpaceOrTab 1:2 (1+0)\n\
+                enter Data 1:2 (1+0)\n\
+                exit Data 1:3 (2+0)\n\
+                enter SpaceOrTab 1:3 (2+0)\n\
+                exit SpaceOrTab 1:5 (4+0)\n\
+                enter HeadingAtxSequence 1:5 (4+0)\n\
+                exit HeadingAtxSequence 1:6 (5+0)\n\
+                enter Data 1:6 (5+0)\n\
+                exit Data 1:7 (6+0)\n",
+        ),
         (
             b"a   b".as_slice(),
             "a third blank in a row (limecove:words)",
@@ -105,47 +166,5 @@ fn words_that_stand_badly_are_refused(rt: HostRuntime) -> Result<(), AllocError>
         let text = lines_of(rt.alloc(), &Words {}, Name::TextStart, bytes)?;
         assert_eq!(rt; text.as_str(), want);
     }
-    Ok(())
-}
-
-#[test]
-fn lines_are_paragraphs(rt: HostRuntime) -> Result<(), AllocError> {
-    let text = lines_of(rt.alloc(), &Lines {}, Name::FlowStart, b"a\r\nb")?;
-    let want = "enter Paragraph 1:1 (0+0)\n\
-        enter Data 1:1 (0+0)\n\
-        exit Data 1:2 (1+0)\n\
-        exit Paragraph 1:2 (1+0)\n\
-        enter LineEnding 1:2 (1+0)\n\
-        exit LineEnding 2:1 (3+0)\n\
-        enter Paragraph 2:1 (3+0)\n\
-        enter Data 2:1 (3+0)\n\
-        exit Data 2:2 (4+0)\n\
-        exit Paragraph 2:2 (4+0)\n";
-    assert_eq!(rt; text.as_str(), want);
-    Ok(())
-}
-
-#[test]
-fn look_ahead_goes_back(rt: HostRuntime) -> Result<(), AllocError> {
-    let text = lines_of(rt.alloc(), &Peek {}, Name::TextStart, b"a\nb\nc")?;
-    let want = "enter Data 1:1 (0+0)\n\
-        exit Data 1:2 (1+0)\n\
-        enter LineEnding 1:2 (1+0)\n\
-        exit LineEnding 2:1 (2+0)\n\
-        enter Data 2:1 (2+0)\n\
-        exit Data 2:2 (3+0)\n\
-        enter LineEnding 2:2 (3+0)\n\
-        exit LineEnding 3:1 (4+0)\n\
-        enter Data 3:1 (4+0)\n\
-        exit Data 3:2 (5+0)\n";
-    assert_eq!(rt; text.as_str(), want);
-    Ok(())
-}
-
-#[test]
-fn attempts_go_back_one_by_one(rt: HostRuntime) -> Result<(), AllocError> {
-    let text = lines_of(rt.alloc(), &Deep {}, Name::StringStart, b"ab")?;
-    let want = "enter Data 1:1 (0+0)\nexit Data 1:3 (2+0)\n";
-    assert_eq!(rt; text.as_str(), want);
     Ok(())
 }

@@ -39,30 +39,56 @@ pub(crate) fn message(alloc: Global) -> Result<Message, AllocError> {
     placed(alloc, Place::Point(Point::new(1, 2, 1)), "x")
 }
 
-/// The line of a message.
-fn line(alloc: Global, place: Place) -> Result<String, AllocError> {
-    let message = placed(alloc, place, "x")?;
-    message.to_string(alloc)
+/// A message as it is shown, its clone as it is shown, and whether they are equal.
+fn cloned(alloc: Global, message: &Message) -> Result<String, AllocError> {
+    let copy = message.try_clone(alloc)?;
+    let same = copy == *message;
+    format!(in alloc; "{message}; {copy}, equal: {same}")
+}
+
+/// A message of the rule `r` of `markdown` and its clone, as they are shown.
+fn lines(alloc: Global, place: Option<Place>, reason: &str) -> Result<String, AllocError> {
+    match place {
+        Some(place) => cloned(alloc, &placed(alloc, place, reason)?),
+        None => cloned(alloc, &placeless(alloc, reason)?),
+    }
 }
 
 #[test]
-fn shows_messages(rt: HostRuntime) -> Result<(), AllocError> {
+fn messages_and_clones_are_shown(rt: HostRuntime) -> Result<(), AllocError> {
+    let point = Place::Point(Point::new(1, 2, 1));
     let later = Place::Point(Point::new(12, 7, 345));
     let stretch = Place::Position(Position::new(1, 1, 0, 2, 3, 5));
     for (place, want) in [
-        (later, "12:7: x (markdown:r)"),
-        (stretch, "1:1-2:3: x (markdown:r)"),
+        (None, "x (markdown:r); x (markdown:r), equal: true"),
+        (
+            Some(point),
+            "1:2: x (markdown:r); 1:2: x (markdown:r), equal: true",
+        ),
+        (
+            Some(later),
+            "12:7: x (markdown:r); 12:7: x (markdown:r), equal: true",
+        ),
+        (
+            Some(stretch),
+            "1:1-2:3: x (markdown:r); 1:1-2:3: x (markdown:r), equal: true",
+        ),
     ] {
-        let line = line(rt.alloc(), place)?;
-        assert_eq!(rt; line.as_str(), want);
+        let lines = lines(rt.alloc(), place, "x")?;
+        assert_eq!(rt; lines.as_str(), want);
     }
     Ok(())
 }
 
+/// Whether a message differs from that without a place.
+fn differs(alloc: Global, message: &Message) -> Result<bool, AllocError> {
+    Ok(*message != placeless(alloc, "x")?)
+}
+
 #[test]
-fn shows_messages_without_a_place(rt: HostRuntime) -> Result<(), AllocError> {
-    let shown = placeless(rt.alloc(), "x")?.to_string(rt.alloc())?;
-    assert_eq!(rt; shown.as_str(), "x (markdown:r)");
+fn messages_differ_by_their_place(rt: HostRuntime) -> Result<(), AllocError> {
+    let message = message(rt.alloc())?;
+    assert!(rt; differs(rt.alloc(), &message)?);
     Ok(())
 }
 
@@ -75,27 +101,6 @@ fn shows_places(rt: HostRuntime) -> Result<(), AllocError> {
     Ok(())
 }
 
-/// A clone of a message as it is shown, and whether it is equal.
-fn cloned(alloc: Global, message: &Message) -> Result<String, AllocError> {
-    let copy = message.try_clone(alloc)?;
-    let same = copy == *message;
-    format!(in alloc; "{copy}, equal: {same}")
-}
-
-#[test]
-fn clones_are_equal(rt: HostRuntime) -> Result<(), AllocError> {
-    let point = message(rt.alloc())?;
-    let shown = cloned(rt.alloc(), &point)?;
-    assert_eq!(rt; shown.as_str(), "1:2: x (markdown:r), equal: true");
-    Ok(())
-}
-
-#[test]
-fn messages_differ_by_their_place(rt: HostRuntime) -> Result<(), AllocError> {
-    assert!(rt; message(rt.alloc())? != placeless(rt.alloc(), "x")?);
-    Ok(())
-}
-
 /// A text of 300 bytes.
 fn long_text(alloc: Global) -> Result<String, AllocError> {
     let mut text = String::new(alloc);
@@ -105,17 +110,14 @@ fn long_text(alloc: Global) -> Result<String, AllocError> {
     Ok(text)
 }
 
-/// A clone of a message with a long reason, as it is shown.
-fn long_cloned(alloc: Global, reason: &str) -> Result<String, AllocError> {
-    let place = Place::Position(Position::new(2, 3, 5, 10, 1, 99));
-    cloned(alloc, &placed(alloc, place, reason)?)
-}
-
 #[test]
 fn long_reasons_are_shown_and_cloned(rt: HostRuntime) -> Result<(), AllocError> {
     let reason = long_text(rt.alloc())?;
-    let shown = long_cloned(rt.alloc(), reason.as_str())?;
-    let want = format!(in rt.alloc(); "2:3-10:1: {reason} (markdown:r), equal: true")?;
-    assert_eq!(rt; shown.as_str(), want.as_str());
+    let place = Place::Position(Position::new(2, 3, 5, 10, 1, 99));
+    let lines = lines(rt.alloc(), Some(place), reason.as_str())?;
+    let want = format!(in rt.alloc();
+        "2:3-10:1: {reason} (markdown:r); 2:3-10:1: {reason} (markdown:r), equal: true"
+    )?;
+    assert_eq!(rt; lines.as_str(), want.as_str());
     Ok(())
 }

@@ -70,20 +70,6 @@ fn with_label(alloc: Global) -> Result<CompileOptions, AllocError> {
     })
 }
 
-#[test]
-fn clones_are_equal(rt: HostRuntime) -> Result<(), AllocError> {
-    let options = with_label(rt.alloc())?;
-    let shown = cloned(rt.alloc(), &options)?;
-    let want = "LineFeed, html false, filter true\n\
-        none\n\
-        none\n\
-        none\n\
-        none\n\
-        Notes de bas de page\n";
-    assert_eq!(rt; shown.as_str(), want);
-    Ok(())
-}
-
 /// Options with all texts.
 fn with_texts(alloc: Global) -> Result<CompileOptions, AllocError> {
     Ok(CompileOptions {
@@ -97,17 +83,34 @@ fn with_texts(alloc: Global) -> Result<CompileOptions, AllocError> {
     })
 }
 
+/// What is told apart in a clone of options with a label of their own, or with all texts.
+fn made_and_cloned(alloc: Global, all: bool) -> Result<String, AllocError> {
+    let options = if all {
+        with_texts(alloc)?
+    } else {
+        with_label(alloc)?
+    };
+    cloned(alloc, &options)
+}
+
 #[test]
 fn clones_have_all_texts(rt: HostRuntime) -> Result<(), AllocError> {
-    let options = with_texts(rt.alloc())?;
-    let shown = cloned(rt.alloc(), &options)?;
-    let want = "CarriageReturnLineFeed, html false, filter true\n\
+    let with_label = "LineFeed, html false, filter true\n\
+        none\n\
+        none\n\
+        none\n\
+        none\n\
+        Notes de bas de page\n";
+    let with_texts = "CarriageReturnLineFeed, html false, filter true\n\
         Zurück\n\
         \n\
         class=\"sr-only\"\n\
         h1\n\
         Fußnoten\n";
-    assert_eq!(rt; shown.as_str(), want);
+    for (all, want) in [(false, with_label), (true, with_texts)] {
+        let shown = made_and_cloned(rt.alloc(), all)?;
+        assert_eq!(rt; shown.as_str(), want);
+    }
     Ok(())
 }
 

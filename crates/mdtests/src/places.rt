@@ -1,8 +1,10 @@
 //! Places of small texts, and where these are cut, worked by hand.
 
+ghost use Rattle.std.specs.Prelude.{◌+◌, ◌*◌, ◌^◌, ◌<◌, length};
+
 use markdown::event::Point;
 use markdown::tokenizer::{cuts_every, point_at};
-use std::alloc::AllocError;
+use std::alloc::{AllocError, Global};
 
 fn at(line: usize, column: usize, index: usize, vs: usize) -> Option<Point> {
     Some(Point {
@@ -26,27 +28,31 @@ fn points_of_places(rt: HostRuntime) {
     }
 }
 
+/// The cuts of a text after each so many virtual bytes.
+fn cuts(alloc: Global, bytes: &[u8], n: usize) -> Result<String, AllocError>
+    requires limit { 4 * length bytes.now + 1 < 2 ^ 64 }
+    requires some { 0 < n }
+{
+    let cuts = cuts_every(alloc, bytes, n)?;
+    format!(in alloc; "{cuts:?}")
+}
+
+/// The last one is of a tab before a stop, which is one byte.
 #[test]
 fn cuts_of_a_text(rt: HostRuntime) -> Result<(), AllocError> {
-    for (n, want) in [
+    for (bytes, n, want) in [
         (
+            b"a\tb\r\n\tc".as_slice(),
             1,
             "[(1, 0), (1, 1), (1, 2), (2, 0), (4, 0), (5, 0), (5, 1), (5, 2), (5, 3), (6, 0)]",
         ),
-        (3, "[(1, 2), (5, 0), (5, 3)]"),
-        (11, "[]"),
+        (b"a\tb\r\n\tc".as_slice(), 3, "[(1, 2), (5, 0), (5, 3)]"),
+        (b"a\tb\r\n\tc".as_slice(), 11, "[]"),
+        (b"abc\td".as_slice(), 1, "[(1, 0), (2, 0), (3, 0), (4, 0)]"),
     ] {
-        assert!(rt; n > 0);
-        let cuts = cuts_every(rt.alloc(), b"a\tb\r\n\tc", n)?;
-        let text = format!(in rt.alloc(); "{cuts:?}")?;
+        assert!(rt; n > 0 && bytes.len() < 9);
+        let text = cuts(rt.alloc(), bytes, n)?;
         assert_eq!(rt; text.as_str(), want);
     }
-    Ok(())
-}
-
-#[test]
-fn tab_before_a_stop_is_one_byte(rt: HostRuntime) -> Result<(), AllocError> {
-    let cuts = cuts_every(rt.alloc(), b"abc\td", 1)?;
-    assert_eq!(rt; cuts.len(), 4);
     Ok(())
 }

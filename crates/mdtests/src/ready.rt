@@ -29,31 +29,46 @@ fn is_ready(
     ready(alloc, events.as_slice(), bytes, filter.as_ref())
 }
 
-#[test]
-fn chains_that_fit_can_be_read(rt: HostRuntime) -> Result<(), AllocError> {
-    for (bytes, filter, want) in [
-        (b"ab".as_slice(), TEXT, true),
-        (b"ab".as_slice(), None, true),
-        (b"a".as_slice(), TEXT, false),
-        (b"\tb".as_slice(), TEXT, false),
-        (b"a".as_slice(), STRING, true),
-    ] {
-        assert!(rt; is_ready(rt.alloc(), &TWO_CHUNKS, bytes, filter)? == want);
-    }
-    Ok(())
-}
+/// Where the text begins.
+const START: Place = (1, 1, 0, 0);
+
+/// A span that does not end.
+const OPEN: [Row; 1] = [Enter(Name::Paragraph, START)];
+
+/// Spans that cross.
+const CROSSED: [Row; 4] = [
+    Enter(Name::Paragraph, START),
+    Enter(Name::Emphasis, START),
+    Exit(Name::Paragraph, START),
+    Exit(Name::Emphasis, START),
+];
+
+/// A list, its document, the content of the chains that fit, and whether the list is ready: of chains in the text or behind its
+/// end, of gaps, and of spans that do not end or cross.
+const LISTS: [(&[Row], &[u8], Option<Content>, bool); 17] = [
+    (&TWO_CHUNKS, b"ab", TEXT, true),
+    (&TWO_CHUNKS, b"ab", None, true),
+    (&TWO_CHUNKS, b"a", TEXT, false),
+    (&TWO_CHUNKS, b"\tb", TEXT, false),
+    (&TWO_CHUNKS, b"a", STRING, true),
+    (&QUOTE, b"> a\n> b", TEXT, true),
+    (&QUOTE, b"> a\n> b", STRING, true),
+    (&QUOTE, b"> a\n> b", None, true),
+    (&CHAIN_AROUND_ANOTHER, b"ab\ncd", TEXT, true),
+    (&CHAIN_AROUND_ANOTHER, b"ab\ncd", STRING, false),
+    (&CHAIN_AROUND_ANOTHER, b"ab\ncd", None, false),
+    (&CHAIN_AROUND_CHILDREN, b"ab\ncd", TEXT, true),
+    (&CHAIN_AROUND_CHILDREN, b"ab\ncd", STRING, false),
+    (&CHAIN_AROUND_CHILDREN, b"ab\ncd", None, false),
+    (&[], b"", None, true),
+    (&OPEN, b"", None, false),
+    (&CROSSED, b"", None, false),
+];
 
 #[test]
-fn gaps_of_chains_that_fit_can_be_passed(rt: HostRuntime) -> Result<(), AllocError> {
-    let alloc = rt.alloc();
-    for (filter, chain, children) in [
-        (TEXT, true, true),
-        (STRING, false, false),
-        (None, false, false),
-    ] {
-        assert!(rt; is_ready(alloc, &QUOTE, b"> a\n> b", filter)?);
-        assert!(rt; is_ready(alloc, &CHAIN_AROUND_ANOTHER, b"ab\ncd", filter)? == chain);
-        assert!(rt; is_ready(alloc, &CHAIN_AROUND_CHILDREN, b"ab\ncd", filter)? == children);
+fn chains_that_fit_can_be_read(rt: HostRuntime) -> Result<(), AllocError> {
+    for (list, bytes, filter, want) in LISTS {
+        assert!(rt; is_ready(rt.alloc(), list, bytes, filter)? == want);
     }
     Ok(())
 }
@@ -97,28 +112,6 @@ fn chunk_stands_at_places_that_are_shown(rt: HostRuntime) -> Result<(), AllocErr
         let list = [Chunk(from, content, None, None), Exit(Name::Data, to)];
         assert!(rt; is_ready(rt.alloc(), &list, bytes, filter)? == want);
     }
-    Ok(())
-}
-
-/// Where the text begins.
-const START: Place = (1, 1, 0, 0);
-
-/// A span that does not end.
-const OPEN: [Row; 1] = [Enter(Name::Paragraph, START)];
-
-/// Spans that cross.
-const CROSSED: [Row; 4] = [
-    Enter(Name::Paragraph, START),
-    Enter(Name::Emphasis, START),
-    Exit(Name::Paragraph, START),
-    Exit(Name::Emphasis, START),
-];
-
-#[test]
-fn lists_that_are_not_balanced_are_not_ready(rt: HostRuntime) -> Result<(), AllocError> {
-    assert!(rt; is_ready(rt.alloc(), &[], b"", None)?);
-    assert!(rt; !is_ready(rt.alloc(), &OPEN, b"", None)?);
-    assert!(rt; !is_ready(rt.alloc(), &CROSSED, b"", None)?);
     Ok(())
 }
 
@@ -194,20 +187,25 @@ const ITEM_AFTER_BLANK_LINE: [Row; 10] = [
     Exit(Name::ListItem, START),
 ];
 
-#[test]
-fn first_paragraph_of_a_list_item_is_found(rt: HostRuntime) -> Result<(), AllocError> {
-    let alloc = rt.alloc();
-    let on = Constructs::gfm();
-    assert!(rt; first_paragraph(alloc, &ITEM, 4, &on)? == Some(true));
-    assert!(rt; first_paragraph(alloc, &ITEM, 2, &on)? == Some(false));
-    assert!(rt; first_paragraph(alloc, &ITEM_AFTER_BLANK_LINE, 6, &on)? == Some(true));
-    assert!(rt; first_paragraph(alloc, &QUOTE, 4, &on)? == Some(false));
-    Ok(())
-}
+/// A list, an index, whether list items may be tasks, and whether the chain is in the first paragraph of one.
+const ITEMS: [(&[Row], usize, bool, bool); 5] = [
+    (&ITEM, 4, true, true),
+    (&ITEM, 2, true, false),
+    (&ITEM_AFTER_BLANK_LINE, 6, true, true),
+    (&QUOTE, 4, true, false),
+    (&ITEM, 4, false, false),
+];
 
 #[test]
-fn no_list_item_is_a_task_by_default(rt: HostRuntime) -> Result<(), AllocError> {
-    let off = Constructs::default();
-    assert!(rt; first_paragraph(rt.alloc(), &ITEM, 4, &off)? == Some(false));
+fn first_paragraph_of_a_list_item_is_found(rt: HostRuntime) -> Result<(), AllocError> {
+    for (list, index, tasks, want) in ITEMS {
+        let constructs = if tasks {
+            Constructs::gfm()
+        } else {
+            Constructs::default()
+        };
+        let found = first_paragraph(rt.alloc(), list, index, &constructs)?;
+        assert!(rt; found == Some(want));
+    }
     Ok(())
 }

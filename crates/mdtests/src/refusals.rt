@@ -1,10 +1,10 @@
 //! A message ends the reading of a document: what each call answers then, and afterwards.
 
 use crate::driven::read;
+use crate::machines::lines_by;
 use markdown::configuration::ParseOptions;
 use markdown::parser::ParseState;
 use markdown::state::Name;
-use markdown::tokenizer::run;
 use mdconstructs::fail::Fail;
 use std::alloc::{AllocError, Global};
 
@@ -99,36 +99,21 @@ const ANSWERS: [(usize, &str); 4] = [
 #[test]
 fn message_waits_for_the_flush(rt: HostRuntime) -> Result<(), AllocError> {
     for (at, want) in ANSWERS {
-        let text = read_two(rt.alloc(), at, false)?;
-        assert_eq!(rt; text.as_str(), want, "after {at} calls");
-        let resolved = read_two(rt.alloc(), at, true)?;
-        assert_eq!(rt; resolved.as_str(), want, "after {at} calls");
+        for resolve in [false, true] {
+            let text = read_two(rt.alloc(), at, resolve)?;
+            assert_eq!(rt; text.as_str(), want, "after {at} calls");
+        }
     }
     Ok(())
 }
 
-/// Runs over five bytes, which are seven virtual ones, by a machine that refuses at a call: what was answered.
-fn run_to(alloc: Global, at: usize) -> Result<String, AllocError> {
-    let options = ParseOptions::default();
-    let machine = Fail { at };
-    let parse_state = ParseState {
-        bytes: b"a\r\n\tb",
-        options: &options,
-        machine: &machine,
-    };
-    match run(alloc, &parse_state, Name::TextStart, &[], true) {
-        Ok(_) => String::from_str(alloc, "read"),
-        Err(fault) => fault.to_string(alloc),
-    }
-}
-
+/// Five bytes, which are seven virtual ones, make eight calls, and no event.
 #[test]
 fn each_call_may_refuse(rt: HostRuntime) -> Result<(), AllocError> {
-    for at in 0..8 {
-        let text = run_to(rt.alloc(), at)?;
-        assert_eq!(rt; text.as_str(), "1:2: x (markdown:r)", "after {at} calls");
+    for at in 0..9 {
+        let text = lines_by(rt.alloc(), &Fail { at }, Name::TextStart, b"a\r\n\tb", true)?;
+        let want = if at < 8 { "1:2: x (markdown:r)" } else { "" };
+        assert_eq!(rt; text.as_str(), want, "after {at} calls");
     }
-    let text = run_to(rt.alloc(), 8)?;
-    assert_eq!(rt; text.as_str(), "read");
     Ok(())
 }

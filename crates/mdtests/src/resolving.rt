@@ -1,11 +1,10 @@
 //! Resolvers go over the events once all was read.
 
 use crate::driven::read;
-use crate::shown::shown;
+use crate::machines::lines_by;
 use markdown::configuration::ParseOptions;
 use markdown::parser::ParseState;
 use markdown::state::Name;
-use markdown::tokenizer::run;
 use mdconstructs::wrap::{Resolver, Wrap};
 use std::alloc::{AllocError, Global};
 
@@ -37,10 +36,13 @@ fn read_one(
     Ok(text)
 }
 
-#[test]
-fn resolvers_wrap_what_was_read(rt: HostRuntime) -> Result<(), AllocError> {
-    let text = read_one(rt.alloc(), false, true, &[Resolver::C])?;
-    let want = "next\n\
+/// Whether the machine's resolvers refuse, whether they go over the events, those that stay registered, and what is answered.
+const ANSWERS: [(bool, bool, &[Resolver], &str); 3] = [
+    (
+        false,
+        true,
+        &[Resolver::C],
+        "next\n\
         next\n\
         done: false, notes: 0, definitions: A\n\
         tokenizer has failed\n\
@@ -49,56 +51,47 @@ fn resolvers_wrap_what_was_read(rt: HostRuntime) -> Result<(), AllocError> {
         enter Paragraph 1:1 (0+0)\n\
         enter CodeTextData 1:1 (0+0)\n\
         exit CodeTextData 1:2 (1+0)\n\
-        exit Paragraph 1:2 (1+0)\n";
-    assert_eq!(rt; text.as_str(), want);
-    Ok(())
-}
-
-#[test]
-fn resolvers_stay_where_none_resolves(rt: HostRuntime) -> Result<(), AllocError> {
-    let text = read_one(rt.alloc(), true, false, &[Resolver::B, Resolver::A])?;
-    let want = "next\n\
+        exit Paragraph 1:2 (1+0)\n",
+    ),
+    (
+        true,
+        false,
+        &[Resolver::B, Resolver::A],
+        "next\n\
         next\n\
         done: false, notes: 0, definitions:\n\
         tokenizer has failed\n\
         4 calls\n\
         these resolvers: true\n\
         enter Data 1:1 (0+0)\n\
-        exit Data 1:2 (1+0)\n";
-    assert_eq!(rt; text.as_str(), want);
-    Ok(())
-}
-
-#[test]
-fn resolver_refuses_the_document(rt: HostRuntime) -> Result<(), AllocError> {
-    let text = read_one(rt.alloc(), true, true, &[])?;
-    let want = "next\n\
+        exit Data 1:2 (1+0)\n",
+    ),
+    (
+        true,
+        true,
+        &[],
+        "next\n\
         next\n\
         1:2: x (markdown:r)\n\
         tokenizer has failed\n\
-        4 calls\n";
-    assert_eq!(rt; text.as_str(), want);
-    Ok(())
-}
+        4 calls\n",
+    ),
+];
 
-/// The events of a run over nothing, by the machine that wraps, or why it is refused.
-fn run_nothing(alloc: Global) -> Result<String, AllocError> {
-    let options = ParseOptions::default();
-    let machine = Wrap { refuse: false };
-    let parse_state = ParseState {
-        bytes: b"",
-        options: &options,
-        machine: &machine,
-    };
-    match run(alloc, &parse_state, Name::TextStart, &[], true) {
-        Ok((events, _)) => shown(alloc, events.as_slice()),
-        Err(fault) => fault.to_string(alloc),
+/// Resolvers wrap what was read; they stay where none resolves; or one refuses the document.
+#[test]
+fn resolvers_go_over_what_was_read(rt: HostRuntime) -> Result<(), AllocError> {
+    for (refuse, resolve, resolvers, want) in ANSWERS {
+        let text = read_one(rt.alloc(), refuse, resolve, resolvers)?;
+        assert_eq!(rt; text.as_str(), want);
     }
+    Ok(())
 }
 
 #[test]
 fn nothing_is_wrapped_too(rt: HostRuntime) -> Result<(), AllocError> {
-    let text = run_nothing(rt.alloc())?;
+    let machine = Wrap { refuse: false };
+    let text = lines_by(rt.alloc(), &machine, Name::TextStart, b"", true)?;
     let want = "enter Paragraph 1:1 (0+0)\nexit Paragraph 1:1 (0+0)\n";
     assert_eq!(rt; text.as_str(), want);
     Ok(())

@@ -41,7 +41,7 @@ fn exit(name: Name) -> Event
 }
 
 /// White space, and then data.
-fn white_space_and_data() -> [Event; 4]
+pub(crate) fn white_space_and_data() -> [Event; 4]
     ensures balanced { IsBalanced result }
     ensures white_space { Any (HasWanted (SpaceOrTab ∷ [])) (take 4 result) }
 {

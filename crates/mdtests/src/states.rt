@@ -15,11 +15,6 @@ fn clones_are_equal(rt: HostRuntime) -> Result<(), AllocError> {
     assert!(rt; is_cloned(rt.alloc(), State::Nok)?);
     assert!(rt; is_cloned(rt.alloc(), State::Next(Name::TextStart))?);
     assert!(rt; is_cloned(rt.alloc(), State::Retry(Name::TextStart))?);
-    Ok(())
-}
-
-#[test]
-fn clones_of_errors_are_equal(rt: HostRuntime) -> Result<(), AllocError> {
     assert!(rt; is_cloned(rt.alloc(), State::Error(message(rt.alloc())?))?);
     Ok(())
 }

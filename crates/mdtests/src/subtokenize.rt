@@ -7,7 +7,7 @@ ghost use Rattle.mdchildren.specs.Reads.{start_name};
 
 use crate::chunks::Row::{Chunk, Enter, Exit};
 use crate::chunks::{CHAIN_AROUND_ANOTHER, CHAIN_AROUND_CHILDREN, EMPTY_CHUNK, QUOTE, Row, listed};
-use crate::shown::{push_answer, push_lines, shown};
+use crate::shown::{push_answer, push_lines};
 use markdown::configuration::ParseOptions;
 use markdown::event::{Content, Event, Name};
 use markdown::parser::ParseState;
@@ -60,16 +60,24 @@ pub(crate) fn with_children<M: Machine>(
     requires start { Contains (M.rules machine.now (given_by 4 bytes.now default_parse_options)).starts start }
 {
     let mut events = listed(alloc, list)?;
+    told_children(alloc, &mut events, bytes, machine, content, start)
+}
+
+/// Puts the children of the chains of one content in their place: what was answered, and then the list as it is afterwards.
+fn told_children<M: Machine>(
+    alloc: Global,
+    events: &mut Vec<Event>,
+    bytes: &[u8],
+    machine: &M,
+    content: Content,
+    start: state::Name,
+) -> Result<String, AllocError>
+    requires limit { 4 * length bytes.now + 1 < 2 ^ 64 }
+    requires name { start_name content ≡ Some start }
+    requires start { Contains (M.rules machine.now (given_by 4 bytes.now default_parse_options)).starts start }
+{
     let mut text = String::new(alloc);
-    put_children(
-        alloc,
-        &mut text,
-        &mut events,
-        bytes,
-        machine,
-        content,
-        start,
-    )?;
+    put_children(alloc, &mut text, events, bytes, machine, content, start)?;
     push_lines(&mut text, events.as_slice())?;
     Ok(text)
 }
@@ -83,10 +91,43 @@ fn with_lines(alloc: Global, list: &[Row], bytes: &[u8]) -> Result<String, Alloc
     with_children(alloc, list, bytes, &machine, Content::Text, start)
 }
 
-#[test]
-fn child_stands_in_place_of_its_chunks(rt: HostRuntime) -> Result<(), AllocError> {
-    let text = with_lines(rt.alloc(), &QUOTE, b"> a\n> b")?;
-    let want = "done: false, notes: 0, definitions:\n\
+/// Reads the chains of strings by a machine that makes an attempt at each byte.
+fn with_attempts(alloc: Global, list: &[Row], bytes: &[u8]) -> Result<String, AllocError>
+    requires limit { 4 * length bytes.now + 1 < 2 ^ 64 }
+{
+    let start = state::Name::StringStart;
+    with_children(alloc, list, bytes, &Deep {}, Content::String, start)
+}
+
+/// A paragraph of two lines, the second quoted, over a carriage return with a line feed.
+const AFTER_CRLF: [Row; 8] = [
+    Enter(Name::Paragraph, (1, 1, 0, 0)),
+    Chunk((1, 1, 0, 0), Content::Text, None, Some(5)),
+    Exit(Name::Data, (2, 1, 3, 0)),
+    Enter(Name::BlockQuotePrefix, (2, 1, 3, 0)),
+    Exit(Name::BlockQuotePrefix, (2, 3, 5, 0)),
+    Chunk((2, 3, 5, 0), Content::Text, Some(1), None),
+    Exit(Name::Data, (2, 4, 6, 0)),
+    Exit(Name::Paragraph, (2, 4, 6, 0)),
+];
+
+/// A paragraph, a byte a chunk.
+const TWO_BYTES: [Row; 6] = [
+    Enter(Name::Paragraph, (1, 1, 0, 0)),
+    Chunk((1, 1, 0, 0), Content::Text, None, Some(3)),
+    Exit(Name::Data, (1, 2, 1, 0)),
+    Chunk((1, 2, 1, 0), Content::Text, Some(1), None),
+    Exit(Name::Data, (1, 3, 2, 0)),
+    Exit(Name::Paragraph, (1, 3, 2, 0)),
+];
+
+/// What is shown, a list, its document, and what is answered where its chains of text are read as lines of data.
+const OF_LINES: [(&str, &[Row], &[u8], &str); 6] = [
+    (
+        "a child stands in the place of its chunks",
+        &QUOTE,
+        b"> a\n> b",
+        "done: false, notes: 0, definitions:\n\
         enter BlockQuote 1:1 (0+0)\n\
         enter BlockQuotePrefix 1:1 (0+0)\n\
         exit BlockQuotePrefix 1:3 (2+0)\n\
@@ -100,24 +141,111 @@ fn child_stands_in_place_of_its_chunks(rt: HostRuntime) -> Result<(), AllocError
         enter Data 2:3 (6+0)\n\
         exit Data 2:4 (7+0)\n\
         exit Paragraph 2:4 (7+0)\n\
-        exit BlockQuote 2:4 (7+0)\n";
-    assert_eq!(rt; text.as_str(), want);
+        exit BlockQuote 2:4 (7+0)\n",
+    ),
+    (
+        "a gap follows a carriage return and line feed",
+        &AFTER_CRLF,
+        b"a\r\n> b",
+        "done: false, notes: 0, definitions:\n\
+        enter Paragraph 1:1 (0+0)\n\
+        enter Data 1:1 (0+0)\n\
+        exit Data 1:2 (1+0)\n\
+        enter LineEnding 1:2 (1+0)\n\
+        exit LineEnding 2:1 (3+0)\n\
+        enter BlockQuotePrefix 2:1 (3+0)\n\
+        exit BlockQuotePrefix 2:3 (5+0)\n\
+        enter Data 2:3 (5+0)\n\
+        exit Data 2:4 (6+0)\n\
+        exit Paragraph 2:4 (6+0)\n",
+    ),
+    (
+        "a border of chunks is no border of children",
+        &TWO_BYTES,
+        b"ab",
+        "done: false, notes: 0, definitions:\n\
+        enter Paragraph 1:1 (0+0)\n\
+        enter Data 1:1 (0+0)\n\
+        exit Data 1:3 (2+0)\n\
+        exit Paragraph 1:3 (2+0)\n",
+    ),
+    (
+        "a chunk of no text gets no events",
+        &EMPTY_CHUNK,
+        b"a\nb",
+        "done: false, notes: 0, definitions:\n\
+        enter Paragraph 1:1 (0+0)\n\
+        enter Data 1:1 (0+0)\n\
+        exit Data 1:2 (1+0)\n\
+        enter LineEnding 1:2 (1+0)\n\
+        exit LineEnding 2:1 (2+0)\n\
+        enter Data 2:1 (2+0)\n\
+        exit Data 2:2 (3+0)\n\
+        exit Paragraph 2:2 (3+0)\n",
+    ),
+    (
+        "a chain around the edits keeps both ends",
+        &CHAIN_AROUND_ANOTHER,
+        b"ab\ncd",
+        "done: false, notes: 0, definitions:\n\
+        enter Data 1:1 (0+0) String None Some(8)\n\
+        exit Data 1:2 (1+0)\n\
+        enter Data 1:2 (1+0)\n\
+        exit Data 1:3 (2+0)\n\
+        enter LineEnding 1:3 (2+0)\n\
+        exit LineEnding 2:1 (3+0)\n\
+        enter Data 2:1 (3+0)\n\
+        exit Data 2:2 (4+0)\n\
+        enter Data 2:2 (4+0) String Some(0) None\n\
+        exit Data 2:3 (5+0)\n",
+    ),
+    (
+        "chains are read once",
+        &CHAIN_AROUND_CHILDREN,
+        b"ab\ncd",
+        "done: true, notes: 0, definitions:\n\
+        enter Data 1:1 (0+0) String None Some(8)\n\
+        exit Data 1:2 (1+0)\n\
+        enter Data 1:2 (1+0)\n\
+        exit Data 1:3 (2+0)\n\
+        enter LineEnding 1:3 (2+0)\n\
+        exit LineEnding 2:1 (3+0)\n\
+        enter Data 2:1 (3+0)\n\
+        exit Data 2:2 (4+0)\n\
+        enter Data 2:2 (4+0) String Some(0) None\n\
+        exit Data 2:3 (5+0)\n",
+    ),
+];
+
+#[test]
+fn children_stand_in_place_of_their_chunks(rt: HostRuntime) -> Result<(), AllocError> {
+    for (what, list, bytes, want) in OF_LINES {
+        assert!(rt; bytes.len() < 9);
+        let text = with_lines(rt.alloc(), list, bytes)?;
+        assert_eq!(rt; text.as_str(), want, "{what}");
+    }
     Ok(())
 }
 
-#[test]
-fn nothing_is_done_where_no_chain_fits(rt: HostRuntime) -> Result<(), AllocError> {
-    let start = state::Name::StringStart;
-    let document = b"> a\n> b";
-    let text = with_children(
-        rt.alloc(),
+/// A paragraph of two lines, the second quoted, as a string.
+const AFTER_LF: [Row; 8] = [
+    Enter(Name::Paragraph, (1, 1, 0, 0)),
+    Chunk((1, 1, 0, 0), Content::String, None, Some(5)),
+    Exit(Name::Data, (2, 1, 2, 0)),
+    Enter(Name::BlockQuotePrefix, (2, 1, 2, 0)),
+    Exit(Name::BlockQuotePrefix, (2, 3, 4, 0)),
+    Chunk((2, 3, 4, 0), Content::String, Some(1), None),
+    Exit(Name::Data, (2, 4, 5, 0)),
+    Exit(Name::Paragraph, (2, 4, 5, 0)),
+];
+
+/// What is shown, a list, its document, and what is answered where its chains of strings are read by attempts.
+const OF_ATTEMPTS: [(&str, &[Row], &[u8], &str); 2] = [
+    (
+        "nothing is done where no chain fits",
         &QUOTE,
-        document,
-        &Deep {},
-        Content::String,
-        start,
-    )?;
-    let want = "done: true, notes: 0, definitions:\n\
+        b"> a\n> b",
+        "done: true, notes: 0, definitions:\n\
         enter BlockQuote 1:1 (0+0)\n\
         enter BlockQuotePrefix 1:1 (0+0)\n\
         exit BlockQuotePrefix 1:3 (2+0)\n\
@@ -129,8 +257,33 @@ fn nothing_is_done_where_no_chain_fits(rt: HostRuntime) -> Result<(), AllocError
         enter Data 2:3 (6+0) Text Some(4) None\n\
         exit Data 2:4 (7+0)\n\
         exit Paragraph 2:4 (7+0)\n\
-        exit BlockQuote 2:4 (7+0)\n";
-    assert_eq!(rt; text.as_str(), want);
+        exit BlockQuote 2:4 (7+0)\n",
+    ),
+    (
+        "a choice of a child goes back over the gap",
+        &AFTER_LF,
+        b"a\n> b",
+        "done: false, notes: 0, definitions:\n\
+        enter Paragraph 1:1 (0+0)\n\
+        enter Data 1:1 (0+0)\n\
+        exit Data 1:2 (1+0)\n\
+        enter LineEnding 1:2 (1+0)\n\
+        exit LineEnding 2:1 (2+0)\n\
+        enter BlockQuotePrefix 2:1 (2+0)\n\
+        exit BlockQuotePrefix 2:3 (4+0)\n\
+        enter Data 2:3 (4+0)\n\
+        exit Data 2:4 (5+0)\n\
+        exit Paragraph 2:4 (5+0)\n",
+    ),
+];
+
+#[test]
+fn choices_of_children_go_back_over_gaps(rt: HostRuntime) -> Result<(), AllocError> {
+    for (what, list, bytes, want) in OF_ATTEMPTS {
+        assert!(rt; bytes.len() < 9);
+        let text = with_attempts(rt.alloc(), list, bytes)?;
+        assert_eq!(rt; text.as_str(), want, "{what}");
+    }
     Ok(())
 }
 
@@ -178,9 +331,8 @@ fn wrapped(alloc: Global, refuse: bool) -> Result<String, AllocError> {
 }
 
 #[test]
-fn children_are_resolved_in_order(rt: HostRuntime) -> Result<(), AllocError> {
-    let text = wrapped(rt.alloc(), false)?;
-    let want = "done: false, notes: 0, definitions: A A\n\
+fn resolvers_of_children_wrap_or_refuse(rt: HostRuntime) -> Result<(), AllocError> {
+    let wrapped_in_order = "done: false, notes: 0, definitions: A A\n\
         enter Paragraph 1:1 (0+0)\n\
         enter CodeTextData 1:1 (0+0)\n\
         exit CodeTextData 1:2 (1+0)\n\
@@ -189,149 +341,9 @@ fn children_are_resolved_in_order(rt: HostRuntime) -> Result<(), AllocError> {
         enter CodeTextData 1:2 (1+0)\n\
         exit CodeTextData 1:4 (3+0)\n\
         exit Paragraph 1:4 (3+0)\n";
-    assert_eq!(rt; text.as_str(), want);
-    Ok(())
-}
-
-#[test]
-fn message_of_a_resolver_leaves_the_events(rt: HostRuntime) -> Result<(), AllocError> {
-    let text = wrapped(rt.alloc(), true)?;
-    assert_eq!(rt; text.as_str(), REFUSED);
-    Ok(())
-}
-
-/// A paragraph of two lines, the second quoted, over a carriage return with a line feed.
-const AFTER_CRLF: [Row; 8] = [
-    Enter(Name::Paragraph, (1, 1, 0, 0)),
-    Chunk((1, 1, 0, 0), Content::Text, None, Some(5)),
-    Exit(Name::Data, (2, 1, 3, 0)),
-    Enter(Name::BlockQuotePrefix, (2, 1, 3, 0)),
-    Exit(Name::BlockQuotePrefix, (2, 3, 5, 0)),
-    Chunk((2, 3, 5, 0), Content::Text, Some(1), None),
-    Exit(Name::Data, (2, 4, 6, 0)),
-    Exit(Name::Paragraph, (2, 4, 6, 0)),
-];
-
-#[test]
-fn gap_follows_a_carriage_return_and_line_feed(rt: HostRuntime) -> Result<(), AllocError> {
-    let text = with_lines(rt.alloc(), &AFTER_CRLF, b"a\r\n> b")?;
-    let want = "done: false, notes: 0, definitions:\n\
-        enter Paragraph 1:1 (0+0)\n\
-        enter Data 1:1 (0+0)\n\
-        exit Data 1:2 (1+0)\n\
-        enter LineEnding 1:2 (1+0)\n\
-        exit LineEnding 2:1 (3+0)\n\
-        enter BlockQuotePrefix 2:1 (3+0)\n\
-        exit BlockQuotePrefix 2:3 (5+0)\n\
-        enter Data 2:3 (5+0)\n\
-        exit Data 2:4 (6+0)\n\
-        exit Paragraph 2:4 (6+0)\n";
-    assert_eq!(rt; text.as_str(), want);
-    Ok(())
-}
-
-/// A paragraph, a byte a chunk.
-const TWO_BYTES: [Row; 6] = [
-    Enter(Name::Paragraph, (1, 1, 0, 0)),
-    Chunk((1, 1, 0, 0), Content::Text, None, Some(3)),
-    Exit(Name::Data, (1, 2, 1, 0)),
-    Chunk((1, 2, 1, 0), Content::Text, Some(1), None),
-    Exit(Name::Data, (1, 3, 2, 0)),
-    Exit(Name::Paragraph, (1, 3, 2, 0)),
-];
-
-#[test]
-fn border_of_chunks_is_no_border_of_children(rt: HostRuntime) -> Result<(), AllocError> {
-    let text = with_lines(rt.alloc(), &TWO_BYTES, b"ab")?;
-    let want = "done: false, notes: 0, definitions:\n\
-        enter Paragraph 1:1 (0+0)\n\
-        enter Data 1:1 (0+0)\n\
-        exit Data 1:3 (2+0)\n\
-        exit Paragraph 1:3 (2+0)\n";
-    assert_eq!(rt; text.as_str(), want);
-    Ok(())
-}
-
-#[test]
-fn chunk_of_no_text_gets_no_events(rt: HostRuntime) -> Result<(), AllocError> {
-    let text = with_lines(rt.alloc(), &EMPTY_CHUNK, b"a\nb")?;
-    let want = "done: false, notes: 0, definitions:\n\
-        enter Paragraph 1:1 (0+0)\n\
-        enter Data 1:1 (0+0)\n\
-        exit Data 1:2 (1+0)\n\
-        enter LineEnding 1:2 (1+0)\n\
-        exit LineEnding 2:1 (2+0)\n\
-        enter Data 2:1 (2+0)\n\
-        exit Data 2:2 (3+0)\n\
-        exit Paragraph 2:2 (3+0)\n";
-    assert_eq!(rt; text.as_str(), want);
-    Ok(())
-}
-
-#[test]
-fn chain_around_the_edits_keeps_both_ends(rt: HostRuntime) -> Result<(), AllocError> {
-    let text = with_lines(rt.alloc(), &CHAIN_AROUND_ANOTHER, b"ab\ncd")?;
-    let want = "done: false, notes: 0, definitions:\n\
-        enter Data 1:1 (0+0) String None Some(8)\n\
-        exit Data 1:2 (1+0)\n\
-        enter Data 1:2 (1+0)\n\
-        exit Data 1:3 (2+0)\n\
-        enter LineEnding 1:3 (2+0)\n\
-        exit LineEnding 2:1 (3+0)\n\
-        enter Data 2:1 (3+0)\n\
-        exit Data 2:2 (4+0)\n\
-        enter Data 2:2 (4+0) String Some(0) None\n\
-        exit Data 2:3 (5+0)\n";
-    assert_eq!(rt; text.as_str(), want);
-    Ok(())
-}
-
-#[test]
-fn chains_are_read_once(rt: HostRuntime) -> Result<(), AllocError> {
-    let alloc = rt.alloc();
-    let text = with_lines(alloc, &CHAIN_AROUND_CHILDREN, b"ab\ncd")?;
-    let list = listed(alloc, &CHAIN_AROUND_CHILDREN)?;
-    let lines = shown(alloc, list.as_slice())?;
-    let want = format!(in alloc; "done: true, notes: 0, definitions:\n{lines}")?;
-    assert_eq!(rt; text.as_str(), want.as_str());
-    Ok(())
-}
-
-/// A paragraph of two lines, the second quoted, as a string.
-const AFTER_LF: [Row; 8] = [
-    Enter(Name::Paragraph, (1, 1, 0, 0)),
-    Chunk((1, 1, 0, 0), Content::String, None, Some(5)),
-    Exit(Name::Data, (2, 1, 2, 0)),
-    Enter(Name::BlockQuotePrefix, (2, 1, 2, 0)),
-    Exit(Name::BlockQuotePrefix, (2, 3, 4, 0)),
-    Chunk((2, 3, 4, 0), Content::String, Some(1), None),
-    Exit(Name::Data, (2, 4, 5, 0)),
-    Exit(Name::Paragraph, (2, 4, 5, 0)),
-];
-
-#[test]
-fn choice_of_a_child_goes_back_over_the_gap(rt: HostRuntime) -> Result<(), AllocError> {
-    let start = state::Name::StringStart;
-    let document = b"a\n> b";
-    let text = with_children(
-        rt.alloc(),
-        &AFTER_LF,
-        document,
-        &Deep {},
-        Content::String,
-        start,
-    )?;
-    let want = "done: false, notes: 0, definitions:\n\
-        enter Paragraph 1:1 (0+0)\n\
-        enter Data 1:1 (0+0)\n\
-        exit Data 1:2 (1+0)\n\
-        enter LineEnding 1:2 (1+0)\n\
-        exit LineEnding 2:1 (2+0)\n\
-        enter BlockQuotePrefix 2:1 (2+0)\n\
-        exit BlockQuotePrefix 2:3 (4+0)\n\
-        enter Data 2:3 (4+0)\n\
-        exit Data 2:4 (5+0)\n\
-        exit Paragraph 2:4 (5+0)\n";
-    assert_eq!(rt; text.as_str(), want);
+    for (refuse, want) in [(false, wrapped_in_order), (true, REFUSED)] {
+        let text = wrapped(rt.alloc(), refuse)?;
+        assert_eq!(rt; text.as_str(), want);
+    }
     Ok(())
 }

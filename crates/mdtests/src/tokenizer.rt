@@ -12,15 +12,15 @@ use std::alloc::{AllocError, Global};
 
 /// A machine's types, with no machine.
 #[derive(Drop)]
-struct Types {}
+pub(crate) struct Types {}
 
 impl MachineTypes for Types {
-    type Resolver = ();
+    type Resolver = u8;
 
     type Document = ();
 }
 
-const START: Point = Point {
+pub(crate) const START: Point = Point {
     line: 1,
     column: 1,
     index: 0,
@@ -55,7 +55,23 @@ fn begin(text: &mut String, t: &mut Tokenizer<Types>) -> Result<(), AllocError> 
     push_lines(text, t.events())
 }
 
-/// How many spans are open once choices and spans began, and the events.
+/// Two resolvers are registered, each twice: appends whether each is registered once in the end, in order.
+fn register(text: &mut String, t: &mut Tokenizer<Types>) -> Result<(), AllocError> {
+    t.register_resolver(1)?;
+    t.register_resolver_before(2)?;
+    t.register_resolver_before(1)?;
+    t.register_resolver(2)?;
+    let in_order = t.resolvers() == [2, 1].as_slice();
+    writeln!(text, "in order: {in_order}")
+}
+
+/// What is begun and registered.
+fn begin_all(text: &mut String, t: &mut Tokenizer<Types>) -> Result<(), AllocError> {
+    begin(text, t)?;
+    register(text, t)
+}
+
+/// What is begun and registered by a new tokenizer.
 fn begun(
     alloc: Global,
     text: &mut String,
@@ -64,11 +80,12 @@ fn begun(
     requires limit { 4 * length parse_state.now.bytes.now + 1 < 2 ^ 64 }
 {
     let mut tokenizer = Tokenizer::new(alloc, START, parse_state);
-    begin(text, &mut tokenizer)
+    begin_all(text, &mut tokenizer)
 }
 
+/// Spans and choices begin, and resolvers stand once, in order.
 #[test]
-fn spans_and_choices_begin(rt: HostRuntime) -> Result<(), AllocError> {
+fn spans_choices_and_resolvers_begin(rt: HostRuntime) -> Result<(), AllocError> {
     let options = ParseOptions::default();
     let parse_state = ParseState {
         bytes: b"a",
@@ -77,48 +94,10 @@ fn spans_and_choices_begin(rt: HostRuntime) -> Result<(), AllocError> {
     };
     let mut text = String::new(rt.alloc());
     begun(rt.alloc(), &mut text, &parse_state)?;
-    let want = "2 open\nenter Paragraph 1:1 (0+0)\nenter Data 1:1 (0+0) Text None None\n";
+    let want = "2 open\n\
+        enter Paragraph 1:1 (0+0)\n\
+        enter Data 1:1 (0+0) Text None None\n\
+        in order: true\n";
     assert_eq!(rt; text.as_str(), want);
-    Ok(())
-}
-
-/// The types of a machine with resolvers, and no machine.
-#[derive(Drop)]
-struct Numbered {}
-
-impl MachineTypes for Numbered {
-    type Resolver = u8;
-
-    type Document = ();
-}
-
-/// Two resolvers are registered, each twice.
-fn register(t: &mut Tokenizer<Numbered>) -> Result<(), AllocError> {
-    t.register_resolver(1)?;
-    t.register_resolver_before(2)?;
-    t.register_resolver_before(1)?;
-    t.register_resolver(2)
-}
-
-/// Whether each of two resolvers is registered once in the end, in order.
-fn are_registered(alloc: Global, parse_state: &ParseState<Numbered>) -> Result<bool, AllocError>
-    requires limit { 4 * length parse_state.now.bytes.now + 1 < 2 ^ 64 }
-{
-    let mut tokenizer = Tokenizer::new(alloc, START, parse_state);
-    match register(&mut tokenizer) {
-        Ok(()) => Ok(tokenizer.resolvers() == [2, 1].as_slice()),
-        Err(error) => Err(error),
-    }
-}
-
-#[test]
-fn resolvers_stand_once_in_order(rt: HostRuntime) -> Result<(), AllocError> {
-    let options = ParseOptions::default();
-    let parse_state = ParseState {
-        bytes: b"a",
-        options: &options,
-        machine: &Numbered {},
-    };
-    assert!(rt; are_registered(rt.alloc(), &parse_state)?);
     Ok(())
 }

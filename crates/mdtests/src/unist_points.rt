@@ -4,19 +4,13 @@ use markdown::unist::{Point, Position};
 use std::alloc::AllocError;
 
 #[test]
-fn shows_points(rt: HostRuntime) -> Result<(), AllocError> {
-    let first = Point::new(1, 1, 0);
+fn shows_points_and_positions(rt: HostRuntime) -> Result<(), AllocError> {
+    let point = Point::new(1, 1, 0);
     let later = Point::new(12, 7, 345);
-    let shown = format!(in rt.alloc(); "{first:?}, {later:?}")?;
-    assert_eq!(rt; shown.as_str(), "1:1 (0), 12:7 (345)");
-    Ok(())
-}
-
-#[test]
-fn shows_positions(rt: HostRuntime) -> Result<(), AllocError> {
-    let first = Position::new(1, 1, 0, 1, 3, 2);
-    let later = Position::new(2, 3, 5, 10, 1, 99);
-    let shown = format!(in rt.alloc(); "{first:?}, {later:?}")?;
-    assert_eq!(rt; shown.as_str(), "1:1-1:3 (0-2), 2:3-10:1 (5-99)");
+    let stretch = Position::new(1, 1, 0, 1, 3, 2);
+    let later_stretch = Position::new(2, 3, 5, 10, 1, 99);
+    let shown = format!(in rt.alloc(); "{point:?}, {later:?}, {stretch:?}, {later_stretch:?}")?;
+    let want = "1:1 (0), 12:7 (345), 1:1-1:3 (0-2), 2:3-10:1 (5-99)";
+    assert_eq!(rt; shown.as_str(), want);
     Ok(())
 }

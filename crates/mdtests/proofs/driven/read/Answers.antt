@@ -1,56 +1,7 @@
-use Rattle.std.proofs.Common.{[], ◌∷◌, length, refl}
-use Rattle.markdown_base.specs.declared.state.State.TheVariants.{Next}
+use Rattle.std.proofs.Common.{refl}
 use Rattle.markdown.specs.Engine.{given_by}
-use Rattle.markdown.proofs.Runs.{start-is-point, run-start, run-last, run-range, run-holds, run-pushed}
+use Rattle.markdown.proofs.Runs.{start-is-point}
 use Rattle.mdtests.proofs.driven.read.Goals as goal
 
 pub new-tokenizer-requires-clause-place : goal.new-tokenizer-requires-clause-place
 new-tokenizer-requires-clause-place g c = start-is-point (given_by 4 c.args.parse_state.now.bytes.now c.args.parse_state.now.options.now) refl
-
-pub push_shown-requires-clause-range : goal.push_shown-requires-clause-range
-push_shown-requires-clause-range g c =
-    let i = g.M.Machine in
-    let bytes = c.args.parse_state.now.bytes.now in let options = c.args.parse_state.now.options.now in let m = c.args.parse_state.now.machine.now in
-    let t = c.new-tokenizer.result in let s = Next c.args.start in
-    let r = run-start i.rules bytes options m c.new-tokenizer.ensures.bytes c.requires.limit (g.met.M.Machine.invariant_kept m (given_by 4 bytes options)) c.args.start c.requires.start (c.args.cut ∷ []) c.requires.cut t c.new-tokenizer.ensures.start in
-    λ _. run-range i.rules bytes options m c.args.start (0, 0) c.args.cut [] t s r
-
-pub push_shown-requires-clause-holds : goal.push_shown-requires-clause-holds
-push_shown-requires-clause-holds g c =
-    let i = g.M.Machine in
-    let bytes = c.args.parse_state.now.bytes.now in let options = c.args.parse_state.now.options.now in let m = c.args.parse_state.now.machine.now in
-    let t = c.new-tokenizer.result in let s = Next c.args.start in
-    let r = run-start i.rules bytes options m c.new-tokenizer.ensures.bytes c.requires.limit (g.met.M.Machine.invariant_kept m (given_by 4 bytes options)) c.args.start c.requires.start (c.args.cut ∷ []) c.requires.cut t c.new-tokenizer.ensures.start in
-    λ _. run-holds i.rules bytes options m c.args.start (0, 0) (c.args.cut ∷ []) t s r
-
-pub push_shown-requires-2-clause-range : goal.push_shown-requires-2-clause-range
-push_shown-requires-2-clause-range g c =
-    let i = g.M.Machine in
-    let bytes = c.args.parse_state.now.bytes.now in let options = c.args.parse_state.now.options.now in let m = c.args.parse_state.now.machine.now in
-    let t = c.new-tokenizer.result in let s = Next c.args.start in let cut = c.args.cut in
-    let r = run-start i.rules bytes options m c.new-tokenizer.ensures.bytes c.requires.limit (g.met.M.Machine.invariant_kept m (given_by 4 bytes options)) c.args.start c.requires.start (cut ∷ []) c.requires.cut t c.new-tokenizer.ensures.start in
-    let u = c.push_shown.new.tokenizer in let a = c.in_ok-first.first in
-    let q = run-pushed i.rules bytes options m c.args.start (0, 0) cut [] t s r u a c.in_ok-first.ensures in
-    λ _. run-range i.rules bytes options m c.args.start cut (length bytes, 0) [] u a (run-last i.rules bytes options m c.args.start cut [] u a q)
-
-pub push_shown-requires-2-clause-holds : goal.push_shown-requires-2-clause-holds
-push_shown-requires-2-clause-holds g c =
-    let i = g.M.Machine in
-    let bytes = c.args.parse_state.now.bytes.now in let options = c.args.parse_state.now.options.now in let m = c.args.parse_state.now.machine.now in
-    let t = c.new-tokenizer.result in let s = Next c.args.start in let cut = c.args.cut in
-    let r = run-start i.rules bytes options m c.new-tokenizer.ensures.bytes c.requires.limit (g.met.M.Machine.invariant_kept m (given_by 4 bytes options)) c.args.start c.requires.start (cut ∷ []) c.requires.cut t c.new-tokenizer.ensures.start in
-    let u = c.push_shown.new.tokenizer in let a = c.in_ok-first.first in
-    let q = run-pushed i.rules bytes options m c.args.start (0, 0) cut [] t s r u a c.in_ok-first.ensures in
-    λ _. run-holds i.rules bytes options m c.args.start cut [] u a q
-
-pub flush-flushed-requires : goal.flush-flushed-requires
-flush-flushed-requires g c =
-    let i = g.M.Machine in
-    let bytes = c.args.parse_state.now.bytes.now in let options = c.args.parse_state.now.options.now in let m = c.args.parse_state.now.machine.now in
-    let t = c.new-tokenizer.result in let s = Next c.args.start in let cut = c.args.cut in
-    let r = run-start i.rules bytes options m c.new-tokenizer.ensures.bytes c.requires.limit (g.met.M.Machine.invariant_kept m (given_by 4 bytes options)) c.args.start c.requires.start (cut ∷ []) c.requires.cut t c.new-tokenizer.ensures.start in
-    let u = c.push_shown.new.tokenizer in let a = c.in_ok-first.first in
-    let q = run-pushed i.rules bytes options m c.args.start (0, 0) cut [] t s r u a c.in_ok-first.ensures in
-    let v = c.push_shown-2.new.tokenizer in let b = c.in_ok-second.second in
-    let w = run-pushed i.rules bytes options m c.args.start cut (length bytes, 0) [] u a (run-last i.rules bytes options m c.args.start cut [] u a q) v b c.in_ok-second.ensures in
-    record { holds = λ _. run-holds i.rules bytes options m c.args.start (length bytes, 0) [] v b w }

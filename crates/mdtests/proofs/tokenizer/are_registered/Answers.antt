@@ -1,7 +1,0 @@
-use Rattle.std.proofs.Common.{refl}
-use Rattle.markdown.specs.Engine.{given_by}
-use Rattle.markdown.proofs.Runs.{start-is-point}
-use Rattle.mdtests.proofs.tokenizer.are_registered.Goals as goal
-
-pub new-tokenizer-requires-clause-place : goal.new-tokenizer-requires-clause-place
-new-tokenizer-requires-clause-place c = start-is-point (given_by 4 c.args.parse_state.now.bytes.now c.args.parse_state.now.options.now) refl
