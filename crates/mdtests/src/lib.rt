@@ -28,6 +28,8 @@ mod messages;
 #[cfg(test)]
 mod names;
 #[cfg(test)]
+mod no_memory;
+#[cfg(test)]
 mod options;
 #[cfg(test)]
 mod owned_values;
