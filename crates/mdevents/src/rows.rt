@@ -1,24 +1,72 @@
 //! The machines, over documents that are cut.
 
-use crate::driven::{Pushed, Seen, after_push, calls_of, gives, read_cut};
+ghost use Rattle.std.specs.Prelude.{◌+◌, ◌*◌, ◌^◌, ◌≤◌, ◌<◌, length, Contains};
+ghost use Rattle.mdevents.specs.Program.{document};
+
+use crate::driven::{Pushed, Seen, after_push, gives, read_cut};
 use crate::expected::{ONE_DATA, SHORT_DATA, THREE_DATA, TWO_LINES};
-use markdown::state::Name;
+use markdown::state::{Machine, Name};
+use markdown::tokenizer::cuts_every;
 use mdconstructs::deep::Deep;
 use mdconstructs::lines::Lines;
 use mdconstructs::peek::Peek;
 use mdconstructs::save::Save;
 use std::alloc::{AllocError, Global};
 
-#[test]
-fn nothing_is_one_call(rt: HostRuntime) {
-    let seen = read_cut(rt.alloc(), &Lines {}, Name::FlowStart, b"", &[]);
-    assert!(rt; gives(&seen, 1, b""));
+/// Whether a document, cut at these places, is read in so many calls, and gives these lines.
+fn reads<M: Machine>(
+    alloc: Global,
+    machine: &M,
+    start: Name,
+    bytes: &[u8],
+    cuts: &[(usize, usize)],
+    calls: usize,
+    want: &[u8],
+) -> bool
+    requires limit { 4 * length bytes.now + 1 < 2 ^ 64 }
+    requires start { Contains (M.rules machine.now (document bytes.now)).starts start }
+{
+    let seen = read_cut(alloc, machine, start, bytes, cuts);
+    gives(&seen, calls, want)
 }
 
+/// Of `a\nb`, as the machine of lines reads it.
+const TWO_SHORT_LINES: &[u8] =
+    b"enter Paragraph 1:1 (0+0)\nenter Data 1:1 (0+0)\nexit Data 1:2 (1+0)\nexit Paragraph 1:2 (1+0)\nenter LineEnding 1:2 (1+0)\nexit LineEnding 2:1 (2+0)\nenter Paragraph 2:1 (2+0)\nenter Data 2:1 (2+0)\nexit Data 2:2 (3+0)\nexit Paragraph 2:2 (3+0)\n";
+
+/// Nothing is read in one call. Two cuts are at the one byte of a CR LF.
 #[test]
-fn calls_are_counted(rt: HostRuntime) {
-    let seen = read_cut(rt.alloc(), &Lines {}, Name::FlowStart, b"a\nb", &[]);
-    assert_eq!(rt; calls_of(&seen), 7);
+fn lines_are_read_in_so_many_calls(rt: HostRuntime) {
+    let lines = Lines {};
+    let start = Name::FlowStart;
+    let alloc = rt.alloc();
+    assert!(rt; reads(alloc, &lines, start, b"", &[], 1, b""));
+    assert!(rt; reads(alloc, &lines, start, b"a\nb", &[], 7, TWO_SHORT_LINES));
+    let cuts = [(1, 0), (2, 0)];
+    assert!(rt; reads(alloc, &lines, start, b"a\r\nb", &cuts, 7, TWO_LINES));
+}
+
+/// A look ahead goes back, also over nothing; attempts go back; a place is saved at the end.
+#[test]
+fn choices_take_so_many_calls(rt: HostRuntime) {
+    let start = Name::TextStart;
+    let alloc = rt.alloc();
+    let cuts = [(2, 0), (4, 0)];
+    assert!(rt; reads(alloc, &Peek {}, start, b"a\nb\nc", &cuts, 18, THREE_DATA));
+    assert!(rt; reads(alloc, &Peek {}, start, b"", &[], 3, b""));
+    let cuts = [(1, 0)];
+    assert!(rt;
+        reads(
+            alloc,
+            &Deep {},
+            Name::StringStart,
+            b"ab",
+            &cuts,
+            9,
+            SHORT_DATA
+        )
+    );
+    assert!(rt; reads(alloc, &Save {}, start, b"a\n", &cuts, 4, b""));
 }
 
 /// The bytes before, after each push.
@@ -58,27 +106,6 @@ fn byte_before_is_of_the_push_before(rt: HostRuntime) -> Result<(), AllocError> 
     Ok(())
 }
 
-/// Two cuts at the one byte of a CR LF.
-#[test]
-fn range_is_empty_within_a_line_ending(rt: HostRuntime) {
-    let cuts = [(1, 0), (2, 0)];
-    let seen = read_cut(rt.alloc(), &Lines {}, Name::FlowStart, b"a\r\nb", &cuts);
-    assert!(rt; gives(&seen, 7, TWO_LINES));
-}
-
-#[test]
-fn look_ahead_goes_back(rt: HostRuntime) {
-    let cuts = [(2, 0), (4, 0)];
-    let seen = read_cut(rt.alloc(), &Peek {}, Name::TextStart, b"a\nb\nc", &cuts);
-    assert!(rt; gives(&seen, 18, THREE_DATA));
-}
-
-#[test]
-fn look_ahead_over_nothing(rt: HostRuntime) {
-    let seen = read_cut(rt.alloc(), &Peek {}, Name::TextStart, b"", &[]);
-    assert!(rt; gives(&seen, 3, b""));
-}
-
 #[test]
 fn attempts_go_back_one_by_one(rt: HostRuntime) {
     let cuts = [(1, 0), (2, 0)];
@@ -92,16 +119,21 @@ fn attempts_go_back_one_by_one(rt: HostRuntime) {
     assert!(rt; gives(&seen, 14, ONE_DATA));
 }
 
-#[test]
-fn two_attempts_go_back(rt: HostRuntime) {
-    let cuts = [(1, 0)];
-    let seen = read_cut(rt.alloc(), &Deep {}, Name::StringStart, b"ab", &cuts);
-    assert!(rt; gives(&seen, 9, SHORT_DATA));
+/// What is seen where the machine that makes an attempt at each byte reads a document, cut after each so many virtual bytes.
+fn attempts(alloc: Global, bytes: &[u8], cut: usize) -> Option<Seen>
+    requires limit { 4 * length bytes.now + 1 < 2 ^ 64 }
+    requires cut { 1 ≤ cut }
+{
+    let cuts = cuts_every(alloc, bytes, cut).ok()?;
+    read_cut(alloc, &Deep {}, Name::StringStart, bytes, cuts.as_slice())
 }
 
 #[test]
-fn place_is_saved_at_the_end(rt: HostRuntime) {
-    let cuts = [(1, 0)];
-    let seen = read_cut(rt.alloc(), &Save {}, Name::TextStart, b"a\n", &cuts);
-    assert!(rt; gives(&seen, 4, b""));
+fn attempts_may_be_many(rt: HostRuntime) {
+    for cut in [1, 64] {
+        assert!(rt; cut > 0);
+        let seen = attempts(rt.alloc(), &[b'a'; 64], cut);
+        let want = b"enter Data 1:1 (0+0)\nexit Data 1:65 (64+0)\n";
+        assert!(rt; gives(&seen, 2210, want), "cut after each {cut}");
+    }
 }
