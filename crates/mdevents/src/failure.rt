@@ -68,11 +68,6 @@ mod tests {
         assert!(rt; shows(rt.alloc(), Failure::Write, "cannot write output")?);
         assert!(rt; shows(rt.alloc(), Failure::TooLong, "input too long")?);
         assert!(rt; shows(rt.alloc(), Failure::NotReady, "events are not ready")?);
-        Ok(())
-    }
-
-    #[test]
-    fn shows_a_message(rt: HostRuntime) -> Result<(), AllocError> {
         let refused = Failure::Message(message(rt.alloc())?);
         assert!(rt; shows(rt.alloc(), refused, "1:2: x (markdown:r)")?);
         Ok(())

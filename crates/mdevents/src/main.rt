@@ -255,32 +255,23 @@ mod tests {
         })
     }
 
-    const DONE: [(&[u8], &[u8]); 5] = [
-        (b"mdevents", PARAGRAPH),
-        (b"mdevents --machine deep", SHORT_DATA),
-        (b"mdevents --machine deep --cut 1", SHORT_DATA),
-        (b"mdevents --cut 1 --machine save", b""),
-        (b"mdevents --machine paragraphs --deep", PARAGRAPH),
+    /// Words, the status, what is written, and what is shown on standard error.
+    const DONE: [(&[u8], u8, &[u8], &[u8]); 9] = [
+        (b"mdevents", 0, PARAGRAPH, b""),
+        (b"mdevents --machine deep", 0, SHORT_DATA, b""),
+        (b"mdevents --machine deep --cut 1", 0, SHORT_DATA, b""),
+        (b"mdevents --cut 1 --machine save", 0, b"", b""),
+        (b"mdevents --machine paragraphs --deep", 0, PARAGRAPH, b""),
+        (b"mdevents --machine forth", 2, b"", USAGE_SHOWN),
+        (b"mdevents --cut 0", 2, b"", USAGE_SHOWN),
+        (b"mdevents --machine lines --deep", 2, b"", USAGE_SHOWN),
+        (b"mdevents \xff", 2, b"", USAGE_SHOWN),
     ];
 
     #[test]
     fn does_what_the_words_choose(rt: HostRuntime) {
-        for (words, written) in DONE {
-            assert!(rt; does(rt.alloc(), words, 0, written, b""));
-        }
-    }
-
-    const ANSWERED_BY_USAGE: [&[u8]; 4] = [
-        b"mdevents --machine forth",
-        b"mdevents --cut 0",
-        b"mdevents --machine lines --deep",
-        b"mdevents \xff",
-    ];
-
-    #[test]
-    fn shows_how_to_call_it(rt: HostRuntime) {
-        for words in ANSWERED_BY_USAGE {
-            assert!(rt; does(rt.alloc(), words, 2, b"", USAGE_SHOWN));
+        for (words, status, written, shown) in DONE {
+            assert!(rt; does(rt.alloc(), words, status, written, shown));
         }
     }
 
@@ -309,10 +300,14 @@ mod tests {
 
     #[test]
     fn shows_what_failed(rt: HostRuntime) {
-        assert!(rt; fails(rt.alloc(), 0, 99, NOT_READ));
-        assert!(rt; fails(rt.alloc(), 1, 0, NOT_READ));
-        assert!(rt; fails(rt.alloc(), 99, 0, NOT_WRITTEN));
-        assert!(rt; fails(rt.alloc(), 99, 99, WELL));
+        for (good_reads, good_writes, want) in [
+            (0, 99, NOT_READ),
+            (1, 0, NOT_READ),
+            (99, 0, NOT_WRITTEN),
+            (99, 99, WELL),
+        ] {
+            assert!(rt; fails(rt.alloc(), good_reads, good_writes, want));
+        }
     }
 
     /// Whether a failure to get the words is shown as this line, and nothing is read or written.

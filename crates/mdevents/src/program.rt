@@ -243,45 +243,36 @@ mod tests {
             && writes_as(alloc, document, &by_two, want)
     }
 
-    const WRITTEN: [(&[u8], Which, &[u8]); 16] = [
-        (b"a\r\nb", Which::Lines, TWO_LINES),
-        (b"", Which::Lines, b""),
-        (b"\ta", Which::Lines, AFTER_TAB),
-        (b"a\nb\nc", Which::Peek, THREE_DATA),
-        (b"ab", Which::Peek, SHORT_DATA),
-        (b"", Which::Peek, b""),
-        (b"abc", Which::Deep, ONE_DATA),
-        (b"ab", Which::Deep, SHORT_DATA),
-        (b"", Which::Deep, b""),
-        (b"a\nb\nc", Which::Back, FIRST_AND_REST),
-        (b"ab", Which::Back, SHORT_DATA),
-        (b"", Which::Back, b""),
-        (b"a\n> b", Which::Save, SECOND_LINE),
-        (b"a\n", Which::Save, b""),
-        (b"ab", Which::Save, b""),
-        (b"", Which::Save, b""),
+    /// A document, the machine that reads it, whether its chunks are read too, and what is written.
+    const WRITTEN: [(&[u8], Which, bool, &[u8]); 22] = [
+        (b"a\r\nb", Which::Lines, false, TWO_LINES),
+        (b"", Which::Lines, false, b""),
+        (b"\ta", Which::Lines, false, AFTER_TAB),
+        (b"a\nb\nc", Which::Peek, false, THREE_DATA),
+        (b"ab", Which::Peek, false, SHORT_DATA),
+        (b"", Which::Peek, false, b""),
+        (b"abc", Which::Deep, false, ONE_DATA),
+        (b"ab", Which::Deep, false, SHORT_DATA),
+        (b"", Which::Deep, false, b""),
+        (b"a\nb\nc", Which::Back, false, FIRST_AND_REST),
+        (b"ab", Which::Back, false, SHORT_DATA),
+        (b"", Which::Back, false, b""),
+        (b"a\n> b", Which::Save, false, SECOND_LINE),
+        (b"a\n", Which::Save, false, b""),
+        (b"ab", Which::Save, false, b""),
+        (b"", Which::Save, false, b""),
+        (b">a\n>b", Which::Paragraphs, false, TWO_CHUNKS),
+        (b">a\n>b", Which::Paragraphs, true, TWO_LINES_OF_TEXT),
+        (b">a\r\n>b", Which::Paragraphs, true, TWO_LINES_WITH_CRLF),
+        (b"\na\n\nb", Which::Paragraphs, false, TWO_PARAGRAPHS),
+        (b"\na\n\nb", Which::Paragraphs, true, TWO_PARAGRAPHS_OF_TEXT),
+        (b"", Which::Paragraphs, true, b""),
     ];
 
     #[test]
     fn writes_the_events(rt: HostRuntime) {
-        for (document, machine, want) in WRITTEN {
-            assert!(rt; writes(rt.alloc(), document, machine, false, want));
-        }
-    }
-
-    const OF_PARAGRAPHS: [(&[u8], bool, &[u8]); 6] = [
-        (b">a\n>b", false, TWO_CHUNKS),
-        (b">a\n>b", true, TWO_LINES_OF_TEXT),
-        (b">a\r\n>b", true, TWO_LINES_WITH_CRLF),
-        (b"\na\n\nb", false, TWO_PARAGRAPHS),
-        (b"\na\n\nb", true, TWO_PARAGRAPHS_OF_TEXT),
-        (b"", true, b""),
-    ];
-
-    #[test]
-    fn writes_paragraphs(rt: HostRuntime) {
-        for (document, deep, want) in OF_PARAGRAPHS {
-            assert!(rt; writes(rt.alloc(), document, Which::Paragraphs, deep, want));
+        for (document, machine, deep, want) in WRITTEN {
+            assert!(rt; writes(rt.alloc(), document, machine, deep, want));
         }
     }
 
@@ -299,24 +290,21 @@ mod tests {
         Ok(writes(alloc, bytes.as_slice(), machine, false, want))
     }
 
-    #[test]
-    fn writes_the_events_of_a_long_line(rt: HostRuntime) -> Result<(), AllocError> {
-        assert!(rt; writes_long(rt.alloc(), b'a', 100_000, Which::Lines, LONG_PARAGRAPH)?);
-        assert!(rt; writes_long(rt.alloc(), b'a', 100_000, Which::Peek, LONG_DATA)?);
-        Ok(())
-    }
+    /// The first byte of a document, how many bytes it has, the machine that reads it, and what is written.
+    const LONG: [(u8, usize, Which, &[u8]); 6] = [
+        (b'a', 100_000, Which::Lines, LONG_PARAGRAPH),
+        (b'a', 100_000, Which::Peek, LONG_DATA),
+        (b'a', 2000, Which::Deep, DEEP_DATA),
+        (b'a', 100_000, Which::Back, LONG_DATA),
+        (b'a', 100_000, Which::Save, b""),
+        (b'\n', 100_000, Which::Save, LONG_SECOND_LINE),
+    ];
 
     #[test]
-    fn writes_the_events_of_many_attempts(rt: HostRuntime) -> Result<(), AllocError> {
-        assert!(rt; writes_long(rt.alloc(), b'a', 2000, Which::Deep, DEEP_DATA)?);
-        Ok(())
-    }
-
-    #[test]
-    fn writes_the_events_after_a_long_choice(rt: HostRuntime) -> Result<(), AllocError> {
-        assert!(rt; writes_long(rt.alloc(), b'a', 100_000, Which::Back, LONG_DATA)?);
-        assert!(rt; writes_long(rt.alloc(), b'a', 100_000, Which::Save, b"")?);
-        assert!(rt; writes_long(rt.alloc(), b'\n', 100_000, Which::Save, LONG_SECOND_LINE)?);
+    fn writes_the_events_of_long_documents(rt: HostRuntime) -> Result<(), AllocError> {
+        for (first, count, machine, want) in LONG {
+            assert!(rt; writes_long(rt.alloc(), first, count, machine, want)?);
+        }
         Ok(())
     }
 

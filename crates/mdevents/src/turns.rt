@@ -33,8 +33,9 @@ fn reads_of_a_run(alloc: Global, fault: Fault) -> Option<usize> {
 /// Four bytes, one a read, and the end.
 #[test]
 fn each_read_fails_in_turn(rt: HostRuntime) {
-    assert_eq!(rt; reads_of_a_run(rt.alloc(), Fault::ErrorOnce), Some(5));
-    assert_eq!(rt; reads_of_a_run(rt.alloc(), Fault::ErrorFromThenOn), Some(5));
+    for fault in [Fault::ErrorOnce, Fault::ErrorFromThenOn] {
+        assert_eq!(rt; reads_of_a_run(rt.alloc(), fault), Some(5));
+    }
 }
 
 /// Fails the write after each number of good ones, of a byte each, until a run ends well: how many good writes that takes.
@@ -64,10 +65,14 @@ fn beginning(count: usize) -> &'static [u8] {
 #[test]
 fn each_write_fails_in_turn(rt: HostRuntime) {
     let all = Some(TWO_LINES.len());
-    assert_eq!(rt; writes_of_a_run(rt.alloc(), Fault::ErrorOnce), all);
-    assert_eq!(rt; writes_of_a_run(rt.alloc(), Fault::ErrorFromThenOn), all);
-    assert_eq!(rt; writes_of_a_run(rt.alloc(), Fault::NothingOnce), all);
-    assert_eq!(rt; writes_of_a_run(rt.alloc(), Fault::NothingFromThenOn), all);
+    for fault in [
+        Fault::ErrorOnce,
+        Fault::ErrorFromThenOn,
+        Fault::NothingOnce,
+        Fault::NothingFromThenOn,
+    ] {
+        assert_eq!(rt; writes_of_a_run(rt.alloc(), fault), all);
+    }
 }
 
 /// Whether a document, cut after each so many virtual bytes and looked at as a whole first, is written as these lines.
