@@ -178,8 +178,6 @@ pub enum Fault {
 /// read, the events and what else states share.
 #[derive(Drop)]
 pub struct Tokenizer<'a, M: MachineTypes> {
-    /// What states share.
-    pub tokenize_state: TokenizeState<M::Document>,
     /// Whether this may interrupt something.
     pub interrupt: bool,
     /// Whether what is read cannot be interrupted.
@@ -190,8 +188,6 @@ pub struct Tokenizer<'a, M: MachineTypes> {
     pub lazy: bool,
     /// Edits of the events, which wait until they are consumed.
     pub map: EditMap,
-    /// The document, the options and the machine.
-    parse_state: &'a ParseState<'a, M>,
     /// Where the text starts.
     start: Point,
     /// Where the text ends: byte index and number in a tab.
@@ -222,6 +218,10 @@ pub struct Tokenizer<'a, M: MachineTypes> {
     phase: Phase,
     /// How many states were called, which contracts alone see.
     calls: Calls,
+    /// The document, the options and the machine.
+    parse_state: &'a ParseState<'a, M>,
+    /// What states share.
+    pub tokenize_state: TokenizeState<M::Document>,
 }
 
 impl<'a, M: MachineTypes> Model for Tokenizer<'a, M> {
