@@ -59,6 +59,26 @@ fn push_moved(
     Ok(())
 }
 
+/// Appends the events after the edits: what stays between them, and what they add.
+fn push_spliced(
+    out: &mut Vec<Event>,
+    shifts: &[Shift],
+    edits: &BTreeMap<usize, Replacement>,
+    events: &[Event],
+) -> Result<(), AllocError>
+    requires ends { All (EndsFit shifts.now) events.now }
+    requires disjoint { AreDisjoint 0 (edits_of edits.now.entries) (length events.now) }
+    ensures { OnOk result (out.new.items ≡ out.old.items ++ spliced (place_by shifts.now 0 0) (edits_of edits.now.entries) 0 events.now) }
+{
+    let mut from = 0;
+    for (at, edit) in edits {
+        push_moved(out, shifts, events, from, *at)?;
+        out.extend_from_slice(&edit.additions)?;
+        from = *at + edit.remove;
+    }
+    push_moved(out, shifts, events, from, events.len())
+}
+
 /// The events after the edits.
 ///
 /// The end of the list comes to stand where the new list ends: so many events there will be.
@@ -74,12 +94,6 @@ pub(crate) fn spliced_events(
     let shifts = shifts_of(alloc, edits, events.len())?;
     let total = place_after(&shifts, events.len()).unwrap_or(events.len());
     let mut out = Vec::with_capacity(alloc, total)?;
-    let mut from = 0;
-    for (at, edit) in edits {
-        push_moved(&mut out, &shifts, events, from, *at)?;
-        out.extend_from_slice(&edit.additions)?;
-        from = *at + edit.remove;
-    }
-    push_moved(&mut out, &shifts, events, from, events.len())?;
+    push_spliced(&mut out, &shifts, edits, events)?;
     Ok(out)
 }

@@ -1,26 +1,7 @@
-use Rattle.std.proofs.Common.{arith, length}
-use Rattle.std.specs.Map.Iter.{deref_pair}
-use Rattle.std.proofs.lemmas.Map.Iter.{rest_more}
+use Rattle.std.proofs.Common.{length}
 use Rattle.markdown.proofs.EditShifts.{EndsFit-all}
-use Rattle.markdown.proofs.EditTurns.{disjoint_next}
 use Rattle.markdown.proofs.util.splice.spliced_events.Goals as goal
 
-pub push_moved-requires-clause-ends : goal.push_moved-requires-clause-ends
-push_moved-requires-clause-ends c =
-    rw c.deref-in-loop-at.ensures.value (EndsFit-all c.in_ok-shifts.shifts.items (length c.args.events.now) c.args.events.now c.in_ok-shifts.ensures.fits c.requires.links)
-
-pub push_moved-requires-clause-within : goal.push_moved-requires-clause-within
-push_moved-requires-clause-within c =
-    let turn = rest_more deref_pair c.loop-at.at-iterator c.next.new.self c.next.result (c.in-Some.at, c.in-Some.edit) c.in-Some.is c.next.ensures.steps in
-    let next = disjoint_next c.loop-at.at-iterator c.next.new.self (c.in-Some.at.now, c.in-Some.edit.now) c.loop-at.from (length c.args.events.now) turn c.loop-at.invariant.rest in
-    omega (arith, next.ends)
-
-pub overflow_add-from : goal.overflow_add-from
-overflow_add-from c =
-    let turn = rest_more deref_pair c.loop-at.at-iterator c.next.new.self c.next.result (c.in-Some.at, c.in-Some.edit) c.in-Some.is c.next.ensures.steps in
-    let next = disjoint_next c.loop-at.at-iterator c.next.new.self (c.in-Some.at.now, c.in-Some.edit.now) c.loop-at.from (length c.args.events.now) turn c.loop-at.invariant.rest in
-    omega (arith, next.ends)
-
-pub push_moved-requires-2-clause-ends : goal.push_moved-requires-2-clause-ends
-push_moved-requires-2-clause-ends c =
+pub push_spliced-requires-clause-ends : goal.push_spliced-requires-clause-ends
+push_spliced-requires-clause-ends c =
     rw c.deref-2.ensures.value (EndsFit-all c.in_ok-shifts.shifts.items (length c.args.events.now) c.args.events.now c.in_ok-shifts.ensures.fits c.requires.links)
