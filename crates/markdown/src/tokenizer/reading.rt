@@ -10,6 +10,7 @@ use crate::parser::ParseState;
 use crate::state::MachineTypes;
 use crate::waiting::{Phase, Waits};
 use markdown_base::event::{Event, Name, Point};
+use std::mem::replace;
 
 impl<'a, M: MachineTypes> Tokenizer<'a, M> {
     /// The events so far.
@@ -82,30 +83,20 @@ impl<'a, M: MachineTypes> Tokenizer<'a, M> {
     pub fn into_events(self) -> Vec<Event>
         ensures { result.items ≡ self.entry.configuration.events }
     {
-        let Tokenizer {
-            tokenize_state: _,
-            interrupt: _,
-            concrete: _,
-            pierce: _,
-            lazy: _,
-            map: _,
-            parse_state: _,
-            start: _,
-            end: _,
-            skips: _,
-            after_previous: _,
-            waits: _,
-            ended: _,
-            previous: _,
-            current: _,
-            events,
-            stack: _,
-            resolvers: _,
-            kept_choices: _,
-            closed: _,
-            phase: _,
-            calls: _,
-        } = self;
+        let mut tokenizer = self;
+        let events = tokenizer.take_events();
+        // As a whole and by a call: taken apart, each of its fields is followed through the proof.
+        drop(tokenizer);
         events
+    }
+
+    /// The events are taken out: a tokenizer is left that has none, and so neither open spans nor choices. Takes no memory.
+    fn take_events(&mut self) -> Vec<Event>
+        ensures { result.items ≡ self.old.configuration.events }
+    {
+        let none = Vec::new(self.allocator());
+        self.stack.clear();
+        self.kept_choices.clear();
+        replace(&mut self.events, none)
     }
 }
