@@ -218,6 +218,7 @@ pub struct Tokenizer<'a, M: MachineTypes> {
     phase: Phase,
     /// How many states were called, which contracts alone see.
     calls: Calls,
+    // The longest types stand last: where a proof speaks of a field that is lent, it spells out those in front of it.
     /// The document, the options and the machine.
     parse_state: &'a ParseState<'a, M>,
     /// What states share.
@@ -400,8 +401,9 @@ impl<'a, M: MachineTypes> Tokenizer<'a, M> {
         ensures ok { OnOk result (self.new ≡ at_configuration self.old (entered name link (sight_seen self.old).here self.old.configuration)) }
         ensures err { OnErr result (self.new ≡ self.old) }
     {
-        let place = standing(&self.skips, self.after_previous, self.waits);
-        let point = shown(self.parse_state.bytes, place);
+        let bytes = self.parse_state.bytes;
+        let place = standing(self.after_previous, self.waits, &self.skips);
+        let point = shown(bytes, place);
         let open_len = self.stack.len();
         self.stack.push(name)?;
         let event = Event {
@@ -541,8 +543,11 @@ impl<'a, M: MachineTypes> Tokenizer<'a, M> {
         ensures same { OnFalse result (self.new ≡ self.old) }
         ensures end { OnFalse result (length self.old.text.seats ≤ self.old.configuration.position) }
     {
-        let place = resumed(&self.skips, &self.after_previous);
-        match next_byte(self.parse_state.bytes, *place, self.end) {
+        let bytes = self.parse_state.bytes;
+        let end = self.end;
+        let after_previous = self.after_previous;
+        let place = resumed(&self.skips, &after_previous);
+        match next_byte(bytes, *place, end) {
             None => false,
             Some(byte) => {
                 self.current = Some(byte);
@@ -597,8 +602,10 @@ impl<'a, M: MachineTypes> Tokenizer<'a, M> {
             GoesOn::Ok => return Err(GoesOn::Ok),
             GoesOn::Nok => return Err(GoesOn::Nok),
         };
-        let again = resumed(&self.skips, &self.after_previous);
-        match next_byte(self.parse_state.bytes, *again, self.end) {
+        let bytes = self.parse_state.bytes;
+        let end = self.end;
+        let again = resumed(&self.skips, &from.after_previous);
+        match next_byte(bytes, *again, end) {
             Some(byte) => {
                 self.current = Some(byte);
                 self.waits = Waits::Byte;

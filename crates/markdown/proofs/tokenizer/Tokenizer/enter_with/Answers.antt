@@ -45,3 +45,10 @@ returns-in-Ok-clause-ok g c =
     let choices = entered-choices t sound c.args.name c.args.link c.shown-point.result (entered-here t _ _ _ refl c.standing-place.ensures c.shown-point.ensures) c.push-2.new.self.items c.push.new.self.items events stack in
     let at = entered-at t sound c.args.name c.args.link c.shown-point.result (entered-here t _ _ _ refl c.standing-place.ensures c.shown-point.ensures) c.push-2.new.self.items c.push.new.self.items events stack in
     rw (← c.self.view_is) (rw (choices, events, stack, at) refl)
+
+pub returns-in-Err-clause-err : goal.returns-in-Err-clause-err
+returns-in-Err-clause-err g c =
+    let t = c.self.inside in
+    let events = c.in-Err.ensures.items in
+    let stack = c.truncate.ensures.items ∙ ap (λ (xs : List Name). take c.len-open_len.result xs) c.in_ok-push.ensures.items ∙ take-pushed t.stack.items c.args.name c.len-open_len.result (c.len-open_len.ensures ∙ t.stack.ok.0) in
+    rw (← c.self.view_is) (rw (events, stack) refl)
