@@ -20,6 +20,7 @@ use crate::subtokenize::{Subresult, joined};
 use crate::tokenizer::{Fault, Tokenizer};
 use markdown_base::event::{Event, Point};
 use std::alloc::{AllocError, Global};
+use std::mem::replace;
 
 /// A lawful machine reads each text in one way, within its cost.
 pub fn reads_in_one_way<M: Machine>()
@@ -53,8 +54,9 @@ pub fn run<M: Machine>(
         vs: 0,
     };
     let mut tokenizer = Tokenizer::new(alloc, point, parse_state);
-    let sub = read_cut(&mut tokenizer, parse_state, start, cuts, resolve)?;
-    Ok((tokenizer.into_events(), sub))
+    let sub = read_cut(&mut tokenizer, parse_state, start, cuts, resolve);
+    let events = tokenizer.into_events();
+    Ok((events, sub?))
 }
 
 /// A tokenizer that has read nothing pushes one range up to each cut, and one up to the end, and flushes.
@@ -112,7 +114,7 @@ impl<'a, M: Machine> Tokenizer<'a, M> {
         match self.go_on(flush, ok) {
             Ok(name) => Some(name),
             Err(end) => {
-                *state = end.state();
+                drop(replace(state, end.state()));
                 None
             }
         }
@@ -144,6 +146,8 @@ impl<'a, M: Machine> Tokenizer<'a, M> {
             Some(name) => name,
             None => return Ok(state),
         };
+        // By a call, here and below: dropped in place, its fields are spelled out in the proof at each way out.
+        drop(state);
         loop {
             self.shows_in_text();
             let mut answer = self.call_state(name)?;
@@ -151,6 +155,7 @@ impl<'a, M: Machine> Tokenizer<'a, M> {
                 Some(name) => name,
                 None => return Ok(answer),
             };
+            drop(answer);
         }
     }
 
@@ -226,6 +231,7 @@ impl<'a, M: Machine> Tokenizer<'a, M> {
         ensures err { self.old.closed ≡ false → IfErr result (λ fault. (fault ≡ Fault.Memory) × (self.new.closed ≡ true)) }
     {
         if self.is_closed() {
+            drop(state);
             return Err(Fault::Failed);
         }
         self.shows_in_text();
@@ -258,6 +264,7 @@ impl<'a, M: Machine> Tokenizer<'a, M> {
         ensures err { self.old.closed ≡ false → IfErr result (λ fault. fault ≢ Fault.Failed) }
     {
         if self.is_closed() {
+            drop(state);
             return Err(Fault::Failed);
         }
         self.shows_in_text();

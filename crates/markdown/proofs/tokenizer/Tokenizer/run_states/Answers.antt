@@ -39,8 +39,8 @@ pub returns-in-None-clause-stops : goal.returns-in-None-clause-stops
 returns-in-None-clause-stops g c =
     stops-at c.args.flush c.args.self.now c.next_call.new.self c.args.state c.next_call.new.state c.in-None.ensures
 
-pub loop-state-init : goal.loop-state-init
-loop-state-init g c =
+pub loop-answer-init : goal.loop-answer-init
+loop-answer-init g c =
     let i = g.M.Machine in let f = c.args.flush in let t = c.args.self.now in let a = c.args.state in let is = c.requires.text in
     let k = kept-first i.rules (laws_of g) f t a c.requires.waits c.requires.holds in
     kept-next i.rules (laws_of g) f t t c.next_call.new.self a a c.in-Some.name is k c.in-Some.ensures
@@ -48,78 +48,64 @@ loop-state-init g c =
 pub call_state-requires-clause-waits : goal.call_state-requires-clause-waits
 call_state-requires-clause-waits g c =
     let i = g.M.Machine in let f = c.args.flush in let t = c.args.self.now in let a = c.args.state in let is = c.requires.text in
-    let u = c.loop-state.self in
-    let now = holds-there i.rules (laws_of g) f t u a (Retry c.loop-state.name) c.loop-state.invariant in
-    (g.met.M.Machine.invariant_kept u.machine u.given).waits u.text u.configuration u.choices c.loop-state.name c.shows_in_text.ensures.text now
+    let u = c.loop-answer.self in
+    let now = holds-there i.rules (laws_of g) f t u a (Retry c.loop-answer.name) c.loop-answer.invariant in
+    (g.met.M.Machine.invariant_kept u.machine u.given).waits u.text u.configuration u.choices c.loop-answer.name c.shows_in_text.ensures.text now
 
 pub call_state-requires-clause-holds : goal.call_state-requires-clause-holds
 call_state-requires-clause-holds g c =
     let i = g.M.Machine in let f = c.args.flush in let t = c.args.self.now in let a = c.args.state in let is = c.requires.text in
-    holds-there i.rules (laws_of g) f t c.loop-state.self a (Retry c.loop-state.name) c.loop-state.invariant
+    holds-there i.rules (laws_of g) f t c.loop-answer.self a (Retry c.loop-answer.name) c.loop-answer.invariant
 
-pub next_call-requires-in-loop-state-clause-closed : goal.next_call-requires-in-loop-state-clause-closed
-next_call-requires-in-loop-state-clause-closed g c =
+pub next_call-requires-in-loop-answer-clause-closed : goal.next_call-requires-in-loop-answer-clause-closed
+next_call-requires-in-loop-answer-clause-closed g c =
     let i = g.M.Machine in let f = c.args.flush in let t = c.args.self.now in let a = c.args.state in let is = c.requires.text in
-    let u = c.loop-state.self in let v = c.call_state.new.self in let s = c.in_ok-answer.answer in
-    let k = kept-call i.rules (laws_of g) f t u v a s c.loop-state.name is c.shows_in_text.ensures c.in_ok-answer.ensures c.loop-state.invariant in
+    let u = c.loop-answer.self in let v = c.call_state.new.self in let s = c.in_ok-answer.answer in
+    let k = kept-call i.rules (laws_of g) f t u v a s c.loop-answer.name is c.shows_in_text.ensures c.in_ok-answer.ensures c.loop-answer.invariant in
     k.same.closed ∙ c.requires.closed
 
-pub next_call-requires-in-loop-state-clause-ends : goal.next_call-requires-in-loop-state-clause-ends
-next_call-requires-in-loop-state-clause-ends g c =
+pub next_call-requires-in-loop-answer-clause-ends : goal.next_call-requires-in-loop-answer-clause-ends
+next_call-requires-in-loop-answer-clause-ends g c =
     let i = g.M.Machine in let f = c.args.flush in let t = c.args.self.now in let a = c.args.state in let is = c.requires.text in
-    let u = c.loop-state.self in let v = c.call_state.new.self in let s = c.in_ok-answer.answer in
-    let k = kept-call i.rules (laws_of g) f t u v a s c.loop-state.name is c.shows_in_text.ensures c.in_ok-answer.ensures c.loop-state.invariant in
+    let u = c.loop-answer.self in let v = c.call_state.new.self in let s = c.in_ok-answer.answer in
+    let k = kept-call i.rules (laws_of g) f t u v a s c.loop-answer.name is c.shows_in_text.ensures c.in_ok-answer.ensures c.loop-answer.invariant in
     closes-there i.rules (laws_of g) f t v a s is k
 
 pub returns-in-None-next_call-clause-same : goal.returns-in-None-next_call-clause-same
 returns-in-None-next_call-clause-same g c =
     let i = g.M.Machine in let f = c.args.flush in let t = c.args.self.now in let a = c.args.state in let is = c.requires.text in
-    let u = c.loop-state.self in let v = c.call_state.new.self in let s = c.in_ok-answer.answer in
-    let k = kept-call i.rules (laws_of g) f t u v a s c.loop-state.name is c.shows_in_text.ensures c.in_ok-answer.ensures c.loop-state.invariant in
-    (kept-last i.rules (laws_of g) f t v c.next_call-in-loop-state.new.self a s c.next_call-in-loop-state.new.state is k c.in-None-next_call.ensures).same
+    let u = c.loop-answer.self in let v = c.call_state.new.self in let s = c.in_ok-answer.answer in
+    let k = kept-call i.rules (laws_of g) f t u v a s c.loop-answer.name is c.shows_in_text.ensures c.in_ok-answer.ensures c.loop-answer.invariant in
+    (kept-last i.rules (laws_of g) f t v c.next_call-in-loop-answer.new.self a s c.next_call-in-loop-answer.new.state is k c.in-None-next_call.ensures).same
 
 pub returns-in-None-next_call-clause-message : goal.returns-in-None-next_call-clause-message
 returns-in-None-next_call-clause-message g c =
     let i = g.M.Machine in let f = c.args.flush in let t = c.args.self.now in let a = c.args.state in let is = c.requires.text in
-    let u = c.loop-state.self in let v = c.call_state.new.self in let s = c.in_ok-answer.answer in
-    let k = kept-call i.rules (laws_of g) f t u v a s c.loop-state.name is c.shows_in_text.ensures c.in_ok-answer.ensures c.loop-state.invariant in
-    (kept-last i.rules (laws_of g) f t v c.next_call-in-loop-state.new.self a s c.next_call-in-loop-state.new.state is k c.in-None-next_call.ensures).message
+    let u = c.loop-answer.self in let v = c.call_state.new.self in let s = c.in_ok-answer.answer in
+    let k = kept-call i.rules (laws_of g) f t u v a s c.loop-answer.name is c.shows_in_text.ensures c.in_ok-answer.ensures c.loop-answer.invariant in
+    (kept-last i.rules (laws_of g) f t v c.next_call-in-loop-answer.new.self a s c.next_call-in-loop-answer.new.state is k c.in-None-next_call.ensures).message
 
 pub returns-in-None-next_call-clause-leads : goal.returns-in-None-next_call-clause-leads
 returns-in-None-next_call-clause-leads g c =
     let i = g.M.Machine in let f = c.args.flush in let t = c.args.self.now in let a = c.args.state in let is = c.requires.text in
-    let u = c.loop-state.self in let v = c.call_state.new.self in let s = c.in_ok-answer.answer in
-    let k = kept-call i.rules (laws_of g) f t u v a s c.loop-state.name is c.shows_in_text.ensures c.in_ok-answer.ensures c.loop-state.invariant in
-    (kept-last i.rules (laws_of g) f t v c.next_call-in-loop-state.new.self a s c.next_call-in-loop-state.new.state is k c.in-None-next_call.ensures).leads
+    let u = c.loop-answer.self in let v = c.call_state.new.self in let s = c.in_ok-answer.answer in
+    let k = kept-call i.rules (laws_of g) f t u v a s c.loop-answer.name is c.shows_in_text.ensures c.in_ok-answer.ensures c.loop-answer.invariant in
+    (kept-last i.rules (laws_of g) f t v c.next_call-in-loop-answer.new.self a s c.next_call-in-loop-answer.new.state is k c.in-None-next_call.ensures).leads
 
 pub returns-in-None-next_call-clause-stops : goal.returns-in-None-next_call-clause-stops
 returns-in-None-next_call-clause-stops g c =
-    stops-at c.args.flush c.call_state.new.self c.next_call-in-loop-state.new.self c.in_ok-answer.answer c.next_call-in-loop-state.new.state c.in-None-next_call.ensures
+    stops-at c.args.flush c.call_state.new.self c.next_call-in-loop-answer.new.self c.in_ok-answer.answer c.next_call-in-loop-answer.new.state c.in-None-next_call.ensures
 
-pub loop-state-smaller-in-Some-next_call : goal.loop-state-smaller-in-Some-next_call
-loop-state-smaller-in-Some-next_call g c =
+pub loop-answer-smaller : goal.loop-answer-smaller
+loop-answer-smaller g c =
     let i = g.M.Machine in let f = c.args.flush in let t = c.args.self.now in let a = c.args.state in let is = c.requires.text in
-    let u = c.loop-state.self in let v = c.call_state.new.self in let s = c.in_ok-answer.answer in
-    let k = kept-call i.rules (laws_of g) f t u v a s c.loop-state.name is c.shows_in_text.ensures c.in_ok-answer.ensures c.loop-state.invariant in
-    fewer-after_previous i.rules (laws_of g) f t u v c.next_call-in-loop-state.new.self a s c.loop-state.name c.in-Some-next_call.name is k c.in_ok-answer.ensures c.in-Some-next_call.ensures
+    let u = c.loop-answer.self in let v = c.call_state.new.self in let s = c.in_ok-answer.answer in
+    let k = kept-call i.rules (laws_of g) f t u v a s c.loop-answer.name is c.shows_in_text.ensures c.in_ok-answer.ensures c.loop-answer.invariant in
+    fewer-after_previous i.rules (laws_of g) f t u v c.next_call-in-loop-answer.new.self a s c.loop-answer.name c.in-Some-next_call.name is k c.in_ok-answer.ensures c.in-Some-next_call.ensures
 
-pub loop-state-preserved-in-Some-next_call : goal.loop-state-preserved-in-Some-next_call
-loop-state-preserved-in-Some-next_call g c =
+pub loop-answer-preserved : goal.loop-answer-preserved
+loop-answer-preserved g c =
     let i = g.M.Machine in let f = c.args.flush in let t = c.args.self.now in let a = c.args.state in let is = c.requires.text in
-    let u = c.loop-state.self in let v = c.call_state.new.self in let s = c.in_ok-answer.answer in
-    let k = kept-call i.rules (laws_of g) f t u v a s c.loop-state.name is c.shows_in_text.ensures c.in_ok-answer.ensures c.loop-state.invariant in
-    kept-next i.rules (laws_of g) f t v c.next_call-in-loop-state.new.self a s c.in-Some-next_call.name is k c.in-Some-next_call.ensures
-
-pub loop-state-smaller : goal.loop-state-smaller
-loop-state-smaller g c =
-    let i = g.M.Machine in let f = c.args.flush in let t = c.args.self.now in let a = c.args.state in let is = c.requires.text in
-    let u = c.loop-state.self in let v = c.call_state.new.self in let s = c.in_ok-answer.answer in
-    let k = kept-call i.rules (laws_of g) f t u v a s c.loop-state.name is c.shows_in_text.ensures c.in_ok-answer.ensures c.loop-state.invariant in
-    fewer-after_previous i.rules (laws_of g) f t u v c.next_call-in-loop-state.new.self a s c.loop-state.name c.in-Some-next_call.name is k c.in_ok-answer.ensures c.in-Some-next_call.ensures
-
-pub loop-state-preserved : goal.loop-state-preserved
-loop-state-preserved g c =
-    let i = g.M.Machine in let f = c.args.flush in let t = c.args.self.now in let a = c.args.state in let is = c.requires.text in
-    let u = c.loop-state.self in let v = c.call_state.new.self in let s = c.in_ok-answer.answer in
-    let k = kept-call i.rules (laws_of g) f t u v a s c.loop-state.name is c.shows_in_text.ensures c.in_ok-answer.ensures c.loop-state.invariant in
-    kept-next i.rules (laws_of g) f t v c.next_call-in-loop-state.new.self a s c.in-Some-next_call.name is k c.in-Some-next_call.ensures
+    let u = c.loop-answer.self in let v = c.call_state.new.self in let s = c.in_ok-answer.answer in
+    let k = kept-call i.rules (laws_of g) f t u v a s c.loop-answer.name is c.shows_in_text.ensures c.in_ok-answer.ensures c.loop-answer.invariant in
+    kept-next i.rules (laws_of g) f t v c.next_call-in-loop-answer.new.self a s c.in-Some-next_call.name is k c.in-Some-next_call.ensures

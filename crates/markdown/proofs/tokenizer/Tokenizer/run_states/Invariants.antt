@@ -4,12 +4,12 @@ use Rattle.markdown.specs.Engine.{budget}
 use Rattle.markdown.proofs.Working.{KeptBy}
 use Rattle.markdown.proofs.tokenizer.Tokenizer.run_states.Given as goal
 
-abbrev pub invariant-loop-state : goal.invariant-loop-state
-invariant-loop-state g l =
+abbrev pub invariant-loop-answer : goal.invariant-loop-answer
+invariant-loop-answer g l =
     let i = g.M.Machine in
     KeptBy i.rules l.fn.self.machine l.fn.self.given l.flush l.fn.self l.fn.state l.self (Retry l.name)
 
-abbrev pub decreases-loop-state : goal.decreases-loop-state
-decreases-loop-state g l =
+abbrev pub decreases-loop-answer : goal.decreases-loop-answer
+decreases-loop-answer g l =
     let m = l.fn.self.machine in let given = l.fn.self.given in
     budget (g.M.Machine.rules m given) l.fn.self.text l.fn.self l.fn.state - l.self.calls
