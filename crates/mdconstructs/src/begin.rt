@@ -7,8 +7,8 @@ ghost use Rattle.mdconstructs.specs.Tables.{counts};
 use markdown::state::MachineTypes;
 use markdown::tokenizer::Tokenizer;
 
-/// Counts a call.
-pub(crate) fn begin<'a, M: MachineTypes>(t: &mut Tokenizer<'a, M>)
+/// Counts a call, as each state of these machines does first: it ticks, and `size` is one more, if it can be.
+pub fn begin<'a, M: MachineTypes>(t: &mut Tokenizer<'a, M>)
     ensures { t.new ≡ begun counts t.old }
 {
     t.tick();

@@ -2,7 +2,7 @@
 #![tactic(auto)]
 
 pub mod back;
-mod begin;
+pub mod begin;
 pub mod costs;
 pub mod deep;
 pub mod fail;

@@ -1,29 +1,35 @@
 -- The calls of a machine whose table passes the test are paid for.
 use Rattle.std.proofs.Common.{◌≡◌, ℕ, ◌+◌, ◌-◌, ◌<◌, ◌≤◌, ◌&&◌, List, [], ◌∷◌, Bool, true, false, cond, Option, Some, None, length, refl, sym, subst, arith, sum_by}
-use Rattle.std.specs.Prelude.{nat_lt, max, not}
+use Rattle.std.specs.Prelude.{nat_lt, max, not, IfSome}
 use Rattle.std.specs.List.{last_or}
 use Rattle.std.proofs.Math.Nat.{mul-le-mul_left, mul-le-mul_right}
 use Rattle.std.proofs.lemmas.Bool.{leb-true, ltb-true, ltb-false}
+use Rattle.std.proofs.lemmas.Option.{slice_get_past}
 use Rattle.std.proofs.lemmas.List.Sums.{sum_by-cons}
+use Rattle.markdown_base.specs.declared.event.Event.{Event}
 use Rattle.markdown_base.specs.declared.event.Name.{Name as EventName}
 use Rattle.markdown_base.specs.declared.state.Name.{Name}
 use Rattle.markdown_base.specs.declared.state.State.{State}
 use Rattle.markdown_base.specs.declared.state.State.TheVariants.{Next, Retry, Ok, Nok, Error}
+use Rattle.markdown.specs.declared.waiting.Waits.{Waits}
+use Rattle.markdown.specs.declared.waiting.Waits.TheVariants.{Nothing, Byte, End}
 use Rattle.markdown.specs.declared.waiting.AttemptKind.{AttemptKind}
 use Rattle.markdown.specs.declared.waiting.AttemptKind.TheVariants.{Attempt, Check}
-use Rattle.markdown.specs.Text.{Given, Text}
+use Rattle.markdown.specs.Text.{Given, Text, IsText}
 use Rattle.markdown.specs.Configuration.{Configuration, Choice, Saved}
-use Rattle.markdown.specs.Sight.{Sight, sight}
+use Rattle.markdown.specs.Sight.{Sight, sight, current_of}
 use Rattle.markdown.specs.Calls.{consumed, with_local}
 use Rattle.markdown.specs.Reading.{fed, unfed, restored, settled_at}
 use Rattle.markdown.specs.Lawful.{IsAsFar, CostPays}
-use Rattle.mdtables.specs.Rows.{Act, enters, exit, consume, links, write, choose, Rows, row, when, Row, Calls, StateRows, Table, past, choice_at, done, chooses, picked, named}
+use Rattle.mdtables.specs.Rows.{Act, enters, exit, consume, links, write, choose, Rows, row, when, Row, Calls, StateRows, Table, past, class_of, choice_at, done, chooses, picked, named, table_step}
 use Rattle.mdtables.specs.RowTest.{is_void_last, saves, Stage, end_waits, byte_waits, byte_read, Shape, Frame, goes_on, fits_choice, fits_answer, fits_calls, is_some, first_stage, plus, larger, at_stage, calls_le, calls_or, fed_calls, next_calls, choice_calls, chosen_calls, answer_calls, calls_at, is_counted, counts_answer, counts_choice, counts_choices, pays_row, feeds, all_rows, is_called, fits_row}
-use Rattle.mdtables.specs.RowInvariant.{outline, IsSaved, price_by, at_most, IsStateAt, next_price, retry_price, state_price, choice_price, chosen_price, answer_price, row_price, AreWithin, Stands, is_read, PaysRows, ArePaid, table_cost, reserve_of, table_reserve, table_rules, upto, place_at}
+use Rattle.mdtables.specs.RowInvariant.{outline, IsSaved, price_by, at_most, IsStateAt, next_price, retry_price, state_price, choice_price, chosen_price, answer_price, row_price, AreWithin, Stands, is_read, IsFed, behind, class_at, PaysRows, ArePaid, table_holds, table_cost, reserve_of, table_rules, upto, place_at}
 use Rattle.mdtables.specs.RowTest.{fresh_fed}
+use Rattle.mdtables.specs.Late.{falls_on, CanGoBack}
+use Rattle.mdtables.proofs.Misfits.{named-same}
 use Rattle.mdtables.proofs.RowLaws.{both, Waited, reached}
 use Rattle.mdtables.proofs.Texts.{seat-at}
-use Rattle.mdtables.proofs.TableLaws.{IsFit, read-before, picked-passes, of_class, before_class, row_of, left_by, each-call, state-fits}
+use Rattle.mdtables.proofs.TableLaws.{IsFitBy, IsFit, every, read-before, picked-passes, of_class, before_class, row_of, left_by, each-call, state-fits}
 
 -- Calls
 le-most : (c d : Calls) (n : ℕ) → calls_le c d ≡ true → at_most c n ≤ at_most d n
@@ -71,7 +77,7 @@ read-left end_waits n total p left = omega arith
 read-left byte_waits n total p left = omega arith
 read-left byte_read n total p left = omega arith
 
-module _ {W R D : Type 0} (table : Table W R D) (g : Given) where
+module _ {W R D : Type 0} (table : Table W R D) (g : Given) (late : Bool) where
   -- where a state says how many calls are left, it costs those
   counted-next : (o : Option (StateRows W R D)) (text : Text) (p : ℕ) → is_counted table.states o ≡ true → next_price table text p o ≤ at_most (fed_calls table.states o) (length text.seats - p)
   counted-next None text p h = omega arith
@@ -106,32 +112,39 @@ module _ {W R D : Type 0} (table : Table W R D) (g : Given) where
   counted-answer b w Nok text p h = omega arith
   counted-answer b w (Error message) text p h = omega arith
 
-  abbrev IsCounted : Text → ℕ → State → Type 0
-  IsCounted text p a = state_price table text p a ≤ at_most (next_calls table.states a) (length text.seats - p)
+  -- behind a position fewer bytes are left
+  behind-most : (late : Bool) (c : Calls) (total p : ℕ) → at_most c (total - behind late p) ≤ at_most c (total - p)
+  behind-most false c total p = omega arith
+  behind-most true c total p = more-most c (total - (p + 1)) (total - p) (omega arith)
 
-  counted-saved : (kind : AttemptKind) (ok nok : State) (text : Text) (p : ℕ) → saves kind nok ≡ true → IsCounted text p ok → counts_answer table.states nok ≡ true
-      → choice_price table text p kind ok nok ≤ at_most (choice_calls table.states kind ok nok) (length text.seats - p)
+  abbrev IsCountedBehind : Text → ℕ → State → Type 0
+  IsCountedBehind text p a = state_price table text (behind late p) a ≤ at_most (next_calls table.states a) (length text.seats - p)
+
+  counted-saved : (kind : AttemptKind) (ok nok : State) (text : Text) (p : ℕ) → saves kind nok ≡ true → IsCountedBehind text p ok → counts_answer table.states nok ≡ true
+      → choice_price table late text p kind ok nok ≤ at_most (choice_calls table.states kind ok nok) (length text.seats - p)
   counted-saved kind ok nok text p saved h k =
-      rw saved (max-most (state_price table text p ok) (state_price table text p nok) (next_calls table.states ok) (next_calls table.states nok) (length text.seats - p) h (counted-state nok text p k))
+      rw saved (max-most (state_price table text (behind late p) ok) (state_price table text p nok) (next_calls table.states ok) (next_calls table.states nok) (length text.seats - p) h (counted-state nok text p k))
 
-  counted-other : (b : Bool) (kind : AttemptKind) (ok nok : State) (text : Text) (p : ℕ) → saves kind nok ≡ b → state_price table text 0 ok ≡ 0 → IsCounted text p ok → counts_answer table.states nok ≡ true
-      → choice_price table text p kind ok nok ≤ at_most (choice_calls table.states kind ok nok) (length text.seats - p)
+  counted-other : (b : Bool) (kind : AttemptKind) (ok nok : State) (text : Text) (p : ℕ) → saves kind nok ≡ b → state_price table text 0 ok ≡ 0 → IsCountedBehind text p ok → counts_answer table.states nok ≡ true
+      → choice_price table late text p kind ok nok ≤ at_most (choice_calls table.states kind ok nok) (length text.seats - p)
   counted-other true kind ok nok text p is none h k = counted-saved kind ok nok text p is h k
   counted-other false kind ok nok text p is none h k = rw (is, none) (omega arith)
 
   counted-choice : (kind : AttemptKind) (ok nok : State) (text : Text) (p : ℕ) → counts_choice table.states kind ok nok ≡ true
-      → choice_price table text p kind ok nok ≤ at_most (choice_calls table.states kind ok nok) (length text.seats - p)
+      → choice_price table late text p kind ok nok ≤ at_most (choice_calls table.states kind ok nok) (length text.seats - p)
   counted-choice kind (Next name) nok text p h =
       let (saved, rest) = both (saves kind nok) (is_counted table.states (named table.states name) && counts_answer table.states nok) h in
       let (one, other) = both (is_counted table.states (named table.states name)) (counts_answer table.states nok) rest in
-      counted-saved kind (Next name) nok text p saved (counted-next (named table.states name) text p one) other
+      let c = fed_calls table.states (named table.states name) in
+      let there = counted-next (named table.states name) text (behind late p) one in
+      counted-saved kind (Next name) nok text p saved (omega (arith, there, behind-most late c (length text.seats) p)) other
   counted-choice kind (Retry name) nok text p h = counted-other (saves kind nok) kind (Retry name) nok text p refl refl (omega arith) h
   counted-choice kind Ok nok text p h = counted-other (saves kind nok) kind Ok nok text p refl refl (omega arith) h
   counted-choice kind Nok nok text p h = counted-other (saves kind nok) kind Nok nok text p refl refl (omega arith) h
   counted-choice kind (Error message) nok text p h = counted-other (saves kind nok) kind (Error message) nok text p refl refl (omega arith) h
 
   counted-chosen : (acts : List (Act R D)) (st : Stage) (n : ℕ) (text : Text) (p : ℕ) → length text.seats - p ≤ bound st n → counts_choices table.states acts ≡ true
-      → chosen_price table text p acts ≤ at_most (chosen_calls table.states st acts) n
+      → chosen_price table late text p acts ≤ at_most (chosen_calls table.states st acts) n
   counted-chosen [] st n text p left h = omega arith
   counted-chosen (enters name link ∷ acts) st n text p left h = counted-chosen acts st n text p left h
   counted-chosen (exit name ∷ acts) st n text p left h = counted-chosen acts st n text p left h
@@ -152,7 +165,7 @@ module _ {W R D : Type 0} (table : Table W R D) (g : Given) where
 
   -- a row that pays is within the calls of its state
   counted-row : (b w : Option W) (state : StateRows W R D) (r : Row R D) (text : Text) (p : ℕ) → Stands w text p → pays_row table.states b w state r ≡ true
-      → row_price table b w text p r ≤ at_most (calls_at table.states table.states b w (Some state)) (length text.seats - p - 1)
+      → row_price table late b w text p r ≤ at_most (calls_at table.states table.states b w (Some state)) (length text.seats - p - 1)
   counted-row b w state r text p at h =
       let n = length text.seats - p - 1 in
       let (answers, rest) = both (counts_answer table.states r.answer) _ h in
@@ -170,32 +183,32 @@ module _ {W R D : Type 0} (table : Table W R D) (g : Given) where
       )
 
   -- the row that is picked is within what all are
-  one-within : (b w : Option W) (text : Text) (p price : ℕ) (test : Bool) (x y : Row R D) → row_price table b w text p x ≤ price → row_price table b w text p y ≤ price → row_price table b w text p (cond test x y) ≤ price
+  one-within : (b w : Option W) (text : Text) (p price : ℕ) (test : Bool) (x y : Row R D) → row_price table late b w text p x ≤ price → row_price table late b w text p y ≤ price → row_price table late b w text p (cond test x y) ≤ price
   one-within b w text p price true x y h k = h
   one-within b w text p price false x y h k = k
 
-  picked-within : (b w : Option W) (text : Text) (p price : ℕ) (rows : Rows R D) (s : Sight) (k : Configuration R D) → AreWithin table b w text p price rows → row_price table b w text p (picked rows g s k) ≤ price
+  picked-within : (b w : Option W) (text : Text) (p price : ℕ) (rows : Rows R D) (s : Sight) (k : Configuration R D) → AreWithin table late b w text p price rows → row_price table late b w text p (picked rows g s k) ≤ price
   picked-within b w text p price (row acts answer) s k h = h
   picked-within b w text p price (when by one other) s k h =
       one-within b w text p price (by g s k) (picked one g s k) (picked other g s k) (picked-within b w text p price one s k h.0) (picked-within b w text p price other s k h.1)
 
   -- the states of a machine's own cost are paid for
-  found : (x state : StateRows W R D) (b : Bool) (rest : Option (StateRows W R D)) → PaysRows table x x.calls → (rest ≡ Some state → PaysRows table state state.calls) → cond b (Some x) rest ≡ Some state
-      → PaysRows table state state.calls
-  found x state true rest one more is = let e : x ≡ state = cc in subst (λ y. PaysRows table y y.calls) e one
+  found : (x state : StateRows W R D) (b : Bool) (rest : Option (StateRows W R D)) → PaysRows table late x x.calls → (rest ≡ Some state → PaysRows table late state state.calls) → cond b (Some x) rest ≡ Some state
+      → PaysRows table late state state.calls
+  found x state true rest one more is = let e : x ≡ state = cc in subst (λ y. PaysRows table late y y.calls) e one
   found x state false rest one more is = more is
 
-  named-paid : (states : List (StateRows W R D)) (name : Name) (state : StateRows W R D) → ArePaid table states → named states name ≡ Some state → PaysRows table state state.calls
+  named-paid : (states : List (StateRows W R D)) (name : Name) (state : StateRows W R D) → ArePaid table late states → named states name ≡ Some state → PaysRows table late state state.calls
   named-paid [] name state h is = absurd (cc)
   named-paid (x ∷ xs) name state h is = found x state _ (named xs name) h.0 (λ e. named-paid xs name state h.1 e) is
 
   -- a row of a state is within what the state costs
-  row-within : (b w : Option W) (state : StateRows W R D) (s : Sight) (k : Configuration R D) (text : Text) (p : ℕ) → is_some b ≡ is_read p → Stands w text p → PaysRows table state state.calls
-      → fits_calls table.states b w state state.calls ≡ true → row_price table b w text p (picked (state.rows b w) g s k) ≤ retry_price table b w text p (Some state)
-  row-within b w state s k text p read at own fit =
-      elim state.calls as (λ c. PaysRows table state c → fits_calls table.states b w state c ≡ true
-      → row_price table b w text p (picked (state.rows b w) g s k) ≤ price_by c (table.cost text p state.name) (λ c. at_most (calls_at table.states table.states b w (Some state)) (length text.seats - p - 1))) [
-        | None ↦ λ own fit. picked-within b w text p (table.cost text p state.name) (state.rows b w) s k (own b w text p read at)
+  row-within : (b w : Option W) (state : StateRows W R D) (s : Sight) (k : Configuration R D) (text : Text) (p : ℕ) → is_some b ≡ is_read p → Stands w text p → class_at table text p ≡ w → PaysRows table late state state.calls
+      → fits_calls table.states b w state state.calls ≡ true → row_price table late b w text p (picked (state.rows b w) g s k) ≤ retry_price table b w text p (Some state)
+  row-within b w state s k text p read at seen own fit =
+      elim state.calls as (λ c. PaysRows table late state c → fits_calls table.states b w state c ≡ true
+      → row_price table late b w text p (picked (state.rows b w) g s k) ≤ price_by c (table.cost text p state.name) (λ c. at_most (calls_at table.states table.states b w (Some state)) (length text.seats - p - 1))) [
+        | None ↦ λ own fit. picked-within b w text p (table.cost text p state.name) (state.rows b w) s k (own b w text p read at seen)
         | Some c ↦ λ own fit.
             counted-row b w state (picked (state.rows b w) g s k) text p at
             (picked-passes (pays_row table.states b w state) (state.rows b w) g s k (both (all_rows (pays_row table.states b w state) (state.rows b w)) (feeds table.states b w state c) fit).0)
@@ -212,8 +225,12 @@ module _ {W R D : Type 0} (table : Table W R D) (g : Given) where
   answer-costs end_waits b None p (Retry name) text k k' fit far = rw (far.0, far.1) (omega arith)
   answer-costs st b w p a text k k' fit far = absurd (cc)
 
+  -- what a choice goes on with, where it saved this
+  abbrev reserved : Text → Choice → ℕ
+  reserved text c = reserve_of table late text c c.saved
+
   -- and so do the choices that are made
-  choice-costs : (kind : AttemptKind) (ok nok : State) (text : Text) (k : Configuration R D) → table_reserve table g text (choice_at kind ok nok k) ≤ choice_price table text k.position kind ok nok
+  choice-costs : (kind : AttemptKind) (ok nok : State) (text : Text) (k : Configuration R D) → reserved text (choice_at kind ok nok k) ≤ choice_price table late text k.position kind ok nok
   choice-costs Check ok nok text k = omega arith
   choice-costs Attempt ok Nok text k = omega arith
   choice-costs Attempt ok (Next name) text k = omega arith
@@ -222,7 +239,7 @@ module _ {W R D : Type 0} (table : Table W R D) (g : Given) where
   choice-costs Attempt ok (Error message) text k = omega arith
 
   choices-cost : (acts : List (Act R D)) (text : Text) (s : Sight) (k : Configuration R D) (choices : List Choice)
-      → sum_by (table_reserve table g text) (chooses acts s k choices) ≤ chosen_price table text k.position acts + sum_by (table_reserve table g text) choices
+      → sum_by (reserved text) (chooses acts s k choices) ≤ chosen_price table late text k.position acts + sum_by (reserved text) choices
   choices-cost [] text s k choices = omega arith
   choices-cost (enters name link ∷ acts) text s k choices = choices-cost acts text s (done (enters name link) s k) choices
   choices-cost (exit name ∷ acts) text s k choices = choices-cost acts text s (done (exit name) s k) choices
@@ -230,27 +247,36 @@ module _ {W R D : Type 0} (table : Table W R D) (g : Given) where
   choices-cost (write f ∷ acts) text s k choices = choices-cost acts text s (done (write f) s k) choices
   choices-cost (consume ∷ acts) text s k choices = choices-cost acts text (past s) (consumed k) choices
   choices-cost (choose kind ok nok ∷ acts) text s k choices =
-      omega (arith, choice-costs kind ok nok text k, choices-cost acts text s k (choice_at kind ok nok k ∷ choices), sum_by-cons (table_reserve table g text) (choice_at kind ok nok k) choices)
+      omega (arith, choice-costs kind ok nok text k, choices-cost acts text s k (choice_at kind ok nok k ∷ choices), sum_by-cons (reserved text) (choice_at kind ok nok k) choices)
 
   stands-at : (w : Option W) (text : Text) (k : Configuration R D) → Waited (first_stage w) text k → Stands w text k.position
   stands-at None text k met = met.1
   stands-at (Some w) text k met = met.1
 
-  module _ (fit : IsFit table) where
-    next-falls : (o : Option (StateRows W R D)) (text : Text) (p q : ℕ) → p ≤ q → next_price table text q o ≤ next_price table text p o
-    next-falls None text p q h = omega arith
-    next-falls (Some state) text p q h =
+  -- where something waits, it is what is seen of the text there
+  waits-at : (w : Waits) (text : Text) (p : ℕ) (ended : Bool) → IsFed w p ended text → class_at table text p ≡ class_of table.class (current_of text p w)
+  waits-at Nothing text p ended h = absurd h
+  waits-at Byte text p ended h = refl
+  waits-at End text p ended h = let none = slice_get_past text.seats p h.1 in rw none refl
+
+  module _ {falling : Name → Bool} (fit : IsFitBy table late falling) where
+    -- what a choice goes on with may cost less the more was read
+    found-falls : (name : Name) (o : Option (StateRows W R D)) (text : Text) (p q : ℕ) → named table.states name ≡ o → falling name ≡ true → p ≤ q → next_price table text q o ≤ next_price table text p o
+    found-falls name None text p q is may h = omega arith
+    found-falls name (Some state) text p q is may h =
+        let same = named-same table.states name state is in
+        let there : falling state.name ≡ true = subst (λ n. falling (record { number = n }) ≡ true) same may in
         elim state.calls as (λ c. price_by c (table.cost text q state.name) (λ c. at_most c (length text.seats - q)) ≤ price_by c (table.cost text p state.name) (λ c. at_most c (length text.seats - p))) [
-          | None ↦ fit.falls text p q state.name h
+          | None ↦ fit.falls text p q state.name there h
           | Some c ↦ more-most c (length text.seats - q) (length text.seats - p) (omega (arith, h))
         ]
 
-    state-falls : (a : State) (text : Text) (p q : ℕ) → p ≤ q → state_price table text q a ≤ state_price table text p a
-    state-falls (Next name) text p q h = next-falls (named table.states name) text p q h
-    state-falls (Retry name) text p q h = omega arith
-    state-falls Ok text p q h = omega arith
-    state-falls Nok text p q h = omega arith
-    state-falls (Error message) text p q h = omega arith
+    state-falls : (a : State) (text : Text) (p q : ℕ) → falls_on falling a ≡ true → p ≤ q → state_price table text q a ≤ state_price table text p a
+    state-falls (Next name) text p q may h = found-falls name (named table.states name) text p q refl may h
+    state-falls (Retry name) text p q may h = omega arith
+    state-falls Ok text p q may h = omega arith
+    state-falls Nok text p q may h = omega arith
+    state-falls (Error message) text p q may h = omega arith
 
     -- what goes on where a choice was made costs what its state does
     go-costs : (f : Frame) (byte : Bool) (a : State) (text : Text) (k : Configuration R D) → goes_on table.states f byte a ≡ true → table_cost table g text k a ≤ state_price table text k.position a
@@ -261,24 +287,28 @@ module _ {W R D : Type 0} (table : Table W R D) (g : Given) where
     go-costs f byte (Error message) text k h = omega arith
 
     module _ (c : Choice) (f : Frame) (stack : List EventName) (text : Text) (k : Configuration R D) where
+      -- what was saved is far enough behind
+      abbrev IsFarBehind : Option Saved → Type 0
+      IsFarBehind saved = IfSome saved (λ saved. behind late saved.position ≤ k.position)
+
       -- what a choice goes on with, where it ended well or not, costs at most its reserve
       well-costs : (kind : AttemptKind) (b : Bool) (saved : Option Saved) → saves kind c.nok ≡ b → fits_choice table.states f kind c.ok c.nok ≡ true → IsSaved g text k.position (outline k) stack f b saved
-          → table_cost table g text (settled_at kind saved Ok k) c.ok ≤ reserve_of table text c saved
-      well-costs Attempt true (Some saved) is fit h =
+          → falls_on falling c.ok ≡ true → IsFarBehind saved → CanGoBack late kind → table_cost table g text (settled_at kind saved Ok k) c.ok ≤ reserve_of table late text c saved
+      well-costs Attempt true (Some saved) is fit h may far back =
           let goes = (both (goes_on table.states f false c.ok) _ fit).0 in
           let cost = go-costs f false c.ok text (unfed k) goes in
-          omega (arith, cost, state-falls c.ok text saved.position k.position h.behind)
-      well-costs Attempt false None is fit h =
+          omega (arith, cost, state-falls c.ok text (behind late saved.position) k.position may far)
+      well-costs Attempt false None is fit h may far back =
           let goes = (both (goes_on table.states f false c.ok) _ fit).0 in
           let cost = go-costs f false c.ok text (unfed k) goes in
           let least : 0 ≤ k.position = omega arith in
-          omega (arith, cost, state-falls c.ok text 0 k.position least)
-      well-costs Check true (Some saved) is fit h =
+          omega (arith, cost, state-falls c.ok text 0 k.position may least)
+      well-costs Check true (Some saved) is fit h may far back =
           let cost = go-costs f f.at_byte c.ok text (restored (Some saved) k) (both (goes_on table.states f f.at_byte c.ok) (goes_on table.states f f.at_byte c.nok) fit).0 in
-          omega (arith, cost)
-      well-costs Check false saved is fit h = absurd (cc)
-      well-costs kind true None is fit h = absurd h
-      well-costs kind false (Some saved) is fit h = absurd h
+          rw back (omega (arith, cost))
+      well-costs Check false saved is fit h may far back = absurd (cc)
+      well-costs kind true None is fit h may far back = absurd h
+      well-costs kind false (Some saved) is fit h may far back = absurd h
 
       unsaved-costs : (a : State) → saves Attempt a ≡ false → table_cost table g text (unfed k) a ≤ 0
       unsaved-costs Nok is = omega arith
@@ -293,7 +323,7 @@ module _ {W R D : Type 0} (table : Table W R D) (g : Given) where
           (both (not (is_void_last (last_or None f.spans))) (goes_on table.states f f.at_byte c.nok) rest).1
 
       badly-costs : (kind : AttemptKind) (b : Bool) (saved : Option Saved) → saves kind c.nok ≡ b → fits_choice table.states f kind c.ok c.nok ≡ true → IsSaved g text k.position (outline k) stack f b saved
-          → table_cost table g text (settled_at kind saved Nok k) c.nok ≤ reserve_of table text c saved
+          → table_cost table g text (settled_at kind saved Nok k) c.nok ≤ reserve_of table late text c saved
       badly-costs Attempt true (Some saved) is fit h = let cost = go-costs f f.at_byte c.nok text (restored (Some saved) k) (attempt-goes fit) in omega (arith, cost)
       badly-costs Attempt false None is fit h = let cost = unsaved-costs c.nok is in omega (arith, cost)
       badly-costs Check true (Some saved) is fit h =
@@ -347,21 +377,61 @@ module _ {W R D : Type 0} (table : Table W R D) (g : Given) where
         let called : is_called table.states none state ≡ true = elim state.needs_byte as (λ b. (b ≡ true → k.position < length text.seats) → not b ≡ true) [ true ↦ λ n. absurd (omega (arith, n refl, past)) | false ↦ λ n. refl ] h.spans.needs_byte in
         rw (e, is) (fed-end-costs b state text k.position past (both (all_rows (fits_row table.states b None state) (state.rows b None)) (fits_calls table.states b None state state.calls) (state-fits table g fit b None name state is called)).1)
 
-    pub table-cost_pays : CostPays g (table_rules table g)
-    table-cost_pays = record {
-      for_calls = λ text k choices name is h.
-          each-call table g fit (λ q. 1 + (table_cost table g text q.configuration q.answer + sum_by (table_reserve table g text) q.choices) ≤ table_cost table g text k (Retry name)) text k choices name is h
-          (λ c.
-          let w = of_class table g text k in
-          let b = before_class table g text k in
-          let s = sight g text k in
-          let k1 = with_local k (table.first k.local) in
-          let r = row_of table g text k c.state in
-          let answer = answer-costs _ b w _ r.answer text k (left_by table g text k c.state) c.fits_it c.shape.far in
-          let made = choices-cost r.acts text s k1 [] in
-          let within = row-within b w c.state s k1 text k.position (read-before table g text k.position h.0) (stands-at w text k c.met) (named-paid table.states name c.state fit.paid c.is) c.fits_calls_too in
-          rw c.is (omega (arith, answer, made, within)));
-      for_feeding = λ text k choices name is h. feeding (named table.states name) (nat_lt k.position (length text.seats)) text k choices name refl refl h.1.1;
-      for_ok = λ text k choice choices is h. let w = h.1.waiting.0 in well-costs choice w.frame h.1.base text k choice.kind (saves choice.kind choice.nok) choice.saved refl w.fits w.saved;
-      for_nok = λ text k choice choices is h. let w = h.1.waiting.0 in badly-costs choice w.frame h.1.base text k choice.kind (saves choice.kind choice.nok) choice.saved refl w.fits w.saved;
-    }
+    -- Calls, feeding and choices are paid for
+    pub calls-pay : (text : Text) (k : Configuration R D) (choices : List Choice) (name : Name) → IsText g text → table_holds table g text k choices (Retry name)
+        → let q = table_step table g (sight g text k) k name in 1 + (table_cost table g text q.configuration q.answer + sum_by (reserved text) q.choices) ≤ table_cost table g text k (Retry name)
+    calls-pay text k choices name is h =
+        each-call table g fit (λ q. 1 + (table_cost table g text q.configuration q.answer + sum_by (reserved text) q.choices) ≤ table_cost table g text k (Retry name)) text k choices name is h
+        (λ c.
+        let w = of_class table g text k in
+        let b = before_class table g text k in
+        let s = sight g text k in
+        let k1 = with_local k (table.first k.local) in
+        let r = row_of table g text k c.state in
+        let answer = answer-costs _ b w _ r.answer text k (left_by table g text k c.state) c.fits_it c.shape.far in
+        let made = choices-cost r.acts text s k1 [] in
+        let seen = waits-at k.waiting text k.position k.ended h.1.0 in
+        let within = row-within b w c.state s k1 text k.position (read-before table g text k.position h.0) (stands-at w text k c.met) seen (named-paid table.states name c.state fit.paid c.is) c.fits_calls_too in
+        rw c.is (omega (arith, answer, made, within)))
+
+    pub feeding-pays : (text : Text) (k : Configuration R D) (choices : List Choice) (name : Name) → table_holds table g text k choices (Next name)
+        → table_cost table g text (fed text k) (Retry name) ≤ table_cost table g text k (Next name)
+    feeding-pays text k choices name h = feeding (named table.states name) (nat_lt k.position (length text.seats)) text k choices name refl refl h.1.1
+
+    pub ok-pays : (text : Text) (k : Configuration R D) (choice : Choice) (choices : List Choice) → table_holds table g text k (choice ∷ choices) Ok
+        → falls_on falling choice.ok ≡ true → IfSome choice.saved (λ saved. behind late saved.position ≤ k.position) → CanGoBack late choice.kind
+        → table_cost table g text (settled_at choice.kind choice.saved Ok k) choice.ok ≤ reserved text choice
+    ok-pays text k choice choices h = let w = h.1.waiting.0 in well-costs choice w.frame h.1.base text k choice.kind (saves choice.kind choice.nok) choice.saved refl w.fits w.saved
+
+    pub nok-pays : (text : Text) (k : Configuration R D) (choice : Choice) (choices : List Choice) → table_holds table g text k (choice ∷ choices) Nok
+        → table_cost table g text (settled_at choice.kind choice.saved Nok k) choice.nok ≤ reserved text choice
+    nok-pays text k choice choices h = let w = h.1.waiting.0 in badly-costs choice w.frame h.1.base text k choice.kind (saves choice.kind choice.nok) choice.saved refl w.fits w.saved
+
+goes-back : (kind : AttemptKind) → CanGoBack false kind
+goes-back Attempt = tt
+goes-back Check = refl
+
+every-falls : (a : State) → falls_on every a ≡ true
+every-falls (Next name) = refl
+every-falls (Retry name) = refl
+every-falls Ok = refl
+every-falls Nok = refl
+every-falls (Error message) = refl
+
+-- what was saved is not behind where one stands
+is-behind : (g : Given) (text : Text) (p : ℕ) (events : List Event) (stack : List EventName) (f : Frame) (b : Bool) (saved : Option Saved) → IsSaved g text p events stack f b saved
+    → IfSome saved (λ saved. behind false saved.position ≤ p)
+is-behind g text p events stack f true (Some saved) h = h.behind
+is-behind g text p events stack f false None h = tt
+is-behind g text p events stack f true None h = absurd h
+is-behind g text p events stack f false (Some saved) h = absurd h
+
+pub table-cost_pays : {W R D : Type 0} (table : Table W R D) (g : Given) → IsFit table → CostPays g (table_rules table g)
+table-cost_pays table g fit = record {
+  for_calls = λ text k choices name is h. calls-pay table g false fit text k choices name is h;
+  for_feeding = λ text k choices name is h. feeding-pays table g false fit text k choices name h;
+  for_ok = λ text k choice choices is h.
+      let w = h.1.waiting.0 in
+      ok-pays table g false fit text k choice choices h (every-falls choice.ok) (is-behind g text k.position (outline k) h.1.base w.frame (saves choice.kind choice.nok) choice.saved w.saved) (goes-back choice.kind);
+  for_nok = λ text k choice choices is h. nok-pays table g false fit text k choice choices h;
+}

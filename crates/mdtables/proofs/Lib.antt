@@ -1,5 +1,6 @@
 pub mod CostLaws
 pub mod KnowledgeLaws
+pub mod LateLaws
 pub mod LinkShapes
 pub mod Markers
 pub mod Misfits
@@ -8,3 +9,4 @@ pub mod RowLaws
 pub mod TableLaws
 pub mod Texts
 pub mod PlainSteps
+pub mod PlainWriteSteps

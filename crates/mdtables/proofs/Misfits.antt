@@ -1,5 +1,6 @@
 -- What the test of a table says of each state where it names none.
-use Rattle.std.proofs.Common.{◌≡◌, ◌&&◌, not, List, [], ◌∷◌, ◌++◌, Bool, true, false, cond, Option, Some, map, refl, subst}
+use Rattle.std.proofs.Common.{◌≡◌, ◌==◌, ◌&&◌, not, List, [], ◌∷◌, ◌++◌, Bool, true, false, cond, Option, Some, map, refl, subst, arith}
+use Rattle.std.proofs.lemmas.Bool.Decides.{nat_tests}
 use Rattle.std.specs.Prelude.{All, filter}
 use Rattle.std.proofs.lemmas.List.Elements.{All-nil, All-cons}
 use Rattle.markdown_base.specs.declared.state.Name.{Name}
@@ -28,6 +29,16 @@ module _ {W R D : Type 0} (test : StateRows W R D → Bool) where
   named-out (x ∷ xs) name state h is =
       let (one, rest) = first-out test x (test x) (filter test xs) h in
       picked-out _ x state (named xs name) one (λ e. named-out xs name state rest e) is
+
+same-or : {W R D : Type 0} (b : Bool) (name : Name) (x state : StateRows W R D) (rest : Option (StateRows W R D)) → (b ≡ true → name.number ≡ x.name.number)
+    → (rest ≡ Some state → name.number ≡ state.name.number) → cond b (Some x) rest ≡ Some state → name.number ≡ state.name.number
+same-or true name x state rest same later is = let e : x ≡ state = cc in subst (λ y. name.number ≡ y.name.number) e (same refl)
+same-or false name x state rest same later is = later is
+
+-- the state of a name has that name
+pub named-same : {W R D : Type 0} (states : List (StateRows W R D)) (name : Name) (state : StateRows W R D) → named states name ≡ Some state → name.number ≡ state.name.number
+named-same [] name state is = absurd (cc)
+named-same (x ∷ xs) name state is = same-or (name.number == x.name.number) name x state (named xs name) (λ e. grind (arith, nat_tests)) (λ e. named-same xs name state e) is
 
 pub all-out : (test : Name → Bool) (names : List Name) → filter test names ≡ [] → All (λ n. test n ≡ false) names
 all-out test [] h = All-nil (λ n. test n ≡ false)

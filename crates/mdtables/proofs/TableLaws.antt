@@ -33,15 +33,23 @@ use Rattle.mdtables.proofs.Misfits.{none-left, none-mapped, named-out, all-out, 
 use Rattle.mdtables.proofs.RowLaws.{both, implied, off, same_names-true, Waited, reached, IsSeenAhead, sight_at, HasShape, below_after, below_all, to-before, before-is-upto, below-more, adds-one, began-on, left-at, has-after, has-after-all, sees-after, sight-after, chooses-append, adds-all}
 use Rattle.mdtables.proofs.Texts.{seat-at, fed-position, Extends, extends, left-kept, waits-longer}
 
--- A table fits: the test names no state that does not, and the machine's own costs are paid for
-pub record IsFit {W R D : Type 0} (table : Table W R D) : Type 0 where
+-- A table fits: the test names no state that does not, and the machine's own costs are paid for, where choices end well late or not. The more was
+-- read, the less these states cost.
+pub record IsFitBy {W R D : Type 0} (table : Table W R D) (late : Bool) (falling : Name → Bool) : Type 0 where
   pub fits : (previous current : Option W) → misfits table previous current ≡ []
-  pub paid : ArePaid table table.states
-  pub falls : (text : Text) (p q : ℕ) (name : Name) → p ≤ q → table.cost text q name ≤ table.cost text p name
+  pub paid : ArePaid table late table.states
+  pub falls : (text : Text) (p q : ℕ) (name : Name) → falling name ≡ true → p ≤ q → table.cost text q name ≤ table.cost text p name
+
+abbrev pub every : Name → Bool
+every name = true
+
+-- choices may end well where they were made, and all states cost less later
+abbrev pub IsFit : {W R D : Type 0} → Table W R D → Type 0
+IsFit table = IsFitBy table false every
 
 -- a machine whose states all say how many calls are left brings no cost
-pub no-falls : (text : Text) (p q : ℕ) (name : Name) → p ≤ q → no_cost text q name ≤ no_cost text p name
-no-falls text p q name h = omega arith
+pub no-falls : (text : Text) (p q : ℕ) (name : Name) → every name ≡ true → p ≤ q → no_cost text q name ≤ no_cost text p name
+no-falls text p q name all h = omega arith
 
 -- a test that all rows pass is passed by the one that is picked
 module _ {R D : Type 0} where
@@ -640,7 +648,7 @@ module _ {W R D : Type 0} (table : Table W R D) (g : Given) where
       let Q = λ (c : Choice). IfSome c.saved (λ s. take (length s.stack) old ≡ s.stack) in
       All-cons (KeepsStack old new) c cs (keeps-one old new c.saved (All-head P c cs a) (All-head Q c cs b)) (keeps-all old new [] cs (All-tail P c cs a) (All-tail Q c cs b))
 
-module _ {W R D : Type 0} (table : Table W R D) (g : Given) (fit : IsFit table) where
+module _ {W R D : Type 0} (table : Table W R D) (g : Given) {late : Bool} {falling : Name → Bool} (fit : IsFitBy table late falling) where
   -- a state that is called fits
   pub state-fits : (b w : Option W) (name : Name) (state : StateRows W R D) → named table.states name ≡ Some state → is_called table.states w state ≡ true → fits_state table.states b w state ≡ true
   state-fits b w name state is called =

@@ -1,7 +1,9 @@
 pub mod Knowledge
+pub mod Late
 pub mod LinkShapes
 pub mod Markers
 pub mod RowInvariant
 pub mod RowTest
 pub mod Rows
 pub mod PlainTables
+pub mod PlainWrites

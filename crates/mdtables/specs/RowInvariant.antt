@@ -1,5 +1,5 @@
 -- What holds at the states of a table, and what their calls cost.
-use Rattle.std.specs.Prelude.{◌≡◌, ℕ, zero, suc, ◌+◌, ◌-◌, ◌*◌, ◌<◌, ◌≤◌, ◌⊎◌, List, [], ◌∷◌, ◌++◌, Bool, not, true, false, cond, Option, Some, None, IfSome, All, map, max, take, length, reverse}
+use Rattle.std.specs.Prelude.{◌≡◌, ℕ, zero, suc, ◌+◌, ◌-◌, ◌*◌, ◌<◌, ◌≤◌, ◌⊎◌, List, [], ◌∷◌, ◌++◌, Bool, not, true, false, cond, Option, Some, None, IfSome, All, map, max, take, length, reverse, slice_get}
 use Rattle.std.specs.List.{last_or}
 use Rattle.markdown_base.specs.declared.event.Event.{Event}
 use Rattle.markdown_base.specs.declared.event.Kind.TheVariants.{Enter}
@@ -14,7 +14,7 @@ use Rattle.markdown.specs.declared.waiting.Waits.{Waits}
 use Rattle.markdown.specs.declared.waiting.Waits.TheVariants.{Nothing, Byte, End}
 use Rattle.markdown.specs.Text.{Given, Text}
 use Rattle.markdown.specs.Configuration.{Configuration, Local, Choice, Saved, Step, Seen, at_configuration}
-use Rattle.markdown.specs.Sight.{Sight, sight, sight_seen, end_place}
+use Rattle.markdown.specs.Sight.{Sight, sight, sight_seen, end_place, byte_of}
 use Rattle.markdown.specs.Calls.{with_local, consumed, exited, CanExit}
 use Rattle.markdown.specs.Rules.{Rules}
 use Rattle.markdown.specs.Plain.{finds_nothing, NothingResolves}
@@ -121,6 +121,11 @@ Stands (Some w) text p = p < length text.seats
 abbrev pub price_by : Option Calls → ℕ → (Calls → ℕ) → ℕ
 price_by None own counted = own
 price_by (Some c) own counted = counted c
+
+-- where what is late stands: behind a position
+abbrev pub behind : (late : Bool) → ℕ → ℕ
+behind false p = p
+behind true p = p + 1
 
 -- the calls with so many bytes left
 abbrev pub at_most : Calls → ℕ → ℕ
@@ -239,15 +244,15 @@ module _ {W R D : Type 0} (table : Table W R D) where
   state_price text p (Next name) = next_price text p (named table.states name)
   state_price text p _ = 0
 
-  -- A choice goes on from what it saved, or later. One that saved nothing goes on from anywhere.
-  abbrev pub choice_price : Text → ℕ → AttemptKind → State → State → ℕ
-  choice_price text p kind ok nok = cond (saves kind nok) (max (state_price text p ok) (state_price text p nok)) (state_price text 0 ok)
+  -- A choice goes on from what it saved, or later; and where choices end well late, behind that. One that saved nothing goes on from anywhere.
+  abbrev pub choice_price : (late : Bool) → Text → ℕ → AttemptKind → State → State → ℕ
+  choice_price late text p kind ok nok = cond (saves kind nok) (max (state_price text (behind late p) ok) (state_price text p nok)) (state_price text 0 ok)
 
-  abbrev pub chosen_price : Text → ℕ → List (Act R D) → ℕ
-  chosen_price text p [] = 0
-  chosen_price text p (choose kind ok nok ∷ acts) = choice_price text p kind ok nok + chosen_price text p acts
-  chosen_price text p (consume ∷ acts) = chosen_price text (p + 1) acts
-  chosen_price text p (act ∷ acts) = chosen_price text p acts
+  abbrev pub chosen_price : (late : Bool) → Text → ℕ → List (Act R D) → ℕ
+  chosen_price late text p [] = 0
+  chosen_price late text p (choose kind ok nok ∷ acts) = choice_price late text p kind ok nok + chosen_price late text p acts
+  chosen_price late text p (consume ∷ acts) = chosen_price late text (p + 1) acts
+  chosen_price late text p (act ∷ acts) = chosen_price late text p acts
 
   -- what an answer goes on with, where so many bytes were read at the beginning of the call
   abbrev pub answer_price : (previous current : Option W) → Text → ℕ → State → ℕ
@@ -256,22 +261,27 @@ module _ {W R D : Type 0} (table : Table W R D) where
   answer_price b w text p _ = 0
 
   -- a call, with what its answer and its choices go on with
-  abbrev pub row_price : (previous current : Option W) → Text → ℕ → Row R D → ℕ
-  row_price b w text p r = 1 + (answer_price b w text p r.answer + chosen_price text p r.acts)
+  abbrev pub row_price : (late : Bool) → (previous current : Option W) → Text → ℕ → Row R D → ℕ
+  row_price late b w text p r = 1 + (answer_price b w text p r.answer + chosen_price late text p r.acts)
 
   -- each of the rows is within a price
-  abbrev pub AreWithin : (previous current : Option W) → Text → ℕ → ℕ → Rows R D → Type 0
-  AreWithin b w text p price (row acts answer) = row_price b w text p (record { acts = acts; answer = answer }) ≤ price
-  AreWithin b w text p price (when test one other) = AreWithin b w text p price one × AreWithin b w text p price other
+  abbrev pub AreWithin : (late : Bool) → (previous current : Option W) → Text → ℕ → ℕ → Rows R D → Type 0
+  AreWithin late b w text p price (row acts answer) = row_price late b w text p (record { acts = acts; answer = answer }) ≤ price
+  AreWithin late b w text p price (when test one other) = AreWithin late b w text p price one × AreWithin late b w text p price other
 
-  -- a state of the machine's own cost is paid for by it
-  abbrev pub PaysRows : StateRows W R D → Option Calls → Type 0
-  PaysRows state (Some c) = Unit {0}
-  PaysRows state None = (b w : Option W) (text : Text) (p : ℕ) → is_some b ≡ is_read p → Stands w text p → AreWithin b w text p (table.cost text p state.name) (state.rows b w)
+  -- the class of the byte at a position
+  abbrev pub class_at : Text → ℕ → Option W
+  class_at text p = class_of table.class (byte_of (slice_get text.seats p))
 
-  abbrev pub ArePaid : List (StateRows W R D) → Type 0
-  ArePaid [] = Unit {0}
-  ArePaid (state ∷ states) = PaysRows state state.calls × ArePaid states
+  -- a state of the machine's own cost is paid for by it, where this waits
+  abbrev pub PaysRows : (late : Bool) → StateRows W R D → Option Calls → Type 0
+  PaysRows late state (Some c) = Unit {0}
+  PaysRows late state None =
+      (b w : Option W) (text : Text) (p : ℕ) → is_some b ≡ is_read p → Stands w text p → class_at text p ≡ w → AreWithin late b w text p (table.cost text p state.name) (state.rows b w)
+
+  abbrev pub ArePaid : (late : Bool) → List (StateRows W R D) → Type 0
+  ArePaid late [] = Unit {0}
+  ArePaid late (state ∷ states) = PaysRows late state state.calls × ArePaid late states
 
   -- how many calls are left; a byte that waits is counted with the state that is called there
   abbrev pub table_cost : Given → Text → Configuration R D → State → ℕ
@@ -280,12 +290,12 @@ module _ {W R D : Type 0} (table : Table W R D) where
       let s = sight g text k in retry_price (class_of table.class s.previous) (class_of table.class s.current) text k.position (named table.states name)
   table_cost g text k _ = 0
 
-  abbrev pub reserve_of : Text → Choice → Option Saved → ℕ
-  reserve_of text c None = state_price text 0 c.ok
-  reserve_of text c (Some saved) = max (state_price text saved.position c.ok) (state_price text saved.position c.nok)
+  abbrev pub reserve_of : (late : Bool) → Text → Choice → Option Saved → ℕ
+  reserve_of late text c None = state_price text 0 c.ok
+  reserve_of late text c (Some saved) = max (state_price text (behind late saved.position) c.ok) (state_price text saved.position c.nok)
 
   abbrev pub table_reserve : Given → Text → Choice → ℕ
-  table_reserve g text c = reserve_of text c c.saved
+  table_reserve g text c = reserve_of false text c c.saved
 
 -- the rules of a table
 abbrev pub table_rules : {W R D : Type 0} → Table W R D → Given → Rules R D

@@ -1,0 +1,36 @@
+-- Tables without links whose writes keep that nothing is there to resolve.
+use Rattle.std.specs.Prelude.{List, [], ◌∷◌, Option, Some, None}
+use Rattle.markdown.specs.Configuration.{Configuration, Local}
+use Rattle.markdown.specs.Calls.{with_local}
+use Rattle.markdown.specs.Plain.{IsPlain}
+use Rattle.mdtables.specs.Rows.{Act, enters, exit, consume, links, write, choose, Rows, row, when, StateRows, Table}
+
+module _ {R D : Type 0} where
+  -- a write registers no resolver, and makes no edit
+  abbrev pub IsPlainWrite : (Configuration R D → Local R D) → Type 0
+  IsPlainWrite f = (k : Configuration R D) → IsPlain k → IsPlain (with_local k (f k))
+
+  -- no act links, and each write is plain; and this holds too
+  abbrev pub WritePlain : List (Act R D) → Type 0 → Type 0
+  WritePlain [] P = P
+  WritePlain (enters name None ∷ acts) P = WritePlain acts P
+  WritePlain (enters name (Some link) ∷ acts) P = ⊥
+  WritePlain (links previous next ∷ acts) P = ⊥
+  WritePlain (write f ∷ acts) P = IsPlainWrite f × WritePlain acts P
+  WritePlain (exit name ∷ acts) P = WritePlain acts P
+  WritePlain (consume ∷ acts) P = WritePlain acts P
+  WritePlain (choose kind ok nok ∷ acts) P = WritePlain acts P
+
+  abbrev pub RowsWritePlain : Rows R D → Type 0 → Type 0
+  RowsWritePlain (row acts answer) P = WritePlain acts P
+  RowsWritePlain (when test one other) P = RowsWritePlain one (RowsWritePlain other P)
+
+module _ {W R D : Type 0} where
+  abbrev pub StatesWritePlain : List (StateRows W R D) → (previous current : Option W) → Type 0
+  StatesWritePlain [] previous current = Unit {0}
+  StatesWritePlain (state ∷ states) previous current = RowsWritePlain (state.rows previous current) (StatesWritePlain states previous current)
+
+  -- no state links, its writes are plain, and so is what each call writes first
+  pub record WritesPlain (table : Table W R D) : Type 0 where
+    pub first : (k : Configuration R D) → IsPlain k → IsPlain (with_local k (table.first k.local))
+    pub rows : (previous current : Option W) → StatesWritePlain table.states previous current
