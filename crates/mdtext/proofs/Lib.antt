@@ -1,0 +1,9 @@
+pub mod Cutting
+pub mod EscapeClasses
+pub mod Escapes
+pub mod Examples
+pub mod LineEndings
+pub mod Positive
+pub mod Runs
+pub mod Steps
+pub mod Whole
