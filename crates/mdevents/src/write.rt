@@ -1,7 +1,7 @@
 //! Writing the lines of events.
 
-ghost use Rattle.std.specs.Prelude.{◌≡◌, ◌+◌, ◌++◌, ◌≤◌, ℕ, List, take, length, IsOkUnless, OnOk, OnErr};
-ghost use Rattle.std.specs.Io.KnownBytes.{Appends};
+ghost use Rattle.std.specs.Prelude.{◌≡◌, ◌+◌, ◌++◌, ◌<◌, ◌≤◌, ℕ, List, take, length, IsOkUnless, OnOk, OnErr};
+ghost use Rattle.std.specs.Io.KnownBytes.{Appends, Keeps};
 ghost use Rattle.mdevents.specs.Printed.{printed_events};
 
 use crate::failure::Failure;
@@ -25,12 +25,14 @@ pub fn write_lines<W: Write>(writer: &mut W, events: &[Event]) -> Result<(), Fai
     write_all(writer, lines.as_slice())
 }
 
-/// Makes room for a line: where there is none, writes what waits.
+/// Makes room for a line: where there is none, writes what waits, and else nothing.
 fn make_room<W: Write>(waiting: &mut Waiting, writer: &mut W) -> Result<(), Failure>
     ensures room { OnOk result (length waiting.new + LONGEST ≤ SIZE) }
     ensures passed { OnOk result ((text : List ℕ) × Appends (W.contents writer.old) (W.contents writer.new) text × (text ++ waiting.new ≡ waiting.old)) }
     ensures failed { OnErr result ((count : ℕ) × Appends (W.contents writer.old) (W.contents writer.new) (take count waiting.old)) }
     ensures cause { IsOkUnless result Failure.Write }
+    ensures asked { OnErr result (SIZE < length waiting.old + LONGEST) }
+    ensures kept { length waiting.old + LONGEST ≤ SIZE → (waiting.new ≡ waiting.old) × Keeps (W.contents writer.old) (W.contents writer.new) }
 {
     if waiting.len() > SIZE - LONGEST {
         write_all(writer, waiting.as_slice())?;
@@ -40,11 +42,12 @@ fn make_room<W: Write>(waiting: &mut Waiting, writer: &mut W) -> Result<(), Fail
 }
 
 /// Writes all of a text and nothing else. Any error of the writer, and a write that takes nothing, is
-/// `Failure::Write`; what was written is then a beginning of the text.
+/// `Failure::Write`; what was written is then a beginning of the text. An empty one is written whole.
 fn write_all<W: Write>(writer: &mut W, text: &[u8]) -> Result<(), Failure>
     ensures all { OnOk result (Appends (W.contents writer.old) (W.contents writer.new) text.now) }
     ensures failed { OnErr result ((count : ℕ) × Appends (W.contents writer.old) (W.contents writer.new) (take count text.now)) }
     ensures cause { IsOkUnless result Failure.Write }
+    ensures asked { OnErr result (0 < length text.now) }
 {
     let mut written = 0;
     'writing: while written < text.len() {
