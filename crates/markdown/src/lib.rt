@@ -14,5 +14,7 @@ pub mod util;
 pub mod waiting;
 mod work;
 
-pub use markdown_base::configuration::{CompileOptions, Constructs, Options, ParseOptions};
+pub use markdown_base::configuration::{
+    CompileOptions, Constructs, Options, ParseOptions, TabSize,
+};
 pub use markdown_base::{configuration, event, message, owned, unist};

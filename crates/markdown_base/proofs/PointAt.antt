@@ -1,8 +1,9 @@
 -- Lemmas on the point of a place that the virtual text reaches, and on how it moves along a line.
-use Rattle.std.proofs.Common.{◌≡◌, ◌≢◌, ℕ, zero, suc, ◌+◌, ◌-◌, ◌<◌, ◌≤◌, inl, inr, Bool, true, false, cond, List, [], ◌∷◌, ◌++◌, length, drop, get_or, refl, ap, ◌∙◌, arith, subst, eqb-true, eq-eqb, ne_eqb}
+use Rattle.std.proofs.Common.{◌≡◌, ◌≢◌, ℕ, zero, suc, ◌+◌, ◌-◌, ◌*◌, ◌<◌, ◌≤◌, inl, inr, Bool, true, false, cond, List, [], ◌∷◌, ◌++◌, length, drop, get_or, refl, ap, ◌∙◌, arith, subst, eqb-true, eq-eqb, ne_eqb}
 use Rattle.std.specs.Prelude.{◌==◌, ◌&&◌, slice_index, find, Some}
 use Rattle.std.specs.List.{AllByRecursion, flat_map}
 use Rattle.std.proofs.lemmas.Bool.{false≢true}
+use Rattle.std.proofs.Math.Nat.{mul-le-mul_left}
 use Rattle.std.proofs.lemmas.List.{append_assoc}
 use Rattle.std.proofs.lemmas.List.Concat.{flat_map-append}
 use Rattle.markdown_base.specs.declared.event.Point.{Point}
@@ -106,3 +107,10 @@ pub moved-plain : (t : ℕ) → 0 < t → (bytes : List ℕ) (line column index 
     → get_or bytes index 0 ≢ 10 → get_or bytes index 0 ≢ 13 → get_or bytes index 0 ≢ 9 → IsReached t bytes line (suc column) (suc index)
 moved-plain t some bytes line column index r within not_lf not_cr not_tab =
     reached-plain t bytes line column index r within some (ne_eqb (get_or bytes index 0) 10 not_lf) (ne_eqb (get_or bytes index 0) 13 not_cr) (ne_eqb (get_or bytes index 0) 9 not_tab)
+
+-- the column behind a byte fits where the premise on a document's length does
+pub column-fits : (t : ℕ) → 0 < t → (bytes : List ℕ) (line column index : ℕ) → IsReached t bytes line column index → index < length bytes
+    → (column + tab_width t column ≤ t * length bytes + 1) × (column + 1 ≤ t * length bytes + 1)
+column-fits t some bytes line column index r within =
+    let more : t * suc index ≤ t * length bytes = mul-le-mul_left t within in
+    ((omega (arith, r.bound, more)), (omega (arith, r.bound, more)))

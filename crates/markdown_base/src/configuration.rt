@@ -1,12 +1,80 @@
 //! Options: which constructs a document may use, how they are read, and how HTML is made of them.
 
-ghost use Rattle.std.specs.Prelude.{◌≡◌, IfOk};
+ghost use Rattle.std.specs.Prelude.{◌≡◌, ◌<◌, ◌≤◌, IfOk, None, Some};
 ghost use Rattle.markdown_base.specs.Presets.{gfm_constructs, mdx_constructs, gfm_parse_options, mdx_parse_options};
 ghost use Rattle.markdown_base.specs.Presets.{gfm_compile_options, gfm_options};
 
 use crate::owned::OwnedText;
+use crate::util::constant::TAB_SIZE;
 use crate::util::line_ending::LineEnding;
 use std::alloc::{AllocError, Global};
+use std::fmt;
+use std::marker::Model;
+
+/// How many columns tab stops stand apart: from 1 to 16.
+#[derive(Clone, Copy, PartialEq, Eq)]
+pub struct TabSize {
+    columns: usize,
+}
+
+impl Model for TabSize {
+    ghost use Rattle.std.specs.Prelude.{ℕ, ◌≤◌};
+
+    ghost Value = { ℕ };
+
+    ghost view = { λ t. t.columns };
+
+    ghost invariant = { λ t. (1 ≤ t.columns) × (t.columns ≤ 16) };
+
+    ghost inverse = { λ n. record { columns = n } };
+}
+
+impl TabSize {
+    /// Tab stops at every `n` columns. None where `n` is 0 or above 16.
+    pub fn new(n: usize) -> Option<TabSize>
+        ensures taken { 1 ≤ n → n ≤ 16 → result ≡ Some n }
+        ensures zero { n ≡ 0 → result ≡ None }
+        ensures above { 16 < n → result ≡ None }
+    {
+        if 1 <= n && n <= 16 {
+            Some(TabSize { columns: n })
+        } else {
+            None
+        }
+    }
+
+    /// The number of columns.
+    #[inline(always)]
+    pub const fn get(self) -> usize
+        ensures columns { result ≡ self }
+        ensures least { 1 ≤ result }
+        ensures most { result ≤ 16 }
+    {
+        self.columns
+    }
+}
+
+impl Default for TabSize {
+    ghost use Rattle.std.specs.Prelude.{◌≡◌};
+
+    ghost is_default = { λ t. t ≡ 4 };
+
+    /// The tab stops of CommonMark: at every 4 columns.
+    fn default() -> Self {
+        TabSize { columns: TAB_SIZE }
+    }
+}
+
+impl fmt::Debug for TabSize {
+    ghost use Rattle.std.specs.Prelude.{Some};
+    ghost use Rattle.std.specs.Fmt.{decimal};
+
+    ghost debug_output = { λ t. Some (decimal t) };
+
+    fn fmt<W: fmt::Write>(&self, f: &mut fmt::Formatter<W>) -> fmt::Result {
+        write!(f, "{}", self.get())
+    }
+}
 
 /// Which constructs are on.
 #[derive(Clone, Copy, Debug, PartialEq, Eq)]

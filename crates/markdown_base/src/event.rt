@@ -12,8 +12,8 @@ ghost use Rattle.markdown_base.specs.Places.{IsPointOf, point_at};
 ghost use Rattle.markdown_base.specs.Virtual.{tab_width};
 ghost use Rattle.markdown_base.specs.VoidNames.{void_names};
 
+use crate::configuration::TabSize;
 use crate::unist;
-use crate::util::constant::TAB_SIZE;
 
 /// What a span is.
 ///
@@ -657,21 +657,23 @@ impl Point {
         unist::Point::new(self.line, self.column, self.index)
     }
 
-    /// The point at a higher byte index of the same line. The index may be the document's length.
-    pub fn shift_to(&self, bytes: &[u8], index: usize) -> Point
-        requires fits { 4 * length bytes.now + 1 < 2 ^ 64 }
-        requires place { IsPointOf 4 bytes.now self.now }
+    /// The point at a higher byte index of the same line, with tab stops at every `tab_size` columns. The index may be
+    /// the document's length.
+    pub fn shift_to(&self, bytes: &[u8], tab_size: TabSize, index: usize) -> Point
+        requires fits { tab_size * length bytes.now + 1 < 2 ^ 64 }
+        requires place { IsPointOf tab_size bytes.now self.now }
         requires whole { self.now.vs ≡ 0 }
         requires forward { self.now.index < index }
         requires inside { index ≤ length bytes.now }
         requires in_line { HasNoLineEnding bytes.now self.now.index index }
-        ensures point { point_at 4 bytes.now (index, 0) ≡ Some result }
+        ensures point { point_at tab_size bytes.now (index, 0) ≡ Some result }
         ensures line { result.line ≡ self.now.line }
     {
+        let t = tab_size.get();
         let mut column = self.column;
         for byte in &bytes[self.index..index] {
             column += if *byte == b'\t' {
-                TAB_SIZE - (column - 1) % TAB_SIZE
+                t - (column - 1) % t
             } else {
                 1
             };

@@ -56,6 +56,8 @@ mod states;
 #[cfg(test)]
 mod subtokenize;
 #[cfg(test)]
+mod tab_sizes;
+#[cfg(test)]
 mod tokenizer;
 #[cfg(test)]
 mod unist_points;

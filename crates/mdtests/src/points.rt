@@ -1,5 +1,6 @@
 //! Points that are moved in their line.
 
+use markdown::configuration::TabSize;
 use markdown::event::Point;
 use markdown::unist;
 
@@ -11,7 +12,8 @@ fn shifts_over_a_tab(rt: HostRuntime) {
         index: 0,
         vs: 0,
     };
-    let shifted = start.shift_to(b"a\tb", 2);
+    let tab_size = TabSize::default();
+    let shifted = start.shift_to(b"a\tb", tab_size, 2);
     let behind = Point {
         line: 1,
         column: 5,

@@ -2,6 +2,7 @@
 
 ghost use Rattle.std.specs.Prelude.{◌≡◌, None};
 
+use markdown::configuration::TabSize;
 use markdown::event::{Event, Kind, Name, Point};
 use markdown::util::slice::{Position, Slice};
 use std::alloc::{AllocError, Global};
@@ -47,8 +48,10 @@ fn seen(alloc: Global, slice: &Slice) -> Result<String, AllocError> {
 fn begins_inside_a_tab(rt: HostRuntime) -> Result<(), AllocError> {
     let start = at(7, 5, 1);
     let end = at(12, 9, 0);
+    let tab_size = TabSize::default();
     let slice = Slice::from_position(
         b">    \tfoo",
+        tab_size,
         &Position {
             start: &start,
             end: &end,
@@ -63,8 +66,10 @@ fn begins_inside_a_tab(rt: HostRuntime) -> Result<(), AllocError> {
 fn stays_inside_a_tab(rt: HostRuntime) -> Result<(), AllocError> {
     let start = at(7, 5, 1);
     let end = at(8, 5, 2);
+    let tab_size = TabSize::default();
     let slice = Slice::from_position(
         b">    \tfoo",
+        tab_size,
         &Position {
             start: &start,
             end: &end,
@@ -79,8 +84,10 @@ fn stays_inside_a_tab(rt: HostRuntime) -> Result<(), AllocError> {
 fn ends_inside_a_tab(rt: HostRuntime) -> Result<(), AllocError> {
     let start = at(1, 0, 0);
     let end = at(4, 1, 2);
+    let tab_size = TabSize::default();
     let slice = Slice::from_position(
         b"a\tb",
+        tab_size,
         &Position {
             start: &start,
             end: &end,

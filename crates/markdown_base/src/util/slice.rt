@@ -5,8 +5,8 @@ ghost use Rattle.markdown_base.specs.Places.{IsPointOf, stands_before};
 ghost use Rattle.markdown_base.specs.Slices.{nearest_enter, bytes_between, spaces_before, spaces_after, slice_text, is_enter_of};
 ghost use Rattle.markdown_base.specs.SlicesInner.{first_byte};
 
+use crate::configuration::TabSize;
 use crate::event::{Event, Kind, Point};
-use crate::util::constant::TAB_SIZE;
 use std::alloc::{AllocError, Global};
 
 /// A range between two points.
@@ -61,26 +61,27 @@ pub struct Slice<'a> {
 }
 
 impl<'a> Slice<'a> {
-    /// The part of a document in a range.
+    /// The part of a document in a range, with tab stops at every `tab_size` columns.
     ///
     /// Where the range begins inside a tab, what is left of the tab is spaces before the bytes. Where it ends inside
     /// a tab, the tab is the last byte, and what else is covered of it is spaces after the bytes. Where both ends lie
     /// inside one tab, there are no bytes, and the spaces between are before.
-    pub fn from_position(bytes: &'a [u8], position: &Position) -> Slice<'a>
-        requires start_is_place { IsPointOf 4 bytes.now position.now.start.now }
-        requires end_is_place { IsPointOf 4 bytes.now position.now.end.now }
+    pub fn from_position(bytes: &'a [u8], tab_size: TabSize, position: &Position) -> Slice<'a>
+        requires start_is_place { IsPointOf tab_size bytes.now position.now.start.now }
+        requires end_is_place { IsPointOf tab_size bytes.now position.now.end.now }
         requires ordered { stands_before position.now.end.now position.now.start.now ≡ false }
         ensures bytes { result.bytes.now ≡ bytes_between bytes.now position.now.start.now position.now.end.now }
-        ensures before { result.before ≡ spaces_before 4 bytes.now position.now.start.now position.now.end.now }
-        ensures after { result.after ≡ spaces_after 4 bytes.now position.now.start.now position.now.end.now }
+        ensures before { result.before ≡ spaces_before tab_size bytes.now position.now.start.now position.now.end.now }
+        ensures after { result.after ≡ spaces_after tab_size bytes.now position.now.start.now position.now.end.now }
     {
+        let t = tab_size.get();
         let start = position.start;
         let end = position.end;
         let from = first_byte(start);
         let to = first_byte(end);
         Slice {
             bytes: &bytes[from..to],
-            before: spaces_before(start, end),
+            before: spaces_before(t, start, end),
             after: spaces_after(start, end),
         }
     }
@@ -162,25 +163,27 @@ fn first_byte(point: &Point) -> usize
     }
 }
 
-/// The number of virtual bytes in a range that belong to a tab which the range's start cuts.
-fn spaces_before(start: &Point, end: &Point) -> usize
+/// The number of virtual bytes in a range that belong to a tab which the range's start cuts. Tab stops stand at every
+/// `t` columns.
+fn spaces_before(t: usize, start: &Point, end: &Point) -> usize
+    requires tab { 0 < t }
     requires column { 0 < start.now.vs → 1 ≤ start.now.column }
     requires ordered { stands_before end.now start.now ≡ false }
-    ensures { (bytes : List ℕ) → IsPointOf 4 bytes start.now → IsPointOf 4 bytes end.now → result ≡ spaces_before 4 bytes start.now end.now }
+    ensures { (bytes : List ℕ) → IsPointOf t bytes start.now → IsPointOf t bytes end.now → result ≡ spaces_before t bytes start.now end.now }
 {
     if start.vs == 0 {
         0
     } else if start.index == end.index {
         end.vs - start.vs
     } else {
-        TAB_SIZE - (start.column - 1) % TAB_SIZE
+        t - (start.column - 1) % t
     }
 }
 
 /// The number of virtual bytes in a range that belong to a tab which only the range's end cuts, but its tab byte.
 fn spaces_after(start: &Point, end: &Point) -> usize
     requires ordered { stands_before end.now start.now ≡ false }
-    ensures { (bytes : List ℕ) → IsPointOf 4 bytes start.now → IsPointOf 4 bytes end.now → result ≡ spaces_after 4 bytes start.now end.now }
+    ensures { (t : ℕ) (bytes : List ℕ) → 0 < t → IsPointOf t bytes start.now → IsPointOf t bytes end.now → result ≡ spaces_after t bytes start.now end.now }
 {
     if end.vs == 0 {
         return 0;

@@ -1,5 +1,27 @@
-use Rattle.std.proofs.Common.{refl, lit<}
+use Rattle.std.proofs.Common.{ℕ, List, [], ◌∷◌, refl, sym, subst, lit<}
+use Rattle.markdown_base.specs.declared.event.Point.{Point}
+use Rattle.markdown_base.specs.Places.{IsPointOf}
+use Rattle.markdown_base.specs.Virtual.{point}
 use Rattle.mdtests.proofs.slices.ends_inside_a_tab.Goals as goal
 
+-- the bytes of the document
+abbrev document : List ℕ
+document = 97 ∷ 9 ∷ 98 ∷ []
+
+start_is_place : IsPointOf 4 document (point 1 1 0 0)
+start_is_place = (0, lit< tt, refl)
+
+end_is_place : IsPointOf 4 document (point 1 4 1 2)
+end_is_place = (6, lit< tt, refl)
+
+pub from_position-slice-requires-clause-start_is_place : goal.from_position-slice-requires-clause-start_is_place
+from_position-slice-requires-clause-start_is_place g c =
+    let P : Point → Type 0 = λ p. IsPointOf 4 document p in
+    let Q : ℕ → Type 0 = λ t. IsPointOf t document c.at-start.result in
+    subst Q (sym c.default-tab_size.ensures) (subst P (sym c.at-start.ensures) start_is_place)
+
 pub from_position-slice-requires-clause-end_is_place : goal.from_position-slice-requires-clause-end_is_place
-from_position-slice-requires-clause-end_is_place g c = rw c.at-end.ensures (6, lit< tt, refl)
+from_position-slice-requires-clause-end_is_place g c =
+    let P : Point → Type 0 = λ p. IsPointOf 4 document p in
+    let Q : ℕ → Type 0 = λ t. IsPointOf t document c.at-end.result in
+    subst Q (sym c.default-tab_size.ensures) (subst P (sym c.at-end.ensures) end_is_place)

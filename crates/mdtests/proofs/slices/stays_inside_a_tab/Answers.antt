@@ -17,9 +17,11 @@ end_is_place = (14, lit< tt, refl)
 pub from_position-slice-requires-clause-start_is_place : goal.from_position-slice-requires-clause-start_is_place
 from_position-slice-requires-clause-start_is_place g c =
     let P : Point → Type 0 = λ p. IsPointOf 4 document p in
-    subst P (sym c.at-start.ensures) start_is_place
+    let Q : ℕ → Type 0 = λ t. IsPointOf t document c.at-start.result in
+    subst Q (sym c.default-tab_size.ensures) (subst P (sym c.at-start.ensures) start_is_place)
 
 pub from_position-slice-requires-clause-end_is_place : goal.from_position-slice-requires-clause-end_is_place
 from_position-slice-requires-clause-end_is_place g c =
     let P : Point → Type 0 = λ p. IsPointOf 4 document p in
-    subst P (sym c.at-end.ensures) end_is_place
+    let Q : ℕ → Type 0 = λ t. IsPointOf t document c.at-end.result in
+    subst Q (sym c.default-tab_size.ensures) (subst P (sym c.at-end.ensures) end_is_place)

@@ -4,4 +4,4 @@ use Rattle.markdown_base.proofs.event.Point.shift_to.Given as goal
 
 -- the virtual text reaches this column after the bytes passed
 abbrev pub invariant-loop-byte : goal.invariant-loop-byte
-invariant-loop-byte l = IsReached 4 l.bytes l.self.line l.column (l.self.index + l.byte-index)
+invariant-loop-byte l = IsReached l.fn.tab_size l.bytes l.self.line l.column (l.self.index + l.byte-index)

@@ -9,6 +9,6 @@ returns-then-start-end c =
     let p = c.args.start.now in
     let q = c.args.end.now in
     elim c.if-start-eq0.branch [
-      | then-start-eq0 w ↦ λ bytes start end. sym (spaces-after_is 4 (omega arith) bytes p q end c.requires.ordered (omega arith) (inl w.if-start-eq0.true))
-      | else-start-eq0 w ↦ λ bytes start end. sym (spaces-after_is 4 (omega arith) bytes p q end c.requires.ordered (omega arith) (inr (λ same. false≢true (ap not (sym (eq-eqb p.index q.index same)) ∙ sym w.value-is ∙ c.if-start-end.true))))
+      | then-start-eq0 w ↦ λ t bytes some start end. sym (spaces-after_is t some bytes p q end c.requires.ordered (omega arith) (inl w.if-start-eq0.true))
+      | else-start-eq0 w ↦ λ t bytes some start end. sym (spaces-after_is t some bytes p q end c.requires.ordered (omega arith) (inr (λ same. false≢true (ap not (sym (eq-eqb p.index q.index same)) ∙ sym w.value-is ∙ c.if-start-end.true))))
     ]

@@ -1,0 +1,133 @@
+//! Tab stops at every 1 to 16 columns, worked by hand.
+
+ghost use Rattle.std.specs.Prelude.{◌≡◌, ◌≤◌};
+
+use markdown::configuration::TabSize;
+use markdown::event::Point;
+use markdown::util::slice::{Position, Slice};
+use std::alloc::AllocError;
+
+/// Tab stops at every `n` columns.
+fn every(n: usize) -> TabSize
+    requires least { 1 ≤ n }
+    requires most { n ≤ 16 }
+    ensures { result ≡ n }
+{
+    match TabSize::new(n) {
+        Some(tab_size) => tab_size,
+        None => unreachable!(),
+    }
+}
+
+/// The number of columns that is taken of this one; 0 where it is refused.
+fn taken(n: usize) -> usize {
+    match TabSize::new(n) {
+        Some(tab_size) => tab_size.get(),
+        None => 0,
+    }
+}
+
+const fn at(column: usize, index: usize, vs: usize) -> Point
+    ensures { result ≡ record { line = 1; column = column; index = index; vs = vs } }
+{
+    Point {
+        line: 1,
+        column,
+        index,
+        vs,
+    }
+}
+
+#[test]
+fn tab_stops_stand_one_to_sixteen_columns_apart(rt: HostRuntime) -> Result<(), AllocError> {
+    for (n, want) in [
+        (0, 0),
+        (1, 1),
+        (4, 4),
+        (8, 8),
+        (16, 16),
+        (17, 0),
+        (usize::MAX, 0),
+    ] {
+        assert!(rt; taken(n) == want);
+    }
+    assert!(rt; TabSize::default() == every(4));
+    assert!(rt; TabSize::default() != every(8));
+    let shown = format!(in rt.alloc(); "{:?} {:?}", TabSize::default(), every(16))?;
+    assert_eq!(rt; shown.as_str(), "4 16");
+    Ok(())
+}
+
+/// The point behind the tab of `"a\tb"`.
+fn behind_the_tab(n: usize) -> Point
+    requires least { 1 ≤ n }
+    requires most { n ≤ 16 }
+{
+    let tab_size = every(n);
+    let start = Point {
+        line: 1,
+        column: 1,
+        index: 0,
+        vs: 0,
+    };
+    start.shift_to(b"a\tb", tab_size, 2)
+}
+
+#[test]
+fn points_move_to_tab_stops(rt: HostRuntime) {
+    assert!(rt; behind_the_tab(1) == at(3, 2, 0));
+    assert!(rt; behind_the_tab(3) == at(4, 2, 0));
+    assert!(rt; behind_the_tab(8) == at(9, 2, 0));
+    assert!(rt; behind_the_tab(16) == at(17, 2, 0));
+}
+
+#[test]
+fn slice_begins_inside_a_tab_of_eight(rt: HostRuntime) {
+    let tab_size = every(8);
+    let start = at(2, 0, 1);
+    let end = at(9, 1, 0);
+    let slice = Slice::from_position(
+        b"\tx",
+        tab_size,
+        &Position {
+            start: &start,
+            end: &end,
+        },
+    );
+    assert!(rt; slice.bytes.is_empty());
+    assert_eq!(rt; (slice.before, slice.after), (7, 0));
+}
+
+#[test]
+fn slice_begins_inside_a_tab_of_sixteen(rt: HostRuntime) {
+    let tab_size = every(16);
+    let start = at(16, 0, 15);
+    let end = at(17, 1, 0);
+    let slice = Slice::from_position(
+        b"\tx",
+        tab_size,
+        &Position {
+            start: &start,
+            end: &end,
+        },
+    );
+    assert!(rt; slice.bytes.is_empty());
+    assert_eq!(rt; (slice.before, slice.after), (1, 0));
+}
+
+#[test]
+fn tab_of_one_column_is_one_byte(rt: HostRuntime) {
+    let tab_size = every(1);
+    let start = at(1, 0, 0);
+    let end = at(2, 1, 0);
+    let slice = Slice::from_position(
+        b"\tx",
+        tab_size,
+        &Position {
+            start: &start,
+            end: &end,
+        },
+    );
+    assert!(rt; slice.bytes == b"\t".as_slice());
+    assert_eq!(rt; (slice.before, slice.after), (0, 0));
+}
