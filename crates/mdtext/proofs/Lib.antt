@@ -1,5 +1,6 @@
 pub mod Cutting
 pub mod EscapeClasses
+pub mod EscapeItems
 pub mod Escapes
 pub mod Examples
 pub mod LineEndings

@@ -28,7 +28,7 @@ at-front (y ∷ ys) zero x rest h = let e : y ≡ x = cc in ap Some e
 at-front (y ∷ ys) (suc p) x rest h = at-front ys p x rest h
 
 -- a construct that is nowhere
-nowhere : (on : Bool) (x : Item) → or_else (if_on on None) x ≡ x
+pub nowhere : (on : Bool) (x : Item) → or_else (if_on on None) x ≡ x
 nowhere true x = refl
 nowhere false x = refl
 
