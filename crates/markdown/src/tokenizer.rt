@@ -543,11 +543,8 @@ impl<'a, M: MachineTypes> Tokenizer<'a, M> {
         ensures same { OnFalse result (self.new ≡ self.old) }
         ensures end { OnFalse result (length self.old.text.seats ≤ self.old.configuration.position) }
     {
-        let bytes = self.parse_state.bytes;
-        let end = self.end;
-        let after_previous = self.after_previous;
-        let place = resumed(&self.skips, &after_previous);
-        match next_byte(bytes, *place, end) {
+        let place = resumed(&self.skips, &self.after_previous);
+        match next_byte(self.parse_state.bytes, *place, self.end) {
             None => false,
             Some(byte) => {
                 self.current = Some(byte);
