@@ -401,9 +401,8 @@ impl<'a, M: MachineTypes> Tokenizer<'a, M> {
         ensures ok { OnOk result (self.new ≡ at_configuration self.old (entered name link (sight_seen self.old).here self.old.configuration)) }
         ensures err { OnErr result (self.new ≡ self.old) }
     {
-        let bytes = self.parse_state.bytes;
-        let place = standing(self.after_previous, self.waits, &self.skips);
-        let point = shown(bytes, place);
+        let place = standing(&self.skips, self.after_previous, self.waits);
+        let point = shown(self.parse_state.bytes, place);
         let open_len = self.stack.len();
         self.stack.push(name)?;
         let event = Event {

@@ -132,7 +132,7 @@ ghost use Rattle.markdown.specs.View.{standing};
 ghost use Rattle.markdown.specs.Unwound.{unwound, ended_by, unwinding};
 
 /// Where an enter stands: after the byte before, or after what is passed of a line, once something waits there.
-pub(crate) fn standing(after_previous: Point, waits: Waits, skips: &Skips) -> Point
+pub(crate) fn standing(skips: &Skips, after_previous: Point, waits: Waits) -> Point
     ensures { result ≡ standing skips.now after_previous waits }
 {
     match waits {
