@@ -209,10 +209,10 @@ cut-not n m h = no-rest m (m % n) h
 pub cut-first : (n m : ℕ) → m ≤ 0 → is_cut n m ≡ false
 cut-first n m h = let e : m ≡ 0 = omega arith in rw e refl
 
-bounds-fit-at : (bytes : List ℕ) (p : Point) → Bounds 4 bytes p → (0 < p.vs) ⊎ (p.vs ≤ 0) → 4 * p.index + p.vs ≤ 4 * length bytes
-bounds-fit-at bytes p b (inl h) = let i = b.tab h in omega (arith, b.spaces)
-bounds-fit-at bytes p b (inr h) = omega (arith, b.inside)
+bounds-fit-at : (t : ℕ) (bytes : List ℕ) (p : Point) → Bounds t bytes p → (0 < p.vs) ⊎ (p.vs ≤ 0) → t * p.index + p.vs ≤ t * length bytes
+bounds-fit-at t bytes p b (inl h) = let i : suc p.index ≤ length bytes = b.tab h in omega (arith, b.spaces, mul-le-mul_left t i)
+bounds-fit-at t bytes p b (inr h) = omega (arith, mul-le-mul_left t b.inside)
 
 -- a place is no further than the bytes allow
-pub bounds-fit : (bytes : List ℕ) (p : Point) → Bounds 4 bytes p → 4 * p.index + p.vs ≤ 4 * length bytes
-bounds-fit bytes p b = bounds-fit-at bytes p b (cases_lt 0 p.vs)
+pub bounds-fit : (t : ℕ) (bytes : List ℕ) (p : Point) → Bounds t bytes p → t * p.index + p.vs ≤ t * length bytes
+bounds-fit t bytes p b = bounds-fit-at t bytes p b (cases_lt 0 p.vs)

@@ -4,13 +4,10 @@ ghost use Rattle.markdown.specs.Cursor.{goes_on, begins_pair, IsPlace, IsSeatAt,
 ghost use Rattle.markdown.specs.Gaps.{skip_of, resumed};
 ghost use Rattle.markdown_base.specs.Places;
 ghost use Rattle.markdown_base.specs.Virtual.{Seat};
-ghost use Rattle.std.specs.Prelude.{◌≡◌, ◌==◌, ◌&&◌, ◌||◌, nat_lt, ◌+◌, ◌*◌, ◌^◌, ◌<◌, ◌≤◌, length, unwrap_or};
+ghost use Rattle.std.specs.Prelude.{◌≡◌, ◌==◌, ◌&&◌, ◌||◌, nat_lt, ◌+◌, ◌*◌, ◌^◌, ◌<◌, ◌≤◌, ℕ, length, unwrap_or};
 
 use crate::skips::Skips;
 use markdown_base::event::Point;
-
-/// Tab stops stand at every so many columns.
-const TAB: usize = 4;
 
 /// Whether a CR LF begins at an index.
 fn is_pair(bytes: &[u8], index: usize) -> bool
@@ -21,10 +18,10 @@ fn is_pair(bytes: &[u8], index: usize) -> bool
 }
 
 /// The next virtual byte from a place on, and its seat: of a CR LF that of the LF.
-/// `None` at the document's end.
+/// `None` at the document's end. How many columns tab stops stand apart plays no part.
 pub(crate) fn seat_at(bytes: &[u8], point: Point) -> Option<(u8, Point)>
     requires within { 0 < point.vs → point.index < length bytes.now }
-    ensures { IsNextSeat 4 bytes.now point result }
+    ensures { (t : ℕ) → 0 < t → IsNextSeat t bytes.now point result }
 {
     if point.vs > 0 {
         return Some((b' ', point));
@@ -51,13 +48,17 @@ pub(crate) fn seat_at(bytes: &[u8], point: Point) -> Option<(u8, Point)>
 /// The next virtual byte from a place on, where it stands before the end of a text.
 pub(crate) fn next_byte(bytes: &[u8], point: Point, end: (usize, usize)) -> Option<u8>
     requires within { 0 < point.vs → point.index < length bytes.now }
-    ensures { IsNextByte 4 bytes.now point end result }
+    ensures { (t : ℕ) → 0 < t → IsNextByte t bytes.now point end result }
 {
-    let (byte, seat) = seat_at(bytes, point)?;
-    if is_before(seat, end) {
-        Some(byte)
-    } else {
-        None
+    match seat_at(bytes, point) {
+        None => None,
+        Some((byte, seat)) => {
+            if is_before(seat, end) {
+                Some(byte)
+            } else {
+                None
+            }
+        }
     }
 }
 
@@ -92,19 +93,23 @@ pub(crate) fn resume(skips: &Skips, place: &mut Point)
     }
 }
 
-/// Whether the tab at a place goes on after its next virtual byte, which is this one.
-fn goes_on(point: &Point, byte: u8) -> bool
-    ensures { result ≡ goes_on 4 byte point.now }
+/// Whether the tab at a place goes on after its next virtual byte, which is this one. Tab stops stand at every `t`
+/// columns.
+fn goes_on(t: usize, point: &Point, byte: u8) -> bool
+    requires some { 0 < t }
+    ensures { result ≡ goes_on t byte point.now }
 {
-    (byte == b'\t' || point.vs > 0) && point.column % TAB != 0
+    (byte == b'\t' || point.vs > 0) && point.column % t != 0
 }
 
-/// Moves a place over the next virtual byte, which is this one: of a CR LF over both bytes.
-pub(crate) fn pass(bytes: &[u8], point: &mut Point, byte: u8)
-    requires limit { 4 * length bytes.now + 1 < 2 ^ 64 }
-    requires place { IsPlace 4 bytes.now point.old }
-    requires next { (seat : Seat) × IsSeatAt 4 bytes.now point.old seat × (seat.byte ≡ byte) }
-    ensures { (seat : Seat) → IsSeatAt 4 bytes.now point.old seat → point.new ≡ seat.end }
+/// Moves a place over the next virtual byte, which is this one: of a CR LF over both bytes. Tab stops stand at every
+/// `t` columns.
+pub(crate) fn pass(bytes: &[u8], t: usize, point: &mut Point, byte: u8)
+    requires some { 0 < t }
+    requires limit { t * length bytes.now + 1 < 2 ^ 64 }
+    requires place { IsPlace t bytes.now point.old }
+    requires next { (seat : Seat) × IsSeatAt t bytes.now point.old seat × (seat.byte ≡ byte) }
+    ensures { (seat : Seat) → IsSeatAt t bytes.now point.old seat → point.new ≡ seat.end }
 {
     if byte == b'\n' {
         point.line += 1;
@@ -115,7 +120,7 @@ pub(crate) fn pass(bytes: &[u8], point: &mut Point, byte: u8)
         } else {
             point.index += 1;
         }
-    } else if goes_on(point, byte) {
+    } else if goes_on(t, point, byte) {
         point.column += 1;
         point.vs += 1;
     } else {

@@ -5,6 +5,7 @@ ghost use Rattle.markdown_base.specs.Places;
 ghost use Rattle.std.specs.Prelude.{◌==◌, ◌≡◌, ◌&&◌, ◌+◌, ◌*◌, ◌^◌, ◌<◌, All, IfOk, length};
 
 use crate::cursor::{pass, seat_at, shown};
+use markdown_base::configuration::TabSize;
 use markdown_base::event::Point;
 use std::alloc::{AllocError, Global};
 
@@ -30,11 +31,13 @@ fn is_at(point: Point, place: (usize, usize)) -> bool
 
 /// The point of a place of a document, given by byte index and number in a tab:
 /// of a virtual byte, of the CR of a CR LF, or of the document's end.
-/// `None` where there is no such place. Line and virtual column are counted from the document's start.
-pub fn point_at(bytes: &[u8], place: (usize, usize)) -> Option<Point>
-    requires fits { 4 * length bytes.now + 1 < 2 ^ 64 }
-    ensures { result ≡ Places.point_at 4 bytes.now place }
+/// `None` where there is no such place. Line and virtual column are counted from the document's start, with tab stops
+/// at every `tab_size` columns.
+pub fn point_at(bytes: &[u8], tab_size: TabSize, place: (usize, usize)) -> Option<Point>
+    requires fits { tab_size * length bytes.now + 1 < 2 ^ 64 }
+    ensures { result ≡ Places.point_at tab_size bytes.now place }
 {
+    let t = tab_size.get();
     let mut after_previous = START;
     while let Some((byte, seat)) = seat_at(bytes, after_previous) {
         let first = shown(bytes, seat);
@@ -44,7 +47,7 @@ pub fn point_at(bytes: &[u8], place: (usize, usize)) -> Option<Point>
         if is_at(seat, place) {
             return Some(seat);
         }
-        pass(bytes, &mut after_previous, byte);
+        pass(bytes, t, &mut after_previous, byte);
     }
     if is_at(after_previous, place) {
         Some(after_previous)
@@ -54,12 +57,18 @@ pub fn point_at(bytes: &[u8], place: (usize, usize)) -> Option<Point>
 }
 
 /// The places (byte index, number in a tab) of the virtual bytes number `n`, `2n`, `3n`, .., numbered from 0:
-/// a document can be handed over in parts there.
-pub fn cuts_every(alloc: Global, bytes: &[u8], n: usize) -> Result<Vec<(usize, usize)>, AllocError>
+/// a document can be handed over in parts there. Tab stops stand at every `tab_size` columns.
+pub fn cuts_every(
+    alloc: Global,
+    bytes: &[u8],
+    tab_size: TabSize,
+    n: usize,
+) -> Result<Vec<(usize, usize)>, AllocError>
     requires some { 0 < n }
-    requires fits { 4 * length bytes.now + 1 < 2 ^ 64 }
-    ensures { IfOk result (λ cuts. cuts.items ≡ Cuts.cuts_every 4 bytes.now n) }
+    requires fits { tab_size * length bytes.now + 1 < 2 ^ 64 }
+    ensures { IfOk result (λ cuts. cuts.items ≡ Cuts.cuts_every tab_size bytes.now n) }
 {
+    let t = tab_size.get();
     let mut cuts = Vec::new(alloc);
     let mut after_previous = START;
     let mut number: usize = 0;
@@ -68,7 +77,7 @@ pub fn cuts_every(alloc: Global, bytes: &[u8], n: usize) -> Result<Vec<(usize, u
             cuts.push((seat.index, seat.vs))?;
         }
         number += 1;
-        pass(bytes, &mut after_previous, byte);
+        pass(bytes, t, &mut after_previous, byte);
     }
     Ok(cuts)
 }

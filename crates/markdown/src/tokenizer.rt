@@ -18,6 +18,7 @@ pub use crate::work::{reads_in_one_way, run};
 use markdown_base::event::{Content, Event, Kind, Link, Name, Point};
 use markdown_base::message::Message;
 use markdown_base::owned::{Items, OwnedText, StaticBytes};
+use markdown_base::util::constant::TAB_SIZE;
 use std::alloc::{AllocError, Global};
 use std::marker::Model;
 use std::mem::replace;
@@ -374,7 +375,12 @@ impl<'a, M: MachineTypes> Tokenizer<'a, M> {
             None => unreachable!(),
         };
         resume(&self.skips, &mut self.after_previous);
-        pass(self.parse_state.bytes, &mut self.after_previous, byte);
+        pass(
+            self.parse_state.bytes,
+            TAB_SIZE,
+            &mut self.after_previous,
+            byte,
+        );
         self.previous = self.current;
         self.current = None;
         self.ended = false;

@@ -2,9 +2,9 @@
 
 ghost use Rattle.std.specs.Prelude.{◌≡◌, ◌+◌, ◌*◌, ◌^◌, ◌<◌, ◌≤◌, length, slice_get, suc, IfOk};
 ghost use Rattle.mdchildren.specs.Rows.{is_lf, width_at, ends_line, column_after, rows, is_in_some_row};
+ghost use Rattle.markdown_base.specs.Virtual.{tab_width};
 
 use markdown_base::event::Point;
-use markdown_base::util::constant::TAB_SIZE;
 use std::alloc::{AllocError, Global};
 
 /// The line and the column at which a byte, or the document's end, begins, and how many of its places are shown.
@@ -15,16 +15,17 @@ pub(crate) struct Row {
     pub(crate) width: usize,
 }
 
-/// The rows of a document: one a byte, and one of its end.
-pub(crate) fn rows_of(alloc: Global, bytes: &[u8]) -> Result<Vec<Row>, AllocError>
-    requires limit { 4 * length bytes.now + 1 < 2 ^ 64 }
-    ensures { IfOk result (λ v. v.items ≡ rows 4 bytes.now) }
+/// The rows of a document: one a byte, and one of its end. Tab stops stand at every `t` columns.
+pub(crate) fn rows_of(alloc: Global, bytes: &[u8], t: usize) -> Result<Vec<Row>, AllocError>
+    requires some { 0 < t }
+    requires limit { t * length bytes.now + 1 < 2 ^ 64 }
+    ensures { IfOk result (λ v. v.items ≡ rows t bytes.now) }
 {
     let mut rows = Vec::new(alloc);
     let mut line: usize = 1;
     let mut column: usize = 1;
     for index in 0..bytes.len() {
-        let width = width_at(bytes, index, column);
+        let width = width_at(bytes, t, index, column);
         rows.push(Row {
             line,
             column,
@@ -33,7 +34,7 @@ pub(crate) fn rows_of(alloc: Global, bytes: &[u8]) -> Result<Vec<Row>, AllocErro
         if ends_line(bytes, index) {
             line += 1;
         }
-        column = column_after(bytes, index, column);
+        column = column_after(bytes, t, index, column);
     }
     rows.push(Row {
         line,
@@ -64,14 +65,24 @@ fn is_lf(bytes: &[u8], index: usize) -> bool
     index < bytes.len() && bytes[index] == b'\n'
 }
 
+/// How many columns a tab at this column has.
+fn tab_width(t: usize, column: usize) -> usize
+    requires some { 0 < t }
+    requires first { 1 ≤ column }
+    ensures { result ≡ tab_width t column }
+{
+    t - (column - 1) % t
+}
+
 /// How many places of a byte are shown: a tab has one a column, and the LF of a CR LF none.
-fn width_at(bytes: &[u8], index: usize, column: usize) -> usize
+fn width_at(bytes: &[u8], t: usize, index: usize, column: usize) -> usize
+    requires some { 0 < t }
     requires inside { index < length bytes.now }
     requires first { 1 ≤ column }
-    ensures { result ≡ width_at 4 bytes.now column index }
+    ensures { result ≡ width_at t bytes.now column index }
 {
     if bytes[index] == b'\t' {
-        return TAB_SIZE - (column - 1) % TAB_SIZE;
+        return tab_width(t, column);
     }
     if bytes[index] == b'\n' && index > 0 && bytes[index - 1] == b'\r' {
         0
@@ -93,18 +104,19 @@ fn ends_line(bytes: &[u8], index: usize) -> bool
 }
 
 /// The column after a byte at this column.
-fn column_after(bytes: &[u8], index: usize, column: usize) -> usize
+fn column_after(bytes: &[u8], t: usize, index: usize, column: usize) -> usize
+    requires some { 0 < t }
     requires inside { index < length bytes.now }
     requires first { 1 ≤ column }
-    requires limit { column + 4 < 2 ^ 64 }
-    ensures { result ≡ column_after 4 bytes.now column index }
+    requires limit { column + t < 2 ^ 64 }
+    ensures { result ≡ column_after t bytes.now column index }
 {
     if ends_line(bytes, index) {
         return 1;
     }
     match bytes[index] {
         b'\r' => column,
-        b'\t' => column + (TAB_SIZE - (column - 1) % TAB_SIZE),
+        b'\t' => column + tab_width(t, column),
         _ => column + 1,
     }
 }

@@ -23,7 +23,7 @@ use markdown::subtokenize::Subresult;
 use markdown::tokenizer::Fault;
 use markdown::util::edit_map::EditMap;
 use markdown::util::skip::opt_back;
-use markdown_base::configuration::Constructs;
+use markdown_base::configuration::{Constructs, TabSize};
 use markdown_base::event::{Content, Event, Kind, Name};
 use std::alloc::{AllocError, Global};
 
@@ -104,23 +104,26 @@ fn is(event: &Event, kind: Kind, name: Name) -> bool
 /// That is so for a balanced list in which each linked event enters a void span that its exit follows; links lead on and
 /// back alike, forwards, and along one content; and in each chain that fits the content is not Flow, chunks stand at places of the
 /// document that are shown and do not run backwards, and between two of them stand whole spans in no chain, over no text or text
-/// that begins a line and ends in it. The list may be any, with link ends wherever they lead.
+/// that begins a line and ends in it. The list may be any, with link ends wherever they lead. Tab stops stand at every
+/// `tab_size` columns.
 pub fn ready(
     alloc: Global,
     events: &[Event],
     bytes: &[u8],
+    tab_size: TabSize,
     filter: Option<&Content>,
 ) -> Result<bool, AllocError>
-    requires limit { 4 * length bytes.now + 1 < 2 ^ 64 }
-    ensures { IfOk result (λ b. (b ≡ true) ↔ IsReady 4 bytes.now (option_copied filter.entry) events.now) }
+    requires limit { tab_size * length bytes.now + 1 < 2 ^ 64 }
+    ensures { IfOk result (λ b. (b ≡ true) ↔ IsReady tab_size bytes.now (option_copied filter.entry) events.now) }
 {
+    let t = tab_size.get();
     if !closes(alloc, events)? {
         return Ok(false);
     }
     if !are_sound(events) {
         return Ok(false);
     }
-    let rows = rows_of(alloc, bytes)?;
+    let rows = rows_of(alloc, bytes, t)?;
     can_be_read(alloc, events, &rows, filter.copied())
 }
 

@@ -2,7 +2,7 @@
 
 ghost use Rattle.std.specs.Prelude.{◌≡◌, ◌+◌, ◌*◌, ◌^◌, ◌<◌, true, length, All, Contains, IfSome};
 ghost use Rattle.markdown_base.specs.Virtual.{point};
-ghost use Rattle.markdown_base.specs.Places.{denotes_same, stands_before};
+ghost use Rattle.markdown_base.specs.Places.{denotes_same, point_at, stands_before};
 ghost use Rattle.markdown.specs.Configuration.{start_seen};
 ghost use Rattle.markdown.specs.Engine.{given_of};
 ghost use Rattle.markdown.specs.Ranges.{FollowOn, IsGapFrom, LeadsFrom, after_any};
@@ -10,11 +10,11 @@ ghost use Rattle.markdown.specs.Text.{empty_text};
 ghost use Rattle.mdevents.specs.Program.{document};
 
 use crate::write::write_lines;
-use markdown::configuration::ParseOptions;
+use markdown::configuration::{ParseOptions, TabSize};
 use markdown::event::{Event, Point};
 use markdown::parser::ParseState;
 use markdown::state::{Machine, Name, State};
-use markdown::tokenizer::{Tokenizer, point_at};
+use markdown::tokenizer::{self, Tokenizer};
 use std::alloc::{AllocError, Global};
 
 /// A range of a document, from a place to another one, and the place up to which a gap is passed before it, if one is.
@@ -275,6 +275,15 @@ fn passes_beginning(bytes: &[u8], beginning: Point, place: Point) -> bool
         && beginning.column == 1
         && place.line == beginning.line
         && stands_before(beginning, place)
+}
+
+/// The point of a place of a document, with the tab stops of CommonMark; None where there is no such place.
+fn point_at(bytes: &[u8], place: (usize, usize)) -> Option<Point>
+    requires limit { 4 * length bytes.now + 1 < 2 ^ 64 }
+    ensures { result ≡ point_at 4 bytes.now place }
+{
+    let tab_size = TabSize::default();
+    tokenizer::point_at(bytes, tab_size, place)
 }
 
 /// Whether a point stands before another one.

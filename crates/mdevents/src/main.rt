@@ -29,6 +29,7 @@ mod ranges;
 mod read;
 #[cfg(test)]
 mod rows;
+mod tab_stops;
 #[cfg(test)]
 mod turns;
 mod waiting;

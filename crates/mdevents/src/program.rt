@@ -12,14 +12,15 @@ ghost use Rattle.mdevents.specs.Words.{CanCut};
 
 use crate::failure::Failure;
 use crate::read::read_to_end;
+use crate::tab_stops::{cuts_every, ready};
 use crate::words::{Choice, Which};
 use crate::write::write_lines;
 use markdown::configuration::ParseOptions;
 use markdown::event::{Content, Event};
 use markdown::parser::ParseState;
 use markdown::state::{Machine, Name};
-use markdown::tokenizer::{Fault, cuts_every, run};
-use mdchildren::subtokenize::{ready, subtokenize};
+use markdown::tokenizer::{Fault, run};
+use mdchildren::subtokenize::subtokenize;
 use mdconstructs::back::Back;
 use mdconstructs::deep::Deep;
 use mdconstructs::lines::Lines;

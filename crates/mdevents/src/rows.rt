@@ -5,8 +5,8 @@ ghost use Rattle.mdevents.specs.Program.{document};
 
 use crate::driven::{Pushed, Seen, after_push, gives, read_cut};
 use crate::expected::{ONE_DATA, SHORT_DATA, THREE_DATA, TWO_LINES};
+use crate::tab_stops::cuts_every;
 use markdown::state::{Machine, Name};
-use markdown::tokenizer::cuts_every;
 use mdconstructs::deep::Deep;
 use mdconstructs::lines::Lines;
 use mdconstructs::peek::Peek;

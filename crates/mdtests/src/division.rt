@@ -9,9 +9,10 @@ ghost use Rattle.mdchildren.specs.Laws.{HasEndsWithin};
 use crate::chunks::Row::{Chunk, Enter, Exit};
 use crate::chunks::{EMPTY_CHUNK, QUOTE, Row, listed};
 use crate::shown::shown;
+use crate::tab_stops::ready;
 use markdown::event::{Content, Event, Name};
 use markdown::util::edit_map::EditMap;
-use mdchildren::subtokenize::{divide_events, ready};
+use mdchildren::subtokenize::divide_events;
 use std::alloc::{AllocError, Global};
 
 /// Whether a chain begins at an index.

@@ -58,6 +58,8 @@ mod subtokenize;
 #[cfg(test)]
 mod tab_sizes;
 #[cfg(test)]
+mod tab_stops;
+#[cfg(test)]
 mod tokenizer;
 #[cfg(test)]
 mod unist_points;

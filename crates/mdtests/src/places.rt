@@ -2,6 +2,7 @@
 
 ghost use Rattle.std.specs.Prelude.{◌+◌, ◌*◌, ◌^◌, ◌<◌, length};
 
+use markdown::configuration::TabSize;
 use markdown::event::Point;
 use markdown::tokenizer::{cuts_every, point_at};
 use std::alloc::{AllocError, Global};
@@ -24,7 +25,7 @@ fn points_of_places(rt: HostRuntime) {
         ((4, 1), None),
         ((5, 0), None),
     ] {
-        assert!(rt; point_at(b"a\r\nb", pair) == want);
+        assert!(rt; point_at(b"a\r\nb", TabSize::default(), pair) == want);
     }
 }
 
@@ -33,7 +34,8 @@ fn cuts(alloc: Global, bytes: &[u8], n: usize) -> Result<String, AllocError>
     requires limit { 4 * length bytes.now + 1 < 2 ^ 64 }
     requires some { 0 < n }
 {
-    let cuts = cuts_every(alloc, bytes, n)?;
+    let tab_size = TabSize::default();
+    let cuts = cuts_every(alloc, bytes, tab_size, n)?;
     format!(in alloc; "{cuts:?}")
 }
 

@@ -4,9 +4,10 @@ use crate::chunks::Row::{Chunk, Enter, Exit};
 use crate::chunks::{
     CHAIN_AROUND_ANOTHER, CHAIN_AROUND_CHILDREN, Place, QUOTE, Row, TWO_CHUNKS, listed,
 };
+use crate::tab_stops::ready;
 use markdown::configuration::Constructs;
 use markdown::event::{Content, Name};
-use mdchildren::subtokenize::{at_first_paragraph_of_list_item, ready};
+use mdchildren::subtokenize::at_first_paragraph_of_list_item;
 use std::alloc::{AllocError, Global};
 
 /// The content of the chains that fit.

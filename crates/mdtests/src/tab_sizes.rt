@@ -2,10 +2,14 @@
 
 ghost use Rattle.std.specs.Prelude.{◌≡◌, ◌≤◌};
 
+use crate::chunks::Row::{Chunk, Exit};
+use crate::chunks::{Place, listed};
 use markdown::configuration::TabSize;
-use markdown::event::Point;
+use markdown::event::{Content, Name, Point};
+use markdown::tokenizer::{cuts_every, point_at};
 use markdown::util::slice::{Position, Slice};
-use std::alloc::AllocError;
+use mdchildren::subtokenize::ready;
+use std::alloc::{AllocError, Global};
 
 /// Tab stops at every `n` columns.
 fn every(n: usize) -> TabSize
@@ -130,4 +134,55 @@ fn tab_of_one_column_is_one_byte(rt: HostRuntime) {
     );
     assert!(rt; slice.bytes == b"\t".as_slice());
     assert_eq!(rt; (slice.before, slice.after), (0, 0));
+}
+
+#[test]
+fn cuts_by_one_virtual_byte(rt: HostRuntime) -> Result<(), AllocError> {
+    for (n, want) in [(1, 2), (3, 3), (4, 4), (8, 8), (16, 16)] {
+        assert!(rt; 1 <= n && n <= 16);
+        let cuts = cuts_every(rt.alloc(), b"a\tb", every(n), 1)?;
+        assert_eq!(rt; cuts.len(), want);
+    }
+    Ok(())
+}
+
+#[test]
+fn points_of_places_in_tabs(rt: HostRuntime) {
+    for (n, place, want) in [
+        (1, (1, 1), None),
+        (1, (2, 0), Some(at(3, 2, 0))),
+        (8, (1, 6), Some(at(8, 1, 6))),
+        (8, (1, 7), None),
+        (16, (1, 14), Some(at(16, 1, 14))),
+        (16, (2, 0), Some(at(17, 2, 0))),
+    ] {
+        assert!(rt; 1 <= n && n <= 16);
+        assert!(rt; point_at(b"a\tb", every(n), place) == want);
+    }
+}
+
+/// Whether a chunk of a tab, from one place to another, is ready.
+fn is_ready(alloc: Global, n: usize, from: Place, to: Place) -> Result<bool, AllocError>
+    requires least { 1 ≤ n }
+    requires most { n ≤ 16 }
+{
+    let list = [Chunk(from, Content::Text, None, None), Exit(Name::Data, to)];
+    let events = listed(alloc, &list)?;
+    ready(alloc, events.as_slice(), b"\t", every(n), None)
+}
+
+#[test]
+fn chunks_stand_at_places_of_tabs(rt: HostRuntime) -> Result<(), AllocError> {
+    for (n, from, to, want) in [
+        (1, (1, 1, 0, 0), (1, 2, 1, 0), true),
+        (1, (1, 1, 0, 0), (1, 5, 1, 0), false),
+        (4, (1, 3, 0, 2), (1, 5, 1, 0), true),
+        (8, (1, 3, 0, 2), (1, 5, 1, 0), false),
+        (8, (1, 3, 0, 2), (1, 9, 1, 0), true),
+        (16, (1, 16, 0, 15), (1, 17, 1, 0), true),
+    ] {
+        assert!(rt; 1 <= n && n <= 16);
+        assert!(rt; is_ready(rt.alloc(), n, from, to)? == want);
+    }
+    Ok(())
 }

@@ -4,7 +4,7 @@ use Rattle.markdown.proofs.PlaceWalks.{IsCutting}
 use Rattle.markdown.proofs.places.cuts_every.Given as goal
 
 abbrev pub invariant-loop-byte : goal.invariant-loop-byte
-invariant-loop-byte l = IsCutting 4 l.bytes l.n l.after_previous l.number l.cuts.items
+invariant-loop-byte l = IsCutting l.t l.bytes l.n l.after_previous l.number l.cuts.items
 
 abbrev pub decreases-loop-byte : goal.decreases-loop-byte
-decreases-loop-byte l = length (rest_at 4 l.bytes l.after_previous)
+decreases-loop-byte l = length (rest_at l.t l.bytes l.after_previous)

@@ -4,7 +4,7 @@ use Rattle.markdown.proofs.PlaceWalks.{IsSearch}
 use Rattle.markdown.proofs.places.point_at.Given as goal
 
 abbrev pub invariant-loop-byte : goal.invariant-loop-byte
-invariant-loop-byte l = IsSearch 4 l.bytes l.place l.after_previous
+invariant-loop-byte l = IsSearch l.t l.bytes l.place l.after_previous
 
 abbrev pub decreases-loop-byte : goal.decreases-loop-byte
-decreases-loop-byte l = length (rest_at 4 l.bytes l.after_previous)
+decreases-loop-byte l = length (rest_at l.t l.bytes l.after_previous)

@@ -1,4 +1,4 @@
-use Rattle.std.proofs.Common.{refl}
+use Rattle.std.proofs.Common.{lit<, refl}
 use Rattle.markdown.proofs.Steps.{byte-waits, consumed-sound, consumed-seen, byte-of-seat, place-at, seat-at}
 use Rattle.markdown.proofs.tokenizer.Tokenizer.consume.Goals as goal
 
@@ -9,6 +9,7 @@ pass-requires g c =
     let w = byte-waits t sound e in
     let place = c.resume.ensures in
     record {
+      some = lit< tt;
       limit = sound.limit;
       place = place-at t sound _ _ refl place;
       next = (w.seat, seat-at t sound _ _ w.seat refl place w.at, byte-of-seat t sound w c.in-Some.byte c.in-Some.is);
