@@ -4,6 +4,7 @@
 
 ghost use Rattle.std.specs.Prelude.{◌≡◌, ◌↔◌, true};
 
+use crate::configuration::TabSize;
 use crate::message::{Message, Place};
 use crate::util::line_ending::LineEnding;
 use crate::{event, state, unist};
@@ -39,4 +40,9 @@ pub fn equal_places_are_one()
 pub fn equal_states_are_one()
     ensures messages { (a : _) (b : _) → (⟦<Message as PartialEq>⟧.eq a b ≡ true) ↔ (a ≡ b) }
     ensures states { (a : _) (b : _) → (⟦<state::State as PartialEq>⟧.eq a b ≡ true) ↔ (a ≡ b) }
+{}
+
+/// Tab sizes: equal ones are one.
+pub fn equal_tab_sizes_are_one()
+    ensures { (a : _) (b : _) → (⟦<TabSize as PartialEq>⟧.eq a b ≡ true) ↔ (a ≡ b) }
 {}
