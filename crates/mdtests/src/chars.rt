@@ -30,14 +30,10 @@ fn decodes_the_character_after_an_index(rt: HostRuntime) {
 
 #[test]
 fn classifies(rt: HostRuntime) {
-    for (char, want) in [
-        (' ', Kind::Whitespace),
-        ('a', Kind::Other),
-        ('.', Kind::Punctuation),
-        ('\u{3001}', Kind::Punctuation),
-    ] {
-        assert!(rt; classify(char, &is_comma) == want, "of {char}");
-    }
+    assert!(rt; classify(' ', &is_comma) == Kind::Whitespace);
+    assert!(rt; classify('a', &is_comma) == Kind::Other);
+    assert!(rt; classify('.', &is_comma) == Kind::Punctuation);
+    assert!(rt; classify('\u{3001}', &is_comma) == Kind::Punctuation);
     assert!(rt; classify('\u{3001}', &is_none) == Kind::Other);
 }
 
@@ -64,34 +60,46 @@ fn ends_and_marks(alloc: Global) -> Result<String, AllocError> {
     Ok(text)
 }
 
+/// The printed forms of characters, a line for each.
+fn characters(alloc: Global, chars: &str) -> Result<String, AllocError> {
+    let mut text = String::new(alloc);
+    for char in chars.chars() {
+        push_line(&mut text, format(alloc, char))?;
+    }
+    Ok(text)
+}
+
+/// The printed forms of bytes, a line for each.
+fn bytes(alloc: Global, bytes: &[u8]) -> Result<String, AllocError> {
+    let mut text = String::new(alloc);
+    for byte in bytes {
+        push_line(&mut text, format_byte(alloc, *byte))?;
+    }
+    Ok(text)
+}
+
 #[test]
 fn shows_characters(rt: HostRuntime) -> Result<(), AllocError> {
-    for (char, want) in [
-        ('!', "`!` (U+0021)"),
-        (' ', "U+0020"),
-        ('`', "`` ` `` (U+0060)"),
-        ('~', "`~` (U+007E)"),
-        ('\n', "U+000A"),
-        ('é', "U+00E9"),
-        ('\u{10ffff}', "U+10FFFF"),
-    ] {
-        let shown = format(rt.alloc(), char)?;
-        assert!(rt; shown.as_str() == want);
-    }
+    let text = characters(rt.alloc(), "! `~\né\u{10ffff}")?;
+    let want = "`!` (U+0021)\n\
+        U+0020\n\
+        `` ` `` (U+0060)\n\
+        `~` (U+007E)\n\
+        U+000A\n\
+        U+00E9\n\
+        U+10FFFF\n";
+    assert_eq!(rt; text.as_str(), want);
     Ok(())
 }
 
 #[test]
 fn shows_bytes(rt: HostRuntime) -> Result<(), AllocError> {
-    for (byte, want) in [
-        (b'!', "`!` (U+0021)"),
-        (b' ', "U+0020"),
-        (b'`', "`` ` `` (U+0060)"),
-        (0xe9, "U+00E9"),
-    ] {
-        let shown = format_byte(rt.alloc(), byte)?;
-        assert!(rt; shown.as_str() == want);
-    }
+    let text = bytes(rt.alloc(), b"! `\xe9")?;
+    let want = "`!` (U+0021)\n\
+        U+0020\n\
+        `` ` `` (U+0060)\n\
+        U+00E9\n";
+    assert_eq!(rt; text.as_str(), want);
     Ok(())
 }
 
