@@ -25,26 +25,26 @@ abbrev pub is_quote_mark : Option ℕ → Bool
 is_quote_mark None = false
 is_quote_mark (Some byte) = byte == 62
 
-abbrev pub at_quote_mark : Given → Sight → Configuration Unit Unit → Bool
+abbrev pub at_quote_mark : {R D : Type 0} → Given → Sight → Configuration R D → Bool
 at_quote_mark g s k = is_quote_mark s.current
 
 -- a chunk came before in the paragraph
-abbrev pub is_connected : Given → Sight → Configuration Unit Unit → Bool
+abbrev pub is_connected : {R D : Type 0} → Given → Sight → Configuration R D → Bool
 is_connected g s k = k.local.tokenize_state.connect
 
 -- no chunk came before in the paragraph
-abbrev pub alone : Configuration Unit Unit → Local Unit Unit
+abbrev pub alone : {R D : Type 0} → Configuration R D → Local R D
 alone k = record k.local { tokenize_state = record k.local.tokenize_state { connect = false } }
 
 -- the last event, and the chunk that came before
-abbrev pub last_event : Configuration Unit Unit → ℕ
+abbrev pub last_event : {R D : Type 0} → Configuration R D → ℕ
 last_event k = length k.events - 1
 
-abbrev pub chunk_before : Configuration Unit Unit → ℕ
+abbrev pub chunk_before : {R D : Type 0} → Configuration R D → ℕ
 chunk_before k = k.local.tokenize_state.start
 
 -- the last event is the chunk that came before
-abbrev pub connected : Configuration Unit Unit → Local Unit Unit
+abbrev pub connected : {R D : Type 0} → Configuration R D → Local R D
 connected k = record k.local { tokenize_state = record k.local.tokenize_state { start = last_event k; connect = true } }
 
 -- a chunk is read as text
@@ -52,51 +52,51 @@ abbrev pub text_link : Link
 text_link = record { previous = None; next = None; content = TextContent }
 
 -- the chunk that the last event begins is linked to the one that came before
-abbrev pub chained : Configuration Unit Unit → Configuration Unit Unit
+abbrev pub chained : {R D : Type 0} → Configuration R D → Configuration R D
 chained k = linked (chunk_before k) (last_event k) k
 
 -- a chunk that begins here can be linked to the one that came before, if one did
-abbrev pub CanLinkChunk : {M : Type 0} → Seen M Unit Unit → Type 0
+abbrev pub CanLinkChunk : {M R D : Type 0} → Seen M R D → Type 0
 CanLinkChunk t =
     let k = entered Data (Some text_link) (sight_seen t).here t.configuration in
     k.local.tokenize_state.connect ≡ true → CanLink k.events (chunk_before k) (last_event k)
 
 -- before a paragraph
-abbrev pub flow_start_rows : (previous current : Option LineByte) → Rows Unit Unit
+abbrev pub flow_start_rows : {R D : Type 0} → (previous current : Option LineByte) → Rows R D
 flow_start_rows _ None = row [] Ok
 flow_start_rows _ (Some line_ending) = row (enter BlankLineEnding ∷ consume ∷ exit BlankLineEnding ∷ []) (Next FlowStart)
 flow_start_rows _ (Some other) = row (enter Paragraph ∷ write alone ∷ []) (Retry ParagraphLineStart)
 
-abbrev pub flow_start : StateRows LineByte Unit Unit
+abbrev pub flow_start : {R D : Type 0} → StateRows LineByte R D
 flow_start = plain FlowStart flow_start_rows [] (calls 4 3)
 
 -- before a line of a paragraph, which ends at a blank one
-abbrev pub paragraph_line_start_rows : (previous current : Option LineByte) → Rows Unit Unit
+abbrev pub paragraph_line_start_rows : {R D : Type 0} → (previous current : Option LineByte) → Rows R D
 paragraph_line_start_rows _ None = row (exit Paragraph ∷ []) (Retry FlowStart)
 paragraph_line_start_rows _ (Some line_ending) = row (exit Paragraph ∷ []) (Retry FlowStart)
 paragraph_line_start_rows _ (Some other) =
     when at_quote_mark (row (enter BlockQuoteMarker ∷ consume ∷ exit BlockQuoteMarker ∷ []) (Next ParagraphStart)) (row [] (Retry ParagraphStart))
 
-abbrev pub paragraph_line_start : StateRows LineByte Unit Unit
+abbrev pub paragraph_line_start : {R D : Type 0} → StateRows LineByte R D
 paragraph_line_start = record (plain ParagraphLineStart paragraph_line_start_rows (Paragraph ∷ []) (calls 4 3)) { begun = at_byte is_other }
 
 -- before the chunk of a line
-abbrev pub paragraph_start_rows : (previous current : Option LineByte) → Rows Unit Unit
+abbrev pub paragraph_start_rows : {R D : Type 0} → (previous current : Option LineByte) → Rows R D
 paragraph_start_rows _ None = row [] (Retry ParagraphLineStart)
 paragraph_start_rows _ (Some _) =
     when is_connected (row (enter_link Data text_link ∷ links chunk_before last_event ∷ write connected ∷ []) (Retry ParagraphInside))
     (row (enter_link Data text_link ∷ write connected ∷ []) (Retry ParagraphInside))
 
-abbrev pub paragraph_start : StateRows LineByte Unit Unit
+abbrev pub paragraph_start : {R D : Type 0} → StateRows LineByte R D
 paragraph_start = record (plain ParagraphStart paragraph_start_rows (Paragraph ∷ []) (calls 4 3)) { begun = at_byte is_other }
 
 -- in a chunk, which ends with its line ending
-abbrev pub paragraph_inside_rows : (previous current : Option LineByte) → Rows Unit Unit
+abbrev pub paragraph_inside_rows : {R D : Type 0} → (previous current : Option LineByte) → Rows R D
 paragraph_inside_rows _ None = row (exit Data ∷ []) (Retry ParagraphLineStart)
 paragraph_inside_rows _ (Some line_ending) = row (consume ∷ exit Data ∷ []) (Next ParagraphLineStart)
 paragraph_inside_rows _ (Some other) = row (consume ∷ []) (Next ParagraphInside)
 
-abbrev pub paragraph_inside : StateRows LineByte Unit Unit
+abbrev pub paragraph_inside : {R D : Type 0} → StateRows LineByte R D
 paragraph_inside = record (plain ParagraphInside paragraph_inside_rows (Paragraph ∷ Data ∷ []) (calls 4 3)) { begun = at_byte is_any }
 
 -- before text, which is read as data

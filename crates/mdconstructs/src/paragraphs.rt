@@ -89,7 +89,7 @@ impl Machine for Paragraphs {
 }
 
 /// Before a paragraph: a blank line is passed, and at another one the paragraph begins.
-fn flow_start<'a>(t: &mut Tokenizer<'a, Paragraphs>) -> Result<State, AllocError>
+pub fn flow_start<'a, M: MachineTypes>(t: &mut Tokenizer<'a, M>) -> Result<State, AllocError>
     requires { IsCallable line_byte flow_start t.old }
     ensures { IfOk result (DoesAll (step_in line_byte flow_start t.old) t.old t.new) }
 {
@@ -108,7 +108,9 @@ fn flow_start<'a>(t: &mut Tokenizer<'a, Paragraphs>) -> Result<State, AllocError
 }
 
 /// Before a line of a paragraph: a blank line ends it.
-fn paragraph_line_start<'a>(t: &mut Tokenizer<'a, Paragraphs>) -> Result<State, AllocError>
+pub fn paragraph_line_start<'a, M: MachineTypes>(
+    t: &mut Tokenizer<'a, M>,
+) -> Result<State, AllocError>
     requires { IsCallable line_byte paragraph_line_start t.old }
     ensures { IfOk result (DoesAll (step_in line_byte paragraph_line_start t.old) t.old t.new) }
 {
@@ -130,7 +132,7 @@ fn paragraph_line_start<'a>(t: &mut Tokenizer<'a, Paragraphs>) -> Result<State, 
 }
 
 /// Before the chunk of a line, which is linked to the one before it in the paragraph.
-fn paragraph_start<'a>(t: &mut Tokenizer<'a, Paragraphs>) -> Result<State, AllocError>
+pub fn paragraph_start<'a, M: MachineTypes>(t: &mut Tokenizer<'a, M>) -> Result<State, AllocError>
     requires called { IsCallable line_byte paragraph_start t.old }
     requires chunk { CanLinkChunk t.old }
     ensures { IfOk result (DoesAll (step_in line_byte paragraph_start t.old) t.old t.new) }
@@ -149,7 +151,7 @@ fn paragraph_start<'a>(t: &mut Tokenizer<'a, Paragraphs>) -> Result<State, Alloc
 }
 
 /// In a chunk, which ends with its line ending.
-fn paragraph_inside<'a>(t: &mut Tokenizer<'a, Paragraphs>) -> Result<State, AllocError>
+pub fn paragraph_inside<'a, M: MachineTypes>(t: &mut Tokenizer<'a, M>) -> Result<State, AllocError>
     requires { IsCallable line_byte paragraph_inside t.old }
     ensures { IfOk result (DoesAll (step_in line_byte paragraph_inside t.old) t.old t.new) }
 {
@@ -171,21 +173,21 @@ fn paragraph_inside<'a>(t: &mut Tokenizer<'a, Paragraphs>) -> Result<State, Allo
 }
 
 /// The index of the last event.
-fn last_event<'a>(t: &Tokenizer<'a, Paragraphs>) -> usize
+fn last_event<'a, M: MachineTypes>(t: &Tokenizer<'a, M>) -> usize
     ensures { result ≡ last_event t.now.configuration }
 {
     t.events().len().saturating_sub(1)
 }
 
 /// Whether a chunk came before in the paragraph.
-fn is_connected<'a>(t: &Tokenizer<'a, Paragraphs>) -> bool
+fn is_connected<'a, M: MachineTypes>(t: &Tokenizer<'a, M>) -> bool
     ensures { result ≡ t.now.configuration.local.tokenize_state.connect }
 {
     t.tokenize_state.connect
 }
 
 /// The chunk that the last event begins is linked to the one that came before.
-fn link_chunk<'a>(t: &mut Tokenizer<'a, Paragraphs>)
+fn link_chunk<'a, M: MachineTypes>(t: &mut Tokenizer<'a, M>)
     requires { CanLink t.old.configuration.events (chunk_before t.old.configuration) (last_event t.old.configuration) }
     ensures { t.new ≡ at_configuration t.old (chained t.old.configuration) }
 {
@@ -194,14 +196,14 @@ fn link_chunk<'a>(t: &mut Tokenizer<'a, Paragraphs>)
 }
 
 /// No chunk came before in the paragraph.
-fn disconnect<'a>(t: &mut Tokenizer<'a, Paragraphs>)
+fn disconnect<'a, M: MachineTypes>(t: &mut Tokenizer<'a, M>)
     ensures { t.new ≡ at_configuration t.old (with_local t.old.configuration (alone t.old.configuration)) }
 {
     t.tokenize_state.connect = false;
 }
 
 /// The last event is the chunk that came before.
-fn connect<'a>(t: &mut Tokenizer<'a, Paragraphs>)
+fn connect<'a, M: MachineTypes>(t: &mut Tokenizer<'a, M>)
     ensures { t.new ≡ at_configuration t.old (with_local t.old.configuration (connected t.old.configuration)) }
 {
     t.tokenize_state.start = last_event(t);

@@ -1,4 +1,5 @@
 pub mod CostLaws
+pub mod JoinedLaws
 pub mod KnowledgeLaws
 pub mod LateLaws
 pub mod LinkShapes

@@ -1,3 +1,4 @@
+pub mod Joined
 pub mod Knowledge
 pub mod Late
 pub mod LinkShapes

@@ -8,10 +8,7 @@ use Rattle.markdown.specs.declared.waiting.AttemptKind.TheVariants.{Attempt}
 use Rattle.markdown.specs.Text.{Given}
 use Rattle.markdown.specs.Configuration.{Configuration, Local}
 use Rattle.markdown.specs.Sight.{Sight}
-use Rattle.markdown.specs.Rules.{Rules}
-use Rattle.markdown.specs.Plain.{plain as without_links}
 use Rattle.mdtables.specs.Rows.{enter, exit, consume, write, choose, Rows, row, when, at_byte, here, a_choice, StateRows, plain, Table}
-use Rattle.mdtables.specs.Late.{late_rules}
 use Rattle.mdconstructs.specs.Tables.{counts}
 use Rattle.mdtext.specs.TextCosts.{TextByte, line_feed, backtick, less, greater, backslash, colon, letter, digit, mark, punctuation, blank, text_byte, is_tick, ends_code_data, text_cost}
 
@@ -255,7 +252,3 @@ begins_construct name w =
 -- those that a construct which was there goes on with
 abbrev pub follows_construct : Name → Bool
 follows_construct name = (name.number == TextBefore.number) || (name.number == RawFlowAfter.number)
-
--- its rules: it registers no resolver, makes no edit, and links nothing; and no construct is there that is empty
-abbrev pub text_rules : Given → Rules Unit Unit
-text_rules g = without_links (late_rules texts begins_construct follows_construct g)

@@ -1,28 +1,34 @@
-//! The machine of texts: code spans, autolinks and escapes, with plain data and line endings between them.
+//! The machine of texts: paragraphs, and in their text code spans, autolinks and escapes, with plain data and line endings
+//! between them.
 
-ghost use Rattle.std.specs.Prelude.{◌≡◌, ◌+◌, ◌*◌, false, IfOk};
-ghost use Rattle.markdown_base.specs.declared.state.TheConstants.Name.{TextStart};
+ghost use Rattle.std.specs.Prelude.{◌≡◌, ◌+◌, ◌*◌, [], ◌∷◌, false, IfOk};
+ghost use Rattle.markdown_base.specs.declared.state.TheConstants.Name.{FlowStart, TextStart};
 ghost use Rattle.markdown.specs.Calls.{with_local};
 ghost use Rattle.markdown.specs.Configuration.{at_configuration};
 ghost use Rattle.markdown.specs.Sight.{sight_seen};
-ghost use Rattle.mdconstructs.specs.Costs.{StartsAt};
+ghost use Rattle.mdconstructs.specs.Costs.{StartsAmong};
 ghost use Rattle.markdown.specs.declared.waiting.Waits.TheVariants.{Byte};
 ghost use Rattle.mdtables.specs.Rows.{class_of, picked, step_of};
 ghost use Rattle.mdtables.specs.RowInvariant.{DoesAll, IsCallable, step_in};
 ghost use Rattle.mdtext.specs.TextCosts.{text_byte, is_tick};
-ghost use Rattle.mdtext.specs.TextTable.{text_rules, size_b_is, size_c_is, size_b_grows, size_c_grows, sizes_are_equal, has_scheme, has_room, scheme_goes_on, spans_code, links_by_itself, escapes, text_start, text_before, text_before_data, data_at_break, data_inside, raw_text_start, raw_text_sequence_open, raw_text_between, raw_text_data, raw_text_sequence_close, raw_flow_after, raw_flow_before_content_chunk, raw_flow_content_chunk, autolink_start, autolink_open, autolink_scheme, autolink_url, escape_start, escape_inside};
+ghost use Rattle.mdtext.specs.TextRules.{text_rules};
+ghost use Rattle.mdtext.specs.TextTable.{size_b_is, size_c_is, size_b_grows, size_c_grows, sizes_are_equal, has_scheme, has_room, scheme_goes_on, spans_code, links_by_itself, escapes, text_start, text_before, text_before_data, data_at_break, data_inside, raw_text_start, raw_text_sequence_open, raw_text_between, raw_text_data, raw_text_sequence_close, raw_flow_after, raw_flow_before_content_chunk, raw_flow_content_chunk, autolink_start, autolink_open, autolink_scheme, autolink_url, escape_start, escape_inside};
 
 use markdown::event;
 use markdown::state::{Machine, MachineTypes, Name, State};
 use markdown::subtokenize::Subresult;
 use markdown::tokenizer::{Fault, Tokenizer};
 use mdconstructs::begin::begin;
+use mdconstructs::paragraphs::{
+    flow_start, paragraph_inside, paragraph_line_start, paragraph_start,
+};
 use mdtables::marker;
 use std::alloc::{AllocError, Global};
 
-/// Reads code spans, autolinks and escapes where they are on, line endings, and all else as data.
+/// Reads paragraphs as `Paragraphs` does. From `TextStart` it reads code spans, autolinks and escapes where they are on, line
+/// endings, and all else as data, which is what the chunks of a paragraph are read as together.
 ///
-/// It takes at most 4 n n + 9 n + 2 calls for n virtual bytes.
+/// It takes at most 4 n + 3 calls for n virtual bytes, and 4 n n + 9 n + 2 from `TextStart`.
 #[derive(Drop)]
 pub struct Text {}
 
@@ -33,12 +39,7 @@ impl MachineTypes for Text {
 }
 
 impl Machine for Text {
-    ghost use Rattle.mdtables.proofs.LateLaws as laws;
-    ghost use Rattle.mdtables.specs.Late.{late_rules};
-    ghost use Rattle.mdtables.proofs.PlainWriteSteps.{table-keeps_plain_writing};
-    ghost use Rattle.markdown.proofs.PlainLaws as plain;
-    ghost use Rattle.mdtext.specs.TextTable.{texts, begins_construct, follows_construct};
-    ghost use Rattle.mdtext.specs.TextLaws.{texts-late, texts-plain};
+    ghost use Rattle.mdtext.specs.TextRulesLaws as laws;
 
     ghost rules = { λ _. text_rules };
 
@@ -50,6 +51,10 @@ impl Machine for Text {
     ) -> Result<State, AllocError> {
         begin(t);
         match name {
+            Name::FlowStart => flow_start(t),
+            Name::ParagraphLineStart => paragraph_line_start(t),
+            Name::ParagraphStart => paragraph_start(t),
+            Name::ParagraphInside => paragraph_inside(t),
             Name::TextStart => text_start(t),
             Name::TextBefore => text_before(t),
             Name::TextBeforeData => text_before_data(t),
@@ -83,22 +88,23 @@ impl Machine for Text {
         Ok(None)
     }
 
-    ghost consumes_once = { λ _ g. plain.consumes_once g (late_rules texts begins_construct follows_construct g) (laws.late-consumes_once texts begins_construct follows_construct g texts-late) };
+    ghost consumes_once = { λ _. laws.text-consumes_once };
 
-    ghost only_adds = { λ _ g. plain.only_adds g (late_rules texts begins_construct follows_construct g) (laws.late-only_adds texts begins_construct follows_construct g texts-late) };
+    ghost only_adds = { λ _. laws.text-only_adds };
 
-    ghost ends_when_read = { λ _ g. plain.ends_when_read g (late_rules texts begins_construct follows_construct g) (laws.late-ends_when_read texts begins_construct follows_construct g texts-late) };
+    ghost ends_when_read = { λ _. laws.text-ends_when_read };
 
-    ghost invariant_kept = { λ _ g. plain.invariant_kept g (late_rules texts begins_construct follows_construct g) (table-keeps_plain_writing texts g texts-plain) (laws.late-invariant_kept texts begins_construct follows_construct g texts-late) };
+    ghost invariant_kept = { λ _. laws.text-invariant_kept };
 
-    ghost cost_pays = { λ _ g. plain.cost_pays g (late_rules texts begins_construct follows_construct g) (laws.late-cost_pays texts begins_construct follows_construct g texts-late) };
+    ghost cost_pays = { λ _. laws.text-cost_pays };
 
-    ghost resolvers_keep = { λ _ g. plain.resolvers_keep g (late_rules texts begins_construct follows_construct g) };
+    ghost resolvers_keep = { λ _. laws.text-resolvers_keep };
 }
 
-/// The machine starts with one state, from which it takes at most so many calls on a text of n virtual bytes.
+/// The machine starts with one of two states, from which it takes at most so many calls on a text of n virtual bytes.
 pub fn cost_at_the_start()
-    ensures { StartsAt text_rules TextStart (λ n. 4 * n * n + 9 * n + 2) }
+    ensures paragraphs { StartsAmong text_rules (FlowStart ∷ TextStart ∷ []) FlowStart (λ n. 4 * n + 3) }
+    ensures text { StartsAmong text_rules (FlowStart ∷ TextStart ∷ []) TextStart (λ n. 4 * n * n + 9 * n + 2) }
 {}
 
 /// In front of a text.
