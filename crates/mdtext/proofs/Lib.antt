@@ -3,6 +3,7 @@ pub mod EscapeClasses
 pub mod EscapeItems
 pub mod Escapes
 pub mod Examples
+pub mod FromStart
 pub mod LineEndings
 pub mod Positive
 pub mod Runs

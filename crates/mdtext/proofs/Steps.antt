@@ -13,16 +13,16 @@ use Rattle.markdown.specs.Configuration.{Configuration, Local, Choice, Step}
 use Rattle.markdown.specs.Sight.{Sight, sight, byte_of, seat_before}
 use Rattle.markdown.specs.Reading.{Reading, EndsIn, fed, settled_at}
 use Rattle.markdown.proofs.Readings.{called-ends, fed-ends, settled-ok-ends, settled-nok-ends}
-use Rattle.mdtables.specs.Rows.{Rows, class_of, picked, step_of, table_step}
+use Rattle.mdtables.specs.Rows.{Rows, class_of, picked, step_of}
 use Rattle.mdtext.specs.TextCosts.{TextByte, text_byte}
-use Rattle.mdtext.specs.TextTable.{texts}
+use Rattle.mdtext.specs.TextRules.{text_rules}
 
 is-below : (p n : ℕ) → p < n → nat_lt p n ≡ true
 is-below p n h = lt-ltb p n h
 
 -- the step of the machine
 abbrev pub text_step : Given → Sight → Configuration Unit Unit → Name → Step Unit Unit
-text_step g = table_step texts g
+text_step g = (text_rules g).step
 
 -- a configuration between items: no span is open
 abbrev pub between_items : ℕ → Waits → Bool → List Event → Local Unit Unit → Configuration Unit Unit
