@@ -15,9 +15,9 @@ use std::alloc::{AllocError, Global};
 
 /// How many readings were compared with the uncut one, and how many of them gave other events, or took more calls or fewer.
 #[derive(Clone, Copy)]
-struct Compared {
-    all: usize,
-    other: usize,
+pub struct Compared {
+    pub all: usize,
+    pub other: usize,
 }
 
 /// One more reading is compared.
@@ -123,7 +123,7 @@ fn compare_cuts_twice<M: Machine>(
 
 /// Reads a document cut at every place, and if it is to be cut twice at every two places in order, and compares each reading
 /// with the uncut one.
-fn compare_readings<M: Machine>(
+pub fn compare_readings<M: Machine>(
     alloc: Global,
     machine: &M,
     start: Name,

@@ -18,6 +18,8 @@ mod driven;
 #[cfg(test)]
 mod every_cut;
 #[cfg(test)]
+mod every_cut_of_text;
+#[cfg(test)]
 mod expected;
 mod failure;
 #[cfg(test)]

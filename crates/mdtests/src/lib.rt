@@ -60,6 +60,8 @@ mod tab_sizes;
 #[cfg(test)]
 mod tab_stops;
 #[cfg(test)]
+mod texts;
+#[cfg(test)]
 mod tokenizer;
 #[cfg(test)]
 mod unist_points;
