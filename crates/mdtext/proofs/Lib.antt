@@ -1,3 +1,4 @@
+pub mod AutolinkClasses
 pub mod Cutting
 pub mod EscapeClasses
 pub mod EscapeItems
@@ -5,6 +6,9 @@ pub mod Escapes
 pub mod Examples
 pub mod FromStart
 pub mod LineEndings
+pub mod PlainClasses
+pub mod PlainData
+pub mod PlainRuns
 pub mod Positive
 pub mod Runs
 pub mod Steps
