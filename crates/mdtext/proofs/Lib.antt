@@ -8,6 +8,7 @@ pub mod FromStart
 pub mod LineEndings
 pub mod PlainClasses
 pub mod PlainData
+pub mod PlainItems
 pub mod PlainRuns
 pub mod Positive
 pub mod Runs
