@@ -1,4 +1,6 @@
 pub mod AutolinkClasses
+pub mod AutolinkEvents
+pub mod AutolinkSteps
 pub mod Cutting
 pub mod EscapeClasses
 pub mod EscapeItems

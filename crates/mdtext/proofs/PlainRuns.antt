@@ -25,7 +25,8 @@ use Rattle.mdtext.proofs.LineEndings.{at-front}
 pub behind-front : {X : Type 0} (xs : List X) (p : ℕ) (x : X) (rest : List X) → drop p xs ≡ x ∷ rest → drop (p + 1) xs ≡ rest
 behind-front xs p x rest h = sym (drop-drop 1 p xs) ∙ ap (drop 1) h
 
-get-drop : {X : Type 0} (xs : List X) (p n : ℕ) → slice_get (drop p xs) n ≡ slice_get xs (p + n)
+-- an element of what is left
+pub get-drop : {X : Type 0} (xs : List X) (p n : ℕ) → slice_get (drop p xs) n ≡ slice_get xs (p + n)
 get-drop xs zero n = let same : n ≡ 0 + n = omega arith in ap (slice_get xs) same
 get-drop [] (suc p) n = refl
 get-drop (x ∷ xs) (suc p) n = let same : suc (p + n) ≡ suc p + n = omega arith in get-drop xs p n ∙ ap (slice_get (x ∷ xs)) same
