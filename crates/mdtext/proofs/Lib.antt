@@ -1,5 +1,6 @@
 pub mod AutolinkClasses
 pub mod AutolinkEvents
+pub mod AutolinkSchemes
 pub mod AutolinkSteps
 pub mod Cutting
 pub mod EscapeClasses

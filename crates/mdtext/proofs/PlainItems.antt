@@ -140,9 +140,19 @@ module _ (g : Given) (text : Text) where
       (subst (WithRows g text (between_items p Byte ended events (counts local)) [] es) (sym rows) h))
 
   -- the rows at a byte that may begin a construct
-  byte-rows : (p b : ℕ) (s : Seat) → slice_get text.seats p ≡ Some s → s.byte ≡ b → text_before_rows (before_class g text p) (waiting_class g text p) ≡ text_before_rows (before_class g text p) (Some (text_byte b))
+  pub byte-rows : (p b : ℕ) (s : Seat) → slice_get text.seats p ≡ Some s → s.byte ≡ b → text_before_rows (before_class g text p) (waiting_class g text p) ≡ text_before_rows (before_class g text p) (Some (text_byte b))
   byte-rows p b s at is =
       ap (λ o. text_before_rows (before_class g text p) (class_of text_byte (byte_of o))) at ∙ ap (λ c. text_before_rows (before_class g text p) (Some (text_byte c))) is
+
+  -- where that construct is on, it is tried
+  pub leads-tried : (test : Given → Sight → Configuration Unit Unit → Bool) (name : Name) (p : ℕ) (ended : Bool) (events : List Event) (local : Local Unit Unit)
+      → text_before_rows (before_class g text p) (waiting_class g text p) ≡ tries test name
+      → (let k = between_items p Byte ended events (counts local) in test g (sight g text k) k ≡ true)
+      → Leads g text (between_items p Byte ended events local) [] (Retry TextBefore) (between_items p Byte ended events (counts local)) (outer p ended events ∷ []) (Retry name)
+  leads-tried test name p ended events local rows on es h =
+      leads-called g text (between_items p Byte ended events local) [] TextBefore es
+      (subst (WithRows g text (between_items p Byte ended events (counts local)) [] es) (sym rows)
+      (subst (λ b. WithRow (between_items p Byte ended events (counts local)) [] es (cond b (tried name) untried)) (sym on) h))
 
   -- where that construct is off, data is read
   untried-data : (test : Given → Sight → Configuration Unit Unit → Bool) (name : Name) (p : ℕ) (ended : Bool) (events : List Event) (local : Local Unit Unit) (s : Seat) (ss : List Seat)
