@@ -2,6 +2,15 @@ pub mod AutolinkClasses
 pub mod AutolinkEvents
 pub mod AutolinkSchemes
 pub mod AutolinkSteps
+pub mod CodeSpanCalls
+pub mod CodeSpanClasses
+pub mod CodeSpanCuts
+pub mod CodeSpanEnds
+pub mod CodeSpanEvents
+pub mod CodeSpanPieces
+pub mod CodeSpanRows
+pub mod CodeSpanSteps
+pub mod CodeSpanWalks
 pub mod Cutting
 pub mod EscapeClasses
 pub mod EscapeItems
@@ -15,5 +24,7 @@ pub mod PlainItems
 pub mod PlainRuns
 pub mod Positive
 pub mod Runs
+pub mod RunsFound
+pub mod RunsPieces
 pub mod Steps
 pub mod Whole

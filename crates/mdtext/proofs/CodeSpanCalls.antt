@@ -1,0 +1,218 @@
+-- Code spans, call by call.
+use Rattle.std.proofs.Common.{◌≡◌, ℕ, ◌+◌, ◌<◌, ◌∷◌, ◌++◌, [], List, Bool, true, false, cond, not, ◌==◌, refl, sym, ◌∙◌, ap, subst, Some, arith, length, drop, slice_get, ◌^◌}
+use Rattle.markdown_base.specs.declared.event.Event.{Event}
+use Rattle.markdown_base.specs.declared.event.Kind.TheVariants.{Enter, Exit}
+use Rattle.markdown_base.specs.declared.event.Name.{Name as EventName}
+use Rattle.markdown_base.specs.declared.event.Name.TheVariants.{CodeText, CodeTextSequence, CodeTextData, LineEnding}
+use Rattle.markdown_base.specs.declared.state.State.TheVariants.{Next, Retry, Ok, Nok}
+use Rattle.markdown_base.specs.declared.state.TheConstants.Name.{RawTextSequenceOpen, RawTextBetween, RawTextData, RawTextSequenceClose, RawFlowAfter, RawFlowBeforeContentChunk, RawFlowContentChunk}
+use Rattle.markdown_base.specs.Virtual.{Seat}
+use Rattle.markdown.specs.declared.waiting.Waits.TheVariants.{Byte, End}
+use Rattle.markdown.specs.declared.waiting.AttemptKind.TheVariants.{Attempt}
+use Rattle.markdown.specs.Text.{Given, Text}
+use Rattle.markdown.specs.Configuration.{Configuration, Local, Choice}
+use Rattle.markdown.specs.Sight.{sight, byte_of, end_place, point_or, end_or}
+use Rattle.mdtables.specs.Rows.{Row, exit, class_of, step_of}
+use Rattle.mdconstructs.specs.Tables.{counts}
+use Rattle.mdtext.specs.Items.{is_backtick, is_line_feed, is_backtick_or_line_feed}
+use Rattle.mdtext.specs.TextEvents.{event}
+use Rattle.mdtext.specs.TextCosts.{backtick, line_feed, text_byte, is_tick, ends_code_data}
+use Rattle.mdtext.specs.TextTable.{more_than, raw_text_sequence_open_rows, raw_text_between_rows, raw_text_data_rows, raw_text_sequence_close_rows, raw_flow_before_content_chunk_rows, raw_flow_content_chunk_rows}
+use Rattle.mdtext.proofs.Steps.{EndsWith, Leads, leads-called, before_class, waiting_class, WithRows}
+use Rattle.mdtext.proofs.LineEndings.{at-front}
+use Rattle.mdtext.proofs.Runs.{has-ended}
+use Rattle.mdtext.proofs.CodeSpanClasses.{tick-class, line-feed-class, other-class, data-class, end-class}
+use Rattle.mdtext.proofs.CodeSpanRows.{at-data, data-ended, chunk-ended}
+use Rattle.mdtext.proofs.CodeSpanSteps.{held, shows, Stops, next-at, goes-next, class-rows, Reads}
+
+-- the spans that are open in a code span
+abbrev pub in_code : List EventName
+in_code = CodeText ∷ []
+
+abbrev pub in_run : List EventName
+in_run = CodeText ∷ CodeTextSequence ∷ []
+
+abbrev pub in_data : List EventName
+in_data = CodeText ∷ CodeTextData ∷ []
+
+-- the sizes of the run that opens it, and of the one that is read
+abbrev pub size_b : Local Unit Unit → ℕ
+size_b local = local.tokenize_state.size_b
+
+abbrev pub size_c : Local Unit Unit → ℕ
+size_c local = local.tokenize_state.size_c
+
+abbrev pub with_b : ℕ → Local Unit Unit → Local Unit Unit
+with_b n local = record local { tokenize_state = record local.tokenize_state { size_b = n } }
+
+abbrev pub with_c : ℕ → Local Unit Unit → Local Unit Unit
+with_c n local = record local { tokenize_state = record local.tokenize_state { size_c = n } }
+
+abbrev pub grows_b : Local Unit Unit → Local Unit Unit
+grows_b local = with_b (more_than (size_b local)) (counts local)
+
+abbrev pub grows_c : Local Unit Unit → Local Unit Unit
+grows_c local = with_c (more_than (size_c local)) (counts local)
+
+-- a size grows by one, as long as there is a greater number
+pub more-is : (n : ℕ) → n + 1 < 2 ^ 64 → more_than n ≡ n + 1
+more-is n h = omega (arith, h)
+
+-- what is data in a code span
+abbrev pub is_code_data : ℕ → Bool
+is_code_data b = not (is_backtick_or_line_feed b)
+
+is-not : (a : Bool) → not a ≡ true → a ≡ false
+is-not true e = absurd (cc)
+is-not false e = refl
+
+is-so : (a : Bool) → not a ≡ false → a ≡ true
+is-so true e = refl
+is-so false e = absurd (cc)
+
+module _ (g : Given) (text : Text) where
+  abbrev WithRow : Configuration Unit Unit → List Choice → List Event → Row Unit Unit → Type 0
+  WithRow k cs es r = let q = step_of r (sight g text k) k in EndsWith g text q.configuration (q.choices ++ cs) q.answer es
+
+  -- an event where the byte at a position begins, where it ends, or where the one before it ended
+  abbrev pub enter_at : EventName → ℕ → Event
+  enter_at name q = event g.bytes Enter name (point_or text.end (slice_get text.seats q))
+
+  abbrev pub exit_at : EventName → ℕ → Event
+  exit_at name q = event g.bytes Exit name (end_place text q)
+
+  abbrev pub exit_past : EventName → ℕ → Event
+  exit_past name q = event g.bytes Exit name (end_or text.end (slice_get text.seats q))
+
+  waiting-other : (q : ℕ) (s : Seat) → slice_get text.seats q ≡ Some s → is_backtick s.byte ≡ false → is_tick (waiting_class g text q) ≡ false
+  waiting-other q s at e = ap (λ o. is_tick (class_of text_byte (byte_of o))) at ∙ other-class s.byte e
+
+  waiting-end : (q : ℕ) (s : Seat) → slice_get text.seats q ≡ Some s → is_backtick_or_line_feed s.byte ≡ true → ends_code_data (waiting_class g text q) ≡ true
+  waiting-end q s at e = ap (λ o. ends_code_data (class_of text_byte (byte_of o))) at ∙ end-class s.byte e
+
+  -- runs and data are read a byte at a time
+  pub open-reads : (cs : List Choice) → Reads g text in_run cs RawTextSequenceOpen is_backtick grows_b
+  open-reads cs q ended events local s at tick es h =
+      leads-called g text (held in_run q Byte ended events local) cs RawTextSequenceOpen es
+      (subst (WithRows g text (held in_run q Byte ended events (counts local)) cs es) (sym (class-rows g text raw_text_sequence_open_rows q s backtick at (tick-class s.byte tick))) h)
+
+  pub close-reads : (cs : List Choice) → Reads g text in_run cs RawTextSequenceClose is_backtick grows_c
+  close-reads cs q ended events local s at tick es h =
+      leads-called g text (held in_run q Byte ended events local) cs RawTextSequenceClose es
+      (subst (WithRows g text (held in_run q Byte ended events (counts local)) cs es) (sym (class-rows g text raw_text_sequence_close_rows q s backtick at (tick-class s.byte tick))) h)
+
+  pub chunk-reads : (cs : List Choice) → Reads g text in_data cs RawFlowContentChunk is_backtick counts
+  chunk-reads cs q ended events local s at tick es h =
+      leads-called g text (held in_data q Byte ended events local) cs RawFlowContentChunk es
+      (subst (WithRows g text (held in_data q Byte ended events (counts local)) cs es) (sym (class-rows g text raw_flow_content_chunk_rows q s backtick at (tick-class s.byte tick))) h)
+
+  pub data-reads : (cs : List Choice) → Reads g text in_data cs RawTextData is_code_data counts
+  data-reads cs q ended events local s at inside es h =
+      let rows = class-rows g text raw_text_data_rows q s (text_byte s.byte) at refl ∙ (at-data (before_class g text q) (text_byte s.byte) (data-class s.byte (is-not _ inside))).1 in
+      leads-called g text (held in_data q Byte ended events local) cs RawTextData es
+      (subst (WithRows g text (held in_data q Byte ended events (counts local)) cs es) (sym rows) h)
+
+  -- the run that opens a code span has ended
+  pub open-ends : (l : List Seat) (q : ℕ) (events : List Event) (local : Local Unit Unit) (cs : List Choice) → drop q text.seats ≡ l → Stops is_backtick l
+      → Leads g text (shows l in_run q events local) cs (Retry RawTextSequenceOpen) (shows l in_code q (events ++ exit_at CodeTextSequence q ∷ []) (counts local)) cs (Retry RawTextBetween)
+  open-ends [] q events local cs at stops es h = leads-called g text (held in_run q End true events local) cs RawTextSequenceOpen es h
+  open-ends (s ∷ ss) q events local cs at stops es h =
+      let rows = (has-ended (before_class g text q) (waiting_class g text q) (waiting-other q s (at-front text.seats q s ss at) stops)).0 in
+      leads-called g text (held in_run q Byte false events local) cs RawTextSequenceOpen es
+      (subst (WithRows g text (held in_run q Byte false events (counts local)) cs es) (sym rows) h)
+
+  -- another run has: it closes the code span where it is as long, and else is no run that does
+  abbrev fits : Row Unit Unit
+  fits = record { acts = exit CodeTextSequence ∷ []; answer = Ok }
+
+  abbrev fails : Row Unit Unit
+  fails = record { acts = []; answer = Nok }
+
+  pub close-fits : (l : List Seat) (q : ℕ) (events : List Event) (local : Local Unit Unit) (cs : List Choice) → drop q text.seats ≡ l → Stops is_backtick l → (size_c local == size_b local) ≡ true
+      → Leads g text (shows l in_run q events local) cs (Retry RawTextSequenceClose) (shows l in_code q (events ++ exit_at CodeTextSequence q ∷ []) (counts local)) cs Ok
+  close-fits [] q events local cs at stops same es h =
+      leads-called g text (held in_run q End true events local) cs RawTextSequenceClose es
+      (subst (λ b. WithRow (held in_run q End true events (counts local)) cs es (cond b fits fails)) (sym same) h)
+  close-fits (s ∷ ss) q events local cs at stops same es h =
+      let rows = (has-ended (before_class g text q) (waiting_class g text q) (waiting-other q s (at-front text.seats q s ss at) stops)).1 in
+      leads-called g text (held in_run q Byte false events local) cs RawTextSequenceClose es
+      (subst (WithRows g text (held in_run q Byte false events (counts local)) cs es) (sym rows)
+      (subst (λ b. WithRow (held in_run q Byte false events (counts local)) cs es (cond b fits fails)) (sym same) h))
+
+  pub close-fails : (l : List Seat) (q : ℕ) (events : List Event) (local : Local Unit Unit) (cs : List Choice) → drop q text.seats ≡ l → Stops is_backtick l → (size_c local == size_b local) ≡ false
+      → Leads g text (shows l in_run q events local) cs (Retry RawTextSequenceClose) (shows l in_run q events (counts local)) cs Nok
+  close-fails [] q events local cs at stops same es h =
+      leads-called g text (held in_run q End true events local) cs RawTextSequenceClose es
+      (subst (λ b. WithRow (held in_run q End true events (counts local)) cs es (cond b fits fails)) (sym same) h)
+  close-fails (s ∷ ss) q events local cs at stops same es h =
+      let rows = (has-ended (before_class g text q) (waiting_class g text q) (waiting-other q s (at-front text.seats q s ss at) stops)).1 in
+      leads-called g text (held in_run q Byte false events local) cs RawTextSequenceClose es
+      (subst (WithRows g text (held in_run q Byte false events (counts local)) cs es) (sym rows)
+      (subst (λ b. WithRow (held in_run q Byte false events (counts local)) cs es (cond b fits fails)) (sym same) h))
+
+  -- a run that is data has, and data has
+  pub chunk-ends : (l : List Seat) (q : ℕ) (events : List Event) (local : Local Unit Unit) (cs : List Choice) → drop q text.seats ≡ l → Stops is_backtick l
+      → Leads g text (shows l in_data q events local) cs (Retry RawFlowContentChunk) (shows l in_data q events (counts local)) cs (Retry RawTextData)
+  chunk-ends [] q events local cs at stops es h = leads-called g text (held in_data q End true events local) cs RawFlowContentChunk es h
+  chunk-ends (s ∷ ss) q events local cs at stops es h =
+      let rows = chunk-ended (before_class g text q) (waiting_class g text q) (waiting-other q s (at-front text.seats q s ss at) stops) in
+      leads-called g text (held in_data q Byte false events local) cs RawFlowContentChunk es
+      (subst (WithRows g text (held in_data q Byte false events (counts local)) cs es) (sym rows) h)
+
+  pub data-ends : (l : List Seat) (q : ℕ) (events : List Event) (local : Local Unit Unit) (cs : List Choice) → drop q text.seats ≡ l → Stops is_code_data l
+      → Leads g text (shows l in_data q events local) cs (Retry RawTextData) (shows l in_code q (events ++ exit_at CodeTextData q ∷ []) (counts local)) cs (Retry RawTextBetween)
+  data-ends [] q events local cs at stops es h = leads-called g text (held in_data q End true events local) cs RawTextData es h
+  data-ends (s ∷ ss) q events local cs at stops es h =
+      let rows = data-ended (before_class g text q) (waiting_class g text q) (waiting-end q s (at-front text.seats q s ss at) (is-so _ stops)) in
+      leads-called g text (held in_data q Byte false events local) cs RawTextData es
+      (subst (WithRows g text (held in_data q Byte false events (counts local)) cs es) (sym rows) h)
+
+  -- between the pieces: a line ending, data, a run, and the end
+  pub between-line-feed : (q : ℕ) (s : Seat) (ss : List Seat) (events : List Event) (local : Local Unit Unit) (cs : List Choice) → drop q text.seats ≡ s ∷ ss → is_line_feed s.byte ≡ true
+      → Leads g text (held in_code q Byte false events local) cs (Retry RawTextBetween)
+      (shows ss in_code (q + 1) ((events ++ enter_at LineEnding q ∷ []) ++ exit_past LineEnding q ∷ []) (counts local)) cs (Retry RawTextBetween)
+  between-line-feed q s ss events local cs at is es h =
+      leads-called g text (held in_code q Byte false events local) cs RawTextBetween es
+      (subst (WithRows g text (held in_code q Byte false events (counts local)) cs es) (sym (class-rows g text raw_text_between_rows q s line_feed (at-front text.seats q s ss at) (line-feed-class s.byte is)))
+      (goes-next g text ss in_code (q + 1) ((events ++ enter_at LineEnding q ∷ []) ++ exit_past LineEnding q ∷ []) (counts local) cs RawTextBetween (next-at text.seats q s ss at) es h))
+
+  pub between-data : (q : ℕ) (s : Seat) (events : List Event) (local : Local Unit Unit) (cs : List Choice) → slice_get text.seats q ≡ Some s → is_backtick_or_line_feed s.byte ≡ false
+      → Leads g text (held in_code q Byte false events local) cs (Retry RawTextBetween) (held in_data q Byte false (events ++ enter_at CodeTextData q ∷ []) (counts local)) cs (Retry RawTextData)
+  between-data q s events local cs at inside es h =
+      let rows = class-rows g text raw_text_between_rows q s (text_byte s.byte) at refl ∙ (at-data (before_class g text q) (text_byte s.byte) (data-class s.byte inside)).0 in
+      leads-called g text (held in_code q Byte false events local) cs RawTextBetween es
+      (subst (WithRows g text (held in_code q Byte false events (counts local)) cs es) (sym rows) h)
+
+  -- the choice that is made there
+  abbrev pub inner : ℕ → List Event → Choice
+  inner q events = record {
+    kind = Attempt;
+    ok = Next RawFlowAfter;
+    nok = Next RawFlowBeforeContentChunk;
+    saved = Some (record { position = q; ended = false; events = length events; stack = in_code });
+  }
+
+  pub between-run : (q : ℕ) (s : Seat) (events : List Event) (local : Local Unit Unit) (cs : List Choice) → slice_get text.seats q ≡ Some s → is_backtick s.byte ≡ true
+      → Leads g text (held in_code q Byte false events local) cs (Retry RawTextBetween)
+      (held in_run q Byte false (events ++ enter_at CodeTextSequence q ∷ []) (with_c 0 (counts local))) (inner q events ∷ cs) (Retry RawTextSequenceClose)
+  between-run q s events local cs at tick es h =
+      leads-called g text (held in_code q Byte false events local) cs RawTextBetween es
+      (subst (WithRows g text (held in_code q Byte false events (counts local)) cs es) (sym (class-rows g text raw_text_between_rows q s backtick at (tick-class s.byte tick))) h)
+
+  pub between-end : (q : ℕ) (events : List Event) (local : Local Unit Unit) (cs : List Choice)
+      → Leads g text (shows [] in_code q events local) cs (Retry RawTextBetween) (shows [] in_code q events (counts local)) cs Nok
+  between-end q events local cs es h = leads-called g text (held in_code q End true events local) cs RawTextBetween es h
+
+  -- a run that did not close it begins data
+  pub chunk-begins : (q : ℕ) (s : Seat) (events : List Event) (local : Local Unit Unit) (cs : List Choice) → slice_get text.seats q ≡ Some s → is_backtick s.byte ≡ true
+      → Leads g text (held in_code q Byte false events local) cs (Retry RawFlowBeforeContentChunk)
+      (held in_data q Byte false (events ++ enter_at CodeTextData q ∷ []) (counts local)) cs (Retry RawFlowContentChunk)
+  chunk-begins q s events local cs at tick es h =
+      leads-called g text (held in_code q Byte false events local) cs RawFlowBeforeContentChunk es
+      (subst (WithRows g text (held in_code q Byte false events (counts local)) cs es) (sym (class-rows g text raw_flow_before_content_chunk_rows q s backtick at (tick-class s.byte tick))) h)
+
+  -- behind the run that did, it ends
+  pub code-ends : (l : List Seat) (q : ℕ) (events : List Event) (local : Local Unit Unit) (cs : List Choice)
+      → Leads g text (shows l in_code q events local) cs (Retry RawFlowAfter) (shows l [] q (events ++ exit_at CodeText q ∷ []) (counts local)) cs Ok
+  code-ends [] q events local cs es h = leads-called g text (held in_code q End true events local) cs RawFlowAfter es h
+  code-ends (s ∷ ss) q events local cs es h = leads-called g text (held in_code q Byte false events local) cs RawFlowAfter es h
