@@ -36,7 +36,7 @@ pub fn read<M: Machine>(
         vs: 0,
     };
     let mut tokenizer = Tokenizer::new(alloc, point, parse_state);
-    read_new(
+    let read = read_new(
         text,
         &mut tokenizer,
         parse_state,
@@ -44,7 +44,9 @@ pub fn read<M: Machine>(
         cut,
         resolve,
         resolvers,
-    )
+    );
+    drop(tokenizer);
+    read
 }
 
 /// Reads a document by a tokenizer that has read nothing. What owns no tokenizer is proved in less time.

@@ -45,11 +45,15 @@ fn begin_spans(t: &mut Tokenizer<Types>) -> Result<(), AllocError> {
     t.enter_link(Name::Data, LINK)
 }
 
-/// Choices and spans begin: appends how many spans are open, and the events.
-fn begin(text: &mut String, t: &mut Tokenizer<Types>) -> Result<(), AllocError> {
+/// Choices and spans begin, and more choices in them.
+fn begin_all(t: &mut Tokenizer<Types>) -> Result<(), AllocError> {
     begin_choices(t)?;
     begin_spans(t)?;
-    begin_choices(t)?;
+    begin_choices(t)
+}
+
+/// Appends how many spans are open, and the events.
+fn push_begun(text: &mut String, t: &Tokenizer<Types>) -> Result<(), AllocError> {
     let open = t.stack().len();
     writeln!(text, "{open} open")?;
     push_lines(text, t.events())
@@ -66,8 +70,9 @@ fn register(text: &mut String, t: &mut Tokenizer<Types>) -> Result<(), AllocErro
 }
 
 /// What is begun and registered.
-fn begin_all(text: &mut String, t: &mut Tokenizer<Types>) -> Result<(), AllocError> {
-    begin(text, t)?;
+fn push_all(text: &mut String, t: &mut Tokenizer<Types>) -> Result<(), AllocError> {
+    begin_all(t)?;
+    push_begun(text, t)?;
     register(text, t)
 }
 
@@ -80,7 +85,9 @@ fn begun(
     requires limit { 4 * length parse_state.now.bytes.now + 1 < 2 ^ 64 }
 {
     let mut tokenizer = Tokenizer::new(alloc, START, parse_state);
-    begin_all(text, &mut tokenizer)
+    let pushed = push_all(text, &mut tokenizer);
+    drop(tokenizer);
+    pushed
 }
 
 /// Spans and choices begin, and resolvers stand once, in order.
