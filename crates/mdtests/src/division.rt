@@ -101,7 +101,10 @@ fn put(
 {
     let mut events = listed(alloc, list)?;
     let mut child = listed(alloc, child)?;
-    put_in(alloc, &mut events, bytes, index, &mut child)
+    let put = put_in(alloc, &mut events, bytes, index, &mut child);
+    drop(child);
+    drop(events);
+    put
 }
 
 /// Puts a child in the place of the chain that begins at an index.

@@ -44,7 +44,9 @@ fn put_children<M: Machine>(
         machine,
     };
     let answer = subtokenize(alloc, events, &parse_state, Some(&content));
-    push_answer(text, &answer)
+    let pushed = push_answer(text, &answer);
+    drop(answer);
+    pushed
 }
 
 /// Puts the children of the chains of one content in their place: what was answered, and then the list as it is afterwards.
