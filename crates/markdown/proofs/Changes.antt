@@ -25,7 +25,7 @@ use Rattle.markdown.specs.Configuration.{Choice}
 use Rattle.markdown.specs.Calls.{CanExit}
 use Rattle.markdown.specs.Work.{extended}
 use Rattle.markdown.specs.Gaps.{resumed, IsSkip}
-use Rattle.markdown.specs.View.{TAB, seen, text_of, end_point, seats_between, position_from, standing, reach, can_feed, choice_of, saved_of, IsReadTo, ByteWaits, IsWhatWaits, IsProgress, AreNested, events_of, stack_of, IsSound}
+use Rattle.markdown.specs.View.{tab_of, seen, text_of, end_point, seats_between, position_from, standing, reach, can_feed, choice_of, saved_of, IsReadTo, ByteWaits, IsWhatWaits, IsProgress, AreNested, events_of, stack_of, IsSound}
 use Rattle.markdown.specs.Cursor.{IsPlace, IsSeatAt, is_after_pair}
 use Rattle.markdown.proofs.PlaceStanding.{shown-shown, place-of-point}
 use Rattle.markdown.proofs.PlaceOrder.{after-before}
@@ -37,7 +37,7 @@ use Rattle.markdown.proofs.MadeLemmas.{made-new, made-bound, made-enter-at, made
 use Rattle.markdown_base.specs.Events.{with_ends, unlinked, HasFrontUpToLinkEnds}
 use Rattle.markdown.specs.Links.{linked_to, updated_at, next_set, previous_set, with_next, with_previous}
 use Rattle.std.proofs.lemmas.List.{length-map}
-use Rattle.markdown.proofs.Fields.{four, text_between, next-more, kept-empty, passed-seats, passed-position, passed-skips, read-passed, passed-shown, passed-resumed, still-before, read-extended, extended-seats, extended-skips, extended-more, made-more, can-feed-more, nested-map, nested-wider}
+use Rattle.markdown.proofs.Fields.{wide_of, text_between, next-more, kept-empty, passed-seats, passed-position, passed-skips, read-passed, passed-shown, passed-resumed, still-before, read-extended, extended-seats, extended-skips, extended-more, made-more, can-feed-more, nested-map, nested-wider}
 use Rattle.markdown.specs.Sight.{sight}
 use Rattle.markdown.proofs.Steps.{end-place-in, here-is, after_previous-is}
 
@@ -91,59 +91,65 @@ module _ {M R D : Type 0} (t : Inside M R D) (sound : IsSound t) where
   abbrev bytes_in : List ℕ
   bytes_in = t.parse_state.now.bytes.now
 
+  abbrev tab_in : ℕ
+  tab_in = tab_of t.parse_state.now
+
+  wide_in : 0 < tab_in
+  wide_in = wide_of t sound
+
   abbrev end_in : Point
-  end_in = end_point bytes_in t.end
+  end_in = end_point tab_in bytes_in t.end
 
   abbrev skips_in : List Point
   skips_in = t.skips
 
   abbrev size_in : ℕ
-  size_in = length (seats_between bytes_in skips_in t.start end_in)
+  size_in = length (seats_between tab_in bytes_in skips_in t.start end_in)
 
-  starts-upto : is_upto TAB bytes_in t.start end_in ≡ true
-  starts-upto = upto-upto TAB bytes_in t.start t.after_previous end_in sound.read.from sound.read.upto
+  starts-upto : is_upto tab_in bytes_in t.start end_in ≡ true
+  starts-upto = upto-upto tab_in bytes_in t.start t.after_previous end_in sound.read.from sound.read.upto
 
   -- what waits in another text
-  waiting-on : (w : Waits) (skips : List Point) (text : Text) → (ByteWaits bytes_in skips_in t.after_previous end_in t.current → ByteWaits bytes_in skips t.after_previous text.end t.current)
-      → (t.closed ≡ true → size_in ≤ position_from bytes_in skips_in t.start t.after_previous → length text.seats ≤ position_from bytes_in skips text.start t.after_previous)
-      → IsWhatWaits bytes_in skips_in (text_of t) t.after_previous t.current t.closed w → IsWhatWaits bytes_in skips text t.after_previous t.current t.closed w
+  waiting-on : (w : Waits) (skips : List Point) (text : Text) → (ByteWaits tab_in bytes_in skips_in t.after_previous end_in t.current → ByteWaits tab_in bytes_in skips t.after_previous text.end t.current)
+      → (t.closed ≡ true → size_in ≤ position_from tab_in bytes_in skips_in t.start t.after_previous → length text.seats ≤ position_from tab_in bytes_in skips text.start t.after_previous)
+      → IsWhatWaits tab_in bytes_in skips_in (text_of t) t.after_previous t.current t.closed w → IsWhatWaits tab_in bytes_in skips text t.after_previous t.current t.closed w
   waiting-on Nothing skips text byte end h = h
   waiting-on Byte skips text byte end h = byte h
   waiting-on End skips text byte end h = record { none = h.none; closed_too = h.closed_too; all = end h.closed_too h.all }
 
   -- the text ends later
-  module _ (to : ℕ × ℕ) (f u : Point) (found : point_at TAB bytes_in to ≡ Some u) (fits : FitsAfter (seen t).given (text_of t) (pushed f u)) (open_still : t.closed ≡ false) where
-    longer : (after_previous : Point) (previous : Option ℕ) → IsReadTo bytes_in skips_in (text_of t) after_previous previous → IsReadTo bytes_in skips_in (text_between bytes_in skips_in t.start u) after_previous previous
-    longer after_previous previous read = read-extended bytes_in skips_in t.start end_in f u after_previous previous sound.skips read (end-place-in t sound) starts-upto fits.2 fits.3
+  module _ (to : ℕ × ℕ) (f u : Point) (found : point_at tab_in bytes_in to ≡ Some u) (fits : FitsAfter (seen t).given (text_of t) (pushed f u)) (open_still : t.closed ≡ false) where
+    longer : (after_previous : Point) (previous : Option ℕ) → IsReadTo tab_in bytes_in skips_in (text_of t) after_previous previous → IsReadTo tab_in bytes_in skips_in (text_between tab_in bytes_in skips_in t.start u) after_previous previous
+    longer after_previous previous read = read-extended tab_in wide_in bytes_in skips_in t.start end_in f u after_previous previous sound.skips read (end-place-in t sound) starts-upto fits.2 fits.3
 
-    more-bytes : size_in ≤ length (seats_between bytes_in skips_in t.start u)
-    more-bytes = extended-more bytes_in skips_in t.start end_in f u t.after_previous t.previous sound.skips sound.read (end-place-in t sound) starts-upto fits.2 fits.3
+    more-bytes : size_in ≤ length (seats_between tab_in bytes_in skips_in t.start u)
+    more-bytes = extended-more tab_in wide_in bytes_in skips_in t.start end_in f u t.after_previous t.previous sound.skips sound.read (end-place-in t sound) starts-upto fits.2 fits.3
 
-    later-skips : AllByRecursion (IsSkip TAB bytes_in u) skips_in
-    later-skips = extended-skips bytes_in skips_in t.start end_in f u t.after_previous t.previous sound.skips sound.read (end-place-in t sound) starts-upto fits.2 fits.3
+    later-skips : AllByRecursion (IsSkip tab_in bytes_in u) skips_in
+    later-skips = extended-skips tab_in wide_in bytes_in skips_in t.start end_in f u t.after_previous t.previous sound.skips sound.read (end-place-in t sound) starts-upto fits.2 fits.3
 
-    later-end : is_upto TAB bytes_in end_in u ≡ true
-    later-end = upto-upto TAB bytes_in end_in f u (same-upto TAB bytes_in f end_in fits.2).1 fits.3
+    later-end : is_upto tab_in bytes_in end_in u ≡ true
+    later-end = upto-upto tab_in bytes_in end_in f u (same-upto tab_in bytes_in f end_in fits.2).1 fits.3
 
-    still-waits : ByteWaits bytes_in skips_in t.after_previous end_in t.current → ByteWaits bytes_in skips_in t.after_previous u t.current
-    still-waits w = record { seat = w.seat; at = w.at; before = still-before bytes_in skips_in t.start end_in u t.after_previous t.previous sound.skips sound.read w.seat w.at later-end w.before; is = w.is }
+    still-waits : ByteWaits tab_in bytes_in skips_in t.after_previous end_in t.current → ByteWaits tab_in bytes_in skips_in t.after_previous u t.current
+    still-waits w = record { seat = w.seat; at = w.at; before = still-before tab_in wide_in bytes_in skips_in t.start end_in u t.after_previous t.previous sound.skips sound.read w.seat w.at later-end w.before; is = w.is }
 
-    longer-saved : (p : Progress) → IsProgress t.phase bytes_in skips_in (text_of t) t.events.items t.stack.items t.closed p
-        → IsProgress t.phase bytes_in skips_in (text_between bytes_in skips_in t.start u) t.events.items t.stack.items t.closed p
+    longer-saved : (p : Progress) → IsProgress t.phase tab_in bytes_in skips_in (text_of t) t.events.items t.stack.items t.closed p
+        → IsProgress t.phase tab_in bytes_in skips_in (text_between tab_in bytes_in skips_in t.start u) t.events.items t.stack.items t.closed p
     longer-saved p h =
-        let position = position_from bytes_in skips_in t.start p.after_previous in
+        let position = position_from tab_in bytes_in skips_in t.start p.after_previous in
         record {
           read = longer p.after_previous p.previous h.read;
           ended = h.ended;
-          made = λ reads. made-more bytes_in skips_in t.start end_in p.after_previous p.previous sound.skips h.read (take p.events_len t.events.items) (take p.stack_len t.stack.items)
-              (can_feed position size_in t.closed) (can_feed position (length (seats_between bytes_in skips_in t.start u)) t.closed) (can-feed-more position size_in (length (seats_between bytes_in skips_in t.start u)) t.closed more-bytes) (h.made reads);
+          made = λ reads. made-more tab_in wide_in bytes_in skips_in t.start end_in p.after_previous p.previous sound.skips h.read (take p.events_len t.events.items) (take p.stack_len t.stack.items)
+              (can_feed position size_in t.closed) (can_feed position (length (seats_between tab_in bytes_in skips_in t.start u)) t.closed) (can-feed-more position size_in (length (seats_between tab_in bytes_in skips_in t.start u)) t.closed more-bytes) (h.made reads);
         }
 
-    text-longer : followed_by (seen t).given (text_of t) (pushed f u) ≡ text_between bytes_in skips_in t.start u
+    text-longer : followed_by (seen t).given (text_of t) (pushed f u) ≡ text_between tab_in bytes_in skips_in t.start u
     text-longer = ap (λ (seats : List Seat). record { start = t.start; seats = seats; end = u })
-        (sym (extended-seats bytes_in skips_in t.start end_in f u t.after_previous t.previous sound.skips sound.read (end-place-in t sound) starts-upto fits.2 fits.3))
+        (sym (extended-seats tab_in wide_in bytes_in skips_in t.start end_in f u t.after_previous t.previous sound.skips sound.read (end-place-in t sound) starts-upto fits.2 fits.3))
 
-    end-found : end_point bytes_in to ≡ u
+    end-found : end_point tab_in bytes_in to ≡ u
     end-found = ap (λ (o : Option Point). unwrap_or o (point 1 1 0 0)) found
 
     pub extended-sound : IsSound (record t { end = to })
@@ -156,11 +162,11 @@ module _ {M R D : Type 0} (t : Inside M R D) (sound : IsSound t) where
           text = rw e (subst (IsText (seen t).given) text-longer (text-more (seen t).given (text_of t) (pushed f u) sound.text fits));
           skips = rw e later-skips;
           read = rw e (longer t.after_previous t.previous sound.read);
-          waiting = rw e (waiting-on t.waits skips_in (text_between bytes_in skips_in t.start u) still-waits (λ c all. absurd (let no : true ≡ false = sym c ∙ open_still in cc)) sound.waiting);
+          waiting = rw e (waiting-on t.waits skips_in (text_between tab_in bytes_in skips_in t.start u) still-waits (λ c all. absurd (let no : true ≡ false = sym c ∙ open_still in cc)) sound.waiting);
           ended = sound.ended;
           made = sound.made;
-          kept_choices = rw e (nested-map (IsProgress t.phase bytes_in skips_in (text_of t) t.events.items t.stack.items t.closed)
-              (IsProgress t.phase bytes_in skips_in (text_between bytes_in skips_in t.start u) t.events.items t.stack.items t.closed)
+          kept_choices = rw e (nested-map (IsProgress t.phase tab_in bytes_in skips_in (text_of t) t.events.items t.stack.items t.closed)
+              (IsProgress t.phase tab_in bytes_in skips_in (text_between tab_in bytes_in skips_in t.start u) t.events.items t.stack.items t.closed)
               (length t.events.items) (length t.stack.items) (reverse t.kept_choices.items) (λ p a b h. longer-saved p h) sound.kept_choices);
         }
 
@@ -169,34 +175,34 @@ module _ {M R D : Type 0} (t : Inside M R D) (sound : IsSound t) where
 
   -- a gap is passed, or none is there
   module _ (q : Point) (fits : FitsAfter (seen t).given (text_of t) (passed q)) where
-    passed-place : IsPlace TAB bytes_in q
-    passed-place = place-of-point TAB bytes_in four q fits.0
+    passed-place : IsPlace tab_in bytes_in q
+    passed-place = place-of-point tab_in bytes_in wide_in q fits.0
 
     -- what the test of the code tells
     after-end : is_after_pair (shown bytes_in q) t.end ≡ stands_before end_in (shown bytes_in q)
-    after-end = let at = point_at-is TAB bytes_in t.end end_in sound.end_at in let i = at.index in let v = at.vs in rw (i, v) refl
+    after-end = let at = point_at-is tab_in bytes_in t.end end_in sound.end_at in let i = at.index in let v = at.vs in rw (i, v) refl
 
-    pub passes-none : is_after_pair (shown bytes_in q) t.end ≡ false → denotes_same TAB bytes_in q end_in ≡ true
+    pub passes-none : is_after_pair (shown bytes_in q) t.end ≡ false → denotes_same tab_in bytes_in q end_in ≡ true
     passes-none e = elim fits.1 [
       | inl same ↦ same
-      | inr f ↦ elim (denotes_same TAB bytes_in q end_in) as (λ b. (denotes_same TAB bytes_in q end_in ≡ b) → b ≡ true) [
+      | inr f ↦ elim (denotes_same tab_in bytes_in q end_in) as (λ b. (denotes_same tab_in bytes_in q end_in ≡ b) → b ≡ true) [
         | true ↦ λ same. refl
-        | false ↦ λ other. absurd (let g : true ≡ false = sym (other-before TAB bytes_in four q end_in passed-place (end-place-in t sound) f.2 other) ∙ sym after-end ∙ e in cc)
+        | false ↦ λ other. absurd (let g : true ≡ false = sym (other-before tab_in bytes_in wide_in q end_in passed-place (end-place-in t sound) f.2 other) ∙ sym after-end ∙ e in cc)
       ] refl
     ]
 
     -- a gap there is
     pub record IsPassed : Type 0 where
-      pub other : denotes_same TAB bytes_in q end_in ≡ false
+      pub other : denotes_same tab_in bytes_in q end_in ≡ false
       pub first : end_in.column ≡ 1
       pub line : q.line ≡ end_in.line
       pub before : stands_before end_in q ≡ true
 
-    same-not : is_after_pair (shown bytes_in q) t.end ≡ true → denotes_same TAB bytes_in q end_in ≡ true → ⊥
-    same-not e same = (let g : true ≡ false = sym e ∙ after-end ∙ same-not_before TAB bytes_in four q end_in passed-place (end-place-in t sound) same in cc)
+    same-not : is_after_pair (shown bytes_in q) t.end ≡ true → denotes_same tab_in bytes_in q end_in ≡ true → ⊥
+    same-not e same = (let g : true ≡ false = sym e ∙ after-end ∙ same-not_before tab_in bytes_in wide_in q end_in passed-place (end-place-in t sound) same in cc)
 
-    is-other : is_after_pair (shown bytes_in q) t.end ≡ true → denotes_same TAB bytes_in q end_in ≡ false
-    is-other e = elim (denotes_same TAB bytes_in q end_in) as (λ b. (denotes_same TAB bytes_in q end_in ≡ b) → b ≡ false) [ true ↦ λ same. absurd (same-not e same) | false ↦ λ other. refl ] refl
+    is-other : is_after_pair (shown bytes_in q) t.end ≡ true → denotes_same tab_in bytes_in q end_in ≡ false
+    is-other e = elim (denotes_same tab_in bytes_in q end_in) as (λ b. (denotes_same tab_in bytes_in q end_in ≡ b) → b ≡ false) [ true ↦ λ same. absurd (same-not e same) | false ↦ λ other. refl ] refl
 
     pub passes : is_after_pair (shown bytes_in q) t.end ≡ true → IsPassed
     passes e = elim fits.1 [
@@ -212,52 +218,52 @@ module _ {M R D : Type 0} (t : Inside M R D) (sound : IsSound t) where
       added = skips_in ++ q ∷ []
 
       abbrev text_added : Text
-      text_added = text_between bytes_in added t.start q
+      text_added = text_between tab_in bytes_in added t.start q
 
       size-same : length text_added.seats ≡ size_in
-      size-same = ap length (passed-seats bytes_in skips_in t.start end_in q t.after_previous t.previous sound.skips sound.read (end-place-in t sound) passed-place starts-upto is.first is.line is.before is.other)
+      size-same = ap length (passed-seats tab_in wide_in bytes_in skips_in t.start end_in q t.after_previous t.previous sound.skips sound.read (end-place-in t sound) passed-place starts-upto is.first is.line is.before is.other)
 
-      position-same : (after_previous : Point) (previous : Option ℕ) → IsReadTo bytes_in skips_in (text_of t) after_previous previous → position_from bytes_in added t.start after_previous ≡ position_from bytes_in skips_in t.start after_previous
-      position-same after_previous previous read = passed-position bytes_in skips_in t.start end_in q after_previous previous sound.skips read (end-place-in t sound) passed-place starts-upto is.first is.line is.before is.other
+      position-same : (after_previous : Point) (previous : Option ℕ) → IsReadTo tab_in bytes_in skips_in (text_of t) after_previous previous → position_from tab_in bytes_in added t.start after_previous ≡ position_from tab_in bytes_in skips_in t.start after_previous
+      position-same after_previous previous read = passed-position tab_in wide_in bytes_in skips_in t.start end_in q after_previous previous sound.skips read (end-place-in t sound) passed-place starts-upto is.first is.line is.before is.other
 
       pub text-passed : followed_by (seen t).given (text_of t) (passed q) ≡ text_added
       text-passed =
           let o = is.other in
-          let seats = passed-seats bytes_in skips_in t.start end_in q t.after_previous t.previous sound.skips sound.read (end-place-in t sound) passed-place starts-upto is.first is.line is.before is.other in
+          let seats = passed-seats tab_in wide_in bytes_in skips_in t.start end_in q t.after_previous t.previous sound.skips sound.read (end-place-in t sound) passed-place starts-upto is.first is.line is.before is.other in
           rw o (ap (λ (xs : List Seat). record { start = t.start; seats = xs; end = q }) (sym seats))
 
       -- the gaps so far are in earlier lines
       pub passed-behind : AllByRecursion (λ (p : Point). p.line < q.line) skips_in
-      passed-behind = let l = is.line in subst (λ (k : ℕ). AllByRecursion (λ (p : Point). p.line < k) skips_in) (sym l) (skips-earlier TAB bytes_in four end_in (end-place-in t sound) is.first skips_in sound.skips)
+      passed-behind = let l = is.line in subst (λ (k : ℕ). AllByRecursion (λ (p : Point). p.line < k) skips_in) (sym l) (skips-earlier tab_in bytes_in wide_in end_in (end-place-in t sound) is.first skips_in sound.skips)
 
-      passed-later : is_upto TAB bytes_in end_in q ≡ true
-      passed-later = upto-order TAB bytes_in end_in q (after-before end_in.index end_in.vs q.index q.vs is.before)
+      passed-later : is_upto tab_in bytes_in end_in q ≡ true
+      passed-later = upto-order tab_in bytes_in end_in q (after-before end_in.index end_in.vs q.index q.vs is.before)
 
-      read-on : (after_previous : Point) (previous : Option ℕ) → IsReadTo bytes_in skips_in (text_of t) after_previous previous → IsReadTo bytes_in added text_added after_previous previous
-      read-on after_previous previous read = read-passed bytes_in skips_in t.start end_in q after_previous previous sound.skips read (end-place-in t sound) passed-place starts-upto is.first is.line is.before is.other
+      read-on : (after_previous : Point) (previous : Option ℕ) → IsReadTo tab_in bytes_in skips_in (text_of t) after_previous previous → IsReadTo tab_in bytes_in added text_added after_previous previous
+      read-on after_previous previous read = read-passed tab_in wide_in bytes_in skips_in t.start end_in q after_previous previous sound.skips read (end-place-in t sound) passed-place starts-upto is.first is.line is.before is.other
 
-      shown-on : (after_previous : Point) (previous : Option ℕ) → IsReadTo bytes_in skips_in (text_of t) after_previous previous → stands_before (shown bytes_in (resumed added after_previous)) (shown bytes_in (resumed skips_in after_previous)) ≡ false
-      shown-on after_previous previous read = passed-shown bytes_in skips_in t.start end_in q after_previous previous sound.skips read (end-place-in t sound) passed-place starts-upto is.first is.line is.before is.other
+      shown-on : (after_previous : Point) (previous : Option ℕ) → IsReadTo tab_in bytes_in skips_in (text_of t) after_previous previous → stands_before (shown bytes_in (resumed added after_previous)) (shown bytes_in (resumed skips_in after_previous)) ≡ false
+      shown-on after_previous previous read = passed-shown tab_in wide_in bytes_in skips_in t.start end_in q after_previous previous sound.skips read (end-place-in t sound) passed-place starts-upto is.first is.line is.before is.other
 
-      byte-on : ByteWaits bytes_in skips_in t.after_previous end_in t.current → ByteWaits bytes_in added t.after_previous q t.current
+      byte-on : ByteWaits tab_in bytes_in skips_in t.after_previous end_in t.current → ByteWaits tab_in bytes_in added t.after_previous q t.current
       byte-on w =
-          let more = next-more bytes_in skips_in t.start end_in t.after_previous t.previous sound.skips sound.read w.seat w.at w.before in
-          let same = passed-resumed bytes_in skips_in t.start end_in q t.after_previous t.previous sound.skips sound.read (end-place-in t sound) passed-place starts-upto is.first is.line is.before is.other more in
+          let more = next-more tab_in wide_in bytes_in skips_in t.start end_in t.after_previous t.previous sound.skips sound.read w.seat w.at w.before in
+          let same = passed-resumed tab_in wide_in bytes_in skips_in t.start end_in q t.after_previous t.previous sound.skips sound.read (end-place-in t sound) passed-place starts-upto is.first is.line is.before is.other more in
           record {
             seat = w.seat;
-            at = subst (λ (p : Point). IsSeatAt TAB bytes_in p w.seat) (sym same) w.at;
-            before = still-before bytes_in skips_in t.start end_in q t.after_previous t.previous sound.skips sound.read w.seat w.at passed-later w.before;
+            at = subst (λ (p : Point). IsSeatAt tab_in bytes_in p w.seat) (sym same) w.at;
+            before = still-before tab_in wide_in bytes_in skips_in t.start end_in q t.after_previous t.previous sound.skips sound.read w.seat w.at passed-later w.before;
             is = w.is;
           }
 
-      waits-on : IsWhatWaits bytes_in added text_added t.after_previous t.current t.closed t.waits
+      waits-on : IsWhatWaits tab_in bytes_in added text_added t.after_previous t.current t.closed t.waits
       waits-on =
           let p = position-same t.after_previous t.previous sound.read in
           waiting-on t.waits added text_added byte-on (λ c all. omega (arith, all, size-same, p)) sound.waiting
 
-      module _ (events : List Event) (stack : List Name) (after_previous : Point) (previous : Option ℕ) (read : IsReadTo bytes_in skips_in (text_of t) after_previous previous) where
+      module _ (events : List Event) (stack : List Name) (after_previous : Point) (previous : Option ℕ) (read : IsReadTo tab_in bytes_in skips_in (text_of t) after_previous previous) where
         resumed-on : IsMade bytes_in events stack (shown bytes_in after_previous) (shown bytes_in (resumed skips_in after_previous)) → IsMade bytes_in events stack (shown bytes_in after_previous) (shown bytes_in (resumed added after_previous))
-        resumed-on m = made-bound bytes_in events stack (shown bytes_in after_previous) (shown bytes_in (resumed skips_in after_previous)) m (shown bytes_in (resumed added after_previous)) (shown-on after_previous previous read) (shown-shown TAB bytes_in (resumed added after_previous))
+        resumed-on m = made-bound bytes_in events stack (shown bytes_in after_previous) (shown bytes_in (resumed skips_in after_previous)) m (shown bytes_in (resumed added after_previous)) (shown-on after_previous previous read) (shown-shown tab_in bytes_in (resumed added after_previous))
 
         standing-on : (w : Waits) → IsMade bytes_in events stack (shown bytes_in after_previous) (shown bytes_in (standing skips_in after_previous w)) → IsMade bytes_in events stack (shown bytes_in after_previous) (shown bytes_in (standing added after_previous w))
         standing-on Nothing m = m
@@ -268,54 +274,54 @@ module _ {M R D : Type 0} (t : Inside M R D) (sound : IsSound t) where
         reach-on true m = resumed-on m
         reach-on false m = m
 
-      saved-on : (p : Progress) → IsProgress t.phase bytes_in skips_in (text_of t) t.events.items t.stack.items t.closed p → IsProgress t.phase bytes_in added text_added t.events.items t.stack.items t.closed p
+      saved-on : (p : Progress) → IsProgress t.phase tab_in bytes_in skips_in (text_of t) t.events.items t.stack.items t.closed p → IsProgress t.phase tab_in bytes_in added text_added t.events.items t.stack.items t.closed p
       saved-on p h =
           let position = position-same p.after_previous p.previous h.read in
           let size = size-same in
           record {
             read = read-on p.after_previous p.previous h.read;
             ended = h.ended;
-            made = λ reads. rw (position, size) (reach-on (take p.events_len t.events.items) (take p.stack_len t.stack.items) p.after_previous p.previous h.read (can_feed (position_from bytes_in skips_in t.start p.after_previous) size_in t.closed) (h.made reads));
+            made = λ reads. rw (position, size) (reach-on (take p.events_len t.events.items) (take p.stack_len t.stack.items) p.after_previous p.previous h.read (can_feed (position_from tab_in bytes_in skips_in t.start p.after_previous) size_in t.closed) (h.made reads));
           }
 
-      passed-end : end_point bytes_in (q.index, q.vs) ≡ q
-      passed-end = ap (λ (o : Option Point). unwrap_or o (point 1 1 0 0)) (point_at-point TAB bytes_in four q fits.0)
+      passed-end : end_point tab_in bytes_in (q.index, q.vs) ≡ q
+      passed-end = ap (λ (o : Option Point). unwrap_or o (point 1 1 0 0)) (point_at-point tab_in bytes_in wide_in q fits.0)
 
       module _ (list : List Point) (put : list ≡ added) where
-        pub added-end_at : point_at TAB bytes_in (q.index, q.vs) ≡ Some (end_point bytes_in (q.index, q.vs))
-        added-end_at = let e = passed-end in rw e (point_at-point TAB bytes_in four q fits.0)
+        pub added-end_at : point_at tab_in bytes_in (q.index, q.vs) ≡ Some (end_point tab_in bytes_in (q.index, q.vs))
+        added-end_at = let e = passed-end in rw e (point_at-point tab_in bytes_in wide_in q fits.0)
 
-        pub added-text_is : IsText (seen t).given (text_between bytes_in list t.start (end_point bytes_in (q.index, q.vs)))
+        pub added-text_is : IsText (seen t).given (text_between tab_in bytes_in list t.start (end_point tab_in bytes_in (q.index, q.vs)))
         added-text_is = let e = passed-end in rw (put, e) (subst (IsText (seen t).given) text-passed (text-more (seen t).given (text_of t) (passed q) sound.text fits))
 
-        pub added-skips_are : AllByRecursion (IsSkip TAB bytes_in (end_point bytes_in (q.index, q.vs))) list
+        pub added-skips_are : AllByRecursion (IsSkip tab_in bytes_in (end_point tab_in bytes_in (q.index, q.vs))) list
         added-skips_are =
-            let e = passed-end in rw (put, e) (passed-skips bytes_in skips_in t.start end_in q t.after_previous t.previous sound.skips sound.read (end-place-in t sound) passed-place starts-upto is.first is.line is.before is.other)
+            let e = passed-end in rw (put, e) (passed-skips tab_in wide_in bytes_in skips_in t.start end_in q t.after_previous t.previous sound.skips sound.read (end-place-in t sound) passed-place starts-upto is.first is.line is.before is.other)
 
-        pub added-read_to : IsReadTo bytes_in list (text_between bytes_in list t.start (end_point bytes_in (q.index, q.vs))) t.after_previous t.previous
+        pub added-read_to : IsReadTo tab_in bytes_in list (text_between tab_in bytes_in list t.start (end_point tab_in bytes_in (q.index, q.vs))) t.after_previous t.previous
         added-read_to = let e = passed-end in rw (put, e) (read-on t.after_previous t.previous sound.read)
 
-        pub added-waiting : IsWhatWaits bytes_in list (text_between bytes_in list t.start (end_point bytes_in (q.index, q.vs))) t.after_previous t.current t.closed t.waits
+        pub added-waiting : IsWhatWaits tab_in bytes_in list (text_between tab_in bytes_in list t.start (end_point tab_in bytes_in (q.index, q.vs))) t.after_previous t.current t.closed t.waits
         added-waiting = let e = passed-end in rw (put, e) waits-on
 
         pub added-made : t.phase ≡ Reading → IsMade bytes_in t.events.items t.stack.items (shown bytes_in t.after_previous) (shown bytes_in (standing list t.after_previous t.waits))
         added-made reads = rw put (standing-on t.events.items t.stack.items t.after_previous t.previous sound.read t.waits (sound.made reads))
 
-        pub added-kept_choices : AreNested (IsProgress t.phase bytes_in list (text_between bytes_in list t.start (end_point bytes_in (q.index, q.vs))) t.events.items t.stack.items t.closed) (length t.events.items) (length t.stack.items) (reverse t.kept_choices.items)
+        pub added-kept_choices : AreNested (IsProgress t.phase tab_in bytes_in list (text_between tab_in bytes_in list t.start (end_point tab_in bytes_in (q.index, q.vs))) t.events.items t.stack.items t.closed) (length t.events.items) (length t.stack.items) (reverse t.kept_choices.items)
         added-kept_choices =
             let e = passed-end in
-            rw (put, e) (nested-map (IsProgress t.phase bytes_in skips_in (text_of t) t.events.items t.stack.items t.closed) (IsProgress t.phase bytes_in added text_added t.events.items t.stack.items t.closed)
+            rw (put, e) (nested-map (IsProgress t.phase tab_in bytes_in skips_in (text_of t) t.events.items t.stack.items t.closed) (IsProgress t.phase tab_in bytes_in added text_added t.events.items t.stack.items t.closed)
             (length t.events.items) (length t.stack.items) (reverse t.kept_choices.items) (λ p a b h. saved-on p h) sound.kept_choices)
 
-        added-text_seen : text_between bytes_in list t.start (end_point bytes_in (q.index, q.vs)) ≡ followed_by (seen t).given (text_of t) (passed q)
+        added-text_seen : text_between tab_in bytes_in list t.start (end_point tab_in bytes_in (q.index, q.vs)) ≡ followed_by (seen t).given (text_of t) (passed q)
         added-text_seen = let e = passed-end in rw (put, e) (sym text-passed)
 
-        added-position : position_from bytes_in list t.start t.after_previous ≡ position_from bytes_in skips_in t.start t.after_previous
+        added-position : position_from tab_in bytes_in list t.start t.after_previous ≡ position_from tab_in bytes_in skips_in t.start t.after_previous
         added-position = rw put (position-same t.after_previous t.previous sound.read)
 
-        added-choices : map (choice_of (position_from bytes_in list t.start) t.stack.items) (reverse t.kept_choices.items) ≡ map (choice_of (position_from bytes_in skips_in t.start) t.stack.items) (reverse t.kept_choices.items)
+        added-choices : map (choice_of (position_from tab_in bytes_in list t.start) t.stack.items) (reverse t.kept_choices.items) ≡ map (choice_of (position_from tab_in bytes_in skips_in t.start) t.stack.items) (reverse t.kept_choices.items)
         added-choices =
-            rw put (same-positions (position_from bytes_in added t.start) (position_from bytes_in skips_in t.start) t.stack.items (IsProgress t.phase bytes_in skips_in (text_of t) t.events.items t.stack.items t.closed)
+            rw put (same-positions (position_from tab_in bytes_in added t.start) (position_from tab_in bytes_in skips_in t.start) t.stack.items (IsProgress t.phase tab_in bytes_in skips_in (text_of t) t.events.items t.stack.items t.closed)
             (λ p h. position-same p.after_previous p.previous h.read) (length t.events.items) (length t.stack.items) (reverse t.kept_choices.items) sound.kept_choices)
 
       pub added-seen : (skips : List Point) (put : skips ≡ added) → seen (record t { skips = skips; end = (q.index, q.vs) }) ≡ extended (seen t) (followed_by (seen t).given (seen t).text (passed q))
@@ -376,10 +382,10 @@ module _ {M R D : Type 0} (t : Inside M R D) (sound : IsSound t) where
     entered-events : (n : ℕ) → n ≤ length t.events.items → take n events ≡ take n t.events.items
     entered-events n le = rw put (take-append-le n t.events.items (record { kind = Enter; name = name; point = here; link = link } ∷ []) le)
 
-    pub entered-kept_choices : AreNested (IsProgress t.phase t.parse_state.now.bytes.now t.skips (text_of t) events stack t.closed) (length events) (length stack) (reverse t.kept_choices.items)
+    pub entered-kept_choices : AreNested (IsProgress t.phase (tab_of t.parse_state.now) t.parse_state.now.bytes.now t.skips (text_of t) events stack t.closed) (length events) (length stack) (reverse t.kept_choices.items)
     entered-kept_choices =
-        let P = IsProgress t.phase t.parse_state.now.bytes.now t.skips (text_of t) t.events.items t.stack.items t.closed in
-        let Q = IsProgress t.phase t.parse_state.now.bytes.now t.skips (text_of t) events stack t.closed in
+        let P = IsProgress t.phase (tab_of t.parse_state.now) t.parse_state.now.bytes.now t.skips (text_of t) t.events.items t.stack.items t.closed in
+        let Q = IsProgress t.phase (tab_of t.parse_state.now) t.parse_state.now.bytes.now t.skips (text_of t) events stack t.closed in
         nested-wider Q (length t.events.items) (length t.stack.items) (length events) (length stack) (reverse t.kept_choices.items)
         (omega (arith, ap length put, length-append t.events.items (record { kind = Enter; name = name; point = here; link = link } ∷ [])))
         (omega (arith, ap length top, length-append t.stack.items (name ∷ [])))
@@ -387,9 +393,9 @@ module _ {M R D : Type 0} (t : Inside M R D) (sound : IsSound t) where
         (λ p a b h. let e = entered-events p.events_len a in let s = entered-front p.stack_len b in
         record { read = h.read; ended = h.ended; made = rw (e, s) h.made }) sound.kept_choices)
 
-    pub entered-choices : map (choice_of (position_from t.parse_state.now.bytes.now t.skips t.start) stack) (reverse t.kept_choices.items) ≡ map (choice_of (position_from t.parse_state.now.bytes.now t.skips t.start) t.stack.items) (reverse t.kept_choices.items)
+    pub entered-choices : map (choice_of (position_from (tab_of t.parse_state.now) t.parse_state.now.bytes.now t.skips t.start) stack) (reverse t.kept_choices.items) ≡ map (choice_of (position_from (tab_of t.parse_state.now) t.parse_state.now.bytes.now t.skips t.start) t.stack.items) (reverse t.kept_choices.items)
     entered-choices =
-        same-choices (position_from t.parse_state.now.bytes.now t.skips t.start) stack t.stack.items (IsProgress t.phase t.parse_state.now.bytes.now t.skips (text_of t) t.events.items t.stack.items t.closed)
+        same-choices (position_from (tab_of t.parse_state.now) t.parse_state.now.bytes.now t.skips t.start) stack t.stack.items (IsProgress t.phase (tab_of t.parse_state.now) t.parse_state.now.bytes.now t.skips (text_of t) t.events.items t.stack.items t.closed)
         (length t.events.items) (length t.stack.items) (reverse t.kept_choices.items) entered-front sound.kept_choices
 
     pub entered-at : here ≡ (sight (seen t).given (seen t).text (seen t).configuration).here
@@ -447,15 +453,15 @@ module _ {M R D : Type 0} (t : Inside M R D) (sound : IsSound t) (name : Name) (
   exited-events : (n : ℕ) → n ≤ length t.events.items → take n events ≡ take n t.events.items
   exited-events n le = rw put (take-append-le n t.events.items (record { kind = Exit; name = name; point = here; link = None } ∷ []) le)
 
-  exited-nested : AreNested (IsProgress t.phase t.parse_state.now.bytes.now t.skips (text_of t) t.events.items t.stack.items t.closed) (length t.events.items) (length t.stack.items - 1) (reverse t.kept_choices.items)
+  exited-nested : AreNested (IsProgress t.phase (tab_of t.parse_state.now) t.parse_state.now.bytes.now t.skips (text_of t) t.events.items t.stack.items t.closed) (length t.events.items) (length t.stack.items - 1) (reverse t.kept_choices.items)
   exited-nested =
-      nested-below (position_from t.parse_state.now.bytes.now t.skips t.start) t.stack.items (IsProgress t.phase t.parse_state.now.bytes.now t.skips (text_of t) t.events.items t.stack.items t.closed)
+      nested-below (position_from (tab_of t.parse_state.now) t.parse_state.now.bytes.now t.skips t.start) t.stack.items (IsProgress t.phase (tab_of t.parse_state.now) t.parse_state.now.bytes.now t.skips (text_of t) t.events.items t.stack.items t.closed)
       (length t.events.items) (reverse t.kept_choices.items) can.above sound.kept_choices
 
-  pub exited-kept_choices : AreNested (IsProgress t.phase t.parse_state.now.bytes.now t.skips (text_of t) events stack t.closed) (length events) (length stack) (reverse t.kept_choices.items)
+  pub exited-kept_choices : AreNested (IsProgress t.phase (tab_of t.parse_state.now) t.parse_state.now.bytes.now t.skips (text_of t) events stack t.closed) (length events) (length stack) (reverse t.kept_choices.items)
   exited-kept_choices =
-      let P = IsProgress t.phase t.parse_state.now.bytes.now t.skips (text_of t) t.events.items t.stack.items t.closed in
-      let Q = IsProgress t.phase t.parse_state.now.bytes.now t.skips (text_of t) events stack t.closed in
+      let P = IsProgress t.phase (tab_of t.parse_state.now) t.parse_state.now.bytes.now t.skips (text_of t) t.events.items t.stack.items t.closed in
+      let Q = IsProgress t.phase (tab_of t.parse_state.now) t.parse_state.now.bytes.now t.skips (text_of t) events stack t.closed in
       let m = length t.stack.items - 1 in
       nested-wider Q (length t.events.items) m (length events) (length stack) (reverse t.kept_choices.items)
       (omega (arith, ap length put, length-append t.events.items (record { kind = Exit; name = name; point = here; link = None } ∷ [])))
@@ -464,30 +470,30 @@ module _ {M R D : Type 0} (t : Inside M R D) (sound : IsSound t) (name : Name) (
       (λ p a b h. let e = exited-events p.events_len a in let s = exited-front p.stack_len b in
       record { read = h.read; ended = h.ended; made = rw (e, s) h.made }) exited-nested)
 
-  pub exited-choices : map (choice_of (position_from t.parse_state.now.bytes.now t.skips t.start) stack) (reverse t.kept_choices.items) ≡ map (choice_of (position_from t.parse_state.now.bytes.now t.skips t.start) t.stack.items) (reverse t.kept_choices.items)
+  pub exited-choices : map (choice_of (position_from (tab_of t.parse_state.now) t.parse_state.now.bytes.now t.skips t.start) stack) (reverse t.kept_choices.items) ≡ map (choice_of (position_from (tab_of t.parse_state.now) t.parse_state.now.bytes.now t.skips t.start) t.stack.items) (reverse t.kept_choices.items)
   exited-choices =
-      same-choices (position_from t.parse_state.now.bytes.now t.skips t.start) stack t.stack.items (IsProgress t.phase t.parse_state.now.bytes.now t.skips (text_of t) t.events.items t.stack.items t.closed)
+      same-choices (position_from (tab_of t.parse_state.now) t.parse_state.now.bytes.now t.skips t.start) stack t.stack.items (IsProgress t.phase (tab_of t.parse_state.now) t.parse_state.now.bytes.now t.skips (text_of t) t.events.items t.stack.items t.closed)
       (length t.events.items) (length t.stack.items - 1) (reverse t.kept_choices.items) exited-front exited-nested
 
   pub exited-at : here ≡ (sight (seen t).given (seen t).text (seen t).configuration).after_previous
   exited-at = is ∙ after_previous-is t sound
 
 -- a tokenizer that has read nothing
-module _ (bytes : List ℕ) (p : Point) (h : IsPointOf TAB bytes p) where
-  pub start-end : end_point bytes (p.index, p.vs) ≡ p
-  start-end = ap (λ (o : Option Point). unwrap_or o (point 1 1 0 0)) (point_at-point TAB bytes four p h)
+module _ (tab : ℕ) (wide : 0 < tab) (bytes : List ℕ) (p : Point) (h : IsPointOf tab bytes p) where
+  pub start-end : end_point tab bytes (p.index, p.vs) ≡ p
+  start-end = ap (λ (o : Option Point). unwrap_or o (point 1 1 0 0)) (point_at-point tab bytes wide p h)
 
-  pub start-empty : seats_between bytes [] p p ≡ []
-  start-empty = kept-empty bytes p
+  pub start-empty : seats_between tab bytes [] p p ≡ []
+  start-empty = kept-empty tab bytes p
 
-  pub start-found : point_at TAB bytes (p.index, p.vs) ≡ Some p
-  start-found = point_at-point TAB bytes four p h
+  pub start-found : point_at tab bytes (p.index, p.vs) ≡ Some p
+  start-found = point_at-point tab bytes wide p h
 
-  pub start-text : (options : ParseOptions) → IsDocument (record { bytes = bytes; options = options; tab = TAB }) → IsText (record { bytes = bytes; options = options; tab = TAB }) (empty_text p)
+  pub start-text : (options : ParseOptions) → IsDocument (record { bytes = bytes; options = options; tab = tab }) → IsText (record { bytes = bytes; options = options; tab = tab }) (empty_text p)
   start-text options document = record { document = document; starts = h; pieces = []; follow = tt; is = refl }
 
   pub start-made : IsMade bytes [] [] (shown bytes p) (shown bytes p)
-  start-made = made-new bytes (shown bytes p) (shown bytes p) (upto-self-point (shown bytes p)) (shown-shown TAB bytes p) (shown-shown TAB bytes p)
+  start-made = made-new bytes (shown bytes p) (shown bytes p) (upto-self-point (shown bytes p)) (shown-shown tab bytes p) (shown-shown tab bytes p)
 
 -- links are no part of what was made
 updated-unlinked : (i : ℕ) (f : Event → Event) → ((e : Event) → unlinked (f e) ≡ unlinked e) → (events : List Event) → map unlinked (updated_at i f events) ≡ map unlinked events
@@ -527,10 +533,10 @@ module _ {M R D : Type 0} (t : Inside M R D) (sound : IsSound t) (previous next 
   front-kept : HasFrontUpToLinkEnds events t.events.items
   front-kept = ap (λ (xs : List Event). map unlinked xs) (take_all (length t.events.items) events (omega (arith, same-length))) ∙ events-unlinked
 
-  pub linked-kept_choices : AreNested (IsProgress t.phase t.parse_state.now.bytes.now t.skips (text_of t) events t.stack.items t.closed) (length events) (length t.stack.items) (reverse t.kept_choices.items)
+  pub linked-kept_choices : AreNested (IsProgress t.phase (tab_of t.parse_state.now) t.parse_state.now.bytes.now t.skips (text_of t) events t.stack.items t.closed) (length events) (length t.stack.items) (reverse t.kept_choices.items)
   linked-kept_choices =
-      let P = IsProgress t.phase t.parse_state.now.bytes.now t.skips (text_of t) t.events.items t.stack.items t.closed in
-      let Q = IsProgress t.phase t.parse_state.now.bytes.now t.skips (text_of t) events t.stack.items t.closed in
+      let P = IsProgress t.phase (tab_of t.parse_state.now) t.parse_state.now.bytes.now t.skips (text_of t) t.events.items t.stack.items t.closed in
+      let Q = IsProgress t.phase (tab_of t.parse_state.now) t.parse_state.now.bytes.now t.skips (text_of t) events t.stack.items t.closed in
       nested-wider Q (length t.events.items) (length t.stack.items) (length events) (length t.stack.items) (reverse t.kept_choices.items) (omega (arith, same-length)) (omega arith)
       (nested-map P Q (length t.events.items) (length t.stack.items) (reverse t.kept_choices.items)
       (λ p a b h. record {
@@ -538,5 +544,5 @@ module _ {M R D : Type 0} (t : Inside M R D) (sound : IsSound t) (previous next 
         ended = h.ended;
         made = λ reads. made-kept t.parse_state.now.bytes.now t.events.items events p.events_len (take p.stack_len t.stack.items)
             (shown t.parse_state.now.bytes.now p.after_previous)
-            (shown t.parse_state.now.bytes.now (reach t.skips p.after_previous (can_feed (position_from t.parse_state.now.bytes.now t.skips t.start p.after_previous) (length (text_of t).seats) t.closed))) a front-kept (h.made reads);
+            (shown t.parse_state.now.bytes.now (reach t.skips p.after_previous (can_feed (position_from (tab_of t.parse_state.now) t.parse_state.now.bytes.now t.skips t.start p.after_previous) (length (text_of t).seats) t.closed))) a front-kept (h.made reads);
       }) sound.kept_choices)

@@ -14,8 +14,8 @@ use Rattle.markdown_base.specs.Places.{shown}
 use Rattle.markdown.specs.declared.waiting.Waits.{Waits}
 use Rattle.markdown.specs.declared.waiting.Waits.TheVariants.{Nothing, Byte, End}
 use Rattle.markdown.specs.Made.{IsMade}
-use Rattle.markdown.specs.View.{seen, text_of, state_of, choice_at, choice_of, position_from, standing, reach, can_feed, IsWhatWaits, IsProgress, AreNested, IsSound}
-use Rattle.markdown.proofs.Fields.{next-more, made-more, or-true}
+use Rattle.markdown.specs.View.{tab_of, seen, text_of, state_of, choice_at, choice_of, position_from, standing, reach, can_feed, IsWhatWaits, IsProgress, AreNested, IsSound}
+use Rattle.markdown.proofs.Fields.{wide_of, next-more, made-more, or-true}
 use Rattle.markdown.proofs.Unwinding.{reverse-last}
 
 -- how far a tokenizer has read
@@ -35,8 +35,14 @@ module _ {M R D : Type 0} (t : Inside M R D) (sound : IsSound t) where
   abbrev bytes_in : List ℕ
   bytes_in = t.parse_state.now.bytes.now
 
+  abbrev tab_in : ℕ
+  tab_in = tab_of t.parse_state.now
+
+  wide_in : 0 < tab_in
+  wide_in = wide_of t sound
+
   abbrev Saves : Progress → Type 0
-  Saves = IsProgress t.phase bytes_in t.skips (text_of t) t.events.items t.stack.items t.closed
+  Saves = IsProgress t.phase tab_in bytes_in t.skips (text_of t) t.events.items t.stack.items t.closed
 
   all-events : take (length t.events.items) t.events.items ≡ t.events.items
   all-events = take_all (length t.events.items) t.events.items (omega arith)
@@ -48,19 +54,19 @@ module _ {M R D : Type 0} (t : Inside M R D) (sound : IsSound t) where
   MadeUpto p = IsMade bytes_in t.events.items t.stack.items (shown bytes_in t.after_previous) (shown bytes_in p)
 
   abbrev position_in : ℕ
-  position_in = position_from bytes_in t.skips t.start t.after_previous
+  position_in = position_from tab_in bytes_in t.skips t.start t.after_previous
 
   abbrev can_feed_in : Bool
   can_feed_in = can_feed position_in (length (text_of t).seats) t.closed
 
   reach-by : (a b : Bool) → (a ≡ true → b ≡ true) → MadeUpto (reach t.skips t.after_previous a) → MadeUpto (reach t.skips t.after_previous b)
-  reach-by a b f m = made-more bytes_in t.skips t.start (text_of t).end t.after_previous t.previous sound.skips sound.read t.events.items t.stack.items a b f m
+  reach-by a b f m = made-more tab_in wide_in bytes_in t.skips t.start (text_of t).end t.after_previous t.previous sound.skips sound.read t.events.items t.stack.items a b f m
 
   -- where something waits more can be fed
-  waits-more : (w : Waits) → IsWhatWaits bytes_in t.skips (text_of t) t.after_previous t.current t.closed w → MadeUpto (standing t.skips t.after_previous w) → MadeUpto (reach t.skips t.after_previous can_feed_in)
+  waits-more : (w : Waits) → IsWhatWaits tab_in bytes_in t.skips (text_of t) t.after_previous t.current t.closed w → MadeUpto (standing t.skips t.after_previous w) → MadeUpto (reach t.skips t.after_previous can_feed_in)
   waits-more Nothing h m = reach-by false can_feed_in (λ e. absurd (cc)) m
   waits-more Byte h m = reach-by true can_feed_in (λ e. byte-more position_in (length (text_of t).seats) t.closed
-      (next-more bytes_in t.skips t.start (text_of t).end t.after_previous t.previous sound.skips sound.read h.seat h.at h.before)) m
+      (next-more tab_in wide_in bytes_in t.skips t.start (text_of t).end t.after_previous t.previous sound.skips sound.read h.seat h.at h.before)) m
   waits-more End h m = reach-by true can_feed_in (λ e. closed-more position_in (length (text_of t).seats) t.closed h.closed_too) m
 
   pub saves-here : Saves (progress_of t)
@@ -74,7 +80,7 @@ module _ {M R D : Type 0} (t : Inside M R D) (sound : IsSound t) where
     nested-one true = ((omega arith, omega arith, saves-here), sound.kept_choices)
     nested-one false = (tt, sound.kept_choices)
 
-    choice-one : (saves : Bool) → choice_of (position_from bytes_in t.skips t.start) t.stack.items (mark_if saves) ≡ choice_at kind (state_of ok) (state_of nok) saves (seen t).configuration
+    choice-one : (saves : Bool) → choice_of (position_from tab_in bytes_in t.skips t.start) t.stack.items (mark_if saves) ≡ choice_at kind (state_of ok) (state_of nok) saves (seen t).configuration
     choice-one true = let s = all-stack in rw s refl
     choice-one false = refl
 
@@ -82,7 +88,7 @@ module _ {M R D : Type 0} (t : Inside M R D) (sound : IsSound t) where
       pub chosen-kept_choices : AreNested Saves (length t.events.items) (length t.stack.items) (reverse kept_choices)
       chosen-kept_choices = let e = reverse-last kept_choices t.kept_choices.items (mark_if saves) put in rw e (nested-one saves)
 
-      pub chosen-choices : map (choice_of (position_from bytes_in t.skips t.start) t.stack.items) (reverse kept_choices) ≡ choice_at kind (state_of ok) (state_of nok) saves (seen t).configuration ∷ (seen t).choices
+      pub chosen-choices : map (choice_of (position_from tab_in bytes_in t.skips t.start) t.stack.items) (reverse kept_choices) ≡ choice_at kind (state_of ok) (state_of nok) saves (seen t).configuration ∷ (seen t).choices
       chosen-choices =
           let e = reverse-last kept_choices t.kept_choices.items (mark_if saves) put in
-          rw e (ap (λ (c : Choice). c ∷ map (choice_of (position_from bytes_in t.skips t.start) t.stack.items) (reverse t.kept_choices.items)) (choice-one saves))
+          rw e (ap (λ (c : Choice). c ∷ map (choice_of (position_from tab_in bytes_in t.skips t.start) t.stack.items) (reverse t.kept_choices.items)) (choice-one saves))

@@ -17,7 +17,7 @@ use Rattle.markdown.specs.Text.{Text, in_range}
 use Rattle.markdown.specs.Sight.{seat_before, byte_of, end_or}
 use Rattle.markdown.specs.Gaps.{is_kept, resumed, IsSkip}
 use Rattle.markdown.specs.Made.{IsMade}
-use Rattle.markdown.specs.View.{TAB, text_of, seats_between, position_from, reach, can_feed, IsReadTo, IsWhatWaits, IsProgress, AreNested, events_of, stack_of, IsSound}
+use Rattle.markdown.specs.View.{tab_of, text_of, seats_between, position_from, reach, can_feed, IsReadTo, IsWhatWaits, IsProgress, AreNested, events_of, stack_of, IsSound}
 use Rattle.markdown.specs.declared.waiting.KeptChoice.{KeptChoice}
 use Rattle.markdown.specs.declared.waiting.Progress.{Progress}
 use Rattle.markdown.specs.Cursor.{IsPlace, IsSeatAt, rest_at}
@@ -34,54 +34,55 @@ slice_get-front [] ys i h = absurd (omega arith)
 slice_get-front (x ∷ xs) ys zero h = refl
 slice_get-front (x ∷ xs) ys (suc i) h = slice_get-front xs ys i (omega arith)
 
-pub four : 0 < 4
-four = omega arith
+-- tab stops are apart
+pub wide_of : {M R D : Type 0} (t : Inside M R D) → IsSound t → 0 < tab_of t.parse_state.now
+wide_of t sound = let least : 1 ≤ tab_of t.parse_state.now = sound.text.document.tab.0 in omega (arith, least)
 
-module _ (bytes : List ℕ) (skips : List Point) where
+module _ (tab : ℕ) (wide : 0 < tab) (bytes : List ℕ) (skips : List Point) where
   -- the text is what was read and what is left
-  pub kept-splits : (start p end : Point) → IsPlace TAB bytes p → is_upto TAB bytes start p ≡ true → is_upto TAB bytes p end ≡ true
-      → seats_between bytes skips start end ≡ seats_between bytes skips start p ++ filter (is_kept skips) (left_of TAB bytes p end)
+  pub kept-splits : (start p end : Point) → IsPlace tab bytes p → is_upto tab bytes start p ≡ true → is_upto tab bytes p end ≡ true
+      → seats_between tab bytes skips start end ≡ seats_between tab bytes skips start p ++ filter (is_kept skips) (left_of tab bytes p end)
   kept-splits start p end place from upto =
-      ap (filter (is_kept skips)) (text-splits TAB bytes start p end place from upto) ∙ filter-append (is_kept skips) (filter (in_range start p) (virtual TAB bytes)) (left_of TAB bytes p end)
+      ap (filter (is_kept skips)) (text-splits tab bytes start p end place from upto) ∙ filter-append (is_kept skips) (filter (in_range start p) (virtual tab bytes)) (left_of tab bytes p end)
 
-  pub kept-same : (a b c d : Point) → denotes_same TAB bytes a c ≡ true → denotes_same TAB bytes b d ≡ true → seats_between bytes skips a b ≡ seats_between bytes skips c d
-  kept-same a b c d h k = ap (filter (is_kept skips)) (range-same TAB bytes a b c d h k)
+  pub kept-same : (a b c d : Point) → denotes_same tab bytes a c ≡ true → denotes_same tab bytes b d ≡ true → seats_between tab bytes skips a b ≡ seats_between tab bytes skips c d
+  kept-same a b c d h k = ap (filter (is_kept skips)) (range-same tab bytes a b c d h k)
 
-  kept-within : (start p end : Point) → IsPlace TAB bytes p → is_upto TAB bytes start p ≡ true → is_upto TAB bytes p end ≡ true
-      → position_from bytes skips start p ≤ length (seats_between bytes skips start end)
+  kept-within : (start p end : Point) → IsPlace tab bytes p → is_upto tab bytes start p ≡ true → is_upto tab bytes p end ≡ true
+      → position_from tab bytes skips start p ≤ length (seats_between tab bytes skips start end)
   kept-within start p end place from upto =
-      omega (arith, ap length (kept-splits start p end place from upto), length-append (seats_between bytes skips start p) (filter (is_kept skips) (left_of TAB bytes p end)))
+      omega (arith, ap length (kept-splits start p end place from upto), length-append (seats_between tab bytes skips start p) (filter (is_kept skips) (left_of tab bytes p end)))
 
-pub kept-empty : (bytes : List ℕ) (p : Point) → seats_between bytes [] p p ≡ []
-kept-empty bytes p = ap (filter (is_kept [])) (range-empty TAB bytes p)
+pub kept-empty : (tab : ℕ) (bytes : List ℕ) (p : Point) → seats_between tab bytes [] p p ≡ []
+kept-empty tab bytes p = ap (filter (is_kept [])) (range-empty tab bytes p)
 
 -- nothing was read of the empty text
-pub read-start : (bytes : List ℕ) (p : Point) → IsPointOf TAB bytes p → IsReadTo bytes [] (record { start = p; seats = seats_between bytes [] p p; end = p }) p None
-read-start bytes p h =
-    let none : position_from bytes [] p p ≡ 0 = ap length (kept-empty bytes p) in
+pub read-start : (tab : ℕ) (wide : 0 < tab) (bytes : List ℕ) (p : Point) → IsPointOf tab bytes p → IsReadTo tab bytes [] (record { start = p; seats = seats_between tab bytes [] p p; end = p }) p None
+read-start tab wide bytes p h =
+    let none : position_from tab bytes [] p p ≡ 0 = ap length (kept-empty tab bytes p) in
     record {
-      place = place-of-point TAB bytes four p h;
-      from = upto-self TAB bytes p;
-      upto = upto-self TAB bytes p;
+      place = place-of-point tab bytes wide p h;
+      from = upto-self tab bytes p;
+      upto = upto-self tab bytes p;
       outside = λ q e. absurd cc;
       back = rw none refl;
       previous_is = rw none refl;
     }
 
 -- a text of the document between two places
-abbrev pub text_between : List ℕ → List Point → Point → Point → Text
-text_between bytes skips start end = record { start = start; seats = seats_between bytes skips start end; end = end }
+abbrev pub text_between : (tab : ℕ) → List ℕ → List Point → Point → Point → Text
+text_between tab bytes skips start end = record { start = start; seats = seats_between tab bytes skips start end; end = end }
 
 empty-or-first : {A : Type 0} (xs : List A) → (xs ≡ []) ⊎ ((y : A) × (ys : List A) × (xs ≡ y ∷ ys))
 empty-or-first [] = inl refl
 empty-or-first (x ∷ xs) = inr (x, xs, refl)
 
 -- the first virtual byte of what is left is the next one
-next-of-rest : (bytes : List ℕ) (after_previous : Point) (place : IsPlace TAB bytes after_previous) (seat : Seat) (after : List Seat) → rest_at TAB bytes after_previous ≡ seat ∷ after → IsSeatAt TAB bytes after_previous seat
-next-of-rest bytes after_previous place seat after e =
+next-of-rest : (tab : ℕ) (wide : 0 < tab) (bytes : List ℕ) (after_previous : Point) (place : IsPlace tab bytes after_previous) (seat : Seat) (after : List Seat) → rest_at tab bytes after_previous ≡ seat ∷ after → IsSeatAt tab bytes after_previous seat
+next-of-rest tab wide bytes after_previous place seat after e =
     let splits = place.splits ∙ ap (λ (xs : List Seat). place.before ++ xs) e in
-    let begins = seat-begins TAB bytes four place.before seat after splits in
-    let later = subst (AllByRecursion (λ s. stands_before s.point after_previous ≡ false)) e (rest-later TAB bytes after_previous) in
+    let begins = seat-begins tab bytes wide place.before seat after splits in
+    let later = subst (AllByRecursion (λ s. stands_before s.point after_previous ≡ false)) e (rest-later tab bytes after_previous) in
     record { after = after; is = e; same = begins.at_seat ∙ sym e; later = later.0; inside = begins.inside }
 
 first-kept : (skips : List Point) (seat : Seat) (xs : List Seat) → is_kept skips seat ≡ true → filter (is_kept skips) (seat ∷ xs) ≡ seat ∷ filter (is_kept skips) xs
@@ -91,182 +92,182 @@ first-before : (end : Point) (seat : Seat) (xs : List Seat) → stands_before se
     → filter (λ s. stands_before s.point end) (seat ∷ xs) ≡ seat ∷ filter (λ s. stands_before s.point end) xs
 first-before end seat xs e = rw e refl
 
-module _ (bytes : List ℕ) (skips : List Point) (start end after_previous : Point) (previous : Option ℕ) (are : AllByRecursion (IsSkip TAB bytes end) skips)
-    (read : IsReadTo bytes skips (text_between bytes skips start end) after_previous previous) where
+module _ (tab : ℕ) (wide : 0 < tab) (bytes : List ℕ) (skips : List Point) (start end after_previous : Point) (previous : Option ℕ) (are : AllByRecursion (IsSkip tab bytes end) skips)
+    (read : IsReadTo tab bytes skips (text_between tab bytes skips start end) after_previous previous) where
   abbrev here : Point
   here = resumed skips after_previous
 
   -- the place from which the next byte is looked for
-  pub looks : IsResumed TAB bytes skips start end after_previous here
-  looks = resumed-at TAB bytes four skips start end after_previous are read.place read.from read.upto read.outside
+  pub looks : IsResumed tab bytes skips start end after_previous here
+  looks = resumed-at tab bytes wide skips start end after_previous are read.place read.from read.upto read.outside
 
   -- no more was read than the text
-  pub within : position_from bytes skips start after_previous ≤ length (seats_between bytes skips start end)
-  within = kept-within bytes skips start after_previous end read.place read.from read.upto
+  pub within : position_from tab bytes skips start after_previous ≤ length (seats_between tab bytes skips start end)
+  within = kept-within tab wide bytes skips start after_previous end read.place read.from read.upto
 
-  here-all : is_upto TAB bytes end here ≡ true → length (seats_between bytes skips start end) ≤ position_from bytes skips start after_previous
+  here-all : is_upto tab bytes end here ≡ true → length (seats_between tab bytes skips start end) ≤ position_from tab bytes skips start after_previous
   here-all e =
-      let same = kept-same bytes skips start end start here (same-self TAB bytes start) (upto-same TAB bytes end here e looks.upto) in
+      let same = kept-same tab wide bytes skips start end start here (same-self tab bytes start) (upto-same tab bytes end here e looks.upto) in
       omega (arith, ap length same, ap length looks.same)
 
-  module _ (seat : Seat) (n : IsSeatAt TAB bytes here seat) where
+  module _ (seat : Seat) (n : IsSeatAt tab bytes here seat) where
     -- where the next byte is shown an enter stands
     pub next-shown : shown bytes seat.point ≡ shown bytes here
-    next-shown = (next-begins TAB bytes four here seat looks.place n).shown_is ∙ sym looks.place.stands
+    next-shown = (next-begins tab bytes wide here seat looks.place n).shown_is ∙ sym looks.place.stands
 
     -- the next byte of the text is the next of the document, where that stands in the text
-    pub next-seat : stands_before seat.point end ≡ true → slice_get (seats_between bytes skips start end) (position_from bytes skips start after_previous) ≡ Some seat
+    pub next-seat : stands_before seat.point end ≡ true → slice_get (seats_between tab bytes skips start end) (position_from tab bytes skips start after_previous) ≡ Some seat
     next-seat lt =
-        let read_here = seats_between bytes skips start here in
+        let read_here = seats_between tab bytes skips start here in
         let f = λ (s : Seat). stands_before s.point end in
         let rest = filter (is_kept skips) (filter f n.after) in
-        let left_is : filter (is_kept skips) (left_of TAB bytes here end) ≡ seat ∷ rest =
+        let left_is : filter (is_kept skips) (left_of tab bytes here end) ≡ seat ∷ rest =
         ap (filter (is_kept skips)) (ap (filter f) n.is ∙ first-before end seat n.after lt) ∙ first-kept skips seat (filter f n.after) (looks.fresh seat n) in
-        let splits = kept-splits bytes skips start here end looks.place looks.from looks.upto ∙ ap (λ (xs : List Seat). read_here ++ xs) left_is in
-        ap (λ (xs : List Seat). slice_get xs (position_from bytes skips start after_previous)) splits ∙ ap (λ (k : ℕ). slice_get (read_here ++ seat ∷ rest) k) (sym (ap length looks.same)) ∙ get-after read_here (seat ∷ rest)
+        let splits = kept-splits tab wide bytes skips start here end looks.place looks.from looks.upto ∙ ap (λ (xs : List Seat). read_here ++ xs) left_is in
+        ap (λ (xs : List Seat). slice_get xs (position_from tab bytes skips start after_previous)) splits ∙ ap (λ (k : ℕ). slice_get (read_here ++ seat ∷ rest) k) (sym (ap length looks.same)) ∙ get-after read_here (seat ∷ rest)
 
-    pub next-more : stands_before seat.point end ≡ true → position_from bytes skips start after_previous < length (seats_between bytes skips start end)
+    pub next-more : stands_before seat.point end ≡ true → position_from tab bytes skips start after_previous < length (seats_between tab bytes skips start end)
     next-more lt = slice_get_within _ _ _ (next-seat lt)
 
     -- else all was read
-    pub next-past : stands_before seat.point end ≡ false → length (seats_between bytes skips start end) ≤ position_from bytes skips start after_previous
-    next-past lt = here-all (end-upto TAB bytes here seat looks.place n end lt)
+    pub next-past : stands_before seat.point end ≡ false → length (seats_between tab bytes skips start end) ≤ position_from tab bytes skips start after_previous
+    next-past lt = here-all (end-upto tab bytes here seat looks.place n end lt)
 
     -- one more is read once it is consumed
-    pub next-number : position_from bytes skips start seat.end ≡ suc (position_from bytes skips start after_previous)
+    pub next-number : position_from tab bytes skips start seat.end ≡ suc (position_from tab bytes skips start after_previous)
     next-number =
-        let read_here = seats_between bytes skips start here in
-        let only = ap (filter (is_kept skips)) (next-only TAB bytes here seat looks.place n four) ∙ first-kept skips seat [] (looks.fresh seat n) in
-        let splits = kept-splits bytes skips start here seat.end looks.place looks.from (upto-after TAB bytes here seat looks.place n four) ∙ ap (λ (xs : List Seat). read_here ++ xs) only in
+        let read_here = seats_between tab bytes skips start here in
+        let only = ap (filter (is_kept skips)) (next-only tab bytes here seat looks.place n wide) ∙ first-kept skips seat [] (looks.fresh seat n) in
+        let splits = kept-splits tab wide bytes skips start here seat.end looks.place looks.from (upto-after tab bytes here seat looks.place n wide) ∙ ap (λ (xs : List Seat). read_here ++ xs) only in
         ap length splits ∙ length-append read_here (seat ∷ []) ∙ add-one (length read_here) ∙ ap (λ (xs : List Seat). suc (length xs)) looks.same
 
     -- once the next byte is consumed, the text was read up to its end
-    pub read-next : stands_before seat.point end ≡ true → IsReadTo bytes skips (text_between bytes skips start end) seat.end (Some seat.byte)
+    pub read-next : stands_before seat.point end ≡ true → IsReadTo tab bytes skips (text_between tab bytes skips start end) seat.end (Some seat.byte)
     read-next lt =
         let number = next-number in
         let is = next-seat lt in
         record {
-          place = end-seat-place TAB bytes four here seat looks.place n;
-          from = upto-upto TAB bytes start here seat.end looks.from (upto-after TAB bytes here seat looks.place n four);
-          upto = after-upto TAB bytes here seat looks.place n four end looks.upto lt;
-          outside = consumed-outside TAB bytes four here seat skips looks.place n (looks.fresh seat n);
+          place = end-seat-place tab bytes wide here seat looks.place n;
+          from = upto-upto tab bytes start here seat.end looks.from (upto-after tab bytes here seat looks.place n wide);
+          upto = after-upto tab bytes here seat looks.place n wide end looks.upto lt;
+          outside = consumed-outside tab bytes wide here seat skips looks.place n (looks.fresh seat n);
           back = rw (number, is) refl;
           previous_is = rw (number, is) refl;
         }
 
   -- where the document ends all was read
-  pub next-none-after_previous : rest_at TAB bytes here ≡ [] → length (seats_between bytes skips start end) ≤ position_from bytes skips start after_previous
-  next-none-after_previous e = here-all (rest-none TAB bytes here end looks.place e)
+  pub next-none-after_previous : rest_at tab bytes here ≡ [] → length (seats_between tab bytes skips start end) ≤ position_from tab bytes skips start after_previous
+  next-none-after_previous e = here-all (rest-none tab bytes here end looks.place e)
 
-  module _ (all : length (seats_between bytes skips start end) ≤ position_from bytes skips start after_previous) where
-    past-end : (seat : Seat) (n : IsSeatAt TAB bytes here seat) (b : Bool) → stands_before seat.point end ≡ b → is_upto TAB bytes end here ≡ true
+  module _ (all : length (seats_between tab bytes skips start end) ≤ position_from tab bytes skips start after_previous) where
+    past-end : (seat : Seat) (n : IsSeatAt tab bytes here seat) (b : Bool) → stands_before seat.point end ≡ b → is_upto tab bytes end here ≡ true
     past-end seat n true e = let more = next-more seat n e in absurd (omega arith)
-    past-end seat n false e = end-upto TAB bytes here seat looks.place n end e
+    past-end seat n false e = end-upto tab bytes here seat looks.place n end e
 
     -- where all was read an enter stands at the end
-    pub ends-here : is_upto TAB bytes end here ≡ true
-    ends-here = elim (empty-or-first (rest_at TAB bytes here)) [
-      | inl e ↦ rest-none TAB bytes here end looks.place e
-      | inr more ↦ (let seat = more.0 in past-end seat (next-of-rest bytes here looks.place seat more.1 more.2) (stands_before seat.point end) refl)
+    pub ends-here : is_upto tab bytes end here ≡ true
+    ends-here = elim (empty-or-first (rest_at tab bytes here)) [
+      | inl e ↦ rest-none tab bytes here end looks.place e
+      | inr more ↦ (let seat = more.0 in past-end seat (next-of-rest tab wide bytes here looks.place seat more.1 more.2) (stands_before seat.point end) refl)
     ]
 
-    pub end-shown : IsPlace TAB bytes end → shown bytes end ≡ shown bytes here
-    end-shown place = same-shown TAB bytes end here place looks.place (upto-same TAB bytes end here ends-here looks.upto)
+    pub end-shown : IsPlace tab bytes end → shown bytes end ≡ shown bytes here
+    end-shown place = same-shown tab bytes end here place looks.place (upto-same tab bytes end here ends-here looks.upto)
 
 -- the end of a longer text
-module _ (bytes : List ℕ) (skips : List Point) (start end from to after_previous : Point) (previous : Option ℕ) (are : AllByRecursion (IsSkip TAB bytes end) skips)
-    (read : IsReadTo bytes skips (text_between bytes skips start end) after_previous previous) (place : IsPlace TAB bytes end)
-    (begins : is_upto TAB bytes start end ≡ true) (same : denotes_same TAB bytes from end ≡ true) (later : is_upto TAB bytes from to ≡ true) where
-  end-to : is_upto TAB bytes end to ≡ true
-  end-to = upto-upto TAB bytes end from to (same-upto TAB bytes from end same).1 later
+module _ (tab : ℕ) (wide : 0 < tab) (bytes : List ℕ) (skips : List Point) (start end from to after_previous : Point) (previous : Option ℕ) (are : AllByRecursion (IsSkip tab bytes end) skips)
+    (read : IsReadTo tab bytes skips (text_between tab bytes skips start end) after_previous previous) (place : IsPlace tab bytes end)
+    (begins : is_upto tab bytes start end ≡ true) (same : denotes_same tab bytes from end ≡ true) (later : is_upto tab bytes from to ≡ true) where
+  end-to : is_upto tab bytes end to ≡ true
+  end-to = upto-upto tab bytes end from to (same-upto tab bytes from end same).1 later
 
-  pub extended-seats : seats_between bytes skips start to ≡ seats_between bytes skips start end ++ filter (in_range from to) (virtual TAB bytes)
+  pub extended-seats : seats_between tab bytes skips start to ≡ seats_between tab bytes skips start end ++ filter (in_range from to) (virtual tab bytes)
   extended-seats =
-      ap (filter (is_kept skips)) (range-continued TAB bytes start end from to place begins end-to (same-back TAB bytes from end same))
-      ∙ filter-append (is_kept skips) (filter (in_range start end) (virtual TAB bytes)) (filter (in_range from to) (virtual TAB bytes))
-      ∙ ap (λ (xs : List Seat). seats_between bytes skips start end ++ xs) (pushed-kept TAB bytes four skips end from to are place same later)
+      ap (filter (is_kept skips)) (range-continued tab bytes start end from to place begins end-to (same-back tab bytes from end same))
+      ∙ filter-append (is_kept skips) (filter (in_range start end) (virtual tab bytes)) (filter (in_range from to) (virtual tab bytes))
+      ∙ ap (λ (xs : List Seat). seats_between tab bytes skips start end ++ xs) (pushed-kept tab bytes wide skips end from to are place same later)
 
   -- the byte before is the same
-  before-extended : (n : ℕ) → n ≤ length (seats_between bytes skips start end) → seat_before (text_between bytes skips start to) n ≡ seat_before (text_between bytes skips start end) n
+  before-extended : (n : ℕ) → n ≤ length (seats_between tab bytes skips start end) → seat_before (text_between tab bytes skips start to) n ≡ seat_before (text_between tab bytes skips start end) n
   before-extended zero h = refl
-  before-extended (suc n) h = ap (λ (xs : List Seat). slice_get xs n) extended-seats ∙ slice_get-front (seats_between bytes skips start end) (filter (in_range from to) (virtual TAB bytes)) n (omega arith)
+  before-extended (suc n) h = ap (λ (xs : List Seat). slice_get xs n) extended-seats ∙ slice_get-front (seats_between tab bytes skips start end) (filter (in_range from to) (virtual tab bytes)) n (omega arith)
 
-  pub extended-skips : AllByRecursion (IsSkip TAB bytes to) skips
-  extended-skips = pushed-skips TAB bytes four skips end from to are place same later
+  pub extended-skips : AllByRecursion (IsSkip tab bytes to) skips
+  extended-skips = pushed-skips tab bytes wide skips end from to are place same later
 
-  pub read-extended : IsReadTo bytes skips (text_between bytes skips start to) after_previous previous
+  pub read-extended : IsReadTo tab bytes skips (text_between tab bytes skips start to) after_previous previous
   read-extended =
-      let e = before-extended (position_from bytes skips start after_previous) (within bytes skips start end after_previous previous are read) in
+      let e = before-extended (position_from tab bytes skips start after_previous) (within tab wide bytes skips start end after_previous previous are read) in
       record {
         place = read.place;
         from = read.from;
-        upto = upto-upto TAB bytes after_previous end to read.upto end-to;
+        upto = upto-upto tab bytes after_previous end to read.upto end-to;
         outside = read.outside;
         back = read.back ∙ ap (end_or start) (sym e);
         previous_is = read.previous_is ∙ ap byte_of (sym e);
       }
 
   -- at least as many bytes
-  pub extended-more : length (seats_between bytes skips start end) ≤ length (seats_between bytes skips start to)
-  extended-more = omega (arith, ap length extended-seats, length-append (seats_between bytes skips start end) (filter (in_range from to) (virtual TAB bytes)))
+  pub extended-more : length (seats_between tab bytes skips start end) ≤ length (seats_between tab bytes skips start to)
+  extended-more = omega (arith, ap length extended-seats, length-append (seats_between tab bytes skips start end) (filter (in_range from to) (virtual tab bytes)))
 
 -- a gap is passed at the end of a text
-module _ (bytes : List ℕ) (skips : List Point) (start end q after_previous : Point) (previous : Option ℕ) (are : AllByRecursion (IsSkip TAB bytes end) skips)
-    (read : IsReadTo bytes skips (text_between bytes skips start end) after_previous previous) (place : IsPlace TAB bytes end) (to : IsPlace TAB bytes q) (begins : is_upto TAB bytes start end ≡ true)
-    (first : end.column ≡ 1) (line : q.line ≡ end.line) (before : stands_before end q ≡ true) (other : denotes_same TAB bytes q end ≡ false) where
+module _ (tab : ℕ) (wide : 0 < tab) (bytes : List ℕ) (skips : List Point) (start end q after_previous : Point) (previous : Option ℕ) (are : AllByRecursion (IsSkip tab bytes end) skips)
+    (read : IsReadTo tab bytes skips (text_between tab bytes skips start end) after_previous previous) (place : IsPlace tab bytes end) (to : IsPlace tab bytes q) (begins : is_upto tab bytes start end ≡ true)
+    (first : end.column ≡ 1) (line : q.line ≡ end.line) (before : stands_before end q ≡ true) (other : denotes_same tab bytes q end ≡ false) where
   abbrev added : List Point
   added = skips ++ q ∷ []
 
   -- the text has the same bytes
-  pub passed-seats : seats_between bytes added start q ≡ seats_between bytes skips start end
-  passed-seats = added-text TAB bytes four skips start end q are place to first line before other begins
+  pub passed-seats : seats_between tab bytes added start q ≡ seats_between tab bytes skips start end
+  passed-seats = added-text tab bytes wide skips start end q are place to first line before other begins
 
   -- and as many of them were read
-  pub passed-position : position_from bytes added start after_previous ≡ position_from bytes skips start after_previous
-  passed-position = ap length (added-read TAB bytes four skips start end q are place to first line before other after_previous read.upto)
+  pub passed-position : position_from tab bytes added start after_previous ≡ position_from tab bytes skips start after_previous
+  passed-position = ap length (added-read tab bytes wide skips start end q are place to first line before other after_previous read.upto)
 
-  passed-before : (n : ℕ) → seat_before (text_between bytes added start q) n ≡ seat_before (text_between bytes skips start end) n
+  passed-before : (n : ℕ) → seat_before (text_between tab bytes added start q) n ≡ seat_before (text_between tab bytes skips start end) n
   passed-before zero = refl
   passed-before (suc n) = ap (λ (xs : List Seat). slice_get xs n) passed-seats
 
-  pub passed-skips : AllByRecursion (IsSkip TAB bytes q) added
-  passed-skips = added-skips TAB bytes four skips start end q are place to first line before other
+  pub passed-skips : AllByRecursion (IsSkip tab bytes q) added
+  passed-skips = added-skips tab bytes wide skips start end q are place to first line before other
 
-  pub read-passed : IsReadTo bytes added (text_between bytes added start q) after_previous previous
+  pub read-passed : IsReadTo tab bytes added (text_between tab bytes added start q) after_previous previous
   read-passed =
-      let n = position_from bytes skips start after_previous in
-      let e = ap (seat_before (text_between bytes added start q)) passed-position ∙ passed-before n in
+      let n = position_from tab bytes skips start after_previous in
+      let e = ap (seat_before (text_between tab bytes added start q)) passed-position ∙ passed-before n in
       record {
         place = read.place;
         from = read.from;
-        upto = upto-upto TAB bytes after_previous end q read.upto (upto-order TAB bytes end q (after-before end.index end.vs q.index q.vs before));
-        outside = added-outside TAB bytes four skips start end q are place to first line before other after_previous read.place read.upto read.outside;
+        upto = upto-upto tab bytes after_previous end q read.upto (upto-order tab bytes end q (after-before end.index end.vs q.index q.vs before));
+        outside = added-outside tab bytes wide skips start end q are place to first line before other after_previous read.place read.upto read.outside;
         back = read.back ∙ ap (end_or start) (sym e);
         previous_is = read.previous_is ∙ ap byte_of (sym e);
       }
 
   -- an enter stands where it did, or after the gap
   pub passed-shown : stands_before (shown bytes (resumed added after_previous)) (shown bytes (resumed skips after_previous)) ≡ false
-  passed-shown = added-shown TAB bytes four skips start end q are place to first line before other after_previous read.place read.upto
+  passed-shown = added-shown tab bytes wide skips start end q are place to first line before other after_previous read.place read.upto
 
   -- the next byte stays the next one
-  pub passed-resumed : position_from bytes skips start after_previous < length (seats_between bytes skips start end) → resumed added after_previous ≡ resumed skips after_previous
-  passed-resumed more = elim (added-resumed TAB bytes four skips start end q are place to first line before other after_previous read.place read.upto) [
+  pub passed-resumed : position_from tab bytes skips start after_previous < length (seats_between tab bytes skips start end) → resumed added after_previous ≡ resumed skips after_previous
+  passed-resumed more = elim (added-resumed tab bytes wide skips start end q are place to first line before other after_previous read.place read.upto) [
     | inl e ↦ e
-    | inr e ↦ (let same = kept-same bytes skips start after_previous start end (same-self TAB bytes start) e.0 in absurd (omega (arith, ap length same)))
+    | inr e ↦ (let same = kept-same tab wide bytes skips start after_previous start end (same-self tab bytes start) e.0 in absurd (omega (arith, ap length same)))
   ]
 
 -- a byte that waits stands before a later end
-module _ (bytes : List ℕ) (skips : List Point) (start end to after_previous : Point) (previous : Option ℕ) (are : AllByRecursion (IsSkip TAB bytes end) skips)
-    (read : IsReadTo bytes skips (text_between bytes skips start end) after_previous previous) (seat : Seat) (at : IsSeatAt TAB bytes (resumed skips after_previous) seat) (later : is_upto TAB bytes end to ≡ true) where
+module _ (tab : ℕ) (wide : 0 < tab) (bytes : List ℕ) (skips : List Point) (start end to after_previous : Point) (previous : Option ℕ) (are : AllByRecursion (IsSkip tab bytes end) skips)
+    (read : IsReadTo tab bytes skips (text_between tab bytes skips start end) after_previous previous) (seat : Seat) (at : IsSeatAt tab bytes (resumed skips after_previous) seat) (later : is_upto tab bytes end to ≡ true) where
   still-before-by : (b : Bool) → stands_before seat.point end ≡ true → stands_before seat.point to ≡ b → stands_before seat.point to ≡ true
   still-before-by true h e = e
   still-before-by false h e =
-      let r = looks bytes skips start end after_previous previous are read in
-      let back = end-upto TAB bytes (resumed skips after_previous) seat r.place at to e in
-      let here_after = upto-upto TAB bytes end to (resumed skips after_previous) later back in
-      let same = kept-same bytes skips start end start (resumed skips after_previous) (same-self TAB bytes start) (upto-same TAB bytes end (resumed skips after_previous) here_after r.upto) in
-      let more = next-more bytes skips start end after_previous previous are read seat at h in
+      let r = looks tab wide bytes skips start end after_previous previous are read in
+      let back = end-upto tab bytes (resumed skips after_previous) seat r.place at to e in
+      let here_after = upto-upto tab bytes end to (resumed skips after_previous) later back in
+      let same = kept-same tab wide bytes skips start end start (resumed skips after_previous) (same-self tab bytes start) (upto-same tab bytes end (resumed skips after_previous) here_after r.upto) in
+      let more = next-more tab wide bytes skips start end after_previous previous are read seat at h in
       absurd (omega (arith, ap length same, ap length r.same))
 
   pub still-before : stands_before seat.point end ≡ true → stands_before seat.point to ≡ true
@@ -281,16 +282,16 @@ pub can-feed-more : (position m n : ℕ) (closed : Bool) → m ≤ n → can_fee
 can-feed-more position m n true le h = or-true (nat_lt position n)
 can-feed-more position m n false le h = grind (arith, nat_tests)
 
-module _ (bytes : List ℕ) (skips : List Point) (start end after_previous : Point) (previous : Option ℕ) (are : AllByRecursion (IsSkip TAB bytes end) skips)
-    (read : IsReadTo bytes skips (text_between bytes skips start end) after_previous previous) (events : List Event) (stack : List Name) where
+module _ (tab : ℕ) (wide : 0 < tab) (bytes : List ℕ) (skips : List Point) (start end after_previous : Point) (previous : Option ℕ) (are : AllByRecursion (IsSkip tab bytes end) skips)
+    (read : IsReadTo tab bytes skips (text_between tab bytes skips start end) after_previous previous) (events : List Event) (stack : List Name) where
   abbrev MadeUpto : Point → Type 0
   MadeUpto p = IsMade bytes events stack (shown bytes after_previous) (shown bytes p)
 
   -- an enter may stand after a gap
   pub made-later : MadeUpto after_previous → MadeUpto (resumed skips after_previous)
   made-later m =
-      let r = looks bytes skips start end after_previous previous are read in
-      made-bound bytes events stack (shown bytes after_previous) (shown bytes after_previous) m (shown bytes (resumed skips after_previous)) r.shown_later (shown-shown TAB bytes (resumed skips after_previous))
+      let r = looks tab wide bytes skips start end after_previous previous are read in
+      made-bound bytes events stack (shown bytes after_previous) (shown bytes after_previous) m (shown bytes (resumed skips after_previous)) r.shown_later (shown-shown tab bytes (resumed skips after_previous))
 
   pub made-more : (a b : Bool) → (a ≡ true → b ≡ true) → MadeUpto (reach skips after_previous a) → MadeUpto (reach skips after_previous b)
   made-more true true f m = m
@@ -334,15 +335,17 @@ pub nested-front : (P : Progress → Type 0) (events stack : ℕ) (mark : KeptCh
 nested-front P events stack mark kept_choices h = narrow-mark P events stack mark.saved kept_choices h.0 h.1
 
 module _ {M R D : Type 0} (t : Inside M R D) (sound : IsSound t) where
-  waiting-closed : (bytes : List ℕ) (skips : List Point) (text : Text) (after_previous : Point) (current : Option ℕ) (closed : Bool) (waits : Waits)
-      → IsWhatWaits bytes skips text after_previous current closed waits → IsWhatWaits bytes skips text after_previous current true waits
-  waiting-closed bytes skips text after_previous current closed Nothing h = h
-  waiting-closed bytes skips text after_previous current closed Byte h = h
-  waiting-closed bytes skips text after_previous current closed End h = record { none = h.none; closed_too = refl; all = h.all }
+  waiting-closed : (tab : ℕ) (bytes : List ℕ) (skips : List Point) (text : Text) (after_previous : Point) (current : Option ℕ) (closed : Bool) (waits : Waits)
+      → IsWhatWaits tab bytes skips text after_previous current closed waits → IsWhatWaits tab bytes skips text after_previous current true waits
+  waiting-closed tab bytes skips text after_previous current closed Nothing h = h
+  waiting-closed tab bytes skips text after_previous current closed Byte h = h
+  waiting-closed tab bytes skips text after_previous current closed End h = record { none = h.none; closed_too = refl; all = h.all }
 
   pub closed-sound : IsSound (record t { closed = true })
   closed-sound =
       let bytes = t.parse_state.now.bytes.now in
+      let tab = tab_of t.parse_state.now in
+      let wide = wide_of t sound in
       let skips = t.skips in
       let text = text_of t in
       record {
@@ -352,16 +355,16 @@ module _ {M R D : Type 0} (t : Inside M R D) (sound : IsSound t) where
         text = sound.text;
         skips = sound.skips;
         read = sound.read;
-        waiting = waiting-closed bytes skips text t.after_previous t.current t.closed t.waits sound.waiting;
+        waiting = waiting-closed tab bytes skips text t.after_previous t.current t.closed t.waits sound.waiting;
         ended = λ _. refl;
         made = sound.made;
-        kept_choices = nested-map (IsProgress t.phase bytes skips text t.events.items t.stack.items t.closed) (IsProgress t.phase bytes skips text t.events.items t.stack.items true) (length t.events.items) (length t.stack.items) (reverse t.kept_choices.items)
+        kept_choices = nested-map (IsProgress t.phase tab bytes skips text t.events.items t.stack.items t.closed) (IsProgress t.phase tab bytes skips text t.events.items t.stack.items true) (length t.events.items) (length t.stack.items) (reverse t.kept_choices.items)
             (λ p a b h.
-            let position = position_from bytes skips t.start p.after_previous in
+            let position = position_from tab bytes skips t.start p.after_previous in
             record {
               read = h.read;
               ended = λ _. refl;
-              made = λ reads. made-more bytes skips t.start text.end p.after_previous p.previous sound.skips h.read (take p.events_len t.events.items) (take p.stack_len t.stack.items)
+              made = λ reads. made-more tab wide bytes skips t.start text.end p.after_previous p.previous sound.skips h.read (take p.events_len t.events.items) (take p.stack_len t.stack.items)
                   (can_feed position (length text.seats) t.closed) (can_feed position (length text.seats) true) (λ e. or-true _) (h.made reads);
             }) sound.kept_choices;
       }

@@ -32,8 +32,8 @@ use Rattle.markdown.specs.Unwound.{goal_of, saved_for, ended_by, Unwinding, unwi
 use Rattle.markdown.specs.Gaps.{resumed}
 use Rattle.markdown.specs.Made.{IsMade, last_kind}
 use Rattle.markdown.specs.Cursor.{IsNextByte}
-use Rattle.markdown.specs.View.{TAB, seen, text_of, state_of, choice_of, saved_of, position_from, standing, reach, can_feed, ByteWaits, IsWhatWaits, IsProgress, AreNested, events_of, stack_of, IsSound}
-use Rattle.markdown.proofs.Fields.{looks, next-more, next-past, next-none-after_previous, nested-map, nested-wider, nested-front}
+use Rattle.markdown.specs.View.{tab_of, seen, text_of, state_of, choice_of, saved_of, position_from, standing, reach, can_feed, ByteWaits, IsWhatWaits, IsProgress, AreNested, events_of, stack_of, IsSound}
+use Rattle.markdown.proofs.Fields.{wide_of, looks, next-more, next-past, next-none-after_previous, nested-map, nested-wider, nested-front}
 use Rattle.markdown.proofs.Steps.{before-end, nat_lt-is, nat_lt-no}
 use Rattle.markdown.proofs.Changes.{same-choices}
 use Rattle.markdown.proofs.Choices.{progress_of, saves-here, byte-more, closed-more}
@@ -188,11 +188,17 @@ module _ {M R D : Type 0} (t : Inside M R D) (sound : IsSound t) (ok : Bool) (so
   abbrev bytes_in : List ℕ
   bytes_in = t.parse_state.now.bytes.now
 
+  abbrev tab_in : ℕ
+  tab_in = tab_of t.parse_state.now
+
+  wide_in : 0 < tab_in
+  wide_in = wide_of t sound
+
   abbrev position_in : Point → ℕ
-  position_in = position_from bytes_in t.skips t.start
+  position_in = position_from tab_in bytes_in t.skips t.start
 
   abbrev Kept : Progress → Type 0
-  Kept = IsProgress t.phase bytes_in t.skips (text_of t) t.events.items t.stack.items t.closed
+  Kept = IsProgress t.phase tab_in bytes_in t.skips (text_of t) t.events.items t.stack.items t.closed
 
   goes-from : GoesFrom Kept (progress_of t) (reverse list) from
   goes-from = subst (λ (u : Unwinding). GoesFrom Kept (progress_of t) u.kept_choices u.from) (sym ends) (from-all Kept (reverse t.kept_choices.items) (ended_by ok) (progress_of t) (saves-here t sound) sound.kept_choices)
@@ -230,9 +236,9 @@ module _ {M R D : Type 0} (t : Inside M R D) (sound : IsSound t) (ok : Bool) (so
     front-stack : (n : ℕ) → n ≤ from.stack_len → take n stack ≡ take n t.stack.items
     front-stack n le = rw top (take-take n from.stack_len t.stack.items le)
 
-    pub going-kept_choices : AreNested (IsProgress t.phase bytes_in t.skips (text_of t) events stack t.closed) (length events) (length stack) (reverse list)
+    pub going-kept_choices : AreNested (IsProgress t.phase tab_in bytes_in t.skips (text_of t) events stack t.closed) (length events) (length stack) (reverse list)
     going-kept_choices =
-        let Q = IsProgress t.phase bytes_in t.skips (text_of t) events stack t.closed in
+        let Q = IsProgress t.phase tab_in bytes_in t.skips (text_of t) events stack t.closed in
         nested-wider Q from.events_len from.stack_len (length events) (length stack) (reverse list)
         (omega (arith, goes-from.2.0, ap length cut, length-take from.events_len t.events.items))
         (omega (arith, goes-from.2.1, ap length top, length-take from.stack_len t.stack.items))
@@ -256,24 +262,24 @@ module _ {M R D : Type 0} (t : Inside M R D) (sound : IsSound t) (ok : Bool) (so
     reach-is b e = subst (λ (c : Bool). MadeUpto (reach t.skips from.after_previous c)) e going-reach
 
     -- a byte is fed
-    module _ (byte : ℕ) (n : IsNextByte TAB bytes_in (resumed t.skips from.after_previous) t.end (Some byte)) where
+    module _ (byte : ℕ) (n : IsNextByte tab_in bytes_in (resumed t.skips from.after_previous) t.end (Some byte)) where
       pub byte-after_previous : position_in from.after_previous < size_in
-      byte-after_previous = next-more bytes_in t.skips t.start (text_of t).end from.after_previous from.previous sound.skips kept-here.read n.0 n.1 (before-end t sound n.0.point ∙ n.2)
+      byte-after_previous = next-more tab_in wide_in bytes_in t.skips t.start (text_of t).end from.after_previous from.previous sound.skips kept-here.read n.0 n.1 (before-end t sound n.0.point ∙ n.2)
 
-      pub byte-waits-there : ByteWaits bytes_in t.skips from.after_previous (text_of t).end (Some byte)
+      pub byte-waits-there : ByteWaits tab_in bytes_in t.skips from.after_previous (text_of t).end (Some byte)
       byte-waits-there = record { seat = n.0; at = n.1; before = before-end t sound n.0.point ∙ n.2; is = ap Some (sym n.3) }
 
       pub byte-made : MadeUpto (resumed t.skips from.after_previous)
       byte-made = reach-is true (byte-more (position_in from.after_previous) size_in t.closed byte-after_previous)
 
     -- no byte is left
-    module _ (n : IsNextByte TAB bytes_in (resumed t.skips from.after_previous) t.end None) where
+    module _ (n : IsNextByte tab_in bytes_in (resumed t.skips from.after_previous) t.end None) where
       pub none-after_previous-there : size_in ≤ position_in from.after_previous
       none-after_previous-there = by n
         where
-          by : IsNextByte TAB bytes_in (resumed t.skips from.after_previous) t.end None → size_in ≤ position_in from.after_previous
-          by (inl e) = next-none-after_previous bytes_in t.skips t.start (text_of t).end from.after_previous from.previous sound.skips kept-here.read e
-          by (inr m) = next-past bytes_in t.skips t.start (text_of t).end from.after_previous from.previous sound.skips kept-here.read m.0 m.1 (before-end t sound m.0.point ∙ m.2)
+          by : IsNextByte tab_in bytes_in (resumed t.skips from.after_previous) t.end None → size_in ≤ position_in from.after_previous
+          by (inl e) = next-none-after_previous tab_in wide_in bytes_in t.skips t.start (text_of t).end from.after_previous from.previous sound.skips kept-here.read e
+          by (inr m) = next-past tab_in wide_in bytes_in t.skips t.start (text_of t).end from.after_previous from.previous sound.skips kept-here.read m.0 m.1 (before-end t sound m.0.point ∙ m.2)
 
       pub end-made : t.closed ≡ true → MadeUpto (resumed t.skips from.after_previous)
       end-made closed = reach-is true (closed-more (position_in from.after_previous) size_in t.closed closed)
@@ -293,8 +299,8 @@ module _ (skips : List Point) (after_previous : Point) (slice : List Point) (pla
   going-at : place ≡ resumed skips after_previous
   going-at = here ∙ ap (λ (xs : List Point). resumed xs after_previous) same
 
-  pub going-next : (bytes : List ℕ) (end : ℕ × ℕ) (o : Option ℕ) → IsNextByte TAB bytes place end o → IsNextByte TAB bytes (resumed skips after_previous) end o
-  going-next bytes end o h = subst (λ (p : Point). IsNextByte TAB bytes p end o) going-at h
+  pub going-next : (tab : ℕ) (bytes : List ℕ) (end : ℕ × ℕ) (o : Option ℕ) → IsNextByte tab bytes place end o → IsNextByte tab bytes (resumed skips after_previous) end o
+  going-next tab bytes end o h = subst (λ (p : Point). IsNextByte tab bytes p end o) going-at h
 
   pub going-within : (bytes : List ℕ) → (0 < (resumed skips after_previous).vs → (resumed skips after_previous).index < length bytes) → 0 < place.vs → place.index < length bytes
   going-within bytes h = subst (λ (p : Point). 0 < p.vs → p.index < length bytes) (sym going-at) h
@@ -322,8 +328,14 @@ module _ {M R D : Type 0} (t : Inside M R D) (sound : IsSound t) (flush ok : Boo
   abbrev bytes_there : List ℕ
   bytes_there = t.parse_state.now.bytes.now
 
+  abbrev tab_there : ℕ
+  tab_there = tab_of t.parse_state.now
+
+  wide_there : 0 < tab_there
+  wide_there = wide_of t sound
+
   abbrev position_there : ℕ
-  position_there = position_from bytes_there t.skips t.start from.after_previous
+  position_there = position_from tab_there bytes_there t.skips t.start from.after_previous
 
   abbrev size_there : ℕ
   size_there = length (text_of t).seats
@@ -332,9 +344,9 @@ module _ {M R D : Type 0} (t : Inside M R D) (sound : IsSound t) (flush ok : Boo
   after waits ended current = record t { kept_choices = kept_choices; after_previous = from.after_previous; previous = from.previous; events = events; stack = stack; waits = waits; ended = ended; current = current }
 
   abbrev NextThere : Option ℕ → Type 0
-  NextThere o = IsNextByte TAB bytes_there (resumed t.skips from.after_previous) t.end o
+  NextThere o = IsNextByte tab_there bytes_there (resumed t.skips from.after_previous) t.end o
 
-  sound-by : (waits : Waits) (ended : Bool) (current : Option ℕ) → IsWhatWaits bytes_there t.skips (text_of t) from.after_previous current t.closed waits → (ended ≡ true → t.closed ≡ true)
+  sound-by : (waits : Waits) (ended : Bool) (current : Option ℕ) → IsWhatWaits tab_there bytes_there t.skips (text_of t) from.after_previous current t.closed waits → (ended ≡ true → t.closed ≡ true)
       → (t.phase ≡ Reading → IsMade bytes_there events.items stack.items (shown bytes_there from.after_previous) (shown bytes_there (standing t.skips from.after_previous waits))) → IsSound (after waits ended current)
   sound-by waits ended current w e m = record {
     limit = sound.limit;
@@ -370,7 +382,7 @@ module _ {M R D : Type 0} (t : Inside M R D) (sound : IsSound t) (flush ok : Boo
       (ended-made t sound ok some kept_choices.items goal from ends events.items stack.items cut top e)
 
   abbrev step_there : Step R D
-  step_there = step_of (position_from bytes_there t.skips t.start) t.events.items t.stack.items (seen t).configuration.local (unwinding (reverse kept_choices.items) goal from)
+  step_there = step_of (position_from tab_there bytes_there t.skips t.start) t.events.items t.stack.items (seen t).configuration.local (unwinding (reverse kept_choices.items) goal from)
 
   abbrev TakesThere : Seen M R D → Result StateName State → Type 0
   TakesThere new answer = let s = settled_all (seen t).configuration (seen t).choices (answer_of ok) in TakesUp flush (settled_to (seen t) s) new s.answer answer
@@ -436,4 +448,4 @@ module _ {M R D : Type 0} (t : Inside M R D) (sound : IsSound t) (flush ok : Boo
       answered (inr e) = rw e refl
 
   pub within-there : 0 < (resumed t.skips from.after_previous).vs → (resumed t.skips from.after_previous).index < length bytes_there
-  within-there = (looks bytes_there t.skips t.start (text_of t).end from.after_previous from.previous sound.skips (kept-here t sound ok some kept_choices.items goal from ends).read).place.bounds.tab
+  within-there = (looks tab_there wide_there bytes_there t.skips t.start (text_of t).end from.after_previous from.previous sound.skips (kept-here t sound ok some kept_choices.items goal from ends).read).place.bounds.tab

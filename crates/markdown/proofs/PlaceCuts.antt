@@ -40,7 +40,7 @@ module _ (t : ℕ) (bytes : List ℕ) (d : 0 < t) where
       ]
 
 -- the places of the virtual bytes number n, 2n, 3n, .. are cuts
-pub cuts_every-are-cuts : (bytes : List ℕ) (n : ℕ) → AreCuts 4 bytes (cuts_every 4 bytes n)
-cuts_every-are-cuts bytes n =
-    cuts-follow 4 bytes (omega arith) n 0 (point 1 1 0 0) (virtual 4 bytes) (seats-are-points 4 bytes (omega arith))
-    (every-all (λ s. stands_before s.point (point 1 1 0 0) ≡ false) (λ s. not-before s.point.index s.point.vs 0 0 (omega arith) refl) (virtual 4 bytes)) (virtual-order 4 bytes)
+pub cuts_every-are-cuts : (t : ℕ) → 0 < t → (bytes : List ℕ) (n : ℕ) → AreCuts t bytes (cuts_every t bytes n)
+cuts_every-are-cuts t d bytes n =
+    cuts-follow t bytes d n 0 (point 1 1 0 0) (virtual t bytes) (seats-are-points t bytes d)
+    (every-all (λ s. stands_before s.point (point 1 1 0 0) ≡ false) (λ s. not-before s.point.index s.point.vs 0 0 (omega arith) refl) (virtual t bytes)) (virtual-order t bytes)

@@ -19,7 +19,7 @@ use Rattle.markdown.specs.Work.{resolved_in, GoneOver}
 use Rattle.markdown.specs.declared.waiting.KeptChoice.{KeptChoice}
 use Rattle.markdown.specs.declared.waiting.Progress.{Progress}
 use Rattle.markdown.specs.Edits.{Edit}
-use Rattle.markdown.specs.View.{seen, text_of, choice_of, position_from, AreNested, IsProgress, IsSound}
+use Rattle.markdown.specs.View.{tab_of, seen, text_of, choice_of, position_from, AreNested, IsProgress, IsSound}
 use Rattle.markdown.proofs.Fields.{nested-map}
 use Rattle.markdown.proofs.Runs.{drop-get}
 
@@ -37,7 +37,7 @@ phase-sound t sound phase resolvers other closed =
       ended = sound.ended;
       reads = λ e. absurd (let f : true ≡ false = sym closed ∙ e in cc);
       made = λ e. absurd (other e);
-      kept_choices = nested-map (IsProgress t.phase bytes t.skips (text_of t) t.events.items t.stack.items t.closed) (IsProgress phase bytes t.skips (text_of t) t.events.items t.stack.items t.closed)
+      kept_choices = nested-map (IsProgress t.phase (tab_of t.parse_state.now) bytes t.skips (text_of t) t.events.items t.stack.items t.closed) (IsProgress phase (tab_of t.parse_state.now) bytes t.skips (text_of t) t.events.items t.stack.items t.closed)
           (length t.events.items) (length t.stack.items) (reverse t.kept_choices.items) (λ p a b h. record { read = h.read; ended = h.ended; made = λ e. absurd (other e) }) sound.kept_choices;
     }
 
@@ -62,8 +62,8 @@ events-sound t sound resolves alone edits events =
       ended = sound.ended;
       reads = sound.reads;
       made = λ e. absurd (let f : Resolving ≡ Reading = sym resolves ∙ e in cc);
-      kept_choices = nested-none (IsProgress t.phase bytes t.skips (text_of t) events.items t.stack.items t.closed) (length events.items) (length t.stack.items) (reverse t.kept_choices.items)
-          (none-of (choice_of (position_from bytes t.skips t.start) t.stack.items) (reverse t.kept_choices.items) alone);
+      kept_choices = nested-none (IsProgress t.phase (tab_of t.parse_state.now) bytes t.skips (text_of t) events.items t.stack.items t.closed) (length events.items) (length t.stack.items) (reverse t.kept_choices.items)
+          (none-of (choice_of (position_from (tab_of t.parse_state.now) bytes t.skips t.start) t.stack.items) (reverse t.kept_choices.items) alone);
     }
 
 module _ {R D : Type 0} (resolver : Sight → Configuration R D → R → Resolved R D) (g : Given) (text : Text) where

@@ -106,13 +106,13 @@ module _ {R D : Type 0} (g : Given) (rules : Rules R D) where
       → (r : Reading R D) × EndsIn g rules.step text calls k choices state r × ((q : Reading R D) → EndsIn g rules.step text calls k choices state q → q ≡ r)
       × (r.calls ≤ calls + (rules.cost text k state + sum_by (rules.reserve text) choices))
 
--- what a machine may read of a document, with tab stops at every `t` columns
-abbrev pub given_by : (t : ℕ) → List ℕ → ParseOptions → Given
-given_by t bytes options = record { bytes = bytes; options = options; tab = t }
+-- what a machine may read of a document: tab stops stand where the options say
+abbrev pub given_by : List ℕ → ParseOptions → Given
+given_by bytes options = record { bytes = bytes; options = options; tab = options.tab_size }
 
 -- and of the document of a parse state
-abbrev pub given_of : {M R D : Type 0} → (t : ℕ) → ParseState M R D → Given
-given_of t p = given_by t p.bytes.now p.options.now
+abbrev pub given_of : {M R D : Type 0} → ParseState M R D → Given
+given_of p = given_by p.bytes.now p.options.now
 
 -- the whole virtual text of the document
 abbrev pub whole_text : Given → Text

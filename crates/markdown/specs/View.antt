@@ -19,6 +19,7 @@ use Rattle.markdown.specs.declared.waiting.GoesOn.TheVariants as goal
 use Rattle.markdown.specs.declared.waiting.KeptChoice.{KeptChoice}
 use Rattle.markdown.specs.declared.waiting.Progress.{Progress}
 use Rattle.markdown.specs.declared.waiting.AttemptKind.{AttemptKind}
+use Rattle.markdown.specs.declared.parser.ParseState.{ParseState}
 use Rattle.markdown.specs.declared.tokenizer.Tokenizer.TheInside.{Inside}
 use Rattle.markdown.specs.Text.{Text, IsText}
 use Rattle.markdown.specs.Configuration.{Configuration, Choice, Saved, Seen}
@@ -42,21 +43,21 @@ taken_goal (result.Err end) = result.Err (state_of end)
 abbrev pub choice_at : {R D : Type 0} → AttemptKind → (ok nok : State) → (saves : Bool) → Configuration R D → Choice
 choice_at kind ok nok saves k = record { kind = kind; ok = ok; nok = nok; saved = cond saves (Some (saved_at k)) None }
 
--- at how many columns tab stops stand
-abbrev pub TAB : ℕ
-TAB = 4
+-- at how many columns tab stops stand: what the options say
+abbrev pub tab_of : {M R D : Type 0} → ParseState M R D → ℕ
+tab_of p = p.options.now.tab_size
 
 -- the point of a place, given by index and number in a tab
-abbrev pub end_point : List ℕ → (ℕ × ℕ) → Point
-end_point bytes place = unwrap_or (point_at TAB bytes place) (point 1 1 0 0)
+abbrev pub end_point : (tab : ℕ) → List ℕ → (ℕ × ℕ) → Point
+end_point tab bytes place = unwrap_or (point_at tab bytes place) (point 1 1 0 0)
 
 -- the virtual bytes from one place on before another, without those in gaps
-abbrev pub seats_between : List ℕ → List Point → Point → Point → List Seat
-seats_between bytes skips from to = kept_between TAB bytes skips from to
+abbrev pub seats_between : (tab : ℕ) → List ℕ → List Point → Point → Point → List Seat
+seats_between tab bytes skips from to = kept_between tab bytes skips from to
 
 -- how many virtual bytes of the text stand before a place
-abbrev pub position_from : List ℕ → List Point → Point → Point → ℕ
-position_from bytes skips start p = length (seats_between bytes skips start p)
+abbrev pub position_from : (tab : ℕ) → List ℕ → List Point → Point → Point → ℕ
+position_from tab bytes skips start p = length (seats_between tab bytes skips start p)
 
 -- what the code saved of a choice, with `position` as the number of bytes before a place, and the stack
 abbrev pub saved_at_place : (Point → ℕ) → List Name → Progress → Saved
@@ -72,10 +73,11 @@ choice_of position stack mark = record { kind = mark.kind; ok = state_of mark.ok
 abbrev pub seen : {M R D : Type 0} → Inside M R D → Seen M R D
 seen t =
     let bytes = t.parse_state.now.bytes.now in
-    let position = position_from bytes t.skips t.start in record {
-      given = record { bytes = bytes; options = t.parse_state.now.options.now; tab = TAB };
+    let tab = tab_of t.parse_state.now in
+    let position = position_from tab bytes t.skips t.start in record {
+      given = record { bytes = bytes; options = t.parse_state.now.options.now; tab = tab };
       machine = t.parse_state.now.machine.now;
-      text = record { start = t.start; seats = seats_between bytes t.skips t.start (end_point bytes t.end); end = end_point bytes t.end };
+      text = record { start = t.start; seats = seats_between tab bytes t.skips t.start (end_point tab bytes t.end); end = end_point tab bytes t.end };
       configuration = record {
         position = position t.after_previous;
         waiting = t.waits;
@@ -103,18 +105,18 @@ abbrev pub text_of : {M R D : Type 0} → Inside M R D → Text
 text_of t = (seen t).text
 
 -- A text was read up to a place: it is where the byte before ends, or the start, and that byte is known
-pub record IsReadTo (bytes : List ℕ) (skips : List Point) (text : Text) (after_previous : Point) (previous : Option ℕ) : Type 0 where
-  pub place : IsPlace TAB bytes after_previous
-  pub from : is_upto TAB bytes text.start after_previous ≡ true
-  pub upto : is_upto TAB bytes after_previous text.end ≡ true
+pub record IsReadTo (tab : ℕ) (bytes : List ℕ) (skips : List Point) (text : Text) (after_previous : Point) (previous : Option ℕ) : Type 0 where
+  pub place : IsPlace tab bytes after_previous
+  pub from : is_upto tab bytes text.start after_previous ≡ true
+  pub upto : is_upto tab bytes after_previous text.end ≡ true
   pub outside : IsOutside skips after_previous
-  pub back : after_previous ≡ end_place text (position_from bytes skips text.start after_previous)
-  pub previous_is : previous ≡ byte_of (seat_before text (position_from bytes skips text.start after_previous))
+  pub back : after_previous ≡ end_place text (position_from tab bytes skips text.start after_previous)
+  pub previous_is : previous ≡ byte_of (seat_before text (position_from tab bytes skips text.start after_previous))
 
 -- What waits is the next virtual byte
-pub record ByteWaits (bytes : List ℕ) (skips : List Point) (after_previous end : Point) (current : Option ℕ) : Type 0 where
+pub record ByteWaits (tab : ℕ) (bytes : List ℕ) (skips : List Point) (after_previous end : Point) (current : Option ℕ) : Type 0 where
   pub seat : Seat
-  pub at : IsSeatAt TAB bytes (resumed skips after_previous) seat
+  pub at : IsSeatAt tab bytes (resumed skips after_previous) seat
   pub before : stands_before seat.point end ≡ true
   pub is : current ≡ Some seat.byte
 
@@ -125,10 +127,10 @@ pub record EndWaits (current : Option ℕ) (closed : Bool) (position size : ℕ)
   pub all : size ≤ position
 
 -- what waits
-abbrev pub IsWhatWaits : List ℕ → List Point → Text → Point → Option ℕ → Bool → Waits → Type 0
-IsWhatWaits bytes skips text after_previous current closed Nothing = current ≡ None
-IsWhatWaits bytes skips text after_previous current closed Byte = ByteWaits bytes skips after_previous text.end current
-IsWhatWaits bytes skips text after_previous current closed End = EndWaits current closed (position_from bytes skips text.start after_previous) (length text.seats)
+abbrev pub IsWhatWaits : (tab : ℕ) → List ℕ → List Point → Text → Point → Option ℕ → Bool → Waits → Type 0
+IsWhatWaits tab bytes skips text after_previous current closed Nothing = current ≡ None
+IsWhatWaits tab bytes skips text after_previous current closed Byte = ByteWaits tab bytes skips after_previous text.end current
+IsWhatWaits tab bytes skips text after_previous current closed End = EndWaits current closed (position_from tab bytes skips text.start after_previous) (length text.seats)
 
 -- where an enter stands: after what is passed of a line, once something waits there
 abbrev pub standing : List Point → Point → Waits → Point
@@ -145,11 +147,11 @@ abbrev pub can_feed : (position size : ℕ) → (closed : Bool) → Bool
 can_feed position size closed = nat_lt position size || closed
 
 -- What a choice saved: a place up to which the text was read, with the events and the stack that were there, until a flush resolves
-pub record IsProgress (phase : Phase) (bytes : List ℕ) (skips : List Point) (text : Text) (events : List Event) (stack : List Name) (closed : Bool) (p : Progress) : Type 0 where
-  pub read : IsReadTo bytes skips text p.after_previous p.previous
+pub record IsProgress (phase : Phase) (tab : ℕ) (bytes : List ℕ) (skips : List Point) (text : Text) (events : List Event) (stack : List Name) (closed : Bool) (p : Progress) : Type 0 where
+  pub read : IsReadTo tab bytes skips text p.after_previous p.previous
   pub ended : p.ended ≡ true → closed ≡ true
   pub made : phase ≡ Reading → IsMade bytes (take p.events_len events) (take p.stack_len stack) (shown bytes p.after_previous)
-      (shown bytes (reach skips p.after_previous (can_feed (position_from bytes skips text.start p.after_previous) (length text.seats) closed)))
+      (shown bytes (reach skips p.after_previous (can_feed (position_from tab bytes skips text.start p.after_previous) (length text.seats) closed)))
 
 abbrev pub events_of : ℕ → Option Progress → ℕ
 events_of n None = n
@@ -167,13 +169,13 @@ AreNested P events stack (mark ∷ kept_choices) =
 
 -- what holds of the fields. Of the events it holds until a flush resolves, as resolvers may change them freely.
 pub record IsSound {M R D : Type 0} (t : Inside M R D) : Type 0 where
-  pub limit : 4 * length t.parse_state.now.bytes.now + 1 < 2 ^ 64
-  pub end_at : point_at TAB t.parse_state.now.bytes.now t.end ≡ Some (text_of t).end
+  pub limit : tab_of t.parse_state.now * length t.parse_state.now.bytes.now + 1 < 2 ^ 64
+  pub end_at : point_at (tab_of t.parse_state.now) t.parse_state.now.bytes.now t.end ≡ Some (text_of t).end
   pub text : IsText (seen t).given (text_of t)
-  pub skips : AllByRecursion (IsSkip TAB t.parse_state.now.bytes.now (text_of t).end) t.skips
-  pub read : IsReadTo t.parse_state.now.bytes.now t.skips (text_of t) t.after_previous t.previous
-  pub waiting : IsWhatWaits t.parse_state.now.bytes.now t.skips (text_of t) t.after_previous t.current t.closed t.waits
+  pub skips : AllByRecursion (IsSkip (tab_of t.parse_state.now) t.parse_state.now.bytes.now (text_of t).end) t.skips
+  pub read : IsReadTo (tab_of t.parse_state.now) t.parse_state.now.bytes.now t.skips (text_of t) t.after_previous t.previous
+  pub waiting : IsWhatWaits (tab_of t.parse_state.now) t.parse_state.now.bytes.now t.skips (text_of t) t.after_previous t.current t.closed t.waits
   pub ended : t.ended ≡ true → t.closed ≡ true
   pub reads : t.closed ≡ false → t.phase ≡ Reading
   pub made : t.phase ≡ Reading → IsMade t.parse_state.now.bytes.now t.events.items t.stack.items (shown t.parse_state.now.bytes.now t.after_previous) (shown t.parse_state.now.bytes.now (standing t.skips t.after_previous t.waits))
-  pub kept_choices : AreNested (IsProgress t.phase t.parse_state.now.bytes.now t.skips (text_of t) t.events.items t.stack.items t.closed) (length t.events.items) (length t.stack.items) (reverse t.kept_choices.items)
+  pub kept_choices : AreNested (IsProgress t.phase (tab_of t.parse_state.now) t.parse_state.now.bytes.now t.skips (text_of t) t.events.items t.stack.items t.closed) (length t.events.items) (length t.stack.items) (reverse t.kept_choices.items)

@@ -18,7 +18,6 @@ pub use crate::work::{reads_in_one_way, run};
 use markdown_base::event::{Content, Event, Kind, Link, Name, Point};
 use markdown_base::message::Message;
 use markdown_base::owned::{Items, OwnedText, StaticBytes};
-use markdown_base::util::constant::TAB_SIZE;
 use std::alloc::{AllocError, Global};
 use std::marker::Model;
 use std::mem::replace;
@@ -311,15 +310,16 @@ fn link_items(events: &mut Vec<Event>, previous: usize, next: usize)
 impl<'a, M: MachineTypes> Tokenizer<'a, M> {
     /// A tokenizer that has read nothing, from this place of the document on. Takes no memory.
     ///
-    /// The point is that of a place; four times the document's length, and one more, fits `usize`. That the document's bytes are
-    /// below 256 is said for callers: what they read is a document that there can be.
+    /// The point is that of a place; the size of tabs times the document's length, and one more, fits `usize`. That the document's
+    /// bytes are below 256 is said for callers: what they read is a document that there can be.
     pub fn new(alloc: Global, point: Point, parse_state: &'a ParseState<'a, M>) -> Self
-        requires place { IsPointOf 4 parse_state.now.bytes.now point }
-        requires limit { 4 * length parse_state.now.bytes.now + 1 < 2 ^ 64 }
-        ensures start { result ≡ start_seen (given_of 4 parse_state.now) parse_state.now.machine.now (empty_text point) }
+        requires place { IsPointOf parse_state.now.options.now.tab_size parse_state.now.bytes.now point }
+        requires limit { parse_state.now.options.now.tab_size * length parse_state.now.bytes.now + 1 < 2 ^ 64 }
+        ensures start { result ≡ start_seen (given_of parse_state.now) parse_state.now.machine.now (empty_text point) }
         ensures bytes { All (λ b. b < 256) parse_state.now.bytes.now }
     {
         bytes_are_below_256(parse_state.bytes);
+        let _ = parse_state.options.tab_size.get();
         let tokenize_state = TokenizeState::new(alloc);
         let map = EditMap::new(alloc);
         let events = Vec::new(alloc);
@@ -377,7 +377,7 @@ impl<'a, M: MachineTypes> Tokenizer<'a, M> {
         resume(&self.skips, &mut self.after_previous);
         pass(
             self.parse_state.bytes,
-            TAB_SIZE,
+            self.parse_state.options.tab_size.get(),
             &mut self.after_previous,
             byte,
         );

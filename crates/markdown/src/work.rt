@@ -40,11 +40,11 @@ pub fn run<M: Machine>(
     cuts: &[(usize, usize)],
     resolve: bool,
 ) -> Result<(Vec<Event>, Subresult), Fault>
-    requires limit { 4 * length parse_state.now.bytes.now + 1 < 2 ^ 64 }
-    requires start { Contains (M.rules parse_state.now.machine.now (given_of 4 parse_state.now)).starts start }
-    requires cuts { AreCuts 4 parse_state.now.bytes.now cuts.now }
-    ensures ok { IfOk result (λ answer. IsRun (given_of 4 parse_state.now) (M.rules parse_state.now.machine.now) resolve start answer.0.items answer.1) }
-    ensures message { (m : _) → IsErrOf result (Fault.Message m) → IsRunRefused (given_of 4 parse_state.now) (M.rules parse_state.now.machine.now) resolve start m }
+    requires limit { parse_state.now.options.now.tab_size * length parse_state.now.bytes.now + 1 < 2 ^ 64 }
+    requires start { Contains (M.rules parse_state.now.machine.now (given_of parse_state.now)).starts start }
+    requires cuts { AreCuts parse_state.now.options.now.tab_size parse_state.now.bytes.now cuts.now }
+    ensures ok { IfOk result (λ answer. IsRun (given_of parse_state.now) (M.rules parse_state.now.machine.now) resolve start answer.0.items answer.1) }
+    ensures message { (m : _) → IsErrOf result (Fault.Message m) → IsRunRefused (given_of parse_state.now) (M.rules parse_state.now.machine.now) resolve start m }
     ensures err { IfErr result (λ fault. fault ≢ Fault.Failed) }
 {
     let point = Point {
@@ -53,6 +53,8 @@ pub fn run<M: Machine>(
         index: 0,
         vs: 0,
     };
+    // Tab stops are apart, as the type of their size tells: that makes the point that of a place.
+    let _ = parse_state.options.tab_size.get();
     let mut tokenizer = Tokenizer::new(alloc, point, parse_state);
     let sub = read_cut(&mut tokenizer, parse_state, start, cuts, resolve);
     let events = tokenizer.into_events();
@@ -67,15 +69,16 @@ fn read_cut<M: Machine>(
     cuts: &[(usize, usize)],
     resolve: bool,
 ) -> Result<Subresult, Fault>
-    requires begins { tokenizer.old ≡ start_seen (given_of 4 parse_state.now) parse_state.now.machine.now (empty_text (point 1 1 0 0)) }
+    requires begins { tokenizer.old ≡ start_seen (given_of parse_state.now) parse_state.now.machine.now (empty_text (point 1 1 0 0)) }
     requires bytes { All (λ b. b < 256) parse_state.now.bytes.now }
-    requires limit { 4 * length parse_state.now.bytes.now + 1 < 2 ^ 64 }
-    requires start { Contains (M.rules parse_state.now.machine.now (given_of 4 parse_state.now)).starts start }
-    requires cuts { AreCuts 4 parse_state.now.bytes.now cuts.now }
-    ensures ok { IfOk result (λ sub. IsRun (given_of 4 parse_state.now) (M.rules parse_state.now.machine.now) resolve start tokenizer.new.configuration.events sub) }
-    ensures message { (m : _) → IsErrOf result (Fault.Message m) → IsRunRefused (given_of 4 parse_state.now) (M.rules parse_state.now.machine.now) resolve start m }
+    requires limit { parse_state.now.options.now.tab_size * length parse_state.now.bytes.now + 1 < 2 ^ 64 }
+    requires start { Contains (M.rules parse_state.now.machine.now (given_of parse_state.now)).starts start }
+    requires cuts { AreCuts parse_state.now.options.now.tab_size parse_state.now.bytes.now cuts.now }
+    ensures ok { IfOk result (λ sub. IsRun (given_of parse_state.now) (M.rules parse_state.now.machine.now) resolve start tokenizer.new.configuration.events sub) }
+    ensures message { (m : _) → IsErrOf result (Fault.Message m) → IsRunRefused (given_of parse_state.now) (M.rules parse_state.now.machine.now) resolve start m }
     ensures err { IfErr result (λ fault. fault ≢ Fault.Failed) }
 {
+    let _ = parse_state.options.tab_size.get();
     let mut state = State::Next(start);
     let mut from = (0, 0);
     for cut in cuts {

@@ -77,6 +77,7 @@ default_parse_options = record {
   constructs = default_constructs;
   gfm_strikethrough_single_tilde = true;
   math_text_single_dollar = true;
+  tab_size = 4;
 }
 
 -- how GitHub flavored Markdown is read

@@ -241,6 +241,8 @@ pub struct ParseOptions {
     pub gfm_strikethrough_single_tilde: bool,
     /// Whether text math takes one dollar.
     pub math_text_single_dollar: bool,
+    /// At how many columns tab stops stand.
+    pub tab_size: TabSize,
 }
 
 impl Default for ParseOptions {
@@ -255,6 +257,7 @@ impl Default for ParseOptions {
             constructs: Constructs::default(),
             gfm_strikethrough_single_tilde: true,
             math_text_single_dollar: true,
+            tab_size: TabSize::default(),
         }
     }
 }

@@ -1,4 +1,5 @@
-use Rattle.std.proofs.Common.{lit<, refl}
+use Rattle.std.proofs.Common.{refl}
+use Rattle.markdown.proofs.Fields.{wide_of}
 use Rattle.markdown.proofs.Steps.{byte-waits, consumed-sound, consumed-seen, byte-of-seat, place-at, seat-at}
 use Rattle.markdown.proofs.tokenizer.Tokenizer.consume.Goals as goal
 
@@ -8,23 +9,26 @@ pass-requires g c =
     let e = rw (← c.self.view_is) at c.requires in
     let w = byte-waits t sound e in
     let place = c.resume.ensures in
-    record {
-      some = lit< tt;
+    let tab = c.get.ensures.columns in
+    rw tab (record {
+      some = wide_of t sound;
       limit = sound.limit;
       place = place-at t sound _ _ refl place;
       next = (w.seat, seat-at t sound _ _ w.seat refl place w.at, byte-of-seat t sound w c.in-Some.byte c.in-Some.is);
-    }
+    })
 
 pub invariant_of-self : goal.invariant_of-self
 invariant_of-self g c =
     let t = c.self.inside in let sound = c.self.invariant in
     let e = rw (← c.self.view_is) at c.requires in
     let w = byte-waits t sound e in
-    consumed-sound t sound w c.pass.new.point (c.pass.ensures w.seat (seat-at t sound _ _ w.seat refl c.resume.ensures w.at))
+    let tab = c.get.ensures.columns in
+    consumed-sound t sound w c.pass.new.point (c.pass.ensures w.seat (rw tab (seat-at t sound _ _ w.seat refl c.resume.ensures w.at)))
 
 pub returns : goal.returns
 returns g c =
     let t = c.self.inside in let sound = c.self.invariant in
     let e = rw (← c.self.view_is) at c.requires in
     let w = byte-waits t sound e in
-    rw (← c.self.view_is) (consumed-seen t sound w c.pass.new.point (c.pass.ensures w.seat (seat-at t sound _ _ w.seat refl c.resume.ensures w.at)))
+    let tab = c.get.ensures.columns in
+    rw (← c.self.view_is) (consumed-seen t sound w c.pass.new.point (c.pass.ensures w.seat (rw tab (seat-at t sound _ _ w.seat refl c.resume.ensures w.at))))

@@ -1,4 +1,6 @@
-use Rattle.std.proofs.Common.{lit<, refl, Some, None}
+use Rattle.std.proofs.Common.{refl, Some, None}
+use Rattle.markdown.specs.View.{tab_of}
+use Rattle.markdown.proofs.Fields.{wide_of}
 use Rattle.markdown.proofs.Steps.{within-at, byte-at, fed-more, fed-seen, fed-sound, fed-none}
 use Rattle.markdown.proofs.tokenizer.Tokenizer.feed.Goals as goal
 
@@ -8,22 +10,22 @@ next_byte-requires g c = record { within = within-at c.self.inside c.self.invari
 pub invariant_of-self : goal.invariant_of-self
 invariant_of-self g c =
     let t = c.self.inside in let sound = c.self.invariant in
-    let n = byte-at t sound _ _ (Some c.in-Some.byte) refl c.resumed-place.ensures (c.in-Some.ensures 4 (lit< tt)) in
+    let n = byte-at t sound _ _ (Some c.in-Some.byte) refl c.resumed-place.ensures (c.in-Some.ensures (tab_of t.parse_state.now) (wide_of t sound)) in
     fed-sound t sound n.0 n.1 c.in-Some.byte n.2 n.3
 
 pub returns-in-None-clause-end : goal.returns-in-None-clause-end
 returns-in-None-clause-end g c =
     let t = c.self.inside in let sound = c.self.invariant in
-    rw (← c.self.view_is) (fed-none t sound (byte-at t sound _ _ None refl c.resumed-place.ensures (c.in-None.ensures 4 (lit< tt))))
+    rw (← c.self.view_is) (fed-none t sound (byte-at t sound _ _ None refl c.resumed-place.ensures (c.in-None.ensures (tab_of t.parse_state.now) (wide_of t sound))))
 
 pub returns-in-Some-clause-fed : goal.returns-in-Some-clause-fed
 returns-in-Some-clause-fed g c =
     let t = c.self.inside in let sound = c.self.invariant in
-    let n = byte-at t sound _ _ (Some c.in-Some.byte) refl c.resumed-place.ensures (c.in-Some.ensures 4 (lit< tt)) in
+    let n = byte-at t sound _ _ (Some c.in-Some.byte) refl c.resumed-place.ensures (c.in-Some.ensures (tab_of t.parse_state.now) (wide_of t sound)) in
     rw (← c.self.view_is) (fed-seen t sound n.0 n.1 c.in-Some.byte n.2)
 
 pub returns-in-Some-clause-more : goal.returns-in-Some-clause-more
 returns-in-Some-clause-more g c =
     let t = c.self.inside in let sound = c.self.invariant in
-    let n = byte-at t sound _ _ (Some c.in-Some.byte) refl c.resumed-place.ensures (c.in-Some.ensures 4 (lit< tt)) in
+    let n = byte-at t sound _ _ (Some c.in-Some.byte) refl c.resumed-place.ensures (c.in-Some.ensures (tab_of t.parse_state.now) (wide_of t sound)) in
     rw (← c.self.view_is) (fed-more t sound n.0 n.1 n.2)

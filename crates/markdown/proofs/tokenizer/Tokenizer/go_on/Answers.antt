@@ -1,8 +1,9 @@
-use Rattle.std.proofs.Common.{◌≡◌, ◌∙◌, lit<, refl, ap, inl, inr, reverse, Some, None}
+use Rattle.std.proofs.Common.{◌≡◌, ◌∙◌, refl, ap, inl, inr, reverse, Some, None}
 use Rattle.markdown.specs.declared.waiting.Progress.{Progress}
 use Rattle.markdown.specs.Unwound.{unwound, ended_by}
-use Rattle.markdown.specs.View.{state_of}
+use Rattle.markdown.specs.View.{state_of, tab_of}
 use Rattle.markdown.specs.Work.{answer_of}
+use Rattle.markdown.proofs.Fields.{wide_of}
 use Rattle.markdown.proofs.Choices.{progress_of}
 use Rattle.markdown.proofs.GoingOn.{some-by, none-by, takes-ended, going-next, going-within, within-there, byte-sound, end-sound, none-sound, ended-sound, closes, takes-byte, takes-end, takes-none, takes-ok, takes-nok}
 use Rattle.markdown.proofs.tokenizer.Tokenizer.go_on.Goals.{then-ok, else-ok}
@@ -72,7 +73,7 @@ invariant_of-self-in-Some g c =
     let here : record { after_previous = t.after_previous; previous = t.previous; ended = t.ended; events_len = c.len.result; stack_len = c.len-2.result } ≡ progress_of t =
     (let a = c.len.ensures ∙ t.events.ok.0 in let b = c.len-2.ensures ∙ t.stack.ok.0 in rw (a, b) refl) in
     let ends = c.unwind-goal.ensures ∙ ap (λ (p : Progress). unwound (reverse t.kept_choices.items) (ended_by c.args.ok) p) here in
-    let n = going-next t.skips c.unwind-goal.result.1.after_previous _ _ refl c.resumed-again.ensures t.parse_state.now.bytes.now t.end (Some c.in-Some.byte) (c.in-Some.ensures 4 (lit< tt)) in
+    let n = going-next t.skips c.unwind-goal.result.1.after_previous _ _ refl c.resumed-again.ensures (tab_of t.parse_state.now) t.parse_state.now.bytes.now t.end (Some c.in-Some.byte) (c.in-Some.ensures (tab_of t.parse_state.now) (wide_of t sound)) in
     byte-sound t sound c.args.flush c.args.ok some c.unwind-goal.new.kept_choices c.unwind-goal.result.0 c.unwind-goal.result.1 ends c.truncate.new.self c.truncate-2.new.self c.truncate.ensures.items c.truncate-2.ensures.items c.in-Some.byte n
 
 pub invariant_of-self-then-flush : goal.invariant_of-self-then-flush
@@ -83,7 +84,7 @@ invariant_of-self-then-flush g c =
     (let a = c.len.ensures ∙ t.events.ok.0 in let b = c.len-2.ensures ∙ t.stack.ok.0 in rw (a, b) refl) in
     let ends = c.unwind-goal.ensures ∙ ap (λ (p : Progress). unwound (reverse t.kept_choices.items) (ended_by c.args.ok) p) here in
     let closed = rw (← c.self.view_is) at c.requires.closed in
-    let n = going-next t.skips c.unwind-goal.result.1.after_previous _ _ refl c.resumed-again.ensures t.parse_state.now.bytes.now t.end (None) (c.in-None.ensures 4 (lit< tt)) in
+    let n = going-next t.skips c.unwind-goal.result.1.after_previous _ _ refl c.resumed-again.ensures (tab_of t.parse_state.now) t.parse_state.now.bytes.now t.end (None) (c.in-None.ensures (tab_of t.parse_state.now) (wide_of t sound)) in
     end-sound t sound c.args.flush c.args.ok some c.unwind-goal.new.kept_choices c.unwind-goal.result.0 c.unwind-goal.result.1 ends c.truncate.new.self c.truncate-2.new.self c.truncate.ensures.items c.truncate-2.ensures.items n (closed ∙ c.if-flush.true)
 
 pub invariant_of-self-else-flush : goal.invariant_of-self-else-flush
@@ -94,7 +95,7 @@ invariant_of-self-else-flush g c =
     (let a = c.len.ensures ∙ t.events.ok.0 in let b = c.len-2.ensures ∙ t.stack.ok.0 in rw (a, b) refl) in
     let ends = c.unwind-goal.ensures ∙ ap (λ (p : Progress). unwound (reverse t.kept_choices.items) (ended_by c.args.ok) p) here in
     let closed = rw (← c.self.view_is) at c.requires.closed in
-    let n = going-next t.skips c.unwind-goal.result.1.after_previous _ _ refl c.resumed-again.ensures t.parse_state.now.bytes.now t.end (None) (c.in-None-2.ensures 4 (lit< tt)) in
+    let n = going-next t.skips c.unwind-goal.result.1.after_previous _ _ refl c.resumed-again.ensures (tab_of t.parse_state.now) t.parse_state.now.bytes.now t.end (None) (c.in-None-2.ensures (tab_of t.parse_state.now) (wide_of t sound)) in
     none-sound t sound c.args.flush c.args.ok some c.unwind-goal.new.kept_choices c.unwind-goal.result.0 c.unwind-goal.result.1 ends c.truncate.new.self c.truncate-2.new.self c.truncate.ensures.items c.truncate-2.ensures.items n (closed ∙ c.if-flush.false)
 
 pub returns-in-Some : goal.returns-in-Some
@@ -104,7 +105,7 @@ returns-in-Some g c =
     let here : record { after_previous = t.after_previous; previous = t.previous; ended = t.ended; events_len = c.len.result; stack_len = c.len-2.result } ≡ progress_of t =
     (let a = c.len.ensures ∙ t.events.ok.0 in let b = c.len-2.ensures ∙ t.stack.ok.0 in rw (a, b) refl) in
     let ends = c.unwind-goal.ensures ∙ ap (λ (p : Progress). unwound (reverse t.kept_choices.items) (ended_by c.args.ok) p) here in
-    let n = going-next t.skips c.unwind-goal.result.1.after_previous _ _ refl c.resumed-again.ensures t.parse_state.now.bytes.now t.end (Some c.in-Some.byte) (c.in-Some.ensures 4 (lit< tt)) in
+    let n = going-next t.skips c.unwind-goal.result.1.after_previous _ _ refl c.resumed-again.ensures (tab_of t.parse_state.now) t.parse_state.now.bytes.now t.end (Some c.in-Some.byte) (c.in-Some.ensures (tab_of t.parse_state.now) (wide_of t sound)) in
     rw (← c.self.view_is) (takes-byte t sound c.args.flush c.args.ok some c.unwind-goal.new.kept_choices c.unwind-goal.result.0 c.unwind-goal.result.1 ends c.truncate.new.self c.truncate-2.new.self c.truncate.ensures.items c.truncate-2.ensures.items c.in-Next.name c.in-Some.byte c.in-Next.is n)
 
 pub returns-in-None : goal.returns-in-None
@@ -114,7 +115,7 @@ returns-in-None g c =
     let here : record { after_previous = t.after_previous; previous = t.previous; ended = t.ended; events_len = c.len.result; stack_len = c.len-2.result } ≡ progress_of t =
     (let a = c.len.ensures ∙ t.events.ok.0 in let b = c.len-2.ensures ∙ t.stack.ok.0 in rw (a, b) refl) in
     let ends = c.unwind-goal.ensures ∙ ap (λ (p : Progress). unwound (reverse t.kept_choices.items) (ended_by c.args.ok) p) here in
-    let n = going-next t.skips c.unwind-goal.result.1.after_previous _ _ refl c.resumed-again.ensures t.parse_state.now.bytes.now t.end (None) (c.in-None.ensures 4 (lit< tt)) in
+    let n = going-next t.skips c.unwind-goal.result.1.after_previous _ _ refl c.resumed-again.ensures (tab_of t.parse_state.now) t.parse_state.now.bytes.now t.end (None) (c.in-None.ensures (tab_of t.parse_state.now) (wide_of t sound)) in
     rw (← c.self.view_is) (takes-end t sound c.args.flush c.args.ok some c.unwind-goal.new.kept_choices c.unwind-goal.result.0 c.unwind-goal.result.1 ends c.truncate.new.self c.truncate-2.new.self c.truncate.ensures.items c.truncate-2.ensures.items c.in-Next.name c.in-Next.is c.if-flush.true n)
 
 pub returns-in-None-2 : goal.returns-in-None-2
@@ -124,5 +125,5 @@ returns-in-None-2 g c =
     let here : record { after_previous = t.after_previous; previous = t.previous; ended = t.ended; events_len = c.len.result; stack_len = c.len-2.result } ≡ progress_of t =
     (let a = c.len.ensures ∙ t.events.ok.0 in let b = c.len-2.ensures ∙ t.stack.ok.0 in rw (a, b) refl) in
     let ends = c.unwind-goal.ensures ∙ ap (λ (p : Progress). unwound (reverse t.kept_choices.items) (ended_by c.args.ok) p) here in
-    let n = going-next t.skips c.unwind-goal.result.1.after_previous _ _ refl c.resumed-again.ensures t.parse_state.now.bytes.now t.end (None) (c.in-None-2.ensures 4 (lit< tt)) in
+    let n = going-next t.skips c.unwind-goal.result.1.after_previous _ _ refl c.resumed-again.ensures (tab_of t.parse_state.now) t.parse_state.now.bytes.now t.end (None) (c.in-None-2.ensures (tab_of t.parse_state.now) (wide_of t sound)) in
     rw (← c.self.view_is) (takes-none t sound c.args.flush c.args.ok some c.unwind-goal.new.kept_choices c.unwind-goal.result.0 c.unwind-goal.result.1 ends c.truncate.new.self c.truncate-2.new.self c.truncate.ensures.items c.truncate-2.ensures.items c.in-Next.name c.in-Next.is c.if-flush.false n)

@@ -1,14 +1,17 @@
 use Rattle.std.proofs.Common.{refl, arith}
 use Rattle.markdown.proofs.Fields.{read-start}
+use Rattle.markdown.proofs.Runs.{apart-by}
 use Rattle.markdown.proofs.Changes.{start-end, start-empty, start-found, start-text, start-made}
 use Rattle.markdown.proofs.tokenizer.Tokenizer.new.Goals as goal
 
 pub invariant_of-result : goal.invariant_of-result
 invariant_of-result g c =
     let bytes = c.args.parse_state.now.bytes.now in
+    let tab = c.args.parse_state.now.options.now.tab_size in
+    let apart = apart-by c.get.result tab c.get.ensures.columns c.get.ensures.least c.get.ensures.most in
     let p = c.args.point in
-    let here = start-end bytes p c.requires.place in
-    let none = start-empty bytes p c.requires.place in
+    let here = start-end tab apart.0 bytes p c.requires.place in
+    let none = start-empty tab apart.0 bytes p c.requires.place in
     let events = c.new-events.ensures.items in
     let stack = c.new-stack.ensures.items in
     let kept_choices = c.new-kept_choices.ensures.items in
@@ -16,22 +19,24 @@ invariant_of-result g c =
     record {
       limit = c.requires.limit;
       reads = λ _. refl;
-      end_at = rw here (start-found bytes p c.requires.place);
-      text = rw (skips, here, none) (start-text bytes p c.requires.place c.args.parse_state.now.options.now (record { bytes = c.bytes_are_below_256.ensures; tab = (omega arith, omega arith); limit = c.requires.limit }));
+      end_at = rw here (start-found tab apart.0 bytes p c.requires.place);
+      text = rw (skips, here, none) (start-text tab apart.0 bytes p c.requires.place c.args.parse_state.now.options.now (record { bytes = c.bytes_are_below_256.ensures; tab = apart; limit = c.requires.limit }));
       skips = rw skips tt;
-      read = rw (skips, here) (read-start bytes p c.requires.place);
+      read = rw (skips, here) (read-start tab apart.0 bytes p c.requires.place);
       waiting = refl;
       ended = λ h. absurd cc;
-      made = λ _. rw (events, stack) (start-made bytes p c.requires.place);
+      made = λ _. rw (events, stack) (start-made tab apart.0 bytes p c.requires.place);
       kept_choices = rw kept_choices tt;
     }
 
 pub returns-clause-start : goal.returns-clause-start
 returns-clause-start g c =
     let bytes = c.args.parse_state.now.bytes.now in
+    let tab = c.args.parse_state.now.options.now.tab_size in
+    let apart = apart-by c.get.result tab c.get.ensures.columns c.get.ensures.least c.get.ensures.most in
     let p = c.args.point in
-    let here = start-end bytes p c.requires.place in
-    let none = start-empty bytes p c.requires.place in
+    let here = start-end tab apart.0 bytes p c.requires.place in
+    let none = start-empty tab apart.0 bytes p c.requires.place in
     let events = c.new-events.ensures.items in
     let stack = c.new-stack.ensures.items in
     let resolvers = c.new-resolvers.ensures.items in
