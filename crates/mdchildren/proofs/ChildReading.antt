@@ -1,5 +1,5 @@
 -- The reading of a chain of a ready list: from its first chunk on, along its links.
-use Rattle.std.proofs.Common.{◌≡◌, ◌≢◌, ◌+◌, ◌*◌, ◌^◌, ◌<◌, ℕ, length, List, [], ◌∷◌, Option, Some, None, Bool, true, false, refl, sym, ap, ◌∙◌, subst, arith}
+use Rattle.std.proofs.Common.{◌≡◌, ◌≢◌, ◌+◌, ◌*◌, ◌^◌, ◌<◌, ◌≤◌, ℕ, length, List, [], ◌∷◌, Option, Some, None, Bool, true, false, refl, sym, ap, ◌∙◌, subst, arith}
 use Rattle.std.specs.Prelude.{All, Contains, ◌↔◌}
 use Rattle.std.proofs.lemmas.Option.{none-some}
 use Rattle.markdown_base.specs.declared.configuration.ParseOptions.{ParseOptions}
@@ -45,35 +45,38 @@ start-some content.Text h = (Rattle.markdown_base.specs.declared.state.TheConsta
 module _ {M R D : Type 0} (rules : M → Given → Rules R D) (m : M) (bytes : List ℕ) (options : ParseOptions) (wanted : Option Content) (events : List Event) (c : ℕ) (start : Name) where
   -- the chunk at an index was pushed, and these are behind it
   pub record ReadsChain (at : ℕ) (t : Seen M R D) (state : State) : Type 0 where
+    pub wide : 0 < options.tab_size
     pub flag : Bool
     pub paragraph : (flag ≡ true) ↔ IsAtFirstParagraph events c options.constructs
     pub behind : List ℕ
     pub lead : LeadOnFrom events at behind
     pub fit : fits wanted events at ≡ true
-    pub reads : Reads (given_by 4 bytes options) rules m (place_at events c) flag start (text_of_chain (given_by 4 bytes options) events (chain_of events c)) (pieces_behind events behind) t state
+    pub reads : Reads (given_by bytes options) rules m (place_at events c) flag start (text_of_chain (given_by bytes options) events (chain_of events c)) (pieces_behind events behind) t state
 
   -- the gap in front of a chunk comes next, and then its range
   pub record ReadsTo (d : ℕ) (t : Seen M R D) (state : State) : Type 0 where
+    pub wide : 0 < options.tab_size
     pub flag : Bool
     pub paragraph : (flag ≡ true) ↔ IsAtFirstParagraph events c options.constructs
     pub behind : List ℕ
     pub lead : LeadOnFrom events d behind
     pub fit : fits wanted events d ≡ true
-    pub reads : Reads (given_by 4 bytes options) rules m (place_at events c) flag start (text_of_chain (given_by 4 bytes options) events (chain_of events c))
+    pub reads : Reads (given_by bytes options) rules m (place_at events c) flag start (text_of_chain (given_by bytes options) events (chain_of events c))
         (passed (place_at events d) ∷ pushed (place_at events d) (place_at events (d + 1)) ∷ pieces_behind events behind) t state
 
   -- the range of a chunk comes next
   pub record ReadsOn (d : ℕ) (t : Seen M R D) (state : State) : Type 0 where
+    pub wide : 0 < options.tab_size
     pub flag : Bool
     pub paragraph : (flag ≡ true) ↔ IsAtFirstParagraph events c options.constructs
     pub behind : List ℕ
     pub lead : LeadOnFrom events d behind
     pub fit : fits wanted events d ≡ true
-    pub reads : Reads (given_by 4 bytes options) rules m (place_at events c) flag start (text_of_chain (given_by 4 bytes options) events (chain_of events c)) (pushed (place_at events d) (place_at events (d + 1)) ∷ pieces_behind events behind) t state
+    pub reads : Reads (given_by bytes options) rules m (place_at events c) flag start (text_of_chain (given_by bytes options) events (chain_of events c)) (pushed (place_at events d) (place_at events (d + 1)) ∷ pieces_behind events behind) t state
 
-module _ {M R D : Type 0} (rules : M → Given → Rules R D) (m : M) (bytes : List ℕ) (options : ParseOptions) (wanted : Option Content) (events : List Event) (ready : IsReady 4 bytes wanted events) (c : ℕ) (start : Name) where
+module _ {M R D : Type 0} (rules : M → Given → Rules R D) (m : M) (bytes : List ℕ) (options : ParseOptions) (wanted : Option Content) (events : List Event) (ready : IsReady options.tab_size bytes wanted events) (c : ℕ) (start : Name) where
   abbrev g : Given
-  g = given_by 4 bytes options
+  g = given_by bytes options
 
   abbrev Chain : ℕ → Seen M R D → State → Type 0
   Chain at t state = ReadsChain rules m bytes options wanted events c start at t state
@@ -85,23 +88,24 @@ module _ {M R D : Type 0} (rules : M → Given → Rules R D) (m : M) (bytes : L
   On d t state = ReadsOn rules m bytes options wanted events c start d t state
 
   -- where the chain begins
-  pub chain-place : begins wanted events c ≡ true → IsPointOf 4 bytes (place_at events c)
-  chain-place b = (ready.readable c (begins-fits 4 bytes wanted events ready c b)).from.0
+  pub chain-place : begins wanted events c ≡ true → IsPointOf options.tab_size bytes (place_at events c)
+  chain-place b = (ready.readable c (begins-fits options.tab_size bytes wanted events ready c b)).from.0
 
   pub chain-within : begins wanted events c ≡ true → c + 1 < length events
-  chain-within b = inside 4 bytes wanted events ready c (begins-fits 4 bytes wanted events ready c b)
+  chain-within b = inside options.tab_size bytes wanted events ready c (begins-fits options.tab_size bytes wanted events ready c b)
 
   -- at the first chunk
-  pub chain-first : begins wanted events c ≡ true → All (λ b. b < 256) bytes → 4 * length bytes + 1 < 2 ^ 64 → KeepsInvariant g (rules m g) → Contains (rules m g).starts start
+  pub chain-first : begins wanted events c ≡ true → All (λ b. b < 256) bytes → (1 ≤ options.tab_size) × (options.tab_size ≤ 16) → options.tab_size * length bytes + 1 < 2 ^ 64 → KeepsInvariant g (rules m g) → Contains (rules m g).starts start
       → (flag : Bool) → ((flag ≡ true) ↔ IsAtFirstParagraph events c options.constructs) → (t : Seen M R D) → t ≡ flagged g m (place_at events c) flag → On c t (Next start)
-  chain-first b below limit keeps among flag paragraph t e =
-      let h = begins-fits 4 bytes wanted events ready c b in
-      let w = whole-from 4 bytes wanted events ready c h in
+  chain-first b below tab limit keeps among flag paragraph t e =
+      let h = begins-fits options.tab_size bytes wanted events ready c b in
+      let w = whole-from options.tab_size bytes wanted events ready c h in
       let left = pushed (place_at events c) (place_at events (c + 1)) ∷ pieces_behind events w.0 in
-      let can : CanFollow g (empty_text (place_at events c)) left = subst (λ ks. CanFollow g (empty_text (place_at events c)) (pieces_of events ks)) w.1 (chunks_can_be_read 4 bytes options wanted events ready c b) in
+      let can : CanFollow g (empty_text (place_at events c)) left = subst (λ ks. CanFollow g (empty_text (place_at events c)) (pieces_of events ks)) w.1 (chunks_can_be_read options.tab_size bytes options wanted events ready c b) in
       let whole : followed_by_all g (empty_text (place_at events c)) left ≡ text_of_chain g events (chain_of events c) = ap (text_of_chain g events) (sym w.1) in
-      let text : IsText g (empty_text (place_at events c)) = record { document = record { bytes = below; tab = (omega arith, omega arith); limit = limit }; starts = (ready.readable c h).from.0; pieces = []; follow = tt; is = refl } in
+      let text : IsText g (empty_text (place_at events c)) = record { document = record { bytes = below; tab = tab; limit = limit }; starts = (ready.readable c h).from.0; pieces = []; follow = tt; is = refl } in
       record {
+        wide = tab.0;
         flag = flag;
         paragraph = paragraph;
         behind = w.0;
@@ -111,7 +115,7 @@ module _ {M R D : Type 0} (rules : M → Given → Rules R D) (m : M) (bytes : L
       }
 
   pub on-range : (d : ℕ) (t : Seen M R D) (state : State) → On d t state → CanPush t.given t.text (place_of_point (place_at events d)) (place_of_point (place_at events (d + 1)))
-  on-range d t state r = reads-range g rules m (place_at events c) r.flag start (text_of_chain g events (chain_of events c)) t state (omega arith) (place_at events d) (place_at events (d + 1)) (pieces_behind events r.behind) r.reads
+  on-range d t state r = reads-range g rules m (place_at events c) r.flag start (text_of_chain g events (chain_of events c)) t state r.wide (place_at events d) (place_at events (d + 1)) (pieces_behind events r.behind) r.reads
 
   pub on-holds : (d : ℕ) (t : Seen M R D) (state : State) → On d t state → (rules t.machine t.given).holds t.text t.configuration t.choices state
   on-holds d t state r = reads-holds g rules m (place_at events c) r.flag start (text_of_chain g events (chain_of events c)) t state (pushed (place_at events d) (place_at events (d + 1)) ∷ pieces_behind events r.behind) r.reads
@@ -119,12 +123,13 @@ module _ {M R D : Type 0} (rules : M → Given → Rules R D) (m : M) (bytes : L
   pub on-pushed : (d : ℕ) (t : Seen M R D) (state : State) → On d t state → (u : Seen M R D) (answer : State)
       → IsPushed (rules t.machine t.given) t (place_of_point (place_at events d)) (place_of_point (place_at events (d + 1))) state u answer → Chain d u answer
   on-pushed d t state r u answer h = record {
+    wide = r.wide;
     flag = r.flag;
     paragraph = r.paragraph;
     behind = r.behind;
     lead = r.lead;
     fit = r.fit;
-    reads = reads-pushed g rules m (place_at events c) r.flag start (text_of_chain g events (chain_of events c)) t state (omega arith) (place_at events d) (place_at events (d + 1)) (pieces_behind events r.behind) r.reads u answer h;
+    reads = reads-pushed g rules m (place_at events c) r.flag start (text_of_chain g events (chain_of events c)) t state r.wide (place_at events d) (place_at events (d + 1)) (pieces_behind events r.behind) r.reads u answer h;
   }
 
   -- where a link leads on, the gap in front of the next chunk comes
@@ -136,11 +141,12 @@ module _ {M R D : Type 0} (rules : M → Given → Rules R D) (m : M) (bytes : L
       go (k ∷ ks) lead reads =
           let same : k ≡ d = let f : Some k ≡ Some d = sym lead.0 ∙ e in cc in
           subst (λ n. To n t state) same (record {
+            wide = r.wide;
             flag = r.flag;
             paragraph = r.paragraph;
             behind = ks;
             lead = lead.2;
-            fit = fits_next 4 bytes wanted events ready at k r.fit lead.0;
+            fit = fits_next options.tab_size bytes wanted events ready at k r.fit lead.0;
             reads = reads;
           })
 
@@ -151,6 +157,7 @@ module _ {M R D : Type 0} (rules : M → Given → Rules R D) (m : M) (bytes : L
 
   pub to-passed : (d : ℕ) (t : Seen M R D) (state : State) → To d t state → (u : Seen M R D) → u ≡ record t { text = followed_by t.given t.text (passed (place_at events d)) } → On d u state
   to-passed d t state r u e = record {
+    wide = r.wide;
     flag = r.flag;
     paragraph = r.paragraph;
     behind = r.behind;
@@ -162,10 +169,10 @@ module _ {M R D : Type 0} (rules : M → Given → Rules R D) (m : M) (bytes : L
 
   -- the next chunk stands further on, inside the list
   pub chain-rises : (at d : ℕ) (t : Seen M R D) (state : State) → Chain at t state → next_of events at ≡ Some d → (at < d) × (d + 1 < length events)
-  chain-rises at d t state r e = (ready.forward at d e, inside 4 bytes wanted events ready d (fits_next 4 bytes wanted events ready at d r.fit e))
+  chain-rises at d t state r e = (ready.forward at d e, inside options.tab_size bytes wanted events ready d (fits_next options.tab_size bytes wanted events ready at d r.fit e))
 
   pub chain-inside : (at : ℕ) (t : Seen M R D) (state : State) → Chain at t state → at + 1 < length events
-  chain-inside at t state r = inside 4 bytes wanted events ready at r.fit
+  chain-inside at t state r = inside options.tab_size bytes wanted events ready at r.fit
 
   pub chain-holds : (at : ℕ) (t : Seen M R D) (state : State) → Chain at t state → (rules t.machine t.given).holds t.text t.configuration t.choices state
   chain-holds at t state r = reads-holds g rules m (place_at events c) r.flag start (text_of_chain g events (chain_of events c)) t state (pieces_behind events r.behind) r.reads
@@ -219,9 +226,9 @@ pub memory-child-fault : {R D : Type 0} (g : Given) (rules : Given → Rules R D
 memory-child-fault g rules events c f e = subst (IsChildFault g rules events c) (sym e) tt
 
 -- a chain that fits is read from some state
-pub start-there : (bytes : List ℕ) (wanted : Option Content) (events : List Event) → IsReady 4 bytes wanted events → (c : ℕ) → begins wanted events c ≡ true → start_at events c ≡ None → ⊥
-start-there bytes wanted events ready c b e =
-    let h = begins-fits 4 bytes wanted events ready c b in
+pub start-there : (tab : ℕ) (bytes : List ℕ) (wanted : Option Content) (events : List Event) → IsReady tab bytes wanted events → (c : ℕ) → begins wanted events c ≡ true → start_at events c ≡ None → ⊥
+start-there tab bytes wanted events ready c b e =
+    let h = begins-fits tab bytes wanted events ready c b in
     go (content_at events c) refl (ready.readable c h).content e h
   where
     go : (o : Option Content) → content_at events c ≡ o → content_at events c ≢ Some Flow → start_at events c ≡ None → fits wanted events c ≡ true → ⊥

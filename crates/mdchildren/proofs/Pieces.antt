@@ -6,7 +6,6 @@ use Rattle.markdown_base.specs.declared.event.Content.{Content}
 use Rattle.markdown_base.specs.declared.event.Event.{Event}
 use Rattle.markdown_base.specs.declared.event.Point.{Point}
 use Rattle.markdown_base.specs.Places.{stands_before, denotes_same}
-use Rattle.markdown.specs.Engine.{given_by}
 use Rattle.markdown.specs.Links.{next_of, previous_of}
 use Rattle.markdown.specs.Text.{Given, Text, pushed, passed, followed_by, empty_text, FitsAfter, CanFollow}
 use Rattle.markdown.proofs.PlaceCursors.{upto-order, upto-same, same-self}
@@ -18,7 +17,7 @@ use Rattle.mdchildren.proofs.Following.{both-first, fits_next, whole-from}
 
 module _ (tab : ℕ) (bytes : List ℕ) (options : ParseOptions) (wanted : Option Content) (events : List Event) (ready : IsReady tab bytes wanted events) where
   abbrev g : Given
-  g = given_by tab bytes options
+  g = record { bytes = bytes; options = options; tab = tab }
 
   abbrev Fits : ℕ → Type 0
   Fits k = fits wanted events k ≡ true

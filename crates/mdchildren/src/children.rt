@@ -33,11 +33,11 @@ pub(crate) fn gather<M: Machine>(
     filter: Option<Content>,
 ) -> Result<Subresult, Fault>
     requires empty { map.old ≡ [] }
-    requires limit { 4 * length parse_state.now.bytes.now + 1 < 2 ^ 64 }
-    requires ready { IsReady 4 parse_state.now.bytes.now filter events.now }
-    requires starts { let p = parse_state.now in StartAmong (M.rules p.machine.now (given_of 4 p)).starts filter events.now }
-    ensures ok { let p = parse_state.now in IfOk result (HasGathered (given_of 4 p) (M.rules p.machine.now) filter events.now map.new) }
-    ensures err { let p = parse_state.now in IfErr result (IsSubtokenizeFault (given_of 4 p) (M.rules p.machine.now) filter events.now) }
+    requires limit { parse_state.now.options.now.tab_size * length parse_state.now.bytes.now + 1 < 2 ^ 64 }
+    requires ready { IsReady parse_state.now.options.now.tab_size parse_state.now.bytes.now filter events.now }
+    requires starts { let p = parse_state.now in StartAmong (M.rules p.machine.now (given_of p)).starts filter events.now }
+    ensures ok { let p = parse_state.now in IfOk result (HasGathered (given_of p) (M.rules p.machine.now) filter events.now map.new) }
+    ensures err { let p = parse_state.now in IfErr result (IsSubtokenizeFault (given_of p) (M.rules p.machine.now) filter events.now) }
 {
     let mut acc = (0, 0);
     let mut found = Subresult {
@@ -97,14 +97,14 @@ fn read_child<M: Machine>(
     parse_state: &ParseState<M>,
     filter: Option<Content>,
 ) -> Result<(Vec<Event>, Subresult), Fault>
-    requires limit { 4 * length parse_state.now.bytes.now + 1 < 2 ^ 64 }
-    requires ready { IsReady 4 parse_state.now.bytes.now filter events.now }
+    requires limit { parse_state.now.options.now.tab_size * length parse_state.now.bytes.now + 1 < 2 ^ 64 }
+    requires ready { IsReady parse_state.now.options.now.tab_size parse_state.now.bytes.now filter events.now }
     requires begins { begins filter events.now index ≡ true }
-    requires starts { let p = parse_state.now in StartAmong (M.rules p.machine.now (given_of 4 p)).starts filter events.now }
-    ensures ok { let p = parse_state.now in IfOk result (λ r. IsChild (given_of 4 p) (M.rules p.machine.now) events.now index (record { events = r.0.items; found = r.1 })) }
+    requires starts { let p = parse_state.now in StartAmong (M.rules p.machine.now (given_of p)).starts filter events.now }
+    ensures ok { let p = parse_state.now in IfOk result (λ r. IsChild (given_of p) (M.rules p.machine.now) events.now index (record { events = r.0.items; found = r.1 })) }
     ensures balanced { IfOk result (λ r. IsBalanced r.0.items) }
     ensures ends { IfOk result (λ r. HasEndsWithin r.0.items) }
-    ensures err { let p = parse_state.now in IfErr result (IsChildFault (given_of 4 p) (M.rules p.machine.now) events.now index) }
+    ensures err { let p = parse_state.now in IfErr result (IsChildFault (given_of p) (M.rules p.machine.now) events.now index) }
 {
     let Some(start) = start_at(events, index) else {
         unreachable!();
@@ -129,18 +129,19 @@ fn read_chunks<M: Machine>(
     filter: Option<Content>,
     start: Name,
 ) -> Result<Subresult, Fault>
-    requires new { let p = parse_state.now in tokenizer.old ≡ start_seen (given_of 4 p) p.machine.now (empty_text (place_at events.now index)) }
+    requires new { let p = parse_state.now in tokenizer.old ≡ start_seen (given_of p) p.machine.now (empty_text (place_at events.now index)) }
     requires bytes { All (λ b. b < 256) parse_state.now.bytes.now }
-    requires limit { 4 * length parse_state.now.bytes.now + 1 < 2 ^ 64 }
-    requires ready { IsReady 4 parse_state.now.bytes.now filter events.now }
+    requires limit { parse_state.now.options.now.tab_size * length parse_state.now.bytes.now + 1 < 2 ^ 64 }
+    requires ready { IsReady parse_state.now.options.now.tab_size parse_state.now.bytes.now filter events.now }
     requires begins { begins filter events.now index ≡ true }
     requires start { start_at events.now index ≡ Some start }
-    requires starts { let p = parse_state.now in StartAmong (M.rules p.machine.now (given_of 4 p)).starts filter events.now }
-    ensures ok { let p = parse_state.now in IfOk result (λ sub. IsChild (given_of 4 p) (M.rules p.machine.now) events.now index (record { events = tokenizer.new.configuration.events; found = sub })) }
+    requires starts { let p = parse_state.now in StartAmong (M.rules p.machine.now (given_of p)).starts filter events.now }
+    ensures ok { let p = parse_state.now in IfOk result (λ sub. IsChild (given_of p) (M.rules p.machine.now) events.now index (record { events = tokenizer.new.configuration.events; found = sub })) }
     ensures balanced { OnOk result (IsBalanced tokenizer.new.configuration.events) }
     ensures ends { OnOk result (HasEndsWithin tokenizer.new.configuration.events) }
-    ensures err { let p = parse_state.now in IfErr result (IsChildFault (given_of 4 p) (M.rules p.machine.now) events.now index) }
+    ensures err { let p = parse_state.now in IfErr result (IsChildFault (given_of p) (M.rules p.machine.now) events.now index) }
 {
+    let _ = parse_state.options.tab_size.get();
     let first = at_first_paragraph_of_list_item(events, index, &parse_state.options.constructs);
     set_first_paragraph(tokenizer, first);
     let mut at = index;

@@ -4,7 +4,6 @@
 
 ghost use Rattle.std.specs.Prelude.{◌≡◌, ◌∷◌, true, List, ℕ};
 ghost use Rattle.markdown_base.specs.declared.event.Event.{Event};
-ghost use Rattle.markdown.specs.Engine.{given_by};
 ghost use Rattle.mdchildren.specs.Chains.{begins};
 ghost use Rattle.mdchildren.specs.Reads.{CanReadChain, HasOneAnswer};
 ghost use Rattle.mdchildren.specs.Laws.{ForReadyLists, HasOrderedChains, ChildrenFit, EditsGiveChildren, AreByChunk};
@@ -20,7 +19,7 @@ pub fn a_ready_list_has_ordered_chains()
 
 /// The chunks of a chain that fits can be pushed one after another, with the gaps between them passed.
 pub fn chunks_can_be_read()
-    ensures { ForReadyLists (λ tab bytes wanted events. (options : _) (c : ℕ) → begins wanted events c ≡ true → CanReadChain (given_by tab bytes options) events c) }
+    ensures { ForReadyLists (λ tab bytes wanted events. (options : _) (c : ℕ) → begins wanted events c ≡ true → CanReadChain (record { bytes = bytes; options = options; tab = tab }) events c) }
 {}
 
 /// Balanced children keep such a list balanced, and each link between events that stay.

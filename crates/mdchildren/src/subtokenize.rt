@@ -141,11 +141,11 @@ pub fn subtokenize<M: Machine>(
     parse_state: &ParseState<M>,
     filter: Option<&Content>,
 ) -> Result<Subresult, Fault>
-    requires limit { 4 * length parse_state.now.bytes.now + 1 < 2 ^ 64 }
-    requires ready { IsReady 4 parse_state.now.bytes.now (option_copied filter) events.old.items }
-    requires starts { let p = parse_state.now in StartAmong (M.rules p.machine.now (given_of 4 p)).starts (option_copied filter) events.old.items }
-    ensures ok { let p = parse_state.now in IfOk result (IsSubtokenized (given_of 4 p) (M.rules p.machine.now) (option_copied filter.entry) events.old.items events.new.items) }
-    ensures err { let p = parse_state.now in IfErr result (IsSubtokenizeFault (given_of 4 p) (M.rules p.machine.now) (option_copied filter.entry) events.old.items) }
+    requires limit { parse_state.now.options.now.tab_size * length parse_state.now.bytes.now + 1 < 2 ^ 64 }
+    requires ready { IsReady parse_state.now.options.now.tab_size parse_state.now.bytes.now (option_copied filter) events.old.items }
+    requires starts { let p = parse_state.now in StartAmong (M.rules p.machine.now (given_of p)).starts (option_copied filter) events.old.items }
+    ensures ok { let p = parse_state.now in IfOk result (IsSubtokenized (given_of p) (M.rules p.machine.now) (option_copied filter.entry) events.old.items events.new.items) }
+    ensures err { let p = parse_state.now in IfErr result (IsSubtokenizeFault (given_of p) (M.rules p.machine.now) (option_copied filter.entry) events.old.items) }
     ensures left { OnErr result (events.new.items ≡ events.old.items) }
 {
     let mut map = EditMap::new(alloc);

@@ -10,10 +10,10 @@ use Rattle.mdchildren.proofs.children.read_child.Goals as goal
 pub new-tokenizer-requires-clause-place : goal.new-tokenizer-requires-clause-place
 new-tokenizer-requires-clause-place g c =
     let p = c.args.parse_state.now in
-    subst (IsPointOf 4 p.bytes.now) (sym c.place_at-place.ensures)
+    subst (IsPointOf p.options.now.tab_size p.bytes.now) (sym c.place_at-place.ensures)
     (chain-place g.M.Machine.rules p.machine.now p.bytes.now p.options.now c.args.filter c.args.events.now c.requires.ready c.args.index c.in-Some.start c.requires.begins)
 
 pub read_chunks-read-requires-clause-new : goal.read_chunks-read-requires-clause-new
 read_chunks-read-requires-clause-new g c =
     let p = c.args.parse_state.now in
-    c.new-tokenizer.ensures.start ∙ ap (λ (q : Point). start_seen (given_by 4 p.bytes.now p.options.now) p.machine.now (empty_text q)) c.place_at-place.ensures
+    c.new-tokenizer.ensures.start ∙ ap (λ (q : Point). start_seen (given_by p.bytes.now p.options.now) p.machine.now (empty_text q)) c.place_at-place.ensures

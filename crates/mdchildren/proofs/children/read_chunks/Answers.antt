@@ -7,7 +7,7 @@ use Rattle.markdown.specs.Configuration.{start_seen}
 use Rattle.markdown.specs.Engine.{given_by, CanPush, IsPushed}
 use Rattle.std.specs.declared.result.Result.TheVariants as result
 use Rattle.std.specs.Prelude.{Result, IfErr}
-use Rattle.markdown.proofs.Runs.{err-if, ok-if}
+use Rattle.markdown.proofs.Runs.{apart-by, err-if, ok-if}
 use Rattle.mdchildren.specs.Reads.{IsChildFault}
 use Rattle.mdchildren.specs.SoFar.{with_flag}
 use Rattle.mdchildren.proofs.ChildReading.{chain-place, chain-within, chain-first, chain-rises, chain-inside, chain-next, chain-holds, chain-child, chain-open, chain-fault, memory-child-fault, on-open, on-range, on-holds, on-pushed, to-gap, to-passed}
@@ -21,10 +21,10 @@ range_of-requires g c =
 pub push-requires-clause-range : goal.push-requires-clause-range
 push-requires-clause-range g c =
     let p = c.args.parse_state.now in
-    let given = given_by 4 p.bytes.now p.options.now in
+    let given = given_by p.bytes.now p.options.now in
     let t = c.set_first_paragraph.new.t in
     let e = c.set_first_paragraph.ensures ∙ ap (with_flag c.at_first_paragraph_of_list_item-first.result) c.requires.new in
-    let s = chain-first g.M.Machine.rules p.machine.now p.bytes.now p.options.now c.args.filter c.args.events.now c.requires.ready c.args.index c.args.start c.requires.begins c.requires.bytes c.requires.limit
+    let s = chain-first g.M.Machine.rules p.machine.now p.bytes.now p.options.now c.args.filter c.args.events.now c.requires.ready c.args.index c.args.start c.requires.begins c.requires.bytes (apart-by c.get.result p.options.now.tab_size c.get.ensures.columns c.get.ensures.least c.get.ensures.most) c.requires.limit
     (g.met.M.Machine.invariant_kept p.machine.now given) (c.requires.starts c.args.index c.args.start c.requires.begins c.requires.start) c.at_first_paragraph_of_list_item-first.result c.at_first_paragraph_of_list_item-first.ensures t e in
     λ _. subst (λ (r : (ℕ × ℕ) × (ℕ × ℕ)). CanPush t.given t.text r.0 r.1) (sym c.range_of.ensures)
     (on-range g.M.Machine.rules p.machine.now p.bytes.now p.options.now c.args.filter c.args.events.now c.requires.ready c.args.index c.args.start c.args.index t _ s)
@@ -39,20 +39,20 @@ loop-next-smaller g c =
 pub push-requires-clause-holds : goal.push-requires-clause-holds
 push-requires-clause-holds g c =
     let p = c.args.parse_state.now in
-    let given = given_by 4 p.bytes.now p.options.now in
+    let given = given_by p.bytes.now p.options.now in
     let t = c.set_first_paragraph.new.t in
     let e = c.set_first_paragraph.ensures ∙ ap (with_flag c.at_first_paragraph_of_list_item-first.result) c.requires.new in
-    let s = chain-first g.M.Machine.rules p.machine.now p.bytes.now p.options.now c.args.filter c.args.events.now c.requires.ready c.args.index c.args.start c.requires.begins c.requires.bytes c.requires.limit
+    let s = chain-first g.M.Machine.rules p.machine.now p.bytes.now p.options.now c.args.filter c.args.events.now c.requires.ready c.args.index c.args.start c.requires.begins c.requires.bytes (apart-by c.get.result p.options.now.tab_size c.get.ensures.columns c.get.ensures.least c.get.ensures.most) c.requires.limit
     (g.met.M.Machine.invariant_kept p.machine.now given) (c.requires.starts c.args.index c.args.start c.requires.begins c.requires.start) c.at_first_paragraph_of_list_item-first.result c.at_first_paragraph_of_list_item-first.ensures t e in
     λ _. on-holds g.M.Machine.rules p.machine.now p.bytes.now p.options.now c.args.filter c.args.events.now c.requires.ready c.args.index c.args.start c.args.index t _ s
 
 pub loop-next-init : goal.loop-next-init
 loop-next-init g c =
     let p = c.args.parse_state.now in
-    let given = given_by 4 p.bytes.now p.options.now in
+    let given = given_by p.bytes.now p.options.now in
     let t = c.set_first_paragraph.new.t in
     let e = c.set_first_paragraph.ensures ∙ ap (with_flag c.at_first_paragraph_of_list_item-first.result) c.requires.new in
-    let s = chain-first g.M.Machine.rules p.machine.now p.bytes.now p.options.now c.args.filter c.args.events.now c.requires.ready c.args.index c.args.start c.requires.begins c.requires.bytes c.requires.limit
+    let s = chain-first g.M.Machine.rules p.machine.now p.bytes.now p.options.now c.args.filter c.args.events.now c.requires.ready c.args.index c.args.start c.requires.begins c.requires.bytes (apart-by c.get.result p.options.now.tab_size c.get.ensures.columns c.get.ensures.least c.get.ensures.most) c.requires.limit
     (g.met.M.Machine.invariant_kept p.machine.now given) (c.requires.starts c.args.index c.args.start c.requires.begins c.requires.start) c.at_first_paragraph_of_list_item-first.result c.at_first_paragraph_of_list_item-first.ensures t e in
     let h = subst (λ (r : (ℕ × ℕ) × (ℕ × ℕ)). IsPushed (g.M.Machine.rules t.machine t.given) t r.0 r.1 (Next c.args.start) c.push.new.self c.in_ok-state.state) c.range_of.ensures c.in_ok-state.ensures.ok in
     (c.args.start, c.requires.start, on-pushed g.M.Machine.rules p.machine.now p.bytes.now p.options.now c.args.filter c.args.events.now c.requires.ready c.args.index c.args.start c.args.index t (Next c.args.start) s c.push.new.self c.in_ok-state.state h)
@@ -140,14 +140,14 @@ returns-clause-ok g c =
 pub returns-in_err-define_skip-clause-err : goal.returns-in_err-define_skip-clause-err
 returns-in_err-define_skip-clause-err g c =
     let p = c.args.parse_state.now in
-    let given = given_by 4 p.bytes.now p.options.now in
+    let given = given_by p.bytes.now p.options.now in
     let rules = g.M.Machine.rules p.machine.now in
     err-if c.from_residual-in_err-define_skip.result _ (IsChildFault given rules c.args.events.now c.args.index) (λ f is. memory-child-fault given rules c.args.events.now c.args.index f is) c.from_residual-in_err-define_skip.ensures.1
 
 pub returns-in_err-state-2-clause-err : goal.returns-in_err-state-2-clause-err
 returns-in_err-state-2-clause-err g c =
     let p = c.args.parse_state.now in
-    let given = given_by 4 p.bytes.now p.options.now in
+    let given = given_by p.bytes.now p.options.now in
     let rules = g.M.Machine.rules p.machine.now in
     let i = c.loop-next.invariant in
     let t = c.loop-next.tokenizer in
@@ -165,7 +165,7 @@ err-each (result.Err e) P Q f h = f e refl h
 pub returns-clause-err : goal.returns-clause-err
 returns-clause-err g c =
     let p = c.args.parse_state.now in
-    let given = given_by 4 p.bytes.now p.options.now in
+    let given = given_by p.bytes.now p.options.now in
     let rules = g.M.Machine.rules p.machine.now in
     let i = c.loop-next.invariant in
     let t = c.loop-next.tokenizer in
