@@ -1,37 +1,54 @@
 -- What words choose, word by word, is what the options that they spell choose.
-use Rattle.std.proofs.Common.{◌≡◌, ◌++◌, ℕ, List, [], ◌∷◌, Option, Some, None, true, false, Bool, refl, sym, ◌∙◌}
-use Rattle.std.specs.Prelude.{codes, filter_map}
+use Rattle.std.proofs.Common.{◌≡◌, ◌++◌, ℕ, List, [], ◌∷◌, Option, Some, None, true, false, Bool, cond, refl, sym, ap, ◌∙◌}
+use Rattle.std.specs.Prelude.{codes, filter_map, unwrap_or}
 use Rattle.std.specs.Option.{option_and_then, option_map}
 use Rattle.std.specs.Str.{bytes_eq}
 use Rattle.std.proofs.lemmas.Slice.Eq.{bytes_eq-Decides}
 use Rattle.mdevents.specs.declared.words.Choice.{Choice}
 use Rattle.mdevents.specs.declared.words.Which.{Which}
-use Rattle.mdevents.specs.Words.{Spelled, cut, deep, machine, number_of, which_of, options_of, cut_in, deep_in, at_most_one, chosen_by, chosen}
+use Rattle.mdevents.specs.declared.words.Which.TheVariants.{Lines}
+use Rattle.mdevents.specs.Words.{Spelled, cut, deep, machine, tab, number_of, which_of, tab_of, options_of, cut_in, deep_in, machine_in, tab_in, at_most_one, taken, chosen}
 use Rattle.mdevents.specs.WordsInner.{chosen_after}
 
--- the options that came before
-abbrev came : Option ℕ → Bool → Option Which → List Spelled
-came None false None = []
-came None false (Some which) = machine which ∷ []
-came None true None = deep ∷ []
-came None true (Some which) = deep ∷ machine which ∷ []
-came (Some n) false None = cut n ∷ []
-came (Some n) false (Some which) = cut n ∷ machine which ∷ []
-came (Some n) true None = cut n ∷ deep ∷ []
-came (Some n) true (Some which) = cut n ∷ deep ∷ machine which ∷ []
+-- what came before of an option with a value
+abbrev given : {A : Type 0} → Option A → List A
+given None = []
+given (Some x) = x ∷ []
+
+-- and of `--deep`
+abbrev told : Bool → List Bool
+told true = true ∷ []
+told false = []
+
+-- what lists of cuts, of `--deep`, of machines and of sizes of tabs choose
+abbrev choose : List ℕ → List Bool → List Which → List ℕ → Option Choice
+choose ns ds ws ts =
+    option_and_then (λ n. option_and_then (λ is_deep. option_and_then (λ which. option_and_then (λ t. taken n (unwrap_or is_deep false) (unwrap_or which Lines) (unwrap_or t 4))
+    (at_most_one ts)) (at_most_one ws)) (at_most_one ds))
+    (at_most_one ns)
 
 -- what options choose together with those that came before
-abbrev together : Option ℕ → Bool → Option Which → Option (List Spelled) → Option Choice
-together n d which options = option_and_then (λ rest. chosen_by (came n d which ++ rest)) options
+abbrev together : Option ℕ → Bool → Option Which → Option ℕ → Option (List Spelled) → Option Choice
+together n d which t options =
+    option_and_then (λ rest. choose (given n ++ filter_map cut_in rest) (told d ++ filter_map deep_in rest) (given which ++ filter_map machine_in rest) (given t ++ filter_map tab_in rest)) options
 
 cut-is-no-machine : (name : List ℕ) → bytes_eq name (codes "--cut") ≡ true → bytes_eq name (codes "--machine") ≡ false
 cut-is-no-machine name e = rw ((bytes_eq-Decides name (codes "--cut")).0 e) refl
+
+cut-is-no-tab : (name : List ℕ) → bytes_eq name (codes "--cut") ≡ true → bytes_eq name (codes "--tab") ≡ false
+cut-is-no-tab name e = rw ((bytes_eq-Decides name (codes "--cut")).0 e) refl
+
+machine-is-no-tab : (name : List ℕ) → bytes_eq name (codes "--machine") ≡ true → bytes_eq name (codes "--tab") ≡ false
+machine-is-no-tab name e = rw ((bytes_eq-Decides name (codes "--machine")).0 e) refl
 
 deep-is-no-cut : (name : List ℕ) → bytes_eq name (codes "--deep") ≡ true → bytes_eq name (codes "--cut") ≡ false
 deep-is-no-cut name e = rw ((bytes_eq-Decides name (codes "--deep")).0 e) refl
 
 deep-is-no-machine : (name : List ℕ) → bytes_eq name (codes "--deep") ≡ true → bytes_eq name (codes "--machine") ≡ false
 deep-is-no-machine name e = rw ((bytes_eq-Decides name (codes "--deep")).0 e) refl
+
+deep-is-no-tab : (name : List ℕ) → bytes_eq name (codes "--deep") ≡ true → bytes_eq name (codes "--tab") ≡ false
+deep-is-no-tab name e = rw ((bytes_eq-Decides name (codes "--deep")).0 e) refl
 
 none-of : {A B : Type 0} (o : Option A) → option_and_then {U = B} (λ (x : A). None) o ≡ None
 none-of None = refl
@@ -41,109 +58,115 @@ none-of-two : {A B C : Type 0} (o : Option A) (p : Option B) → option_and_then
 none-of-two None p = refl
 none-of-two (Some x) p = none-of p
 
-first-cut : (n : ℕ) (d : Bool) (which : Option Which) (options : Option (List Spelled)) → together (Some n) d which options ≡ together None d which (option_map (λ rest. cut n ∷ rest) options)
-first-cut n d which None = refl
-first-cut n false None (Some rest) = refl
-first-cut n true None (Some rest) = refl
-first-cut n false (Some w) (Some rest) = refl
-first-cut n true (Some w) (Some rest) = refl
+none-of-three : {A B C D : Type 0} (o : Option A) (p : Option B) (q : Option C) → option_and_then {U = D} (λ (x : A). option_and_then (λ (y : B). option_and_then (λ (z : C). None) q) p) o ≡ None
+none-of-three None p q = refl
+none-of-three (Some x) p q = none-of-two p q
 
-second-cut : (m n : ℕ) (d : Bool) (which : Option Which) (options : Option (List Spelled)) → None ≡ together (Some m) d which (option_map (λ rest. cut n ∷ rest) options)
-second-cut m n d which None = refl
-second-cut m n false None (Some rest) = refl
-second-cut m n true None (Some rest) = refl
-second-cut m n false (Some w) (Some rest) = refl
-second-cut m n true (Some w) (Some rest) = refl
+-- an option that came once, and again
+module _ (n : Option ℕ) (d : Bool) (which : Option Which) (t : Option ℕ) where
+  first-cut : (m : ℕ) (options : Option (List Spelled)) → together (Some m) d which t options ≡ together None d which t (option_map (λ rest. cut m ∷ rest) options)
+  first-cut m None = refl
+  first-cut m (Some rest) = refl
 
-first-deep : (n : Option ℕ) (which : Option Which) (options : Option (List Spelled)) → together n true which options ≡ together n false which (option_map (λ rest. deep ∷ rest) options)
-first-deep n which None = refl
-first-deep None None (Some rest) = refl
-first-deep None (Some w) (Some rest) = refl
-first-deep (Some m) None (Some rest) = refl
-first-deep (Some m) (Some w) (Some rest) = refl
+  second-cut : (m k : ℕ) (options : Option (List Spelled)) → None ≡ together (Some m) d which t (option_map (λ rest. cut k ∷ rest) options)
+  second-cut m k None = refl
+  second-cut m k (Some rest) = refl
 
-second-deep : (n : Option ℕ) (which : Option Which) (options : Option (List Spelled)) → None ≡ together n true which (option_map (λ rest. deep ∷ rest) options)
-second-deep n which None = refl
-second-deep None None (Some rest) = sym (none-of (at_most_one (filter_map cut_in rest)))
-second-deep None (Some w) (Some rest) = sym (none-of (at_most_one (filter_map cut_in rest)))
-second-deep (Some m) None (Some rest) = sym (none-of (at_most_one (m ∷ filter_map cut_in rest)))
-second-deep (Some m) (Some w) (Some rest) = sym (none-of (at_most_one (m ∷ filter_map cut_in rest)))
+  first-deep : (options : Option (List Spelled)) → together n true which t options ≡ together n false which t (option_map (λ rest. deep ∷ rest) options)
+  first-deep None = refl
+  first-deep (Some rest) = refl
 
-first-machine : (n : Option ℕ) (d : Bool) (which : Which) (options : Option (List Spelled)) → together n d (Some which) options ≡ together n d None (option_map (λ rest. machine which ∷ rest) options)
-first-machine n d which None = refl
-first-machine None false which (Some rest) = refl
-first-machine None true which (Some rest) = refl
-first-machine (Some m) false which (Some rest) = refl
-first-machine (Some m) true which (Some rest) = refl
+  second-deep : (options : Option (List Spelled)) → None ≡ together n true which t (option_map (λ rest. deep ∷ rest) options)
+  second-deep None = refl
+  second-deep (Some rest) = sym (none-of (at_most_one (given n ++ filter_map cut_in rest)))
 
-second-machine : (n : Option ℕ) (d : Bool) (v w : Which) (options : Option (List Spelled)) → None ≡ together n d (Some v) (option_map (λ rest. machine w ∷ rest) options)
-second-machine n d v w None = refl
-second-machine None false v w (Some rest) = sym (none-of-two (at_most_one (filter_map cut_in rest)) (at_most_one (filter_map deep_in rest)))
-second-machine None true v w (Some rest) = sym (none-of-two (at_most_one (filter_map cut_in rest)) (at_most_one (true ∷ filter_map deep_in rest)))
-second-machine (Some m) false v w (Some rest) = sym (none-of-two (at_most_one (m ∷ filter_map cut_in rest)) (at_most_one (filter_map deep_in rest)))
-second-machine (Some m) true v w (Some rest) = sym (none-of-two (at_most_one (m ∷ filter_map cut_in rest)) (at_most_one (true ∷ filter_map deep_in rest)))
+  first-machine : (w : Which) (options : Option (List Spelled)) → together n d (Some w) t options ≡ together n d None t (option_map (λ rest. machine w ∷ rest) options)
+  first-machine w None = refl
+  first-machine w (Some rest) = refl
+
+  second-machine : (v w : Which) (options : Option (List Spelled)) → None ≡ together n d (Some v) t (option_map (λ rest. machine w ∷ rest) options)
+  second-machine v w None = refl
+  second-machine v w (Some rest) = sym (none-of-two (at_most_one (given n ++ filter_map cut_in rest)) (at_most_one (told d ++ filter_map deep_in rest)))
+
+  first-tab : (m : ℕ) (options : Option (List Spelled)) → together n d which (Some m) options ≡ together n d which None (option_map (λ rest. tab m ∷ rest) options)
+  first-tab m None = refl
+  first-tab m (Some rest) = refl
+
+  second-tab : (m k : ℕ) (options : Option (List Spelled)) → None ≡ together n d which (Some m) (option_map (λ rest. tab k ∷ rest) options)
+  second-tab m k None = refl
+  second-tab m k (Some rest) =
+      sym (none-of-three (at_most_one (given n ++ filter_map cut_in rest)) (at_most_one (told d ++ filter_map deep_in rest)) (at_most_one (given which ++ filter_map machine_in rest)))
 
 -- a word that is not `--deep`, and its value
-module _ (words : List (List ℕ)) (known : (n : Option ℕ) (d : Bool) (which : Option Which) → chosen_after n d which words ≡ together n d which (options_of words))
+module _ (words : List (List ℕ)) (known : (n : Option ℕ) (d : Bool) (which : Option Which) (t : Option ℕ) → chosen_after n d which t words ≡ together n d which t (options_of words))
     (name value : List ℕ) (not-deep : bytes_eq name (codes "--deep") ≡ false) where
-  abbrev Goal : Option ℕ → Bool → Option Which → Type 0
-  Goal n d which = chosen_after n d which (name ∷ value ∷ words) ≡ together n d which (options_of (name ∷ value ∷ words))
+  abbrev Goal : Option ℕ → Bool → Option Which → Option ℕ → Type 0
+  Goal n d which t = chosen_after n d which t (name ∷ value ∷ words) ≡ together n d which t (options_of (name ∷ value ∷ words))
 
-  by-cut : (n : Option ℕ) (d : Bool) (which : Option Which) → bytes_eq name (codes "--cut") ≡ true → (number : Option ℕ) → number_of value ≡ number → Goal n d which
-  by-cut None d which e None f = rw (not-deep, e, f) refl
-  by-cut None d which e (Some n) f = rw (not-deep, e, f) (known (Some n) d which ∙ first-cut n d which (options_of words))
-  by-cut (Some m) d which e None f = let a = cut-is-no-machine name e in rw (not-deep, e, a, f) refl
-  by-cut (Some m) d which e (Some n) f = let a = cut-is-no-machine name e in rw (not-deep, e, a, f) (second-cut m n d which (options_of words))
+  by-cut : (n : Option ℕ) (d : Bool) (which : Option Which) (t : Option ℕ) → bytes_eq name (codes "--cut") ≡ true → (number : Option ℕ) → number_of value ≡ number → Goal n d which t
+  by-cut None d which t e None f = rw (not-deep, e, f) refl
+  by-cut None d which t e (Some n) f = rw (not-deep, e, f) (known (Some n) d which t ∙ first-cut None d which t n (options_of words))
+  by-cut (Some m) d which t e None f = let a = cut-is-no-machine name e in let b = cut-is-no-tab name e in rw (not-deep, e, a, b, f) refl
+  by-cut (Some m) d which t e (Some n) f = let a = cut-is-no-machine name e in let b = cut-is-no-tab name e in rw (not-deep, e, a, b, f) (second-cut None d which t m n (options_of words))
 
-  by-machine : (n : Option ℕ) (d : Bool) (which : Option Which) → bytes_eq name (codes "--cut") ≡ false → bytes_eq name (codes "--machine") ≡ true → (machine : Option Which) → which_of value ≡ machine → Goal n d which
-  by-machine n d None a e None f = rw (not-deep, a, e, f) refl
-  by-machine n d None a e (Some w) f = rw (not-deep, a, e, f) (known n d (Some w) ∙ first-machine n d w (options_of words))
-  by-machine n d (Some v) a e None f = rw (not-deep, a, e, f) refl
-  by-machine n d (Some v) a e (Some w) f = rw (not-deep, a, e, f) (second-machine n d v w (options_of words))
+  by-machine : (n : Option ℕ) (d : Bool) (which : Option Which) (t : Option ℕ) → bytes_eq name (codes "--cut") ≡ false → bytes_eq name (codes "--machine") ≡ true → (machine : Option Which) → which_of value ≡ machine → Goal n d which t
+  by-machine n d None t a e None f = rw (not-deep, a, e, f) refl
+  by-machine n d None t a e (Some w) f = rw (not-deep, a, e, f) (known n d (Some w) t ∙ first-machine n d None t w (options_of words))
+  by-machine n d (Some v) t a e None f = let b = machine-is-no-tab name e in rw (not-deep, a, e, b, f) refl
+  by-machine n d (Some v) t a e (Some w) f = let b = machine-is-no-tab name e in rw (not-deep, a, e, b, f) (second-machine n d None t v w (options_of words))
 
-  by-name : (n : Option ℕ) (d : Bool) (which : Option Which) (b c : Bool) → bytes_eq name (codes "--cut") ≡ b → bytes_eq name (codes "--machine") ≡ c → Goal n d which
-  by-name n d which true c e f = by-cut n d which e (number_of value) refl
-  by-name n d which false true e f = by-machine n d which e f (which_of value) refl
-  by-name n d which false false e f = rw (not-deep, e, f) refl
+  by-tab : (n : Option ℕ) (d : Bool) (which : Option Which) (t : Option ℕ) → bytes_eq name (codes "--cut") ≡ false → bytes_eq name (codes "--machine") ≡ false → bytes_eq name (codes "--tab") ≡ true
+      → (size : Option ℕ) → tab_of value ≡ size → Goal n d which t
+  by-tab n d which None a b e None f = rw (not-deep, a, b, e, f) refl
+  by-tab n d which None a b e (Some m) f = rw (not-deep, a, b, e, f) (known n d which (Some m) ∙ first-tab n d which None m (options_of words))
+  by-tab n d which (Some m) a b e None f = rw (not-deep, a, b, e, f) refl
+  by-tab n d which (Some m) a b e (Some k) f = rw (not-deep, a, b, e, f) (second-tab n d which None m k (options_of words))
+
+  by-name : (n : Option ℕ) (d : Bool) (which : Option Which) (t : Option ℕ) (b c s : Bool) → bytes_eq name (codes "--cut") ≡ b → bytes_eq name (codes "--machine") ≡ c → bytes_eq name (codes "--tab") ≡ s → Goal n d which t
+  by-name n d which t true c s e f g = by-cut n d which t e (number_of value) refl
+  by-name n d which t false true s e f g = by-machine n d which t e f (which_of value) refl
+  by-name n d which t false false true e f g = by-tab n d which t e f g (tab_of value) refl
+  by-name n d which t false false false e f g = rw (not-deep, e, f, g) refl
 
 -- `--deep`, and more words
-module _ (word : List ℕ) (words : List (List ℕ)) (known : (n : Option ℕ) (d : Bool) (which : Option Which) → chosen_after n d which (word ∷ words) ≡ together n d which (options_of (word ∷ words)))
+module _ (word : List ℕ) (words : List (List ℕ)) (known : (n : Option ℕ) (d : Bool) (which : Option Which) (t : Option ℕ) → chosen_after n d which t (word ∷ words) ≡ together n d which t (options_of (word ∷ words)))
     (name : List ℕ) (is-deep : bytes_eq name (codes "--deep") ≡ true) where
-  by-deep : (n : Option ℕ) (d : Bool) (which : Option Which) → chosen_after n d which (name ∷ word ∷ words) ≡ together n d which (options_of (name ∷ word ∷ words))
-  by-deep n false which = rw is-deep (known n true which ∙ first-deep n which (options_of (word ∷ words)))
-  by-deep n true which =
+  by-deep : (n : Option ℕ) (d : Bool) (which : Option Which) (t : Option ℕ) → chosen_after n d which t (name ∷ word ∷ words) ≡ together n d which t (options_of (name ∷ word ∷ words))
+  by-deep n false which t = rw is-deep (known n true which t ∙ first-deep n false which t (options_of (word ∷ words)))
+  by-deep n true which t =
       let a = deep-is-no-cut name is-deep in
       let b = deep-is-no-machine name is-deep in
-      rw (is-deep, a, b) (second-deep n which (options_of (word ∷ words)))
+      let s = deep-is-no-tab name is-deep in
+      rw (is-deep, a, b, s) (second-deep n true which t (options_of (word ∷ words)))
 
-alone : (n : Option ℕ) (d : Bool) (which : Option Which) → chosen_after n d which [] ≡ together n d which (Some [])
-alone None false None = refl
-alone None false (Some w) = refl
-alone None true None = refl
-alone None true (Some w) = refl
-alone (Some m) false None = refl
-alone (Some m) false (Some w) = refl
-alone (Some m) true None = refl
-alone (Some m) true (Some w) = refl
+-- without more options
+one-of : {A : Type 0} (o : Option A) → at_most_one (given o ++ []) ≡ Some o
+one-of None = refl
+one-of (Some x) = refl
 
-one-word : (n : Option ℕ) (d : Bool) (which : Option Which) (name : List ℕ) (b : Bool) → bytes_eq name (codes "--deep") ≡ b
-    → chosen_after n d which (name ∷ []) ≡ together n d which (options_of (name ∷ []))
-one-word n false which name true e = rw e (alone n true which ∙ first-deep n which (Some []))
-one-word n true which name true e = rw e (second-deep n which (Some []))
-one-word n d which name false e = rw e refl
+alone : (n : Option ℕ) (d : Bool) (which : Option Which) (t : Option ℕ) → chosen_after n d which t [] ≡ together n d which t (Some [])
+alone n true which t = rw (one-of n, one-of which, one-of t) refl
+alone n false which t = rw (one-of n, one-of which, one-of t) refl
 
-first-word : (name value : List ℕ) (words : List (List ℕ)) (known : (n : Option ℕ) (d : Bool) (which : Option Which) → chosen_after n d which words ≡ together n d which (options_of words))
-    → ((n : Option ℕ) (d : Bool) (which : Option Which) → chosen_after n d which (value ∷ words) ≡ together n d which (options_of (value ∷ words)))
-    → (n : Option ℕ) (d : Bool) (which : Option Which) (b : Bool) → bytes_eq name (codes "--deep") ≡ b → chosen_after n d which (name ∷ value ∷ words) ≡ together n d which (options_of (name ∷ value ∷ words))
-first-word name value words known known-behind n d which true e = by-deep value words known-behind name e n d which
-first-word name value words known known-behind n d which false e = by-name words known name value e n d which (bytes_eq name (codes "--cut")) (bytes_eq name (codes "--machine")) refl refl
+one-word : (n : Option ℕ) (d : Bool) (which : Option Which) (t : Option ℕ) (name : List ℕ) (b : Bool) → bytes_eq name (codes "--deep") ≡ b
+    → chosen_after n d which t (name ∷ []) ≡ together n d which t (options_of (name ∷ []))
+one-word n false which t name true e = rw e (alone n true which t ∙ first-deep n false which t (Some []))
+one-word n true which t name true e = rw e (second-deep n true which t (Some []))
+one-word n d which t name false e = rw e refl
 
-chosen_after-together : (n : Option ℕ) (d : Bool) (which : Option Which) (words : List (List ℕ)) → chosen_after n d which words ≡ together n d which (options_of words)
-chosen_after-together n d which [] = alone n d which
-chosen_after-together n d which (name ∷ []) = one-word n d which name (bytes_eq name (codes "--deep")) refl
-chosen_after-together n d which (name ∷ value ∷ words) =
-    first-word name value words (λ m e w. chosen_after-together m e w words) (λ m e w. chosen_after-together m e w (value ∷ words)) n d which (bytes_eq name (codes "--deep")) refl
+first-word : (name value : List ℕ) (words : List (List ℕ)) (known : (n : Option ℕ) (d : Bool) (which : Option Which) (t : Option ℕ) → chosen_after n d which t words ≡ together n d which t (options_of words))
+    → ((n : Option ℕ) (d : Bool) (which : Option Which) (t : Option ℕ) → chosen_after n d which t (value ∷ words) ≡ together n d which t (options_of (value ∷ words)))
+    → (n : Option ℕ) (d : Bool) (which : Option Which) (t : Option ℕ) (b : Bool) → bytes_eq name (codes "--deep") ≡ b → chosen_after n d which t (name ∷ value ∷ words) ≡ together n d which t (options_of (name ∷ value ∷ words))
+first-word name value words known known-behind n d which t true e = by-deep value words known-behind name e n d which t
+first-word name value words known known-behind n d which t false e =
+    by-name words known name value e n d which t (bytes_eq name (codes "--cut")) (bytes_eq name (codes "--machine")) (bytes_eq name (codes "--tab")) refl refl refl
+
+chosen_after-together : (n : Option ℕ) (d : Bool) (which : Option Which) (t : Option ℕ) (words : List (List ℕ)) → chosen_after n d which t words ≡ together n d which t (options_of words)
+chosen_after-together n d which t [] = alone n d which t
+chosen_after-together n d which t (name ∷ []) = one-word n d which t name (bytes_eq name (codes "--deep")) refl
+chosen_after-together n d which t (name ∷ value ∷ words) =
+    first-word name value words (λ m e w u. chosen_after-together m e w u words) (λ m e w u. chosen_after-together m e w u (value ∷ words)) n d which t (bytes_eq name (codes "--deep")) refl
 
 -- words choose what the options that they spell choose
-pub chosen_after-chosen : (words : List (List ℕ)) → chosen_after None false None words ≡ chosen words
-chosen_after-chosen words = chosen_after-together None false None words
+pub chosen_after-chosen : (words : List (List ℕ)) → chosen_after None false None None words ≡ chosen words
+chosen_after-chosen words = chosen_after-together None false None None words

@@ -21,16 +21,22 @@ which_of name =
     (cond (bytes_eq name (codes "peek")) (Some Peek)
     (cond (bytes_eq name (codes "deep")) (Some Deep) (cond (bytes_eq name (codes "back")) (Some Back) (cond (bytes_eq name (codes "save")) (Some Save) None)))))
 
+-- the size of tabs that a word has: its number, if that is at most 16
+abbrev pub tab_of : List ℕ → Option ℕ
+tab_of word = option_and_then (λ n. cond (nat_lt 16 n) None (Some n)) (number_of word)
+
 -- An option, with its value if it has one
 pub data Spelled : Type 0 where
   cut : ℕ → Spelled
   deep : Spelled
   machine : Which → Spelled
+  tab : ℕ → Spelled
 
--- the option that two words spell, if they spell one: `--cut` and a number, or `--machine` and a name
+-- the option that two words spell, if they spell one: `--cut` and a number, `--machine` and a name, or `--tab` and a size of tabs
 abbrev pub option_of : List ℕ → List ℕ → Option Spelled
 option_of name value =
-    cond (bytes_eq name (codes "--cut")) (option_map cut (number_of value)) (cond (bytes_eq name (codes "--machine")) (option_map machine (which_of value)) None)
+    cond (bytes_eq name (codes "--cut")) (option_map cut (number_of value))
+    (cond (bytes_eq name (codes "--machine")) (option_map machine (which_of value)) (cond (bytes_eq name (codes "--tab")) (option_map tab (tab_of value)) None))
 
 -- the options that words spell, in order, if they spell options: a word is `--deep`, or two words are an option with its value
 abbrev pub options_of : List (List ℕ) → Option (List Spelled)
@@ -45,18 +51,28 @@ abbrev pub cut_in : Spelled → Option ℕ
 cut_in (cut n) = Some n
 cut_in deep = None
 cut_in (machine which) = None
+cut_in (tab n) = None
 
 -- that an option is `--deep`
 abbrev pub deep_in : Spelled → Option Bool
 deep_in (cut n) = None
 deep_in deep = Some true
 deep_in (machine which) = None
+deep_in (tab n) = None
 
 -- the machine of an option that names one
 abbrev pub machine_in : Spelled → Option Which
 machine_in (cut n) = None
 machine_in deep = None
 machine_in (machine which) = Some which
+machine_in (tab n) = None
+
+-- the size of tabs of an option that gives one
+abbrev pub tab_in : Spelled → Option ℕ
+tab_in (cut n) = None
+tab_in deep = None
+tab_in (machine which) = None
+tab_in (tab n) = Some n
 
 -- what a list of at most one has, if it has it; nothing for a longer list
 abbrev pub at_most_one : {A : Type 0} → List A → Option (Option A)
@@ -73,15 +89,16 @@ links_text Deep = false
 links_text Back = false
 links_text Save = false
 
--- the choice of a cut, of `--deep` and of a machine, if they are taken together: `--deep` is with a machine that links
-abbrev pub taken : Option ℕ → Bool → Which → Option Choice
-taken n is_deep which = cond (is_deep && not (links_text which)) None (Some (record { cut = n; deep = is_deep; machine = which }))
+-- the choice of a cut, of `--deep`, of a machine and of a size of tabs, if they are taken together: `--deep` is with a machine that
+-- links
+abbrev pub taken : Option ℕ → Bool → Which → ℕ → Option Choice
+taken n is_deep which t = cond (is_deep && not (links_text which)) None (Some (record { cut = n; deep = is_deep; machine = which; tab = t }))
 
--- what options choose, if there is at most one of each: without a machine's name, that of lines
+-- what options choose, if there is at most one of each: without a machine's name, that of lines, and without a size of tabs, 4
 abbrev pub chosen_by : List Spelled → Option Choice
 chosen_by options =
-    option_and_then (λ n. option_and_then (λ is_deep. option_and_then (λ which. taken n (unwrap_or is_deep false) (unwrap_or which Lines))
-    (at_most_one (filter_map machine_in options))) (at_most_one (filter_map deep_in options)))
+    option_and_then (λ n. option_and_then (λ is_deep. option_and_then (λ which. option_and_then (λ t. taken n (unwrap_or is_deep false) (unwrap_or which Lines) (unwrap_or t 4))
+    (at_most_one (filter_map tab_in options))) (at_most_one (filter_map machine_in options))) (at_most_one (filter_map deep_in options)))
     (at_most_one (filter_map cut_in options))
 
 -- what words choose, if they choose anything: what the options that they spell choose

@@ -2,19 +2,20 @@
 
 ghost use Rattle.std.specs.Prelude.{◌≡◌, ◌+◌, ◌*◌, ◌^◌, ◌<◌, true, length, All, Contains, IfSome};
 ghost use Rattle.markdown_base.specs.Virtual.{point};
-ghost use Rattle.markdown_base.specs.Places.{denotes_same, point_at, stands_before};
+ghost use Rattle.markdown_base.specs.Places.{denotes_same, stands_before};
 ghost use Rattle.markdown.specs.Configuration.{start_seen};
 ghost use Rattle.markdown.specs.Engine.{given_of};
 ghost use Rattle.markdown.specs.Ranges.{FollowOn, IsGapFrom, LeadsFrom, after_any};
 ghost use Rattle.markdown.specs.Text.{empty_text};
 ghost use Rattle.mdevents.specs.Program.{document};
 
+use crate::program::options_with;
 use crate::write::write_lines;
-use markdown::configuration::{ParseOptions, TabSize};
+use markdown::configuration::TabSize;
 use markdown::event::{Event, Point};
 use markdown::parser::ParseState;
 use markdown::state::{Machine, Name, State};
-use markdown::tokenizer::{self, Tokenizer};
+use markdown::tokenizer::{Tokenizer, point_at};
 use std::alloc::{AllocError, Global};
 
 /// A range of a document, from a place to another one, and the place up to which a gap is passed before it, if one is.
@@ -36,7 +37,7 @@ pub struct Seen {
     pub text: Vec<u8>,
 }
 
-/// Reads a document with the default options, cut at these places. `None` where they are no places of it, or in no order.
+/// Reads a document with tabs of size 4, cut at these places. `None` where they are no places of it, or in no order.
 pub fn read_cut<M: Machine>(
     alloc: Global,
     machine: &M,
@@ -45,10 +46,26 @@ pub fn read_cut<M: Machine>(
     cuts: &[(usize, usize)],
 ) -> Option<Seen>
     requires limit { 4 * length bytes.now + 1 < 2 ^ 64 }
-    requires start { Contains (M.rules machine.now (document bytes.now)).starts start }
+    requires start { Contains (M.rules machine.now (document 4 bytes.now)).starts start }
+{
+    let tab = TabSize::default();
+    read_cut_with(alloc, machine, start, bytes, tab, cuts)
+}
+
+/// Reads a document with tabs of this size, cut at these places. `None` where they are no places of it, or in no order.
+pub fn read_cut_with<M: Machine>(
+    alloc: Global,
+    machine: &M,
+    start: Name,
+    bytes: &[u8],
+    tab: TabSize,
+    cuts: &[(usize, usize)],
+) -> Option<Seen>
+    requires limit { tab * length bytes.now + 1 < 2 ^ 64 }
+    requires start { Contains (M.rules machine.now (document tab bytes.now)).starts start }
 {
     let ranges = ranges_between(alloc, bytes.len(), cuts).ok()?;
-    read_ranges(alloc, machine, start, bytes, ranges.as_slice())
+    read_ranges_with(alloc, machine, start, bytes, tab, ranges.as_slice())
 }
 
 /// The ranges between cuts, from the start of a document of so many bytes to its end.
@@ -67,8 +84,8 @@ fn ranges_between(
     Ok(ranges)
 }
 
-/// Reads these ranges of a document and no other, with the default options. `None` where they do not follow on one another, each
-/// at the place where the one before ended or its gap ends.
+/// Reads these ranges of a document and no other, with tabs of size 4. `None` where they do not follow on one another, each at the
+/// place where the one before ended or its gap ends.
 pub fn read_ranges<M: Machine>(
     alloc: Global,
     machine: &M,
@@ -77,7 +94,23 @@ pub fn read_ranges<M: Machine>(
     ranges: &[AfterGap],
 ) -> Option<Seen>
     requires limit { 4 * length bytes.now + 1 < 2 ^ 64 }
-    requires start { Contains (M.rules machine.now (document bytes.now)).starts start }
+    requires start { Contains (M.rules machine.now (document 4 bytes.now)).starts start }
+{
+    let tab = TabSize::default();
+    read_ranges_with(alloc, machine, start, bytes, tab, ranges)
+}
+
+/// The same with tabs of this size.
+fn read_ranges_with<M: Machine>(
+    alloc: Global,
+    machine: &M,
+    start: Name,
+    bytes: &[u8],
+    tab: TabSize,
+    ranges: &[AfterGap],
+) -> Option<Seen>
+    requires limit { tab * length bytes.now + 1 < 2 ^ 64 }
+    requires start { Contains (M.rules machine.now (document tab bytes.now)).starts start }
 {
     let first = Point {
         line: 1,
@@ -85,13 +118,13 @@ pub fn read_ranges<M: Machine>(
         index: 0,
         vs: 0,
     };
-    if !follow_on(bytes, first, ranges) {
+    if !follow_on(bytes, tab, first, ranges) {
         return None;
     }
-    read_following(alloc, machine, start, bytes, ranges)
+    read_following_with(alloc, machine, start, bytes, tab, ranges)
 }
 
-/// Reads ranges that follow on one another.
+/// Reads ranges that follow on one another, with tabs of size 4.
 pub fn read_following<M: Machine>(
     alloc: Global,
     machine: &M,
@@ -100,10 +133,27 @@ pub fn read_following<M: Machine>(
     ranges: &[AfterGap],
 ) -> Option<Seen>
     requires limit { 4 * length bytes.now + 1 < 2 ^ 64 }
-    requires start { Contains (M.rules machine.now (document bytes.now)).starts start }
-    requires ranges { FollowOn bytes.now (point 1 1 0 0) ranges.now }
+    requires start { Contains (M.rules machine.now (document 4 bytes.now)).starts start }
+    requires ranges { FollowOn 4 bytes.now (point 1 1 0 0) ranges.now }
 {
-    let options = ParseOptions::default();
+    let tab = TabSize::default();
+    read_following_with(alloc, machine, start, bytes, tab, ranges)
+}
+
+/// Reads ranges that follow on one another, with the default options but for the size of tabs.
+fn read_following_with<M: Machine>(
+    alloc: Global,
+    machine: &M,
+    start: Name,
+    bytes: &[u8],
+    tab: TabSize,
+    ranges: &[AfterGap],
+) -> Option<Seen>
+    requires limit { tab * length bytes.now + 1 < 2 ^ 64 }
+    requires start { Contains (M.rules machine.now (document tab bytes.now)).starts start }
+    requires ranges { FollowOn tab bytes.now (point 1 1 0 0) ranges.now }
+{
+    let options = options_with(tab);
     let parse_state = ParseState {
         bytes,
         options: &options,
@@ -115,6 +165,7 @@ pub fn read_following<M: Machine>(
         index: 0,
         vs: 0,
     };
+    let _ = options.tab_size.get();
     let mut tokenizer = Tokenizer::new(alloc, point, &parse_state);
     drive(alloc, &mut tokenizer, &parse_state, start, ranges).ok()
 }
@@ -127,11 +178,11 @@ fn drive<'a, M: Machine>(
     start: Name,
     ranges: &[AfterGap],
 ) -> Result<Seen, AllocError>
-    requires limit { 4 * length parse_state.now.bytes.now + 1 < 2 ^ 64 }
+    requires limit { parse_state.now.options.now.tab_size * length parse_state.now.bytes.now + 1 < 2 ^ 64 }
     requires bytes { All (λ b. b < 256) parse_state.now.bytes.now }
-    requires fresh { tokenizer.old ≡ start_seen (given_of 4 parse_state.now) parse_state.now.machine.now (empty_text (point 1 1 0 0)) }
-    requires start { Contains (M.rules parse_state.now.machine.now (given_of 4 parse_state.now)).starts start }
-    requires ranges { FollowOn parse_state.now.bytes.now (point 1 1 0 0) ranges.now }
+    requires fresh { tokenizer.old ≡ start_seen (given_of parse_state.now) parse_state.now.machine.now (empty_text (point 1 1 0 0)) }
+    requires start { Contains (M.rules parse_state.now.machine.now (given_of parse_state.now)).starts start }
+    requires ranges { FollowOn parse_state.now.options.now.tab_size parse_state.now.bytes.now (point 1 1 0 0) ranges.now }
 {
     let mut pushed = Vec::new(alloc);
     push_all(tokenizer, parse_state, start, ranges, &mut pushed)?;
@@ -147,17 +198,18 @@ fn drive<'a, M: Machine>(
 /// seen after each push is added to the list.
 fn push_all<'a, M: Machine>(
     tokenizer: &mut Tokenizer<'a, M>,
-    _parse_state: &ParseState<'a, M>,
+    parse_state: &ParseState<'a, M>,
     start: Name,
     ranges: &[AfterGap],
     pushed: &mut Vec<Pushed>,
 ) -> Result<(), AllocError>
-    requires limit { 4 * length _parse_state.now.bytes.now + 1 < 2 ^ 64 }
-    requires bytes { All (λ b. b < 256) _parse_state.now.bytes.now }
-    requires fresh { tokenizer.old ≡ start_seen (given_of 4 _parse_state.now) _parse_state.now.machine.now (empty_text (point 1 1 0 0)) }
-    requires start { Contains (M.rules _parse_state.now.machine.now (given_of 4 _parse_state.now)).starts start }
-    requires ranges { FollowOn _parse_state.now.bytes.now (point 1 1 0 0) ranges.now }
+    requires limit { parse_state.now.options.now.tab_size * length parse_state.now.bytes.now + 1 < 2 ^ 64 }
+    requires bytes { All (λ b. b < 256) parse_state.now.bytes.now }
+    requires fresh { tokenizer.old ≡ start_seen (given_of parse_state.now) parse_state.now.machine.now (empty_text (point 1 1 0 0)) }
+    requires start { Contains (M.rules parse_state.now.machine.now (given_of parse_state.now)).starts start }
+    requires ranges { FollowOn parse_state.now.options.now.tab_size parse_state.now.bytes.now (point 1 1 0 0) ranges.now }
 {
+    let _ = parse_state.options.tab_size.get();
     let mut state = State::Next(start);
     for (gap, from, to) in ranges {
         if let Some(place) = gap {
@@ -226,38 +278,38 @@ pub fn lines_of(alloc: Global, events: &[Event]) -> Result<Vec<u8>, AllocError> 
 }
 
 /// Whether ranges follow on a text that ends at a place: each after its gap, which passes the beginning of a line, if it has one.
-fn follow_on(bytes: &[u8], end: Point, ranges: &[AfterGap]) -> bool
-    requires limit { 4 * length bytes.now + 1 < 2 ^ 64 }
-    ensures { result ≡ true → FollowOn bytes.now end ranges.now }
+fn follow_on(bytes: &[u8], tab: TabSize, end: Point, ranges: &[AfterGap]) -> bool
+    requires limit { tab * length bytes.now + 1 < 2 ^ 64 }
+    ensures { result ≡ true → FollowOn tab bytes.now end ranges.now }
 {
     let Some((range, rest)) = ranges.split_first() else {
         return true;
     };
-    let Some(start) = start_after(bytes, end, range.0) else {
+    let Some(start) = start_after(bytes, tab, end, range.0) else {
         return false;
     };
-    let Some(from) = point_at(bytes, range.1) else {
+    let Some(from) = point_at(bytes, tab, range.1) else {
         return false;
     };
-    let Some(to) = point_at(bytes, range.2) else {
+    let Some(to) = point_at(bytes, tab, range.2) else {
         return false;
     };
     if stands_before(from, start) || stands_before(start, from) || stands_before(to, from) {
         return false;
     }
-    follow_on(bytes, to, rest)
+    follow_on(bytes, tab, to, rest)
 }
 
 /// Where what follows on a text begins that ends at a place: after the gap, if there is one that passes the beginning of a line.
-fn start_after(bytes: &[u8], end: Point, gap: Option<Point>) -> Option<Point>
-    requires limit { 4 * length bytes.now + 1 < 2 ^ 64 }
-    ensures leads { IfSome result (λ _. LeadsFrom bytes.now end gap) }
-    ensures start { IfSome result (λ start. denotes_same 4 bytes.now start (after_any bytes.now end gap) ≡ true) }
+fn start_after(bytes: &[u8], tab: TabSize, end: Point, gap: Option<Point>) -> Option<Point>
+    requires limit { tab * length bytes.now + 1 < 2 ^ 64 }
+    ensures leads { IfSome result (λ _. LeadsFrom tab bytes.now end gap) }
+    ensures start { IfSome result (λ start. denotes_same tab bytes.now start (after_any tab bytes.now end gap) ≡ true) }
 {
     match gap {
         None => Some(end),
         Some(place) => {
-            if passes_beginning(bytes, end, place) {
+            if passes_beginning(bytes, tab, end, place) {
                 Some(place)
             } else {
                 None
@@ -267,23 +319,14 @@ fn start_after(bytes: &[u8], end: Point, gap: Option<Point>) -> Option<Point>
 }
 
 /// Whether a place comes later in the line that begins at another one.
-fn passes_beginning(bytes: &[u8], beginning: Point, place: Point) -> bool
-    requires limit { 4 * length bytes.now + 1 < 2 ^ 64 }
-    ensures { result ≡ true → IsGapFrom bytes.now beginning place }
+fn passes_beginning(bytes: &[u8], tab: TabSize, beginning: Point, place: Point) -> bool
+    requires limit { tab * length bytes.now + 1 < 2 ^ 64 }
+    ensures { result ≡ true → IsGapFrom tab bytes.now beginning place }
 {
-    point_at(bytes, (place.index, place.vs)) == Some(place)
+    point_at(bytes, tab, (place.index, place.vs)) == Some(place)
         && beginning.column == 1
         && place.line == beginning.line
         && stands_before(beginning, place)
-}
-
-/// The point of a place of a document, with the tab stops of CommonMark; None where there is no such place.
-fn point_at(bytes: &[u8], place: (usize, usize)) -> Option<Point>
-    requires limit { 4 * length bytes.now + 1 < 2 ^ 64 }
-    ensures { result ≡ point_at 4 bytes.now place }
-{
-    let tab_size = TabSize::default();
-    tokenizer::point_at(bytes, tab_size, place)
 }
 
 /// Whether a point stands before another one.

@@ -1,10 +1,13 @@
-//! Short documents, cut at every place and at every two places: what is read does not tell where.
+//! Short documents with tabs of 1, 3, 4 and 16 columns, cut at every place and at every two places: what is read does not
+//! tell where.
 
 ghost use Rattle.std.specs.Prelude.{◌+◌, ◌*◌, ◌^◌, ◌<◌, length, Contains};
 ghost use Rattle.mdevents.specs.Program.{document};
 
-use crate::driven::{Seen, read_cut};
+use crate::driven::{Seen, read_cut_with};
+use markdown::configuration::TabSize;
 use markdown::state::{Machine, Name};
+use markdown::tokenizer::point_at;
 use mdconstructs::back::Back;
 use mdconstructs::deep::Deep;
 use mdconstructs::lines::Lines;
@@ -29,13 +32,19 @@ fn compare(compared: Compared, seen: &Seen, uncut: &Seen) -> Compared {
     }
 }
 
-/// The pairs of an index and a number in a tab that may be places of a document, and more.
-fn pairs(alloc: Global, size: usize) -> Result<Vec<(usize, usize)>, AllocError> {
-    let mut pairs = Vec::new(alloc);
-    for number in 0..size.saturating_mul(4) {
-        pairs.push((number / 4, number % 4))?;
+/// The places of a document.
+fn places(alloc: Global, bytes: &[u8], tab: TabSize) -> Result<Vec<(usize, usize)>, AllocError>
+    requires limit { tab * length bytes.now + 1 < 2 ^ 64 }
+{
+    let t = tab.get();
+    let mut places = Vec::new(alloc);
+    for number in 0..(bytes.len() + 1).saturating_mul(t) {
+        let place = (number / t, number % t);
+        if point_at(bytes, tab, place).is_some() {
+            places.push(place)?;
+        }
     }
-    Ok(pairs)
+    Ok(places)
 }
 
 /// The cut after another one, if there is one.
@@ -58,14 +67,15 @@ fn compare_cut<M: Machine>(
     machine: &M,
     start: Name,
     bytes: &[u8],
+    tab: TabSize,
     cuts: &[(usize, usize)],
     uncut: &Seen,
     compared: Compared,
 ) -> Compared
-    requires limit { 4 * length bytes.now + 1 < 2 ^ 64 }
-    requires start { Contains (M.rules machine.now (document bytes.now)).starts start }
+    requires limit { tab * length bytes.now + 1 < 2 ^ 64 }
+    requires start { Contains (M.rules machine.now (document tab bytes.now)).starts start }
 {
-    match read_cut(alloc, machine, start, bytes, cuts) {
+    match read_cut_with(alloc, machine, start, bytes, tab, cuts) {
         Some(seen) => compare(compared, &seen, uncut),
         None => compared,
     }
@@ -77,22 +87,24 @@ fn compare_cuts<M: Machine>(
     machine: &M,
     start: Name,
     bytes: &[u8],
+    tab: TabSize,
     first: Option<(usize, usize)>,
     uncut: &Seen,
     compared: Compared,
 ) -> Result<Compared, AllocError>
-    requires limit { 4 * length bytes.now + 1 < 2 ^ 64 }
-    requires start { Contains (M.rules machine.now (document bytes.now)).starts start }
+    requires limit { tab * length bytes.now + 1 < 2 ^ 64 }
+    requires start { Contains (M.rules machine.now (document tab bytes.now)).starts start }
 {
     let mut compared = compared;
-    let pairs = pairs(alloc, bytes.len() + 1)?;
-    for second in pairs.as_slice() {
+    let places = places(alloc, bytes, tab)?;
+    for second in places.as_slice() {
         let cuts = cut_after(alloc, first, *second)?;
         compared = compare_cut(
             alloc,
             machine,
             start,
             bytes,
+            tab,
             cuts.as_slice(),
             uncut,
             compared,
@@ -107,16 +119,26 @@ fn compare_cuts_twice<M: Machine>(
     machine: &M,
     start: Name,
     bytes: &[u8],
+    tab: TabSize,
     uncut: &Seen,
     compared: Compared,
 ) -> Result<Compared, AllocError>
-    requires limit { 4 * length bytes.now + 1 < 2 ^ 64 }
-    requires start { Contains (M.rules machine.now (document bytes.now)).starts start }
+    requires limit { tab * length bytes.now + 1 < 2 ^ 64 }
+    requires start { Contains (M.rules machine.now (document tab bytes.now)).starts start }
 {
     let mut compared = compared;
-    let pairs = pairs(alloc, bytes.len() + 1)?;
-    for first in pairs.as_slice() {
-        compared = compare_cuts(alloc, machine, start, bytes, Some(*first), uncut, compared)?;
+    let places = places(alloc, bytes, tab)?;
+    for first in places.as_slice() {
+        compared = compare_cuts(
+            alloc,
+            machine,
+            start,
+            bytes,
+            tab,
+            Some(*first),
+            uncut,
+            compared,
+        )?;
     }
     Ok(compared)
 }
@@ -128,18 +150,19 @@ pub fn compare_readings<M: Machine>(
     machine: &M,
     start: Name,
     bytes: &[u8],
+    tab: TabSize,
     twice: bool,
     compared: Compared,
 ) -> Result<Compared, AllocError>
-    requires limit { 4 * length bytes.now + 1 < 2 ^ 64 }
-    requires start { Contains (M.rules machine.now (document bytes.now)).starts start }
+    requires limit { tab * length bytes.now + 1 < 2 ^ 64 }
+    requires start { Contains (M.rules machine.now (document tab bytes.now)).starts start }
 {
-    let Some(uncut) = read_cut(alloc, machine, start, bytes, &[]) else {
+    let Some(uncut) = read_cut_with(alloc, machine, start, bytes, tab, &[]) else {
         return Err(AllocError);
     };
-    let compared = compare_cuts(alloc, machine, start, bytes, None, &uncut, compared)?;
+    let compared = compare_cuts(alloc, machine, start, bytes, tab, None, &uncut, compared)?;
     if twice {
-        compare_cuts_twice(alloc, machine, start, bytes, &uncut, compared)
+        compare_cuts_twice(alloc, machine, start, bytes, tab, &uncut, compared)
     } else {
         Ok(compared)
     }
@@ -161,18 +184,19 @@ fn document_of(alloc: Global, size: usize, number: usize) -> Result<Vec<u8>, All
 fn compare_machines(
     alloc: Global,
     bytes: &[u8],
+    tab: TabSize,
     twice: bool,
     c: Compared,
 ) -> Result<Compared, AllocError>
-    requires limit { 4 * length bytes.now + 1 < 2 ^ 64 }
+    requires limit { tab * length bytes.now + 1 < 2 ^ 64 }
 {
-    let c = compare_readings(alloc, &Lines {}, Name::FlowStart, bytes, twice, c)?;
-    let c = compare_readings(alloc, &Paragraphs {}, Name::FlowStart, bytes, twice, c)?;
-    let c = compare_readings(alloc, &Paragraphs {}, Name::TextStart, bytes, twice, c)?;
-    let c = compare_readings(alloc, &Peek {}, Name::TextStart, bytes, twice, c)?;
-    let c = compare_readings(alloc, &Deep {}, Name::StringStart, bytes, twice, c)?;
-    let c = compare_readings(alloc, &Back {}, Name::TextStart, bytes, twice, c)?;
-    compare_readings(alloc, &Save {}, Name::TextStart, bytes, twice, c)
+    let c = compare_readings(alloc, &Lines {}, Name::FlowStart, bytes, tab, twice, c)?;
+    let c = compare_readings(alloc, &Paragraphs {}, Name::FlowStart, bytes, tab, twice, c)?;
+    let c = compare_readings(alloc, &Paragraphs {}, Name::TextStart, bytes, tab, twice, c)?;
+    let c = compare_readings(alloc, &Peek {}, Name::TextStart, bytes, tab, twice, c)?;
+    let c = compare_readings(alloc, &Deep {}, Name::StringStart, bytes, tab, twice, c)?;
+    let c = compare_readings(alloc, &Back {}, Name::TextStart, bytes, tab, twice, c)?;
+    compare_readings(alloc, &Save {}, Name::TextStart, bytes, tab, twice, c)
 }
 
 /// Compares the readings of the document of a size and a number.
@@ -180,14 +204,16 @@ fn compare_document(
     alloc: Global,
     size: usize,
     number: usize,
+    tab: TabSize,
     twice: bool,
     compared: Compared,
 ) -> Result<Compared, AllocError> {
     let document = document_of(alloc, size, number)?;
+    let _ = tab.get();
     if document.len() > 4 {
         return Err(AllocError);
     }
-    compare_machines(alloc, document.as_slice(), twice, compared)
+    compare_machines(alloc, document.as_slice(), tab, twice, compared)
 }
 
 /// Compares the readings of all documents of some size, over these four bytes, by each machine.
@@ -195,27 +221,43 @@ fn compare_all(
     alloc: Global,
     size: usize,
     count: usize,
+    tab: TabSize,
     twice: bool,
 ) -> Result<Compared, AllocError> {
     let mut compared = Compared { all: 0, other: 0 };
     for number in 0..count {
-        compared = compare_document(alloc, size, number, twice, compared)?;
+        compared = compare_document(alloc, size, number, tab, twice, compared)?;
     }
     Ok(compared)
 }
 
-/// For each size of documents: how many there are, whether they are cut twice, and how many readings each machine makes.
-const SIZES: [(usize, usize, bool, usize); 5] = [
-    (0, 1, true, 2),
-    (1, 4, true, 35),
-    (2, 16, true, 290),
-    (3, 64, true, 1935),
-    (4, 256, false, 1991),
+/// For each size of documents: how many there are, and whether they are cut twice.
+const SIZES: [(usize, usize, bool); 5] = [
+    (0, 1, true),
+    (1, 4, true),
+    (2, 16, true),
+    (3, 64, true),
+    (4, 256, false),
+];
+
+/// For each size of tabs: how many readings each machine makes of the documents of each size.
+const READINGS: [(usize, [usize; 5]); 4] = [
+    (1, [2, 20, 144, 896, 1280]),
+    (3, [2, 29, 230, 1502, 1738]),
+    (4, [2, 35, 290, 1935, 1991]),
+    (16, [2, 185, 1790, 12747, 5063]),
 ];
 
 /// How many readings of all documents of some size were compared, if each was as the uncut one.
-fn same_readings(alloc: Global, size: usize, count: usize, twice: bool) -> Option<usize> {
-    match compare_all(alloc, size, count, twice) {
+fn same_readings(
+    alloc: Global,
+    size: usize,
+    count: usize,
+    tab: usize,
+    twice: bool,
+) -> Option<usize> {
+    let tab = TabSize::new(tab)?;
+    match compare_all(alloc, size, count, tab, twice) {
         Ok(compared) => (compared.other == 0).then_some(compared.all),
         Err(_) => None,
     }
@@ -223,8 +265,14 @@ fn same_readings(alloc: Global, size: usize, count: usize, twice: bool) -> Optio
 
 #[test]
 fn no_cut_leaves_a_trace(rt: HostRuntime) {
-    for (size, count, twice, places) in SIZES {
-        let same = same_readings(rt.alloc(), size, count, twice);
-        assert_eq!(rt; same, Some(7 * places), "of size {size}");
+    for (tab, readings) in READINGS {
+        for ((size, count, twice), places) in SIZES.iter().zip(&readings) {
+            let same = same_readings(rt.alloc(), *size, *count, tab, *twice);
+            assert_eq!(rt;
+                same,
+                Some(places.saturating_mul(7)),
+                "of size {size} with tabs of {tab}"
+            );
+        }
     }
 }

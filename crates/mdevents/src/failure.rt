@@ -17,7 +17,7 @@ pub enum Failure {
     Read,
     /// The writer failed, or took nothing.
     Write,
-    /// Four times the length of the input, and one more, do not fit `usize`.
+    /// The size of tabs times the length of the input, and one more, do not fit `usize`.
     TooLong,
     /// The events have chains of text that cannot be read. Answered with `--deep` alone.
     NotReady,

@@ -1,10 +1,11 @@
 //! Prints the events of a document: reads standard input to its end and writes a line for each event.
 //!
-//! `mdevents [--cut n] [--deep] [--machine name]`: with `--cut` the document is read in parts, cut after each n virtual bytes,
-//! which changes nothing in what is written; with `--machine` the machine of that name reads it, and else that of lines; with
-//! `--deep`, which goes with `--machine paragraphs` alone, the chunks of text that it links are read too, and their events stand
-//! in their place. The status is 0; where something fails, a line says what on standard error and the status is 1; other words
-//! are answered by a line on how to call the program, and the status is 2.
+//! `mdevents [--cut n] [--deep] [--machine name] [--tab n]`: with `--cut` the document is read in parts, cut after each n virtual
+//! bytes, which changes nothing in what is written; with `--machine` the machine of that name reads it, and else that of lines;
+//! with `--deep`, which goes with `--machine paragraphs` alone, the chunks of text that it links are read too, and their events
+//! stand in their place; with `--tab` tab stops stand at every n columns, from 1 to 16, and else at every 4. The status is 0;
+//! where something fails, a line says what on standard error and the status is 1; other words are answered by a line on how to
+//! call the program, and the status is 2.
 #![tactic(auto)]
 
 ghost use Rattle.std.specs.Prelude.{◌≡◌, ◌≤◌, IfOk, IfSome, IsErr, IsOkUnless, Ok, None};
@@ -31,7 +32,6 @@ mod ranges;
 mod read;
 #[cfg(test)]
 mod rows;
-mod tab_stops;
 #[cfg(test)]
 mod turns;
 mod waiting;
@@ -127,16 +127,16 @@ mod tests {
     use crate::expected::{PARAGRAPH, SHORT_DATA, TWO_LINES};
     use crate::fakes::{CalledWith, FailingReader, FailingWriter, Fault, Line, message};
     use crate::words::Which;
+    use markdown::configuration::TabSize;
     use std::alloc::{AllocError, Global};
 
-    const USAGE_SHOWN: &[u8] = b"usage: mdevents [--cut n] [--deep] [--machine name]\n";
+    const USAGE_SHOWN: &[u8] = b"usage: mdevents [--cut n] [--deep] [--machine name] [--tab n]\n";
 
     /// Whether the words that the program is called with choose this, and nothing fails.
     fn chooses(alloc: Global, words: &[u8], want: Option<Choice>) -> bool {
-        match choice_of(&(CalledWith::new(words), alloc)) {
-            Ok(choice) => choice == want,
-            Err(_) => false,
-        }
+        let system = (CalledWith::new(words), alloc);
+        let chosen = choice_of(&system);
+        chosen == Ok(want)
     }
 
     const CHOSEN: [(&[u8], Option<usize>, bool, Which); 6] = [
@@ -166,7 +166,12 @@ mod tests {
     #[test]
     fn takes_the_words_after_the_name(rt: HostRuntime) {
         for (words, cut, deep, machine) in CHOSEN {
-            let want = Some(Choice { cut, deep, machine });
+            let want = Some(Choice {
+                cut,
+                deep,
+                machine,
+                tab: TabSize::default(),
+            });
             assert!(rt; chooses(rt.alloc(), words, want));
         }
     }
@@ -195,6 +200,7 @@ mod tests {
             cut: Some(7),
             deep: false,
             machine: Which::Lines,
+            tab: TabSize::default(),
         };
         assert!(rt; chooses(rt.alloc(), &long, Some(want)));
     }
@@ -259,7 +265,7 @@ mod tests {
     }
 
     /// Words, the status, what is written, and what is shown on standard error.
-    const DONE: [(&[u8], u8, &[u8], &[u8]); 9] = [
+    const DONE: [(&[u8], u8, &[u8], &[u8]); 12] = [
         (b"mdevents", 0, PARAGRAPH, b""),
         (b"mdevents --machine deep", 0, SHORT_DATA, b""),
         (b"mdevents --machine deep --cut 1", 0, SHORT_DATA, b""),
@@ -267,6 +273,9 @@ mod tests {
         (b"mdevents --machine paragraphs --deep", 0, PARAGRAPH, b""),
         (b"mdevents --machine forth", 2, b"", USAGE_SHOWN),
         (b"mdevents --cut 0", 2, b"", USAGE_SHOWN),
+        (b"mdevents --tab 16", 0, PARAGRAPH, b""),
+        (b"mdevents --tab 0", 2, b"", USAGE_SHOWN),
+        (b"mdevents --tab 17", 2, b"", USAGE_SHOWN),
         (b"mdevents --machine lines --deep", 2, b"", USAGE_SHOWN),
         (b"mdevents \xff", 2, b"", USAGE_SHOWN),
     ];

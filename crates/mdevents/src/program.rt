@@ -5,22 +5,21 @@ ghost use Rattle.std.specs.Io.KnownBytes.{Keeps};
 ghost use Rattle.markdown.specs.Engine.{AreCuts};
 ghost use Rattle.mdevents.specs.Failure.{IsOfMaking};
 ghost use Rattle.markdown.specs.Engine.{IsRunRefused};
-ghost use Rattle.mdevents.specs.Program.{document, cut_places, Gives, GivesDeep, IsRefusedDeep, GivesUnready, HasChildren, HasRefusedChild, AreEventsOf, IsRefusedBy, IsUnreadyBy, IsReadAndRefused, IsReadAndUnready, Prints, PrintsFront};
+ghost use Rattle.mdevents.specs.Program.{options_with, document, cut_places, Gives, GivesDeep, IsRefusedDeep, GivesUnready, HasChildren, HasRefusedChild, AreEventsOf, IsRefusedBy, IsUnreadyBy, IsReadAndRefused, IsReadAndUnready, Prints, PrintsFront};
 ghost use Rattle.mdchildren.specs.Ready.{IsReady};
 ghost use Rattle.mdevents.specs.Reading.{IsWithinLimit, ReadsWithinLimit, ReadsPastLimit};
 ghost use Rattle.mdevents.specs.Words.{CanCut};
 
 use crate::failure::Failure;
 use crate::read::read_to_end;
-use crate::tab_stops::{cuts_every, ready};
 use crate::words::{Choice, Which};
 use crate::write::write_lines;
-use markdown::configuration::ParseOptions;
+use markdown::configuration::{ParseOptions, TabSize};
 use markdown::event::{Content, Event};
 use markdown::parser::ParseState;
 use markdown::state::{Machine, Name};
-use markdown::tokenizer::{Fault, run};
-use mdchildren::subtokenize::subtokenize;
+use markdown::tokenizer::{Fault, cuts_every, run};
+use mdchildren::subtokenize::{ready, subtokenize};
 use mdconstructs::back::Back;
 use mdconstructs::deep::Deep;
 use mdconstructs::lines::Lines;
@@ -33,7 +32,7 @@ use std::io::{Read, Write};
 /// Reads a document to its end and writes its events, a line for each, once all are there. The lines go through a buffer of
 /// fixed size, so beside the document and the events no memory is taken for them.
 ///
-/// A cut in the choice is at least 1. The first failure met is answered, in the order of reading, length, making the
+/// Tab stops stand where the choice says. A cut in it is at least 1. The first failure met is answered, in the order of reading, length, making the
 /// events, and writing. Where it is not that of the writer nothing was written; where it is, a beginning of the lines.
 /// But for `TooLong`, what was read is within the limit. `NotReady` is answered only with `--deep`, where the chains of text in
 /// the machine's events cannot be read.
@@ -45,59 +44,71 @@ pub fn write_events<R: Read, W: Write>(
 ) -> Result<(), Failure>
     requires { CanCut choice.now }
     ensures written { OnOk result (Prints choice.now R.remaining reader.old reader.new W.contents writer.old writer.new) }
-    ensures too_long { IsErrOf result Failure.TooLong → ReadsPastLimit (R.remaining reader.old) (R.remaining reader.new) }
-    ensures within_else { IfErr result (λ failure. failure ≢ Failure.TooLong → ReadsWithinLimit (R.remaining reader.old) (R.remaining reader.new)) }
+    ensures too_long { IsErrOf result Failure.TooLong → ReadsPastLimit choice.now.tab (R.remaining reader.old) (R.remaining reader.new) }
+    ensures within_else { IfErr result (λ failure. failure ≢ Failure.TooLong → ReadsWithinLimit choice.now.tab (R.remaining reader.old) (R.remaining reader.new)) }
     ensures unready { IsErrOf result Failure.NotReady → IsReadAndUnready choice.now (R.remaining reader.old) (R.remaining reader.new) }
     ensures message { (m : _) → IsErrOf result (Failure.Message m) → IsReadAndRefused choice.now (R.remaining reader.old) (R.remaining reader.new) m }
     ensures cut_short { IsErrOf result Failure.Write → PrintsFront choice.now R.remaining reader.old reader.new W.contents writer.old writer.new }
     ensures nothing { IfErr result (λ failure. failure ≢ Failure.Write → Keeps (W.contents writer.old) (W.contents writer.new)) }
 {
-    let bytes = read_to_end(alloc, reader)?;
+    let bytes = read_to_end(alloc, reader, choice.tab)?;
     let events = events_of(alloc, bytes.as_slice(), choice)?;
     write_lines(writer, events.as_slice())
 }
 
 /// The events of a document, which have no trace of the cuts.
 fn events_of(alloc: Global, bytes: &[u8], choice: &Choice) -> Result<Vec<Event>, Failure>
-    requires limit { IsWithinLimit bytes.now }
+    requires limit { IsWithinLimit choice.now.tab bytes.now }
     requires cut { CanCut choice.now }
-    ensures events { IfOk result (λ events. AreEventsOf choice.now.deep choice.now.machine bytes.now events.items) }
-    ensures message { (m : _) → IsErrOf result (Failure.Message m) → IsRefusedBy choice.now.deep choice.now.machine bytes.now m }
-    ensures unready { IsErrOf result Failure.NotReady → IsUnreadyBy choice.now.deep choice.now.machine bytes.now }
+    ensures events { IfOk result (λ events. AreEventsOf choice.now.deep choice.now.machine choice.now.tab bytes.now events.items) }
+    ensures message { (m : _) → IsErrOf result (Failure.Message m) → IsRefusedBy choice.now.deep choice.now.machine choice.now.tab bytes.now m }
+    ensures unready { IsErrOf result Failure.NotReady → IsUnreadyBy choice.now.deep choice.now.machine choice.now.tab bytes.now }
     ensures cause { IfErr result IsOfMaking }
 {
     let cuts = cuts_of(alloc, bytes, choice)?;
     let cuts = cuts.as_slice();
+    let tab = choice.tab;
     match choice.machine {
-        Which::Lines => read_by(alloc, &Lines {}, Name::FlowStart, bytes, cuts),
+        Which::Lines => read_by(alloc, &Lines {}, Name::FlowStart, bytes, tab, cuts),
         Which::Paragraphs if choice.deep => {
-            read_deep_by(alloc, &Paragraphs {}, Name::FlowStart, bytes, cuts)
+            read_deep_by(alloc, &Paragraphs {}, Name::FlowStart, bytes, tab, cuts)
         }
-        Which::Paragraphs => read_by(alloc, &Paragraphs {}, Name::FlowStart, bytes, cuts),
-        Which::Peek => read_by(alloc, &Peek {}, Name::TextStart, bytes, cuts),
-        Which::Deep => read_by(alloc, &Deep {}, Name::StringStart, bytes, cuts),
-        Which::Back => read_by(alloc, &Back {}, Name::TextStart, bytes, cuts),
-        Which::Save => read_by(alloc, &Save {}, Name::TextStart, bytes, cuts),
+        Which::Paragraphs => read_by(alloc, &Paragraphs {}, Name::FlowStart, bytes, tab, cuts),
+        Which::Peek => read_by(alloc, &Peek {}, Name::TextStart, bytes, tab, cuts),
+        Which::Deep => read_by(alloc, &Deep {}, Name::StringStart, bytes, tab, cuts),
+        Which::Back => read_by(alloc, &Back {}, Name::TextStart, bytes, tab, cuts),
+        Which::Save => read_by(alloc, &Save {}, Name::TextStart, bytes, tab, cuts),
     }
 }
 
-/// The events of a document, as a machine reads it from this start with the default options.
+/// The default options, with tab stops at every so many columns.
+pub(crate) fn options_with(tab: TabSize) -> ParseOptions
+    ensures { result ≡ options_with tab }
+{
+    ParseOptions {
+        tab_size: tab,
+        ..ParseOptions::default()
+    }
+}
+
+/// The events of a document, as a machine reads it from this start, with the default options but for the size of tabs.
 fn read_by<M: Machine>(
     alloc: Global,
     machine: &M,
     start: Name,
     bytes: &[u8],
+    tab: TabSize,
     cuts: &[(usize, usize)],
 ) -> Result<Vec<Event>, Failure>
-    requires limit { IsWithinLimit bytes.now }
-    requires start { Contains (M.rules machine.now (document bytes.now)).starts start }
-    requires cuts { AreCuts 4 bytes.now cuts.now }
-    ensures events { IfOk result (λ events. Gives (M.rules machine.now) start bytes.now events.items) }
-    ensures message { (m : _) → IsErrOf result (Failure.Message m) → IsRunRefused (document bytes.now) (M.rules machine.now) false start m }
+    requires limit { IsWithinLimit tab bytes.now }
+    requires start { Contains (M.rules machine.now (document tab bytes.now)).starts start }
+    requires cuts { AreCuts tab bytes.now cuts.now }
+    ensures events { IfOk result (λ events. Gives (M.rules machine.now) start tab bytes.now events.items) }
+    ensures message { (m : _) → IsErrOf result (Failure.Message m) → IsRunRefused (document tab bytes.now) (M.rules machine.now) false start m }
     ensures ready { ¬ IsErrOf result Failure.NotReady }
     ensures cause { IfErr result IsOfMaking }
 {
-    let options = ParseOptions::default();
+    let options = options_with(tab);
     let parse_state = ParseState {
         bytes,
         options: &options,
@@ -117,19 +128,20 @@ fn read_deep_by<M: Machine>(
     machine: &M,
     start: Name,
     bytes: &[u8],
+    tab: TabSize,
     cuts: &[(usize, usize)],
 ) -> Result<Vec<Event>, Failure>
-    requires limit { IsWithinLimit bytes.now }
-    requires start { Contains (M.rules machine.now (document bytes.now)).starts start }
-    requires text { Contains (M.rules machine.now (document bytes.now)).starts Name.TextStart }
-    requires cuts { AreCuts 4 bytes.now cuts.now }
-    ensures events { IfOk result (λ events. GivesDeep (M.rules machine.now) start bytes.now events.items) }
-    ensures message { (m : _) → IsErrOf result (Failure.Message m) → IsRefusedDeep (M.rules machine.now) start bytes.now m }
-    ensures unready { IsErrOf result Failure.NotReady → GivesUnready (M.rules machine.now) start bytes.now }
+    requires limit { IsWithinLimit tab bytes.now }
+    requires start { Contains (M.rules machine.now (document tab bytes.now)).starts start }
+    requires text { Contains (M.rules machine.now (document tab bytes.now)).starts Name.TextStart }
+    requires cuts { AreCuts tab bytes.now cuts.now }
+    ensures events { IfOk result (λ events. GivesDeep (M.rules machine.now) start tab bytes.now events.items) }
+    ensures message { (m : _) → IsErrOf result (Failure.Message m) → IsRefusedDeep (M.rules machine.now) start tab bytes.now m }
+    ensures unready { IsErrOf result Failure.NotReady → GivesUnready (M.rules machine.now) start tab bytes.now }
     ensures cause { IfErr result IsOfMaking }
 {
-    let events = read_by(alloc, machine, start, bytes, cuts)?;
-    with_children(alloc, machine, bytes, events)
+    let events = read_by(alloc, machine, start, bytes, tab, cuts)?;
+    with_children(alloc, machine, bytes, tab, events)
 }
 
 /// The events with the children of their chains of text in place of the chunks, each read from its start by the same machine.
@@ -137,19 +149,20 @@ fn with_children<M: Machine>(
     alloc: Global,
     machine: &M,
     bytes: &[u8],
+    tab: TabSize,
     mut events: Vec<Event>,
 ) -> Result<Vec<Event>, Failure>
-    requires limit { IsWithinLimit bytes.now }
-    requires start { Contains (M.rules machine.now (document bytes.now)).starts Name.TextStart }
-    ensures events { IfOk result (λ new. HasChildren (M.rules machine.now) bytes.now events.items new.items) }
-    ensures message { (m : _) → IsErrOf result (Failure.Message m) → HasRefusedChild (M.rules machine.now) bytes.now events.items m }
-    ensures unready { IsErrOf result Failure.NotReady → ¬ IsReady 4 bytes.now (Some Content.Text) events.items }
+    requires limit { IsWithinLimit tab bytes.now }
+    requires start { Contains (M.rules machine.now (document tab bytes.now)).starts Name.TextStart }
+    ensures events { IfOk result (λ new. HasChildren (M.rules machine.now) tab bytes.now events.items new.items) }
+    ensures message { (m : _) → IsErrOf result (Failure.Message m) → HasRefusedChild (M.rules machine.now) tab bytes.now events.items m }
+    ensures unready { IsErrOf result Failure.NotReady → ¬ IsReady tab bytes.now (Some Content.Text) events.items }
     ensures cause { IfErr result IsOfMaking }
 {
-    if !ready(alloc, events.as_slice(), bytes, Some(&Content::Text))? {
+    if !ready(alloc, events.as_slice(), bytes, tab, Some(&Content::Text))? {
         return Err(Failure::NotReady);
     }
-    let options = ParseOptions::default();
+    let options = options_with(tab);
     let parse_state = ParseState {
         bytes,
         options: &options,
@@ -165,13 +178,14 @@ fn with_children<M: Machine>(
 
 /// Where a document is cut.
 fn cuts_of(alloc: Global, bytes: &[u8], choice: &Choice) -> Result<Vec<(usize, usize)>, AllocError>
-    requires limit { IsWithinLimit bytes.now }
+    requires limit { IsWithinLimit choice.now.tab bytes.now }
     requires cut { CanCut choice.now }
     ensures places { IfOk result (λ cuts. cuts.items ≡ cut_places choice.now bytes.now) }
-    ensures cuts { IfOk result (λ cuts. AreCuts 4 bytes.now cuts.items) }
+    ensures cuts { IfOk result (λ cuts. AreCuts choice.now.tab bytes.now cuts.items) }
 {
+    let _ = choice.tab.get();
     match choice.cut {
-        Some(n) => cuts_every(alloc, bytes, n),
+        Some(n) => cuts_every(alloc, bytes, choice.tab, n),
         None => Ok(Vec::new(alloc)),
     }
 }
@@ -230,6 +244,7 @@ mod tests {
             cut: None,
             deep,
             machine,
+            tab: TabSize::default(),
         };
         let by_one = Choice {
             cut: Some(1),
@@ -277,6 +292,45 @@ mod tests {
         }
     }
 
+    const AFTER_TAB_OF_TWO: &[u8] =
+        b"enter Paragraph 1:1 (0+0)\nenter Data 1:1 (0+0)\nexit Data 1:4 (2+0)\nexit Paragraph 1:4 (2+0)\n";
+
+    const AFTER_TAB_OF_ONE: &[u8] =
+        b"enter Paragraph 1:1 (0+0)\nenter Data 1:1 (0+0)\nexit Data 1:3 (2+0)\nexit Paragraph 1:3 (2+0)\n";
+
+    const AFTER_TAB_OF_SIXTEEN: &[u8] =
+        b"enter Paragraph 1:1 (0+0)\nenter Data 1:1 (0+0)\nexit Data 1:18 (2+0)\nexit Paragraph 1:18 (2+0)\n";
+
+    /// Whether this is written for a tab and a byte, with tabs of this size, uncut and cut after each virtual byte.
+    fn writes_with_tabs(alloc: Global, size: usize, want: &[u8]) -> bool {
+        let Some(tab) = TabSize::new(size) else {
+            return false;
+        };
+        let uncut = Choice {
+            cut: None,
+            deep: false,
+            machine: Which::Lines,
+            tab,
+        };
+        let by_one = Choice {
+            cut: Some(1),
+            ..uncut
+        };
+        writes_as(alloc, b"\ta", &uncut, want) && writes_as(alloc, b"\ta", &by_one, want)
+    }
+
+    #[test]
+    fn tabs_have_the_chosen_size(rt: HostRuntime) {
+        for (size, want) in [
+            (1, AFTER_TAB_OF_ONE),
+            (2, AFTER_TAB_OF_TWO),
+            (4, AFTER_TAB),
+            (16, AFTER_TAB_OF_SIXTEEN),
+        ] {
+            assert!(rt; writes_with_tabs(rt.alloc(), size, want), "of size {size}");
+        }
+    }
+
     /// Whether this is written for a document of a byte, and then another one so often that there are so many in all.
     fn writes_long(
         alloc: Global,
@@ -319,6 +373,7 @@ mod tests {
             cut: None,
             deep: false,
             machine: Which::Lines,
+            tab: TabSize::default(),
         };
         match write_events(alloc, &mut reader, &mut written, &uncut) {
             Ok(()) => Ok(written),
@@ -344,7 +399,7 @@ mod tests {
         if bytes.len() > 100_000 {
             return Err(AllocError);
         }
-        let cuts = cuts_every(alloc, bytes.as_slice(), 1)?;
+        let cuts = cuts_every(alloc, bytes.as_slice(), TabSize::default(), 1)?;
         Ok((cuts.len(), cuts.last().copied().unwrap_or((0, 0))))
     }
 
@@ -359,7 +414,15 @@ mod tests {
     #[test]
     fn cuts_around_a_carriage_return_leave_no_trace(rt: HostRuntime) -> Result<(), AllocError> {
         let cuts = [(1, 0), (2, 0)];
-        let Ok(events) = read_by(rt.alloc(), &Lines {}, Name::FlowStart, b"a\r\nb", &cuts) else {
+        let tab = TabSize::default();
+        let Ok(events) = read_by(
+            rt.alloc(),
+            &Lines {},
+            Name::FlowStart,
+            b"a\r\nb",
+            tab,
+            &cuts,
+        ) else {
             return Err(AllocError);
         };
         let written = lines_of(rt.alloc(), events.as_slice())?;

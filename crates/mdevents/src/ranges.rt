@@ -58,7 +58,7 @@ fn reads<M: Machine>(
     want: &[u8],
 ) -> bool
     requires limit { 4 * length bytes.now + 1 < 2 ^ 64 }
-    requires start { Contains (M.rules machine.now (document bytes.now)).starts start }
+    requires start { Contains (M.rules machine.now (document 4 bytes.now)).starts start }
 {
     let seen = read_ranges(alloc, machine, start, bytes, ranges);
     lines(&seen) == want

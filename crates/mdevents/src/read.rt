@@ -1,55 +1,60 @@
 //! Reading input to its end.
 
-ghost use Rattle.std.specs.Prelude.{◌≡◌, ◌≢◌, ◌+◌, ◌<◌, ℕ, List, ◌++◌, length, true, false, IfOk, IfErr, OnOk, OnErr, IsErrOf, Ok};
+ghost use Rattle.std.specs.Prelude.{◌≡◌, ◌≢◌, ◌↔◌, ◌+◌, ◌*◌, ◌^◌, ◌≤◌, ◌<◌, ℕ, List, ◌++◌, length, true, false, IfOk, IfErr, OnOk, OnErr, IsErrOf, Ok};
 ghost use Rattle.std.specs.Io.KnownBytes.{Consumes, IsAtEnd};
 ghost use Rattle.mdevents.specs.Failure.{IsOfReading};
 ghost use Rattle.mdevents.specs.Reading.{IsWithinLimit, ReadsWithinLimit, ReadsPastLimit};
 
 use crate::failure::Failure;
+use markdown::configuration::TabSize;
 use std::alloc::Global;
 use std::io::Read;
 
-/// The most bytes that are read: four times as many, and one more, fit `usize`.
-const LIMIT: usize = (usize::MAX - 1) / 4;
+/// The most bytes that are read: the size of tabs times as many, and one more, fit `usize`.
+fn limit_of(tab: TabSize) -> usize
+    ensures { (n : _) → (n ≤ result) ↔ (tab * n + 1 < 2 ^ 64) }
+{
+    (usize::MAX - 1) / tab.get()
+}
 
 /// Reads to the end: to a read that gives nothing. Any error of the reader is `Failure::Read`, and it is
-/// `Failure::TooLong` as soon as what was read is past the limit, so it ends over every reader.
+/// `Failure::TooLong` as soon as what was read is past the limit, which depends on the size of tabs, so it ends over every reader.
 ///
 /// Where it fails the reader has lost what was read so far.
-pub fn read_to_end<R: Read>(alloc: Global, reader: &mut R) -> Result<Vec<u8>, Failure>
+pub fn read_to_end<R: Read>(alloc: Global, reader: &mut R, tab: TabSize) -> Result<Vec<u8>, Failure>
     ensures all { IfOk result (λ bytes. Consumes (R.remaining reader.old) (R.remaining reader.new) bytes.items) }
     ensures end { OnOk result (IsAtEnd (R.remaining reader.new)) }
-    ensures within { IfOk result (λ bytes. IsWithinLimit bytes.items) }
-    ensures too_long { IsErrOf result Failure.TooLong → ReadsPastLimit (R.remaining reader.old) (R.remaining reader.new) }
+    ensures within { IfOk result (λ bytes. IsWithinLimit tab bytes.items) }
+    ensures too_long { IsErrOf result Failure.TooLong → ReadsPastLimit tab (R.remaining reader.old) (R.remaining reader.new) }
     ensures failed { OnErr result ((bytes : List ℕ) × Consumes (R.remaining reader.old) (R.remaining reader.new) bytes) }
-    ensures within_else { IfErr result (λ failure. failure ≢ Failure.TooLong → ReadsWithinLimit (R.remaining reader.old) (R.remaining reader.new)) }
+    ensures within_else { IfErr result (λ failure. failure ≢ Failure.TooLong → ReadsWithinLimit tab (R.remaining reader.old) (R.remaining reader.new)) }
     ensures cause { IfErr result IsOfReading }
 {
     let mut bytes = Vec::new(alloc);
-    'reading: while read_more(reader, &mut bytes)? {}
+    'reading: while read_more(reader, &mut bytes, tab)? {}
     Ok(bytes)
 }
 
 /// Reads once, and appends what came. Whether anything came.
-fn read_more<R: Read>(reader: &mut R, bytes: &mut Vec<u8>) -> Result<bool, Failure>
-    requires { IsWithinLimit bytes.old.items }
+fn read_more<R: Read>(reader: &mut R, bytes: &mut Vec<u8>, tab: TabSize) -> Result<bool, Failure>
+    requires { IsWithinLimit tab bytes.old.items }
     ensures appends { OnOk result ((piece : List ℕ) × (bytes.new.items ≡ bytes.old.items ++ piece)
         × Consumes (R.remaining reader.old) (R.remaining reader.new) piece) }
     ensures grows { result ≡ Ok true → length bytes.old.items < length bytes.new.items }
     ensures end { result ≡ Ok false → IsAtEnd (R.remaining reader.new) }
-    ensures within { OnOk result (IsWithinLimit bytes.new.items) }
+    ensures within { OnOk result (IsWithinLimit tab bytes.new.items) }
     ensures too_long { IsErrOf result Failure.TooLong → (piece : List ℕ)
-        × Consumes (R.remaining reader.old) (R.remaining reader.new) piece × ¬ IsWithinLimit (bytes.old.items ++ piece) }
+        × Consumes (R.remaining reader.old) (R.remaining reader.new) piece × ¬ IsWithinLimit tab (bytes.old.items ++ piece) }
     ensures failed { OnErr result ((piece : List ℕ) × Consumes (R.remaining reader.old) (R.remaining reader.new) piece) }
     ensures within_else { IfErr result (λ failure. failure ≢ Failure.TooLong → (piece : List ℕ)
-        × Consumes (R.remaining reader.old) (R.remaining reader.new) piece × IsWithinLimit (bytes.old.items ++ piece)) }
+        × Consumes (R.remaining reader.old) (R.remaining reader.new) piece × IsWithinLimit tab (bytes.old.items ++ piece)) }
     ensures cause { IfErr result IsOfReading }
 {
     let mut piece = [0u8; 4096];
     let Ok(count) = reader.read(&mut piece) else {
         return Err(Failure::Read);
     };
-    if count > LIMIT - bytes.len() {
+    if count > limit_of(tab) - bytes.len() {
         return Err(Failure::TooLong);
     }
     bytes.extend_from_slice(&piece[..count])?;
@@ -64,7 +69,7 @@ mod tests {
     /// Whether all of a text is read, where the read after so many good ones fails.
     fn reads_all(alloc: Global, good_reads: usize) -> Result<bool, Failure> {
         let mut reader = FailingReader::new(b"a\r\nb", good_reads, Fault::ErrorOnce);
-        let all = read_to_end(alloc, &mut reader)?;
+        let all = read_to_end(alloc, &mut reader, TabSize::default())?;
         Ok(all.as_slice() == b"a\r\nb".as_slice())
     }
 

@@ -5,8 +5,9 @@ ghost use Rattle.mdevents.specs.Program.{document};
 
 use crate::driven::{Pushed, Seen, after_push, gives, read_cut};
 use crate::expected::{ONE_DATA, SHORT_DATA, THREE_DATA, TWO_LINES};
-use crate::tab_stops::cuts_every;
+use markdown::configuration::TabSize;
 use markdown::state::{Machine, Name};
+use markdown::tokenizer::cuts_every;
 use mdconstructs::deep::Deep;
 use mdconstructs::lines::Lines;
 use mdconstructs::peek::Peek;
@@ -24,7 +25,7 @@ fn reads<M: Machine>(
     want: &[u8],
 ) -> bool
     requires limit { 4 * length bytes.now + 1 < 2 ^ 64 }
-    requires start { Contains (M.rules machine.now (document bytes.now)).starts start }
+    requires start { Contains (M.rules machine.now (document 4 bytes.now)).starts start }
 {
     let seen = read_cut(alloc, machine, start, bytes, cuts);
     gives(&seen, calls, want)
@@ -124,7 +125,8 @@ fn attempts(alloc: Global, bytes: &[u8], cut: usize) -> Option<Seen>
     requires limit { 4 * length bytes.now + 1 < 2 ^ 64 }
     requires cut { 1 ≤ cut }
 {
-    let cuts = cuts_every(alloc, bytes, cut).ok()?;
+    let tab = TabSize::default();
+    let cuts = cuts_every(alloc, bytes, tab, cut).ok()?;
     read_cut(alloc, &Deep {}, Name::StringStart, bytes, cuts.as_slice())
 }
 

@@ -1,27 +1,37 @@
 //! Reads and writes that fail, each in its turn. A body that tries again after one that failed ends well too early.
 
+ghost use Rattle.std.specs.Prelude.{◌≡◌, None};
+
 use crate::expected::{PEEKED, TWO_LINES};
 use crate::failure::Failure;
 use crate::fakes::{FailingReader, FailingWriter, Fault, Line};
 use crate::program::write_events;
 use crate::words::{Choice, Which};
+use markdown::configuration::TabSize;
 use std::alloc::Global;
 
 const DOCUMENT: &[u8] = b"a\r\nb";
 
-const UNCUT: Choice = Choice {
-    cut: None,
-    deep: false,
-    machine: Which::Lines,
-};
+/// The choice of no words.
+fn uncut() -> Choice
+    ensures { result.cut ≡ None }
+{
+    Choice {
+        cut: None,
+        deep: false,
+        machine: Which::Lines,
+        tab: TabSize::default(),
+    }
+}
 
 /// Fails the read after each number of good ones, until a run ends well: how many good reads that takes. `None` where a run
 /// that failed wrote something, or did not fail by the reader.
 fn reads_of_a_run(alloc: Global, fault: Fault) -> Option<usize> {
+    let uncut = uncut();
     for good_reads in 0..100 {
         let mut reader = FailingReader::new(DOCUMENT, good_reads, fault);
         let mut written = Line::new();
-        match write_events(alloc, &mut reader, &mut written, &UNCUT) {
+        match write_events(alloc, &mut reader, &mut written, &uncut) {
             Ok(()) => return (written.text() == TWO_LINES).then_some(good_reads),
             Err(Failure::Read) if written.text().is_empty() => {}
             Err(_) => return None,
@@ -41,10 +51,11 @@ fn each_read_fails_in_turn(rt: HostRuntime) {
 /// Fails the write after each number of good ones, of a byte each, until a run ends well: how many good writes that takes.
 /// `None` where a run that failed wrote more or less than a beginning of that many bytes, or did not fail by the writer.
 fn writes_of_a_run(alloc: Global, fault: Fault) -> Option<usize> {
+    let uncut = uncut();
     for good_writes in 0..400 {
         let mut reader = DOCUMENT;
         let mut writer = FailingWriter::new(1, good_writes, fault);
-        let result = write_events(alloc, &mut reader, &mut writer, &UNCUT);
+        let result = write_events(alloc, &mut reader, &mut writer, &uncut);
         if writer.written.text() != beginning(good_writes) {
             return None;
         }
@@ -81,6 +92,7 @@ fn peeks(alloc: Global, cut: usize) -> bool {
         cut: Some(cut.max(1)),
         deep: false,
         machine: Which::Peek,
+        tab: TabSize::default(),
     };
     let mut reader = b"a\tb\r\n\tc".as_slice();
     let mut written = Line::new();

@@ -1,11 +1,13 @@
 //! The words that the program is called with.
 
-ghost use Rattle.std.specs.Prelude.{◌≡◌, ◌≤◌, IfSome, map, string_bytes, codes};
+ghost use Rattle.std.specs.Prelude.{◌≡◌, ◌≤◌, IfSome, map, string_bytes, codes, unwrap_or};
 ghost use Rattle.std.specs.Char.{is_ascii_digit};
 ghost use Rattle.std.specs.List.{list_all};
 
+use markdown::configuration::TabSize;
+
 /// The line that answers words which choose nothing.
-pub const USAGE: &str = "usage: mdevents [--cut n] [--deep] [--machine name]";
+pub const USAGE: &str = "usage: mdevents [--cut n] [--deep] [--machine name] [--tab n]";
 
 /// A machine, by the name that the program has for it.
 #[derive(Clone, Copy, Debug, PartialEq, Eq)]
@@ -34,24 +36,26 @@ pub struct Choice {
     pub deep: bool,
     /// The machine that reads.
     pub machine: Which,
+    /// At how many columns tab stops stand.
+    pub tab: TabSize,
 }
 
-ghost use Rattle.mdevents.specs.Words.{chosen, taken, links_text, which_of, number_of, CanCut};
+ghost use Rattle.mdevents.specs.Words.{chosen, taken, links_text, which_of, number_of, tab_of, CanCut};
 ghost use Rattle.mdevents.specs.WordsInner.{chosen_after};
 
-/// What the words after the program's name choose: `--cut` with a number, `--deep`, and `--machine` with a name, in any order,
-/// each at most once. The machine is that of lines where none is named; `--deep` is taken with that of paragraphs alone. None
-/// asks for [`USAGE`].
+/// What the words after the program's name choose: `--cut` with a number, `--deep`, `--machine` with a name, and `--tab` with a
+/// number from 1 to 16, in any order, each at most once. The machine is that of lines where none is named, and tab stops stand at
+/// every 4 columns where no number is given; `--deep` is taken with the machine of paragraphs alone. None asks for [`USAGE`].
 pub fn read_words(words: &[String]) -> Option<Choice>
     ensures chosen { result ≡ chosen (map string_bytes words.now) }
     ensures cut { IfSome result CanCut }
 {
-    read_options(words, None, false, None)
+    read_options(words, None, false, None, None)
 }
 
 /// The line that answers words which choose nothing has this text.
 pub fn usage_line_stays()
-    ensures { USAGE.now ≡ codes "usage: mdevents [--cut n] [--deep] [--machine name]" }
+    ensures { USAGE.now ≡ codes "usage: mdevents [--cut n] [--deep] [--machine name] [--tab n]" }
 {}
 
 /// The rest of the words, where some options came before.
@@ -60,40 +64,54 @@ fn read_options(
     cut: Option<usize>,
     deep: bool,
     machine: Option<Which>,
+    tab: Option<TabSize>,
 ) -> Option<Choice>
     requires cut { IfSome cut (λ n. 1 ≤ n) }
-    ensures chosen { result ≡ chosen_after cut deep machine (map string_bytes words.now) }
+    ensures chosen { result ≡ chosen_after cut deep machine tab (map string_bytes words.now) }
     ensures cut { IfSome result CanCut }
 {
     let Some((option, rest)) = words.split_first() else {
-        return taken(cut, deep, machine.unwrap_or(Which::Lines));
+        return taken(cut, deep, machine.unwrap_or(Which::Lines), tab);
     };
     let option = option.as_str();
     if option == "--deep" && !deep {
-        return read_options(rest, cut, true, machine);
+        return read_options(rest, cut, true, machine, tab);
     }
     let (value, rest) = rest.split_first()?;
     if option == "--cut" && cut.is_none() {
         let n = read_number(value.as_str())?;
-        return read_options(rest, Some(n), deep, machine);
+        return read_options(rest, Some(n), deep, machine, tab);
     }
     if option == "--machine" && machine.is_none() {
         let which = read_which(value.as_str())?;
-        return read_options(rest, cut, deep, Some(which));
+        return read_options(rest, cut, deep, Some(which), tab);
+    }
+    if option == "--tab" && tab.is_none() {
+        let size = read_tab(value.as_str())?;
+        return read_options(rest, cut, deep, machine, Some(size));
     }
     None
 }
 
 /// The choice of these, if they are taken together.
-fn taken(cut: Option<usize>, deep: bool, machine: Which) -> Option<Choice>
+fn taken(cut: Option<usize>, deep: bool, machine: Which, tab: Option<TabSize>) -> Option<Choice>
     requires cut { IfSome cut (λ n. 1 ≤ n) }
-    ensures taken { result ≡ taken cut deep machine }
+    ensures taken { result ≡ taken cut deep machine (unwrap_or tab 4) }
     ensures cut { IfSome result CanCut }
 {
     if deep && !links_text(machine) {
         return None;
     }
-    Some(Choice { cut, deep, machine })
+    let tab = match tab {
+        Some(size) => size,
+        None => TabSize::default(),
+    };
+    Some(Choice {
+        cut,
+        deep,
+        machine,
+        tab,
+    })
 }
 
 /// Whether a machine links chunks of text.
@@ -139,6 +157,14 @@ fn read_number(word: &str) -> Option<usize>
         Ok(number) => (number > 0).then_some(number),
         Err(_) => None,
     }
+}
+
+/// The size of tabs that a word of decimal digits has, if its number is from 1 to 16.
+fn read_tab(word: &str) -> Option<TabSize>
+    ensures { result ≡ tab_of word.now }
+{
+    let number = read_number(word)?;
+    TabSize::new(number)
 }
 
 /// Whether a word has no bytes but decimal digits.
@@ -199,12 +225,41 @@ mod tests {
     #[test]
     fn words_choose(rt: HostRuntime) {
         for (text, cut, deep, machine) in CHOSEN {
-            let want = Some(Choice { cut, deep, machine });
+            let want = Some(Choice {
+                cut,
+                deep,
+                machine,
+                tab: TabSize::default(),
+            });
             assert!(rt; choose(rt.alloc(), text, want), "{text}");
         }
     }
 
-    const REFUSED: [&str; 15] = [
+    /// Words that choose a size of tabs, and its number.
+    const TABS: [(&str, usize); 5] = [
+        ("--tab 1", 1),
+        ("--tab 2", 2),
+        ("--tab 004", 4),
+        ("--tab 16", 16),
+        ("--machine paragraphs --tab 3 --deep --cut 1", 3),
+    ];
+
+    #[test]
+    fn words_choose_the_size_of_tabs(rt: HostRuntime) -> Result<(), AllocError> {
+        for (text, size) in TABS {
+            let chosen = choice_of(rt.alloc(), text)?;
+            let chosen = chosen.map(|choice| choice.tab);
+            assert!(rt; chosen.is_some() && chosen == TabSize::new(size), "{text}");
+        }
+        Ok(())
+    }
+
+    const REFUSED: [&str; 20] = [
+        "--tab 0",
+        "--tab 17",
+        "--tab",
+        "--tab +2",
+        "--tab 2 --tab 2",
         "--cut 18446744073709551616",
         "--cut 0",
         "--cut +1",

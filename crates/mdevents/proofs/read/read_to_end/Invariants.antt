@@ -7,7 +7,7 @@ use Rattle.mdevents.proofs.read.read_to_end.Given as goal
 abbrev pub invariant-reading : goal.invariant-reading
 invariant-reading g l = record {
   taken : Consumes (g.R.Read.remaining l.initial.reader) (g.R.Read.remaining l.reader) l.bytes.items;
-  within : IsWithinLimit l.bytes.items;
+  within : IsWithinLimit l.fn.tab l.bytes.items;
 }
 
 -- how far the bytes are below the limit
