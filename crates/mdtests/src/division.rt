@@ -9,10 +9,10 @@ ghost use Rattle.mdchildren.specs.Laws.{HasEndsWithin};
 use crate::chunks::Row::{Chunk, Enter, Exit};
 use crate::chunks::{EMPTY_CHUNK, QUOTE, Row, listed};
 use crate::shown::shown;
-use crate::tab_stops::ready;
+use markdown::configuration::TabSize;
 use markdown::event::{Content, Event, Name};
 use markdown::util::edit_map::EditMap;
-use mdchildren::subtokenize::divide_events;
+use mdchildren::subtokenize::{divide_events, ready};
 use std::alloc::{AllocError, Global};
 
 /// Whether a chain begins at an index.
@@ -69,7 +69,8 @@ fn edits_of(
     requires limit { 4 * length bytes.now + 1 < 2 ^ 64 }
     ensures { IfOk result (λ o. IfSome o (λ r. AreDisjoint 0 r.1 (length events.now) × All (EndsBelow (length events.now)) events.now)) }
 {
-    if !ready(alloc, events, bytes, None)? {
+    let tab_size = TabSize::default();
+    if !ready(alloc, events, bytes, tab_size, None)? {
         return Ok(None);
     }
     if index >= events.len() {

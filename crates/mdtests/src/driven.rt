@@ -25,9 +25,9 @@ pub fn read<M: Machine>(
     resolve: bool,
     resolvers: &[M::Resolver],
 ) -> Result<(), AllocError>
-    requires limit { 4 * length parse_state.now.bytes.now + 1 < 2 ^ 64 }
-    requires start { Contains (M.rules parse_state.now.machine.now (given_of 4 parse_state.now)).starts start }
-    requires cut { AreCuts 4 parse_state.now.bytes.now (cut ∷ []) }
+    requires limit { parse_state.now.options.now.tab_size * length parse_state.now.bytes.now + 1 < 2 ^ 64 }
+    requires start { Contains (M.rules parse_state.now.machine.now (given_of parse_state.now)).starts start }
+    requires cut { AreCuts parse_state.now.options.now.tab_size parse_state.now.bytes.now (cut ∷ []) }
 {
     let point = Point {
         line: 1,
@@ -35,6 +35,7 @@ pub fn read<M: Machine>(
         index: 0,
         vs: 0,
     };
+    let _ = parse_state.options.tab_size.get();
     let mut tokenizer = Tokenizer::new(alloc, point, parse_state);
     let read = read_new(
         text,
@@ -59,12 +60,13 @@ fn read_new<M: Machine>(
     resolve: bool,
     resolvers: &[M::Resolver],
 ) -> Result<(), AllocError>
-    requires begins { tokenizer.old ≡ start_seen (given_of 4 parse_state.now) parse_state.now.machine.now (empty_text (point 1 1 0 0)) }
+    requires begins { tokenizer.old ≡ start_seen (given_of parse_state.now) parse_state.now.machine.now (empty_text (point 1 1 0 0)) }
     requires bytes { All (λ b. b < 256) parse_state.now.bytes.now }
-    requires limit { 4 * length parse_state.now.bytes.now + 1 < 2 ^ 64 }
-    requires start { Contains (M.rules parse_state.now.machine.now (given_of 4 parse_state.now)).starts start }
-    requires cut { AreCuts 4 parse_state.now.bytes.now (cut ∷ []) }
+    requires limit { parse_state.now.options.now.tab_size * length parse_state.now.bytes.now + 1 < 2 ^ 64 }
+    requires start { Contains (M.rules parse_state.now.machine.now (given_of parse_state.now)).starts start }
+    requires cut { AreCuts parse_state.now.options.now.tab_size parse_state.now.bytes.now (cut ∷ []) }
 {
+    let _ = parse_state.options.tab_size.get();
     let first = push_shown(text, tokenizer, (0, 0), cut, State::Next(start), start)?;
     let end = (parse_state.bytes.len(), 0);
     let second = push_shown(text, tokenizer, cut, end, first, start)?;

@@ -58,7 +58,6 @@ mod subtokenize;
 #[cfg(test)]
 mod tab_sizes;
 #[cfg(test)]
-mod tab_stops;
 #[cfg(test)]
 mod texts;
 #[cfg(test)]

@@ -24,7 +24,7 @@ pub(crate) fn lines_of<M: Machine>(
     bytes: &[u8],
 ) -> Result<String, AllocError>
     requires limit { 4 * length bytes.now + 1 < 2 ^ 64 }
-    requires start { Contains (M.rules machine.now (given_by 4 bytes.now default_parse_options)).starts start }
+    requires start { Contains (M.rules machine.now (given_by bytes.now default_parse_options)).starts start }
 {
     lines_by(alloc, machine, start, bytes, false)
 }
@@ -38,7 +38,7 @@ pub(crate) fn lines_by<M: Machine>(
     resolve: bool,
 ) -> Result<String, AllocError>
     requires limit { 4 * length bytes.now + 1 < 2 ^ 64 }
-    requires start { Contains (M.rules machine.now (given_by 4 bytes.now default_parse_options)).starts start }
+    requires start { Contains (M.rules machine.now (given_by bytes.now default_parse_options)).starts start }
 {
     let options = ParseOptions::default();
     let parse_state = ParseState {

@@ -47,8 +47,9 @@ fn has_read_nothing(t: &Tokenizer<Types>) -> bool {
 
 /// Whether a new tokenizer is read as one that has read nothing, and gives no event.
 fn is_new(alloc: Global, parse_state: &ParseState<Types>) -> bool
-    requires limit { 4 * length parse_state.now.bytes.now + 1 < 2 ^ 64 }
+    requires limit { parse_state.now.options.now.tab_size * length parse_state.now.bytes.now + 1 < 2 ^ 64 }
 {
+    let _ = parse_state.options.tab_size.get();
     let t = Tokenizer::new(alloc, START, parse_state);
     let is_new = has_read_nothing(&t);
     let events = t.into_events();

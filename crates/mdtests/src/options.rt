@@ -23,7 +23,7 @@ fn shows_options(rt: HostRuntime) -> Result<(), AllocError> {
         label_start_link: true, label_end: true, list_item: true, math_flow: false, math_text: false, \
         mdx_esm: false, mdx_expression_flow: false, mdx_expression_text: false, mdx_jsx_flow: false, \
         mdx_jsx_text: false, thematic_break: true }, gfm_strikethrough_single_tilde: true, \
-        math_text_single_dollar: true }";
+        math_text_single_dollar: true, tab_size: 4 }";
     assert_eq!(rt; shown.as_str(), want);
     Ok(())
 }
@@ -121,6 +121,17 @@ fn presets_of_documents_differ_where_they_say(rt: HostRuntime) {
     assert!(rt; !common.parse.constructs.gfm_table && github.parse.constructs.gfm_table);
     assert!(rt; github.parse.constructs.html_flow);
     assert!(rt; !common.compile.gfm_tagfilter && github.compile.gfm_tagfilter);
+}
+
+#[test]
+fn presets_have_tab_stops_at_every_four_columns(rt: HostRuntime) {
+    for options in [
+        ParseOptions::default(),
+        ParseOptions::gfm(),
+        ParseOptions::mdx(),
+    ] {
+        assert_eq!(rt; options.tab_size.get(), 4);
+    }
 }
 
 #[test]

@@ -4,10 +4,9 @@ use crate::chunks::Row::{Chunk, Enter, Exit};
 use crate::chunks::{
     CHAIN_AROUND_ANOTHER, CHAIN_AROUND_CHILDREN, Place, QUOTE, Row, TWO_CHUNKS, listed,
 };
-use crate::tab_stops::ready;
-use markdown::configuration::Constructs;
+use markdown::configuration::{Constructs, TabSize};
 use markdown::event::{Content, Name};
-use mdchildren::subtokenize::at_first_paragraph_of_list_item;
+use mdchildren::subtokenize::{at_first_paragraph_of_list_item, ready};
 use std::alloc::{AllocError, Global};
 
 /// The content of the chains that fit.
@@ -27,7 +26,8 @@ fn is_ready(
         return Err(AllocError);
     }
     let events = listed(alloc, list)?;
-    ready(alloc, events.as_slice(), bytes, filter.as_ref())
+    let tab_size = TabSize::default();
+    ready(alloc, events.as_slice(), bytes, tab_size, filter.as_ref())
 }
 
 /// Where the text begins.
@@ -126,7 +126,16 @@ fn chunks_are_void(rt: HostRuntime) -> Result<(), AllocError> {
     for event in events.as_mut_slice() {
         event.name = Name::Emphasis;
     }
-    assert!(rt; !ready(rt.alloc(), events.as_slice(), b"", Some(&Content::String))?);
+    let tab_size = TabSize::default();
+    assert!(rt;
+        !ready(
+            rt.alloc(),
+            events.as_slice(),
+            b"",
+            tab_size,
+            Some(&Content::String)
+        )?
+    );
     Ok(())
 }
 
@@ -156,7 +165,8 @@ fn first_paragraph(
 ) -> Result<Option<bool>, AllocError> {
     let events = listed(alloc, list)?;
     let events = events.as_slice();
-    if index >= events.len() || !ready(alloc, events, b"", Some(&Content::Flow))? {
+    let tab_size = TabSize::default();
+    if index >= events.len() || !ready(alloc, events, b"", tab_size, Some(&Content::Flow))? {
         return Ok(None);
     }
     Ok(Some(at_first_paragraph_of_list_item(events, index, constructs)))

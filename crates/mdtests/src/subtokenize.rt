@@ -8,12 +8,11 @@ ghost use Rattle.mdchildren.specs.Reads.{start_name};
 use crate::chunks::Row::{Chunk, Enter, Exit};
 use crate::chunks::{CHAIN_AROUND_ANOTHER, CHAIN_AROUND_CHILDREN, EMPTY_CHUNK, QUOTE, Row, listed};
 use crate::shown::{push_answer, push_lines};
-use crate::tab_stops::ready;
 use markdown::configuration::ParseOptions;
 use markdown::event::{Content, Event, Name};
 use markdown::parser::ParseState;
 use markdown::state::{self, Machine};
-use mdchildren::subtokenize::subtokenize;
+use mdchildren::subtokenize::{ready, subtokenize};
 use mdconstructs::deep::Deep;
 use mdconstructs::fail::Fail;
 use mdconstructs::paragraphs::Paragraphs;
@@ -32,12 +31,18 @@ fn put_children<M: Machine>(
 ) -> Result<(), AllocError>
     requires limit { 4 * length bytes.now + 1 < 2 ^ 64 }
     requires name { start_name content ≡ Some start }
-    requires start { Contains (M.rules machine.now (given_by 4 bytes.now default_parse_options)).starts start }
+    requires start { Contains (M.rules machine.now (given_by bytes.now default_parse_options)).starts start }
 {
-    if !ready(alloc, events.as_slice(), bytes, Some(&content))? {
+    let options = ParseOptions::default();
+    if !ready(
+        alloc,
+        events.as_slice(),
+        bytes,
+        options.tab_size,
+        Some(&content),
+    )? {
         return text.push_str("not ready\n");
     }
-    let options = ParseOptions::default();
     let parse_state = ParseState {
         bytes,
         options: &options,
@@ -60,7 +65,7 @@ pub(crate) fn with_children<M: Machine>(
 ) -> Result<String, AllocError>
     requires limit { 4 * length bytes.now + 1 < 2 ^ 64 }
     requires name { start_name content ≡ Some start }
-    requires start { Contains (M.rules machine.now (given_by 4 bytes.now default_parse_options)).starts start }
+    requires start { Contains (M.rules machine.now (given_by bytes.now default_parse_options)).starts start }
 {
     let mut events = listed(alloc, list)?;
     told_children(alloc, &mut events, bytes, machine, content, start)
@@ -77,7 +82,7 @@ fn told_children<M: Machine>(
 ) -> Result<String, AllocError>
     requires limit { 4 * length bytes.now + 1 < 2 ^ 64 }
     requires name { start_name content ≡ Some start }
-    requires start { Contains (M.rules machine.now (given_by 4 bytes.now default_parse_options)).starts start }
+    requires start { Contains (M.rules machine.now (given_by bytes.now default_parse_options)).starts start }
 {
     let mut text = String::new(alloc);
     put_children(alloc, &mut text, events, bytes, machine, content, start)?;

@@ -82,8 +82,9 @@ fn begun(
     text: &mut String,
     parse_state: &ParseState<Types>,
 ) -> Result<(), AllocError>
-    requires limit { 4 * length parse_state.now.bytes.now + 1 < 2 ^ 64 }
+    requires limit { parse_state.now.options.now.tab_size * length parse_state.now.bytes.now + 1 < 2 ^ 64 }
 {
+    let _ = parse_state.options.tab_size.get();
     let mut tokenizer = Tokenizer::new(alloc, START, parse_state);
     let pushed = push_all(text, &mut tokenizer);
     drop(tokenizer);

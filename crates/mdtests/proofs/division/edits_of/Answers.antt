@@ -1,4 +1,4 @@
-use Rattle.std.proofs.Common.{None, [], ◌++◌, List, length, refl, sym, ◌∙◌, ap, subst, arith}
+use Rattle.std.proofs.Common.{◌+◌, ◌*◌, ◌^◌, ◌<◌, ℕ, None, [], ◌++◌, List, length, refl, sym, ◌∙◌, ap, subst, arith}
 use Rattle.markdown_base.specs.declared.event.Event.{Event}
 use Rattle.markdown.specs.Edits.{Edit, AreDisjoint}
 use Rattle.mdchildren.specs.Laws.{HasEndsWithin}
@@ -6,13 +6,16 @@ use Rattle.mdchildren.specs.Parts.{divided, chain_edits}
 use Rattle.mdchildren.proofs.Forward.{forward-chain, within, one-chain-disjoint, ends-inside}
 use Rattle.mdtests.proofs.division.edits_of.Goals as goal
 
+pub ready-requires : goal.ready-requires
+ready-requires c = record { limit = subst (λ (t : ℕ). t * length c.args.bytes.now + 1 < 2 ^ 64) (sym c.default-tab_size.ensures) c.requires.limit }
+
 pub divide_events-requires-clause-chain : goal.divide_events-requires-clause-chain
 divide_events-requires-clause-chain c =
-    forward-chain 4 c.args.bytes.now None c.args.events.now (c.in_ok-ready.ensures.0 c.if-not-branch.false) c.args.index (sym c.begins_at.ensures ∙ c.if-not-begins_at.false)
+    forward-chain c.default-tab_size.result c.args.bytes.now None c.args.events.now (c.in_ok-ready.ensures.0 c.if-not-branch.false) c.args.index (sym c.begins_at.ensures ∙ c.if-not-begins_at.false)
 
 pub divide_events-requires-clause-within : goal.divide_events-requires-clause-within
 divide_events-requires-clause-within c =
-    within 4 c.args.bytes.now None c.args.events.now (c.in_ok-ready.ensures.0 c.if-not-branch.false) c.args.index (sym c.begins_at.ensures ∙ c.if-not-begins_at.false)
+    within c.default-tab_size.result c.args.bytes.now None c.args.events.now (c.in_ok-ready.ensures.0 c.if-not-branch.false) c.args.index (sym c.begins_at.ensures ∙ c.if-not-begins_at.false)
 
 pub divide_events-requires-clause-before : goal.divide_events-requires-clause-before
 divide_events-requires-clause-before c = rw c.new-map.ensures (record { disjoint = omega arith; below = tt })
@@ -28,6 +31,6 @@ returns c =
     let r = c.in_ok-ready.ensures.0 c.if-not-branch.false in
     let child = c.args.child.now.items in
     let is = c.in_ok-sums.ensures.ok ∙ ap (λ (es : List Edit). es ++ chain_edits 0 0 (divided c.args.events.now c.args.index child)) c.new-map.ensures in (
-      subst (λ (es : List Edit). AreDisjoint 0 es (length c.args.events.now)) (sym is) (one-chain-disjoint 4 c.args.bytes.now None c.args.events.now r c.args.index 0 0 (sym c.begins_at.ensures ∙ c.if-not-begins_at.false) child),
-      ends-inside 4 c.args.bytes.now None c.args.events.now r,
+      subst (λ (es : List Edit). AreDisjoint 0 es (length c.args.events.now)) (sym is) (one-chain-disjoint c.default-tab_size.result c.args.bytes.now None c.args.events.now r c.args.index 0 0 (sym c.begins_at.ensures ∙ c.if-not-begins_at.false) child),
+      ends-inside c.default-tab_size.result c.args.bytes.now None c.args.events.now r,
     )

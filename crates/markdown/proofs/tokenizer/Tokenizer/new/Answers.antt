@@ -1,4 +1,4 @@
-use Rattle.std.proofs.Common.{refl, arith}
+use Rattle.std.proofs.Common.{refl}
 use Rattle.markdown.proofs.Fields.{read-start}
 use Rattle.markdown.proofs.Runs.{apart-by}
 use Rattle.markdown.proofs.Changes.{start-end, start-empty, start-found, start-text, start-made}
