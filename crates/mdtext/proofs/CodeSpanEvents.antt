@@ -14,7 +14,7 @@ use Rattle.mdtext.specs.TextEvents.{event, leaf, span, piece_events, pieces, ite
 use Rattle.mdtext.proofs.Cutting.{cut-enough}
 use Rattle.mdtext.proofs.LineEndings.{at-front}
 use Rattle.mdtext.proofs.RunsPieces.{piece-positive}
-use Rattle.mdtext.proofs.CodeSpanSteps.{end-behind}
+use Rattle.mdtext.proofs.CodeSpanSteps.{span-is}
 use Rattle.mdtext.proofs.CodeSpanCalls.{enter_at, exit_at}
 use Rattle.mdtext.proofs.CodeSpanCuts.{cut_pieces}
 
@@ -44,14 +44,6 @@ module _ (k m : ℕ) (l : List Seat) where
       ∙ cut-enough (piece_at is_backtick_or_line_feed) piece_length (piece-positive is_backtick_or_line_feed) (length (take m (drop k l))) bound (take m (drop k l)) (omega arith) h
 
 module _ (g : Given) (text : Text) where
-  -- a span with events in it
-  span-is : (name : EventName) (within : List Event) (n q : ℕ) (s : Seat) (ss : List Seat) → drop q text.seats ≡ s ∷ ss → 0 < n → n ≤ suc (length ss)
-      → enter_at g text name q ∷ (within ++ exit_at g text name (q + n) ∷ []) ≡ span g.bytes name (take n (s ∷ ss)) within
-  span-is name within zero q s ss at some h = absurd (omega (arith, some))
-  span-is name within (suc n) q s ss at some h =
-      ap (λ o. event g.bytes Enter name (point_or text.end o) ∷ (within ++ event g.bytes Exit name (end_place text (q + suc n)) ∷ [])) (at-front text.seats q s ss at)
-      ∙ ap (λ e. event g.bytes Enter name s.point ∷ (within ++ event g.bytes Exit name e ∷ [])) (end-behind g text n q s ss at (omega (arith, h)))
-
   -- The events of the first run, of the pieces and of the last run are those of the code span
   pub code-span-events : (k m bound p : ℕ) (s : Seat) (ss : List Seat) (events : List Event) → drop p text.seats ≡ s ∷ ss → 0 < k → k + m + k ≤ suc (length ss) → length (drop k (s ∷ ss)) ≤ bound
       → ((events ++ enter_at g text CodeText p ∷ leaf g.bytes CodeTextSequence (take k (s ∷ ss))) ++ flat_map (piece_events g.bytes CodeTextData) (cut_pieces bound (take m (drop k (s ∷ ss)))))
@@ -70,4 +62,4 @@ module _ (g : Given) (text : Text) where
       ∙ ap (λ c. one (take k (take n l)) ++ (flat_map f (pieces (between k (k + m) (take n l))) ++ one c)) (sym (last-run k m l)) in
       joined events (enter_at g text CodeText p) (one (take k l)) (flat_map f (cut_pieces bound (take m (drop k l)))) (one (take k (drop (k + m) l))) (exit_at g text CodeText (p + n))
       ∙ ap (λ c. events ++ enter_at g text CodeText p ∷ (c ++ exit_at g text CodeText (p + n) ∷ [])) made
-      ∙ ap (λ c. events ++ c) (span-is CodeText (one (take k (take n l)) ++ (flat_map f (pieces (between k (k + m) (take n l))) ++ one (drop (k + m) (take n l)))) n p s ss at (omega (arith, some)) short)
+      ∙ ap (λ c. events ++ c) (span-is g text CodeText (one (take k (take n l)) ++ (flat_map f (pieces (between k (k + m) (take n l))) ++ one (drop (k + m) (take n l)))) n p s ss at (omega (arith, some)) short)

@@ -29,7 +29,7 @@ data_length bytes = position_or_len is_backtick_or_line_feed bytes
 data-positive : (b : ℕ) (bs : List ℕ) → is_backtick_or_line_feed b ≡ false → 0 < data_length (b ∷ bs)
 data-positive b bs e = let more : data_length (b ∷ bs) ≡ 1 + data_length bs = ap (λ t. cond (not t) (1 + data_length bs) 0) e in omega (arith, more)
 
-run-positive : (b : ℕ) (bs : List ℕ) → is_backtick b ≡ true → 0 < run (b ∷ bs)
+pub run-positive : (b : ℕ) (bs : List ℕ) → is_backtick b ≡ true → 0 < run (b ∷ bs)
 run-positive b bs e = let more : run (b ∷ bs) ≡ 1 + run bs = ap (λ t. cond t (1 + run bs) 0) e in omega (arith, more)
 
 data-length : (b : ℕ) (bs : List ℕ) → is_backtick b ≡ false → is_backtick_or_line_feed b ≡ false → plain_length is_backtick_or_line_feed (b ∷ bs) ≡ data_length (b ∷ bs)

@@ -1,5 +1,5 @@
 -- How the machine of texts reads on over bytes that one state reads, one after another.
-use Rattle.std.proofs.Common.{◌≡◌, ℕ, zero, suc, ◌+◌, ◌-◌, ◌^◌, ◌<◌, ◌≤◌, ◌∷◌, [], List, Bool, true, false, cond, refl, sym, ◌∙◌, ap, subst, Option, Some, arith, length, take, drop, slice_get, nat_lt}
+use Rattle.std.proofs.Common.{◌≡◌, ℕ, zero, suc, ◌+◌, ◌-◌, ◌^◌, ◌<◌, ◌≤◌, ◌∷◌, ◌++◌, [], List, Bool, true, false, cond, refl, sym, ◌∙◌, ap, subst, Option, Some, arith, length, take, drop, slice_get, nat_lt}
 use Rattle.std.proofs.lemmas.Bool.Decides.{nat_tests}
 use Rattle.std.proofs.lemmas.List.{drop-drop, length-drop}
 use Rattle.std.proofs.lemmas.Option.{slice_get_within}
@@ -17,7 +17,7 @@ use Rattle.markdown.specs.Configuration.{Configuration, Local, Choice}
 use Rattle.markdown.specs.Reading.{fed}
 use Rattle.markdown.specs.Sight.{byte_of, end_place, end_or, point_or}
 use Rattle.mdtables.specs.Rows.{Rows, class_of}
-use Rattle.mdtext.specs.TextEvents.{bytes_of, event, leaf}
+use Rattle.mdtext.specs.TextEvents.{bytes_of, event, leaf, span}
 use Rattle.mdtext.specs.TextCosts.{TextByte, text_byte}
 use Rattle.mdtext.proofs.Steps.{EndsWith, Leads, leads-fed, fed-is, before_class, waiting_class}
 use Rattle.mdtext.proofs.LineEndings.{at-front}
@@ -133,13 +133,17 @@ module _ (g : Given) (text : Text) where
       let more : q + suc (suc n) ≡ q + 1 + suc n = omega arith in
       ap (end_place text) more ∙ end-behind n (q + 1) t ts (next-at text.seats q s (t ∷ ts) at) (omega (arith, h))
 
-  -- a span over them
+  -- a span over them, with events in it or with none
+  pub span-is : (name : EventName) (inside : List Event) (n q : ℕ) (s : Seat) (ss : List Seat) → drop q text.seats ≡ s ∷ ss → 0 < n → n ≤ suc (length ss)
+      → event g.bytes Enter name (point_or text.end (slice_get text.seats q)) ∷ (inside ++ event g.bytes Exit name (end_place text (q + n)) ∷ []) ≡ span g.bytes name (take n (s ∷ ss)) inside
+  span-is name inside zero q s ss at some h = absurd (omega (arith, some))
+  span-is name inside (suc n) q s ss at some h =
+      ap (λ o. event g.bytes Enter name (point_or text.end o) ∷ (inside ++ event g.bytes Exit name (end_place text (q + suc n)) ∷ [])) (at-front text.seats q s ss at)
+      ∙ ap (λ e. event g.bytes Enter name s.point ∷ (inside ++ event g.bytes Exit name e ∷ [])) (end-behind n q s ss at (omega (arith, h)))
+
   pub leaf-is : (name : EventName) (n q : ℕ) (s : Seat) (ss : List Seat) → drop q text.seats ≡ s ∷ ss → 0 < n → n ≤ suc (length ss)
       → event g.bytes Enter name (point_or text.end (slice_get text.seats q)) ∷ event g.bytes Exit name (end_place text (q + n)) ∷ [] ≡ leaf g.bytes name (take n (s ∷ ss))
-  leaf-is name zero q s ss at some h = absurd (omega (arith, some))
-  leaf-is name (suc n) q s ss at some h =
-      ap (λ o. event g.bytes Enter name (point_or text.end o) ∷ event g.bytes Exit name (end_place text (q + suc n)) ∷ []) (at-front text.seats q s ss at)
-      ∙ ap (λ e. event g.bytes Enter name s.point ∷ event g.bytes Exit name e ∷ []) (end-behind n q s ss at (omega (arith, h)))
+  leaf-is name n q s ss at some h = span-is name [] n q s ss at some h
 
 module _ (g : Given) (text : Text) (stack : List EventName) (cs : List Choice) (name : Name) (p : ℕ → Bool) (f : Local Unit Unit → Local Unit Unit) where
   -- the state reads a byte that passes, and goes on with itself

@@ -7,6 +7,7 @@ pub mod CodeSpanClasses
 pub mod CodeSpanCuts
 pub mod CodeSpanEnds
 pub mod CodeSpanEvents
+pub mod CodeSpanItems
 pub mod CodeSpanPieces
 pub mod CodeSpanRows
 pub mod CodeSpanSteps
