@@ -1,7 +1,10 @@
+pub mod AddsItems
 pub mod AutolinkClasses
 pub mod AutolinkEvents
+pub mod AutolinkItems
 pub mod AutolinkSchemes
 pub mod AutolinkSteps
+pub mod Autolinks
 pub mod CodeSpanCalls
 pub mod CodeSpanClasses
 pub mod CodeSpanCuts
@@ -21,6 +24,7 @@ pub mod FromStart
 pub mod LineEndings
 pub mod PlainClasses
 pub mod PlainData
+pub mod PlainEscapes
 pub mod PlainItems
 pub mod PlainRuns
 pub mod Positive
