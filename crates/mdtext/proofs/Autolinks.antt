@@ -204,6 +204,7 @@ module _ (g : Given) (text : Text) where
       )
   from-marker p ended events local s ss here is on (Some item) d =
       let at = at-front text.seats p s ss here in (
+        false,
         d.0,
         λ es h.
             leads-tried g text links_by_itself AutolinkStart p ended events local (byte-rows g text p 60 s at is) on es

@@ -2,6 +2,7 @@ pub mod AddsItems
 pub mod AutolinkClasses
 pub mod AutolinkEvents
 pub mod AutolinkItems
+pub mod AutolinkPlaces
 pub mod AutolinkSchemes
 pub mod AutolinkSteps
 pub mod Autolinks

@@ -44,6 +44,7 @@ module _ (g : Given) (text : Text) where
         | true ↦ λ punctuation.
             let taken = tried.0 v at (slice_get_within text.seats (p + 1) v at) punctuation in
             let further : p + 1 + 1 ≡ p + 2 = omega arith in (
+              false,
               taken.0,
               λ es h. taken.1 es (subst (λ n. EndsWith g text (between_items n Nothing false (events ++ item_events g.bytes (escape, s ∷ v ∷ [])) taken.0) [] (Next TextBefore) es) (sym further) h),
             )

@@ -90,9 +90,9 @@ module _ (g : Given) (text : Text) where
   Tried p ended events local seats None =
       (after : Local Unit Unit) × Leads g text (between_items p Byte ended events local) [] (Retry TextBefore) (between_items p Nothing ended events after) [] (Next TextBeforeData)
   Tried p ended events local seats (Some item) =
-      (after : Local Unit Unit)
+      (ended_after : Bool) × (after : Local Unit Unit)
       × Leads g text (between_items p Byte ended events local) [] (Retry TextBefore)
-      (between_items (p + item_length item) Nothing false (events ++ item_events g.bytes (item, take (item_length item) seats)) after) [] (Next TextBefore)
+      (between_items (p + item_length item) Nothing ended_after (events ++ item_events g.bytes (item, take (item_length item) seats)) after) [] (Next TextBefore)
 
   -- an item that was read from the byte that waits on
   from-byte : (p : ℕ) (ended : Bool) (events : List Event) (local : Local Unit Unit) (s : Seat) (seats : List Seat) (item : Item) → slice_get text.seats p ≡ Some s
@@ -119,7 +119,7 @@ module _ (g : Given) (text : Text) where
   -- a construct that was tried is read, or data is
   pub from-tried : (p : ℕ) (ended : Bool) (events : List Event) (local : Local Unit Unit) (s : Seat) (ss : List Seat) → drop p text.seats ≡ s ∷ ss → (o : Option Item)
       → Tried p ended events local (s ∷ ss) o → Adds g text p ended events local (s ∷ ss) (or_else o (plain_of (s ∷ ss)))
-  from-tried p ended events local s ss here (Some item) taken = from-byte p ended events local s (s ∷ ss) item (at-front text.seats p s ss here) false taken.0 taken.1
+  from-tried p ended events local s ss here (Some item) taken = from-byte p ended events local s (s ∷ ss) item (at-front text.seats p s ss here) taken.0 taken.1 taken.2
   from-tried p ended events local s ss here None refused =
       let below = slice_get_within text.seats p s (at-front text.seats p s ss here) in
       from-data p ended events local s ss here refused.0
