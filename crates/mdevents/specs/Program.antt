@@ -13,19 +13,20 @@ use Rattle.markdown.specs.Text.{Given}
 use Rattle.markdown.specs.Rules.{Rules}
 use Rattle.markdown.specs.Engine.{given_by, IsRun, IsRunRefused}
 use Rattle.markdown.specs.Cuts.{cuts_every}
-use Rattle.markdown_base.specs.declared.event.Content.TheVariants.{Text}
+use Rattle.markdown_base.specs.declared.event.Content.TheVariants.{Text as TextContent}
 use Rattle.mdchildren.specs.Ready.{IsReady}
 use Rattle.mdchildren.specs.Reads.{IsSubtokenized, IsSubtokenizeRefused}
 use Rattle.mdevents.specs.declared.failure.Failure.{Failure}
 use Rattle.mdevents.specs.declared.words.Choice.{Choice}
 use Rattle.mdevents.specs.declared.words.Which.{Which}
-use Rattle.mdevents.specs.declared.words.Which.TheVariants.{Lines, Paragraphs, Peek, Deep, Back, Save}
+use Rattle.mdevents.specs.declared.words.Which.TheVariants.{Lines, Paragraphs, Peek, Deep, Back, Save, Text}
 use Rattle.mdconstructs.specs.Lines.{lines_rules}
 use Rattle.mdconstructs.specs.Paragraphs.{paragraphs_rules}
 use Rattle.mdconstructs.specs.Peek.{peek_rules}
 use Rattle.mdconstructs.specs.Deep.{deep_rules}
 use Rattle.mdconstructs.specs.Back.{back_rules}
 use Rattle.mdconstructs.specs.Save.{save_rules}
+use Rattle.mdtext.specs.TextRules.{text_rules}
 use Rattle.mdevents.specs.Printed.{printed_events}
 use Rattle.mdevents.specs.Reading.{IsWithinLimit}
 
@@ -41,11 +42,11 @@ document t bytes = given_by bytes (options_with t)
 module _ {R D : Type 0} (rules : Given → Rules R D) (t : ℕ) (bytes : List ℕ) where
   -- events of a document with the children of their chains of text in place of the chunks, all read by the machine
   abbrev pub HasChildren : List Event → List Event → Type 0
-  HasChildren old new = (sub : Subresult) × IsSubtokenized (document t bytes) rules (Some Text) old new sub
+  HasChildren old new = (sub : Subresult) × IsSubtokenized (document t bytes) rules (Some TextContent) old new sub
 
   -- the first of these children that does not end well ends in a message
   abbrev pub HasRefusedChild : List Event → Message → Type 0
-  HasRefusedChild old m = IsSubtokenizeRefused (document t bytes) rules (Some Text) old m
+  HasRefusedChild old m = IsSubtokenizeRefused (document t bytes) rules (Some TextContent) old m
 
 -- a machine with a start
 module _ {R D : Type 0} (rules : Given → Rules R D) (start : Name) (t : ℕ) (bytes : List ℕ) where
@@ -63,9 +64,9 @@ module _ {R D : Type 0} (rules : Given → Rules R D) (start : Name) (t : ℕ) (
 
   -- a run answers events whose chains of text cannot be read
   abbrev pub GivesUnready : Type 0
-  GivesUnready = (flat : List Event) × Gives flat × ¬ IsReady t bytes (Some Text) flat
+  GivesUnready = (flat : List Event) × Gives flat × ¬ IsReady t bytes (Some TextContent) flat
 
--- the events of a document are those that its machine gives, and with `--deep` those with children; one machine alone links
+-- the events of a document are those that its machine gives, and with `--deep` those with children; two machines alone link
 abbrev pub AreEventsOf : (deep : Bool) → Which → (t : ℕ) → List ℕ → List Event → Type 0
 AreEventsOf deep Lines = Gives lines_rules FlowStart
 AreEventsOf false Paragraphs = Gives paragraphs_rules FlowStart
@@ -74,6 +75,8 @@ AreEventsOf deep Peek = Gives peek_rules TextStart
 AreEventsOf deep Deep = Gives deep_rules StringStart
 AreEventsOf deep Back = Gives back_rules TextStart
 AreEventsOf deep Save = Gives save_rules TextStart
+AreEventsOf false Text = Gives text_rules FlowStart
+AreEventsOf true Text = GivesDeep text_rules FlowStart
 
 -- a document is refused where its machine refuses it, and with `--deep` where it refuses a child
 abbrev pub IsRefusedBy : (deep : Bool) → Which → (t : ℕ) → List ℕ → Message → Type 0
@@ -84,6 +87,8 @@ IsRefusedBy deep Peek t bytes = IsRunRefused (document t bytes) peek_rules false
 IsRefusedBy deep Deep t bytes = IsRunRefused (document t bytes) deep_rules false StringStart
 IsRefusedBy deep Back t bytes = IsRunRefused (document t bytes) back_rules false TextStart
 IsRefusedBy deep Save t bytes = IsRunRefused (document t bytes) save_rules false TextStart
+IsRefusedBy false Text t bytes = IsRunRefused (document t bytes) text_rules false FlowStart
+IsRefusedBy true Text t bytes = IsRefusedDeep text_rules FlowStart t bytes
 
 -- the events of a document are not ready: with `--deep` alone, where its machine gives some that are not
 abbrev pub IsUnreadyBy : (deep : Bool) → Which → (t : ℕ) → List ℕ → Type 0
@@ -94,6 +99,8 @@ IsUnreadyBy deep Peek t bytes = ⊥
 IsUnreadyBy deep Deep t bytes = ⊥
 IsUnreadyBy deep Back t bytes = ⊥
 IsUnreadyBy deep Save t bytes = ⊥
+IsUnreadyBy false Text t bytes = ⊥
+IsUnreadyBy true Text t bytes = GivesUnready text_rules FlowStart t bytes
 
 -- where a document is cut: nowhere, or at every n-th of its virtual bytes
 abbrev pub cut_places : Choice → List ℕ → List (ℕ × ℕ)

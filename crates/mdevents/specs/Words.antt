@@ -7,7 +7,7 @@ use Rattle.std.specs.Str.{bytes_eq}
 use Rattle.std.specs.Str.Parse.{digits_value}
 use Rattle.mdevents.specs.declared.words.Choice.{Choice}
 use Rattle.mdevents.specs.declared.words.Which.{Which}
-use Rattle.mdevents.specs.declared.words.Which.TheVariants.{Lines, Paragraphs, Peek, Deep, Back, Save}
+use Rattle.mdevents.specs.declared.words.Which.TheVariants.{Lines, Paragraphs, Peek, Deep, Back, Save, Text}
 
 -- the number of a word of decimal digits, if it is above 0 and fits `usize`
 abbrev pub number_of : List ℕ → Option ℕ
@@ -19,7 +19,8 @@ which_of name =
     cond (bytes_eq name (codes "lines")) (Some Lines)
     (cond (bytes_eq name (codes "paragraphs")) (Some Paragraphs)
     (cond (bytes_eq name (codes "peek")) (Some Peek)
-    (cond (bytes_eq name (codes "deep")) (Some Deep) (cond (bytes_eq name (codes "back")) (Some Back) (cond (bytes_eq name (codes "save")) (Some Save) None)))))
+    (cond (bytes_eq name (codes "deep")) (Some Deep) (cond (bytes_eq name (codes "back")) (Some Back) (cond (bytes_eq name (codes "save")) (Some Save)
+    (cond (bytes_eq name (codes "text")) (Some Text) None))))))
 
 -- the size of tabs that a word has: its number, if that is at most 16
 abbrev pub tab_of : List ℕ → Option ℕ
@@ -88,6 +89,7 @@ links_text Peek = false
 links_text Deep = false
 links_text Back = false
 links_text Save = false
+links_text Text = true
 
 -- the choice of a cut, of `--deep`, of a machine and of a size of tabs, if they are taken together: `--deep` is with a machine that
 -- links

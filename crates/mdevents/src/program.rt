@@ -26,6 +26,7 @@ use mdconstructs::lines::Lines;
 use mdconstructs::paragraphs::Paragraphs;
 use mdconstructs::peek::Peek;
 use mdconstructs::save::Save;
+use mdtext::text::Text;
 use std::alloc::{AllocError, Global};
 use std::io::{Read, Write};
 
@@ -78,6 +79,10 @@ fn events_of(alloc: Global, bytes: &[u8], choice: &Choice) -> Result<Vec<Event>,
         Which::Deep => read_by(alloc, &Deep {}, Name::StringStart, bytes, tab, cuts),
         Which::Back => read_by(alloc, &Back {}, Name::TextStart, bytes, tab, cuts),
         Which::Save => read_by(alloc, &Save {}, Name::TextStart, bytes, tab, cuts),
+        Which::Text if choice.deep => {
+            read_deep_by(alloc, &Text {}, Name::FlowStart, bytes, tab, cuts)
+        }
+        Which::Text => read_by(alloc, &Text {}, Name::FlowStart, bytes, tab, cuts),
     }
 }
 
@@ -211,6 +216,9 @@ mod tests {
     const TWO_PARAGRAPHS: &[u8] =
         b"enter BlankLineEnding 1:1 (0+0)\nexit BlankLineEnding 2:1 (1+0)\nenter Paragraph 2:1 (1+0)\nenter Data 2:1 (1+0)\nexit Data 3:1 (3+0)\nexit Paragraph 3:1 (3+0)\nenter BlankLineEnding 3:1 (3+0)\nexit BlankLineEnding 4:1 (4+0)\nenter Paragraph 4:1 (4+0)\nenter Data 4:1 (4+0)\nexit Data 4:2 (5+0)\nexit Paragraph 4:2 (5+0)\n";
 
+    const CODE_OVER_TWO_LINES: &[u8] =
+        b"enter Paragraph 1:1 (0+0)\nenter CodeText 1:1 (0+0)\nenter CodeTextSequence 1:1 (0+0)\nexit CodeTextSequence 1:2 (1+0)\nenter CodeTextData 1:2 (1+0)\nexit CodeTextData 1:3 (2+0)\nenter LineEnding 1:3 (2+0)\nexit LineEnding 2:1 (3+0)\nenter BlockQuoteMarker 2:1 (3+0)\nexit BlockQuoteMarker 2:2 (4+0)\nenter CodeTextData 2:2 (4+0)\nexit CodeTextData 2:3 (5+0)\nenter CodeTextSequence 2:3 (5+0)\nexit CodeTextSequence 2:4 (6+0)\nexit CodeText 2:4 (6+0)\nexit Paragraph 2:4 (6+0)\n";
+
     const AFTER_TAB: &[u8] =
         b"enter Paragraph 1:1 (0+0)\nenter Data 1:1 (0+0)\nexit Data 1:6 (2+0)\nexit Paragraph 1:6 (2+0)\n";
 
@@ -260,7 +268,7 @@ mod tests {
     }
 
     /// A document, the machine that reads it, whether its chunks are read too, and what is written.
-    const WRITTEN: [(&[u8], Which, bool, &[u8]); 22] = [
+    const WRITTEN: [(&[u8], Which, bool, &[u8]); 24] = [
         (b"a\r\nb", Which::Lines, false, TWO_LINES),
         (b"", Which::Lines, false, b""),
         (b"\ta", Which::Lines, false, AFTER_TAB),
@@ -283,6 +291,8 @@ mod tests {
         (b"\na\n\nb", Which::Paragraphs, false, TWO_PARAGRAPHS),
         (b"\na\n\nb", Which::Paragraphs, true, TWO_PARAGRAPHS_OF_TEXT),
         (b"", Which::Paragraphs, true, b""),
+        (b">a\n>b", Which::Text, false, TWO_CHUNKS),
+        (b"`a\n>b`", Which::Text, true, CODE_OVER_TWO_LINES),
     ];
 
     #[test]

@@ -24,6 +24,8 @@ pub enum Which {
     Back,
     /// `save`: passes the first line, tries something after it, which fails, and reads each line of the rest as data.
     Save,
+    /// `text`: as `paragraphs`, but in the text of its chunks are code spans, autolinks and escapes.
+    Text,
 }
 
 /// What the words choose.
@@ -31,8 +33,8 @@ pub enum Which {
 pub struct Choice {
     /// After how many virtual bytes the text is cut each time, if it is; at least 1.
     pub cut: Option<usize>,
-    /// Whether the chunks of text that the machine links are read too, and their events put in their place. The machine of
-    /// paragraphs alone links any.
+    /// Whether the chunks of text that the machine links are read too, and their events put in their place. The machines of
+    /// paragraphs and of texts alone link any.
     pub deep: bool,
     /// The machine that reads.
     pub machine: Which,
@@ -45,7 +47,7 @@ ghost use Rattle.mdevents.specs.WordsInner.{chosen_after};
 
 /// What the words after the program's name choose: `--cut` with a number, `--deep`, `--machine` with a name, and `--tab` with a
 /// number from 1 to 16, in any order, each at most once. The machine is that of lines where none is named, and tab stops stand at
-/// every 4 columns where no number is given; `--deep` is taken with the machine of paragraphs alone. None asks for [`USAGE`].
+/// every 4 columns where no number is given; `--deep` is taken with those of paragraphs and of texts alone. None asks for [`USAGE`].
 pub fn read_words(words: &[String]) -> Option<Choice>
     ensures chosen { result ≡ chosen (map string_bytes words.now) }
     ensures cut { IfSome result CanCut }
@@ -119,7 +121,7 @@ fn links_text(machine: Which) -> bool
     ensures { result ≡ links_text machine }
 {
     match machine {
-        Which::Paragraphs => true,
+        Which::Paragraphs | Which::Text => true,
         Which::Lines | Which::Peek | Which::Deep | Which::Back | Which::Save => false,
     }
 }
@@ -140,6 +142,8 @@ fn read_which(name: &str) -> Option<Which>
         Some(Which::Back)
     } else if name == "save" {
         Some(Which::Save)
+    } else if name == "text" {
+        Some(Which::Text)
     } else {
         None
     }
@@ -196,7 +200,7 @@ mod tests {
         }
     }
 
-    const CHOSEN: [(&str, Option<usize>, bool, Which); 13] = [
+    const CHOSEN: [(&str, Option<usize>, bool, Which); 15] = [
         ("", None, false, Which::Lines),
         ("--cut 2", Some(2), false, Which::Lines),
         ("--cut 016", Some(16), false, Which::Lines),
@@ -213,6 +217,8 @@ mod tests {
         ("--cut 3 --machine deep", Some(3), false, Which::Deep),
         ("--machine back", None, false, Which::Back),
         ("--machine save", None, false, Which::Save),
+        ("--machine text", None, false, Which::Text),
+        ("--deep --machine text", None, true, Which::Text),
         ("--deep --machine paragraphs", None, true, Which::Paragraphs),
         (
             "--machine paragraphs --deep --cut 1",

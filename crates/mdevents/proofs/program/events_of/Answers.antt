@@ -39,8 +39,23 @@ returns-in-Back-clause-events c = let e = c.in-Back.is in rw e c.read_by-in-Back
 pub returns-in-Back-clause-message : goal.returns-in-Back-clause-message
 returns-in-Back-clause-message c = let e = c.in-Back.is in rw e c.read_by-in-Back.ensures.message
 
+pub returns-in-Save-clause-events : goal.returns-in-Save-clause-events
+returns-in-Save-clause-events c = let e = c.in-Save.is in rw e c.read_by-in-Save.ensures.events
+
+pub returns-in-Save-clause-message : goal.returns-in-Save-clause-message
+returns-in-Save-clause-message c = let e = c.in-Save.is in rw e c.read_by-in-Save.ensures.message
+
+pub returns-in-Text-clause-events : goal.returns-in-Text-clause-events
+returns-in-Text-clause-events c = let e = c.in-Text.is in let d = c.if-choice-2.true in rw (e, d) c.read_deep_by-in-Text.ensures.events
+
+pub returns-in-Text-clause-message : goal.returns-in-Text-clause-message
+returns-in-Text-clause-message c = let e = c.in-Text.is in let d = c.if-choice-2.true in rw (e, d) c.read_deep_by-in-Text.ensures.message
+
+pub returns-in-Text-clause-unready : goal.returns-in-Text-clause-unready
+returns-in-Text-clause-unready c = let e = c.in-Text.is in let d = c.if-choice-2.true in rw (e, d) c.read_deep_by-in-Text.ensures.unready
+
 pub returns-clause-events : goal.returns-clause-events
-returns-clause-events c = let e = c.in-Save.is in rw e c.read_by-in-Save.ensures.events
+returns-clause-events c = let e = c.in-Text-2.is in let d = c.if-choice-2.false in rw (e, d) c.read_by-in-Text-2.ensures.events
 
 pub returns-clause-message : goal.returns-clause-message
-returns-clause-message c = let e = c.in-Save.is in rw e c.read_by-in-Save.ensures.message
+returns-clause-message c = let e = c.in-Text-2.is in let d = c.if-choice-2.false in rw (e, d) c.read_by-in-Text-2.ensures.message
