@@ -1,11 +1,11 @@
 //! Prints the events of a document: reads standard input to its end and writes a line for each event.
 //!
-//! `mdevents [--cut n] [--deep] [--machine name] [--tab n]`: with `--cut` the document is read in parts, cut after each n virtual
-//! bytes, which changes nothing in what is written; with `--machine` the machine of that name reads it, and else that of lines;
-//! with `--deep`, which goes with `--machine paragraphs` and `--machine text` alone, the chunks of text that it links are read
-//! too, and their events stand in their place; with `--tab` tab stops stand at every n columns, from 1 to 16, and else at every
-//! 4. The status is 0; where something fails, a line says what on standard error and the status is 1; other words are answered by a line on how to
-//! call the program, and the status is 2.
+//! `mdevents [--cut n] [--deep] [--machine name] [--tab n]`: with `--cut` the document is read in parts, cut after each n
+//! virtual bytes, which changes nothing in what is written; with `--machine` the machine of that name reads it, and else
+//! that of lines; with `--deep`, which goes with `--machine paragraphs` and `--machine text` alone, the chunks of text that
+//! it links are read too, and their events stand in their place; with `--tab` tab stops stand at every n columns, from 1 to
+//! 16, and else at every 4. The status is 0; where something fails, a line says what on standard error and the status is 1;
+//! other words are answered by a line on how to call the program, and the status is 2.
 #![tactic(auto)]
 
 ghost use Rattle.std.specs.Prelude.{◌≡◌, ◌≤◌, IfOk, IfSome, IsErr, IsOkUnless, Ok, None};
