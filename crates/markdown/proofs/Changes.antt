@@ -157,6 +157,7 @@ module _ {M R D : Type 0} (t : Inside M R D) (sound : IsSound t) where
         let e = end-found in
         record {
           limit = sound.limit;
+          tab = sound.tab;
           reads = sound.reads;
           end_at = rw e found;
           text = rw e (subst (IsText (seen t).given) text-longer (text-more (seen t).given (text_of t) (pushed f u) sound.text fits));

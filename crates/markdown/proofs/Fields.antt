@@ -350,6 +350,7 @@ module _ {M R D : Type 0} (t : Inside M R D) (sound : IsSound t) where
       let text = text_of t in
       record {
         limit = sound.limit;
+        tab = sound.tab;
         reads = λ e. absurd (let f : true ≡ false = e in cc);
         end_at = sound.end_at;
         text = sound.text;

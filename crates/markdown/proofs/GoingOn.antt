@@ -350,6 +350,7 @@ module _ {M R D : Type 0} (t : Inside M R D) (sound : IsSound t) (flush ok : Boo
       → (t.phase ≡ Reading → IsMade bytes_there events.items stack.items (shown bytes_there from.after_previous) (shown bytes_there (standing t.skips from.after_previous waits))) → IsSound (after waits ended current)
   sound-by waits ended current w e m = record {
     limit = sound.limit;
+    tab = sound.tab;
     reads = sound.reads;
     end_at = sound.end_at;
     text = sound.text;

@@ -29,6 +29,7 @@ pub phase-sound : {M R D : Type 0} (t : Inside M R D) → IsSound t → (phase :
 phase-sound t sound phase resolvers other closed =
     let bytes = t.parse_state.now.bytes.now in record {
       limit = sound.limit;
+      tab = sound.tab;
       end_at = sound.end_at;
       text = sound.text;
       skips = sound.skips;
@@ -54,6 +55,7 @@ pub events-sound : {M R D : Type 0} (t : Inside M R D) → IsSound t → t.phase
 events-sound t sound resolves alone edits events =
     let bytes = t.parse_state.now.bytes.now in record {
       limit = sound.limit;
+      tab = sound.tab;
       end_at = sound.end_at;
       text = sound.text;
       skips = sound.skips;

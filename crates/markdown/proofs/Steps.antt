@@ -189,6 +189,7 @@ module _ {M R D : Type 0} (t : Inside M R D) (sound : IsSound t) where
     pub fed-sound : (byte : ℕ) → is_before_pair seat.point t.end ≡ true → seat.byte ≡ byte → IsSound (record t { waits = Byte; current = Some byte })
     fed-sound byte lt e = record {
       limit = sound.limit;
+      tab = sound.tab;
       reads = sound.reads;
       end_at = sound.end_at;
       text = sound.text;
@@ -215,6 +216,7 @@ module _ {M R D : Type 0} (t : Inside M R D) (sound : IsSound t) where
   pub end-fed-sound : length (seen t).text.seats ≤ (seen t).configuration.position → t.closed ≡ true → IsSound (record t { waits = End; current = None; ended = true })
   end-fed-sound all closed = record {
     limit = sound.limit;
+    tab = sound.tab;
     reads = sound.reads;
     end_at = sound.end_at;
     text = sound.text;
@@ -250,6 +252,7 @@ module _ {M R D : Type 0} (t : Inside M R D) (sound : IsSound t) where
       pub consumed-sound : IsSound (record t { after_previous = after_previous; previous = t.current; current = None; ended = false; waits = Nothing })
       consumed-sound = record {
         limit = sound.limit;
+        tab = sound.tab;
         reads = sound.reads;
         end_at = sound.end_at;
         text = sound.text;

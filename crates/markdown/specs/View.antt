@@ -170,6 +170,7 @@ AreNested P events stack (mark ∷ kept_choices) =
 -- what holds of the fields. Of the events it holds until a flush resolves, as resolvers may change them freely.
 pub record IsSound {M R D : Type 0} (t : Inside M R D) : Type 0 where
   pub limit : tab_of t.parse_state.now * length t.parse_state.now.bytes.now + 1 < 2 ^ 64
+  pub tab : t.tab_size ≡ tab_of t.parse_state.now
   pub end_at : point_at (tab_of t.parse_state.now) t.parse_state.now.bytes.now t.end ≡ Some (text_of t).end
   pub text : IsText (seen t).given (text_of t)
   pub skips : AllByRecursion (IsSkip (tab_of t.parse_state.now) t.parse_state.now.bytes.now (text_of t).end) t.skips

@@ -15,6 +15,7 @@ use crate::subtokenize::{self, Subresult};
 use crate::util::edit_map::EditMap;
 use crate::waiting::{AttemptKind, GoesOn, KeptChoice, Phase, Progress, Waits, standing, unwind};
 pub use crate::work::{reads_in_one_way, run};
+use markdown_base::configuration::TabSize;
 use markdown_base::event::{Content, Event, Kind, Link, Name, Point};
 use markdown_base::message::Message;
 use markdown_base::owned::{Items, OwnedText, StaticBytes};
@@ -212,6 +213,8 @@ pub struct Tokenizer<'a, M: MachineTypes> {
     resolvers: Vec<M::Resolver>,
     /// The waiting choices, the last one last.
     kept_choices: Vec<KeptChoice>,
+    /// At how many columns tab stops stand, as the options say: each byte that is consumed asks for it.
+    tab_size: TabSize,
     /// Whether nothing more is pushed: memory was refused, or the end was fed.
     closed: bool,
     /// Whether a flush resolves, or has resolved.
@@ -348,6 +351,7 @@ impl<'a, M: MachineTypes> Tokenizer<'a, M> {
             stack,
             resolvers,
             kept_choices,
+            tab_size: parse_state.options.tab_size,
             closed: false,
             phase: Phase::Reading,
             calls,
@@ -377,7 +381,7 @@ impl<'a, M: MachineTypes> Tokenizer<'a, M> {
         resume(&self.skips, &mut self.after_previous);
         pass(
             self.parse_state.bytes,
-            self.parse_state.options.tab_size.get(),
+            self.tab_size.get(),
             &mut self.after_previous,
             byte,
         );

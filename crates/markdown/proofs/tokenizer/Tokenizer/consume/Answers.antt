@@ -1,4 +1,4 @@
-use Rattle.std.proofs.Common.{refl}
+use Rattle.std.proofs.Common.{refl, ◌∙◌}
 use Rattle.markdown.proofs.Fields.{wide_of}
 use Rattle.markdown.proofs.Steps.{byte-waits, consumed-sound, consumed-seen, byte-of-seat, place-at, seat-at}
 use Rattle.markdown.proofs.tokenizer.Tokenizer.consume.Goals as goal
@@ -9,7 +9,7 @@ pass-requires g c =
     let e = rw (← c.self.view_is) at c.requires in
     let w = byte-waits t sound e in
     let place = c.resume.ensures in
-    let tab = c.get.ensures.columns in
+    let tab = c.get.ensures.columns ∙ sound.tab in
     rw tab (record {
       some = wide_of t sound;
       limit = sound.limit;
@@ -22,7 +22,7 @@ invariant_of-self g c =
     let t = c.self.inside in let sound = c.self.invariant in
     let e = rw (← c.self.view_is) at c.requires in
     let w = byte-waits t sound e in
-    let tab = c.get.ensures.columns in
+    let tab = c.get.ensures.columns ∙ sound.tab in
     consumed-sound t sound w c.pass.new.point (c.pass.ensures w.seat (rw tab (seat-at t sound _ _ w.seat refl c.resume.ensures w.at)))
 
 pub returns : goal.returns
@@ -30,5 +30,5 @@ returns g c =
     let t = c.self.inside in let sound = c.self.invariant in
     let e = rw (← c.self.view_is) at c.requires in
     let w = byte-waits t sound e in
-    let tab = c.get.ensures.columns in
+    let tab = c.get.ensures.columns ∙ sound.tab in
     rw (← c.self.view_is) (consumed-seen t sound w c.pass.new.point (c.pass.ensures w.seat (rw tab (seat-at t sound _ _ w.seat refl c.resume.ensures w.at))))

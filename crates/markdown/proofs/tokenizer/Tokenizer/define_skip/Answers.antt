@@ -21,6 +21,7 @@ invariant_of-self-then-is_after g c =
     let put = c.in_ok-push.ensures.ok in
     record {
       limit = sound.limit;
+      tab = sound.tab;
       reads = sound.reads;
       end_at = added-end_at t sound q fits is c.push.new.self put;
       text = added-text_is t sound q fits is c.push.new.self put;

@@ -8,6 +8,7 @@ invariant_of-self-in-Ok g c =
     let t = c.self.inside in let sound = c.self.invariant in
     record {
       limit = sound.limit;
+      tab = sound.tab;
       reads = sound.reads;
       end_at = sound.end_at;
       text = sound.text;
@@ -26,6 +27,7 @@ invariant_of-self-in-Err g c =
     let stack = c.truncate.ensures.items ∙ ap (λ (xs : List Name). take c.len-open_len.result xs) c.in_ok-push.ensures.items ∙ take-pushed t.stack.items c.args.name c.len-open_len.result (c.len-open_len.ensures ∙ t.stack.ok.0) in
     record {
       limit = sound.limit;
+      tab = sound.tab;
       reads = sound.reads;
       end_at = sound.end_at;
       text = sound.text;

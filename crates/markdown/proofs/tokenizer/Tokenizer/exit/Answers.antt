@@ -9,6 +9,7 @@ invariant_of-self-2 g c =
     let stack = c.pop.ensures.rest ∙ ap (λ (n : ℕ). take (n - 1) t.stack.items) t.stack.ok.0 in
     record {
       limit = sound.limit;
+      tab = sound.tab;
       reads = sound.reads;
       end_at = sound.end_at;
       text = sound.text;

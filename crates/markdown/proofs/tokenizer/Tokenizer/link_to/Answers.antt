@@ -6,6 +6,7 @@ invariant_of-self g c =
     let t = c.self.inside in let sound = c.self.invariant in
     record {
       limit = sound.limit;
+      tab = sound.tab;
       reads = sound.reads;
       end_at = sound.end_at;
       text = sound.text;

@@ -18,6 +18,7 @@ invariant_of-result g c =
     let skips = c.new-skips.ensures in
     record {
       limit = c.requires.limit;
+      tab = refl;
       reads = λ _. refl;
       end_at = rw here (start-found tab apart.0 bytes p c.requires.place);
       text = rw (skips, here, none) (start-text tab apart.0 bytes p c.requires.place c.args.parse_state.now.options.now (record { bytes = c.bytes_are_below_256.ensures; tab = apart; limit = c.requires.limit }));

@@ -15,6 +15,7 @@ invariant_of-self-2 g c =
     c.in_ok-push.ensures.items ∙ ap (λ (s : Option Progress). t.kept_choices.items ++ record { kind = c.args.kind; ok = c.args.ok; nok = c.args.nok; saved = s } ∷ []) saved in
     record {
       limit = sound.limit;
+      tab = sound.tab;
       reads = sound.reads;
       end_at = sound.end_at;
       text = sound.text;

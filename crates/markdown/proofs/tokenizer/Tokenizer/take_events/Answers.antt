@@ -10,6 +10,7 @@ invariant_of-self g c =
     let kept_choices = c.clear-2.ensures.items in
     record {
       limit = sound.limit;
+      tab = sound.tab;
       reads = sound.reads;
       end_at = sound.end_at;
       text = sound.text;
