@@ -94,26 +94,29 @@ pub(crate) fn resume(skips: &Skips, place: &mut Point)
 }
 
 /// Whether the tab at a place goes on after its next virtual byte, which is this one. Tab stops stand at every `t`
-/// columns; at every 4, as nearly always, it is told without a division.
-fn goes_on(t: usize, point: &Point, byte: u8) -> bool
-    requires some { 0 < t }
-    ensures { result ≡ goes_on t byte point.now }
+/// columns; at every 4, as nearly always, it is told without a division. `t` is read where a tab asks for it.
+fn goes_on(t: &usize, point: &Point, byte: u8) -> bool
+    requires some { 0 < t.now }
+    ensures { result ≡ goes_on t.now byte point.now }
 {
-    if t == 4 {
-        (byte == b'\t' || point.vs > 0) && point.column % 4 != 0
+    if byte != b'\t' && point.vs == 0 {
+        return false;
+    }
+    if *t == 4 {
+        point.column % 4 != 0
     } else {
-        (byte == b'\t' || point.vs > 0) && point.column % t != 0
+        point.column % *t != 0
     }
 }
 
 /// Moves a place over the next virtual byte, which is this one: of a CR LF over both bytes. Tab stops stand at every
 /// `t` columns.
-pub(crate) fn pass(bytes: &[u8], t: usize, point: &mut Point, byte: u8)
-    requires some { 0 < t }
-    requires limit { t * length bytes.now + 1 < 2 ^ 64 }
-    requires place { IsPlace t bytes.now point.old }
-    requires next { (seat : Seat) × IsSeatAt t bytes.now point.old seat × (seat.byte ≡ byte) }
-    ensures { (seat : Seat) → IsSeatAt t bytes.now point.old seat → point.new ≡ seat.end }
+pub(crate) fn pass(bytes: &[u8], t: &usize, point: &mut Point, byte: u8)
+    requires some { 0 < t.now }
+    requires limit { t.now * length bytes.now + 1 < 2 ^ 64 }
+    requires place { IsPlace t.now bytes.now point.old }
+    requires next { (seat : Seat) × IsSeatAt t.now bytes.now point.old seat × (seat.byte ≡ byte) }
+    ensures { (seat : Seat) → IsSeatAt t.now bytes.now point.old seat → point.new ≡ seat.end }
 {
     if byte == b'\n' {
         point.line += 1;

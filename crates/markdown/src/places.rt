@@ -47,7 +47,7 @@ pub fn point_at(bytes: &[u8], tab_size: TabSize, place: (usize, usize)) -> Optio
         if is_at(seat, place) {
             return Some(seat);
         }
-        pass(bytes, t, &mut after_previous, byte);
+        pass(bytes, &t, &mut after_previous, byte);
     }
     if is_at(after_previous, place) {
         Some(after_previous)
@@ -77,7 +77,7 @@ pub fn cuts_every(
             cuts.push((seat.index, seat.vs))?;
         }
         number += 1;
-        pass(bytes, t, &mut after_previous, byte);
+        pass(bytes, &t, &mut after_previous, byte);
     }
     Ok(cuts)
 }

@@ -15,7 +15,6 @@ use crate::subtokenize::{self, Subresult};
 use crate::util::edit_map::EditMap;
 use crate::waiting::{AttemptKind, GoesOn, KeptChoice, Phase, Progress, Waits, standing, unwind};
 pub use crate::work::{reads_in_one_way, run};
-use markdown_base::configuration::TabSize;
 use markdown_base::event::{Content, Event, Kind, Link, Name, Point};
 use markdown_base::message::Message;
 use markdown_base::owned::{Items, OwnedText, StaticBytes};
@@ -214,7 +213,7 @@ pub struct Tokenizer<'a, M: MachineTypes> {
     /// The waiting choices, the last one last.
     kept_choices: Vec<KeptChoice>,
     /// At how many columns tab stops stand, as the options say: each byte that is consumed asks for it.
-    tab_size: TabSize,
+    tab_size: usize,
     /// Whether nothing more is pushed: memory was refused, or the end was fed.
     closed: bool,
     /// Whether a flush resolves, or has resolved.
@@ -322,7 +321,7 @@ impl<'a, M: MachineTypes> Tokenizer<'a, M> {
         ensures bytes { All (λ b. b < 256) parse_state.now.bytes.now }
     {
         bytes_are_below_256(parse_state.bytes);
-        let _ = parse_state.options.tab_size.get();
+        let tab_size = parse_state.options.tab_size.get();
         let tokenize_state = TokenizeState::new(alloc);
         let map = EditMap::new(alloc);
         let events = Vec::new(alloc);
@@ -351,7 +350,7 @@ impl<'a, M: MachineTypes> Tokenizer<'a, M> {
             stack,
             resolvers,
             kept_choices,
-            tab_size: parse_state.options.tab_size,
+            tab_size,
             closed: false,
             phase: Phase::Reading,
             calls,
@@ -381,7 +380,7 @@ impl<'a, M: MachineTypes> Tokenizer<'a, M> {
         resume(&self.skips, &mut self.after_previous);
         pass(
             self.parse_state.bytes,
-            self.tab_size.get(),
+            &self.tab_size,
             &mut self.after_previous,
             byte,
         );

@@ -1,4 +1,5 @@
-use Rattle.std.proofs.Common.{refl, ◌∙◌}
+use Rattle.std.proofs.Common.{ℕ, refl, sym, subst}
+use Rattle.markdown.specs.Cursor.{IsSeatAt}
 use Rattle.markdown.proofs.Fields.{wide_of}
 use Rattle.markdown.proofs.Steps.{byte-waits, consumed-sound, consumed-seen, byte-of-seat, place-at, seat-at}
 use Rattle.markdown.proofs.tokenizer.Tokenizer.consume.Goals as goal
@@ -9,7 +10,7 @@ pass-requires g c =
     let e = rw (← c.self.view_is) at c.requires in
     let w = byte-waits t sound e in
     let place = c.resume.ensures in
-    let tab = c.get.ensures.columns ∙ sound.tab in
+    let tab = sound.tab in
     rw tab (record {
       some = wide_of t sound;
       limit = sound.limit;
@@ -22,13 +23,13 @@ invariant_of-self g c =
     let t = c.self.inside in let sound = c.self.invariant in
     let e = rw (← c.self.view_is) at c.requires in
     let w = byte-waits t sound e in
-    let tab = c.get.ensures.columns ∙ sound.tab in
-    consumed-sound t sound w c.pass.new.point (c.pass.ensures w.seat (rw tab (seat-at t sound _ _ w.seat refl c.resume.ensures w.at)))
+    let tab = sound.tab in
+    consumed-sound t sound w c.pass.new.point (c.pass.ensures w.seat (subst (λ (n : ℕ). IsSeatAt n t.parse_state.now.bytes.now c.resume.new.place w.seat) (sym tab) (seat-at t sound _ _ w.seat refl c.resume.ensures w.at)))
 
 pub returns : goal.returns
 returns g c =
     let t = c.self.inside in let sound = c.self.invariant in
     let e = rw (← c.self.view_is) at c.requires in
     let w = byte-waits t sound e in
-    let tab = c.get.ensures.columns ∙ sound.tab in
-    rw (← c.self.view_is) (consumed-seen t sound w c.pass.new.point (c.pass.ensures w.seat (rw tab (seat-at t sound _ _ w.seat refl c.resume.ensures w.at))))
+    let tab = sound.tab in
+    rw (← c.self.view_is) (consumed-seen t sound w c.pass.new.point (c.pass.ensures w.seat (subst (λ (n : ℕ). IsSeatAt n t.parse_state.now.bytes.now c.resume.new.place w.seat) (sym tab) (seat-at t sound _ _ w.seat refl c.resume.ensures w.at))))

@@ -8,7 +8,7 @@ pub invariant_of-result : goal.invariant_of-result
 invariant_of-result g c =
     let bytes = c.args.parse_state.now.bytes.now in
     let tab = c.args.parse_state.now.options.now.tab_size in
-    let apart = apart-by c.get.result tab c.get.ensures.columns c.get.ensures.least c.get.ensures.most in
+    let apart = apart-by c.get-tab_size.result tab c.get-tab_size.ensures.columns c.get-tab_size.ensures.least c.get-tab_size.ensures.most in
     let p = c.args.point in
     let here = start-end tab apart.0 bytes p c.requires.place in
     let none = start-empty tab apart.0 bytes p c.requires.place in
@@ -18,7 +18,7 @@ invariant_of-result g c =
     let skips = c.new-skips.ensures in
     record {
       limit = c.requires.limit;
-      tab = refl;
+      tab = c.get-tab_size.ensures.columns;
       reads = λ _. refl;
       end_at = rw here (start-found tab apart.0 bytes p c.requires.place);
       text = rw (skips, here, none) (start-text tab apart.0 bytes p c.requires.place c.args.parse_state.now.options.now (record { bytes = c.bytes_are_below_256.ensures; tab = apart; limit = c.requires.limit }));
@@ -34,7 +34,7 @@ pub returns-clause-start : goal.returns-clause-start
 returns-clause-start g c =
     let bytes = c.args.parse_state.now.bytes.now in
     let tab = c.args.parse_state.now.options.now.tab_size in
-    let apart = apart-by c.get.result tab c.get.ensures.columns c.get.ensures.least c.get.ensures.most in
+    let apart = apart-by c.get-tab_size.result tab c.get-tab_size.ensures.columns c.get-tab_size.ensures.least c.get-tab_size.ensures.most in
     let p = c.args.point in
     let here = start-end tab apart.0 bytes p c.requires.place in
     let none = start-empty tab apart.0 bytes p c.requires.place in
