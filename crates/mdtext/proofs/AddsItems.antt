@@ -14,9 +14,11 @@ use Rattle.mdtext.proofs.PlainEscapes.{adds-backslash}
 use Rattle.mdtext.proofs.AutolinkEvents.{IsJoined}
 use Rattle.mdtext.proofs.AutolinkItems.{adds-less}
 
+-- bytes that pass the test are one
 is-byte : (b c : ℕ) → (b == c) ≡ true → b ≡ c
 is-byte b c h = grind (arith, nat_tests)
 
+-- a byte that is none of these four
 not-special : (a b c d : Bool) → a ≡ false → b ≡ false → c ≡ false → d ≡ false → ((a || b) || (c || d)) ≡ false
 not-special true b c d e f g h = absurd (cc)
 not-special false true c d e f g h = absurd (cc)

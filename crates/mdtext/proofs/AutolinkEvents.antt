@@ -1,5 +1,5 @@
 -- The events that the machine of texts makes of an autolink are those of the item.
-use Rattle.std.proofs.Common.{◌≡◌, ℕ, zero, suc, ◌+◌, ◌<◌, ◌≤◌, ◌∷◌, ◌++◌, [], List, Bool, false, refl, sym, ◌∙◌, ap, Option, Some, None, arith, length, take, drop, slice_get, ◌==◌}
+use Rattle.std.proofs.Common.{◌≡◌, ℕ, zero, suc, ◌+◌, ◌<◌, ◌∷◌, ◌++◌, [], List, false, refl, sym, ◌∙◌, ap, Option, Some, None, arith, length, take, drop, slice_get, ◌==◌}
 use Rattle.std.proofs.lemmas.List.{take_at, drop_at, length-take-le}
 use Rattle.std.proofs.lemmas.Option.{slice_get_within}
 use Rattle.std.proofs.lemmas.Slice.{between_is}
@@ -22,15 +22,18 @@ use Rattle.mdtext.proofs.AutolinkSteps.{marked, ended_link}
 abbrev pub IsJoined : Given → Text → Type 0
 IsJoined g text = (p : ℕ) (s r : Seat) → slice_get text.seats p ≡ Some s → slice_get text.seats (p + 1) ≡ Some r → (s.byte == 10) ≡ false → shown g.bytes s.end ≡ shown g.bytes r.point
 
+-- eight events, one after another
 eight : (es : List Event) (a b c d e f g h : Event)
     → (((((((es ++ a ∷ []) ++ b ∷ []) ++ c ∷ []) ++ d ∷ []) ++ e ∷ []) ++ f ∷ []) ++ g ∷ []) ++ h ∷ [] ≡ es ++ a ∷ b ∷ c ∷ d ∷ e ∷ f ∷ g ∷ h ∷ []
 eight [] a b c d e f g h = refl
 eight (x ∷ es) a b c d e f g h = ap (λ l. x ∷ l) (eight es a b c d e f g h)
 
+-- virtual bytes end where the last does
 end-of-last : (p : Point) (xs : List Seat) (x : Seat) → end_after p (xs ++ x ∷ []) ≡ x.end
 end-of-last p [] x = refl
 end-of-last p (y ∷ ys) x = end-of-last y.end ys x
 
+-- one more is taken
 take-last : (n : ℕ) (xs : List Seat) (x : Seat) → slice_get xs n ≡ Some x → take (suc n) xs ≡ take n xs ++ x ∷ []
 take-last n [] x h = absurd (cc)
 take-last zero (y ∷ ys) x h = let same : y ≡ x = cc in ap (λ z. z ∷ []) same

@@ -1,6 +1,6 @@
 -- In a text, a virtual byte that is no line ending ends where the next is shown: gaps are only where lines begin.
 use Rattle.std.specs.List.{AllByRecursion}
-use Rattle.std.proofs.Common.{◌≡◌, ℕ, zero, suc, ◌+◌, ◌<◌, ◌≤◌, ◌==◌, List, [], ◌∷◌, ◌++◌, Bool, true, false, cond, Some, refl, sym, ap, ◌∙◌, subst, arith, append_assoc, inl, inr, slice_get}
+use Rattle.std.proofs.Common.{◌≡◌, ℕ, zero, suc, ◌+◌, ◌<◌, ◌==◌, List, [], ◌∷◌, ◌++◌, Bool, true, false, cond, Some, refl, sym, ap, ◌∙◌, subst, arith, append_assoc, inl, inr, slice_get}
 use Rattle.std.specs.Prelude.{filter, not, ◌&&◌}
 use Rattle.std.proofs.lemmas.List.{append-nil}
 use Rattle.std.proofs.lemmas.List.Elements.{filter-append}
@@ -32,10 +32,12 @@ abbrev EndsInLine : Seat → Type 0
 EndsInLine s = (s.byte == 10) ≡ false → 1 < s.end.column
 
 module _ (bytes : List ℕ) where
+  -- lists one after another
   begin-append : (xs ys : List Seat) (p : Point) → begin_or bytes (xs ++ ys) p ≡ begin_or bytes xs (begin_or bytes ys p)
   begin-append [] ys p = refl
   begin-append (x ∷ xs) ys p = refl
 
+  -- which are joined where each is, and the first to the second
   joined-append : (xs ys : List Seat) (p : Point) → AreJoined bytes xs (begin_or bytes ys p) → AreJoined bytes ys p → AreJoined bytes (xs ++ ys) p
   joined-append [] ys p h k = k
   joined-append (x ∷ xs) ys p h k = ((λ e. h.0 e ∙ sym (begin-append xs ys p)), joined-append xs ys p h.1 k)
@@ -62,16 +64,19 @@ module _ (bytes : List ℕ) where
       ap (λ (z : Seat). shown bytes z.end) (sym first) ∙ h.0 (ap (λ (z : Seat). z.byte == 10) first ∙ plain) ∙ ap (λ (z : Seat). shown bytes z.point) second
   joined-at (x ∷ xs) p (suc i) s r h e f plain = joined-at xs p i s r h.1 e f plain
 
+  -- what holds of all holds of some
   every-filter : (P : Seat → Type 0) (f : Seat → Bool) (xs : List Seat) → AllByRecursion P xs → AllByRecursion P (filter f xs)
   every-filter P f [] h = tt
   every-filter P f (x ∷ xs) h = elim (f x) as (λ b. AllByRecursion P (cond b (x ∷ filter f xs) (filter f xs))) [ true ↦ (h.0, every-filter P f xs h.1) | false ↦ every-filter P f xs h.1 ]
 
 module _ (t : ℕ) (bytes : List ℕ) where
+  -- a virtual byte that is no line ending ends a column further on
   end-column : (byte : ℕ) (p : Point) (b c : Bool) → (byte == 10) ≡ b → goes_on t byte p ≡ c → b ≡ false → (end_at t byte p).column ≡ suc p.column
   end-column byte p true c e f h = absurd (cc)
   end-column byte p false true e f h = rw (e, f) refl
   end-column byte p false false e f h = rw (e, f) refl
 
+  -- so it does not end where a line begins
   chain-in-line : (p : Point) (xs : List Seat) → IsChain t bytes p xs → AllByRecursion EndsInLine xs
   chain-in-line p [] c = tt
   chain-in-line p (s ∷ ss) c = (
@@ -88,16 +93,19 @@ module _ (t : ℕ) (bytes : List ℕ) where
   chain-begins p [] ys c = refl
   chain-begins p (s ∷ ss) ys c = c.1.shown_is
 
+  -- and each ends where the next is shown
   chain-joined : (p : Point) (xs ys : List Seat) → IsChain t bytes p (xs ++ ys) → AreJoined bytes xs (end_after p xs)
   chain-joined p [] ys c = tt
   chain-joined p (s ∷ ss) ys c =
       let ended = (chain-at t bytes s.end (ss ++ ys) c.2).shown in
       ((λ e. ended ∙ sym (chain-begins s.end ss ys c.2)), chain-joined s.end ss ys c.2)
 
+  -- a test that another leaves alone
   not-and : (a b : Bool) → a ≡ false → (not a && b) ≡ b
   not-and true b h = absurd (cc)
   not-and false b h = refl
 
+  -- no place is before the first
   origin-upto : (p : Point) → stands_before p (point 1 1 0 0) ≡ false
   origin-upto p = not-before p.index p.vs 0 0 (omega arith) refl
 
@@ -113,12 +121,14 @@ module _ (t : ℕ) (bytes : List ℕ) where
       ∙ append-nil (filter f place.before)
       ∙ filter-every f place.before place.behind
 
+  -- where lists end, one after another
   end-append : (p : Point) (xs ys : List Seat) → end_after p (xs ++ ys) ≡ end_after (end_after p xs) ys
   end-append p [] ys = refl
   end-append p (x ∷ xs) ys = end-append x.end xs ys
 
   -- what stands from a place on before another
   module _ (d : 0 < t) (a b : Point) (first : IsPlace t bytes a) (second : IsPlace t bytes b) (upto : is_upto t bytes a b ≡ true) where
+    -- what stands before the second is what stands before the first, and that
     before-grows : second.before ≡ first.before ++ left_of t bytes a b
     before-grows =
         let origin = point 1 1 0 0 in
@@ -126,6 +136,7 @@ module _ (t : ℕ) (bytes : List ℕ) where
         ∙ text-splits t bytes origin a b first (upto-order t bytes origin a (origin-upto a)) upto
         ∙ ap (λ (xs : List Seat). xs ++ left_of t bytes a b) (before-is a first)
 
+    -- it is a chain
     way-chain : IsChain t bytes (shown bytes a) (left_of t bytes a b ++ rest_at t bytes b)
     way-chain =
         let origin = point 1 1 0 0 in
@@ -133,17 +144,21 @@ module _ (t : ℕ) (bytes : List ℕ) where
         let c = chain-split t bytes origin first.before (left_of t bytes a b ++ rest_at t bytes b) (subst (IsChain t bytes origin) whole (whole-chain t bytes d)) in
         subst (λ (p : Point). IsChain t bytes p (left_of t bytes a b ++ rest_at t bytes b)) (sym first.stands) c
 
+    -- which ends where the second is shown
     way-ends : shown bytes b ≡ end_after (shown bytes a) (left_of t bytes a b)
     way-ends =
         second.stands ∙ ap (end_after (point 1 1 0 0)) before-grows ∙ end-append (point 1 1 0 0) first.before (left_of t bytes a b)
         ∙ ap (λ (p : Point). end_after p (left_of t bytes a b)) (sym first.stands)
 
+    -- it is what a range pushes
     pub range-is : filter (in_range a b) (virtual t bytes) ≡ left_of t bytes a b
     range-is = text-splits t bytes a a b first (upto-self t bytes a) upto ∙ ap (λ (xs : List Seat). xs ++ left_of t bytes a b) (range-empty t bytes a)
 
+    -- it is joined up to the second place
     pub range-joined : AreJoined bytes (left_of t bytes a b) (shown bytes b)
     range-joined = subst (AreJoined bytes (left_of t bytes a b)) (sym way-ends) (chain-joined (shown bytes a) (left_of t bytes a b) (rest_at t bytes b) way-chain)
 
+    -- and begins at the first
     pub range-begins : begin_or bytes (left_of t bytes a b) (shown bytes b) ≡ shown bytes a
     range-begins = ap (begin_or bytes (left_of t bytes a b)) way-ends ∙ chain-begins (shown bytes a) (left_of t bytes a b) (rest_at t bytes b) way-chain
 
@@ -154,6 +169,7 @@ record Stands (g : Given) (text : Text) : Type 0 where
   joined : AreJoined g.bytes text.seats (shown g.bytes text.end)
 
 module _ (g : Given) (d : 0 < g.tab) where
+  -- behind a range
   pushed-stands : (text : Text) (from to : Point) → Stands g text → FitsAfter g text (pushed from to) → Stands g (followed_by g text (pushed from to))
   pushed-stands text from to h fits =
       let a = place-of-point g.tab g.bytes d from fits.0 in
@@ -169,16 +185,19 @@ module _ (g : Given) (d : 0 < g.tab) where
         joined = subst (λ (ys : List Seat). AreJoined g.bytes (text.seats ++ ys) (shown g.bytes to)) (sym (range-is g.tab g.bytes d from to a b fits.3)) whole;
       }
 
+  -- behind a gap
   passed-stands : (b : Bool) (text : Text) (p : Point) → Stands g text → IsPlace g.tab g.bytes p → (b ≡ false → text.end.column ≡ 1) → Stands g (cond b text (record { start = text.start; seats = text.seats; end = p }))
   passed-stands true text p h place line = h
   passed-stands false text p h place line = record { place = place; in_line = h.in_line; joined = joined-line g.bytes text.seats text.end (shown g.bytes p) h.in_line h.joined (line refl) }
 
+  -- behind either
   piece-stands : (text : Text) (piece : Piece) → Stands g text → FitsAfter g text piece → Stands g (followed_by g text piece)
   piece-stands text (pushed from to) h fits = pushed-stands text from to h fits
   piece-stands text (passed p) h fits =
       passed-stands (denotes_same g.tab g.bytes p text.end) text p h (place-of-point g.tab g.bytes d p fits.0)
       (elim fits.1 [ inl same ↦ λ not_same. absurd (let e : true ≡ false = sym same ∙ not_same in cc) | inr later ↦ λ not_same. later.0 ])
 
+  -- and behind all
   pieces-stand : (text : Text) (pieces : List Piece) → Stands g text → CanFollow g text pieces → Stands g (followed_by_all g text pieces)
   pieces-stand text [] h fits = h
   pieces-stand text (piece ∷ rest) h fits = pieces-stand (followed_by g text piece) rest (piece-stands text piece h fits.0) fits.1

@@ -1,5 +1,5 @@
 -- The scheme of an autolink, as the machine of texts reads it: byte by byte, up to 32 of them.
-use Rattle.std.proofs.Common.{◌≡◌, ℕ, ◌+◌, ◌<◌, ◌≤◌, ◌∷◌, [], List, Bool, true, false, cond, refl, sym, ◌∙◌, ap, subst, Some, arith, drop, slice_get, nat_lt}
+use Rattle.std.proofs.Common.{◌≡◌, ℕ, ◌+◌, ◌<◌, ◌≤◌, ◌∷◌, [], List, Bool, true, false, cond, refl, sym, ap, subst, arith, drop, nat_lt}
 use Rattle.std.proofs.lemmas.Bool.{lt-ltb}
 use Rattle.std.proofs.lemmas.Bool.Decides.{nat_tests}
 use Rattle.std.proofs.lemmas.Option.{slice_get_within}
@@ -23,9 +23,11 @@ use Rattle.mdtext.proofs.AutolinkSteps.{sized, link_spans, in_link, marked, lett
 letter-scheme : (b : ℕ) → is_ascii_alphabetic b ≡ true → is_scheme_byte b ≡ true
 letter-scheme b h = grind (arith, nat_tests)
 
+-- a size below the bound grows by one
 one-more : (n : ℕ) → n < 32 → more_than n ≡ n + 1
 one-more n h = grind (arith, nat_tests)
 
+-- where there is room the size is below the bound
 below-room : (n : ℕ) → nat_lt n 32 ≡ true → n < 32
 below-room n h = grind (arith, nat_tests)
 
@@ -40,6 +42,7 @@ module _ (g : Given) (text : Text) where
       (ended_after : Bool) × (after : Local Unit Unit) × (after.tokenize_state.size_b ≡ local.tokenize_state.size_b + n)
       × Leads g text (in_link p ended events local) cs (Next AutolinkSchemeInsideOrEmailAtext) (in_link (p + n) ended_after events after) cs (Next AutolinkSchemeInsideOrEmailAtext)
 
+  -- nothing of a scheme was read
   none-read : (p : ℕ) (ended : Bool) (events : List Event) (local : Local Unit Unit) (cs : List Choice) → SchemeRead p 0 ended events local cs
   none-read p ended events local cs =
       let same : p + 0 ≡ p = omega arith in
@@ -114,6 +117,7 @@ module _ (g : Given) (text : Text) where
       (subst (λ k. EndsWith g text k cs (Retry AutolinkOpen) es) (sym (fed-is g text p e events link_spans local (slice_get_within text.seats p r at)))
       (letter-read g text p e events local cs r at letter es h))
 
+  -- with all bytes of a scheme, if they are not too many
   pub scheme-read : (p : ℕ) (e : Bool) (events : List Event) (local : Local Unit Unit) (cs : List Choice) (r : Seat) (rs : List Seat) → drop p text.seats ≡ r ∷ rs → is_ascii_alphabetic r.byte ≡ true
       → prefix_len is_scheme_byte (bytes_of (r ∷ rs)) ≤ 32 → WholeScheme p (prefix_len is_scheme_byte (bytes_of (r ∷ rs))) e events local cs
   scheme-read p e events local cs r rs here letter short =
@@ -130,6 +134,7 @@ module _ (g : Given) (text : Text) where
             (rest.3 es (subst (λ i. EndsWith g text (in_link i rest.0 events rest.1) cs (Next AutolinkSchemeInsideOrEmailAtext) es) further h)),
       )
 
+  -- where they are, it is refused
   pub scheme-too-long : (p : ℕ) (ended : Bool) (events : List Event) (q : ℕ) (e : Bool) (local : Local Unit Unit) (r : Seat) (rs : List Seat) → drop q text.seats ≡ r ∷ rs → is_ascii_alphabetic r.byte ≡ true
       → 32 < prefix_len is_scheme_byte (bytes_of (r ∷ rs)) → Refused g text p ended events (in_link q e (marked g text events p) local) (Next AutolinkOpen)
   scheme-too-long p ended events q e local r rs here letter long =

@@ -1,9 +1,6 @@
 -- What the machine of texts does in an autolink: its marker, its scheme, what follows that, and where it is refused.
-use Rattle.std.proofs.Common.{◌≡◌, ℕ, ◌+◌, ◌<◌, ◌≤◌, ◌∷◌, ◌++◌, [], List, Bool, true, false, cond, refl, sym, ◌∙◌, ap, subst, Option, Some, None, arith, length, take, drop, slice_get, nat_lt, nat_le, ◌==◌}
-use Rattle.std.proofs.lemmas.Bool.Decides.{nat_tests}
-use Rattle.std.proofs.lemmas.Option.{slice_get_within}
+use Rattle.std.proofs.Common.{◌≡◌, ℕ, ◌+◌, ◌∷◌, ◌++◌, [], List, Bool, true, false, cond, refl, sym, ◌∙◌, ap, subst, Some, length, take, slice_get, nat_lt, nat_le, ◌==◌}
 use Rattle.std.specs.Char.{is_ascii_alphabetic}
-use Rattle.std.specs.List.{prefix_len}
 use Rattle.markdown_base.specs.declared.event.Event.{Event}
 use Rattle.markdown_base.specs.declared.event.Kind.TheVariants.{Enter, Exit}
 use Rattle.markdown_base.specs.declared.event.Name.{Name as EventName}
@@ -18,17 +15,18 @@ use Rattle.markdown.specs.Text.{Given, Text}
 use Rattle.markdown.specs.Configuration.{Configuration, Local, Choice}
 use Rattle.markdown.specs.Sight.{byte_of, point_or, end_or, end_place}
 use Rattle.markdown.specs.Reading.{fed}
-use Rattle.mdtables.specs.Rows.{Rows, Row, row, enter, exit, consume, write, class_of}
+use Rattle.mdtables.specs.Rows.{Row, row, enter, exit, consume, write, class_of}
 use Rattle.mdconstructs.specs.Tables.{counts}
 use Rattle.mdtext.specs.Items.{passes, is_scheme_byte, is_allowed}
 use Rattle.mdtext.specs.TextCosts.{text_byte}
 use Rattle.mdtext.specs.TextEvents.{event}
-use Rattle.mdtext.specs.TextTable.{more_than, size_b_is, size_b_grows, scheme_goes_on, autolink_start_rows, autolink_open_rows, autolink_scheme_rows, autolink_url_rows}
-use Rattle.mdtext.proofs.Steps.{EndsWith, Leads, between_items, leads-called, leads-fed, leads-nok, fed-is, before_class, waiting_class, WithRows}
+use Rattle.mdtext.specs.TextTable.{more_than, size_b_grows, scheme_goes_on, autolink_start_rows, autolink_open_rows, autolink_scheme_rows, autolink_url_rows}
+use Rattle.mdtext.proofs.Steps.{EndsWith, Leads, between_items, leads-called, leads-fed, leads-nok, before_class, waiting_class, WithRows}
 use Rattle.mdtext.proofs.PlainRuns.{in_spans, at_byte, seen, ReadsByte}
 use Rattle.mdtext.proofs.PlainItems.{outer, WithRow}
 use Rattle.mdtext.proofs.AutolinkClasses.{opened, coloned, closed, open-class, open-refused, scheme-class, colon-class, scheme-refused, link-class, close-class, link-refused}
 
+-- the events before four others
 kept-front : (es : List Event) (a b c d : Event) → take (length es) ((((es ++ a ∷ []) ++ b ∷ []) ++ c ∷ []) ++ d ∷ []) ≡ es
 kept-front [] a b c d = refl
 kept-front (x ∷ es) a b c d = ap (λ l. x ∷ l) (kept-front es a b c d)
@@ -41,9 +39,11 @@ sized n local = record local { tokenize_state = record local.tokenize_state { si
 abbrev pub link_spans : List EventName
 link_spans = Autolink ∷ AutolinkProtocol ∷ []
 
+-- with nothing waiting
 abbrev pub in_link : ℕ → Bool → List Event → Local Unit Unit → Configuration Unit Unit
 in_link p ended events local = in_spans link_spans p ended events local
 
+-- and with a byte
 abbrev at_link : ℕ → Bool → List Event → Local Unit Unit → Configuration Unit Unit
 at_link p ended events local = at_byte link_spans p ended events local
 
@@ -87,9 +87,11 @@ module _ (g : Given) (text : Text) where
   abbrev goes_on : Row Unit Unit
   goes_on = record { acts = write size_b_grows ∷ consume ∷ []; answer = Next AutolinkSchemeInsideOrEmailAtext }
 
+  -- a row that refuses
   abbrev pub refused : Row Unit Unit
   refused = record { acts = []; answer = Nok }
 
+  -- at a byte of schemes the size decides
   at-scheme : (room : Bool) (p : ℕ) (ended : Bool) (events : List Event) (local : Local Unit Unit) (cs : List Choice) (es : List Event) (s : Seat) → slice_get text.seats p ≡ Some s → is_scheme_byte s.byte ≡ true
       → nat_lt local.tokenize_state.size_b 32 ≡ room → WithRow g text (at_link p ended events (counts local)) cs es (cond room goes_on refused)
       → EndsWith g text (at_link p ended events local) cs (Retry AutolinkSchemeInsideOrEmailAtext) es
@@ -100,6 +102,7 @@ module _ (g : Given) (text : Text) where
       (subst (WithRows g text (at_link p ended events (counts local)) cs es) (sym rows)
       (subst (λ b. WithRow g text (at_link p ended events (counts local)) cs es (cond b goes_on refused)) (sym has) h))
 
+  -- where there is room it is read
   pub scheme-byte-read : (p : ℕ) (ended : Bool) (events : List Event) (local : Local Unit Unit) (cs : List Choice) (s : Seat) → slice_get text.seats p ≡ Some s → is_scheme_byte s.byte ≡ true
       → nat_lt local.tokenize_state.size_b 32 ≡ true
       → Leads g text (at_link p ended events local) cs (Retry AutolinkSchemeInsideOrEmailAtext)
@@ -110,6 +113,7 @@ module _ (g : Given) (text : Text) where
   abbrev goes_behind : Row Unit Unit
   goes_behind = record { acts = consume ∷ []; answer = Next AutolinkUrlInside }
 
+  -- at a colon the size decides
   at-colon : (long : Bool) (p : ℕ) (ended : Bool) (events : List Event) (local : Local Unit Unit) (cs : List Choice) (es : List Event) (s : Seat) → slice_get text.seats p ≡ Some s → (s.byte == 58) ≡ true
       → nat_le 2 local.tokenize_state.size_b ≡ long → WithRow g text (at_link p ended events (counts local)) cs es (cond long goes_behind refused)
       → EndsWith g text (at_link p ended events local) cs (Retry AutolinkSchemeInsideOrEmailAtext) es
@@ -120,6 +124,7 @@ module _ (g : Given) (text : Text) where
       (subst (WithRows g text (at_link p ended events (counts local)) cs es) (sym rows)
       (subst (λ b. WithRow g text (at_link p ended events (counts local)) cs es (cond b goes_behind refused)) (sym has) h))
 
+  -- where it is long enough it is read
   pub colon-read : (p : ℕ) (ended : Bool) (events : List Event) (local : Local Unit Unit) (cs : List Choice) (s : Seat) → slice_get text.seats p ≡ Some s → (s.byte == 58) ≡ true
       → nat_le 2 local.tokenize_state.size_b ≡ true
       → Leads g text (at_link p ended events local) cs (Retry AutolinkSchemeInsideOrEmailAtext) (in_link (p + 1) false events (counts local)) cs (Next AutolinkUrlInside)
@@ -146,6 +151,7 @@ module _ (g : Given) (text : Text) where
   abbrev pub Refused : (p : ℕ) (ended : Bool) (events : List Event) → Configuration Unit Unit → State → Type 0
   Refused p ended events k s = (after : Local Unit Unit) × Leads g text k (outer p ended events ∷ []) s (between_items p Nothing ended events after) [] (Next TextBeforeData)
 
+  -- the events that were made are taken back
   put-back : (p : ℕ) (ended : Bool) (events : List Event) (k : Configuration Unit Unit) → k.events ≡ marked events p
       → Leads g text k (outer p ended events ∷ []) Nok (between_items p Nothing ended events k.local) [] (Next TextBeforeData)
   put-back p ended events k is es h =
@@ -199,6 +205,7 @@ module _ (g : Given) (text : Text) where
     λ es h. at-scheme false q e (marked events p) local (outer p ended events ∷ []) es s at is has (put-back p ended events (at_link q e (marked events p) (counts local)) refl es h),
   )
 
+  -- at a colon, too short
   pub too-short : (p : ℕ) (ended : Bool) (events : List Event) (q : ℕ) (e : Bool) (local : Local Unit Unit) (s : Seat) → slice_get text.seats q ≡ Some s → (s.byte == 58) ≡ true
       → nat_le 2 local.tokenize_state.size_b ≡ false → Refused p ended events (at_link q e (marked events p) local) (Retry AutolinkSchemeInsideOrEmailAtext)
   too-short p ended events q e local s at is has = (

@@ -8,9 +8,9 @@ use Rattle.std.specs.List.{prefix_len}
 use Rattle.markdown_base.specs.declared.event.Event.{Event}
 use Rattle.markdown_base.specs.declared.state.State.{State}
 use Rattle.markdown_base.specs.declared.state.State.TheVariants.{Next, Retry, Ok}
-use Rattle.markdown_base.specs.declared.state.TheConstants.Name.{TextBefore, AutolinkStart, AutolinkOpen, AutolinkSchemeInsideOrEmailAtext, AutolinkUrlInside}
+use Rattle.markdown_base.specs.declared.state.TheConstants.Name.{AutolinkStart, AutolinkOpen, AutolinkSchemeInsideOrEmailAtext, AutolinkUrlInside}
 use Rattle.markdown_base.specs.Virtual.{Seat}
-use Rattle.markdown.specs.declared.waiting.Waits.TheVariants.{Nothing, Byte}
+use Rattle.markdown.specs.declared.waiting.Waits.TheVariants.{Nothing}
 use Rattle.markdown.specs.Text.{Given, Text}
 use Rattle.markdown.specs.Configuration.{Configuration, Local, Choice}
 use Rattle.markdown.specs.Sight.{byte_of}
@@ -22,14 +22,16 @@ use Rattle.mdtext.proofs.Steps.{EndsWith, Leads, between_items, leads-fed, leads
 use Rattle.mdtext.proofs.LineEndings.{at-front}
 use Rattle.mdtext.proofs.PlainRuns.{behind-front, byte-behind, run-ends, found, reads-run}
 use Rattle.mdtext.proofs.PlainItems.{outer, Tried, byte-rows, leads-tried}
-use Rattle.mdtext.proofs.AutolinkSteps.{link_spans, in_link, marked, ended_link, marker-read, colon-read, reads-allowed, closing-read, Refused, refused-fed, open-seen, scheme-seen, too-short, link-seen}
+use Rattle.mdtext.proofs.AutolinkSteps.{link_spans, in_link, marked, marker-read, colon-read, reads-allowed, closing-read, Refused, refused-fed, open-seen, scheme-seen, too-short, link-seen}
 use Rattle.mdtext.proofs.AutolinkEvents.{IsJoined, link-events}
 use Rattle.mdtext.proofs.AutolinkSchemes.{scheme-read, scheme-too-long}
 
+-- what a test of two sizes says
 at-most : (m n : ℕ) (b : Bool) → nat_le m n ≡ b → cond b (m ≤ n) (n < m)
 at-most m n true h = grind (arith, nat_tests)
 at-most m n false h = grind (arith, nat_tests)
 
+-- four tests that are passed together
 all-four : (a b c d : Bool) → ((a && (b && c)) && d) ≡ true → (a ≡ true) × (b ≡ true) × (c ≡ true) × (d ≡ true)
 all-four true true true true h = (refl, refl, refl, refl)
 all-four true true true false h = absurd (cc)
@@ -37,10 +39,12 @@ all-four true true false d h = absurd (cc)
 all-four true false c d h = absurd (cc)
 all-four false b c d h = absurd (cc)
 
+-- of two tests the one fails where the other is passed
 one-false : (a b : Bool) → (a && b) ≡ false → b ≡ true → a ≡ false
 one-false true b h e = absurd (cc)
 one-false false b h e = refl
 
+-- and of four tests one of the other two
 two-left : (a b c d : Bool) → ((a && (b && c)) && d) ≡ false → b ≡ true → c ≡ true → (a && d) ≡ false
 two-left true true true d h e f = h
 two-left true true false d h e f = absurd (cc)
@@ -56,6 +60,7 @@ module _ (g : Given) (text : Text) where
       × Leads g text k (outer p ended events ∷ []) s
       (between_items (p + item_length item) Nothing false (events ++ item_events g.bytes (item, take (item_length item) seats)) after) (outer p ended events ∷ []) Ok
 
+  -- what is decided further on is decided here
   decided-before : (p : ℕ) (ended : Bool) (events : List Event) (seats : List Seat) (k k' : Configuration Unit Unit) (s s' : State) (o : Option Item)
       → Leads g text k (outer p ended events ∷ []) s k' (outer p ended events ∷ []) s' → Decided p ended events seats k' s' o → Decided p ended events seats k s o
   decided-before p ended events seats k k' s s' None leads d = (d.0, λ es h. leads es (d.1 es h))
@@ -66,18 +71,23 @@ module _ (g : Given) (text : Text) (joined : IsJoined g text) (p : ℕ) (ended :
   abbrev scheme_length : ℕ
   scheme_length = prefix_len is_scheme_byte (bytes_of (r ∷ rs))
 
+  -- between the markers
   abbrev inside : ℕ
   inside = scheme_length + 1 + prefix_len is_allowed (drop (scheme_length + 1) (bytes_of (r ∷ rs)))
 
+  -- in the autolink that is tried
   abbrev in_tried : ℕ → Bool → Local Unit Unit → Configuration Unit Unit
   in_tried q e local = in_link q e (marked g text events p) local
 
+  -- what waits there
   abbrev choices : List Choice
   choices = outer p ended events ∷ []
 
+  -- what is decided of it
   abbrev Ends : Configuration Unit Unit → State → Option Item → Type 0
   Ends k state o = Decided g text p ended events (s ∷ r ∷ rs) k state o
 
+  -- what stands behind the first marker
   behind : drop (p + 1) text.seats ≡ r ∷ rs
   behind = behind-front text.seats p s (r ∷ rs) here
 
@@ -157,9 +167,11 @@ module _ (g : Given) (text : Text) (joined : IsJoined g text) (p : ℕ) (ended :
   abbrev starts : Local Unit Unit → Option Item → Type 0
   starts local o = Ends (in_tried (p + 1) false local) (Next AutolinkOpen) o
 
+  -- whether it has a scheme, and a colon behind it
   abbrev is_link : Bool
   is_link = is_scheme (bytes_of (r ∷ rs)) scheme_length && is_at (bytes_of (r ∷ rs)) scheme_length 58
 
+  -- where it has, all allowed bytes behind that are read
   takes-link : (local : Local Unit Unit) → is_link ≡ true → starts local (autolink_to (bytes_of (s ∷ r ∷ rs)) (Some inside))
   takes-link local is =
       let (long, room, letter, colon) = all-four (nat_le 2 scheme_length) (nat_le scheme_length 32) (is_ascii_alphabetic r.byte) (is_at (bytes_of (r ∷ rs)) scheme_length 58) is in
@@ -167,6 +179,7 @@ module _ (g : Given) (text : Text) (joined : IsJoined g text) (p : ℕ) (ended :
       decided-before g text p ended events (s ∷ r ∷ rs) (in_tried (p + 1) false local) (in_tried (p + 1 + scheme_length) read.0 read.1) (Next AutolinkOpen) (Next AutolinkSchemeInsideOrEmailAtext) (autolink_to (bytes_of (s ∷ r ∷ rs)) (Some inside))
       read.3 (passes-colon read.0 read.1 read.2 long colon)
 
+  -- where it has not, it is refused
   refuses-link : (local : Local Unit Unit) → is_link ≡ false → starts local None
   refuses-link local none =
       let n = scheme_length in
@@ -185,6 +198,7 @@ module _ (g : Given) (text : Text) (joined : IsJoined g text) (p : ℕ) (ended :
             refused-fed g text p ended events k AutolinkOpen (open-seen g text (nat_lt (p + 1) (length text.seats)) p ended events (p + 1) false local first)
       ] refl
 
+  -- so the tests of the item decide
   pub decides-link : (local : Local Unit Unit) → starts local (autolink_to (bytes_of (s ∷ r ∷ rs)) (uri (bytes_of (r ∷ rs))))
   decides-link local = elim is_link as (λ b. is_link ≡ b → starts local (autolink_to (bytes_of (s ∷ r ∷ rs)) (cond b (Some inside) None))) [
     | true ↦ takes-link local
@@ -213,6 +227,7 @@ module _ (g : Given) (text : Text) where
             (leads-ok g text (between_items (p + item_length item) Nothing false (events ++ item_events g.bytes (item, take (item_length item) (s ∷ ss))) d.0) (outer p ended events) [] es h))),
       )
 
+  -- So autolinks are tried where they may begin
   pub tries-autolink : IsJoined g text → (p : ℕ) (ended : Bool) (events : List Event) (local : Local Unit Unit) (s : Seat) (ss : List Seat) → drop p text.seats ≡ s ∷ ss → s.byte ≡ 60
       → g.options.constructs.autolink ≡ true → Tried g text p ended events local (s ∷ ss) (autolink_at (bytes_of (s ∷ ss)))
   tries-autolink joined p ended events local s [] here is on =

@@ -29,9 +29,11 @@ use Rattle.mdtext.proofs.CodeSpanSteps.{held, shows, Stops, next-at, goes-next, 
 abbrev pub in_code : List EventName
 in_code = CodeText ∷ []
 
+-- a run is read
 abbrev pub in_run : List EventName
 in_run = CodeText ∷ CodeTextSequence ∷ []
 
+-- data is read
 abbrev pub in_data : List EventName
 in_data = CodeText ∷ CodeTextData ∷ []
 
@@ -42,12 +44,14 @@ size_b local = local.tokenize_state.size_b
 abbrev pub size_c : Local Unit Unit → ℕ
 size_c local = local.tokenize_state.size_c
 
+-- a size is written
 abbrev pub with_b : ℕ → Local Unit Unit → Local Unit Unit
 with_b n local = record local { tokenize_state = record local.tokenize_state { size_b = n } }
 
 abbrev pub with_c : ℕ → Local Unit Unit → Local Unit Unit
 with_c n local = record local { tokenize_state = record local.tokenize_state { size_c = n } }
 
+-- in a call that counts a backtick
 abbrev pub grows_b : Local Unit Unit → Local Unit Unit
 grows_b local = with_b (more_than (size_b local)) (counts local)
 
@@ -62,6 +66,7 @@ more-is n h = omega (arith, h)
 abbrev pub is_code_data : ℕ → Bool
 is_code_data b = not (is_backtick_or_line_feed b)
 
+-- what a denied test says
 is-not : (a : Bool) → not a ≡ true → a ≡ false
 is-not true e = absurd (cc)
 is-not false e = refl
@@ -71,7 +76,8 @@ is-so true e = refl
 is-so false e = absurd (cc)
 
 module _ (g : Given) (text : Text) where
-  abbrev WithRow : Configuration Unit Unit → List Choice → List Event → Row Unit Unit → Type 0
+  -- what is read with this row
+  abbrev pub WithRow : Configuration Unit Unit → List Choice → List Event → Row Unit Unit → Type 0
   WithRow k cs es r = let q = step_of r (sight g text k) k in EndsWith g text q.configuration (q.choices ++ cs) q.answer es
 
   -- an event where the byte at a position begins, where it ends, or where the one before it ended
@@ -84,6 +90,7 @@ module _ (g : Given) (text : Text) where
   abbrev pub exit_past : EventName → ℕ → Event
   exit_past name q = event g.bytes Exit name (end_or text.end (slice_get text.seats q))
 
+  -- no backtick waits, or what ends data
   waiting-other : (q : ℕ) (s : Seat) → slice_get text.seats q ≡ Some s → is_backtick s.byte ≡ false → is_tick (waiting_class g text q) ≡ false
   waiting-other q s at e = ap (λ o. is_tick (class_of text_byte (byte_of o))) at ∙ other-class s.byte e
 
@@ -96,16 +103,19 @@ module _ (g : Given) (text : Text) where
       leads-called g text (held in_run q Byte ended events local) cs RawTextSequenceOpen es
       (subst (WithRows g text (held in_run q Byte ended events (counts local)) cs es) (sym (class-rows g text raw_text_sequence_open_rows q s backtick at (tick-class s.byte tick))) h)
 
+  -- the run that may close a code span
   pub close-reads : (cs : List Choice) → Reads g text in_run cs RawTextSequenceClose is_backtick grows_c
   close-reads cs q ended events local s at tick es h =
       leads-called g text (held in_run q Byte ended events local) cs RawTextSequenceClose es
       (subst (WithRows g text (held in_run q Byte ended events (counts local)) cs es) (sym (class-rows g text raw_text_sequence_close_rows q s backtick at (tick-class s.byte tick))) h)
 
+  -- a run that is data
   pub chunk-reads : (cs : List Choice) → Reads g text in_data cs RawFlowContentChunk is_backtick counts
   chunk-reads cs q ended events local s at tick es h =
       leads-called g text (held in_data q Byte ended events local) cs RawFlowContentChunk es
       (subst (WithRows g text (held in_data q Byte ended events (counts local)) cs es) (sym (class-rows g text raw_flow_content_chunk_rows q s backtick at (tick-class s.byte tick))) h)
 
+  -- data
   pub data-reads : (cs : List Choice) → Reads g text in_data cs RawTextData is_code_data counts
   data-reads cs q ended events local s at inside es h =
       let rows = class-rows g text raw_text_data_rows q s (text_byte s.byte) at refl ∙ (at-data (before_class g text q) (text_byte s.byte) (data-class s.byte (is-not _ inside))).1 in
@@ -128,6 +138,7 @@ module _ (g : Given) (text : Text) where
   abbrev fails : Row Unit Unit
   fails = record { acts = []; answer = Nok }
 
+  -- it is as long
   pub close-fits : (l : List Seat) (q : ℕ) (events : List Event) (local : Local Unit Unit) (cs : List Choice) → drop q text.seats ≡ l → Stops is_backtick l → (size_c local == size_b local) ≡ true
       → Leads g text (shows l in_run q events local) cs (Retry RawTextSequenceClose) (shows l in_code q (events ++ exit_at CodeTextSequence q ∷ []) (counts local)) cs Ok
   close-fits [] q events local cs at stops same es h =
@@ -139,6 +150,7 @@ module _ (g : Given) (text : Text) where
       (subst (WithRows g text (held in_run q Byte false events (counts local)) cs es) (sym rows)
       (subst (λ b. WithRow (held in_run q Byte false events (counts local)) cs es (cond b fits fails)) (sym same) h))
 
+  -- it is not
   pub close-fails : (l : List Seat) (q : ℕ) (events : List Event) (local : Local Unit Unit) (cs : List Choice) → drop q text.seats ≡ l → Stops is_backtick l → (size_c local == size_b local) ≡ false
       → Leads g text (shows l in_run q events local) cs (Retry RawTextSequenceClose) (shows l in_run q events (counts local)) cs Nok
   close-fails [] q events local cs at stops same es h =
@@ -159,6 +171,7 @@ module _ (g : Given) (text : Text) where
       leads-called g text (held in_data q Byte false events local) cs RawFlowContentChunk es
       (subst (WithRows g text (held in_data q Byte false events (counts local)) cs es) (sym rows) h)
 
+  -- data has ended, where a line ending, a backtick or the end waits
   pub data-ends : (l : List Seat) (q : ℕ) (events : List Event) (local : Local Unit Unit) (cs : List Choice) → drop q text.seats ≡ l → Stops is_code_data l
       → Leads g text (shows l in_data q events local) cs (Retry RawTextData) (shows l in_code q (events ++ exit_at CodeTextData q ∷ []) (counts local)) cs (Retry RawTextBetween)
   data-ends [] q events local cs at stops es h = leads-called g text (held in_data q End true events local) cs RawTextData es h
@@ -176,6 +189,7 @@ module _ (g : Given) (text : Text) where
       (subst (WithRows g text (held in_code q Byte false events (counts local)) cs es) (sym (class-rows g text raw_text_between_rows q s line_feed (at-front text.seats q s ss at) (line-feed-class s.byte is)))
       (goes-next g text ss in_code (q + 1) ((events ++ enter_at LineEnding q ∷ []) ++ exit_past LineEnding q ∷ []) (counts local) cs RawTextBetween (next-at text.seats q s ss at) es h))
 
+  -- data begins
   pub between-data : (q : ℕ) (s : Seat) (events : List Event) (local : Local Unit Unit) (cs : List Choice) → slice_get text.seats q ≡ Some s → is_backtick_or_line_feed s.byte ≡ false
       → Leads g text (held in_code q Byte false events local) cs (Retry RawTextBetween) (held in_data q Byte false (events ++ enter_at CodeTextData q ∷ []) (counts local)) cs (Retry RawTextData)
   between-data q s events local cs at inside es h =
@@ -192,6 +206,7 @@ module _ (g : Given) (text : Text) where
     saved = Some (record { position = q; ended = false; events = length events; stack = in_code });
   }
 
+  -- a run is tried
   pub between-run : (q : ℕ) (s : Seat) (events : List Event) (local : Local Unit Unit) (cs : List Choice) → slice_get text.seats q ≡ Some s → is_backtick s.byte ≡ true
       → Leads g text (held in_code q Byte false events local) cs (Retry RawTextBetween)
       (held in_run q Byte false (events ++ enter_at CodeTextSequence q ∷ []) (with_c 0 (counts local))) (inner q events ∷ cs) (Retry RawTextSequenceClose)
@@ -199,6 +214,7 @@ module _ (g : Given) (text : Text) where
       leads-called g text (held in_code q Byte false events local) cs RawTextBetween es
       (subst (WithRows g text (held in_code q Byte false events (counts local)) cs es) (sym (class-rows g text raw_text_between_rows q s backtick at (tick-class s.byte tick))) h)
 
+  -- at the end no run closes it
   pub between-end : (q : ℕ) (events : List Event) (local : Local Unit Unit) (cs : List Choice)
       → Leads g text (shows [] in_code q events local) cs (Retry RawTextBetween) (shows [] in_code q events (counts local)) cs Nok
   between-end q events local cs es h = leads-called g text (held in_code q End true events local) cs RawTextBetween es h

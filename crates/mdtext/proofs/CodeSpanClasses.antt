@@ -14,6 +14,7 @@ abbrev pub IsOther : TextByte → Type 0
 IsOther w = is_tick (Some w) ≡ false
 
 module _ (P : TextByte → Type 0) where
+  -- what holds of the class that a test picks
   either : (b : Bool) (x y : TextByte) → P x → P y → P (cond b x y)
   either true x y h i = h
   either false x y h i = i
@@ -36,6 +37,7 @@ module _ (P : TextByte → Type 0) where
 pub tick-class : (b : ℕ) → is_backtick b ≡ true → text_byte b ≡ backtick
 tick-class b h = let e : b ≡ 96 = grind (arith, nat_tests) in ap text_byte e
 
+-- line endings are of the class of LF
 pub line-feed-class : (b : ℕ) → is_line_feed b ≡ true → text_byte b ≡ line_feed
 line-feed-class b h = let e : b ≡ 10 = grind (arith, nat_tests) in ap text_byte e
 
@@ -48,15 +50,18 @@ left-false : (a b : Bool) → (a || b) ≡ false → a ≡ false
 left-false true b h = absurd (cc)
 left-false false b h = refl
 
+-- a test of one or the other that fails
 right-false : (a b : Bool) → (a || b) ≡ false → b ≡ false
 right-false true b h = absurd (cc)
 right-false false b h = h
 
+-- bytes of data
 pub data-class : (b : ℕ) → is_backtick_or_line_feed b ≡ false → IsData (text_byte b)
 data-class b h =
     second IsData (b == 10) _ _ (left-false (b == 10) (b == 96) h) (second IsData (b == 96) _ _ (right-false (b == 10) (b == 96) h)
     (others IsData b refl refl refl refl refl refl refl refl refl refl))
 
+-- bytes that end it
 pub end-class : (b : ℕ) → is_backtick_or_line_feed b ≡ true → ends_code_data (Some (text_byte b)) ≡ true
 end-class b h =
     elim (b == 10) as (λ t. (t || (b == 96)) ≡ true → (b == 10) ≡ t → ends_code_data (Some (text_byte b)) ≡ true) [

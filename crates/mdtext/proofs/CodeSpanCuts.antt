@@ -14,6 +14,7 @@ cut_pieces bound seats = cut (piece_at is_backtick_or_line_feed) piece_length bo
 abbrev pub piece_of : List Seat → Piece
 piece_of seats = piece_at is_backtick_or_line_feed (bytes_of seats)
 
+-- the first piece, where it is known
 cut-by : (a : Piece) (bound n m : ℕ) (s : Seat) (ss : List Seat) → piece_of (take (suc n) (s ∷ ss)) ≡ a → piece_length a + m ≡ suc n
     → cut_pieces (suc bound) (take (suc n) (s ∷ ss)) ≡ (a, take (piece_length a) (s ∷ ss)) ∷ cut_pieces bound (take m (drop (piece_length a) (s ∷ ss)))
 cut-by a bound n m s ss is sum =

@@ -10,9 +10,8 @@ use Rattle.markdown_base.specs.Virtual.{Seat}
 use Rattle.markdown.specs.declared.waiting.Waits.TheVariants.{Nothing, Byte, End}
 use Rattle.markdown.specs.declared.waiting.AttemptKind.TheVariants.{Attempt}
 use Rattle.markdown.specs.Text.{Given, Text}
-use Rattle.markdown.specs.Configuration.{Configuration, Local, Choice}
-use Rattle.markdown.specs.Sight.{sight}
-use Rattle.mdtables.specs.Rows.{Row, choose, step_of}
+use Rattle.markdown.specs.Configuration.{Local, Choice}
+use Rattle.mdtables.specs.Rows.{Row, choose}
 use Rattle.mdconstructs.specs.Tables.{counts}
 use Rattle.mdtext.specs.Items.{is_backtick, run}
 use Rattle.mdtext.specs.TextEvents.{bytes_of, leaf}
@@ -22,7 +21,7 @@ use Rattle.mdtext.proofs.Steps.{EndsWith, Leads, between_items, leads-called, le
 use Rattle.mdtext.proofs.LineEndings.{at-front}
 use Rattle.mdtext.proofs.CodeSpanClasses.{tick-class}
 use Rattle.mdtext.proofs.CodeSpanSteps.{held, shows, past, passed, past-at, past-stops, passed-counts, next-at, goes-next, class-rows, leaf-is, loops, ends-fed}
-use Rattle.mdtext.proofs.CodeSpanCalls.{in_code, in_run, size_b, with_b, with_c, grows_b, grows_c, more-is, enter_at, exit_at, inner, open-reads, open-ends, close-reads, close-fits, between-run, code-ends}
+use Rattle.mdtext.proofs.CodeSpanCalls.{WithRow, in_code, in_run, size_b, with_b, with_c, grows_b, grows_c, more-is, enter_at, exit_at, inner, open-reads, open-ends, close-reads, close-fits, between-run, code-ends}
 use Rattle.mdtext.proofs.CodeSpanPieces.{count-within, sizes-read}
 
 -- at the end of the text the end was fed
@@ -30,9 +29,11 @@ abbrev pub is_end : List Seat → Bool
 is_end [] = true
 is_end (s ∷ ss) = false
 
+-- a number is itself
 same-size : (n : ℕ) → (n == n) ≡ true
 same-size n = grind (arith, nat_tests)
 
+-- a run of at least one begins with a backtick
 begins-run : (b : ℕ) (bs : List ℕ) → 0 < run (b ∷ bs) → is_backtick b ≡ true
 begins-run b bs h = elim (is_backtick b) as (λ t. 0 < cond t (1 + run bs) 0 → t ≡ true) [
   | true ↦ λ i. refl
@@ -90,11 +91,9 @@ module _ (g : Given) (text : Text) where
   abbrev pub outer : ℕ → Bool → List Event → Choice
   outer p ended events = record { kind = Attempt; ok = Next TextBefore; nok = Next TextBeforeData; saved = Some (record { position = p; ended = ended; events = length events; stack = [] }) }
 
+  -- the row that makes it
   abbrev tried : Row Unit Unit
   tried = record { acts = choose Attempt (Next TextBefore) (Next TextBeforeData) ∷ []; answer = Retry RawTextStart }
-
-  abbrev WithRow : Configuration Unit Unit → List Choice → List Event → Row Unit Unit → Type 0
-  WithRow k cs es r = let q = step_of r (sight g text k) k in EndsWith g text q.configuration (q.choices ++ cs) q.answer es
 
   -- it is tried
   tries-code : (p : ℕ) (ended : Bool) (events : List Event) (local : Local Unit Unit) (s : Seat)
@@ -103,8 +102,9 @@ module _ (g : Given) (text : Text) where
   tries-code p ended events local s at tick on es h =
       leads-called g text (between_items p Byte ended events local) [] TextBefore es
       (subst (WithRows g text (between_items p Byte ended events (counts local)) [] es) (sym (class-rows g text text_before_rows p s backtick at (tick-class s.byte tick)))
-      (subst (λ b. WithRow (between_items p Byte ended events (counts local)) [] es (cond b tried (record { acts = []; answer = Retry TextBeforeData }))) (sym on) h))
+      (subst (λ b. WithRow g text (between_items p Byte ended events (counts local)) [] es (cond b tried (record { acts = []; answer = Retry TextBeforeData }))) (sym on) h))
 
+  -- the code span begins, and its first run
   starts-code : (p : ℕ) (ended : Bool) (events : List Event) (local : Local Unit Unit) (cs : List Choice) (s : Seat) → slice_get text.seats p ≡ Some s → is_backtick s.byte ≡ true
       → Leads g text (between_items p Byte ended events local) cs (Retry RawTextStart)
       (held in_run p Byte ended ((events ++ enter_at g text CodeText p ∷ []) ++ enter_at g text CodeTextSequence p ∷ []) (with_b 0 (counts local))) cs (Retry RawTextSequenceOpen)

@@ -1,32 +1,31 @@
 -- The events of a code span, as the machine of texts makes them one after another.
-use Rattle.std.proofs.Common.{◌≡◌, ℕ, zero, suc, ◌+◌, ◌-◌, ◌<◌, ◌≤◌, ◌∷◌, ◌++◌, [], List, sym, ◌∙◌, ap, arith, length, take, drop}
+use Rattle.std.proofs.Common.{◌≡◌, ℕ, suc, ◌+◌, ◌-◌, ◌<◌, ◌≤◌, ◌∷◌, ◌++◌, [], List, sym, ◌∙◌, ap, arith, length, take, drop}
 use Rattle.std.proofs.lemmas.List.{append_assoc, length-take, drop-take, take-take}
 use Rattle.std.specs.List.{flat_map, between}
 use Rattle.markdown_base.specs.declared.event.Event.{Event}
-use Rattle.markdown_base.specs.declared.event.Kind.TheVariants.{Enter, Exit}
-use Rattle.markdown_base.specs.declared.event.Name.{Name as EventName}
 use Rattle.markdown_base.specs.declared.event.Name.TheVariants.{CodeText, CodeTextSequence, CodeTextData}
 use Rattle.markdown_base.specs.Virtual.{Seat}
 use Rattle.markdown.specs.Text.{Given, Text}
-use Rattle.markdown.specs.Sight.{point_or, end_place}
 use Rattle.mdtext.specs.Items.{code_span, is_backtick_or_line_feed, piece_length, piece_at}
-use Rattle.mdtext.specs.TextEvents.{event, leaf, span, piece_events, pieces, item_events}
+use Rattle.mdtext.specs.TextEvents.{leaf, piece_events, pieces, item_events}
 use Rattle.mdtext.proofs.Cutting.{cut-enough}
-use Rattle.mdtext.proofs.LineEndings.{at-front}
 use Rattle.mdtext.proofs.RunsPieces.{piece-positive}
 use Rattle.mdtext.proofs.CodeSpanSteps.{span-is}
 use Rattle.mdtext.proofs.CodeSpanCalls.{enter_at, exit_at}
 use Rattle.mdtext.proofs.CodeSpanCuts.{cut_pieces}
 
+-- lists of events, one after another
 joined : (es : List Event) (a : Event) (l1 p l2 : List Event) (z : Event) → ((es ++ a ∷ l1) ++ p) ++ (l2 ++ z ∷ []) ≡ es ++ a ∷ ((l1 ++ (p ++ l2)) ++ z ∷ [])
 joined [] a l1 p l2 z = ap (λ l. a ∷ l) (sym (append_assoc (l1 ++ p) l2 (z ∷ [])) ∙ ap (λ l. l ++ z ∷ []) (append_assoc l1 p l2))
 joined (x ∷ es) a l1 p l2 z = ap (λ l. x ∷ l) (joined es a l1 p l2 z)
 
 -- the parts of a code span: its runs, and what stands between them
 module _ (k m : ℕ) (l : List Seat) where
+  -- the bytes of the first run
   first-run : take k (take (k + m + k) l) ≡ take k l
   first-run = let h : k ≤ k + m + k = omega arith in take-take k (k + m + k) l h
 
+  -- those between the runs
   inner-part : between k (k + m) (take (k + m + k) l) ≡ take m (drop k l)
   inner-part =
       let size : k + m - k ≡ m = omega arith in
@@ -34,6 +33,7 @@ module _ (k m : ℕ) (l : List Seat) where
       let h : m ≤ m + k = omega arith in
       ap (λ n. take n (drop k (take (k + m + k) l))) size ∙ ap (λ n. take m (drop k (take n l))) all ∙ ap (take m) (drop-take k (m + k) l) ∙ take-take m (m + k) (drop k l) h
 
+  -- those of the last run
   last-run : drop (k + m) (take (k + m + k) l) ≡ take k (drop (k + m) l)
   last-run = drop-take (k + m) k l
 

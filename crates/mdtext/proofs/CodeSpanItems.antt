@@ -1,8 +1,7 @@
 -- Code spans as items: where one stands, it is read with its events; where none does, one goes on with data at its first backtick.
-use Rattle.std.proofs.Common.{◌≡◌, ℕ, suc, ◌+◌, ◌-◌, ◌^◌, ◌<◌, ◌≤◌, ◌∷◌, ◌++◌, [], List, Bool, true, false, refl, sym, ◌∙◌, ap, subst, Option, Some, None, cond, arith, length, take, drop, option_map}
+use Rattle.std.proofs.Common.{◌≡◌, ℕ, suc, ◌+◌, ◌-◌, ◌^◌, ◌<◌, ◌≤◌, ◌∷◌, ◌++◌, [], List, Bool, true, false, refl, sym, ◌∙◌, ap, subst, Option, Some, None, arith, length, take, drop, option_map}
 use Rattle.std.proofs.lemmas.Option.{slice_get_within}
 use Rattle.std.proofs.lemmas.List.{append_assoc, drop-drop, length-drop}
-use Rattle.std.proofs.lemmas.List.Sums.{prefix_len-le-length}
 use Rattle.std.specs.List.{flat_map}
 use Rattle.markdown_base.specs.declared.event.Event.{Event}
 use Rattle.markdown_base.specs.declared.event.Name.TheVariants.{CodeText, CodeTextSequence, CodeTextData}
@@ -34,6 +33,7 @@ there false o item x h i = absurd (cc)
 spans-at : (b : ℕ) (bs : List ℕ) → b ≡ 96 → let text = b ∷ bs in code_span_at text ≡ option_map (code_span (run text)) (first_run (run text) false (drop (run text) text))
 spans-at b bs is = subst (λ c. let text = c ∷ bs in code_span_at text ≡ option_map (code_span (run text)) (first_run (run text) false (drop (run text) text))) (sym is) (code-span-found bs)
 
+-- the byte is a backtick
 tick-at : (b : ℕ) → b ≡ 96 → is_backtick b ≡ true
 tick-at b is = ap is_backtick is
 

@@ -26,12 +26,14 @@ use Rattle.mdtext.proofs.CodeSpanCuts.{piece_of}
 abbrev data_length : List ℕ → ℕ
 data_length bytes = position_or_len is_backtick_or_line_feed bytes
 
+-- data and runs that are there have at least a byte
 data-positive : (b : ℕ) (bs : List ℕ) → is_backtick_or_line_feed b ≡ false → 0 < data_length (b ∷ bs)
 data-positive b bs e = let more : data_length (b ∷ bs) ≡ 1 + data_length bs = ap (λ t. cond (not t) (1 + data_length bs) 0) e in omega (arith, more)
 
 pub run-positive : (b : ℕ) (bs : List ℕ) → is_backtick b ≡ true → 0 < run (b ∷ bs)
 run-positive b bs e = let more : run (b ∷ bs) ≡ 1 + run bs = ap (λ t. cond t (1 + run bs) 0) e in omega (arith, more)
 
+-- what is plain: data, or a run with the data behind it
 data-length : (b : ℕ) (bs : List ℕ) → is_backtick b ≡ false → is_backtick_or_line_feed b ≡ false → plain_length is_backtick_or_line_feed (b ∷ bs) ≡ data_length (b ∷ bs)
 data-length b bs tickless e =
     let none : run (b ∷ bs) ≡ 0 = ap (λ t. cond t (1 + run bs) 0) tickless in
@@ -43,11 +45,13 @@ chunk-length b bs e =
     let same : max 1 (run (b ∷ bs)) ≡ run (b ∷ bs) = omega (arith, some) in
     ap (λ r. r + data_length (drop r (b ∷ bs))) same
 
+-- the bytes that are left are those of the virtual bytes that are
 pub drop-bytes : (n : ℕ) (l : List Seat) → drop n (bytes_of l) ≡ bytes_of (drop n l)
 drop-bytes zero l = refl
 drop-bytes (suc n) [] = refl
 drop-bytes (suc n) (s ∷ ss) = drop-bytes n ss
 
+-- what begins a list is no longer than it
 pub count-within : (p : ℕ → Bool) (l : List Seat) → prefix_len p (bytes_of l) ≤ length l
 count-within p l =
     let some : prefix_len p (bytes_of l) ≤ length (bytes_of l) = prefix_len-le-length p (bytes_of l) in
@@ -71,6 +75,7 @@ module _ (g : Given) (text : Text) where
       × Leads g text (held in_code q Byte false events local) cs (Retry RawTextBetween)
       (shows (drop (piece_length a) (s ∷ ss)) in_code (q + piece_length a) (events ++ piece_events g.bytes CodeTextData (a, take (piece_length a) (s ∷ ss))) after) cs (Retry RawTextBetween)
 
+  -- a line ending
   reads-line-feed : (q : ℕ) (s : Seat) (ss : List Seat) (events : List Event) (local : Local Unit Unit) (cs : List Choice) → drop q text.seats ≡ s ∷ ss → is_line_feed s.byte ≡ true
       → ReadsAs q s ss events local cs line_ending
   reads-line-feed q s ss events local cs at is =
@@ -90,6 +95,7 @@ module _ (g : Given) (text : Text) where
   plain-events n q s ss events at some h =
       append_assoc events (enter_at g text CodeTextData q ∷ []) (exit_at g text CodeTextData (q + n) ∷ []) ∙ ap (λ l. events ++ l) (leaf-is g text CodeTextData n q s ss at some h)
 
+  -- data that begins with no run
   reads-data : (q : ℕ) (s : Seat) (ss : List Seat) (events : List Event) (local : Local Unit Unit) (cs : List Choice) → drop q text.seats ≡ s ∷ ss → is_backtick_or_line_feed s.byte ≡ false
       → ReadsAs q s ss events local cs (plain (data_length (bytes_of (s ∷ ss))))
   reads-data q s ss events local cs at inside =
@@ -126,6 +132,7 @@ module _ (g : Given) (text : Text) where
       let all : size_c read ≡ run (bytes_of l) = omega (arith, counted) in
       ap (λ n. n == size_b read) all ∙ ap (λ n. run (bytes_of l) == n) (passed-keeps size_b grows_c (λ k. refl) is_backtick l begun)
 
+  -- a run that does not close the code span, with the data behind it: the run is tried, put back, and read once more
   reads-chunk : (q : ℕ) (s : Seat) (ss : List Seat) (events : List Event) (local : Local Unit Unit) (cs : List Choice) → drop q text.seats ≡ s ∷ ss → is_backtick s.byte ≡ true
       → (run (bytes_of (s ∷ ss)) == size_b local) ≡ false → run (bytes_of (s ∷ ss)) < 2 ^ 64
       → ReadsAs q s ss events local cs (plain (run (bytes_of (s ∷ ss)) + data_length (bytes_of (past is_backtick (s ∷ ss)))))

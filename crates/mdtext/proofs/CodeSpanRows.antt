@@ -12,6 +12,7 @@ use Rattle.mdtext.proofs.CodeSpanClasses.{IsData}
 abbrev AtData : Option TextByte → TextByte → Type 0
 AtData b w = (raw_text_between_rows b (Some w) ≡ row (enter CodeTextData ∷ []) (Retry RawTextData)) × (raw_text_data_rows b (Some w) ≡ row (consume ∷ []) (Next RawTextData))
 
+-- at a byte of data, whatever its class
 pub at-data : (b : Option TextByte) (w : TextByte) → IsData w → AtData b w
 at-data b line_feed e = absurd (cc)
 at-data b backtick e = absurd (cc)

@@ -46,6 +46,7 @@ abbrev pub Stops : (ℕ → Bool) → List Seat → Type 0
 Stops p [] = Unit {0}
 Stops p (s ∷ ss) = p s.byte ≡ false
 
+-- behind the bytes that pass, none does
 pub past-stops : (p : ℕ → Bool) (l : List Seat) → Stops p (past p l)
 past-stops p [] = tt
 past-stops p (s ∷ ss) = elim (p s.byte) as (λ t. p s.byte ≡ t → Stops p (cond t (past p ss) (s ∷ ss))) [
@@ -53,6 +54,7 @@ past-stops p (s ∷ ss) = elim (p s.byte) as (λ t. p s.byte ≡ t → Stops p (
   | false ↦ λ e. e
 ] refl
 
+-- how many they are
 pub past-is : (p : ℕ → Bool) (l : List Seat) → past p l ≡ drop (prefix_len p (bytes_of l)) l
 past-is p [] = refl
 past-is p (s ∷ ss) = elim (p s.byte) as (λ t. cond t (past p ss) (s ∷ ss) ≡ drop (cond t (1 + prefix_len p (bytes_of ss)) 0) (s ∷ ss)) [
@@ -82,6 +84,7 @@ passed-counts φ f grows p (s ∷ ss) local h =
       | false ↦ λ i. omega arith
     ] h
 
+-- no byte is left
 no-more : (p n : ℕ) → n ≤ p → nat_lt p n ≡ false
 no-more p n h = grind (arith, nat_tests)
 
@@ -89,9 +92,11 @@ no-more p n h = grind (arith, nat_tests)
 pub within : {X : Type 0} (xs : List X) (p : ℕ) (x : X) (rest : List X) → drop p xs ≡ x ∷ rest → p < length xs
 within xs p x rest h = slice_get_within xs p x (at-front xs p x rest h)
 
+-- where none stands, the list has ended
 past-end : {X : Type 0} (xs : List X) (p : ℕ) → drop p xs ≡ [] → length xs ≤ p
 past-end xs p h = let none : length xs - p ≡ 0 = sym (length-drop p xs) ∙ ap length h in omega (arith, none)
 
+-- what stands behind it
 pub next-at : {X : Type 0} (xs : List X) (p : ℕ) (x : X) (rest : List X) → drop p xs ≡ x ∷ rest → drop (p + 1) xs ≡ rest
 next-at xs p x rest h = sym (drop-drop 1 p xs) ∙ ap (drop 1) h
 
@@ -113,6 +118,7 @@ module _ (g : Given) (text : Text) where
   stands [] stack q events local at = ends-fed stack q false events local at
   stands (s ∷ ss) stack q events local at = fed-is g text q false events stack local (within text.seats q s ss at)
 
+  -- a state that is to come is called with what is fed
   pub goes-next : (rest : List Seat) (stack : List EventName) (q : ℕ) (events : List Event) (local : Local Unit Unit) (cs : List Choice) (name : Name) → drop q text.seats ≡ rest
       → Leads g text (held stack q Nothing false events local) cs (Next name) (shows rest stack q events local) cs (Retry name)
   goes-next rest stack q events local cs name at es h =
@@ -141,6 +147,7 @@ module _ (g : Given) (text : Text) where
       ap (λ o. event g.bytes Enter name (point_or text.end o) ∷ (inside ++ event g.bytes Exit name (end_place text (q + suc n)) ∷ [])) (at-front text.seats q s ss at)
       ∙ ap (λ e. event g.bytes Enter name s.point ∷ (inside ++ event g.bytes Exit name e ∷ [])) (end-behind n q s ss at (omega (arith, h)))
 
+  -- a span with none
   pub leaf-is : (name : EventName) (n q : ℕ) (s : Seat) (ss : List Seat) → drop q text.seats ≡ s ∷ ss → 0 < n → n ≤ suc (length ss)
       → event g.bytes Enter name (point_or text.end (slice_get text.seats q)) ∷ event g.bytes Exit name (end_place text (q + n)) ∷ [] ≡ leaf g.bytes name (take n (s ∷ ss))
   leaf-is name n q s ss at some h = span-is name [] n q s ss at some h
@@ -151,6 +158,7 @@ module _ (g : Given) (text : Text) (stack : List EventName) (cs : List Choice) (
   Reads = (q : ℕ) (ended : Bool) (events : List Event) (local : Local Unit Unit) (s : Seat) → slice_get text.seats q ≡ Some s → p s.byte ≡ true
       → Leads g text (held stack q Byte ended events local) cs (Retry name) (held stack (q + 1) Nothing false events (f local)) cs (Next name)
 
+  -- where none passes, one stays
   stays : (l : List Seat) (q q' : ℕ) (events : List Event) (local : Local Unit Unit) → q ≡ q'
       → Leads g text (shows l stack q events local) cs (Retry name) (shows l stack q' events local) cs (Retry name)
   stays l q q' events local same = subst (λ n. Leads g text (shows l stack q events local) cs (Retry name) (shows l stack n events local) cs (Retry name)) same (λ es h. h)

@@ -6,7 +6,7 @@ use Rattle.markdown_base.specs.declared.state.State.TheVariants.{Next, Retry, Ok
 use Rattle.markdown_base.specs.declared.state.TheConstants.Name.{TextStart, TextBefore}
 use Rattle.markdown.specs.declared.subtokenize.Subresult.{Subresult}
 use Rattle.markdown.specs.declared.waiting.Waits.TheVariants.{Nothing, Byte, End}
-use Rattle.markdown.specs.Text.{Given, Text}
+use Rattle.markdown.specs.Text.{Given, Text, IsDocument}
 use Rattle.markdown.specs.Configuration.{Configuration, start_configuration}
 use Rattle.markdown.specs.Calls.{with_local}
 use Rattle.markdown.specs.Reading.{fed}
@@ -18,6 +18,9 @@ use Rattle.mdtext.specs.TextRules.{text_rules}
 use Rattle.mdtext.proofs.Positive.{items-positive}
 use Rattle.mdtext.proofs.Steps.{text_step, EndsWith, between_items, leads-called, leads-fed}
 use Rattle.mdtext.proofs.Whole.{AddsItem, reads-text}
+use Rattle.mdtext.proofs.WholeTexts.{whole-is-text}
+use Rattle.mdtext.proofs.TextItems.{adds-each-item}
+use Rattle.mdtext.proofs.RunsShort.{runs-of-text}
 
 module _ (g : Given) (text : Text) where
   -- a call is counted where it is fed, or before
@@ -57,3 +60,9 @@ module _ (g : Given) (adds : AddsItem g (whole_text g)) where
         | inl refused ↦ let e : Ok ≡ Error m = sym there.1.1 ∙ sym (ap (λ r. r.answer) same) ∙ refused in absurd (cc)
         | inr resolving ↦ resolving.1
       ]
+
+-- each item of a whole document is read with its events
+pub adds-whole : (g : Given) → IsDocument g → AddsItem g (whole_text g)
+adds-whole g document =
+    let text = whole_text g in
+    let is = whole-is-text g document in adds-each-item g text is (runs-of-text g text is)

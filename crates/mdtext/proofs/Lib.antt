@@ -32,5 +32,8 @@ pub mod Positive
 pub mod Runs
 pub mod RunsFound
 pub mod RunsPieces
+pub mod RunsShort
 pub mod Steps
+pub mod TextItems
 pub mod Whole
+pub mod WholeTexts

@@ -5,7 +5,7 @@ use Rattle.std.specs.Char.{is_ascii_punctuation, is_ascii_alphabetic, is_ascii_a
 use Rattle.markdown_base.specs.declared.event.Name.TheVariants.{Data}
 use Rattle.markdown_base.specs.declared.state.State.TheVariants.{Next, Retry}
 use Rattle.markdown_base.specs.declared.state.TheConstants.Name.{TextBefore, TextBeforeData, DataAtBreak, DataInside}
-use Rattle.mdtables.specs.Rows.{Rows, row, enter, exit, consume, class_of}
+use Rattle.mdtables.specs.Rows.{row, enter, exit, consume, class_of}
 use Rattle.mdtext.specs.Items.{passes, is_special, is_backtick}
 use Rattle.mdtext.specs.TextCosts.{TextByte, line_feed, backtick, less, greater, backslash, colon, letter, digit, mark, punctuation, blank, other, text_byte}
 use Rattle.mdtext.specs.TextTable.{text_before_rows, text_before_data_rows, data_at_break_rows, data_inside_rows}
@@ -81,6 +81,7 @@ tick-class before b h =
     (λ e. absurd (grind (arith, nat_tests))) (λ e. absurd (grind (arith, nat_tests))) (λ e f. absurd (grind (arith, nat_tests))) (λ e. absurd (grind (arith, nat_tests)))
     (λ o e. absurd (cc (o.backtick))) (λ o e. absurd (cc (o.backtick))) (λ o e. absurd (cc (o.backtick)))
 
+-- and ends at another byte
 no-tick-class : (before : Option TextByte) (b : ℕ) → is_backtick b ≡ false → data_at_break_rows before (Some (text_byte b)) ≡ row [] (Retry DataInside)
 no-tick-class before b h =
     by-class (λ w. data_at_break_rows before (Some w) ≡ row [] (Retry DataInside)) b
@@ -93,6 +94,7 @@ inside-class before b h =
     (λ e. absurd (grind (arith, nat_tests))) (λ e. absurd (grind (arith, nat_tests))) (λ e. absurd (grind (arith, nat_tests))) (λ e. refl)
     (λ e. absurd (grind (arith, nat_tests))) (λ e. refl) (λ e. refl) (λ e f. refl) (λ e. refl) (λ o e. refl) (λ o e. refl) (λ o e. refl)
 
+-- at these it ends
 special-class : (before : Option TextByte) (b : ℕ) → is_special b ≡ true → data_inside_rows before (Some (text_byte b)) ≡ row (exit Data ∷ []) (Retry TextBefore)
 special-class before b h =
     by-class (λ w. data_inside_rows before (Some w) ≡ row (exit Data ∷ []) (Retry TextBefore)) b
@@ -100,6 +102,7 @@ special-class before b h =
     (λ e. absurd (grind (arith, nat_tests))) (λ e. absurd (grind (arith, nat_tests))) (λ e f. absurd (grind (arith, nat_tests))) (λ e. absurd (grind (arith, nat_tests)))
     (λ o e. absurd (grind (arith, nat_tests, o))) (λ o e. absurd (grind (arith, nat_tests, o))) (λ o e. absurd (grind (arith, nat_tests, o)))
 
+-- what is not false
 not-not : (b : Bool) → not b ≡ false → b ≡ true
 not-not true h = refl
 not-not false h = absurd (cc)
@@ -109,6 +112,7 @@ pub tick-ends : (before : Option TextByte) (o : Option ℕ) → passes is_backti
 tick-ends before None h = refl
 tick-ends before (Some b) h = no-tick-class before b h
 
+-- in data
 pub data-ends : (before : Option TextByte) (o : Option ℕ) → passes (λ b. not (is_special b)) o ≡ false → data_inside_rows before (class_of text_byte o) ≡ row (exit Data ∷ []) (Retry TextBefore)
 data-ends before None h = refl
 data-ends before (Some b) h = special-class before b (not-not (is_special b) h)

@@ -1,9 +1,9 @@
 -- Plain data, as the machine of texts reads it: a run of backticks or one byte, and all up to the next byte at which another item may begin.
-use Rattle.std.proofs.Common.{◌≡◌, ℕ, zero, suc, ◌+◌, ◌<◌, ◌≤◌, ◌∷◌, ◌++◌, [], List, Bool, true, false, cond, refl, sym, ◌∙◌, ap, subst, Option, Some, None, arith, length, take, drop, max, nat_lt, slice_get, not, ◌-◌, add_assoc}
+use Rattle.std.proofs.Common.{◌≡◌, ℕ, suc, ◌+◌, ◌<◌, ◌≤◌, ◌∷◌, ◌++◌, [], List, Bool, true, false, cond, refl, sym, ◌∙◌, ap, subst, Some, arith, length, take, drop, max, nat_lt, slice_get, not, ◌-◌, add_assoc}
 use Rattle.std.proofs.lemmas.List.{append_assoc, drop-drop, drop-map, length-drop, length-map}
 use Rattle.std.proofs.lemmas.List.Sums.{prefix_len-le-length}
 use Rattle.std.proofs.lemmas.Option.{slice_get_within}
-use Rattle.std.specs.List.{prefix_len, position_or_len}
+use Rattle.std.specs.List.{prefix_len}
 use Rattle.markdown_base.specs.declared.event.Event.{Event}
 use Rattle.markdown_base.specs.declared.event.Kind.TheVariants.{Enter, Exit}
 use Rattle.markdown_base.specs.declared.event.Name.TheVariants.{Data}
@@ -14,7 +14,7 @@ use Rattle.markdown.specs.declared.waiting.Waits.TheVariants.{Nothing, Byte}
 use Rattle.markdown.specs.Text.{Given, Text}
 use Rattle.markdown.specs.Configuration.{Configuration, Local, Choice}
 use Rattle.markdown.specs.Sight.{byte_of, point_or, end_place}
-use Rattle.mdtables.specs.Rows.{Rows, row, enter, exit, consume, class_of}
+use Rattle.mdtables.specs.Rows.{row, enter, consume, class_of}
 use Rattle.mdconstructs.specs.Tables.{counts}
 use Rattle.mdtext.specs.Items.{is_special, is_backtick, run, passes, plain_length}
 use Rattle.mdtext.specs.TextCosts.{text_byte}
@@ -23,12 +23,13 @@ use Rattle.mdtext.specs.TextTable.{text_before_data_rows, data_at_break_rows, da
 use Rattle.mdtext.proofs.Steps.{EndsWith, Leads, between_items, leads-called, leads-fed, fed-is, before_class, waiting_class, WithRows}
 use Rattle.mdtext.proofs.LineEndings.{at-front}
 use Rattle.mdtext.proofs.PlainClasses.{begins-class, tick-begins, tick-class, tick-ends, inside-class, data-ends}
-use Rattle.mdtext.proofs.PlainRuns.{behind-front, run-ends, leaf-read, in_spans, at_byte, seen, leads-unfed, ReadsByte, reads-run}
+use Rattle.mdtext.proofs.PlainRuns.{run-ends, leaf-read, in_spans, at_byte, seen, leads-unfed, ReadsByte, reads-run}
 
 -- a byte at which no other item may begin
 abbrev pub is_plain : ℕ → Bool
 is_plain b = not (is_special b)
 
+-- what is not true
 not-true : (b : Bool) → not b ≡ true → b ≡ false
 not-true true h = absurd (cc)
 not-true false h = refl
@@ -62,6 +63,7 @@ module _ (g : Given) (text : Text) where
       (subst (WithRows g text (at_byte (Data ∷ []) p ended events (counts local)) cs es) (sym (tick-ends (before_class g text p) (byte_of (slice_get text.seats p)) none)) h)
   break-seen false p ended events local cs none es h = leads-called g text (seen false (in_data p ended events local)) cs DataAtBreak es h
 
+  -- as one comes to it
   break-ends : (p : ℕ) (ended : Bool) (events : List Event) (local : Local Unit Unit) (cs : List Choice) → passes is_backtick (byte_of (slice_get text.seats p)) ≡ false
       → Leads g text (in_data p ended events local) cs (Next DataAtBreak) (in_data p ended events (counts local)) cs (Next DataInside)
   break-ends p ended events local cs none es h =
@@ -72,6 +74,7 @@ module _ (g : Given) (text : Text) where
   abbrev exited_data : List Event → ℕ → List Event
   exited_data events p = events ++ event g.bytes Exit Data (end_place text p) ∷ []
 
+  -- once the byte, or the end, waits
   data-seen : (b : Bool) (p : ℕ) (ended : Bool) (events : List Event) (local : Local Unit Unit) → passes is_plain (byte_of (slice_get text.seats p)) ≡ false
       → Leads g text (seen b (in_data p ended events local)) [] (Retry DataInside) (seen b (between_items p Nothing ended (exited_data events p) (counts local))) [] (Retry TextBefore)
   data-seen true p ended events local none es h =
@@ -79,6 +82,7 @@ module _ (g : Given) (text : Text) where
       (subst (WithRows g text (at_byte (Data ∷ []) p ended events (counts local)) [] es) (sym (data-ends (before_class g text p) (byte_of (slice_get text.seats p)) none)) h)
   data-seen false p ended events local none es h = leads-called g text (seen false (in_data p ended events local)) [] DataInside es h
 
+  -- as one comes to it
   data-left : (p : ℕ) (ended : Bool) (events : List Event) (local : Local Unit Unit) → passes is_plain (byte_of (slice_get text.seats p)) ≡ false
       → Leads g text (in_data p ended events local) [] (Next DataInside) (between_items p Nothing ended (exited_data events p) (counts local)) [] (Next TextBefore)
   data-left p ended events local none es h =
@@ -99,6 +103,7 @@ module _ (g : Given) (text : Text) where
   abbrev entered_data : List Event → ℕ → List Event
   entered_data events p = events ++ event g.bytes Enter Data (point_or text.end (slice_get text.seats p)) ∷ []
 
+  -- how much that is
   abbrev first_of_data : List Seat → ℕ
   first_of_data seats = max 1 (run (bytes_of seats))
 
@@ -108,6 +113,7 @@ module _ (g : Given) (text : Text) where
       (ended_after : Bool) × (after : Local Unit Unit)
       × Leads g text (between_items p Byte ended events local) [] (Retry TextBeforeData) (in_data (p + n) ended_after (entered_data events p) after) [] (Next DataInside)
 
+  -- at another byte
   begins-other : (p : ℕ) (ended : Bool) (events : List Event) (local : Local Unit Unit) (s : Seat) → slice_get text.seats p ≡ Some s → is_backtick s.byte ≡ false
       → HasBegun p ended events local 1
   begins-other p ended events local s at other =
@@ -120,6 +126,7 @@ module _ (g : Given) (text : Text) where
             (subst (WithRows g text (between_items p Byte ended events (counts local)) [] es) (sym rows) h),
       )
 
+  -- at a backtick
   begins-ticks : (p : ℕ) (ended : Bool) (events : List Event) (local : Local Unit Unit) (s : Seat) (ss : List Seat) → drop p text.seats ≡ s ∷ ss → is_backtick s.byte ≡ true
       → HasBegun p ended events local (run (bytes_of (s ∷ ss)))
   begins-ticks p ended events local s ss here is =
@@ -145,6 +152,7 @@ module _ (g : Given) (text : Text) where
       ap (λ t. max 1 (cond t (1 + r) 0)) is ∙ one ∙ sym (ap (λ t. cond t (1 + r) 0) is)
   first-is s ss false other = ap (λ t. max 1 (cond t (1 + run (bytes_of ss)) 0)) other
 
+  -- at either
   data-begun : (p : ℕ) (ended : Bool) (events : List Event) (local : Local Unit Unit) (s : Seat) (ss : List Seat) → drop p text.seats ≡ s ∷ ss → HasBegun p ended events local (first_of_data (s ∷ ss))
   data-begun p ended events local s ss here = elim (is_backtick s.byte) as (λ b. is_backtick s.byte ≡ b → HasBegun p ended events local (first_of_data (s ∷ ss))) [
     | true ↦ λ is. subst (HasBegun p ended events local) (sym (first-is s ss true is)) (begins-ticks p ended events local s ss here is)

@@ -1,5 +1,5 @@
 -- A backslash: an escape is read where one stands, and data where none does.
-use Rattle.std.proofs.Common.{◌≡◌, ℕ, ◌+◌, ◌∷◌, ◌++◌, [], List, Bool, true, false, cond, refl, sym, ◌∙◌, ap, subst, Option, Some, None, arith, drop, slice_get, ◌&&◌, ◌==◌}
+use Rattle.std.proofs.Common.{◌≡◌, ℕ, ◌+◌, ◌∷◌, ◌++◌, [], List, Bool, true, false, cond, refl, sym, ◌∙◌, ap, subst, Some, None, arith, drop, slice_get, ◌&&◌, ◌==◌}
 use Rattle.std.proofs.lemmas.Option.{slice_get_within}
 use Rattle.std.specs.Char.{is_ascii_punctuation}
 use Rattle.markdown_base.specs.declared.event.Event.{Event}
@@ -22,9 +22,11 @@ nothing-at : (xs : List Seat) (p : ℕ) → drop p xs ≡ [] → slice_get xs p 
 nothing-at xs p h = let same : p ≡ p + 0 = omega arith in ap (slice_get xs) same ∙ sym (get-drop xs p 0) ∙ ap (λ l. slice_get l 0) h
 
 module _ (g : Given) (text : Text) where
+  -- no byte that may be escaped is at the end
   none-at-end : (p : ℕ) → slice_get text.seats p ≡ None → NoneEscaped g text p
   none-at-end p h value at = absurd (cc)
 
+  -- nor is one where another stands
   none-at : (p : ℕ) (v : Seat) → slice_get text.seats p ≡ Some v → is_ascii_punctuation v.byte ≡ false → NoneEscaped g text p
   none-at p v h other value at = let same : v ≡ value = cc in subst (λ (s : Seat). is_ascii_punctuation s.byte ≡ false) same other
 

@@ -13,7 +13,7 @@ use Rattle.markdown.specs.declared.waiting.AttemptKind.TheVariants.{Attempt}
 use Rattle.markdown.specs.Text.{Given, Text}
 use Rattle.markdown.specs.Configuration.{Configuration, Local, Choice}
 use Rattle.markdown.specs.Sight.{Sight, sight, byte_of}
-use Rattle.mdtables.specs.Rows.{Rows, Row, row, choose, class_of, step_of}
+use Rattle.mdtables.specs.Rows.{Row, row, choose, class_of, step_of}
 use Rattle.mdconstructs.specs.Tables.{counts}
 use Rattle.mdtext.specs.Items.{Item, line_ending, plain, code_span, escape, piece, item_length, item_at, passes, is_special, run, closing, plain_length, uri, autolink_to, code_span_at, autolink_at, escape_at, if_on, or_else}
 use Rattle.mdtext.specs.TextCosts.{text_byte}
@@ -46,11 +46,13 @@ tick-at on b bs is =
     subst (λ c. item_at on (c ∷ bs) ≡ or_else (if_on on.code_text (code_span_at (c ∷ bs))) (piece (plain (plain_length is_special (c ∷ bs))))) (sym is)
     (ap (or_else (if_on on.code_text (code_span_at (96 ∷ bs)))) (nowhere on.autolink _ ∙ nowhere on.character_escape _))
 
+-- at `<`
 pub less-at : (on : Constructs) (b : ℕ) (bs : List ℕ) → b ≡ 60 → item_at on (b ∷ bs) ≡ or_else (if_on on.autolink (autolink_at (b ∷ bs))) (piece (plain (plain_length is_special (b ∷ bs))))
 less-at on b bs is =
     subst (λ c. item_at on (c ∷ bs) ≡ or_else (if_on on.autolink (autolink_at (c ∷ bs))) (piece (plain (plain_length is_special (c ∷ bs))))) (sym is)
     (nowhere on.code_text _ ∙ ap (or_else (if_on on.autolink (autolink_at (60 ∷ bs)))) (nowhere on.character_escape _))
 
+-- at a backslash
 pub backslash-at : (on : Constructs) (b : ℕ) (bs : List ℕ) → b ≡ 92 → item_at on (b ∷ bs) ≡ or_else (if_on on.character_escape (escape_at (b ∷ bs))) (piece (plain (plain_length is_special (b ∷ bs))))
 backslash-at on b bs is =
     subst (λ c. item_at on (c ∷ bs) ≡ or_else (if_on on.character_escape (escape_at (c ∷ bs))) (piece (plain (plain_length is_special (c ∷ bs))))) (sym is)
@@ -64,6 +66,7 @@ four false false true d h = absurd (cc)
 four false false false true h = absurd (cc)
 four false false false false h = (refl, refl, refl, refl)
 
+-- plain data stands there
 pub plain-at : (on : Constructs) (b : ℕ) (bs : List ℕ) → is_special b ≡ false → item_at on (b ∷ bs) ≡ piece (plain (plain_length is_special (b ∷ bs)))
 plain-at on b bs h =
     let none = four (b == 10) (b == 96) (b == 60) (b == 92) h in
@@ -166,16 +169,19 @@ module _ (g : Given) (text : Text) where
       (subst (WithRows g text (between_items p Byte ended events (counts local)) [] es) (sym rows)
       (subst (λ b. WithRow (between_items p Byte ended events (counts local)) [] es (cond b (tried name) untried)) (sym off) h)))
 
+  -- code spans
   pub from-untried-code : (p : ℕ) (ended : Bool) (events : List Event) (local : Local Unit Unit) (s : Seat) (ss : List Seat) → drop p text.seats ≡ s ∷ ss → s.byte ≡ 96
       → g.options.constructs.code_text ≡ false → Adds g text p ended events local (s ∷ ss) (plain_of (s ∷ ss))
   from-untried-code p ended events local s ss here is off =
       untried-data spans_code RawTextStart p ended events local s ss here (byte-rows p 96 s (at-front text.seats p s ss here) is) off
 
+  -- autolinks
   pub from-untried-link : (p : ℕ) (ended : Bool) (events : List Event) (local : Local Unit Unit) (s : Seat) (ss : List Seat) → drop p text.seats ≡ s ∷ ss → s.byte ≡ 60
       → g.options.constructs.autolink ≡ false → Adds g text p ended events local (s ∷ ss) (plain_of (s ∷ ss))
   from-untried-link p ended events local s ss here is off =
       untried-data links_by_itself AutolinkStart p ended events local s ss here (byte-rows p 60 s (at-front text.seats p s ss here) is) off
 
+  -- escapes
   pub from-untried-escape : (p : ℕ) (ended : Bool) (events : List Event) (local : Local Unit Unit) (s : Seat) (ss : List Seat) → drop p text.seats ≡ s ∷ ss → s.byte ≡ 92
       → g.options.constructs.character_escape ≡ false → Adds g text p ended events local (s ∷ ss) (plain_of (s ∷ ss))
   from-untried-escape p ended events local s ss here is off =

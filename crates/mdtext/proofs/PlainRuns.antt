@@ -1,5 +1,5 @@
 -- Runs of bytes that a state reads one after another, and what stands behind them.
-use Rattle.std.proofs.Common.{◌≡◌, ℕ, zero, suc, ◌+◌, ◌<◌, ◌≤◌, ◌∷◌, ◌++◌, [], List, Bool, true, false, cond, refl, sym, ◌∙◌, ap, subst, Option, Some, None, arith, length, take, drop, slice_get, option_map}
+use Rattle.std.proofs.Common.{◌≡◌, ℕ, zero, suc, ◌+◌, ◌<◌, ◌≤◌, ◌∷◌, [], List, Bool, true, false, cond, refl, sym, ◌∙◌, ap, subst, Option, Some, None, arith, length, take, drop, slice_get, option_map}
 use Rattle.std.proofs.lemmas.List.{drop-drop}
 use Rattle.std.proofs.lemmas.Option.{slice_get_within, slice_get-map}
 use Rattle.std.specs.List.{prefix_len}
@@ -31,6 +31,7 @@ get-drop xs zero n = let same : n ≡ 0 + n = omega arith in ap (slice_get xs) s
 get-drop [] (suc p) n = refl
 get-drop (x ∷ xs) (suc p) n = let same : suc (p + n) ≡ suc p + n = omega arith in get-drop xs p n ∙ ap (slice_get (x ∷ xs)) same
 
+-- a virtual byte has its byte
 as-byte : (o : Option Seat) → option_map (λ s. s.byte) o ≡ byte_of o
 as-byte None = refl
 as-byte (Some s) = refl
@@ -104,6 +105,7 @@ module _ (g : Given) (text : Text) where
   HasRead spans name p n ended events local cs =
       (ended_after : Bool) × (after : Local Unit Unit) × Leads g text (in_spans spans p ended events local) cs (Next name) (in_spans spans (p + n) ended_after events after) cs (Next name)
 
+  -- so it reads a run of them
   pub reads-run : (spans : List EventName) (name : Name) (test : ℕ → Bool) → ReadsByte spans name test
       → (l : List Seat) (p : ℕ) (ended : Bool) (events : List Event) (local : Local Unit Unit) (cs : List Choice) → drop p text.seats ≡ l
       → HasRead spans name p (prefix_len test (bytes_of l)) ended events local cs

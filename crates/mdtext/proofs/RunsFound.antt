@@ -14,6 +14,7 @@ first_run k before (b ∷ bs) = cond (not before && (run (b ∷ bs) == k)) (Some
 abbrev pub further : ℕ → Option ℕ → Option ℕ
 further n o = option_map (λ m. n + m) o
 
+-- sums of such places
 further-suc : (n : ℕ) (o : Option ℕ) → further (n + 1) o ≡ further n (option_map suc o)
 further-suc n None = refl
 further-suc n (Some m) = let e : n + 1 + m ≡ n + suc m = omega arith in ap Some e
@@ -26,6 +27,7 @@ no-further : (o : Option ℕ) → further 0 o ≡ o
 no-further None = refl
 no-further (Some m) = let e : 0 + m ≡ m = omega arith in ap Some e
 
+-- no run of none is looked for
 not-none : (k : ℕ) → 0 < k → (0 == k) ≡ false
 not-none k h = grind (arith, nat_tests)
 
@@ -33,6 +35,7 @@ and-false : (a : Bool) → (a && false) ≡ false
 and-false true = refl
 and-false false = refl
 
+-- a test that always passes
 or-true : (a : Bool) → (a || true) ≡ false → ⊥
 or-true true e = absurd (cc)
 or-true false e = absurd (cc)
@@ -64,15 +67,18 @@ module _ (text : List ℕ) (k : ℕ) (some : 0 < k) where
         | false ↦ others
       ]
 
+-- data is no backtick
 pub no-tick : (b : ℕ) → is_backtick_or_line_feed b ≡ false → (b == 96) ≡ false
 no-tick b h = elim (b == 96) as (λ t. (is_line_feed b || t) ≡ false → t ≡ false) [
   | true ↦ λ e. absurd (or-true (is_line_feed b) e)
   | false ↦ λ e. refl
 ] h
 
+-- nor is a line ending
 line-feed-no-tick : (b : ℕ) → (b == 10) ≡ true → (b == 96) ≡ false
 line-feed-no-tick b h = grind (arith, nat_tests)
 
+-- how many bytes stand between the runs
 inside : (k : ℕ) (o : Option ℕ) → option_map (λ p. code_span k (p - k)) (further k o) ≡ option_map (code_span k) o
 inside k None = refl
 inside k (Some m) = let e : k + m - k ≡ m = omega arith in ap (λ n. Some (code_span k n)) e
@@ -110,6 +116,7 @@ passes-data k some (b ∷ bs) =
           ∙ ap (λ n. further (1 + position_or_len is_backtick_or_line_feed bs) (first_run k false (drop n (b ∷ bs)))) (sym one)
     ] refl
 
+-- sums of such places, once more
 further-one : (o : Option ℕ) → option_map suc o ≡ further 1 o
 further-one None = refl
 further-one (Some m) = let e : suc m ≡ 1 + m = omega arith in ap Some e
@@ -170,6 +177,7 @@ found-behind : (o : Option ℕ) (m : ℕ) → option_map suc o ≡ Some m → (n
 found-behind None m h = absurd (cc)
 found-behind (Some n) m h = let e : m ≡ suc n = cc in (n, refl, e)
 
+-- two tests that pass
 both : (a b : Bool) → (a && b) ≡ true → b ≡ true
 both true b h = h
 both false b h = absurd (cc)
@@ -177,6 +185,7 @@ both false b h = absurd (cc)
 same-number : (m n : ℕ) → (m == n) ≡ true → m ≡ n
 same-number m n h = grind (arith, nat_tests)
 
+-- a run that is found is as long
 pub first-run-is : (k : ℕ) (before : Bool) (text : List ℕ) (m : ℕ) → first_run k before text ≡ Some m → run (drop m text) ≡ k
 first-run-is k before [] m h = absurd (cc)
 first-run-is k before (b ∷ bs) m h =

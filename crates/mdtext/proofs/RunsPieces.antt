@@ -13,6 +13,7 @@ prefix-within p (suc n) (x ∷ xs) h = elim (p x) as (λ t. cond t (1 + prefix_l
   | false ↦ λ i. refl
 ] h
 
+-- sums of a run and of the data behind it
 above : (r d : ℕ) → 0 < max 1 r + d
 above r d = omega arith
 
