@@ -1,9 +1,14 @@
 //! Texts: code spans, autolinks and escapes, with answers worked by hand.
 
+ghost use Rattle.std.specs.Prelude.{◌+◌, ◌*◌, ◌^◌, ◌<◌, length};
+
 use crate::machines::lines_of;
+use crate::shown::shown;
+use markdown::configuration::ParseOptions;
 use markdown::state::Name;
+use mdtext::read::read_text;
 use mdtext::text::Text;
-use std::alloc::AllocError;
+use std::alloc::{AllocError, Global};
 
 /// A code span.
 const CODE: &str = "enter CodeText 1:1 (0+0)\n\
@@ -61,13 +66,39 @@ const TEXTS: [(&[u8], &str); 7] = [
     (b"`\\`", CODE),
 ];
 
+/// The events of a document that is read as text, with these options.
+fn lines_of_text(alloc: Global, bytes: &[u8], options: &ParseOptions) -> Result<String, AllocError>
+    requires limit { 4 * length bytes.now + 1 < 2 ^ 64 }
+{
+    match read_text(alloc, bytes, options, &[]) {
+        Ok(events) => shown(alloc, events.as_slice()),
+        Err(_) => Err(AllocError),
+    }
+}
+
 #[test]
 fn texts_have_their_constructs(rt: HostRuntime) -> Result<(), AllocError> {
+    let options = ParseOptions::default();
     for (bytes, want) in TEXTS {
         assert!(rt; bytes.len() < 9);
-        let text = lines_of(rt.alloc(), &Text {}, Name::TextStart, bytes)?;
+        let text = lines_of_text(rt.alloc(), bytes, &options)?;
         assert_eq!(rt; text.as_str(), want);
     }
+    Ok(())
+}
+
+/// One backtick and another byte, and one backtick.
+const CODE_OFF: &str = "enter Data 1:1 (0+0)\n\
+    exit Data 1:3 (2+0)\n\
+    enter Data 1:3 (2+0)\n\
+    exit Data 1:4 (3+0)\n";
+
+#[test]
+fn construct_that_is_off_is_data(rt: HostRuntime) -> Result<(), AllocError> {
+    let mut options = ParseOptions::default();
+    options.constructs.code_text = false;
+    let text = lines_of_text(rt.alloc(), b"`a`", &options)?;
+    assert_eq!(rt; text.as_str(), CODE_OFF);
     Ok(())
 }
 
