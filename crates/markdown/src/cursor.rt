@@ -99,7 +99,7 @@ fn goes_on(t: &usize, point: &Point, byte: u8) -> bool
     requires some { 0 < t.now }
     ensures { result ≡ goes_on t.now byte point.now }
 {
-    if byte != b'\t' && point.vs == 0 {
+    if point.vs == 0 && byte != b'\t' {
         return false;
     }
     if *t == 4 {
@@ -118,7 +118,7 @@ pub(crate) fn pass(bytes: &[u8], t: &usize, point: &mut Point, byte: u8)
     requires next { (seat : Seat) × IsSeatAt t.now bytes.now point.old seat × (seat.byte ≡ byte) }
     ensures { (seat : Seat) → IsSeatAt t.now bytes.now point.old seat → point.new ≡ seat.end }
 {
-    if byte == b'\n' {
+    if point.vs == 0 && byte == b'\n' {
         point.line += 1;
         point.column = 1;
         point.vs = 0;
