@@ -5,6 +5,7 @@ ghost use Rattle.std.specs.Prelude.{◌+◌, ◌*◌, ◌^◌, ◌<◌, length};
 
 use crate::driven::{calls_of, read_cut};
 use crate::every_cut::{Compared, compare_readings};
+use markdown::configuration::TabSize;
 use markdown::state::Name;
 use mdtext::text::Text;
 use std::alloc::{AllocError, Global};
@@ -30,8 +31,9 @@ fn compare_starts(
 ) -> Result<Compared, AllocError>
     requires limit { 4 * length bytes.now + 1 < 2 ^ 64 }
 {
-    let c = compare_readings(alloc, &Text {}, Name::FlowStart, bytes, twice, c)?;
-    compare_readings(alloc, &Text {}, Name::TextStart, bytes, twice, c)
+    let tab = TabSize::default();
+    let c = compare_readings(alloc, &Text {}, Name::FlowStart, bytes, tab, twice, c)?;
+    compare_readings(alloc, &Text {}, Name::TextStart, bytes, tab, twice, c)
 }
 
 /// Compares the readings of the document of a size and a number.
