@@ -95,6 +95,7 @@ pub(crate) fn resume(skips: &Skips, place: &mut Point)
 
 /// Whether the tab at a place goes on after its next virtual byte, which is this one. Tab stops stand at every `t`
 /// columns; at every 4, as nearly always, it is told without a division. `t` is read where a tab asks for it.
+#[inline(always)]
 fn goes_on(t: &usize, point: &Point, byte: u8) -> bool
     requires some { 0 < t.now }
     ensures { result ≡ goes_on t.now byte point.now }
@@ -111,6 +112,7 @@ fn goes_on(t: &usize, point: &Point, byte: u8) -> bool
 
 /// Moves a place over the next virtual byte, which is this one: of a CR LF over both bytes. Tab stops stand at every
 /// `t` columns.
+#[inline(always)]
 pub(crate) fn pass(bytes: &[u8], t: &usize, point: &mut Point, byte: u8)
     requires some { 0 < t.now }
     requires limit { t.now * length bytes.now + 1 < 2 ^ 64 }
