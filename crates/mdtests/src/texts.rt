@@ -68,7 +68,7 @@ const TEXTS: [(&[u8], &str); 7] = [
 
 /// The events of a document that is read as text, with these options.
 fn lines_of_text(alloc: Global, bytes: &[u8], options: &ParseOptions) -> Result<String, AllocError>
-    requires limit { 4 * length bytes.now + 1 < 2 ^ 64 }
+    requires limit { options.now.tab_size * length bytes.now + 1 < 2 ^ 64 }
 {
     match read_text(alloc, bytes, options, &[]) {
         Ok(events) => shown(alloc, events.as_slice()),
