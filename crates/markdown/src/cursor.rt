@@ -4,7 +4,7 @@ ghost use Rattle.markdown.specs.Cursor.{goes_on, begins_pair, IsPlace, IsSeatAt,
 ghost use Rattle.markdown.specs.Gaps.{skip_of, resumed};
 ghost use Rattle.markdown_base.specs.Places;
 ghost use Rattle.markdown_base.specs.Virtual.{Seat};
-ghost use Rattle.std.specs.Prelude.{◌≡◌, ◌==◌, ◌&&◌, ◌||◌, nat_lt, ◌+◌, ◌*◌, ◌^◌, ◌<◌, ◌≤◌, ℕ, length, unwrap_or};
+ghost use Rattle.std.specs.Prelude.{◌≡◌, ◌==◌, ◌&&◌, ◌||◌, nat_lt, ◌+◌, ◌*◌, ◌%◌, ◌^◌, ◌<◌, ◌≤◌, ℕ, length, not, unwrap_or};
 
 use crate::skips::Skips;
 use markdown_base::event::Point;
@@ -106,8 +106,19 @@ fn goes_on(t: &usize, point: &Point, byte: u8) -> bool
     if *t == 4 {
         point.column % 4 != 0
     } else {
-        point.column % *t != 0
+        goes_on_by(*t, point.column)
     }
+}
+
+/// Whether no tab stop stands behind a column, where they stand at every `t` columns. It is apart so that tabs of 4
+/// columns, which never come here, are read by tight code.
+#[cold]
+#[inline(never)]
+fn goes_on_by(t: usize, column: usize) -> bool
+    requires some { 0 < t }
+    ensures { result ≡ not (column % t == 0) }
+{
+    column % t != 0
 }
 
 /// Moves a place over the next virtual byte, which is this one: of a CR LF over both bytes. Tab stops stand at every
@@ -153,10 +164,20 @@ pub(crate) fn shown(bytes: &[u8], point: Point) -> Point
 }
 
 /// A place, given by its point, is before another, given by byte index and number in a tab.
+#[inline(always)]
 pub(crate) fn is_before(point: Point, place: (usize, usize)) -> bool
     ensures { result ≡ is_before_pair point place }
 {
-    point.index < place.0 || point.index == place.0 && point.vs < place.1
+    point.index < place.0 || is_before_in_byte(point, place)
+}
+
+/// As `is_before`, where the place is not before by its byte. It is apart as nearly every place is.
+#[cold]
+#[inline(never)]
+fn is_before_in_byte(point: Point, place: (usize, usize)) -> bool
+    ensures { result ≡ ((point.index == place.0) && nat_lt point.vs place.1) }
+{
+    point.index == place.0 && point.vs < place.1
 }
 
 /// A place, given by its point, is after another, given by byte index and number in a tab.

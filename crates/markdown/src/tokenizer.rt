@@ -374,8 +374,8 @@ impl<'a, M: MachineTypes> Tokenizer<'a, M> {
         ensures { self.new ≡ at_configuration self.old (consumed self.old.configuration) }
     {
         let byte = match self.current {
-            Some(byte) => byte,
             None => unreachable!(),
+            Some(byte) => byte,
         };
         resume(&self.skips, &mut self.after_previous);
         pass(
