@@ -40,19 +40,184 @@ none-is-found a (n ∷ ns) h = let e : same_name n a ≡ false = false_same the_
 pub returns-in_default : goal.returns-in_default
 returns-in_default c =
     let d = c.in_default in
-    none-is-found c.args.self void_names
-      (d.not-AttentionSequence, (d.not-AutolinkEmail, (d.not-AutolinkMarker, (d.not-AutolinkProtocol, (d.not-BlankLineEnding,
-      (d.not-BlockQuoteMarker, (d.not-ByteOrderMark, (d.not-CharacterEscapeMarker, (d.not-CharacterEscapeValue,
-      (d.not-CharacterReferenceMarker, (d.not-CharacterReferenceMarkerHexadecimal, (d.not-CharacterReferenceMarkerNumeric,
-      (d.not-CharacterReferenceMarkerSemi, (d.not-CharacterReferenceValue, (d.not-CodeFencedFenceSequence, (d.not-CodeFlowChunk,
-      (d.not-CodeTextData, (d.not-CodeTextSequence, (d.not-Data, (d.not-DefinitionDestinationLiteralMarker, (d.not-DefinitionLabelMarker,
-      (d.not-DefinitionMarker, (d.not-DefinitionTitleMarker, (d.not-EmphasisSequence, (d.not-FrontmatterChunk,
-      (d.not-GfmAutolinkLiteralEmail, (d.not-GfmAutolinkLiteralProtocol, (d.not-GfmAutolinkLiteralWww, (d.not-GfmFootnoteCallMarker,
-      (d.not-GfmFootnoteDefinitionLabelMarker, (d.not-GfmFootnoteDefinitionMarker, (d.not-GfmStrikethroughSequence,
-      (d.not-GfmTableCellDivider, (d.not-GfmTableDelimiterMarker, (d.not-GfmTableDelimiterFiller, (d.not-GfmTaskListItemMarker,
-      (d.not-GfmTaskListItemValueChecked, (d.not-GfmTaskListItemValueUnchecked, (d.not-FrontmatterSequence, (d.not-HardBreakEscape,
-      (d.not-HardBreakTrailing, (d.not-HeadingAtxSequence, (d.not-HeadingSetextUnderlineSequence, (d.not-HtmlFlowData, (d.not-HtmlTextData,
-      (d.not-LabelImageMarker, (d.not-LabelMarker, (d.not-LineEnding, (d.not-ListItemMarker, (d.not-ListItemValue,
-      (d.not-MathFlowFenceSequence, (d.not-MathFlowChunk, (d.not-MathTextData, (d.not-MathTextSequence, (d.not-ReferenceMarker,
-      (d.not-ResourceMarker, (d.not-ResourceTitleMarker, (d.not-SpaceOrTab, (d.not-StrongSequence, (d.not-ThematicBreakSequence,
-      tt))))))))))))))))))))))))))))))))))))))))))))))))))))))))))))
+    none-is-found c.args.self void_names (
+      d.not-AttentionSequence,
+      (
+        d.not-AutolinkEmail,
+        (
+          d.not-AutolinkMarker,
+          (
+            d.not-AutolinkProtocol,
+            (
+              d.not-BlankLineEnding,
+              (
+                d.not-BlockQuoteMarker,
+                (
+                  d.not-ByteOrderMark,
+                  (
+                    d.not-CharacterEscapeMarker,
+                    (
+                      d.not-CharacterEscapeValue,
+                      (
+                        d.not-CharacterReferenceMarker,
+                        (
+                          d.not-CharacterReferenceMarkerHexadecimal,
+                          (
+                            d.not-CharacterReferenceMarkerNumeric,
+                            (
+                              d.not-CharacterReferenceMarkerSemi,
+                              (
+                                d.not-CharacterReferenceValue,
+                                (
+                                  d.not-CodeFencedFenceSequence,
+                                  (
+                                    d.not-CodeFlowChunk,
+                                    (
+                                      d.not-CodeTextData,
+                                      (
+                                        d.not-CodeTextSequence,
+                                        (
+                                          d.not-Data,
+                                          (
+                                            d.not-DefinitionDestinationLiteralMarker,
+                                            (
+                                              d.not-DefinitionLabelMarker,
+                                              (
+                                                d.not-DefinitionMarker,
+                                                (
+                                                  d.not-DefinitionTitleMarker,
+                                                  (
+                                                    d.not-EmphasisSequence,
+                                                    (
+                                                      d.not-FrontmatterChunk,
+                                                      (
+                                                        d.not-GfmAutolinkLiteralEmail,
+                                                        (
+                                                          d.not-GfmAutolinkLiteralProtocol,
+                                                          (
+                                                            d.not-GfmAutolinkLiteralWww,
+                                                            (
+                                                              d.not-GfmFootnoteCallMarker,
+                                                              (
+                                                                d.not-GfmFootnoteDefinitionLabelMarker,
+                                                                (
+                                                                  d.not-GfmFootnoteDefinitionMarker,
+                                                                  (
+                                                                    d.not-GfmStrikethroughSequence,
+                                                                    (
+                                                                      d.not-GfmTableCellDivider,
+                                                                      (
+                                                                        d.not-GfmTableDelimiterMarker,
+                                                                        (
+                                                                          d.not-GfmTableDelimiterFiller,
+                                                                          (
+                                                                            d.not-GfmTaskListItemMarker,
+                                                                            (
+                                                                              d.not-GfmTaskListItemValueChecked,
+                                                                              (
+                                                                                d.not-GfmTaskListItemValueUnchecked,
+                                                                                (
+                                                                                  d.not-FrontmatterSequence,
+                                                                                  (
+                                                                                    d.not-HardBreakEscape,
+                                                                                    (
+                                                                                      d.not-HardBreakTrailing,
+                                                                                      (
+                                                                                        d.not-HeadingAtxSequence,
+                                                                                        (
+                                                                                          d.not-HeadingSetextUnderlineSequence,
+                                                                                          (
+                                                                                            d.not-HtmlFlowData,
+                                                                                            (
+                                                                                              d.not-HtmlTextData,
+                                                                                              (
+                                                                                                d.not-LabelImageMarker,
+                                                                                                (
+                                                                                                  d.not-LabelMarker,
+                                                                                                  (
+                                                                                                    d.not-LineEnding,
+                                                                                                    (
+                                                                                                      d.not-ListItemMarker,
+                                                                                                      (
+                                                                                                        d.not-ListItemValue,
+                                                                                                        (
+                                                                                                          d.not-MathFlowFenceSequence,
+                                                                                                          (
+                                                                                                            d.not-MathFlowChunk,
+                                                                                                            (
+                                                                                                              d.not-MathTextData,
+                                                                                                              (
+                                                                                                                d.not-MathTextSequence,
+                                                                                                                (
+                                                                                                                  d.not-ReferenceMarker,
+                                                                                                                  (
+                                                                                                                    d.not-ResourceMarker,
+                                                                                                                    (
+                                                                                                                      d.not-ResourceTitleMarker,
+                                                                                                                      (
+                                                                                                                        d.not-SpaceOrTab,
+                                                                                                                        (
+                                                                                                                          d.not-StrongSequence,
+                                                                                                                          (
+                                                                                                                            d.not-ThematicBreakSequence,
+                                                                                                                            tt,
+                                                                                                                          ),
+                                                                                                                        ),
+                                                                                                                      ),
+                                                                                                                    ),
+                                                                                                                  ),
+                                                                                                                ),
+                                                                                                              ),
+                                                                                                            ),
+                                                                                                          ),
+                                                                                                        ),
+                                                                                                      ),
+                                                                                                    ),
+                                                                                                  ),
+                                                                                                ),
+                                                                                              ),
+                                                                                            ),
+                                                                                          ),
+                                                                                        ),
+                                                                                      ),
+                                                                                    ),
+                                                                                  ),
+                                                                                ),
+                                                                              ),
+                                                                            ),
+                                                                          ),
+                                                                        ),
+                                                                      ),
+                                                                    ),
+                                                                  ),
+                                                                ),
+                                                              ),
+                                                            ),
+                                                          ),
+                                                        ),
+                                                      ),
+                                                    ),
+                                                  ),
+                                                ),
+                                              ),
+                                            ),
+                                          ),
+                                        ),
+                                      ),
+                                    ),
+                                  ),
+                                ),
+                              ),
+                            ),
+                          ),
+                        ),
+                      ),
+                    ),
+                  ),
+                ),
+              ),
+            ),
+          ),
+        ),
+      ),
+    )
