@@ -53,3 +53,6 @@ returns-in-Ok-clause-ok g c =
     is-pushed old (i.rules m given) (record { consumes = met.consumes_once m given; ends = met.ends_when_read m given; keeps = met.invariant_kept m given; pays = met.cost_pays m given })
     u c.args.from c.args.to r.0 r.1 c.args.state c.in-Ok.answer is open_still (λ f q f_is q_is. c.in-Ok.ensures.same.text ∙ ap (λ t. t.text) (c.extend.ensures f q f_is q_is))
     only (rw ext at c.in-Ok.ensures.leads) c.in-Ok.ensures.stops c.shows_in_text-in-Ok.ensures (rw ext at c.in-Ok.ensures.message)
+
+pub extend-requires-clause-range : goal.extend-requires-clause-range
+extend-requires-clause-range g c = c.requires.range (sym c.is_closed.ensures ∙ c.if-is_closed.false)
