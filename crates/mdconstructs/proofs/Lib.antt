@@ -1,2 +1,3 @@
 -- Each machine's answers stand in a folder of its own.
 pub mod Mapped
+pub mod Rows
