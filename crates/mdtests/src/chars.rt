@@ -1,5 +1,6 @@
 //! Characters: their classes and printed forms.
 
+use crate::shown::assert_shown;
 use markdown::util::char::{
     Kind, after_index, before_index, classify, classify_opt, format, format_byte, format_byte_opt,
     format_opt, kind_after_index,
@@ -17,28 +18,20 @@ fn is_none(_char: char) -> bool {
 }
 
 #[test]
-fn decodes_the_character_before_an_index(rt: HostRuntime) {
+fn decodes_characters_at_an_index(rt: HostRuntime) {
     assert!(rt; before_index("é".as_bytes(), 2) == Some('é'));
     assert!(rt; before_index("é".as_bytes(), 0) == None);
-}
-
-#[test]
-fn decodes_the_character_after_an_index(rt: HostRuntime) {
     assert!(rt; after_index("é".as_bytes(), 0) == Some('é'));
     assert!(rt; after_index("é".as_bytes(), 2) == None);
 }
 
 #[test]
-fn classifies(rt: HostRuntime) {
+fn classifies_characters_and_edges(rt: HostRuntime) {
     assert!(rt; classify(' ', &is_comma) == Kind::Whitespace);
     assert!(rt; classify('a', &is_comma) == Kind::Other);
     assert!(rt; classify('.', &is_comma) == Kind::Punctuation);
     assert!(rt; classify('\u{3001}', &is_comma) == Kind::Punctuation);
     assert!(rt; classify('\u{3001}', &is_none) == Kind::Other);
-}
-
-#[test]
-fn edges_are_white_space(rt: HostRuntime) {
     assert!(rt; kind_after_index("é".as_bytes(), 2, &is_comma) == Kind::Whitespace);
     assert!(rt; kind_after_index(b"\x0b", 0, &is_comma) == Kind::Whitespace);
     assert!(rt; classify_opt(None, &is_comma) == Kind::Whitespace);
@@ -79,8 +72,7 @@ fn bytes(alloc: Global, bytes: &[u8]) -> Result<String, AllocError> {
 }
 
 #[test]
-fn shows_characters(rt: HostRuntime) -> Result<(), AllocError> {
-    let text = characters(rt.alloc(), "! `~\né\u{10ffff}")?;
+fn shows_characters_bytes_and_what_may_be_the_end(rt: HostRuntime) -> Result<(), AllocError> {
     let want = "`!` (U+0021)\n\
         U+0020\n\
         `` ` `` (U+0060)\n\
@@ -88,28 +80,15 @@ fn shows_characters(rt: HostRuntime) -> Result<(), AllocError> {
         U+000A\n\
         U+00E9\n\
         U+10FFFF\n";
-    assert_eq!(rt; text.as_str(), want);
-    Ok(())
-}
-
-#[test]
-fn shows_bytes(rt: HostRuntime) -> Result<(), AllocError> {
-    let text = bytes(rt.alloc(), b"! `\xe9")?;
+    assert_shown(&rt, characters(rt.alloc(), "! `~\né\u{10ffff}"), want)?;
     let want = "`!` (U+0021)\n\
         U+0020\n\
         `` ` `` (U+0060)\n\
         U+00E9\n";
-    assert_eq!(rt; text.as_str(), want);
-    Ok(())
-}
-
-#[test]
-fn shows_what_may_be_the_end(rt: HostRuntime) -> Result<(), AllocError> {
-    let text = ends_and_marks(rt.alloc())?;
+    assert_shown(&rt, bytes(rt.alloc(), b"! `\xe9"), want)?;
     let want = "end of file\n\
         character `!` (U+0021)\n\
         end of file\n\
         byte `!` (U+0021)\n";
-    assert_eq!(rt; text.as_str(), want);
-    Ok(())
+    assert_shown(&rt, ends_and_marks(rt.alloc()), want)
 }

@@ -8,7 +8,7 @@ ghost use Rattle.mdchildren.specs.Laws.{HasEndsWithin};
 
 use crate::chunks::Row::{Chunk, Enter, Exit};
 use crate::chunks::{EMPTY_CHUNK, QUOTE, Row, listed};
-use crate::shown::shown;
+use crate::shown::{assert_shown, shown};
 use markdown::configuration::TabSize;
 use markdown::event::{Content, Event, Name};
 use markdown::util::edit_map::EditMap;
@@ -229,8 +229,7 @@ const PUT: [(&[Row], &[u8], usize, &[Row], &str); 3] = [
 fn child_is_divided_over_its_chunks(rt: HostRuntime) -> Result<(), AllocError> {
     for (list, bytes, index, child, want) in PUT {
         assert!(rt; bytes.len() < 9);
-        let text = put(rt.alloc(), list, bytes, index, child)?;
-        assert_eq!(rt; text.as_str(), want);
+        assert_shown(&rt, put(rt.alloc(), list, bytes, index, child), want)?;
     }
     Ok(())
 }

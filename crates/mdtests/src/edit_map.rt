@@ -4,7 +4,7 @@ ghost use Rattle.markdown.specs.Edits.{AreDisjoint};
 ghost use Rattle.markdown_base.specs.Events.{EndsBelow};
 ghost use Rattle.std.specs.Prelude.{◌≡◌, ◌*◌, ◌^◌, ◌<◌, length, All, None, IfOk, IfSome};
 
-use crate::shown::push_lines;
+use crate::shown::{assert_shown, shown};
 use markdown::event::{Content, Event, Kind, Link, Name, Point};
 use markdown::util::edit_map::EditMap;
 use std::alloc::{AllocError, Global};
@@ -43,14 +43,21 @@ fn linked(previous: Option<usize>, next: Option<usize>) -> Event
     }
 }
 
-/// Appends the columns of events that were made, which tell them apart, as a line.
-fn push_columns(text: &mut String, made: Result<Vec<Event>, AllocError>) -> Result<(), AllocError> {
-    let made = made?;
-    for event in made.as_slice() {
+/// Appends the columns of events, which tell them apart.
+fn push_columns(text: &mut String, events: &[Event]) -> Result<(), AllocError> {
+    for event in events {
         let column = event.point.column;
         write!(text, "{column} ")?;
     }
-    text.push('\n')
+    Ok(())
+}
+
+/// The columns of events that were made.
+fn columns(alloc: Global, made: Result<Vec<Event>, AllocError>) -> Result<String, AllocError> {
+    let made = made?;
+    let mut text = String::new(alloc);
+    push_columns(&mut text, made.as_slice())?;
+    Ok(text)
 }
 
 /// Makes the edits; where memory is refused, once more, as map and events are as they were then.
@@ -127,19 +134,12 @@ fn added_to_nothing(alloc: Global) -> Result<Vec<Event>, AllocError> {
 #[test]
 fn small_edits_are_made(rt: HostRuntime) -> Result<(), AllocError> {
     let alloc = rt.alloc();
-    let mut text = String::new(alloc);
-    push_columns(&mut text, edits_at_one_index(alloc))?;
-    push_columns(&mut text, added_at_end(alloc))?;
-    push_columns(&mut text, edited_by_nothing(alloc))?;
-    push_columns(&mut text, removed_twice(alloc))?;
-    push_columns(&mut text, added_to_nothing(alloc))?;
-    let want = "1 2 93 91 92 5 6 \n\
-        1 2 91 \n\
-        1 2 \n\
-        1 91 92 4 93 \n\
-        91 \n";
-    assert_eq!(rt; text.as_str(), want);
-    Ok(())
+    let made = edits_at_one_index(alloc);
+    assert_shown(&rt, columns(alloc, made), "1 2 93 91 92 5 6 ")?;
+    assert_shown(&rt, columns(alloc, added_at_end(alloc)), "1 2 91 ")?;
+    assert_shown(&rt, columns(alloc, edited_by_nothing(alloc)), "1 2 ")?;
+    assert_shown(&rt, columns(alloc, removed_twice(alloc)), "1 91 92 4 93 ")?;
+    assert_shown(&rt, columns(alloc, added_to_nothing(alloc)), "91 ")
 }
 
 /// Two chains, one within the stretch of the other, with two events added in front of most.
@@ -180,17 +180,14 @@ fn end_removed(alloc: Global) -> Result<Vec<Event>, AllocError> {
     Ok(events)
 }
 
-/// Appends the lines of events that were made.
-fn push_made(text: &mut String, made: Result<Vec<Event>, AllocError>) -> Result<(), AllocError> {
-    push_lines(text, made?.as_slice())
+/// The lines of events that were made.
+fn lines(alloc: Global, made: Result<Vec<Event>, AllocError>) -> Result<String, AllocError> {
+    shown(alloc, made?.as_slice())
 }
 
 /// Chains are moved, though they interleave; an end that is removed is none.
 #[test]
 fn ends_of_links_are_moved_or_removed(rt: HostRuntime) -> Result<(), AllocError> {
-    let mut text = String::new(rt.alloc());
-    push_made(&mut text, chains_moved(rt.alloc()))?;
-    push_made(&mut text, end_removed(rt.alloc()))?;
     let want = "enter Data 1:1 (0+0) Text None Some(6)\n\
         enter Data 1:91 (0+0)\n\
         enter Data 1:92 (0+0)\n\
@@ -200,11 +197,11 @@ fn ends_of_links_are_moved_or_removed(rt: HostRuntime) -> Result<(), AllocError>
         enter Data 1:1 (0+0) Text Some(0) None\n\
         enter Data 1:6 (0+0)\n\
         enter Data 1:1 (0+0) Text Some(4) None\n\
-        enter Data 1:8 (0+0)\n\
-        enter Data 1:1 (0+0) Text None None\n\
+        enter Data 1:8 (0+0)\n";
+    assert_shown(&rt, lines(rt.alloc(), chains_moved(rt.alloc())), want)?;
+    let want = "enter Data 1:1 (0+0) Text None None\n\
         enter Data 1:2 (0+0)\n";
-    assert_eq!(rt; text.as_str(), want);
-    Ok(())
+    assert_shown(&rt, lines(rt.alloc(), end_removed(rt.alloc())), want)
 }
 
 /// Two events are added in front of each of a thousand, by an edit of its own.

@@ -1,5 +1,6 @@
 //! Points of offsets, worked by hand.
 
+use crate::shown::assert_shown;
 use markdown::unist::Point;
 use markdown::util::location::Location;
 use std::alloc::{AllocError, Global};
@@ -30,8 +31,7 @@ fn finds_points(rt: HostRuntime) -> Result<(), AllocError> {
         (b"a\rb".as_slice(), "1:1 (0)\n1:2 (1)\n2:1 (2)\n2:2 (3)\n"),
         (b"".as_slice(), "1:1 (0)\n"),
     ] {
-        let text = points(rt.alloc(), bytes)?;
-        assert_eq!(rt; text.as_str(), want);
+        assert_shown(&rt, points(rt.alloc(), bytes), want)?;
     }
     Ok(())
 }

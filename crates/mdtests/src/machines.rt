@@ -4,7 +4,7 @@ ghost use Rattle.std.specs.Prelude.{◌+◌, ◌*◌, ◌^◌, ◌<◌, length, 
 ghost use Rattle.markdown_base.specs.Presets.{default_parse_options};
 ghost use Rattle.markdown.specs.Engine.{given_by};
 
-use crate::shown::shown;
+use crate::shown::{assert_shown, shown};
 use markdown::configuration::ParseOptions;
 use markdown::parser::ParseState;
 use markdown::state::{Machine, Name};
@@ -52,27 +52,12 @@ pub(crate) fn lines_by<M: Machine>(
     }
 }
 
-/// Appends a name, and what was read, and fails where memory was refused.
-fn push_read(
-    text: &mut String,
-    name: &str,
-    read: Result<String, AllocError>,
-) -> Result<(), AllocError> {
-    writeln!(text, "{name}:")?;
-    text.push_str(read?.as_str())
-}
-
 /// Chunks of a paragraph are linked, and their text is data.
 #[test]
 fn paragraphs_are_chunks_of_text(rt: HostRuntime) -> Result<(), AllocError> {
     let alloc = rt.alloc();
-    let mut text = String::new(alloc);
     let read = lines_of(alloc, &Paragraphs {}, Name::FlowStart, b">a\n>b\n\nc");
-    push_read(&mut text, "paragraphs", read)?;
-    let read = lines_of(alloc, &Paragraphs {}, Name::TextStart, b"a\nb");
-    push_read(&mut text, "text of paragraphs", read)?;
-    let want = "paragraphs:\n\
-        enter Paragraph 1:1 (0+0)\n\
+    let want = "enter Paragraph 1:1 (0+0)\n\
         enter BlockQuoteMarker 1:1 (0+0)\n\
         exit BlockQuoteMarker 1:2 (1+0)\n\
         enter Data 1:2 (1+0) Text None Some(7)\n\
@@ -87,31 +72,24 @@ fn paragraphs_are_chunks_of_text(rt: HostRuntime) -> Result<(), AllocError> {
         enter Paragraph 4:1 (7+0)\n\
         enter Data 4:1 (7+0) Text None None\n\
         exit Data 4:2 (8+0)\n\
-        exit Paragraph 4:2 (8+0)\n\
-        text of paragraphs:\n\
-        enter Data 1:1 (0+0)\n\
+        exit Paragraph 4:2 (8+0)\n";
+    assert_shown(&rt, read, want)?;
+    let read = lines_of(alloc, &Paragraphs {}, Name::TextStart, b"a\nb");
+    let want = "enter Data 1:1 (0+0)\n\
         exit Data 1:2 (1+0)\n\
         enter LineEnding 1:2 (1+0)\n\
         exit LineEnding 2:1 (2+0)\n\
         enter Data 2:1 (2+0)\n\
         exit Data 2:2 (3+0)\n";
-    assert_eq!(rt; text.as_str(), want);
-    Ok(())
+    assert_shown(&rt, read, want)
 }
 
 /// Lines are paragraphs; a look ahead goes back, and attempts one by one.
 #[test]
 fn lines_are_read_and_choices_go_back(rt: HostRuntime) -> Result<(), AllocError> {
     let alloc = rt.alloc();
-    let mut text = String::new(alloc);
     let read = lines_of(alloc, &Lines {}, Name::FlowStart, b"a\r\nb");
-    push_read(&mut text, "lines", read)?;
-    let read = lines_of(alloc, &Peek {}, Name::TextStart, b"a\nb\nc");
-    push_read(&mut text, "peek", read)?;
-    let read = lines_of(alloc, &Deep {}, Name::StringStart, b"ab");
-    push_read(&mut text, "deep", read)?;
-    let want = "lines:\n\
-        enter Paragraph 1:1 (0+0)\n\
+    let want = "enter Paragraph 1:1 (0+0)\n\
         enter Data 1:1 (0+0)\n\
         exit Data 1:2 (1+0)\n\
         exit Paragraph 1:2 (1+0)\n\
@@ -120,9 +98,10 @@ fn lines_are_read_and_choices_go_back(rt: HostRuntime) -> Result<(), AllocError>
         enter Paragraph 2:1 (3+0)\n\
         enter Data 2:1 (3+0)\n\
         exit Data 2:2 (4+0)\n\
-        exit Paragraph 2:2 (4+0)\n\
-        peek:\n\
-        enter Data 1:1 (0+0)\n\
+        exit Paragraph 2:2 (4+0)\n";
+    assert_shown(&rt, read, want)?;
+    let read = lines_of(alloc, &Peek {}, Name::TextStart, b"a\nb\nc");
+    let want = "enter Data 1:1 (0+0)\n\
         exit Data 1:2 (1+0)\n\
         enter LineEnding 1:2 (1+0)\n\
         exit LineEnding 2:1 (2+0)\n\
@@ -131,12 +110,12 @@ fn lines_are_read_and_choices_go_back(rt: HostRuntime) -> Result<(), AllocError>
         enter LineEnding 2:2 (3+0)\n\
         exit LineEnding 3:1 (4+0)\n\
         enter Data 3:1 (4+0)\n\
-        exit Data 3:2 (5+0)\n\
-        deep:\n\
-        enter Data 1:1 (0+0)\n\
+        exit Data 3:2 (5+0)\n";
+    assert_shown(&rt, read, want)?;
+    let read = lines_of(alloc, &Deep {}, Name::StringStart, b"ab");
+    let want = "enter Data 1:1 (0+0)\n\
         exit Data 1:3 (2+0)\n";
-    assert_eq!(rt; text.as_str(), want);
-    Ok(())
+    assert_shown(&rt, read, want)
 }
 
 #[test]
@@ -163,8 +142,11 @@ fn words_and_tags_are_data_or_refused(rt: HostRuntime) -> Result<(), AllocError>
         (b"a #".as_slice(), "a tag without a word (limecove:words)"),
     ] {
         assert!(rt; bytes.len() < 9);
-        let text = lines_of(rt.alloc(), &Words {}, Name::TextStart, bytes)?;
-        assert_eq!(rt; text.as_str(), want);
+        assert_shown(
+            &rt,
+            lines_of(rt.alloc(), &Words {}, Name::TextStart, bytes),
+            want,
+        )?;
     }
     Ok(())
 }

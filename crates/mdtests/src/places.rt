@@ -2,6 +2,7 @@
 
 ghost use Rattle.std.specs.Prelude.{◌+◌, ◌*◌, ◌^◌, ◌<◌, length};
 
+use crate::shown::assert_shown;
 use markdown::configuration::TabSize;
 use markdown::event::Point;
 use markdown::tokenizer::{cuts_every, point_at};
@@ -53,8 +54,7 @@ fn cuts_of_a_text(rt: HostRuntime) -> Result<(), AllocError> {
         (b"abc\td".as_slice(), 1, "[(1, 0), (2, 0), (3, 0), (4, 0)]"),
     ] {
         assert!(rt; n > 0 && bytes.len() < 9);
-        let text = cuts(rt.alloc(), bytes, n)?;
-        assert_eq!(rt; text.as_str(), want);
+        assert_shown(&rt, cuts(rt.alloc(), bytes, n), want)?;
     }
     Ok(())
 }

@@ -2,6 +2,7 @@
 
 use crate::driven::read;
 use crate::machines::lines_by;
+use crate::shown::assert_shown;
 use markdown::configuration::ParseOptions;
 use markdown::parser::ParseState;
 use markdown::state::Name;
@@ -61,9 +62,7 @@ const AT_ONCE: &str = "1:2: x (markdown:r)\n\
 
 #[test]
 fn one_byte_is_refused(rt: HostRuntime) -> Result<(), AllocError> {
-    let text = read_one(rt.alloc())?;
-    assert_eq!(rt; text.as_str(), AT_ONCE);
-    Ok(())
+    assert_shown(&rt, read_one(rt.alloc()), AT_ONCE)
 }
 
 /// The numbers of calls before the one that refuses, and what is answered then.
@@ -100,8 +99,7 @@ const ANSWERS: [(usize, &str); 4] = [
 fn message_waits_for_the_flush(rt: HostRuntime) -> Result<(), AllocError> {
     for (at, want) in ANSWERS {
         for resolve in [false, true] {
-            let text = read_two(rt.alloc(), at, resolve)?;
-            assert_eq!(rt; text.as_str(), want, "after {at} calls");
+            assert_shown(&rt, read_two(rt.alloc(), at, resolve), want)?;
         }
     }
     Ok(())
@@ -111,9 +109,12 @@ fn message_waits_for_the_flush(rt: HostRuntime) -> Result<(), AllocError> {
 #[test]
 fn each_call_may_refuse(rt: HostRuntime) -> Result<(), AllocError> {
     for at in 0..9 {
-        let text = lines_by(rt.alloc(), &Fail { at }, Name::TextStart, b"a\r\n\tb", true)?;
         let want = if at < 8 { "1:2: x (markdown:r)" } else { "" };
-        assert_eq!(rt; text.as_str(), want, "after {at} calls");
+        assert_shown(
+            &rt,
+            lines_by(rt.alloc(), &Fail { at }, Name::TextStart, b"a\r\n\tb", true),
+            want,
+        )?;
     }
     Ok(())
 }

@@ -2,6 +2,7 @@
 
 use crate::driven::read;
 use crate::machines::lines_by;
+use crate::shown::assert_shown;
 use markdown::configuration::ParseOptions;
 use markdown::parser::ParseState;
 use markdown::state::Name;
@@ -82,8 +83,7 @@ const ANSWERS: [(bool, bool, &[Resolver], &str); 3] = [
 #[test]
 fn resolvers_go_over_what_was_read(rt: HostRuntime) -> Result<(), AllocError> {
     for (refuse, resolve, resolvers, want) in ANSWERS {
-        let text = read_one(rt.alloc(), refuse, resolve, resolvers)?;
-        assert_eq!(rt; text.as_str(), want);
+        assert_shown(&rt, read_one(rt.alloc(), refuse, resolve, resolvers), want)?;
     }
     Ok(())
 }
@@ -91,8 +91,10 @@ fn resolvers_go_over_what_was_read(rt: HostRuntime) -> Result<(), AllocError> {
 #[test]
 fn nothing_is_wrapped_too(rt: HostRuntime) -> Result<(), AllocError> {
     let machine = Wrap { refuse: false };
-    let text = lines_by(rt.alloc(), &machine, Name::TextStart, b"", true)?;
     let want = "enter Paragraph 1:1 (0+0)\nexit Paragraph 1:1 (0+0)\n";
-    assert_eq!(rt; text.as_str(), want);
-    Ok(())
+    assert_shown(
+        &rt,
+        lines_by(rt.alloc(), &machine, Name::TextStart, b"", true),
+        want,
+    )
 }

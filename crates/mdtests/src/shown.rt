@@ -4,6 +4,7 @@ use markdown::event::{Event, Kind, Link, Point};
 use markdown::subtokenize::Subresult;
 use markdown::tokenizer::Fault;
 use std::alloc::{AllocError, Global};
+use std::process::Abort;
 
 /// The lines of events: kind, name and place of each, as in `enter Data 1:1 (0+0)`, and behind them its link, if it has one:
 /// content, previous and next, as in `enter Data 1:1 (0+0) Text None Some(4)`.
@@ -11,6 +12,29 @@ pub(crate) fn shown(alloc: Global, events: &[Event]) -> Result<String, AllocErro
     let mut text = String::new(alloc);
     push_lines(&mut text, events)?;
     Ok(text)
+}
+
+/// Asserts that a text was made, and is this one. What owns a text and compares it is proved once so, and not in each test.
+pub(crate) fn assert_shown(
+    rt: &impl Abort,
+    made: Result<String, AllocError>,
+    want: &str,
+) -> Result<(), AllocError> {
+    let made = made?;
+    assert_eq!(rt; made.as_str(), want);
+    Ok(())
+}
+
+/// Asserts that a text was made, and is this one, which shows what is said.
+pub(crate) fn assert_told(
+    rt: &impl Abort,
+    what: &str,
+    made: Result<String, AllocError>,
+    want: &str,
+) -> Result<(), AllocError> {
+    let made = made?;
+    assert_eq!(rt; made.as_str(), want, "{what}");
+    Ok(())
 }
 
 /// Appends the lines of events.
