@@ -1,5 +1,6 @@
 //! Messages: clones and printed forms.
 
+use crate::shown::assert_shown;
 use markdown::message::{Message, Place};
 use markdown::owned::{Boxed, OwnedText};
 use markdown::unist::{Point, Position};
@@ -74,8 +75,7 @@ fn messages_and_clones_are_shown(rt: HostRuntime) -> Result<(), AllocError> {
             "1:1-2:3: x (markdown:r); 1:1-2:3: x (markdown:r), equal: true",
         ),
     ] {
-        let lines = lines(rt.alloc(), place, "x")?;
-        assert_eq!(rt; lines.as_str(), want);
+        assert_shown(&rt, lines(rt.alloc(), place, "x"), want)?;
     }
     Ok(())
 }
@@ -96,9 +96,11 @@ fn messages_differ_by_their_place(rt: HostRuntime) -> Result<(), AllocError> {
 fn shows_places(rt: HostRuntime) -> Result<(), AllocError> {
     let point = Place::Point(Point::new(12, 7, 345));
     let stretch = Place::Position(Position::new(2, 3, 5, 10, 1, 99));
-    let shown = format!(in rt.alloc(); "{point} {stretch}")?;
-    assert_eq!(rt; shown.as_str(), "12:7 2:3-10:1");
-    Ok(())
+    assert_shown(
+        &rt,
+        format!(in rt.alloc(); "{point} {stretch}"),
+        "12:7 2:3-10:1",
+    )
 }
 
 /// A text of 300 bytes.
@@ -114,10 +116,12 @@ fn long_text(alloc: Global) -> Result<String, AllocError> {
 fn long_reasons_are_shown_and_cloned(rt: HostRuntime) -> Result<(), AllocError> {
     let reason = long_text(rt.alloc())?;
     let place = Place::Position(Position::new(2, 3, 5, 10, 1, 99));
-    let lines = lines(rt.alloc(), Some(place), reason.as_str())?;
     let want = format!(in rt.alloc();
         "2:3-10:1: {reason} (markdown:r); 2:3-10:1: {reason} (markdown:r), equal: true"
     )?;
-    assert_eq!(rt; lines.as_str(), want.as_str());
-    Ok(())
+    assert_shown(
+        &rt,
+        lines(rt.alloc(), Some(place), reason.as_str()),
+        want.as_str(),
+    )
 }

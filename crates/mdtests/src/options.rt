@@ -1,5 +1,6 @@
 //! Options: presets, clones and the Debug text.
 
+use crate::shown::assert_shown;
 use markdown::configuration::{CompileOptions, Constructs, Options, ParseOptions};
 use markdown::owned::OwnedText;
 use markdown::util::line_ending::LineEnding;
@@ -12,7 +13,6 @@ fn text(text: &str, alloc: Global) -> Result<OwnedText, AllocError> {
 
 #[test]
 fn shows_options(rt: HostRuntime) -> Result<(), AllocError> {
-    let shown = format!(in rt.alloc(); "{:?}", ParseOptions::default())?;
     let want =
         "ParseOptions { constructs: Constructs { attention: true, autolink: true, block_quote: true, \
         character_escape: true, character_reference: true, code_indented: true, code_fenced: true, \
@@ -24,8 +24,11 @@ fn shows_options(rt: HostRuntime) -> Result<(), AllocError> {
         mdx_esm: false, mdx_expression_flow: false, mdx_expression_text: false, mdx_jsx_flow: false, \
         mdx_jsx_text: false, thematic_break: true }, gfm_strikethrough_single_tilde: true, \
         math_text_single_dollar: true, tab_size: 4 }";
-    assert_eq!(rt; shown.as_str(), want);
-    Ok(())
+    assert_shown(
+        &rt,
+        format!(in rt.alloc(); "{:?}", ParseOptions::default()),
+        want,
+    )
 }
 
 /// A label as it is shown.
@@ -108,8 +111,7 @@ fn clones_have_all_texts(rt: HostRuntime) -> Result<(), AllocError> {
         h1\n\
         Fußnoten\n";
     for (all, want) in [(false, with_label), (true, with_texts)] {
-        let shown = made_and_cloned(rt.alloc(), all)?;
-        assert_eq!(rt; shown.as_str(), want);
+        assert_shown(&rt, made_and_cloned(rt.alloc(), all), want)?;
     }
     Ok(())
 }

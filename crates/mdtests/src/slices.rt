@@ -2,6 +2,7 @@
 
 ghost use Rattle.std.specs.Prelude.{◌≡◌, None};
 
+use crate::shown::assert_shown;
 use markdown::configuration::TabSize;
 use markdown::event::{Event, Kind, Name, Point};
 use markdown::util::slice::{Position, Slice};
@@ -57,9 +58,7 @@ fn begins_inside_a_tab(rt: HostRuntime) -> Result<(), AllocError> {
             end: &end,
         },
     );
-    let text = seen(rt.alloc(), &slice)?;
-    assert_eq!(rt; text.as_str(), "2 and 0 of 5: '  foo'");
-    Ok(())
+    assert_shown(&rt, seen(rt.alloc(), &slice), "2 and 0 of 5: '  foo'")
 }
 
 #[test]
@@ -75,9 +74,7 @@ fn stays_inside_a_tab(rt: HostRuntime) -> Result<(), AllocError> {
             end: &end,
         },
     );
-    let text = seen(rt.alloc(), &slice)?;
-    assert_eq!(rt; text.as_str(), "1 and 0 of 1: ' '");
-    Ok(())
+    assert_shown(&rt, seen(rt.alloc(), &slice), "1 and 0 of 1: ' '")
 }
 
 #[test]
@@ -93,9 +90,7 @@ fn ends_inside_a_tab(rt: HostRuntime) -> Result<(), AllocError> {
             end: &end,
         },
     );
-    let text = seen(rt.alloc(), &slice)?;
-    assert_eq!(rt; text.as_str(), "0 and 1 of 3: 'a\t '");
-    Ok(())
+    assert_shown(&rt, seen(rt.alloc(), &slice), "0 and 1 of 3: 'a\t '")
 }
 
 #[test]
@@ -121,8 +116,7 @@ fn writes_spaces_and_bytes(rt: HostRuntime) -> Result<(), AllocError> {
             before,
             after,
         };
-        let text = seen(rt.alloc(), &slice)?;
-        assert_eq!(rt; text.as_str(), want);
+        assert_shown(&rt, seen(rt.alloc(), &slice), want)?;
     }
     Ok(())
 }
@@ -149,17 +143,13 @@ fn writes_many_spaces(rt: HostRuntime) -> Result<(), AllocError> {
         after: 200,
     };
     assert!(rt; str::from_utf8(slice.bytes).is_ok());
-    let written = slice.serialize(rt.alloc())?;
-    assert_eq!(rt; written.as_str(), want.as_str());
-    Ok(())
+    assert_shown(&rt, slice.serialize(rt.alloc()), want.as_str())
 }
 
 #[test]
 fn takes_bytes_between_indices(rt: HostRuntime) -> Result<(), AllocError> {
     let slice = Slice::from_indices(b"abc", 1, 2);
-    let text = seen(rt.alloc(), &slice)?;
-    assert_eq!(rt; text.as_str(), "0 and 0 of 1: 'b'");
-    Ok(())
+    assert_shown(&rt, seen(rt.alloc(), &slice), "0 and 0 of 1: 'b'")
 }
 
 #[test]

@@ -7,6 +7,7 @@ ghost use Rattle.mdtests.specs.Starved.{text_start};
 
 use crate::chunks::QUOTE;
 use crate::machines::lines_of;
+use crate::shown::assert_shown;
 use crate::subtokenize::with_children;
 use markdown::event::{self, Content};
 use markdown::state::{Machine, MachineTypes, Name, State};
@@ -111,9 +112,12 @@ const TWO_BYTES: &str = "enter Data 1:1 (0+0)\n\
 #[test]
 fn refused_state_ends_a_run(rt: HostRuntime) -> Result<(), AllocError> {
     for at in 0..4 {
-        let text = lines_of(rt.alloc(), &Starved { at }, Name::TextStart, b"ab")?;
         let want = if at < 3 { "out of memory" } else { TWO_BYTES };
-        assert_eq!(rt; text.as_str(), want, "after {at} calls");
+        assert_shown(
+            &rt,
+            lines_of(rt.alloc(), &Starved { at }, Name::TextStart, b"ab"),
+            want,
+        )?;
     }
     Ok(())
 }
@@ -160,9 +164,8 @@ const READ: &str = "done: false, notes: 0, definitions:\n\
 #[test]
 fn refused_child_leaves_the_list(rt: HostRuntime) -> Result<(), AllocError> {
     for at in 0..5 {
-        let text = quote_read(rt.alloc(), at)?;
         let want = if at < 4 { AS_BEFORE } else { READ };
-        assert_eq!(rt; text.as_str(), want, "after {at} calls");
+        assert_shown(&rt, quote_read(rt.alloc(), at), want)?;
     }
     Ok(())
 }

@@ -1,6 +1,7 @@
 //! States: clones, and the message of an error.
 
 use crate::messages::message;
+use crate::shown::assert_shown;
 use markdown::state::{Name, State};
 use std::alloc::{AllocError, Global};
 
@@ -37,7 +38,5 @@ fn result_of_an_error(alloc: Global) -> Result<String, AllocError> {
 #[test]
 fn gives_the_message_of_an_error_alone(rt: HostRuntime) -> Result<(), AllocError> {
     assert!(rt; State::Ok.to_result().is_ok());
-    let line = result_of_an_error(rt.alloc())?;
-    assert_eq!(rt; line.as_str(), "1:2: x (markdown:r)");
-    Ok(())
+    assert_shown(&rt, result_of_an_error(rt.alloc()), "1:2: x (markdown:r)")
 }

@@ -7,7 +7,7 @@ ghost use Rattle.mdchildren.specs.Reads.{start_name};
 
 use crate::chunks::Row::{Chunk, Enter, Exit};
 use crate::chunks::{CHAIN_AROUND_ANOTHER, CHAIN_AROUND_CHILDREN, EMPTY_CHUNK, QUOTE, Row, listed};
-use crate::shown::{push_answer, push_lines};
+use crate::shown::{assert_shown, assert_told, push_answer, push_lines};
 use markdown::configuration::ParseOptions;
 use markdown::event::{Content, Event, Name};
 use markdown::parser::ParseState;
@@ -229,8 +229,7 @@ const OF_LINES: [(&str, &[Row], &[u8], &str); 6] = [
 fn children_stand_in_place_of_their_chunks(rt: HostRuntime) -> Result<(), AllocError> {
     for (what, list, bytes, want) in OF_LINES {
         assert!(rt; bytes.len() < 9);
-        let text = with_lines(rt.alloc(), list, bytes)?;
-        assert_eq!(rt; text.as_str(), want, "{what}");
+        assert_told(&rt, what, with_lines(rt.alloc(), list, bytes), want)?;
     }
     Ok(())
 }
@@ -289,8 +288,7 @@ const OF_ATTEMPTS: [(&str, &[Row], &[u8], &str); 2] = [
 fn choices_of_children_go_back_over_gaps(rt: HostRuntime) -> Result<(), AllocError> {
     for (what, list, bytes, want) in OF_ATTEMPTS {
         assert!(rt; bytes.len() < 9);
-        let text = with_attempts(rt.alloc(), list, bytes)?;
-        assert_eq!(rt; text.as_str(), want, "{what}");
+        assert_told(&rt, what, with_attempts(rt.alloc(), list, bytes), want)?;
     }
     Ok(())
 }
@@ -325,8 +323,7 @@ fn message_of_the_second_chain_leaves_the_first(rt: HostRuntime) -> Result<(), A
         (2, REFUSED),
         (3, "done: false, notes: 0, definitions:\n"),
     ] {
-        let text = refused_at(rt.alloc(), calls)?;
-        assert_eq!(rt; text.as_str(), want, "after {calls}");
+        assert_shown(&rt, refused_at(rt.alloc(), calls), want)?;
     }
     Ok(())
 }
@@ -350,8 +347,7 @@ fn resolvers_of_children_wrap_or_refuse(rt: HostRuntime) -> Result<(), AllocErro
         exit CodeTextData 1:4 (3+0)\n\
         exit Paragraph 1:4 (3+0)\n";
     for (refuse, want) in [(false, wrapped_in_order), (true, REFUSED)] {
-        let text = wrapped(rt.alloc(), refuse)?;
-        assert_eq!(rt; text.as_str(), want);
+        assert_shown(&rt, wrapped(rt.alloc(), refuse), want)?;
     }
     Ok(())
 }

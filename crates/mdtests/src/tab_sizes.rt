@@ -4,6 +4,7 @@ ghost use Rattle.std.specs.Prelude.{◌≡◌, ◌≤◌};
 
 use crate::chunks::Row::{Chunk, Exit};
 use crate::chunks::{Place, listed};
+use crate::shown::assert_shown;
 use markdown::configuration::TabSize;
 use markdown::event::{Content, Name, Point};
 use markdown::tokenizer::{cuts_every, point_at};
@@ -57,9 +58,11 @@ fn tab_stops_stand_one_to_sixteen_columns_apart(rt: HostRuntime) -> Result<(), A
     }
     assert!(rt; TabSize::default() == every(4));
     assert!(rt; TabSize::default() != every(8));
-    let shown = format!(in rt.alloc(); "{:?} {:?}", TabSize::default(), every(16))?;
-    assert_eq!(rt; shown.as_str(), "4 16");
-    Ok(())
+    assert_shown(
+        &rt,
+        format!(in rt.alloc(); "{:?} {:?}", TabSize::default(), every(16)),
+        "4 16",
+    )
 }
 
 /// The point behind the tab of `"a\tb"`.

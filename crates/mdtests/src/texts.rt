@@ -3,7 +3,7 @@
 ghost use Rattle.std.specs.Prelude.{◌+◌, ◌*◌, ◌^◌, ◌<◌, length};
 
 use crate::machines::lines_of;
-use crate::shown::shown;
+use crate::shown::{assert_shown, shown};
 use markdown::configuration::ParseOptions;
 use markdown::state::Name;
 use mdtext::read::read_text;
@@ -81,8 +81,7 @@ fn texts_have_their_constructs(rt: HostRuntime) -> Result<(), AllocError> {
     let options = ParseOptions::default();
     for (bytes, want) in TEXTS {
         assert!(rt; bytes.len() < 9);
-        let text = lines_of_text(rt.alloc(), bytes, &options)?;
-        assert_eq!(rt; text.as_str(), want);
+        assert_shown(&rt, lines_of_text(rt.alloc(), bytes, &options), want)?;
     }
     Ok(())
 }
@@ -97,9 +96,7 @@ const CODE_OFF: &str = "enter Data 1:1 (0+0)\n\
 fn construct_that_is_off_is_data(rt: HostRuntime) -> Result<(), AllocError> {
     let mut options = ParseOptions::default();
     options.constructs.code_text = false;
-    let text = lines_of_text(rt.alloc(), b"`a`", &options)?;
-    assert_eq!(rt; text.as_str(), CODE_OFF);
-    Ok(())
+    assert_shown(&rt, lines_of_text(rt.alloc(), b"`a`", &options), CODE_OFF)
 }
 
 /// A quote mark and a code span over two lines: the lines of a paragraph are its chunks.
@@ -114,7 +111,9 @@ const CHUNKS: &str = "enter Paragraph 1:1 (0+0)\n\
 
 #[test]
 fn paragraphs_of_texts_are_chunks(rt: HostRuntime) -> Result<(), AllocError> {
-    let text = lines_of(rt.alloc(), &Text {}, Name::FlowStart, b"`a\n>b`")?;
-    assert_eq!(rt; text.as_str(), CHUNKS);
-    Ok(())
+    assert_shown(
+        &rt,
+        lines_of(rt.alloc(), &Text {}, Name::FlowStart, b"`a\n>b`"),
+        CHUNKS,
+    )
 }

@@ -1,5 +1,6 @@
 //! Printed forms of points and positions.
 
+use crate::shown::assert_shown;
 use markdown::unist::{Point, Position};
 use std::alloc::AllocError;
 
@@ -9,8 +10,10 @@ fn shows_points_and_positions(rt: HostRuntime) -> Result<(), AllocError> {
     let later = Point::new(12, 7, 345);
     let stretch = Position::new(1, 1, 0, 1, 3, 2);
     let later_stretch = Position::new(2, 3, 5, 10, 1, 99);
-    let shown = format!(in rt.alloc(); "{point:?}, {later:?}, {stretch:?}, {later_stretch:?}")?;
     let want = "1:1 (0), 12:7 (345), 1:1-1:3 (0-2), 2:3-10:1 (5-99)";
-    assert_eq!(rt; shown.as_str(), want);
-    Ok(())
+    assert_shown(
+        &rt,
+        format!(in rt.alloc(); "{point:?}, {later:?}, {stretch:?}, {later_stretch:?}"),
+        want,
+    )
 }
