@@ -122,26 +122,33 @@ fn placed_end(chunks: &[Chunk], acc: (usize, usize), end: Option<usize>) -> Opti
     }
 }
 
-/// An event of the child, with its link ends at their final places.
-fn placed_event(chunks: &[Chunk], acc: (usize, usize), event: Event) -> Event
+/// The link of an event of the child leads to its final places. An event without a link is not written to.
+fn place_link(chunks: &[Chunk], acc: (usize, usize), event: &mut Event)
     requires apart { AreAbove acc.0 chunks.now }
-    requires fits { IfSome event.link (EachEnd (λ n. All (λ c. c.index + 2 + acc.1 + n < 2 ^ 64) chunks.now)) }
-    ensures { result ≡ relinked (table_place chunks.now acc.0 acc.1) event }
+    requires fits { IfSome event.old.link (EachEnd (λ n. All (λ c. c.index + 2 + acc.1 + n < 2 ^ 64) chunks.now)) }
+    ensures { event.new ≡ relinked (table_place chunks.now acc.0 acc.1) event.old }
 {
-    match event.link {
-        None => event,
-        Some(link) => Event {
-            link: Some(Link {
-                previous: placed_end(chunks, acc, link.previous),
-                next: placed_end(chunks, acc, link.next),
-                ..link
-            }),
-            ..event
-        },
+    if let Some(link) = event.link {
+        event.link = Some(Link {
+            previous: placed_end(chunks, acc, link.previous),
+            next: placed_end(chunks, acc, link.next),
+            ..link
+        });
     }
 }
 
-/// The part of a chunk, with its link ends at their final places.
+/// The links of these events of the child lead to their final places.
+fn place_links(chunks: &[Chunk], acc: (usize, usize), events: &mut [Event])
+    requires apart { AreAbove acc.0 chunks.now }
+    requires fits { All (λ e. IfSome e.link (EachEnd (λ n. All (λ c. c.index + 2 + acc.1 + n < 2 ^ 64) chunks.now))) events.old }
+    ensures { events.new ≡ map (relinked (table_place chunks.now acc.0 acc.1)) events.old }
+{
+    for event in events.iter_mut() {
+        place_link(chunks, acc, event);
+    }
+}
+
+/// The part of a chunk, with its link ends at their final places: copied at once, as few events have a link.
 fn placed_part(
     alloc: Global,
     chunks: &[Chunk],
@@ -156,9 +163,8 @@ fn placed_part(
     ensures { IfOk result (λ v. v.items ≡ map (relinked (table_place chunks.now acc.0 acc.1)) (between chunk.start chunk.end child.now)) }
 {
     let mut part = Vec::new(alloc);
-    for event in &child[chunk.start..chunk.end] {
-        part.push(placed_event(chunks, acc, *event))?;
-    }
+    part.extend_from_slice(&child[chunk.start..chunk.end])?;
+    place_links(chunks, acc, part.as_mut_slice());
     Ok(part)
 }
 

@@ -25,6 +25,16 @@ pub(crate) fn rows_of(alloc: Global, bytes: &[u8], t: usize) -> Result<Vec<Row>,
     let mut line: usize = 1;
     let mut column: usize = 1;
     for index in 0..bytes.len() {
+        // Most bytes: neither a tab nor a line ending, all of which are at most a CR.
+        if bytes[index] > b'\r' {
+            rows.push(Row {
+                line,
+                column,
+                width: 1,
+            })?;
+            column += 1;
+            continue;
+        }
         let width = width_at(bytes, t, index, column);
         rows.push(Row {
             line,

@@ -1,9 +1,41 @@
-use Rattle.std.proofs.Common.{◌≡◌, ◌≤◌, suc, ◌+◌, true, false, length, sym, ap, ◌∙◌, arith}
+use Rattle.std.proofs.Common.{◌≡◌, ◌≤◌, ◌<◌, ℕ, suc, ◌+◌, true, false, List, length, refl, sym, ap, ◌∙◌, arith, ne_eqb, lit≤}
+use Rattle.std.specs.Prelude.{◌==◌, slice_index}
 use Rattle.std.proofs.Math.Nat.{mul-le-mul_left, mul-le-mul_right}
-use Rattle.mdchildren.specs.Rows.{width_at, rows_upto}
+use Rattle.mdchildren.specs.Rows.{width_at, ends_line, column_after, rows_upto}
 use Rattle.mdchildren.proofs.Reached.{reached-at, line_at-le, row-made, width-end, line-on, column-on}
 use Rattle.mdchildren.proofs.rows.rows_of.Goals as goal
 use Rattle.mdchildren.proofs.rows.rows_of.Goals.{then-ends_line, else-ends_line}
+
+-- a byte above a CR is no tab and no line ending
+module _ (t : ℕ) (bytes : List ℕ) (i column : ℕ) (above : 13 < slice_index bytes i) where
+  apart : (n : ℕ) → n ≤ 13 → (slice_index bytes i == n) ≡ false
+  apart n small = ne_eqb (slice_index bytes i) n (λ same. omega (arith, above, small, same))
+
+  plain-width : 1 ≡ width_at t bytes column i
+  plain-width = rw (apart 9 (lit≤ tt), apart 10 (lit≤ tt)) refl
+
+  plain-ends : ends_line bytes i ≡ false
+  plain-ends = rw (apart 13 (lit≤ tt), apart 10 (lit≤ tt)) refl
+
+  plain-column : column + 1 ≡ column_after t bytes column i
+  plain-column = rw (apart 13 (lit≤ tt), apart 10 (lit≤ tt), apart 9 (lit≤ tt)) (omega arith)
+
+pub overflow_add-column : goal.overflow_add-column
+overflow_add-column c =
+    let r = reached-at c.args.t c.requires.some c.args.bytes.now c.loop-index.index (omega arith) in
+    let inside : suc c.loop-index.index ≤ length c.args.bytes.now = omega arith in
+    let more = mul-le-mul_left c.args.t inside in
+    omega (arith, r.bound, more, c.loop-index.invariant.column, c.requires.limit, c.requires.some)
+
+pub loop-index-preserved-then-bytes-index-gt13 : goal.loop-index-preserved-then-bytes-index-gt13
+loop-index-preserved-then-bytes-index-gt13 c =
+    let i = c.loop-index.invariant in
+    let above = c.if-bytes-index-gt13.true in
+    record {
+      rows = c.in_ok-push.ensures.items ∙ row-made c.args.t c.args.bytes.now c.loop-index.rows.items c.loop-index.line c.loop-index.column 1 c.loop-index.index i.rows i.line i.column (plain-width c.args.t c.args.bytes.now c.loop-index.index c.loop-index.column above);
+      line = line-on c.args.bytes.now c.loop-index.line c.loop-index.index false i.line (plain-ends c.args.t c.args.bytes.now c.loop-index.index c.loop-index.column above);
+      column = plain-column c.args.t c.args.bytes.now c.loop-index.index c.loop-index.column above ∙ column-on c.args.t c.args.bytes.now c.loop-index.column c.loop-index.index i.column;
+    }
 
 pub width_at-width-requires-clause-first : goal.width_at-width-requires-clause-first
 width_at-width-requires-clause-first c =
@@ -32,7 +64,7 @@ pub loop-index-preserved : goal.loop-index-preserved
 loop-index-preserved c =
     let i = c.loop-index.invariant in
     record {
-      rows = c.in_ok-push.ensures.items ∙ row-made c.args.t c.args.bytes.now c.loop-index.rows.items c.loop-index.line c.loop-index.column c.width_at-width.result c.loop-index.index i.rows i.line i.column c.width_at-width.ensures;
+      rows = c.in_ok-push-2.ensures.items ∙ row-made c.args.t c.args.bytes.now c.loop-index.rows.items c.loop-index.line c.loop-index.column c.width_at-width.result c.loop-index.index i.rows i.line i.column c.width_at-width.ensures;
       line = elim c.if-ends_line.branch [
         | then-ends_line w ↦ w.line-is ∙ line-on c.args.bytes.now c.loop-index.line c.loop-index.index true i.line (sym c.ends_line.ensures ∙ w.if-ends_line.true)
         | else-ends_line w ↦ w.line-is ∙ line-on c.args.bytes.now c.loop-index.line c.loop-index.index false i.line (sym c.ends_line.ensures ∙ w.if-ends_line.false)
@@ -45,5 +77,5 @@ returns c =
     let i = c.loop-index.invariant in
     let n : c.loop-index.index ≡ length c.args.bytes.now = omega arith in
     let w : 1 ≡ width_at c.args.t c.args.bytes.now c.loop-index.column c.loop-index.index = width-end c.args.t c.args.bytes.now c.loop-index.column ∙ ap (width_at c.args.t c.args.bytes.now c.loop-index.column) (sym n) in
-    c.in_ok-push-2.ensures.items ∙ row-made c.args.t c.args.bytes.now c.loop-index.rows.items c.loop-index.line c.loop-index.column 1 c.loop-index.index i.rows i.line i.column w
+    c.in_ok-push-3.ensures.items ∙ row-made c.args.t c.args.bytes.now c.loop-index.rows.items c.loop-index.line c.loop-index.column 1 c.loop-index.index i.rows i.line i.column w
     ∙ ap (λ k. rows_upto c.args.t c.args.bytes.now (k + 1)) n
