@@ -27,10 +27,14 @@ fn decodes_characters_at_an_index(rt: HostRuntime) {
 
 #[test]
 fn classifies_characters_and_edges(rt: HostRuntime) {
-    assert!(rt; classify(' ', &is_comma) == Kind::Whitespace);
-    assert!(rt; classify('a', &is_comma) == Kind::Other);
-    assert!(rt; classify('.', &is_comma) == Kind::Punctuation);
-    assert!(rt; classify('\u{3001}', &is_comma) == Kind::Punctuation);
+    for (char, want) in [
+        (' ', Kind::Whitespace),
+        ('a', Kind::Other),
+        ('.', Kind::Punctuation),
+        ('\u{3001}', Kind::Punctuation),
+    ] {
+        assert!(rt; classify(char, &is_comma) == want);
+    }
     assert!(rt; classify('\u{3001}', &is_none) == Kind::Other);
     assert!(rt; kind_after_index("é".as_bytes(), 2, &is_comma) == Kind::Whitespace);
     assert!(rt; kind_after_index(b"\x0b", 0, &is_comma) == Kind::Whitespace);

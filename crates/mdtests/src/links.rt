@@ -1,7 +1,9 @@
 //! Links in a small list, with answers worked by hand.
 
+use crate::shown::{assert_shown, shown};
 use markdown::event::{Content, Event, Kind, Link, Name, Point};
 use markdown::subtokenize::{link, link_to};
+use std::alloc::AllocError;
 
 const POINT: Point = Point {
     line: 1,
@@ -28,24 +30,26 @@ const EXIT: Event = Event {
     link: None,
 };
 
-fn ends(event: Event) -> Option<(Option<usize>, Option<usize>)> {
-    event.link.map(|link| (link.previous, link.next))
-}
-
 #[test]
-fn chunks_are_linked_over_others(rt: HostRuntime) {
+fn chunks_are_linked_over_others(rt: HostRuntime) -> Result<(), AllocError> {
     let mut events = [ENTER, EXIT, ENTER, EXIT, ENTER, EXIT];
     link_to(&mut events, 0, 4);
-    assert!(rt; ends(events[0]) == Some((None, Some(4))));
-    assert!(rt; ends(events[2]) == Some((None, None)));
-    assert!(rt; ends(events[4]) == Some((Some(0), None)));
+    let want = "enter Data 1:1 (0+0) Text None Some(4)\n\
+        exit Data 1:1 (0+0)\n\
+        enter Data 1:1 (0+0) Text None None\n\
+        exit Data 1:1 (0+0)\n\
+        enter Data 1:1 (0+0) Text Some(0) None\n\
+        exit Data 1:1 (0+0)\n";
+    assert_shown(&rt, shown(rt.alloc(), &events), want)
 }
 
 #[test]
-fn chunks_side_by_side_are_linked(rt: HostRuntime) {
+fn chunks_side_by_side_are_linked(rt: HostRuntime) -> Result<(), AllocError> {
     let mut events = [ENTER, EXIT, ENTER, EXIT];
     link(&mut events, 2);
-    assert!(rt; ends(events[0]) == Some((None, Some(2))));
-    assert!(rt; ends(events[2]) == Some((Some(0), None)));
-    assert!(rt; events[1] == EXIT && events[3] == EXIT);
+    let want = "enter Data 1:1 (0+0) Text None Some(2)\n\
+        exit Data 1:1 (0+0)\n\
+        enter Data 1:1 (0+0) Text Some(0) None\n\
+        exit Data 1:1 (0+0)\n";
+    assert_shown(&rt, shown(rt.alloc(), &events), want)
 }

@@ -1,5 +1,6 @@
 //! Values go into the small types and come out of them.
 
+use crate::shown::assert_shown;
 use markdown::owned::{Boxed, Items, OwnedText, StaticBytes};
 use std::alloc::{AllocError, Global};
 
@@ -33,20 +34,28 @@ fn text(alloc: Global) -> Result<OwnedText, AllocError> {
     Ok(OwnedText::from_string(String::from_str(alloc, "a\u{e9}")?))
 }
 
-#[test]
-fn text_goes_in_and_comes_out(rt: HostRuntime) -> Result<(), AllocError> {
-    let string = text(rt.alloc())?.into_string();
-    assert_eq!(rt; string.as_str(), "a\u{e9}");
-    Ok(())
+/// A text that goes in, as it comes out.
+fn text_out(alloc: Global) -> Result<String, AllocError> {
+    Ok(text(alloc)?.into_string())
+}
+
+/// A clone of a text, and whether it is equal to that.
+fn cloned(alloc: Global, text: &OwnedText) -> Result<String, AllocError> {
+    let copy = text.try_clone(alloc)?;
+    let same = copy == *text;
+    let copy = copy.as_str();
+    format!(in alloc; "{copy}, equal: {same}")
+}
+
+/// A clone of the text, and whether it is equal to that.
+fn text_cloned(alloc: Global) -> Result<String, AllocError> {
+    cloned(alloc, &text(alloc)?)
 }
 
 #[test]
-fn cloned_text_is_equal(rt: HostRuntime) -> Result<(), AllocError> {
-    let text = text(rt.alloc())?;
-    let copy = text.try_clone(rt.alloc())?;
-    assert!(rt; copy == text);
-    assert_eq!(rt; copy.as_str(), "a\u{e9}");
-    Ok(())
+fn text_comes_out_and_is_cloned(rt: HostRuntime) -> Result<(), AllocError> {
+    assert_shown(&rt, text_out(rt.alloc()), "a\u{e9}")?;
+    assert_shown(&rt, text_cloned(rt.alloc()), "a\u{e9}, equal: true")
 }
 
 #[test]

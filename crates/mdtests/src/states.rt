@@ -6,17 +6,29 @@ use markdown::state::{Name, State};
 use std::alloc::{AllocError, Global};
 
 /// Whether the clone of a state is equal to it.
-fn is_cloned(alloc: Global, state: State) -> Result<bool, AllocError> {
-    Ok(state.try_clone(alloc)? == state)
+fn is_cloned(alloc: Global, state: &State) -> Result<bool, AllocError> {
+    match state.try_clone(alloc) {
+        Ok(copy) => Ok(copy == *state),
+        Err(error) => Err(error),
+    }
+}
+
+/// Whether the clone of an error is equal to it.
+fn is_error_cloned(alloc: Global) -> Result<bool, AllocError> {
+    is_cloned(alloc, &State::Error(message(alloc)?))
 }
 
 #[test]
 fn clones_are_equal(rt: HostRuntime) -> Result<(), AllocError> {
-    assert!(rt; is_cloned(rt.alloc(), State::Ok)?);
-    assert!(rt; is_cloned(rt.alloc(), State::Nok)?);
-    assert!(rt; is_cloned(rt.alloc(), State::Next(Name::TextStart))?);
-    assert!(rt; is_cloned(rt.alloc(), State::Retry(Name::TextStart))?);
-    assert!(rt; is_cloned(rt.alloc(), State::Error(message(rt.alloc())?))?);
+    for state in &[
+        State::Ok,
+        State::Nok,
+        State::Next(Name::TextStart),
+        State::Retry(Name::TextStart),
+    ] {
+        assert!(rt; is_cloned(rt.alloc(), state)?);
+    }
+    assert!(rt; is_error_cloned(rt.alloc())?);
     Ok(())
 }
 

@@ -102,7 +102,7 @@ fn slice_begins_inside_a_tab_of_eight(rt: HostRuntime) {
         },
     );
     assert!(rt; slice.bytes.is_empty());
-    assert_eq!(rt; (slice.before, slice.after), (7, 0));
+    assert!(rt; slice.before == 7 && slice.after == 0);
 }
 
 #[test]
@@ -119,7 +119,7 @@ fn slice_begins_inside_a_tab_of_sixteen(rt: HostRuntime) {
         },
     );
     assert!(rt; slice.bytes.is_empty());
-    assert_eq!(rt; (slice.before, slice.after), (1, 0));
+    assert!(rt; slice.before == 1 && slice.after == 0);
 }
 
 #[test]
@@ -136,7 +136,7 @@ fn tab_of_one_column_is_one_byte(rt: HostRuntime) {
         },
     );
     assert!(rt; slice.bytes == b"\t".as_slice());
-    assert_eq!(rt; (slice.before, slice.after), (0, 0));
+    assert!(rt; slice.before == 0 && slice.after == 0);
 }
 
 #[test]

@@ -79,7 +79,7 @@ fn lines_of_text(alloc: Global, bytes: &[u8], options: &ParseOptions) -> Result<
 #[test]
 fn texts_have_their_constructs(rt: HostRuntime) -> Result<(), AllocError> {
     let options = ParseOptions::default();
-    for (bytes, want) in TEXTS {
+    for (bytes, want) in &TEXTS {
         assert!(rt; bytes.len() < 9);
         assert_shown(&rt, lines_of_text(rt.alloc(), bytes, &options), want)?;
     }
