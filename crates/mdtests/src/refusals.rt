@@ -97,9 +97,9 @@ const ANSWERS: [(usize, &str); 4] = [
 
 #[test]
 fn message_waits_for_the_flush(rt: HostRuntime) -> Result<(), AllocError> {
-    for (at, want) in ANSWERS {
+    for (at, want) in &ANSWERS {
         for resolve in [false, true] {
-            assert_shown(&rt, read_two(rt.alloc(), at, resolve), want)?;
+            assert_shown(&rt, read_two(rt.alloc(), *at, resolve), want)?;
         }
     }
     Ok(())

@@ -82,8 +82,12 @@ const ANSWERS: [(bool, bool, &[Resolver], &str); 3] = [
 /// Resolvers wrap what was read; they stay where none resolves; or one refuses the document.
 #[test]
 fn resolvers_go_over_what_was_read(rt: HostRuntime) -> Result<(), AllocError> {
-    for (refuse, resolve, resolvers, want) in ANSWERS {
-        assert_shown(&rt, read_one(rt.alloc(), refuse, resolve, resolvers), want)?;
+    for (refuse, resolve, resolvers, want) in &ANSWERS {
+        assert_shown(
+            &rt,
+            read_one(rt.alloc(), *refuse, *resolve, resolvers),
+            want,
+        )?;
     }
     Ok(())
 }
