@@ -227,9 +227,9 @@ const PUT: [(&[Row], &[u8], usize, &[Row], &str); 3] = [
 
 #[test]
 fn child_is_divided_over_its_chunks(rt: HostRuntime) -> Result<(), AllocError> {
-    for (list, bytes, index, child, want) in &PUT {
+    for (list, bytes, index, child, want) in PUT {
         assert!(rt; bytes.len() < 9);
-        assert_shown(&rt, put(rt.alloc(), list, bytes, *index, child), want)?;
+        assert_shown(&rt, put(rt.alloc(), list, bytes, index, child), want)?;
     }
     Ok(())
 }

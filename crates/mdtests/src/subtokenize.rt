@@ -227,7 +227,7 @@ const OF_LINES: [(&str, &[Row], &[u8], &str); 6] = [
 
 #[test]
 fn children_stand_in_place_of_their_chunks(rt: HostRuntime) -> Result<(), AllocError> {
-    for (what, list, bytes, want) in &OF_LINES {
+    for (what, list, bytes, want) in OF_LINES {
         assert!(rt; bytes.len() < 9);
         assert_told(&rt, what, with_lines(rt.alloc(), list, bytes), want)?;
     }
@@ -286,7 +286,7 @@ const OF_ATTEMPTS: [(&str, &[Row], &[u8], &str); 2] = [
 
 #[test]
 fn choices_of_children_go_back_over_gaps(rt: HostRuntime) -> Result<(), AllocError> {
-    for (what, list, bytes, want) in &OF_ATTEMPTS {
+    for (what, list, bytes, want) in OF_ATTEMPTS {
         assert!(rt; bytes.len() < 9);
         assert_told(&rt, what, with_attempts(rt.alloc(), list, bytes), want)?;
     }
