@@ -18,6 +18,7 @@ TABS = "a\tbc\t\tdef\t\t\tg\th\n"
 COLUMNS = "name\tvalue\tother\tlast\n"
 SHORT = "ab\n"
 QUOTED = ">" + PLAIN
+MARKUP = "Some `code` and <https://example.com/a?b=c> with \\* and \\_ escapes, and ``two ` ticks`` here.\n"
 
 # options, name of the document, its line, its sizes
 RUNS = [
@@ -29,6 +30,7 @@ RUNS = [
     ("--machine paragraphs", "short", SHORT, (10000, 100000)),
     ("--machine paragraphs --deep", "quoted", QUOTED, (10000, 100000)),
     ("--machine paragraphs --deep", "short", SHORT, (10000, 100000)),
+    ("--machine text --deep", "markup", MARKUP, (10000, 100000)),
     ("--machine peek", "plain", PLAIN, (10000, 100000)),
     ("--machine peek", "short", SHORT, (10000, 100000)),
     ("--machine deep", "one line", "a", (500, 1000, 2000)),

@@ -14,6 +14,7 @@ ghost use Rattle.std.specs.Process.{exit_status};
 ghost use Rattle.mdevents.specs.Program.{Prints, PrintsChosen};
 ghost use Rattle.mdevents.specs.Words.{CanCut};
 
+mod backwards;
 #[cfg(test)]
 mod driven;
 #[cfg(test)]

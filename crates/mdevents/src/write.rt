@@ -5,7 +5,7 @@ ghost use Rattle.std.specs.Io.KnownBytes.{Appends, Keeps};
 ghost use Rattle.mdevents.specs.Printed.{printed_events};
 
 use crate::failure::Failure;
-use crate::print::{LONGEST, push_line};
+use crate::print::{LONGEST, LastPoint, push_line};
 use crate::waiting::{SIZE, Waiting};
 use markdown::event::Event;
 use std::io::Write;
@@ -18,9 +18,10 @@ pub fn write_lines<W: Write>(writer: &mut W, events: &[Event]) -> Result<(), Fai
     ensures cause { IsOkUnless result Failure.Write }
 {
     let mut lines = Waiting::new();
+    let mut last = LastPoint::new();
     for event in events {
         make_room(&mut lines, writer)?;
-        push_line(&mut lines, event);
+        push_line(&mut lines, &mut last, event);
     }
     write_all(writer, lines.as_slice())
 }

@@ -1,16 +1,14 @@
 use Rattle.std.proofs.Common.{◌≡◌, ℕ, arith, refl, sym, ap, subst, ◌∙◌}
 use Rattle.markdown_base.specs.declared.event.Point.{Point}
 use Rattle.markdown_base.specs.declared.state.State.TheVariants.{Next}
-use Rattle.markdown_base.specs.Places.{IsPointOf}
-use Rattle.markdown.specs.Text.{empty_text, passed, followed_by, FitsAfter}
-use Rattle.markdown.specs.Configuration.{start_seen}
+use Rattle.markdown.specs.Text.{passed, followed_by, FitsAfter}
 use Rattle.markdown.specs.Engine.{given_by, CanPush, IsPushed}
 use Rattle.std.specs.declared.result.Result.TheVariants as result
 use Rattle.std.specs.Prelude.{Result, IfErr}
 use Rattle.markdown.proofs.Runs.{apart-by, err-if, ok-if}
 use Rattle.mdchildren.specs.Reads.{IsChildFault}
 use Rattle.mdchildren.specs.SoFar.{with_flag}
-use Rattle.mdchildren.proofs.ChildReading.{chain-place, chain-within, chain-first, chain-rises, chain-inside, chain-next, chain-holds, chain-child, chain-open, chain-fault, memory-child-fault, on-open, on-range, on-holds, on-pushed, to-gap, to-passed}
+use Rattle.mdchildren.proofs.ChildReading.{chain-within, chain-first, chain-rises, chain-inside, chain-next, chain-holds, chain-child, chain-open, chain-fault, memory-child-fault, on-open, on-range, on-holds, on-pushed, to-gap, to-passed}
 use Rattle.mdchildren.proofs.children.read_chunks.Goals as goal
 
 pub range_of-requires : goal.range_of-requires

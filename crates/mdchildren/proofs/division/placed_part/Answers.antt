@@ -1,4 +1,4 @@
-use Rattle.std.proofs.Common.{◌≡◌, ◌+◌, ◌-◌, ◌<◌, ◌^◌, ◌++◌, take, drop, All, IfSome, sym, ◌∙◌, ap, subst}
+use Rattle.std.proofs.Common.{◌+◌, ◌-◌, ◌<◌, ◌^◌, ◌++◌, take, drop, All, IfSome, sym, ◌∙◌, ap, subst}
 use Rattle.std.proofs.lemmas.List.Elements.{All-drop, All-take}
 use Rattle.markdown_base.specs.declared.event.Event.{Event}
 use Rattle.markdown_base.specs.Events.{EachEnd}

@@ -1,5 +1,5 @@
-use Rattle.std.proofs.Common.{◌≡◌, refl}
-use Rattle.std.proofs.lemmas.Result.{on_ok_weaker, on_err_weaker}
+use Rattle.std.proofs.Common.{refl}
+use Rattle.std.proofs.lemmas.Result.{on_ok_weaker}
 use Rattle.mdevents.specs.Printed.{printed_events}
 use Rattle.mdevents.specs.Program.{ArePrintedEvents}
 use Rattle.mdevents.proofs.program.write_events.Given
