@@ -3,6 +3,7 @@
 ghost use Rattle.std.specs.Prelude.{◌≡◌, ◌+◌, ◌++◌, ◌≤◌, length, codes};
 ghost use Rattle.markdown_base.specs.declared.event.Point.{Point};
 ghost use Rattle.markdown_base.specs.EventNames.{text_of};
+ghost use Rattle.markdown_base.specs.Virtual.{point};
 ghost use Rattle.mdevents.specs.Printed.{kind_text, point_text, event_line};
 
 use crate::backwards::Backwards;
@@ -30,7 +31,9 @@ impl Model for LastPoint {
 
 impl LastPoint {
     /// The point at which a document begins.
-    pub(crate) fn new() -> LastPoint {
+    pub(crate) fn new() -> LastPoint
+        ensures { result ≡ point 1 1 0 0 }
+    {
         let point = Point {
             line: 1,
             column: 1,
