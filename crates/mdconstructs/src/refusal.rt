@@ -1,4 +1,4 @@
-//! The message of the machines that refuse.
+//! The message of the machines that refuse, and what it is made of.
 
 ghost use Rattle.std.specs.Prelude.{◌≡◌, IfOk};
 ghost use Rattle.mdconstructs.specs.Refusal.{refusal};
@@ -12,14 +12,22 @@ use std::alloc::{AllocError, Global};
 pub(crate) fn refusal(alloc: Global) -> Result<Message, AllocError>
     ensures { IfOk result (λ message. message ≡ refusal) }
 {
-    let place = Place::Point(Point::new(1, 2, 1));
+    let place = Box::new(alloc, Place::Point(Point::new(1, 2, 1)))?;
     let reason = OwnedText::from_string(String::from_str(alloc, "x")?);
-    let rule_id = OwnedText::from_string(String::from_str(alloc, "r")?);
-    let source = OwnedText::from_string(String::from_str(alloc, "markdown")?);
+    let rule_id = boxed(alloc, "r")?;
+    let source = boxed(alloc, "markdown")?;
     Ok(Message {
-        place: Some(Boxed::from_box(Box::new(alloc, place)?)),
+        place: Some(Boxed::from_box(place)),
         reason,
-        rule_id: Boxed::from_box(Box::new(alloc, rule_id)?),
-        source: Boxed::from_box(Box::new(alloc, source)?),
+        rule_id,
+        source,
     })
+}
+
+/// A text in a box, in memory of its own.
+pub(crate) fn boxed(alloc: Global, text: &str) -> Result<Boxed<OwnedText>, AllocError>
+    ensures { IfOk result (λ boxed. boxed ≡ text.now) }
+{
+    let text = OwnedText::from_string(String::from_str(alloc, text)?);
+    Ok(Boxed::from_box(Box::new(alloc, text)?))
 }

@@ -7,9 +7,10 @@ ghost use Rattle.mdtables.specs.RowInvariant.{DoesAll, IsCallable, step_in};
 ghost use Rattle.mdconstructs.specs.Words.{word_byte, text_start, blanks, word_start, tag, word, first_dropped, one_blank, one_blank_more, refusal};
 
 use crate::begin::begin;
+use crate::refusal::boxed;
 use markdown::event;
 use markdown::message::Message;
-use markdown::owned::{Boxed, OwnedText};
+use markdown::owned::OwnedText;
 use markdown::state::{Machine, MachineTypes, Name, State};
 use markdown::subtokenize::Subresult;
 use markdown::tokenizer::{Fault, Tokenizer};
@@ -219,12 +220,12 @@ fn refusal(alloc: Global, reason: &str) -> Result<Message, AllocError>
     ensures { IfOk result (λ message. message ≡ refusal reason.now) }
 {
     let reason = OwnedText::from_string(String::from_str(alloc, reason)?);
-    let rule_id = OwnedText::from_string(String::from_str(alloc, "words")?);
-    let source = OwnedText::from_string(String::from_str(alloc, "limecove")?);
+    let rule_id = boxed(alloc, "words")?;
+    let source = boxed(alloc, "limecove")?;
     Ok(Message {
         place: None,
         reason,
-        rule_id: Boxed::from_box(Box::new(alloc, rule_id)?),
-        source: Boxed::from_box(Box::new(alloc, source)?),
+        rule_id,
+        source,
     })
 }

@@ -1,8 +1,9 @@
 //! The machine that wraps: it reads data, and its resolvers put all of it into one paragraph, or refuse the document.
 
-ghost use Rattle.std.specs.Prelude.{◌≡◌, [], map, IfOk, OnOk};
+ghost use Rattle.std.specs.Prelude.{◌≡◌, ◌∷◌, [], map, IfOk, OnOk};
 ghost use Rattle.markdown.specs.declared.waiting.Phase.TheVariants.{Resolving};
 ghost use Rattle.markdown.specs.Configuration.{at_configuration};
+ghost use Rattle.markdown.specs.Edits.{added_after, edit_at};
 ghost use Rattle.markdown.specs.Sight.{sight_seen};
 ghost use Rattle.mdtables.specs.RowInvariant.{DoesAll, IsCallable, step_in};
 ghost use Rattle.mdconstructs.specs.Tables.{line_byte};
@@ -16,6 +17,7 @@ use markdown::owned::{Items, OwnedText};
 use markdown::state::{Machine, MachineTypes, Name, State};
 use markdown::subtokenize::Subresult;
 use markdown::tokenizer::{Fault, Tokenizer};
+use markdown::util::edit_map::EditMap;
 use std::alloc::{AllocError, Global};
 
 /// The resolvers of the machine that wraps.
@@ -155,7 +157,7 @@ fn begin_paragraph<'a>(alloc: Global, t: &mut Tokenizer<'a, Wrap>) -> Result<(),
         point,
         link: None,
     };
-    t.map.add(0, 0, vec![in alloc; enter]?)
+    add_one(alloc, &mut t.map, 0, enter)
 }
 
 /// A paragraph is to end behind all events, and a definition is found.
@@ -172,7 +174,21 @@ fn end_paragraph<'a>(alloc: Global, t: &mut Tokenizer<'a, Wrap>) -> Result<Subre
         link: None,
     };
     let behind = t.events().len();
-    t.map.add(behind, 0, vec![in alloc; exit]?)?;
+    add_one(alloc, &mut t.map, behind, exit)?;
+    one_definition(alloc)
+}
+
+/// One event is to come at an index.
+fn add_one(alloc: Global, map: &mut EditMap, index: usize, event: Event) -> Result<(), AllocError>
+    ensures { OnOk result (map.new ≡ added_after map.old (edit_at index 0 (event ∷ []))) }
+{
+    map.add(index, 0, vec![in alloc; event]?)
+}
+
+/// The definition that is found, of the label `A`.
+fn one_definition(alloc: Global) -> Result<Subresult, AllocError>
+    ensures { IfOk result (λ sub. sub ≡ one_definition) }
+{
     let label = OwnedText::from_string(String::from_str(alloc, "A")?);
     Ok(Subresult {
         done: false,
