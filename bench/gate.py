@@ -1,0 +1,101 @@
+#!/usr/bin/env python3
+"""Runs the gate, or another command at the top, and lists what its checks took in seconds of processor time.
+
+usage: bench/gate.py [COMMAND..]        `rt ci` where no command is given
+
+Each second it looks at the prover's processes, so the last second of each is not counted. Other checks on the machine
+are counted too. An edit's check is told by the texts of the copy that it works on.
+"""
+
+import collections
+import glob
+import os
+import subprocess
+import sys
+import time
+
+TOP = os.path.dirname(os.path.dirname(os.path.realpath(__file__)))
+TICKS = os.sysconf("SC_CLK_TCK")
+
+
+def text_of(path):
+    try:
+        with open(path, encoding="utf-8") as it:
+            return it.read()
+    except OSError:
+        return ""
+
+
+def texts_with(edit, crate):
+    """Returns the texts of the crate's files that an edit changes, by their path, once it has changed them."""
+    texts, path, old = {}, "", ""
+    for line in text_of(edit).split("\n"):
+        word, _, rest = line.partition(": ")
+        if word == "file":
+            path = rest.strip()
+        elif word == "old":
+            old = rest
+        elif line.startswith("new:"):
+            before = texts.get(path) or text_of(f"{TOP}/crates/{crate}/{path}")
+            texts[path] = before.replace(old, line[len("new:") :].removeprefix(" "))
+    return texts
+
+
+def edit_in(room, crate):
+    """Returns the name of the edit that a copy of a crate has, or a word for a copy with none."""
+    for edit in sorted(glob.glob(f"{TOP}/crates/{crate}/must-fail/*.edit")):
+        texts = texts_with(edit, crate)
+        if all(text_of(f"{room}/{path}") == text for path, text in texts.items()):
+            return os.path.basename(edit).removesuffix(".edit")
+    return "none"
+
+
+def seen(process):
+    """Returns what a process of the prover is called, and its seconds of processor time; None for any other process."""
+    try:
+        with open(f"/proc/{process}/comm") as it:
+            if it.read().strip() != "rattle":
+                return None
+        with open(f"/proc/{process}/stat") as it:
+            fields = it.read().rpartition(")")[2].split()
+        with open(f"/proc/{process}/cmdline") as it:
+            words = it.read().split("\0")
+        room = os.readlink(f"/proc/{process}/cwd")
+    except OSError:
+        return None
+    return (process, fields[19]), words, room, sum(map(int, fields[11:15])) / TICKS
+
+
+def main(command):
+    started, names, times = time.time(), {}, {}
+    running = subprocess.Popen(command, cwd=TOP)
+    while running.poll() is None:
+        for process in filter(str.isdigit, os.listdir("/proc")):
+            it = seen(process)
+            if it is None or "--crate-name" not in it[1]:
+                continue
+            key, words, room, spent = it
+            if key not in names:
+                crate = words[words.index("--crate-name") + 1]
+                is_edit = os.path.basename(room).startswith("rt-edit-")
+                names[key] = crate, edit_in(room, crate) if is_edit else "tests" if "--test" in words else "proof"
+            times[key] = spent
+        time.sleep(1)
+    sums, counts = collections.Counter(), collections.Counter()
+    for key, (crate, name) in names.items():
+        part = name if name in ("proof", "tests") else "edits"
+        sums[crate, part] += times[key]
+        counts[crate, part] += 1
+    print(f"\n{'crate':16}{'part':8}{'checks':>8}{'seconds':>10}")
+    for crate, part in sums:
+        print(f"{crate:16}{part:8}{counts[crate, part]:8}{sums[crate, part]:10.0f}")
+    print(f"in all {sum(sums.values()) / 60:.1f} minutes of processor time, {(time.time() - started) / 60:.1f} of the clock")
+    print("\nthe dearest edits:")
+    edits = [(times[key], *names[key]) for key in names if names[key][1] not in ("proof", "tests")]
+    for spent, crate, name in sorted(edits, reverse=True)[:20]:
+        print(f"{spent:6.0f}  {crate}/{name}")
+    return running.returncode
+
+
+if __name__ == "__main__":
+    sys.exit(main(sys.argv[1:] or ["rt", "ci"]))
