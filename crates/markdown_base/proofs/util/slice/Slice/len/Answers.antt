@@ -1,0 +1,5 @@
+use Rattle.std.proofs.Common.{refl}
+use Rattle.markdown_base.proofs.util.slice.Slice.len.Goals as goal
+
+pub returns : goal.returns
+returns c = record { all = refl }
