@@ -3,8 +3,8 @@
 
 usage: bench/gate.py [COMMAND..]        `rt ci` where no command is given
 
-Each second it looks at the prover's processes, so the last second of each is not counted. Other checks on the machine
-are counted too. An edit's check is told by the texts of the copy that it works on.
+Each second it looks at the prover's processes that the command has started, so the last second of each is not counted.
+An edit's check is told by the texts of the copy that it works on.
 """
 
 import collections
@@ -50,8 +50,9 @@ def edit_in(room, crate):
     return "none"
 
 
-def seen(process):
-    """Returns what a process of the prover is called, and its seconds of processor time; None for any other process."""
+def seen(process, session):
+    """Returns what a process of the prover is called, and its seconds of processor time; None for any process that is
+    none of the prover's, or of another session."""
     try:
         with open(f"/proc/{process}/comm") as it:
             if it.read().strip() != "rattle":
@@ -63,15 +64,17 @@ def seen(process):
         room = os.readlink(f"/proc/{process}/cwd")
     except OSError:
         return None
+    if int(fields[3]) != session:
+        return None
     return (process, fields[19]), words, room, sum(map(int, fields[11:15])) / TICKS
 
 
 def main(command):
     started, names, times = time.time(), {}, {}
-    running = subprocess.Popen(command, cwd=TOP)
+    running = subprocess.Popen(command, cwd=TOP, start_new_session=True)
     while running.poll() is None:
         for process in filter(str.isdigit, os.listdir("/proc")):
-            it = seen(process)
+            it = seen(process, running.pid)
             if it is None or "--crate-name" not in it[1]:
                 continue
             key, words, room, spent = it

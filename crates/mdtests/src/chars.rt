@@ -19,26 +19,31 @@ fn is_none(_char: char) -> bool {
 
 #[test]
 fn decodes_characters_at_an_index(rt: HostRuntime) {
-    assert!(rt; before_index("é".as_bytes(), 2) == Some('é'));
-    assert!(rt; before_index("é".as_bytes(), 0) == None);
-    assert!(rt; after_index("é".as_bytes(), 0) == Some('é'));
-    assert!(rt; after_index("é".as_bytes(), 2) == None);
+    let bytes = "é".as_bytes();
+    for (found, want) in [
+        (before_index(bytes, 2), Some('é')),
+        (before_index(bytes, 0), None),
+        (after_index(bytes, 0), Some('é')),
+        (after_index(bytes, 2), None),
+    ] {
+        assert!(rt; found == want);
+    }
 }
 
 #[test]
 fn classifies_characters_and_edges(rt: HostRuntime) {
-    for (char, want) in [
-        (' ', Kind::Whitespace),
-        ('a', Kind::Other),
-        ('.', Kind::Punctuation),
-        ('\u{3001}', Kind::Punctuation),
+    for (kind, want) in [
+        (classify(' ', &is_comma), Kind::Whitespace),
+        (classify('a', &is_comma), Kind::Other),
+        (classify('.', &is_comma), Kind::Punctuation),
+        (classify('\u{3001}', &is_comma), Kind::Punctuation),
+        (classify('\u{3001}', &is_none), Kind::Other),
+        (kind_after_index("é".as_bytes(), 2, &is_comma), Kind::Whitespace),
+        (kind_after_index(b"\x0b", 0, &is_comma), Kind::Whitespace),
+        (classify_opt(None, &is_comma), Kind::Whitespace),
     ] {
-        assert!(rt; classify(char, &is_comma) == want);
+        assert!(rt; kind == want);
     }
-    assert!(rt; classify('\u{3001}', &is_none) == Kind::Other);
-    assert!(rt; kind_after_index("é".as_bytes(), 2, &is_comma) == Kind::Whitespace);
-    assert!(rt; kind_after_index(b"\x0b", 0, &is_comma) == Kind::Whitespace);
-    assert!(rt; classify_opt(None, &is_comma) == Kind::Whitespace);
 }
 
 /// Appends what was written, and ends the line.

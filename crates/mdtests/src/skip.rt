@@ -64,16 +64,24 @@ fn line_ending() -> [Event; 2]
 fn whole_spans_are_skipped(rt: HostRuntime) {
     let events = white_space_and_data();
     let both = [Name::SpaceOrTab, Name::Data];
-    assert!(rt; opt(&events, 0, &[Name::SpaceOrTab]) == 2);
-    assert!(rt; opt_back(&events, 3, &[Name::Data]) == 1);
-    assert!(rt; opt_back(&events, 3, &both) == 0);
-    assert!(rt; opt_back(&line_ending(), 1, &[Name::LineEnding]) == 0);
+    for (index, want) in [
+        (opt(&events, 0, &[Name::SpaceOrTab]), 2),
+        (opt_back(&events, 3, &[Name::Data]), 1),
+        (opt_back(&events, 3, &both), 0),
+        (opt_back(&line_ending(), 1, &[Name::LineEnding]), 0),
+    ] {
+        assert!(rt; index == want);
+    }
 }
 
 #[test]
 fn nearest_events_are_found(rt: HostRuntime) {
     let events = white_space_and_data();
-    assert!(rt; to(&events, 0, &[Name::Data]) == 2);
-    assert!(rt; to_back(&events, 3, &[Name::SpaceOrTab]) == 1);
-    assert!(rt; to(&line_ending(), 0, &[Name::Data]) == 2);
+    for (index, want) in [
+        (to(&events, 0, &[Name::Data]), 2),
+        (to_back(&events, 3, &[Name::SpaceOrTab]), 1),
+        (to(&line_ending(), 0, &[Name::Data]), 2),
+    ] {
+        assert!(rt; index == want);
+    }
 }
