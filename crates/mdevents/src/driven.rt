@@ -167,7 +167,9 @@ fn read_following_with<M: Machine>(
     };
     let _ = options.tab_size.get();
     let mut tokenizer = Tokenizer::new(alloc, point, &parse_state);
-    drive(alloc, &mut tokenizer, &parse_state, start, ranges).ok()
+    let seen = drive(alloc, &mut tokenizer, &parse_state, start, ranges);
+    drop(tokenizer);
+    seen.ok()
 }
 
 /// Drives a new tokenizer over ranges.

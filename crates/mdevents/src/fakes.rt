@@ -253,13 +253,21 @@ fn boxed(alloc: Global, content: &str) -> Result<Boxed<OwnedText>, AllocError> {
     Ok(Boxed::from_box(Box::new(alloc, content)?))
 }
 
+/// A message of the rule `r` of `markdown`, at a place.
+fn placed(alloc: Global, place: Boxed<Place>) -> Result<Message, AllocError> {
+    let reason = text(alloc, "x")?;
+    let rule_id = boxed(alloc, "r")?;
+    let source = boxed(alloc, "markdown")?;
+    Ok(Message {
+        place: Some(place),
+        reason,
+        rule_id,
+        source,
+    })
+}
+
 /// A message, whose line is `1:2: x (markdown:r)`.
 pub fn message(alloc: Global) -> Result<Message, AllocError> {
     let place = Box::new(alloc, Place::Point(Point::new(1, 2, 1)))?;
-    Ok(Message {
-        place: Some(Boxed::from_box(place)),
-        reason: text(alloc, "x")?,
-        rule_id: boxed(alloc, "r")?,
-        source: boxed(alloc, "markdown")?,
-    })
+    placed(alloc, Boxed::from_box(place))
 }

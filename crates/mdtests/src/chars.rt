@@ -38,7 +38,10 @@ fn classifies_characters_and_edges(rt: HostRuntime) {
         (classify('.', &is_comma), Kind::Punctuation),
         (classify('\u{3001}', &is_comma), Kind::Punctuation),
         (classify('\u{3001}', &is_none), Kind::Other),
-        (kind_after_index("é".as_bytes(), 2, &is_comma), Kind::Whitespace),
+        (
+            kind_after_index("é".as_bytes(), 2, &is_comma),
+            Kind::Whitespace,
+        ),
         (kind_after_index(b"\x0b", 0, &is_comma), Kind::Whitespace),
         (classify_opt(None, &is_comma), Kind::Whitespace),
     ] {
