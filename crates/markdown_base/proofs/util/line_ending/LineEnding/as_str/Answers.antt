@@ -1,0 +1,5 @@
+use Rattle.std.proofs.Common.{refl}
+use Rattle.markdown_base.proofs.util.line_ending.LineEnding.as_str.Goals as goal
+
+pub returns-in-CarriageReturn : goal.returns-in-CarriageReturn
+returns-in-CarriageReturn c = rw c.in-CarriageReturn.is refl
