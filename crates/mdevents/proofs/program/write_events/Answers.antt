@@ -1,5 +1,7 @@
-use Rattle.std.proofs.Common.{refl}
-use Rattle.std.proofs.lemmas.Result.{on_ok_weaker}
+use Rattle.std.proofs.Common.{ℕ, take, refl}
+use Rattle.std.specs.Io.KnownBytes.{Appends}
+use Rattle.std.proofs.KnownBytes.{Keeps-refl}
+use Rattle.std.proofs.lemmas.Result.{IfErr-at_err, err_from_is_err_and, on_ok_weaker}
 use Rattle.mdevents.specs.Printed.{printed_events}
 use Rattle.mdevents.specs.Program.{ArePrintedEvents}
 use Rattle.mdevents.proofs.program.write_events.Given
@@ -16,7 +18,18 @@ module _ (g : Given.Over) (c : goal.After-drop-bytes-2 g) where
     lines = refl;
   }
 
+pub returns-in_err-events-clause-nothing : goal.returns-in_err-events-clause-nothing
+returns-in_err-events-clause-nothing g c =
+    let (failure, is, same) = err_from_is_err_and c.from_residual-in_err-events.result c.from_residual-in_err-events.ensures.1 in
+    rw is (λ _. Keeps-refl _)
+
 pub returns-clause-written : goal.returns-clause-written
 returns-clause-written g c = on_ok_weaker c.write_lines.result
     (λ written. record { text = printed_events c.in_ok-events.events.items; printed = printed g c; written = rw c.as_slice-2.ensures.value at written })
     c.write_lines.ensures.all
+
+pub returns-clause-cut_short : goal.returns-clause-cut_short
+returns-clause-cut_short g c = λ e.
+    let (count, written) = IfErr-at_err (λ _. (count : ℕ) × Appends (g.W.Write.contents c.args.writer.now) (g.W.Write.contents c.write_lines.new.writer) (take count (printed_events c.in_ok-events.events.items))) e
+    (rw c.as_slice-2.ensures.value at c.write_lines.ensures.failed) in
+    record { text = printed_events c.in_ok-events.events.items; printed = printed g c; count = count; written = written }
