@@ -21,3 +21,8 @@ returns-in_err-read_more-clause-within_else g c =
     rw is (λ other.
     let (piece, taken, within) = c.in_err-read_more.ensures.within_else (λ e. other (cc)) in
     (c.reading.bytes.items ++ piece, Consumes-trans _ _ _ _ _ c.reading.invariant.taken taken, within))
+
+pub returns-clause-all : goal.returns-clause-all
+returns-clause-all g c =
+    let (piece, is, taken) = c.in_ok-read_more.ensures.appends in
+    rw is (Consumes-trans _ _ _ _ _ c.reading.invariant.taken taken)
