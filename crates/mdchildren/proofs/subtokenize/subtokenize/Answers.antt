@@ -38,3 +38,6 @@ returns-in-Ok-clause-ok g c =
     so_far-end given rules (option_copied c.args.filter) c.args.events.now.items c.args.parse_state.now.options.now.tab_size c.args.parse_state.now.bytes.now c.gather.new.map r.0 c.in_ok-found.found c.consume.new.events.items c.requires.ready
     (moved (λ (w : Option Content) (xs : List Event). SoFar given rules w xs (length xs) c.gather.new.map r.0 c.in_ok-found.found) c.copied.result (option_copied c.args.filter) c.deref.result.now c.args.events.now.items c.copied.ensures c.deref.ensures.value r.1)
     c.in-Ok.ensures.ok
+
+pub returns-clause-err : goal.returns-clause-err
+returns-clause-err g c = tt
