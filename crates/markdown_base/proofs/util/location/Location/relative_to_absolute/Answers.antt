@@ -36,7 +36,7 @@ pub overflow_add-result : goal.overflow_add-result
 overflow_add-result c =
     let last = left (goal.at.overflow_add-result c).Left-loop-stop in
     let fits : c.in_ok-start.absolute + (c.args.relative - c.in_ok-start.start) < 2 ^ 64 =
-        subst (λ o. IfSome (option_map (λ (stop : ℕ × ℕ). stop.1 + (c.args.relative - stop.0)) o) (λ offset. offset < 2 ^ 64)) (sym last ∙ c.in_ok-start.was) c.requires.fits in
+    subst (λ o. IfSome (option_map (λ (stop : ℕ × ℕ). stop.1 + (c.args.relative - stop.0)) o) (λ offset. offset < 2 ^ 64)) (sym last ∙ c.in_ok-start.was) c.requires.fits in
     omega arith
 
 pub returns : goal.returns
