@@ -35,7 +35,7 @@ use Rattle.markdown.proofs.PlacePoints.{point_at-point, point_at-is}
 use Rattle.markdown.specs.Made.{IsMade}
 use Rattle.markdown.proofs.MadeLemmas.{made-new, made-bound, made-enter-at, made-exit-at, made-linked, made-kept, upto-self as upto-self-point}
 use Rattle.markdown_base.specs.Events.{with_ends, unlinked, HasFrontUpToLinkEnds}
-use Rattle.markdown.specs.Links.{linked_to, updated_at, next_set, previous_set, with_next, with_previous}
+use Rattle.markdown_edits.specs.Links.{linked_to, updated_at, next_set, previous_set, with_next, with_previous}
 use Rattle.std.proofs.lemmas.List.{length-map}
 use Rattle.markdown.proofs.Fields.{wide_of, text_between, next-more, kept-empty, passed-seats, passed-position, passed-skips, read-passed, passed-shown, passed-resumed, still-before, read-extended, extended-seats, extended-skips, extended-more, made-more, can-feed-more, nested-map, nested-wider}
 use Rattle.markdown.specs.Sight.{sight}

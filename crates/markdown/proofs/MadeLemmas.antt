@@ -15,8 +15,8 @@ use Rattle.markdown_base.specs.declared.event.Name.{Name}
 use Rattle.markdown_base.specs.declared.event.Point.{Point}
 use Rattle.markdown_base.specs.Events.{IsBalanced, empty, span, is_void, open_after, open_events, open_events_from, same_name, unlinked, HasFrontUpToLinkEnds, IsInOrder, IsVoidTight}
 use Rattle.markdown_base.specs.Places.{stands_before, follows_cr, shown, IsShown}
-use Rattle.markdown.specs.OpenNames.{names_after, names_after_all}
-use Rattle.markdown.proofs.Balanced.{names_after_all-append, same_name-refl, balanced_from_open, none_is_not_some}
+use Rattle.markdown_edits.specs.OpenNames.{names_after, names_after_all}
+use Rattle.markdown_edits.proofs.Balanced.{names_after_all-append, same_name-refl, balanced_from_open, none_is_not_some}
 use Rattle.markdown.specs.Made.{IsMade, VoidExitsFollow, last_kind}
 
 -- ---- orders of places

@@ -12,9 +12,9 @@ use Rattle.markdown.specs.Text.{Given, Text}
 use Rattle.markdown.specs.Configuration.{Configuration, Saved}
 use Rattle.markdown.specs.Sight.{sight}
 use Rattle.markdown.specs.Reading.{restored, settled_at}
-use Rattle.markdown.specs.Edited.{edited}
-use Rattle.markdown.specs.Woven.{Tagged, of_list, placed_end, placed_in, woven}
-use Rattle.markdown.specs.Links.{next_of, previous_of, AreMutual}
+use Rattle.markdown_edits.specs.Edited.{edited}
+use Rattle.markdown_edits.specs.Woven.{Tagged, of_list, placed_end, placed_in, woven}
+use Rattle.markdown_edits.specs.Links.{next_of, previous_of, AreMutual}
 use Rattle.markdown.specs.Resolving.{IsInShape}
 use Rattle.markdown.specs.Rules.{Rules}
 use Rattle.markdown.specs.Lawful.{IsAsFar, ConsumesOnce, OnlyAdds, EndsWhenRead, KeepsInvariant, CostPays, ResolversKeep}

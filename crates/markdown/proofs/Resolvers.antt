@@ -18,7 +18,7 @@ use Rattle.markdown.specs.Lawful.{ResolversKeep}
 use Rattle.markdown.specs.Work.{resolved_in, GoneOver}
 use Rattle.markdown.specs.declared.waiting.KeptChoice.{KeptChoice}
 use Rattle.markdown.specs.declared.waiting.Progress.{Progress}
-use Rattle.markdown.specs.Edits.{Edit}
+use Rattle.markdown_edits.specs.Edits.{Edit}
 use Rattle.markdown.specs.View.{tab_of, seen, text_of, choice_of, position_from, AreNested, IsProgress, IsSound}
 use Rattle.markdown.proofs.Fields.{nested-map}
 use Rattle.markdown.proofs.Runs.{drop-get}

@@ -14,7 +14,7 @@ use Rattle.markdown.specs.declared.waiting.Waits.TheVariants.{Nothing}
 use Rattle.markdown.specs.declared.waiting.AttemptKind.TheVariants.{Attempt, Check}
 use Rattle.markdown.specs.Configuration.{Configuration, Local, Saved, Choice, Seen}
 use Rattle.markdown.specs.Sight.{sight}
-use Rattle.markdown.specs.Links.{linked_to}
+use Rattle.markdown_edits.specs.Links.{linked_to}
 
 -- one byte is consumed
 abbrev pub consumed : {R D : Type 0} → Configuration R D → Configuration R D

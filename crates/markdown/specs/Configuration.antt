@@ -11,7 +11,7 @@ use Rattle.markdown.specs.declared.waiting.Phase.{Phase}
 use Rattle.markdown.specs.declared.waiting.Phase.TheVariants.{Reading}
 use Rattle.markdown.specs.declared.waiting.AttemptKind.{AttemptKind}
 use Rattle.markdown.specs.Text.{Given, Text}
-use Rattle.markdown.specs.Edits.{Edit}
+use Rattle.markdown_edits.specs.Edits.{Edit}
 
 -- What states may write, beside events and stack
 pub record Local (R D : Type 0) : Type 0 where

@@ -13,7 +13,7 @@ use Rattle.markdown.specs.Reading.{fed, settled_at}
 use Rattle.markdown.specs.Rules.{Rules}
 use Rattle.markdown.specs.declared.subtokenize.Subresult.{Subresult}
 use Rattle.markdown.specs.Calls.{consumed, with_resolvers}
-use Rattle.markdown.specs.Edited.{edited}
+use Rattle.markdown_edits.specs.Edited.{edited}
 use Rattle.markdown.specs.Resolving.{done, taken, CanBeEdited, IsInShape}
 use Rattle.markdown.specs.Engine.{IsWellFormed}
 

@@ -8,9 +8,9 @@ use Rattle.markdown.specs.Text.{Given, Text}
 use Rattle.markdown.specs.Configuration.{Configuration}
 use Rattle.markdown.specs.Sight.{Sight, sight}
 use Rattle.markdown.specs.Calls.{with_resolvers}
-use Rattle.markdown.specs.Edits.{AreDisjoint}
-use Rattle.markdown.specs.Edited.{edited}
-use Rattle.markdown.specs.Links.{AreMutual}
+use Rattle.markdown_edits.specs.Edits.{AreDisjoint}
+use Rattle.markdown_edits.specs.Edited.{edited}
+use Rattle.markdown_edits.specs.Links.{AreMutual}
 
 -- What a resolver gives: the configuration after it, with the definitions that it found, or a message that refuses the document
 pub data Resolved (R D : Type 0) : Type 0 where

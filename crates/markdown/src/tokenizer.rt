@@ -245,7 +245,7 @@ ghost use Rattle.markdown_base.specs.Places.{IsPointOf};
 ghost use Rattle.markdown.specs.Text.{FitsAfter, followed_by, pushed, passed, empty_text};
 ghost use Rattle.markdown.specs.Configuration.{at_configuration, start_state, start_seen};
 ghost use Rattle.markdown.specs.Sight.{sight_seen};
-ghost use Rattle.markdown.specs.Links.{CanLink, linked_to};
+ghost use Rattle.markdown_edits.specs.Links.{CanLink, linked_to};
 ghost use Rattle.markdown.specs.Calls.{consumed, entered, exited, linked, attempt_at, check_at, with_choice, CanExit, CanGoOn};
 ghost use Rattle.markdown.specs.Reading.{fed};
 ghost use Rattle.markdown.specs.Resolving.{found, taken};

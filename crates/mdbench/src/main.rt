@@ -7,7 +7,7 @@
 
 ghost use Rattle.std.specs.Prelude.{◌≡◌, ◌+◌, ◌*◌, ◌^◌, ◌<◌, length, All, None, IfOk, IfSome};
 ghost use Rattle.markdown_base.specs.Events.{EndsBelow};
-ghost use Rattle.markdown.specs.Edits.{AreDisjoint};
+ghost use Rattle.markdown_edits.specs.Edits.{AreDisjoint};
 
 use markdown::event::{Content, Event, Kind, Link, Name, Point};
 use markdown::util::edit_map::EditMap;

@@ -5,8 +5,8 @@ use Rattle.std.proofs.Math.Seq.{take-suc}
 use Rattle.std.proofs.lemmas.Bool.{ne_eqb}
 use Rattle.std.proofs.lemmas.List.{map-append}
 use Rattle.markdown_base.specs.declared.event.Event.{Event}
-use Rattle.markdown.specs.Edits.{Edit, put_after, removal_at}
-use Rattle.markdown.proofs.EditPuts.{put-more}
+use Rattle.markdown_edits.specs.Edits.{Edit, put_after, removal_at}
+use Rattle.markdown_edits.proofs.EditPuts.{put-more}
 use Rattle.mdchildren.specs.Tables.{AreRising, chunk_edit}
 use Rattle.mdchildren.specs.declared.division.Chunk.{Chunk}
 

@@ -7,7 +7,7 @@ use Rattle.markdown_base.specs.declared.event.Content.{Content}
 use Rattle.markdown_base.specs.declared.event.Event.{Event}
 use Rattle.markdown_base.specs.declared.event.Point.{Point}
 use Rattle.markdown_base.specs.Events.{EndsBelow}
-use Rattle.markdown.specs.Edits.{Edit, AreDisjoint}
+use Rattle.markdown_edits.specs.Edits.{Edit, AreDisjoint}
 use Rattle.mdchildren.specs.Chains.{chain_of, begins, fitting_starts}
 use Rattle.mdchildren.specs.Ready.{IsReady, place_at}
 use Rattle.mdchildren.specs.Laws.{IsWholeFrom, AreSpaced, HasEndsWithin, EditsGiveChildren}

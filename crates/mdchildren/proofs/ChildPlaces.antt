@@ -4,9 +4,9 @@ use Rattle.std.specs.Option.{option_map}
 use Rattle.std.proofs.lemmas.Bool.{ne_eqb, eq-eqb, lt-ltb, le-ltb, cases_lt, cases_eq}
 use Rattle.std.proofs.lemmas.List.{length-take-le}
 use Rattle.markdown_base.specs.declared.event.Event.{Event}
-use Rattle.markdown.specs.Woven.{Identity, of_child, Tagged, place_in, Change}
-use Rattle.markdown.proofs.EditPasses.{olds, pass, AreApart, AreApart-le}
-use Rattle.markdown.proofs.EditFinalPlaces.{or_after, place_in-append, length-olds, HasNo}
+use Rattle.markdown_edits.specs.Woven.{Identity, of_child, Tagged, place_in, Change}
+use Rattle.markdown_edits.proofs.EditPasses.{olds, pass, AreApart, AreApart-le}
+use Rattle.markdown_edits.proofs.EditFinalPlaces.{or_after, place_in-append, length-olds, HasNo}
 use Rattle.mdchildren.specs.Parts.{child_place, total}
 use Rattle.mdchildren.specs.Children.{tagged_child, part_changes}
 

@@ -17,7 +17,7 @@ use Rattle.markdown.specs.declared.subtokenize.Subresult.{Subresult}
 use Rattle.markdown.specs.declared.tokenizer.Fault.{Fault}
 use Rattle.markdown.specs.declared.tokenizer.Fault.TheVariants.{Memory, Failed}
 use Rattle.markdown.specs.declared.tokenizer.Fault.TheVariants as fault
-use Rattle.markdown.specs.Links.{next_of}
+use Rattle.markdown_edits.specs.Links.{next_of}
 use Rattle.markdown.specs.Text.{Given, pushed, passed, empty_text, followed_by, followed_by_all, FitsAfter, CanFollow, IsText}
 use Rattle.markdown.specs.Configuration.{Seen}
 use Rattle.markdown.specs.Rules.{Rules}

@@ -8,7 +8,7 @@ use Rattle.markdown_base.specs.declared.event.Link.{Link}
 use Rattle.markdown_base.specs.declared.event.Name.{Name}
 use Rattle.markdown_base.specs.declared.event.Name.TheVariants.{BlockQuote, BlockQuotePrefix, Data, LineEnding, Paragraph}
 use Rattle.markdown_base.specs.Virtual.{point}
-use Rattle.markdown.specs.Links.{next_of, previous_of}
+use Rattle.markdown_edits.specs.Links.{next_of, previous_of}
 use Rattle.mdchildren.specs.Chains.{fitting_chains}
 use Rattle.mdchildren.specs.Parts.{parts}
 use Rattle.mdchildren.specs.Children.{with_children}

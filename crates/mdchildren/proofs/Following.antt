@@ -7,7 +7,7 @@ use Rattle.std.proofs.lemmas.Option.{none-some, slice_get_within}
 use Rattle.markdown_base.specs.declared.event.Content.{Content}
 use Rattle.markdown_base.specs.declared.event.Event.{Event}
 use Rattle.markdown_base.specs.declared.event.Kind.TheVariants.{Enter, Exit}
-use Rattle.markdown.specs.Links.{next_of, previous_of}
+use Rattle.markdown_edits.specs.Links.{next_of, previous_of}
 use Rattle.mdchildren.specs.Chains.{content_at, some_fits, fits, begins, chain_from, chain_of}
 use Rattle.mdchildren.specs.Ready.{IsChunk, IsGap, IsReady}
 use Rattle.mdchildren.specs.Laws.{LeadOnFrom, IsWholeFrom, AreSpaced, FollowOneAnother}

@@ -8,8 +8,8 @@ use Rattle.markdown_base.specs.declared.event.Content.{Content}
 use Rattle.markdown_base.specs.declared.event.Event.{Event}
 use Rattle.markdown_base.specs.declared.event.Link.{Link}
 use Rattle.markdown_base.specs.Events.{EndsBelow, EachEnd}
-use Rattle.markdown.specs.Edits.{Edit, AreDisjoint}
-use Rattle.markdown.specs.Links.{next_of, previous_of}
+use Rattle.markdown_edits.specs.Edits.{Edit, AreDisjoint}
+use Rattle.markdown_edits.specs.Links.{next_of, previous_of}
 use Rattle.mdchildren.specs.Chains.{chain_of, fits, begins}
 use Rattle.mdchildren.specs.Ready.{IsReady}
 use Rattle.mdchildren.specs.Laws.{LeadOnFrom, AreSpaced}

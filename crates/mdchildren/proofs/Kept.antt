@@ -12,11 +12,11 @@ use Rattle.markdown_base.specs.declared.event.Event.{Event}
 use Rattle.markdown_base.specs.declared.event.Name.{Name}
 use Rattle.markdown_base.specs.declared.event.Point.{Point}
 use Rattle.markdown_base.specs.Events.{IsBalanced}
-use Rattle.markdown.specs.OpenNames.{names_after, names_after_all}
-use Rattle.markdown.specs.Woven.{Tagged, Change, woven, placed_in}
-use Rattle.markdown.proofs.EditPasses.{AreApart, olds, pass, woven-pass}
-use Rattle.markdown.proofs.Balanced.{names_after_all-append, names_after_balanced, balanced_from_open, IsBalanced-pair}
-use Rattle.markdown.proofs.EditSurvivors.{stays_unless_removed, keeps_links}
+use Rattle.markdown_edits.specs.OpenNames.{names_after, names_after_all}
+use Rattle.markdown_edits.specs.Woven.{Tagged, Change, woven, placed_in}
+use Rattle.markdown_edits.proofs.EditPasses.{AreApart, olds, pass, woven-pass}
+use Rattle.markdown_edits.proofs.Balanced.{names_after_all-append, names_after_balanced, balanced_from_open, IsBalanced-pair}
+use Rattle.markdown_edits.proofs.EditSurvivors.{stays_unless_removed, keeps_links}
 use Rattle.mdchildren.specs.Chains.{chain_of, fits, fitting_starts}
 use Rattle.mdchildren.specs.Ready.{IsReady, place_at}
 use Rattle.mdchildren.specs.Laws.{LeadOnFrom, IsWholeFrom, AreSpaced, ChildrenFit}

@@ -4,7 +4,7 @@ use Rattle.std.specs.Prelude.{◌&&◌, is_none, Contains}
 use Rattle.std.proofs.lemmas.Option.{none-some}
 use Rattle.markdown_base.specs.declared.event.Content.{Content}
 use Rattle.markdown_base.specs.declared.event.Event.{Event}
-use Rattle.markdown.specs.Links.{next_of, previous_of}
+use Rattle.markdown_edits.specs.Links.{next_of, previous_of}
 use Rattle.mdchildren.specs.Chains.{chain_of, fits, begins}
 use Rattle.mdchildren.specs.Ready.{IsReady}
 use Rattle.mdchildren.specs.Laws.{LeadOnFrom, IsInChain, IsInOneChain}

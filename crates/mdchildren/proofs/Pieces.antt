@@ -6,7 +6,7 @@ use Rattle.markdown_base.specs.declared.event.Content.{Content}
 use Rattle.markdown_base.specs.declared.event.Event.{Event}
 use Rattle.markdown_base.specs.declared.event.Point.{Point}
 use Rattle.markdown_base.specs.Places.{stands_before, denotes_same}
-use Rattle.markdown.specs.Links.{next_of, previous_of}
+use Rattle.markdown_edits.specs.Links.{next_of, previous_of}
 use Rattle.markdown.specs.Text.{Given, Text, pushed, passed, followed_by, empty_text, FitsAfter, CanFollow}
 use Rattle.markdown.proofs.PlaceCursors.{upto-order, upto-same, same-self}
 use Rattle.mdchildren.specs.Chains.{fits, begins}

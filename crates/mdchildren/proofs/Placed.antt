@@ -7,11 +7,11 @@ use Rattle.std.proofs.lemmas.List.{map-append}
 use Rattle.std.proofs.lemmas.List.Elements.{All-head, All-tail}
 use Rattle.markdown_base.specs.declared.event.Event.{Event}
 use Rattle.markdown_base.specs.Events.{relinked, EndsBelow}
-use Rattle.markdown.specs.Edited.{as_addition, as_change, edited}
-use Rattle.markdown.specs.Woven.{Identity, of_list, of_child, of_addition, Tagged, as_listed, place_in, is_same, Change, woven, placed, placed_in, placed_end, changed}
-use Rattle.markdown.proofs.EditPasses.{AreApart, olds, pass, woven-pass}
-use Rattle.markdown.proofs.EditFinalPlaces.{HasNo}
-use Rattle.markdown.proofs.EditSplices.{relinked-same, relinked-agree}
+use Rattle.markdown_edits.specs.Edited.{as_addition, as_change, edited}
+use Rattle.markdown_edits.specs.Woven.{Identity, of_list, of_child, of_addition, Tagged, as_listed, place_in, is_same, Change, woven, placed, placed_in, placed_end, changed}
+use Rattle.markdown_edits.proofs.EditPasses.{AreApart, olds, pass, woven-pass}
+use Rattle.markdown_edits.proofs.EditFinalPlaces.{HasNo}
+use Rattle.markdown_edits.proofs.EditSplices.{relinked-same, relinked-agree}
 use Rattle.mdchildren.specs.Parts.{Divided, child_place, part_edits, chain_edits, total, all_edits}
 use Rattle.mdchildren.specs.Children.{tagged_child, part_changes, first_chunk, chain_changes}
 use Rattle.mdchildren.proofs.Spaced.{HasParts}

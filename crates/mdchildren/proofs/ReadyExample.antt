@@ -9,7 +9,7 @@ use Rattle.markdown_base.specs.declared.event.Kind.TheVariants.{Enter, Exit}
 use Rattle.markdown_base.specs.declared.event.Name.TheVariants.{Data}
 use Rattle.markdown_base.specs.Virtual.{point}
 use Rattle.markdown_base.specs.Events.{IsBalanced, empty, span}
-use Rattle.markdown.specs.Links.{next_of, previous_of, AreMutual}
+use Rattle.markdown_edits.specs.Links.{next_of, previous_of, AreMutual}
 use Rattle.mdchildren.specs.Chains.{content_at, fits}
 use Rattle.mdchildren.specs.Ready.{IsChunk, IsReadable, IsGap, IsReady}
 

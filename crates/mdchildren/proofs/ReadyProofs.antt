@@ -20,9 +20,9 @@ use Rattle.markdown_base.specs.declared.event.Name.{Name}
 use Rattle.markdown_base.specs.declared.event.Point.{Point}
 use Rattle.markdown_base.specs.Events.{IsBalanced, is_void, same_name}
 use Rattle.markdown_base.specs.Places.{stands_before}
-use Rattle.markdown.specs.Links.{content_of, next_of, previous_of, AreMutual}
-use Rattle.markdown.specs.OpenNames.{names_after_all}
-use Rattle.markdown.proofs.Balanced.{balanced_from_open, names_after_balanced, same_name-true}
+use Rattle.markdown_edits.specs.Links.{content_of, next_of, previous_of, AreMutual}
+use Rattle.markdown_edits.specs.OpenNames.{names_after_all}
+use Rattle.markdown_edits.proofs.Balanced.{balanced_from_open, names_after_balanced, same_name-true}
 use Rattle.markdown.proofs.PlacePoints.{same-numbers}
 use Rattle.mdchildren.proofs.Following.{apart, fits_next}
 use Rattle.mdchildren.specs.Chains.{content_at, lets_through, some_fits, fits}

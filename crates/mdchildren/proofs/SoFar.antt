@@ -16,8 +16,8 @@ use Rattle.markdown.specs.declared.tokenizer.Fault.TheVariants as fault
 use Rattle.markdown.specs.Text.{Given}
 use Rattle.markdown.specs.Rules.{Rules}
 use Rattle.markdown.specs.Resolving.{with_more}
-use Rattle.markdown.specs.Edits.{Edit, AreDisjoint}
-use Rattle.markdown.specs.Edited.{edited}
+use Rattle.markdown_edits.specs.Edits.{Edit, AreDisjoint}
+use Rattle.markdown_edits.specs.Edited.{edited}
 use Rattle.mdchildren.specs.Chains.{chain_of, begins, fitting_starts}
 use Rattle.mdchildren.specs.Ready.{IsReady}
 use Rattle.mdchildren.specs.Laws.{AreSpaced, HasEndsWithin}

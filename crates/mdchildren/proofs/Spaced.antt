@@ -6,8 +6,8 @@ use Rattle.std.proofs.lemmas.List.Elements.{All-from_recursion}
 use Rattle.markdown_base.specs.declared.event.Content.{Content}
 use Rattle.markdown_base.specs.declared.event.Event.{Event}
 use Rattle.markdown_base.specs.declared.event.Point.{Point}
-use Rattle.markdown.specs.Woven.{of_list, Change, place_in}
-use Rattle.markdown.proofs.EditPasses.{AreApart}
+use Rattle.markdown_edits.specs.Woven.{of_list, Change, place_in}
+use Rattle.markdown_edits.proofs.EditPasses.{AreApart}
 use Rattle.mdchildren.specs.Chains.{chain_of, fitting_starts}
 use Rattle.mdchildren.specs.Ready.{IsReady, place_at}
 use Rattle.mdchildren.specs.Laws.{AreSpaced, ChangesAreApart}

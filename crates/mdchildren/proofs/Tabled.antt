@@ -10,8 +10,8 @@ use Rattle.markdown_base.specs.declared.event.Event.{Event}
 use Rattle.markdown_base.specs.declared.event.Link.{Link}
 use Rattle.markdown_base.specs.declared.event.Point.{Point}
 use Rattle.markdown_base.specs.Events.{relinked, EachEnd}
-use Rattle.markdown.specs.Edits.{Edit, AreDisjoint, AreBehind}
-use Rattle.markdown.specs.Links.{next_of}
+use Rattle.markdown_edits.specs.Edits.{Edit, AreDisjoint, AreBehind}
+use Rattle.markdown_edits.specs.Links.{next_of}
 use Rattle.mdchildren.specs.Chains.{chain_from, chain_of}
 use Rattle.mdchildren.specs.Ready.{place_at}
 use Rattle.mdchildren.specs.Laws.{HasEndsWithin}

@@ -4,7 +4,7 @@ use Rattle.std.specs.List.{AllByRecursion}
 use Rattle.std.proofs.lemmas.List.{drop-drop}
 use Rattle.markdown_base.specs.declared.event.Event.{Event}
 use Rattle.markdown_base.specs.declared.event.Point.{Point}
-use Rattle.markdown.specs.Links.{next_of}
+use Rattle.markdown_edits.specs.Links.{next_of}
 use Rattle.mdchildren.specs.Chains.{chain_from}
 use Rattle.mdchildren.specs.Ready.{place_at}
 use Rattle.mdchildren.specs.Parts.{front_until, IsForward}

@@ -2,7 +2,7 @@
 use Rattle.std.specs.Prelude.{ℕ, ◌+◌, List, [], ◌∷◌, length, flat_map, Option}
 use Rattle.markdown_base.specs.declared.event.Content.{Content}
 use Rattle.markdown_base.specs.declared.event.Event.{Event}
-use Rattle.markdown.specs.Woven.{of_child, Tagged, Change, changed}
+use Rattle.markdown_edits.specs.Woven.{of_child, Tagged, Change, changed}
 use Rattle.mdchildren.specs.Chains.{fitting_starts}
 use Rattle.mdchildren.specs.Parts.{Divided, divided_over}
 

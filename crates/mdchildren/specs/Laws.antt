@@ -6,11 +6,11 @@ use Rattle.markdown_base.specs.declared.event.Event.{Event}
 use Rattle.markdown_base.specs.declared.event.Point.{Point}
 use Rattle.markdown_base.specs.Places.{stands_before}
 use Rattle.markdown_base.specs.Events.{IsBalanced, EndsBelow}
-use Rattle.markdown.specs.Links.{next_of}
-use Rattle.markdown.specs.Survivors.{AreNew, StaysUnlessRemoved, KeepsLinks}
-use Rattle.markdown.specs.Woven.{AreApart}
-use Rattle.markdown.specs.Edits.{Edit, AreDisjoint}
-use Rattle.markdown.specs.Edited.{edited}
+use Rattle.markdown_edits.specs.Links.{next_of}
+use Rattle.markdown_edits.specs.Survivors.{AreNew, StaysUnlessRemoved, KeepsLinks}
+use Rattle.markdown_edits.specs.Woven.{AreApart}
+use Rattle.markdown_edits.specs.Edits.{Edit, AreDisjoint}
+use Rattle.markdown_edits.specs.Edited.{edited}
 use Rattle.mdchildren.specs.Children.{child_changes, with_children}
 use Rattle.mdchildren.specs.Parts.{parts, divided_over, all_edits}
 use Rattle.mdchildren.specs.Chains.{chain_of, begins, fits, fitting_chunks, fitting_starts}

@@ -5,8 +5,8 @@ use Rattle.markdown_base.specs.declared.event.Event.{Event}
 use Rattle.markdown_base.specs.declared.event.Point.{Point}
 use Rattle.markdown_base.specs.Places.{stands_before}
 use Rattle.markdown_base.specs.Events.{relinked}
-use Rattle.markdown.specs.Edits.{Edit, AreDisjoint}
-use Rattle.markdown.specs.Links.{next_of}
+use Rattle.markdown_edits.specs.Edits.{Edit, AreDisjoint}
+use Rattle.markdown_edits.specs.Links.{next_of}
 use Rattle.mdchildren.specs.Chains.{chain_of}
 use Rattle.mdchildren.specs.Ready.{place_at}
 

@@ -22,8 +22,8 @@ use Rattle.markdown.specs.Configuration.{Configuration, start_configuration}
 use Rattle.markdown.specs.Rules.{Rules}
 use Rattle.markdown.specs.Reading.{Reading, EndsIn}
 use Rattle.markdown.specs.Resolving.{IsResolved, IsResolvingRefused}
-use Rattle.markdown.specs.SpanWalks.{IsLongestRunTo}
-use Rattle.markdown.specs.Survivors.{StaysUnlessRemoved, KeepsLinks}
+use Rattle.markdown_edits.specs.SpanWalks.{IsLongestRunTo}
+use Rattle.markdown_edits.specs.Survivors.{StaysUnlessRemoved, KeepsLinks}
 use Rattle.mdchildren.specs.Chains.{content_at, chain_of, begins, fitting_starts}
 use Rattle.mdchildren.specs.Ready.{place_at}
 use Rattle.mdchildren.specs.Children.{first_chunk, child_changes, with_children}

@@ -8,7 +8,7 @@ use Rattle.markdown_base.specs.declared.event.Point.{Point}
 use Rattle.markdown_base.specs.Virtual.{point}
 use Rattle.markdown_base.specs.Places.{stands_before, IsPointOf, IsShown}
 use Rattle.markdown_base.specs.Events.{IsBalanced}
-use Rattle.markdown.specs.Links.{IsLinkedEnter, IsEndedBy, next_of, AreMutual}
+use Rattle.markdown_edits.specs.Links.{IsLinkedEnter, IsEndedBy, next_of, AreMutual}
 use Rattle.mdchildren.specs.Chains.{content_at, fits}
 
 -- where the event at an index stands

@@ -8,7 +8,7 @@ use Rattle.markdown.specs.declared.subtokenize.Subresult.{Subresult}
 use Rattle.markdown.specs.Text.{Given}
 use Rattle.markdown.specs.Configuration.{Seen}
 use Rattle.markdown.specs.Rules.{Rules}
-use Rattle.markdown.specs.Edits.{Edit}
+use Rattle.markdown_edits.specs.Edits.{Edit}
 use Rattle.mdchildren.specs.Chains.{begins}
 use Rattle.mdchildren.specs.Laws.{HasEndsWithin}
 use Rattle.mdchildren.specs.Parts.{divided_over, all_edits, removed_by, added_by}

@@ -3,7 +3,7 @@ use Rattle.std.specs.Prelude.{◌<◌, ℕ, ◌+◌, ◌-◌, ◌≤◌, nat_lt,
 use Rattle.std.specs.List.{between, AllByRecursion}
 use Rattle.markdown_base.specs.declared.event.Event.{Event}
 use Rattle.markdown_base.specs.Events.{relinked}
-use Rattle.markdown.specs.Edits.{Edit}
+use Rattle.markdown_edits.specs.Edits.{Edit}
 use Rattle.mdchildren.specs.Chains.{chain_from}
 use Rattle.mdchildren.specs.Ready.{place_at}
 use Rattle.mdchildren.specs.Parts.{parts}

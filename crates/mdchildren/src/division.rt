@@ -5,7 +5,7 @@ ghost use Rattle.std.specs.Option.{option_and_then};
 ghost use Rattle.std.specs.List.{between, AllByRecursion};
 ghost use Rattle.markdown_base.specs.Events.{EachEnd, relinked};
 ghost use Rattle.markdown_base.specs.Places.{stands_before};
-ghost use Rattle.markdown.specs.Links.{next_of};
+ghost use Rattle.markdown_edits.specs.Links.{next_of};
 ghost use Rattle.mdchildren.specs.Chains.{chain_of};
 ghost use Rattle.mdchildren.specs.Ready.{place_at};
 ghost use Rattle.mdchildren.specs.Parts.{front_until, IsForward};

@@ -3,7 +3,7 @@
 ghost use Rattle.std.specs.Prelude.{◌≡◌, ◌+◌, ◌<◌, false, true, cond, length, reverse, slice_get, Some, None, IfOk};
 ghost use Rattle.markdown_base.specs.declared.event.Kind.TheVariants.{Exit};
 ghost use Rattle.markdown_base.specs.Places.{stands_before};
-ghost use Rattle.markdown.specs.OpenNames.{names_after};
+ghost use Rattle.markdown_edits.specs.OpenNames.{names_after};
 ghost use Rattle.mdchildren.specs.Chains.{lets_through};
 ghost use Rattle.mdchildren.specs.Ready.{place_at};
 ghost use Rattle.mdchildren.specs.ReadyTests.{closes, link_at, is_number, is_chunk, leads_back_to, is_joined_on, is_joined_back, is_sound_at, is_same_point, is_in_line, has_no_link, is_gap, is_readable, can_be_read_at, AllBelow, FailsSomewhere};

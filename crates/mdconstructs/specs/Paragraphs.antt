@@ -12,7 +12,7 @@ use Rattle.markdown.specs.Text.{Given}
 use Rattle.markdown.specs.Configuration.{Configuration, Local, Choice, Seen}
 use Rattle.markdown.specs.Sight.{Sight, sight_seen}
 use Rattle.markdown.specs.Calls.{entered, linked}
-use Rattle.markdown.specs.Links.{CanLink, IsLinkedEnter, IsEndedBy, content_of}
+use Rattle.markdown_edits.specs.Links.{CanLink, IsLinkedEnter, IsEndedBy, content_of}
 use Rattle.markdown.specs.Rules.{Rules}
 use Rattle.mdtables.specs.Rows.{enter, enter_link, exit, consume, links, write, Rows, row, when, at_byte, StateRows, calls, no_cost, plain, Table}
 use Rattle.mdtables.specs.Knowledge.{knowing_rules}

@@ -13,10 +13,10 @@ use Rattle.markdown_base.specs.declared.state.State.TheVariants.{Next, Retry, Ok
 use Rattle.markdown_base.specs.declared.state.TheConstants.Name.{FlowStart, TextStart, ParagraphStart, ParagraphInside}
 use Rattle.markdown.specs.Configuration.{Configuration, Local, Choice, Seen, start_configuration}
 use Rattle.markdown.specs.Sight.{sight_seen}
-use Rattle.markdown.specs.Links.{IsLinkedEnter, IsEndedBy, CanLink, content_of, updated_at, with_next, with_previous, linked_to, next_of, previous_of}
-use Rattle.markdown.specs.Edited.{edited}
+use Rattle.markdown_edits.specs.Links.{IsLinkedEnter, IsEndedBy, CanLink, content_of, updated_at, with_next, with_previous, linked_to, next_of, previous_of}
+use Rattle.markdown_edits.specs.Edited.{edited}
 use Rattle.markdown.specs.Resolving.{CanBeEdited, IsInShape}
-use Rattle.markdown.proofs.EditSplices.{edited-none}
+use Rattle.markdown_edits.proofs.EditSplices.{edited-none}
 use Rattle.mdtables.specs.LinkShapes.{next_end, previous_end, AreInShape}
 use Rattle.mdtables.specs.RowTest.{misfits}
 use Rattle.mdtables.proofs.LinkShapes.{more-shape, linked-shape}

@@ -10,7 +10,7 @@ use Rattle.markdown_base.specs.declared.state.State.TheVariants.{Next, Retry, Ok
 use Rattle.markdown_base.specs.declared.state.TheConstants.Name.{TextStart, SpaceOrTabInside, DataStart, DataAtBreak, DataInside}
 use Rattle.markdown.specs.Text.{Given}
 use Rattle.markdown.specs.Configuration.{Configuration, Local, Choice}
-use Rattle.markdown.specs.Edits.{Edit, edit_at, added_after}
+use Rattle.markdown_edits.specs.Edits.{Edit, edit_at, added_after}
 use Rattle.markdown.specs.Plain.{HaveNoLinks}
 use Rattle.markdown.specs.Sight.{Sight}
 use Rattle.markdown.specs.Rules.{Rules}

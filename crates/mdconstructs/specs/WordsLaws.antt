@@ -10,13 +10,13 @@ use Rattle.markdown_base.specs.declared.state.State.{State}
 use Rattle.markdown_base.specs.declared.state.State.TheVariants.{Next, Retry}
 use Rattle.markdown_base.specs.declared.state.TheConstants.Name.{TextStart}
 use Rattle.markdown_base.specs.Events.{IsBalanced, EndsBelow}
-use Rattle.markdown.specs.Edits.{Edit, edit_at, added_after, AreDisjoint}
-use Rattle.markdown.specs.Edited.{as_change, edited}
-use Rattle.markdown.specs.Woven.{woven, placed}
+use Rattle.markdown_edits.specs.Edits.{Edit, edit_at, added_after, AreDisjoint}
+use Rattle.markdown_edits.specs.Edited.{as_change, edited}
+use Rattle.markdown_edits.specs.Woven.{woven, placed}
 use Rattle.markdown.specs.Plain.{HaveNoLinks}
 use Rattle.markdown.specs.Resolving.{IsInShape}
-use Rattle.markdown.proofs.Balanced.{IsBalanced-pair, IsBalanced-remove}
-use Rattle.markdown.proofs.EditPasses.{woven-past}
+use Rattle.markdown_edits.proofs.Balanced.{IsBalanced-pair, IsBalanced-remove}
+use Rattle.markdown_edits.proofs.EditPasses.{woven-past}
 use Rattle.markdown.proofs.PlainLaws.{no-links-more, no-links-below, no-links-shape, woven-same, edited-same}
 use Rattle.markdown.specs.Configuration.{Configuration, Local, Choice, start_configuration}
 use Rattle.mdtables.specs.RowTest.{misfits}

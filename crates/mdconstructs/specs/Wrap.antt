@@ -14,7 +14,7 @@ use Rattle.markdown.specs.Text.{Given, Text}
 use Rattle.markdown.specs.Configuration.{Configuration, Local, Choice}
 use Rattle.markdown.specs.Sight.{Sight}
 use Rattle.markdown.specs.Calls.{with_events, with_resolvers, registered, registered_before}
-use Rattle.markdown.specs.Edits.{Edit, edit_at, added_after}
+use Rattle.markdown_edits.specs.Edits.{Edit, edit_at, added_after}
 use Rattle.markdown.specs.Resolving.{Resolved, done, refused}
 use Rattle.markdown.specs.Rules.{Rules}
 use Rattle.markdown.specs.Plain.{HaveNoLinks}

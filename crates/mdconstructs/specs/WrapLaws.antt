@@ -16,14 +16,14 @@ use Rattle.markdown.specs.Text.{Given, Text}
 use Rattle.markdown.specs.Configuration.{Configuration, Choice, Step}
 use Rattle.markdown.specs.Sight.{Sight, sight}
 use Rattle.markdown.specs.Calls.{with_local, with_resolvers, registered, registered_before}
-use Rattle.markdown.specs.Edits.{Edit, edit_at, added_after, AreDisjoint}
-use Rattle.markdown.specs.Edited.{as_addition, as_change, edited}
-use Rattle.markdown.specs.Woven.{Tagged, Change, of_list, as_listed, events_at, is_removed, placed_end, placed_in, woven}
+use Rattle.markdown_edits.specs.Edits.{Edit, edit_at, added_after, AreDisjoint}
+use Rattle.markdown_edits.specs.Edited.{as_addition, as_change, edited}
+use Rattle.markdown_edits.specs.Woven.{Tagged, Change, of_list, as_listed, events_at, is_removed, placed_end, placed_in, woven}
 use Rattle.markdown.specs.Resolving.{done, refused, taken, IsInShape}
 use Rattle.markdown.specs.Lawful.{ConsumesOnce, OnlyAdds, EndsWhenRead, KeepsInvariant, CostPays, ResolversKeep, IsAsFar}
 use Rattle.markdown.specs.Plain.{HaveNoLinks}
 use Rattle.markdown.proofs.PlainLaws.{no-links-more, no-links-below, no-links-shape, unlinked-same}
-use Rattle.markdown.proofs.EditPuts.{put-same, put-more}
+use Rattle.markdown_edits.proofs.EditPuts.{put-same, put-more}
 use Rattle.mdtables.specs.Rows.{class_of, step_of, picked, step_at}
 use Rattle.mdtables.specs.RowTest.{misfits}
 use Rattle.mdtables.proofs.TableLaws.{IsFit, no-falls, table-consumes_once, table-only_adds, table-ends_when_read, table-invariant_kept}

@@ -4,7 +4,7 @@
 ghost use Rattle.std.specs.Prelude.{◌≡◌, IfOk};
 ghost use Rattle.markdown.specs.Calls.{with_local};
 ghost use Rattle.markdown.specs.Configuration.{at_configuration};
-ghost use Rattle.markdown.specs.Links.{CanLink};
+ghost use Rattle.markdown_edits.specs.Links.{CanLink};
 ghost use Rattle.mdtables.specs.RowInvariant.{DoesAll, IsCallable, step_in};
 ghost use Rattle.mdconstructs.specs.Tables.{line_byte};
 ghost use Rattle.mdconstructs.specs.Paragraphs.{flow_start, paragraph_line_start, paragraph_start, paragraph_inside, text_start, alone, chunk_before, connected, last_event, chained, CanLinkChunk};

@@ -3,7 +3,7 @@
 ghost use Rattle.std.specs.Prelude.{◌≡◌, ◌∷◌, [], map, IfOk, OnOk};
 ghost use Rattle.markdown.specs.declared.waiting.Phase.TheVariants.{Resolving};
 ghost use Rattle.markdown.specs.Configuration.{at_configuration};
-ghost use Rattle.markdown.specs.Edits.{added_after, edit_at};
+ghost use Rattle.markdown_edits.specs.Edits.{added_after, edit_at};
 ghost use Rattle.markdown.specs.Sight.{sight_seen};
 ghost use Rattle.mdtables.specs.RowInvariant.{DoesAll, IsCallable, step_in};
 ghost use Rattle.mdconstructs.specs.Tables.{line_byte};

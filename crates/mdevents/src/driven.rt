@@ -7,15 +7,15 @@ ghost use Rattle.markdown.specs.Configuration.{start_seen};
 ghost use Rattle.markdown.specs.Engine.{given_of};
 ghost use Rattle.markdown.specs.Ranges.{FollowOn, IsGapFrom, LeadsFrom, after_any};
 ghost use Rattle.markdown.specs.Text.{empty_text};
-ghost use Rattle.mdevents.specs.Program.{document};
+ghost use Rattle.mdprint.specs.Program.{document};
 
-use crate::program::options_with;
-use crate::write::write_lines;
 use markdown::configuration::TabSize;
 use markdown::event::{Event, Point};
 use markdown::parser::ParseState;
 use markdown::state::{Machine, Name, State};
 use markdown::tokenizer::{Tokenizer, point_at};
+use mdprint::program::options_with;
+use mdprint::write::write_lines;
 use std::alloc::{AllocError, Global};
 
 /// A range of a document, from a place to another one, and the place up to which a gap is passed before it, if one is.

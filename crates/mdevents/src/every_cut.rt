@@ -2,7 +2,7 @@
 //! tell where.
 
 ghost use Rattle.std.specs.Prelude.{◌+◌, ◌*◌, ◌^◌, ◌<◌, length, Contains};
-ghost use Rattle.mdevents.specs.Program.{document};
+ghost use Rattle.mdprint.specs.Program.{document};
 
 use crate::driven::{Seen, read_cut_with};
 use markdown::configuration::TabSize;

@@ -11,10 +11,11 @@
 ghost use Rattle.std.specs.Prelude.{◌≡◌, ◌≤◌, IfOk, IfSome, IsErr, IsOkUnless, Ok, None};
 ghost use Rattle.std.specs.Io.KnownBytes.{Keeps};
 ghost use Rattle.std.specs.Process.{exit_status};
-ghost use Rattle.mdevents.specs.Program.{Prints, PrintsChosen};
-ghost use Rattle.mdevents.specs.Words.{CanCut};
+ghost use Rattle.mdprint.specs.Program.{Prints, PrintsChosen};
+ghost use Rattle.mdprint.specs.Words.{CanCut};
 
-mod backwards;
+#[cfg(test)]
+mod chosen;
 #[cfg(test)]
 mod driven;
 #[cfg(test)]
@@ -23,29 +24,26 @@ mod every_cut;
 mod every_cut_of_text;
 #[cfg(test)]
 mod expected;
-mod failure;
 #[cfg(test)]
 mod fakes;
-mod print;
-mod program;
+#[cfg(test)]
+mod printed;
 #[cfg(test)]
 mod ranges;
-mod read;
 #[cfg(test)]
 mod rows;
 #[cfg(test)]
 mod turns;
-mod waiting;
-mod words;
-mod write;
+#[cfg(test)]
+mod written;
 
-use failure::Failure;
-use program::write_events;
+use mdprint::failure::Failure;
+use mdprint::program::write_events;
+use mdprint::words::{Choice, USAGE, read_words};
 use std::env;
 use std::io::{ErrorKind, Read, Write};
 use std::process::ExitCode;
 use std::rt::Env;
-use words::{Choice, USAGE, read_words};
 
 fn main(rt: HostRuntime) -> ExitCode {
     answer_call(&rt, &mut rt.stdin(), &mut rt.stdout())
@@ -127,8 +125,8 @@ mod tests {
     use super::*;
     use crate::expected::{PARAGRAPH, SHORT_DATA, TWO_LINES};
     use crate::fakes::{CalledWith, FailingReader, FailingWriter, Fault, Line, message};
-    use crate::words::Which;
     use markdown::configuration::TabSize;
+    use mdprint::words::Which;
     use std::alloc::{AllocError, Global};
 
     const USAGE_SHOWN: &[u8] = b"usage: mdevents [--cut n] [--deep] [--machine name] [--tab n]\n";

@@ -1,7 +1,7 @@
 //! The machines, over ranges and gaps.
 
 ghost use Rattle.std.specs.Prelude.{◌+◌, ◌*◌, ◌^◌, ◌<◌, length, Contains};
-ghost use Rattle.mdevents.specs.Program.{document};
+ghost use Rattle.mdprint.specs.Program.{document};
 
 use crate::driven::{AfterGap, Seen, calls_after, calls_of, gives, read_following, read_ranges};
 use crate::expected::{THREE_DATA, TWO_LINES};

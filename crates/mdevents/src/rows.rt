@@ -1,7 +1,7 @@
 //! The machines, over documents that are cut.
 
 ghost use Rattle.std.specs.Prelude.{◌+◌, ◌*◌, ◌^◌, ◌≤◌, ◌<◌, length, Contains};
-ghost use Rattle.mdevents.specs.Program.{document};
+ghost use Rattle.mdprint.specs.Program.{document};
 
 use crate::driven::{Pushed, Seen, after_push, gives, read_cut};
 use crate::expected::{ONE_DATA, SHORT_DATA, THREE_DATA, TWO_LINES};

@@ -3,11 +3,12 @@
 ghost use Rattle.std.specs.Prelude.{◌≡◌, None};
 
 use crate::expected::{PEEKED, TWO_LINES};
-use crate::failure::Failure;
 use crate::fakes::{FailingReader, FailingWriter, Fault, Line};
-use crate::program::write_events;
-use crate::words::{Choice, Which};
 use markdown::configuration::TabSize;
+use mdprint::failure::Failure;
+use mdprint::program::write_events;
+use mdprint::read::read_to_end;
+use mdprint::words::{Choice, Which};
 use std::alloc::Global;
 
 const DOCUMENT: &[u8] = b"a\r\nb";
@@ -46,6 +47,21 @@ fn each_read_fails_in_turn(rt: HostRuntime) {
     for fault in [Fault::ErrorOnce, Fault::ErrorFromThenOn] {
         assert_eq!(rt; reads_of_a_run(rt.alloc(), fault), Some(5));
     }
+}
+
+/// Whether all of a text is read, where the read after so many good ones fails.
+fn reads_all(alloc: Global, good_reads: usize) -> Result<bool, Failure> {
+    let mut reader = FailingReader::new(b"a\r\nb", good_reads, Fault::ErrorOnce);
+    let all = read_to_end(alloc, &mut reader, TabSize::default())?;
+    Ok(all.as_slice() == b"a\r\nb".as_slice())
+}
+
+#[test]
+fn reads_to_the_end(rt: HostRuntime) {
+    for good_reads in 0..5 {
+        assert!(rt; matches!(reads_all(rt.alloc(), good_reads), Err(Failure::Read)));
+    }
+    assert!(rt; matches!(reads_all(rt.alloc(), 5), Ok(true)));
 }
 
 /// Fails the write after each number of good ones, of a byte each, until a run ends well: how many good writes that takes.

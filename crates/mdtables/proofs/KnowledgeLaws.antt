@@ -14,7 +14,7 @@ use Rattle.markdown.specs.Sight.{Sight, sight}
 use Rattle.markdown.specs.Calls.{with_local}
 use Rattle.markdown.specs.Reading.{settled_at}
 use Rattle.markdown.specs.Lawful.{IsAsFar, ConsumesOnce, OnlyAdds, EndsWhenRead, KeepsInvariant, CostPays, ResolversKeep}
-use Rattle.markdown.specs.Edited.{edited}
+use Rattle.markdown_edits.specs.Edited.{edited}
 use Rattle.markdown.specs.Resolving.{CanBeEdited, IsInShape}
 use Rattle.markdown_base.specs.Events.{IsBalanced}
 use Rattle.mdtables.specs.Rows.{Rows, row, when, Row, StateRows, Table, class_of, picked, step_of, named, step_at, table_step}

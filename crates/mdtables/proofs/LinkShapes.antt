@@ -5,7 +5,7 @@ use Rattle.std.proofs.lemmas.List.Elements.{All-cons, All-head, All-tail, All-pu
 use Rattle.markdown_base.specs.declared.event.Event.{Event}
 use Rattle.markdown_base.specs.declared.event.Link.{Link}
 use Rattle.markdown_base.specs.Events.{EachEnd, EndsBelow}
-use Rattle.markdown.specs.Links.{next_set, previous_set, with_next, with_previous, updated_at, linked_to, next_of, previous_of}
+use Rattle.markdown_edits.specs.Links.{next_set, previous_set, with_next, with_previous, updated_at, linked_to, next_of, previous_of}
 use Rattle.mdtables.specs.LinkShapes.{next_end, previous_end, AreInShape}
 
 same-or-not : (i p : ℕ) → (i ≡ p) ⊎ (i ≡ p → ⊥)

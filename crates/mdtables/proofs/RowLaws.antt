@@ -23,7 +23,7 @@ use Rattle.markdown.specs.Sight.{Sight, sight}
 use Rattle.markdown.specs.Calls.{consumed}
 use Rattle.markdown.proofs.Changes.{linked-unlinked}
 use Rattle.markdown.specs.Lawful.{IsAsFar}
-use Rattle.markdown.proofs.Balanced.{same_name-true}
+use Rattle.markdown_edits.proofs.Balanced.{same_name-true}
 use Rattle.markdown.proofs.MadeLemmas.{before-upto, upto-self}
 use Rattle.mdtables.specs.Rows.{Act, enters, exit, consume, links, write, choose, past, done, seen_after, choice_at, chosen, does, chooses}
 use Rattle.mdtables.specs.RowTest.{Stage, end_waits, byte_waits, byte_read, Shape, is_byte_waiting, is_end, is_last, allows, after, allows_all, after_all, same_names}

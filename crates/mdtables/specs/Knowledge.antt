@@ -4,7 +4,7 @@ use Rattle.markdown_base.specs.declared.event.Event.{Event}
 use Rattle.markdown_base.specs.declared.state.State.{State}
 use Rattle.markdown.specs.Text.{Given, Text}
 use Rattle.markdown.specs.Configuration.{Configuration, Local, Choice}
-use Rattle.markdown.specs.Edited.{edited}
+use Rattle.markdown_edits.specs.Edited.{edited}
 use Rattle.markdown.specs.Resolving.{CanBeEdited, IsInShape}
 use Rattle.markdown.specs.Rules.{Rules}
 use Rattle.mdtables.specs.Rows.{Table}

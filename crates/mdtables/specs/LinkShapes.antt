@@ -3,7 +3,7 @@ use Rattle.std.specs.Prelude.{◌≡◌, ℕ, List, Option, Some, option_and_the
 use Rattle.markdown_base.specs.declared.event.Event.{Event}
 use Rattle.markdown_base.specs.declared.event.Link.{Link}
 use Rattle.markdown_base.specs.Events.{EndsBelow}
-use Rattle.markdown.specs.Links.{next_of, previous_of}
+use Rattle.markdown_edits.specs.Links.{next_of, previous_of}
 
 -- where an event's link leads on, and back, if it does
 abbrev pub next_end : Event → Option ℕ

@@ -2,7 +2,7 @@
 
 ghost use Rattle.std.specs.Prelude.{◌≡◌, ◌+◌, ◌*◌, ◌^◌, ◌<◌, true, length, None, IfSome, IfOk, All};
 ghost use Rattle.markdown_base.specs.Events.{EndsBelow};
-ghost use Rattle.markdown.specs.Edits.{AreDisjoint};
+ghost use Rattle.markdown_edits.specs.Edits.{AreDisjoint};
 ghost use Rattle.mdchildren.specs.Chains.{begins};
 ghost use Rattle.mdchildren.specs.Laws.{HasEndsWithin};
 

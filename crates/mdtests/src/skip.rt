@@ -4,7 +4,7 @@ ghost use Rattle.std.specs.Prelude.{◌≡◌, [], ◌∷◌, take, Any};
 ghost use Rattle.markdown_base.specs.Events.{IsBalanced};
 ghost use Rattle.markdown_base.specs.declared.event.Kind.TheVariants.{Enter, Exit};
 ghost use Rattle.markdown_base.specs.declared.event.Name.TheVariants.{SpaceOrTab};
-ghost use Rattle.markdown.specs.SpanWalks.{HasWanted};
+ghost use Rattle.markdown_edits.specs.SpanWalks.{HasWanted};
 
 use markdown::event::{Event, Kind, Name, Point};
 use markdown::util::skip::{opt, opt_back, to, to_back};

@@ -1,6 +1,6 @@
 use Rattle.std.proofs.Common.{List, get_or, ap, ◌∙◌, arith}
 use Rattle.markdown_base.specs.declared.event.Event.{Event}
-use Rattle.markdown.specs.Edits.{put_after}
+use Rattle.markdown_edits.specs.Edits.{put_after}
 use Rattle.mdchildren.specs.Tables.{table_place}
 use Rattle.mdchildren.specs.declared.division.Chunk.{Chunk}
 use Rattle.mdchildren.proofs.Adding.{edits-room, edits-more}

@@ -1,5 +1,5 @@
 use Rattle.std.proofs.Common.{◌≡◌, Some, [], reverse, drop}
-use Rattle.markdown.specs.OpenNames.{names_after_all}
+use Rattle.markdown_edits.specs.OpenNames.{names_after_all}
 use Rattle.mdchildren.proofs.readiness.closes.Given as goal
 
 abbrev pub invariant-loop-event : goal.invariant-loop-event

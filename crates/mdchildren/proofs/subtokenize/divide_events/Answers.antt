@@ -2,7 +2,7 @@ use Rattle.std.proofs.Common.{◌≡◌, ℕ, ◌+◌, ◌^◌, ◌<◌, ◌≤�
 use Rattle.std.specs.Prelude.{All, IfSome}
 use Rattle.markdown_base.specs.declared.event.Event.{Event}
 use Rattle.markdown_base.specs.Events.{EachEnd}
-use Rattle.markdown.specs.Edits.{Edit, AreBehind}
+use Rattle.markdown_edits.specs.Edits.{Edit, AreBehind}
 use Rattle.mdchildren.specs.Tables.{rest_table, table_place, AreAbove, AreRising, chunk_edit}
 use Rattle.mdchildren.specs.declared.division.Chunk.{Chunk}
 use Rattle.mdchildren.proofs.Tabled.{length-chunks, chunks-above, chunks-rising, chunks-within, chunks-room, chunks-fit, chunks-behind, table-edits, sums-le}

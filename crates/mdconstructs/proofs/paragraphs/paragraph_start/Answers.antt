@@ -3,7 +3,7 @@ use Rattle.markdown_base.specs.declared.event.Name.TheVariants.{Data}
 use Rattle.markdown.specs.Calls.{entered}
 use Rattle.markdown.specs.Configuration.{Seen, at_configuration}
 use Rattle.markdown.specs.Sight.{sight_seen}
-use Rattle.markdown.specs.Links.{CanLink}
+use Rattle.markdown_edits.specs.Links.{CanLink}
 use Rattle.mdconstructs.specs.Paragraphs.{text_link, chunk_before, last_event}
 use Rattle.mdconstructs.proofs.paragraphs.paragraph_start.Goals as goal
 

@@ -1,6 +1,6 @@
 use Rattle.std.proofs.Common.{◌+◌, ◌*◌, ◌^◌, ◌<◌, ℕ, None, [], ◌++◌, List, length, refl, sym, ◌∙◌, ap, subst, arith}
 use Rattle.markdown_base.specs.declared.event.Event.{Event}
-use Rattle.markdown.specs.Edits.{Edit, AreDisjoint}
+use Rattle.markdown_edits.specs.Edits.{Edit, AreDisjoint}
 use Rattle.mdchildren.specs.Laws.{HasEndsWithin}
 use Rattle.mdchildren.specs.Parts.{divided, chain_edits}
 use Rattle.mdchildren.proofs.Forward.{forward-chain, within, one-chain-disjoint, ends-inside}

@@ -1,6 +1,0 @@
-use Rattle.std.proofs.Common.{ap}
-use Rattle.markdown.specs.Stored.{edits_of}
-use Rattle.markdown.proofs.util.edit_map.EditMap.append.Goals as goal
-
-pub returns-clause-ok : goal.returns-clause-ok
-returns-clause-ok c = rw (← c.self.view_is, ← c.more.view_is) (c.in_ok-push_copies.ensures.ok, ap edits_of c.clear.ensures.empty)

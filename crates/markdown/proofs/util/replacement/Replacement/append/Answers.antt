@@ -1,8 +1,0 @@
-use Rattle.std.proofs.Common.{refl}
-use Rattle.markdown.proofs.util.replacement.Replacement.append.Goals as goal
-
-pub returns-clause-remove : goal.returns-clause-remove
-returns-clause-remove c = refl
-
-pub returns-clause-additions : goal.returns-clause-additions
-returns-clause-additions c = c.in_ok-extend_from_slice.ensures.items

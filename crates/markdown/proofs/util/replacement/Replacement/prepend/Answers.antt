@@ -1,5 +1,0 @@
-use Rattle.std.proofs.Common.{◌++◌, ap, ◌∙◌}
-use Rattle.markdown.proofs.util.replacement.Replacement.prepend.Goals as goal
-
-pub returns-clause-additions : goal.returns-clause-additions
-returns-clause-additions c = c.in_ok-extend_from_slice.ensures.items ∙ ap (λ xs. c.args.additions.items ++ xs) c.deref.ensures.value

@@ -1,5 +1,0 @@
-use Rattle.std.proofs.Common.{arith, rules}
-use Rattle.markdown.proofs.util.skip.to.Goals as goal
-
-pub loop-first-init : goal.loop-first-init
-loop-first-init c = record { order = omega arith; within = search rules; passed = λ k d a b. absurd (omega (arith, a, b)) }

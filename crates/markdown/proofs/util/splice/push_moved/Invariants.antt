@@ -1,7 +1,0 @@
-use Rattle.std.proofs.Common.{◌≡◌, ◌++◌, ◌-◌, take, drop}
-use Rattle.markdown.specs.Shifts.{place_by}
-use Rattle.markdown.specs.Spliced.{moved}
-use Rattle.markdown.proofs.util.splice.push_moved.Given as goal
-
-abbrev pub invariant-loop-event : goal.invariant-loop-event
-invariant-loop-event l = l.out.items ≡ l.fn.out.items ++ moved (place_by l.shifts 0 0) (take l.event-index (take (l.to - l.from) (drop l.from l.events)))

@@ -1,7 +1,0 @@
-use Rattle.std.proofs.Common.{length}
-use Rattle.markdown.proofs.EditShifts.{EndsFit-all}
-use Rattle.markdown.proofs.util.splice.spliced_events.Goals as goal
-
-pub push_spliced-requires-clause-ends : goal.push_spliced-requires-clause-ends
-push_spliced-requires-clause-ends c =
-    rw c.deref-2.ensures.value (EndsFit-all c.in_ok-shifts.shifts.items (length c.args.events.now) c.args.events.now c.in_ok-shifts.ensures.fits c.requires.links)

@@ -1,0 +1,113 @@
+-- The list after disjoint changes, as one pass over changes and events gives it.
+use Rattle.std.proofs.Common.{◌≡◌, ℕ, zero, suc, ◌+◌, ◌-◌, ◌<◌, ◌≤◌, true, false, eqb, ltb, leb, List, [], ◌∷◌, ◌++◌, length, take, drop, refl, sym, ◌∙◌, ap, subst, arith, append_assoc, append-nil, length-drop, add-zero}
+use Rattle.std.proofs.lemmas.List.{drop-drop}
+use Rattle.std.proofs.lemmas.Bool.{ne_eqb, eq-eqb, lt-ltb, le-ltb, le-leb, lt-leb}
+use Rattle.markdown_base.specs.declared.event.Event.{Event}
+pub use Rattle.markdown_edits.specs.Woven.{AreApart}
+use Rattle.markdown_edits.specs.Woven.{Change, events_at, is_removed, Tagged, as_listed, woven}
+
+-- events that stay, from index i on
+abbrev pub olds : ℕ → List Event → List Tagged
+olds i [] = []
+olds i (x ∷ xs) = as_listed i x ∷ olds (i + 1) xs
+
+-- the events before each change, those that come, then what stands behind its end
+abbrev pub pass : List Change → ℕ → List Event → List Tagged
+pass [] i xs = olds i xs
+pass (e ∷ es) i xs =
+    olds i (take (e.index - i) xs) ++ (e.events ++ pass es (e.index + e.remove) (drop (e.index + e.remove - i) xs))
+
+-- nothing comes below the first change
+pub events_at-none : (es : List Change) (from n i : ℕ) → AreApart from es n → i < from → events_at es i ≡ []
+events_at-none [] from n i d l = refl
+events_at-none (e ∷ es) from n i d l =
+    let a : from ≤ e.index = d.0 in
+    let ne : eqb e.index i ≡ false = ne_eqb e.index i (omega arith) in
+    rw ne (events_at-none es (e.index + e.remove) n i d.1 (omega arith))
+
+-- nothing is removed below the first change
+pub is_removed-none : (es : List Change) (from n i : ℕ) → AreApart from es n → i < from → is_removed es i ≡ false
+is_removed-none [] from n i d l = refl
+is_removed-none (e ∷ es) from n i d l =
+    let a : from ≤ e.index = d.0 in
+    let no : leb e.index i ≡ false = lt-leb e.index i (omega arith) in
+    rw no (is_removed-none es (e.index + e.remove) n i d.1 (omega arith))
+
+-- a change does not matter behind its end
+pub woven-past : (e : Change) (es : List Change) (i : ℕ) (xs : List Event) → e.index < i → e.index + e.remove ≤ i → woven (e ∷ es) i xs ≡ woven es i xs
+woven-past e es i [] l m = let ne : eqb e.index i ≡ false = ne_eqb e.index i (omega arith) in rw ne refl
+woven-past e es i (x ∷ xs) l m =
+    let ne : eqb e.index i ≡ false = ne_eqb e.index i (omega arith) in
+    let yes : leb e.index i ≡ true = le-leb e.index i (omega arith) in
+    let no : ltb i (e.index + e.remove) ≡ false = le-ltb i (e.index + e.remove) m in
+    rw (ne, yes, no, woven-past e es (i + 1) xs (omega arith) (omega arith)) refl
+
+-- inside a change, behind its index: its other events go
+pub woven-inside : (e : Change) (es : List Change) (n r i : ℕ) (xs : List Event) → AreApart (e.index + e.remove) es n → e.index < i → i + r ≡ e.index + e.remove → r ≤ length xs → woven (e ∷ es) i xs ≡ woven es (i + r) (drop r xs)
+woven-inside e es n zero i xs d l m f = rw add-zero (woven-past e es i xs l (omega arith))
+woven-inside e es n (suc r) i [] d l m f = absurd (omega arith)
+woven-inside e es n (suc r) i (x ∷ xs) d l m f =
+    let ne : eqb e.index i ≡ false = ne_eqb e.index i (omega arith) in
+    let yes : leb e.index i ≡ true = le-leb e.index i (omega arith) in
+    let in' : ltb i (e.index + e.remove) ≡ true = lt-ltb i (e.index + e.remove) (omega arith) in
+    let none : events_at es i ≡ [] = events_at-none es (e.index + e.remove) n i d (omega arith) in
+    let more : woven (e ∷ es) (i + 1) xs ≡ woven es (i + 1 + r) (drop r xs) = woven-inside e es n r (i + 1) xs d (omega arith) (omega arith) (omega arith) in
+    let here : i + 1 + r ≡ i + suc r = omega arith in
+    rw (ne, yes, in', none, more, here) refl
+
+-- at a change's index: the events that come, then what stands behind its end
+pub woven-at : (e : Change) (es : List Change) (n r : ℕ) (xs : List Event) → AreApart (e.index + e.remove) es n → e.remove ≡ r → r ≤ length xs → woven (e ∷ es) e.index xs ≡ e.events ++ woven es (e.index + r) (drop r xs)
+woven-at e es n zero [] d m f =
+    let yes : eqb e.index e.index ≡ true = eq-eqb e.index e.index refl in
+    rw (yes, add-zero) refl
+woven-at e es n zero (x ∷ xs) d m f =
+    let yes : eqb e.index e.index ≡ true = eq-eqb e.index e.index refl in
+    let below : leb e.index e.index ≡ true = le-leb e.index e.index (omega arith) in
+    let no : ltb e.index (e.index + e.remove) ≡ false = le-ltb e.index (e.index + e.remove) (omega arith) in
+    let more : woven (e ∷ es) (e.index + 1) xs ≡ woven es (e.index + 1) xs = woven-past e es (e.index + 1) xs (omega arith) (omega arith) in
+    rw (yes, below, no, more, add-zero, append_assoc) refl
+woven-at e es n (suc r) [] d m f = absurd (omega arith)
+woven-at e es n (suc r) (x ∷ xs) d m f =
+    let yes : eqb e.index e.index ≡ true = eq-eqb e.index e.index refl in
+    let below : leb e.index e.index ≡ true = le-leb e.index e.index (omega arith) in
+    let in' : ltb e.index (e.index + e.remove) ≡ true = lt-ltb e.index (e.index + e.remove) (omega arith) in
+    let none : events_at es e.index ≡ [] = events_at-none es (e.index + e.remove) n e.index d (omega arith) in
+    let more : woven (e ∷ es) (e.index + 1) xs ≡ woven es (e.index + 1 + r) (drop r xs) = woven-inside e es n r (e.index + 1) xs d (omega arith) (omega arith) (omega arith) in
+    let here : e.index + 1 + r ≡ e.index + suc r = omega arith in
+    rw (yes, below, in', none, more, here, append-nil) refl
+
+-- below a change's index the events stay
+pub woven-below : (e : Change) (es : List Change) (n k i : ℕ) (xs : List Event) → AreApart i (e ∷ es) n → i + k ≡ e.index → k ≤ length xs → woven (e ∷ es) i xs ≡ olds i (take k xs) ++ woven (e ∷ es) e.index (drop k xs)
+woven-below e es n zero i xs d m f = rw (sym m, add-zero) refl
+woven-below e es n (suc k) i [] d m f = absurd (omega arith)
+woven-below e es n (suc k) i (x ∷ xs) d m f =
+    let after : AreApart (i + 1) (e ∷ es) n = ((omega arith), d.1) in
+    let none : events_at (e ∷ es) i ≡ [] = events_at-none (e ∷ es) (i + 1) n i after (omega arith) in
+    let stays : is_removed (e ∷ es) i ≡ false = is_removed-none (e ∷ es) (i + 1) n i after (omega arith) in
+    let more : woven (e ∷ es) (i + 1) xs ≡ olds (i + 1) (take k xs) ++ woven (e ∷ es) e.index (drop k xs) = woven-below e es n k (i + 1) xs after (omega arith) (omega arith) in
+    rw (none, stays, more) refl
+
+pub woven-nil : (i : ℕ) (xs : List Event) → woven [] i xs ≡ olds i xs
+woven-nil i [] = refl
+woven-nil i (x ∷ xs) = rw (woven-nil (i + 1) xs) refl
+
+-- the indices of disjoint changes lie within the list
+pub AreApart-le : (es : List Change) (from n : ℕ) → AreApart from es n → from ≤ n
+AreApart-le [] from n d = d
+AreApart-le (e ∷ es) from n d = let a : from ≤ e.index = d.0 in omega (arith, AreApart-le es (e.index + e.remove) n d.1)
+
+pub woven-pass : (es : List Change) (i : ℕ) (xs : List Event) → AreApart i es (i + length xs) → woven es i xs ≡ pass es i xs
+woven-pass [] i xs d = woven-nil i xs
+woven-pass (e ∷ es) i xs d =
+    let a : i ≤ e.index = d.0 in
+    let b : e.index + e.remove ≤ i + length xs = AreApart-le es (e.index + e.remove) (i + length xs) d.1 in
+    let rest : drop e.remove (drop (e.index - i) xs) ≡ drop (e.index + e.remove - i) xs =
+    let k : e.index - i + e.remove ≡ e.index + e.remove - i = omega arith in
+    drop-drop e.remove (e.index - i) xs ∙ ap (λ n. drop n xs) k in
+    let n : i + length xs ≡ e.index + e.remove + length (drop (e.index + e.remove - i) xs) = omega (arith, length-drop (e.index + e.remove - i) xs) in
+    let d' : AreApart (e.index + e.remove) es (e.index + e.remove + length (drop (e.index + e.remove - i) xs)) = subst (λ m. AreApart (e.index + e.remove) es m) n d.1 in
+    let below = woven-below e es (i + length xs) (e.index - i) i xs d (omega arith) (omega arith) in
+    let at = woven-at e es (i + length xs) e.remove (drop (e.index - i) xs) d.1 refl (omega (arith, length-drop (e.index - i) xs)) in
+    let more : woven es (e.index + e.remove) (drop (e.index + e.remove - i) xs) ≡ pass es (e.index + e.remove) (drop (e.index + e.remove - i) xs) =
+    woven-pass es (e.index + e.remove) (drop (e.index + e.remove - i) xs) d' in
+    rw (below, at, rest, more) refl

@@ -1,0 +1,13 @@
+pub mod Balanced
+pub mod Common
+pub mod EditEntries
+pub mod EditFinalPlaces
+pub mod EditPasses
+pub mod EditPuts
+pub mod EditShifts
+pub mod EditSplices
+pub mod EditSurvivors
+pub mod EditTurns
+pub mod LinkEnds
+pub mod Mirrors
+pub mod SpanRuns

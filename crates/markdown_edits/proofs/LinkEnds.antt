@@ -1,0 +1,18 @@
+-- Lists with one event changed.
+use Rattle.std.proofs.Common.{◌≡◌, ℕ, zero, suc, ◌<◌, List, [], ◌∷◌, length, get_or, set, length-set, refl, ap, ◌∙◌, arith}
+use Rattle.markdown_base.specs.declared.event.Event.{Event}
+use Rattle.markdown_edits.specs.Links.{with_next, with_previous, updated_at, linked_to}
+
+-- a write of the changed event is the change
+pub set-updated_at : (i : ℕ) (f : Event → Event) (es : List Event) (d : Event) → i < length es → set es i (f (get_or es i d)) ≡ updated_at i f es
+set-updated_at i f [] d l = absurd (omega arith)
+set-updated_at zero f (e ∷ es) d l = refl
+set-updated_at (suc i) f (e ∷ es) d l = ap (λ r. e ∷ r) (set-updated_at i f es d (omega arith))
+
+-- two writes, where the events read are told with any default
+pub set-linked_to : (previous next : ℕ) (es : List Event) (d : Event) (a b : Event) → previous < length es → next < length es
+    → a ≡ with_next next (get_or es previous d) → b ≡ with_previous previous (get_or (set es previous a) next d) → set (set es previous a) next b ≡ linked_to previous next es
+set-linked_to previous next es d a b l m p q =
+    let one : set es previous a ≡ updated_at previous (with_next next) es = ap (set es previous) p ∙ set-updated_at previous (with_next next) es d l in
+    let inside : next < length (set es previous a) = rw (length-set es previous a) m in
+    ap (set (set es previous a) next) q ∙ set-updated_at next (with_previous previous) (set es previous a) d inside ∙ ap (updated_at next (with_previous previous)) one

@@ -1,0 +1,161 @@
+-- The walk over wanted spans goes as far as the longest run.
+use Rattle.std.proofs.Common.{◌≡◌, ℕ, suc, ◌+◌, ◌-◌, ◌≤◌, Bool, true, false, cond, Option, Some, None, List, [], ◌∷◌, ◌++◌, length, take, drop, refl, sym, ◌∙◌, ap, subst, arith, append_assoc, append-nil, length-append, length-drop, take-append-drop, eqb, ◌&&◌}
+use Rattle.std.proofs.lemmas.Bool.{ne_eqb}
+use Rattle.std.proofs.lemmas.List.{length-take-le}
+use Rattle.markdown_base.specs.declared.event.Event.{Event}
+use Rattle.markdown_base.specs.declared.event.Kind.TheVariants.{Enter, Exit}
+use Rattle.markdown_base.specs.declared.event.Name.{Name}
+use Rattle.markdown_base.specs.Events.{IsBalanced, empty, span}
+use Rattle.markdown_edits.specs.SpanWalks.{IsSpan, IsSpanRun, no_span, one_more, is_wanted, IsLongestRunFrom}
+use Rattle.markdown_base.specs.Events.{is_enter}
+use Rattle.markdown_edits.specs.SpanWalksInner.{run_len, is_stop, depth_after}
+use Rattle.markdown_edits.specs.OpenNames.{names_after_all}
+use Rattle.markdown_edits.proofs.Balanced.{Closes, all_closed, closing, closes_from_open, names_after_all-append, names_after_balanced, none_is_not_some}
+
+-- a front of two lists that takes in the first
+take-append-add : {A : Type 0} (xs ys : List A) (n : ℕ) → take (length xs + n) (xs ++ ys) ≡ xs ++ take n ys
+take-append-add [] ys n = let z : 0 + n ≡ n = omega arith in ap (λ k. take k ys) z
+take-append-add (x ∷ xs) ys n =
+    let z : suc (length xs) + n ≡ suc (length xs + n) = omega arith in
+    ap (λ k. take k (x ∷ (xs ++ ys))) z ∙ ap (λ t. x ∷ t) (take-append-add xs ys n)
+
+eqb_suc : (d : ℕ) → eqb (suc d) 0 ≡ false
+eqb_suc d = let ne : suc d ≡ 0 → ⊥ = omega arith in ne_eqb (suc d) 0 ne
+
+module _ (names : List Name) where
+  -- a span in front of a run
+  pub span_and_run : (e f : Event) (xs ys : List Event) {l : List Event} → l ≡ e ∷ (xs ++ f ∷ ys) → e.kind ≡ Enter → is_wanted names e.name ≡ true → f.kind ≡ Exit → f.name ≡ e.name → IsBalanced xs → IsSpanRun names ys → IsSpanRun names l
+  span_and_run e f xs ys is en w ex eq b r =
+      one_more (e ∷ (xs ++ f ∷ [])) ys (is ∙ sym (ap (λ t. e ∷ t) (append_assoc xs (f ∷ []) ys)))
+      (record { enter = e; inside = xs; exit = f; whole = refl; enters = en; wanted = w; balanced = b; exits = ex; same = eq }) r
+
+  -- its parts
+  pub span_parts : (first rest : List Event) {l : List Event} → l ≡ first ++ rest → (s : IsSpan names first) → l ≡ s.enter ∷ (s.inside ++ s.exit ∷ rest)
+  span_parts first rest is s = is ∙ ap (λ t. t ++ rest) s.whole ∙ ap (λ t. s.enter ∷ t) (append_assoc s.inside (s.exit ∷ []) rest)
+
+  -- one event on, inside a span
+  enter_inside : (e : Event) (es : List Event) (d : ℕ) → e.kind ≡ Enter → run_len names (suc d) (e ∷ es) ≡ suc (run_len names (suc (suc d)) es)
+  enter_inside e es d k =
+      let a : suc d + 1 ≡ suc (suc d) = omega arith in
+      let b : 1 + run_len names (suc (suc d)) es ≡ suc (run_len names (suc (suc d)) es) = omega arith in
+      rw (eqb_suc d, k, a) b
+
+  exit_inside : (e : Event) (es : List Event) (d : ℕ) → e.kind ≡ Exit → run_len names (suc d) (e ∷ es) ≡ suc (run_len names d es)
+  exit_inside e es d k =
+      let a : suc d - 1 ≡ d = omega arith in
+      let b : 1 + run_len names d es ≡ suc (run_len names d es) = omega arith in
+      rw (eqb_suc d, k, a) b
+
+  enter_wanted : (e : Event) (es : List Event) → e.kind ≡ Enter → is_wanted names e.name ≡ true → run_len names 0 (e ∷ es) ≡ suc (run_len names 1 es)
+  enter_wanted e es k w =
+      let a : 0 + 1 ≡ 1 = omega arith in
+      let b : 1 + run_len names 1 es ≡ suc (run_len names 1 es) = omega arith in
+      rw (k, w) b
+
+  enter_other : (e : Event) (es : List Event) → is_wanted names e.name ≡ false → run_len names 0 (e ∷ es) ≡ 0
+  enter_other e es w = rw (w, and_false (is_enter e.kind)) refl
+    where
+      and_false : (b : Bool) → (b && false) ≡ false
+      and_false true = refl
+      and_false false = refl
+
+  exit_stops : (e : Event) (es : List Event) → e.kind ≡ Exit → run_len names 0 (e ∷ es) ≡ 0
+  exit_stops e es k = rw k refl
+
+  -- a walk inside a span goes over a balanced list
+  pub run_len-balanced : {xs : List Event} → IsBalanced xs → (ys : List Event) (d : ℕ) → run_len names (suc d) (xs ++ ys) ≡ length xs + run_len names (suc d) ys
+  run_len-balanced empty ys d = omega arith
+  run_len-balanced (span e f us vs {l} is en ex same b c) ys d =
+      let n : length l ≡ suc (length us + suc (length vs)) = ap length is ∙ ap suc (length-append us (f ∷ vs)) in
+      ap (λ (l : List Event). run_len names (suc d) (l ++ ys)) is
+      ∙ enter_inside e ((us ++ f ∷ vs) ++ ys) d en
+      ∙ ap (λ (l : List Event). suc (run_len names (suc (suc d)) l)) (append_assoc us (f ∷ vs) ys)
+      ∙ ap suc (run_len-balanced b (f ∷ (vs ++ ys)) (suc d))
+      ∙ ap (λ k. suc (length us + k)) (exit_inside f (vs ++ ys) (suc d) ex)
+      ∙ ap (λ k. suc (length us + suc k)) (run_len-balanced c ys d)
+      ∙ omega arith
+
+  -- a whole span
+  run_len-span : (e f : Event) (us vs : List Event) → e.kind ≡ Enter → is_wanted names e.name ≡ true → f.kind ≡ Exit → IsBalanced us → run_len names 0 (e ∷ (us ++ f ∷ vs)) ≡ suc (length us + suc (run_len names 0 vs))
+  run_len-span e f us vs en w ex b =
+      enter_wanted e (us ++ f ∷ vs) en w ∙ ap suc (run_len-balanced b (f ∷ vs) 0) ∙ ap (λ k. suc (length us + k)) (exit_inside f vs 0 ex)
+
+  -- a walk goes over a run
+  pub run_len-run : {r : List Event} → IsSpanRun names r → (ys : List Event) → run_len names 0 (r ++ ys) ≡ length r + run_len names 0 ys
+  run_len-run no_span ys = omega arith
+  run_len-run (one_more first vs {l} is s c) ys =
+      let parts : l ≡ s.enter ∷ (s.inside ++ s.exit ∷ vs) = span_parts first vs is s in
+      let n : length l ≡ suc (length s.inside + suc (length vs)) = ap length parts ∙ ap suc (length-append s.inside (s.exit ∷ vs)) in
+      ap (λ (l : List Event). run_len names 0 (l ++ ys)) parts
+      ∙ ap (λ (l : List Event). run_len names 0 (s.enter ∷ l)) (append_assoc s.inside (s.exit ∷ vs) ys)
+      ∙ run_len-span s.enter s.exit s.inside (vs ++ ys) s.enters s.wanted s.exits s.balanced
+      ∙ ap (λ k. suc (length s.inside + suc k)) (run_len-run c ys)
+      ∙ omega arith
+
+  -- a walk over a balanced list, behind which it stops, goes over a run
+  pub IsSpanRun-run_len : {b : List Event} (ys : List Event) → IsBalanced b → run_len names 0 ys ≡ 0 → IsSpanRun names (take (run_len names 0 (b ++ ys)) (b ++ ys))
+  IsSpanRun-run_len ys empty z = rw z no_span
+  IsSpanRun-run_len ys (span e f us vs {l} is en ex same b c) z =
+      subst (λ (l : List Event). IsSpanRun names (take (run_len names 0 (l ++ ys)) (l ++ ys))) (sym is)
+      (subst (λ (t : List Event). IsSpanRun names (take (run_len names 0 (e ∷ t)) (e ∷ t))) (sym (append_assoc us (f ∷ vs) ys))
+      (wanted_or_not (is_wanted names e.name) refl (IsSpanRun-run_len ys c z)))
+    where
+      wanted_or_not : (w : Bool) → is_wanted names e.name ≡ w → IsSpanRun names (take (run_len names 0 (vs ++ ys)) (vs ++ ys)) → IsSpanRun names (take (run_len names 0 (e ∷ (us ++ f ∷ (vs ++ ys)))) (e ∷ (us ++ f ∷ (vs ++ ys))))
+      wanted_or_not false w r = rw (enter_other e (us ++ f ∷ (vs ++ ys)) w) no_span
+      wanted_or_not true w r =
+          let front : take (length us + suc (run_len names 0 (vs ++ ys))) (us ++ f ∷ (vs ++ ys)) ≡ us ++ f ∷ take (run_len names 0 (vs ++ ys)) (vs ++ ys) = take-append-add us (f ∷ (vs ++ ys)) (suc (run_len names 0 (vs ++ ys))) in
+          rw (run_len-span e f us (vs ++ ys) en w ex b)
+          (span_and_run e f us (take (run_len names 0 (vs ++ ys)) (vs ++ ys)) (ap (λ (t : List Event). e ∷ t) front) en w ex same b r)
+
+  -- what is left of a balanced list
+  IsSpanRun-closes : {st : List Name} {l : List Event} → Closes st l → IsSpanRun names (take (run_len names 0 l) l)
+  IsSpanRun-closes {l = l} (all_closed b) = subst (λ (t : List Event). IsSpanRun names (take (run_len names 0 t) t)) (append-nil l) (IsSpanRun-run_len [] b refl)
+  IsSpanRun-closes (closing f xs ys is ex same b c) = subst (λ (t : List Event). IsSpanRun names (take (run_len names 0 t) t)) (sym is) (IsSpanRun-run_len (f ∷ ys) b (exit_stops f ys ex))
+
+  -- what stands behind a front of a balanced list: a walk over it goes over a run
+  pub suffix_closes : (front rest : List Event) → IsBalanced (front ++ rest) → (o : Option (List Name)) → names_after_all (Some []) front ≡ o → IsSpanRun names (take (run_len names 0 rest) rest)
+  suffix_closes front rest b None e =
+      let no : None ≡ Some [] = ap (λ o. names_after_all o rest) (sym e) ∙ sym (names_after_all-append (Some []) front rest) ∙ names_after_balanced b [] in
+      none_is_not_some [] (IsSpanRun names (take (run_len names 0 rest) rest)) no
+  suffix_closes front rest b (Some st) e =
+      IsSpanRun-closes (closes_from_open rest st (ap (λ o. names_after_all o rest) (sym e) ∙ sym (names_after_all-append (Some []) front rest) ∙ names_after_balanced b []))
+
+  -- a walk stays inside its list
+  pub run_len-le : (d : ℕ) (l : List Event) → run_len names d l ≤ length l
+  run_len-le d [] = omega arith
+  run_len-le d (e ∷ es) = step (is_stop names e d) (run_len-le (depth_after e.kind d) es)
+    where
+      step : (b : Bool) {n : ℕ} → n ≤ length es → cond b 0 (1 + n) ≤ suc (length es)
+      step true h = omega arith
+      step false h = omega arith
+
+  -- the walk from an index of a balanced list
+  pub IsLongestRunFrom-walk : (events : List Event) (i j : ℕ) → IsBalanced events → i ≤ length events → j ≡ i + run_len names 0 (drop i events) → IsLongestRunFrom names events i j
+  IsLongestRunFrom-walk events i j b l e =
+      let whole : IsBalanced (take i events ++ drop i events) = subst IsBalanced (sym (take-append-drop i events)) b in
+      let n : j - i ≡ run_len names 0 (drop i events) = omega arith in
+      record {
+        run = rw n (suffix_closes (take i events) (drop i events) whole (names_after_all (Some []) (take i events)) refl);
+        order = omega arith;
+        within = omega (arith, run_len-le 0 (drop i events), length-drop i events);
+        longest = λ m k r. longest m k r;
+      }
+    where
+      longest : (m : ℕ) → m ≤ length events → IsSpanRun names (take (m - i) (drop i events)) → m ≤ j
+      longest m k r =
+          let len : length (take (m - i) (drop i events)) ≡ m - i = length-take-le (m - i) (drop i events) (omega (arith, length-drop i events)) in
+          let over = run_len-run r (drop (m - i) (drop i events)) in
+          let all : run_len names 0 (drop i events) ≡ length (take (m - i) (drop i events)) + run_len names 0 (drop (m - i) (drop i events)) =
+          ap (run_len names 0) (sym (take-append-drop (m - i) (drop i events))) ∙ over in
+          omega (arith, all, len)
+
+  -- past the end of a list the longest run is empty
+  pub IsLongestRunFrom-past : (events : List Event) (i : ℕ) → length events ≤ i → IsLongestRunFrom names events i i
+  IsLongestRunFrom-past events i l =
+      let z : i - i ≡ 0 = omega arith in
+      record {
+        run = rw z no_span;
+        order = omega arith;
+        within = omega arith;
+        longest = λ m k r. omega arith;
+      }

@@ -1,0 +1,10 @@
+use Rattle.std.proofs.Common.{◌≡◌, ◌++◌, ◌≤◌, length, take}
+use Rattle.markdown_edits.specs.Stored.{edits_of}
+use Rattle.markdown_edits.proofs.edit_map.push_copies.Given as goal
+
+abbrev pub invariant-loop-index : goal.invariant-loop-index
+invariant-loop-index l = record {
+  built : edits_of l.edits.entries ++ edits_of l.index-iterator ≡ edits_of l.fn.edits.entries ++ edits_of l.more.entries;
+  front : take l.len (edits_of l.edits.entries) ≡ edits_of l.fn.edits.entries;
+  room : l.len ≤ length l.edits.entries;
+}

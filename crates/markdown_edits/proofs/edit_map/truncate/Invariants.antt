@@ -1,0 +1,11 @@
+use Rattle.std.proofs.Common.{◌≡◌, ◌≤◌, length, take}
+use Rattle.markdown_edits.proofs.edit_map.truncate.Given as goal
+
+abbrev pub invariant-loop-edits : goal.invariant-loop-edits
+invariant-loop-edits l = record {
+  front : take l.len l.edits.entries ≡ take l.len l.fn.edits.entries;
+  room : l.len ≤ length l.edits.entries;
+}
+
+abbrev pub decreases-loop-edits : goal.decreases-loop-edits
+decreases-loop-edits l = length l.edits.entries

@@ -1,0 +1,71 @@
+use Rattle.std.proofs.Common.{◌≡◌, ℕ, ◌+◌, ◌-◌, ◌<◌, ◌≤◌, ◌^◌, true, false, leb, ltb, List, length, get_or, None, Some, refl, sym, ap, ◌∙◌, arith, rules}
+use Rattle.std.specs.List.Sorted.{IsPartitionPoint}
+use Rattle.std.proofs.lemmas.Bool.{leb-true, leb-false, lt-ltb, le-ltb}
+use Rattle.std.proofs.lemmas.List.{get_or_default}
+use Rattle.std.proofs.lemmas.List.Sorted.{IsPartitionPoint-from_clause, IsPartitionedBy-leb}
+use Rattle.markdown_edits.specs.Shifts.{place_by, AreShifts}
+use Rattle.markdown_edits.specs.declared.shift.Shift.{Shift}
+use Rattle.markdown_edits.proofs.EditShifts.{IsNonDecreasingBy-shifts, place_at, place_by-front, place_by-row, row_fits}
+use Rattle.markdown_edits.proofs.shift.place_after.Goals as goal
+
+-- the rows that begin at or before an index stand in front of the others
+abbrev IsParted : List Shift → ℕ → ℕ → Type 0
+IsParted ss n i = IsPartitionPoint (λ (s : Shift). leb s.index n ≡ true) (λ (s : Shift). leb s.index n ≡ false) ss i
+
+front : (ss : List Shift) (n i : ℕ) → i ≡ 0 → IsParted ss n i → Some n ≡ place_by ss 0 0 n
+front ss n i z p =
+    let same : n - 0 + 0 ≡ n = omega arith in
+    sym (place_by-front ss 0 0 n (λ d l. leb-false (get_or ss 0 d).index n (p.1 0 d (omega arith) l)) ∙ ap Some same)
+
+-- the last of them says where the index comes to stand
+behind : (ss : List Shift) (n i : ℕ) (d : Shift) → (i ≡ 0 → ⊥) → i ≤ length ss → AreShifts n 0 ss → IsParted ss n i → place_by ss 0 0 n ≡ place_at (get_or ss (i - 1) d) n
+behind ss n i d some l h p =
+    let s : Shift = get_or ss (i - 1) d in
+    let inside : i - 1 < length ss = omega arith in
+    let begins : s.index ≤ n = leb-true s.index n (p.0 (i - 1) d (omega arith) (omega arith)) in
+    place_by-row ss (i - 1) 0 0 n 0 s h inside (get_or_default ss (i - 1) d s inside) begins
+    (λ e m. leb-false (get_or ss (i - 1 + 1) e).index n (p.1 (i - 1 + 1) e (omega arith) m))
+
+removed : (s : Shift) (n : ℕ) → n < s.end → None ≡ place_at s n
+removed s n l = let e : ltb n s.end ≡ true = lt-ltb n s.end l in rw e refl
+
+stays : (s : Shift) (n : ℕ) → s.end ≤ n → Some (n - s.removed + s.added) ≡ place_at s n
+stays s n l = let e : ltb n s.end ≡ false = le-ltb n s.end l in rw e refl
+
+pub returns-then-begun-eq0 : goal.returns-then-begun-eq0
+returns-then-begun-eq0 c =
+    let ss = c.args.shifts.now in
+    let p = IsPartitionPoint-from_clause (λ (s : Shift). leb s.index c.args.index) ss c.partition_point-begun.result c.partition_point-begun.ensures.partitioned (IsPartitionedBy-leb (λ s. s.index) ss c.args.index (IsNonDecreasingBy-shifts ss c.args.index 0 c.requires)) (λ a r q k. search rules) in
+    front ss c.args.index c.partition_point-begun.result c.if-begun-eq0.true p
+
+-- its sums fit
+fits : (ss : List Shift) (n i : ℕ) (d : Shift) → (i ≡ 0 → ⊥) → i ≤ length ss → AreShifts n 0 ss → ((get_or ss (i - 1) d).removed ≤ (get_or ss (i - 1) d).end) × (n + (get_or ss (i - 1) d).added < 2 ^ 64)
+fits ss n i d some l h =
+    let inside : i - 1 < length ss = omega arith in
+    row_fits ss (i - 1) n 0 (get_or ss (i - 1) d) h inside (get_or_default ss (i - 1) d (get_or ss (i - 1) d) inside)
+
+pub overflow_sub-result : goal.overflow_sub-result
+overflow_sub-result c =
+    let d : Shift = record { index = 0; end = 0; removed = 0; added = 0 } in
+    let f = fits c.args.shifts.now c.args.index c.partition_point-begun.result d c.if-begun-eq0.false c.partition_point-begun.ensures.bound c.requires in
+    omega (arith, f.0, c.if-index-last.false)
+
+pub overflow_add-result : goal.overflow_add-result
+overflow_add-result c =
+    let d : Shift = record { index = 0; end = 0; removed = 0; added = 0 } in
+    let f = fits c.args.shifts.now c.args.index c.partition_point-begun.result d c.if-begun-eq0.false c.partition_point-begun.ensures.bound c.requires in
+    omega (arith, f.1)
+
+pub returns-then-index-last : goal.returns-then-index-last
+returns-then-index-last c =
+    let ss = c.args.shifts.now in
+    let p = IsPartitionPoint-from_clause (λ (s : Shift). leb s.index c.args.index) ss c.partition_point-begun.result c.partition_point-begun.ensures.partitioned (IsPartitionedBy-leb (λ s. s.index) ss c.args.index (IsNonDecreasingBy-shifts ss c.args.index 0 c.requires)) (λ a r q k. search rules) in
+    let d : Shift = record { index = 0; end = 0; removed = 0; added = 0 } in
+    removed (get_or ss (c.partition_point-begun.result - 1) d) c.args.index c.if-index-last.true ∙ sym (behind ss c.args.index c.partition_point-begun.result d c.if-begun-eq0.false c.partition_point-begun.ensures.bound c.requires p)
+
+pub returns-else-index-last : goal.returns-else-index-last
+returns-else-index-last c =
+    let ss = c.args.shifts.now in
+    let p = IsPartitionPoint-from_clause (λ (s : Shift). leb s.index c.args.index) ss c.partition_point-begun.result c.partition_point-begun.ensures.partitioned (IsPartitionedBy-leb (λ s. s.index) ss c.args.index (IsNonDecreasingBy-shifts ss c.args.index 0 c.requires)) (λ a r q k. search rules) in
+    let d : Shift = record { index = 0; end = 0; removed = 0; added = 0 } in
+    stays (get_or ss (c.partition_point-begun.result - 1) d) c.args.index c.if-index-last.false ∙ sym (behind ss c.args.index c.partition_point-begun.result d c.if-begun-eq0.false c.partition_point-begun.ensures.bound c.requires p)

@@ -1,0 +1,22 @@
+use Rattle.std.proofs.Common.{◌≡◌, ◌+◌, ◌<◌, length, take, get_or, refl, sym, ap, ◌∙◌, arith}
+use Rattle.std.proofs.lemmas.List.{get_or_default, get_or-take, length-take-le}
+use Rattle.markdown_base.specs.declared.event.Event.{Event}
+use Rattle.markdown_edits.specs.SpanWalks.{is_wanted}
+use Rattle.markdown_edits.proofs.skip.to_back.Goals as goal
+
+pub loop-last-init : goal.loop-last-init
+loop-last-init c =
+    let index = c.args.index in let events = c.args.events.now in
+    record {
+      order = omega arith;
+      past = λ _. refl;
+      ahead = λ l.
+          let a = c.requires l in
+          let whole : length (take (index + 1) events) ≡ index + 1 = length-take-le (index + 1) events (omega (arith, l)) in
+          let inside : a.0 < index + 1 = omega (arith, a.2, whole) in (
+            a.0,
+            omega (arith, inside),
+            λ d. ap (λ (e : Event). is_wanted c.args.names.now e.name) (get_or_default events a.0 d a.1 (omega (arith, inside, l)) ∙ sym (get_or-take (index + 1) events a.0 a.1 inside) ∙ a.3) ∙ a.4,
+          );
+      passed = λ k d a b. absurd (omega (arith, a, b));
+    }

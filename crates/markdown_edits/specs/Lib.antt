@@ -1,0 +1,11 @@
+pub mod Edited
+pub mod Edits
+pub mod Links
+pub mod OpenNames
+pub mod Shifts
+pub mod SpanWalks
+pub mod SpanWalksInner
+pub mod Spliced
+pub mod Stored
+pub mod Survivors
+pub mod Woven

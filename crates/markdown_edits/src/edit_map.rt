@@ -1,0 +1,186 @@
+//! Edits of a list of events, gathered first and then all made at once.
+//!
+//! An edit made by itself would move what stands behind it, and links would have to follow each time. So a map holds
+//! edits at indices into the events as they are, and every event and link end is moved once.
+
+ghost use Rattle.std.specs.List.{AllByRecursion};
+ghost use Rattle.std.specs.Prelude.{◌≡◌, ◌++◌, ◌+◌, ◌<◌, ◌≤◌, ◌^◌, [], ◌∷◌, length, take, OnOk, OnErr, IsOk, All, IsTrue};
+ghost use Rattle.markdown_base.specs.Events.{EndsBelow};
+ghost use Rattle.markdown_edits.specs.Edits.{Edit, edit_at, is_no_edit, added_after, added_before, removal_at, AreDisjoint, AreBehind};
+ghost use Rattle.markdown_edits.specs.Edited.{edited};
+ghost use Rattle.markdown_edits.specs.Stored.{as_edit, edits_of};
+
+pub mod laws;
+
+use crate::replacement::Replacement;
+use crate::splice::spliced_events;
+use markdown_base::event::Event;
+use std::alloc::{AllocError, Global};
+use std::collections::BTreeMap;
+use std::marker::Model;
+
+/// Edits of a list of events, to be made at once: at an index, how many events go, and which come in their place.
+#[derive(Drop)]
+pub struct EditMap {
+    edits: BTreeMap<usize, Replacement>,
+}
+
+impl Model for EditMap {
+    ghost use Rattle.std.specs.Prelude.{List};
+    ghost use Rattle.markdown_edits.specs.Edits.{Edit};
+
+    ghost Value = { List Edit };
+
+    ghost use Rattle.markdown_edits.specs.Stored.{edits_of};
+
+    ghost view = { λ m. edits_of m.edits.entries };
+}
+
+impl EditMap {
+    /// No edits. Takes no memory.
+    pub fn new(alloc: Global) -> Self
+        ensures { result ≡ [] }
+    {
+        EditMap {
+            edits: BTreeMap::new(alloc),
+        }
+    }
+
+    /// Adds an edit: at `index` (into the events as they are) `remove` events go, and `additions` come in their place.
+    ///
+    /// Where the index has an edit the two become one: their removals add up, and these additions come behind those
+    /// that are there. No removal with no addition is no edit, and takes no memory. Where memory is refused the map
+    /// stays as it was, and the additions are dropped.
+    pub fn add(
+        &mut self,
+        index: usize,
+        remove: usize,
+        additions: Vec<Event>,
+    ) -> Result<(), AllocError>
+        requires sum_fits { 0 < remove → removal_at self.old index + remove < 2 ^ 64 }
+        ensures ok { OnOk result (self.new ≡ added_after self.old (edit_at index remove additions.items)) }
+        ensures err { OnErr result (self.new ≡ self.old) }
+        ensures no_edit { IsTrue (is_no_edit (edit_at index remove additions.items)) → IsOk result }
+    {
+        if remove == 0 && additions.is_empty() {
+            return Ok(());
+        }
+        match self.edits.get_mut(&index) {
+            Some(there) => there.append(remove, &additions)?,
+            None => {
+                self.edits.insert(index, Replacement { remove, additions })?;
+            }
+        }
+        Ok(())
+    }
+
+    /// Adds an edit as [`EditMap::add`] does, but with these additions in front of those that are there.
+    pub fn add_before(
+        &mut self,
+        index: usize,
+        remove: usize,
+        additions: Vec<Event>,
+    ) -> Result<(), AllocError>
+        requires sum_fits { 0 < remove → removal_at self.old index + remove < 2 ^ 64 }
+        ensures ok { OnOk result (self.new ≡ added_before self.old (edit_at index remove additions.items)) }
+        ensures err { OnErr result (self.new ≡ self.old) }
+        ensures no_edit { IsTrue (is_no_edit (edit_at index remove additions.items)) → IsOk result }
+    {
+        if remove == 0 && additions.is_empty() {
+            return Ok(());
+        }
+        match self.edits.get_mut(&index) {
+            Some(there) => there.prepend(remove, additions)?,
+            None => {
+                self.edits.insert(index, Replacement { remove, additions })?;
+            }
+        }
+        Ok(())
+    }
+
+    /// Moves the edits of another map, which stand behind all that are there, into this one: all of them, or none where
+    /// memory is refused. The other map is left empty, or as it was.
+    pub fn append(&mut self, more: &mut EditMap) -> Result<(), AllocError>
+        requires { AreBehind self.old more.old }
+        ensures ok { OnOk result ((self.new ≡ self.old ++ more.old) × (more.new ≡ [])) }
+        ensures err { OnErr result ((self.new ≡ self.old) × (more.new ≡ more.old)) }
+    {
+        push_copies(&mut self.edits, &more.edits)?;
+        more.edits.clear();
+        Ok(())
+    }
+
+    /// Makes all edits at once, and leaves the map empty.
+    ///
+    /// At each place come the additions, and then the event there, unless it is removed. A link between events that
+    /// stay joins the same two, by both ends; an end whose event was removed becomes `None`; link ends inside
+    /// additions stand for places in the new list. Each edit ends at or before the index of the next, and inside the
+    /// list. An empty map takes no memory. Where memory is refused map and events stay as they were.
+    pub fn consume(&mut self, events: &mut Vec<Event>) -> Result<(), AllocError>
+        requires disjoint { AreDisjoint 0 self.old (length events.old.items) }
+        requires links { All (EndsBelow (length events.old.items)) events.old.items }
+        ensures ok { OnOk result (events.new.items ≡ edited self.old events.old.items) }
+        ensures emptied { OnOk result (self.new ≡ []) }
+        ensures err { OnErr result ((events.new.items ≡ events.old.items) × (self.new ≡ self.old)) }
+        ensures empty { self.old ≡ [] → IsOk result }
+    {
+        if self.edits.is_empty() {
+            return Ok(());
+        }
+        let alloc = *events.allocator();
+        *events = spliced_events(alloc, &self.edits, events.as_slice())?;
+        self.edits.clear();
+        Ok(())
+    }
+}
+
+/// Puts a copy of an edit behind all that are there.
+fn push_copy(
+    edits: &mut BTreeMap<usize, Replacement>,
+    index: usize,
+    edit: &Replacement,
+) -> Result<(), AllocError>
+    requires { AllByRecursion (λ (e : Edit). e.index < index) (edits_of edits.old.entries) }
+    ensures ok { OnOk result (edits_of edits.new.entries ≡ edits_of edits.old.entries ++ as_edit (index, edit.now) ∷ []) }
+    ensures err { OnErr result (edits.new.entries ≡ edits.old.entries) }
+{
+    let alloc = *edit.additions.allocator();
+    let additions = Vec::from_slice(alloc, &edit.additions)?;
+    edits.insert(
+        index,
+        Replacement {
+            remove: edit.remove,
+            additions,
+        },
+    )?;
+    Ok(())
+}
+
+/// Puts copies of edits behind all that are there: of each of them, or none where memory is refused.
+fn push_copies(
+    edits: &mut BTreeMap<usize, Replacement>,
+    more: &BTreeMap<usize, Replacement>,
+) -> Result<(), AllocError>
+    requires { AreBehind (edits_of edits.old.entries) (edits_of more.now.entries) }
+    ensures ok { OnOk result (edits_of edits.new.entries ≡ edits_of edits.old.entries ++ edits_of more.now.entries) }
+    ensures err { OnErr result (edits_of edits.new.entries ≡ edits_of edits.old.entries) }
+{
+    let len = edits.len();
+    for (index, edit) in more {
+        if push_copy(edits, *index, edit).is_err() {
+            truncate(edits, len);
+            return Err(AllocError);
+        }
+    }
+    Ok(())
+}
+
+/// Takes out all edits but the first `len`.
+fn truncate(edits: &mut BTreeMap<usize, Replacement>, len: usize)
+    requires { len ≤ length edits.old.entries }
+    ensures { edits.new.entries ≡ take len edits.old.entries }
+{
+    while edits.len() > len {
+        let _ = edits.pop_last();
+    }
+}

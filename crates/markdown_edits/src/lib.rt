@@ -1,0 +1,9 @@
+//! Lists of events, by what is done to them: edits that are all made at once, links, and walks across spans.
+#![tactic(auto)]
+
+pub mod edit_map;
+pub mod links;
+mod replacement;
+mod shift;
+pub mod skip;
+mod splice;

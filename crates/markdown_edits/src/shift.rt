@@ -1,0 +1,69 @@
+//! How far edits move what stands behind them.
+
+ghost use Rattle.std.specs.Prelude.{◌≡◌, IfOk};
+ghost use Rattle.markdown_edits.specs.Edits.{AreDisjoint};
+ghost use Rattle.markdown_edits.specs.Shifts.{shifts, place_by, AreShifts};
+ghost use Rattle.markdown_edits.specs.Stored.{edits_of};
+
+use crate::replacement::Replacement;
+use std::alloc::{AllocError, Global};
+use std::collections::BTreeMap;
+
+/// What an edit and all in front of it do to an event behind them.
+#[derive(Clone, Copy)]
+pub(crate) struct Shift {
+    /// Where the edit stands, an index into the events.
+    pub(crate) index: usize,
+    /// Where what it removes ends, an index into the events.
+    pub(crate) end: usize,
+    /// How many events they remove.
+    pub(crate) removed: usize,
+    /// How many events they add.
+    pub(crate) added: usize,
+}
+
+/// The shifts by the edits of `len` events, in order. An error where memory is refused, or all lengths together do not fit.
+pub(crate) fn shifts_of(
+    alloc: Global,
+    edits: &BTreeMap<usize, Replacement>,
+    len: usize,
+) -> Result<Vec<Shift>, AllocError>
+    requires { AreDisjoint 0 (edits_of edits.now.entries) len }
+    ensures sums { IfOk result (λ v. v.items ≡ shifts 0 0 (edits_of edits.now.entries)) }
+    ensures fits { IfOk result (λ v. AreShifts len 0 v.items) }
+{
+    let mut shifts = Vec::with_capacity(alloc, edits.len())?;
+    let mut removed = 0;
+    let mut total = len;
+    for (at, edit) in edits {
+        let Some(more) = total.checked_add(edit.additions.len()) else {
+            return Err(AllocError);
+        };
+        total = more;
+        removed += edit.remove;
+        shifts.push(Shift {
+            index: *at,
+            end: *at + edit.remove,
+            removed,
+            added: total - len,
+        })?;
+    }
+    Ok(shifts)
+}
+
+/// Where the event at an index comes to stand, unless an edit removes it: the last edit that begins at or before it says so.
+pub(crate) fn place_after(shifts: &[Shift], index: usize) -> Option<usize>
+    requires { AreShifts index 0 shifts.now }
+    ensures { result ≡ place_by shifts.now 0 0 index }
+{
+    let begun = shifts.partition_point(|shift| shift.index <= index);
+    if begun == 0 {
+        return Some(index);
+    }
+    let last = shifts[begun - 1];
+    if index < last.end {
+        None
+    } else {
+        Some(index - last.removed + last.added)
+    }
+}

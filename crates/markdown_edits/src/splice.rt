@@ -1,0 +1,99 @@
+//! The list of events that edits give.
+
+ghost use Rattle.std.specs.Prelude.{◌≡◌, ◌-◌, ◌≤◌, ◌++◌, length, take, drop, OnOk, IfOk, IfSome, All, option_and_then};
+ghost use Rattle.markdown_base.specs.Events.{EndsBelow, EachEnd, relinked};
+ghost use Rattle.markdown_edits.specs.Edits.{AreDisjoint};
+ghost use Rattle.markdown_edits.specs.Shifts.{shifts, place_by, AreShifts, EndsFit};
+ghost use Rattle.markdown_edits.specs.Spliced.{moved, spliced};
+ghost use Rattle.markdown_edits.specs.Stored.{edits_of};
+
+use crate::replacement::Replacement;
+use crate::shift::{Shift, place_after, shifts_of};
+use markdown_base::event::{Event, Link};
+use std::alloc::{AllocError, Global};
+use std::collections::BTreeMap;
+
+fn moved_end(shifts: &[Shift], end: Option<usize>) -> Option<usize>
+    requires { IfSome end (λ n. AreShifts n 0 shifts.now) }
+    ensures { result ≡ option_and_then (place_by shifts.now 0 0) end }
+{
+    match end {
+        None => None,
+        Some(index) => place_after(shifts, index),
+    }
+}
+
+fn moved_event(shifts: &[Shift], event: Event) -> Event
+    requires { EndsFit shifts.now event }
+    ensures { result ≡ relinked (place_by shifts.now 0 0) event }
+{
+    match event.link {
+        None => event,
+        Some(link) => Event {
+            link: Some(Link {
+                previous: moved_end(shifts, link.previous),
+                next: moved_end(shifts, link.next),
+                ..link
+            }),
+            ..event
+        },
+    }
+}
+
+/// Appends the events from one index to another, with their link ends moved.
+fn push_moved(
+    out: &mut Vec<Event>,
+    shifts: &[Shift],
+    events: &[Event],
+    from: usize,
+    to: usize,
+) -> Result<(), AllocError>
+    requires ends { All (EndsFit shifts.now) events.now }
+    requires order { from ≤ to }
+    requires within { to ≤ length events.now }
+    ensures { OnOk result (out.new.items ≡ out.old.items ++ moved (place_by shifts.now 0 0) (take (to - from) (drop from events.now))) }
+{
+    for event in &events[from..to] {
+        out.push(moved_event(shifts, *event))?;
+    }
+    Ok(())
+}
+
+/// Appends the events after the edits: what stays between them, and what they add.
+fn push_spliced(
+    out: &mut Vec<Event>,
+    shifts: &[Shift],
+    edits: &BTreeMap<usize, Replacement>,
+    events: &[Event],
+) -> Result<(), AllocError>
+    requires ends { All (EndsFit shifts.now) events.now }
+    requires disjoint { AreDisjoint 0 (edits_of edits.now.entries) (length events.now) }
+    ensures { OnOk result (out.new.items ≡ out.old.items ++ spliced (place_by shifts.now 0 0) (edits_of edits.now.entries) 0 events.now) }
+{
+    let mut from = 0;
+    for (at, edit) in edits {
+        push_moved(out, shifts, events, from, *at)?;
+        out.extend_from_slice(&edit.additions)?;
+        from = *at + edit.remove;
+    }
+    push_moved(out, shifts, events, from, events.len())
+}
+
+/// The events after the edits.
+///
+/// The end of the list comes to stand where the new list ends: so many events there will be.
+pub(crate) fn spliced_events(
+    alloc: Global,
+    edits: &BTreeMap<usize, Replacement>,
+    events: &[Event],
+) -> Result<Vec<Event>, AllocError>
+    requires disjoint { AreDisjoint 0 (edits_of edits.now.entries) (length events.now) }
+    requires links { All (EndsBelow (length events.now)) events.now }
+    ensures { let es = edits_of edits.now.entries in IfOk result (λ v. v.items ≡ spliced (place_by (shifts 0 0 es) 0 0) es 0 events.now) }
+{
+    let shifts = shifts_of(alloc, edits, events.len())?;
+    let total = place_after(&shifts, events.len()).unwrap_or(events.len());
+    let mut out = Vec::with_capacity(alloc, total)?;
+    push_spliced(&mut out, &shifts, edits, events)?;
+    Ok(out)
+}

@@ -1,0 +1,179 @@
+//! The words that the program is called with.
+
+ghost use Rattle.std.specs.Prelude.{◌≡◌, ◌≤◌, IfSome, map, string_bytes, codes, unwrap_or};
+ghost use Rattle.std.specs.Char.{is_ascii_digit};
+ghost use Rattle.std.specs.List.{list_all};
+
+use markdown::configuration::TabSize;
+
+/// The line that answers words which choose nothing.
+pub const USAGE: &str = "usage: mdevents [--cut n] [--deep] [--machine name] [--tab n]";
+
+/// A machine, by the name that the program has for it.
+#[derive(Clone, Copy, Debug, PartialEq, Eq)]
+pub enum Which {
+    /// `lines`: each line is a paragraph of data.
+    Lines,
+    /// `paragraphs`: lines that follow one another are a paragraph, in which each line is a chunk of text, linked to the one before.
+    Paragraphs,
+    /// `peek`: looks at the whole text first, and then reads each line as data.
+    Peek,
+    /// `deep`: tries something at each byte, which fails, and then reads each line as data.
+    Deep,
+    /// `back`: reads the first line as data, looks over the next line, goes back, and reads the rest as one more data.
+    Back,
+    /// `save`: passes the first line, tries something after it, which fails, and reads each line of the rest as data.
+    Save,
+    /// `text`: as `paragraphs`, but in the text of its chunks are code spans, autolinks and escapes.
+    Text,
+}
+
+/// What the words choose.
+#[derive(Clone, Copy, Debug, PartialEq, Eq)]
+pub struct Choice {
+    /// After how many virtual bytes the text is cut each time, if it is; at least 1.
+    pub cut: Option<usize>,
+    /// Whether the chunks of text that the machine links are read too, and their events put in their place. The machines of
+    /// paragraphs and of texts alone link any.
+    pub deep: bool,
+    /// The machine that reads.
+    pub machine: Which,
+    /// At how many columns tab stops stand.
+    pub tab: TabSize,
+}
+
+ghost use Rattle.mdprint.specs.Words.{chosen, taken, links_text, which_of, number_of, tab_of, CanCut};
+ghost use Rattle.mdprint.specs.WordsInner.{chosen_after};
+
+/// What the words after the program's name choose: `--cut` with a number, `--deep`, `--machine` with a name, and `--tab` with a
+/// number from 1 to 16, in any order, each at most once. The machine is that of lines where none is named, and tab stops stand at
+/// every 4 columns where no number is given; `--deep` is taken with those of paragraphs and of texts alone. None asks for [`USAGE`].
+pub fn read_words(words: &[String]) -> Option<Choice>
+    ensures chosen { result ≡ chosen (map string_bytes words.now) }
+    ensures cut { IfSome result CanCut }
+{
+    read_options(words, None, false, None, None)
+}
+
+/// The line that answers words which choose nothing has this text.
+pub fn usage_line_stays()
+    ensures { USAGE.now ≡ codes "usage: mdevents [--cut n] [--deep] [--machine name] [--tab n]" }
+{}
+
+/// The rest of the words, where some options came before.
+fn read_options(
+    words: &[String],
+    cut: Option<usize>,
+    deep: bool,
+    machine: Option<Which>,
+    tab: Option<TabSize>,
+) -> Option<Choice>
+    requires cut { IfSome cut (λ n. 1 ≤ n) }
+    ensures chosen { result ≡ chosen_after cut deep machine tab (map string_bytes words.now) }
+    ensures cut { IfSome result CanCut }
+{
+    let Some((option, rest)) = words.split_first() else {
+        return taken(cut, deep, machine.unwrap_or(Which::Lines), tab);
+    };
+    let option = option.as_str();
+    if option == "--deep" && !deep {
+        return read_options(rest, cut, true, machine, tab);
+    }
+    let (value, rest) = rest.split_first()?;
+    if option == "--cut" && cut.is_none() {
+        let n = read_number(value.as_str())?;
+        return read_options(rest, Some(n), deep, machine, tab);
+    }
+    if option == "--machine" && machine.is_none() {
+        let which = read_which(value.as_str())?;
+        return read_options(rest, cut, deep, Some(which), tab);
+    }
+    if option == "--tab" && tab.is_none() {
+        let size = read_tab(value.as_str())?;
+        return read_options(rest, cut, deep, machine, Some(size));
+    }
+    None
+}
+
+/// The choice of these, if they are taken together.
+fn taken(cut: Option<usize>, deep: bool, machine: Which, tab: Option<TabSize>) -> Option<Choice>
+    requires cut { IfSome cut (λ n. 1 ≤ n) }
+    ensures taken { result ≡ taken cut deep machine (unwrap_or tab 4) }
+    ensures cut { IfSome result CanCut }
+{
+    if deep && !links_text(machine) {
+        return None;
+    }
+    let tab = match tab {
+        Some(size) => size,
+        None => TabSize::default(),
+    };
+    Some(Choice {
+        cut,
+        deep,
+        machine,
+        tab,
+    })
+}
+
+/// Whether a machine links chunks of text.
+fn links_text(machine: Which) -> bool
+    ensures { result ≡ links_text machine }
+{
+    match machine {
+        Which::Paragraphs | Which::Text => true,
+        Which::Lines | Which::Peek | Which::Deep | Which::Back | Which::Save => false,
+    }
+}
+
+/// The machine of a name.
+fn read_which(name: &str) -> Option<Which>
+    ensures { result ≡ which_of name.now }
+{
+    if name == "lines" {
+        Some(Which::Lines)
+    } else if name == "paragraphs" {
+        Some(Which::Paragraphs)
+    } else if name == "peek" {
+        Some(Which::Peek)
+    } else if name == "deep" {
+        Some(Which::Deep)
+    } else if name == "back" {
+        Some(Which::Back)
+    } else if name == "save" {
+        Some(Which::Save)
+    } else if name == "text" {
+        Some(Which::Text)
+    } else {
+        None
+    }
+}
+
+/// The number of a word of decimal digits, if it is at least 1 and fits.
+fn read_number(word: &str) -> Option<usize>
+    ensures number { result ≡ number_of word.now }
+    ensures some { IfSome result (λ n. 1 ≤ n) }
+{
+    if !is_decimal(word) {
+        return None;
+    }
+    match word.parse::<usize>() {
+        Ok(number) => (number > 0).then_some(number),
+        Err(_) => None,
+    }
+}
+
+/// The size of tabs that a word of decimal digits has, if its number is from 1 to 16.
+fn read_tab(word: &str) -> Option<TabSize>
+    ensures { result ≡ tab_of word.now }
+{
+    let number = read_number(word)?;
+    TabSize::new(number)
+}
+
+/// Whether a word has no bytes but decimal digits.
+fn is_decimal(word: &str) -> bool
+    ensures { result ≡ list_all is_ascii_digit word.now }
+{
+    word.bytes().all(|byte| byte.is_ascii_digit())
+}
