@@ -3,7 +3,6 @@ use Rattle.std.proofs.Common.{◌≡◌, ◌++◌, ℕ, List, [], ◌∷◌, Opt
 use Rattle.std.specs.Prelude.{codes, filter_map, unwrap_or}
 use Rattle.std.specs.Option.{option_and_then, option_map}
 use Rattle.std.specs.Str.{bytes_eq}
-use Rattle.std.proofs.lemmas.Slice.Eq.{bytes_eq-Decides}
 use Rattle.mdprint.specs.declared.words.Choice.{Choice}
 use Rattle.mdprint.specs.declared.words.Which.{Which}
 use Rattle.mdprint.specs.declared.words.Which.TheVariants.{Lines}
@@ -32,23 +31,9 @@ abbrev together : Option ℕ → Bool → Option Which → Option ℕ → Option
 together n d which t options =
     option_and_then (λ rest. choose (given n ++ filter_map cut_in rest) (told d ++ filter_map deep_in rest) (given which ++ filter_map machine_in rest) (given t ++ filter_map tab_in rest)) options
 
-cut-is-no-machine : (name : List ℕ) → bytes_eq name (codes "--cut") ≡ true → bytes_eq name (codes "--machine") ≡ false
-cut-is-no-machine name e = rw ((bytes_eq-Decides name (codes "--cut")).0 e) refl
-
-cut-is-no-tab : (name : List ℕ) → bytes_eq name (codes "--cut") ≡ true → bytes_eq name (codes "--tab") ≡ false
-cut-is-no-tab name e = rw ((bytes_eq-Decides name (codes "--cut")).0 e) refl
-
-machine-is-no-tab : (name : List ℕ) → bytes_eq name (codes "--machine") ≡ true → bytes_eq name (codes "--tab") ≡ false
-machine-is-no-tab name e = rw ((bytes_eq-Decides name (codes "--machine")).0 e) refl
-
-deep-is-no-cut : (name : List ℕ) → bytes_eq name (codes "--deep") ≡ true → bytes_eq name (codes "--cut") ≡ false
-deep-is-no-cut name e = rw ((bytes_eq-Decides name (codes "--deep")).0 e) refl
-
-deep-is-no-machine : (name : List ℕ) → bytes_eq name (codes "--deep") ≡ true → bytes_eq name (codes "--machine") ≡ false
-deep-is-no-machine name e = rw ((bytes_eq-Decides name (codes "--deep")).0 e) refl
-
-deep-is-no-tab : (name : List ℕ) → bytes_eq name (codes "--deep") ≡ true → bytes_eq name (codes "--tab") ≡ false
-deep-is-no-tab name e = rw ((bytes_eq-Decides name (codes "--deep")).0 e) refl
+-- what words choose after these
+abbrev after : Option ℕ → Bool → Option Which → Option ℕ → List (List ℕ) → Option Choice
+after n d which t words = chosen_after (record { cut = n; deep = d; machine = which; tab = t }) words
 
 none-of : {A B : Type 0} (o : Option A) → option_and_then {U = B} (λ (x : A). None) o ≡ None
 none-of None = refl
@@ -98,22 +83,22 @@ module _ (n : Option ℕ) (d : Bool) (which : Option Which) (t : Option ℕ) whe
       sym (none-of-three (at_most_one (given n ++ filter_map cut_in rest)) (at_most_one (told d ++ filter_map deep_in rest)) (at_most_one (given which ++ filter_map machine_in rest)))
 
 -- a word that is not `--deep`, and its value
-module _ (words : List (List ℕ)) (known : (n : Option ℕ) (d : Bool) (which : Option Which) (t : Option ℕ) → chosen_after n d which t words ≡ together n d which t (options_of words))
+module _ (words : List (List ℕ)) (known : (n : Option ℕ) (d : Bool) (which : Option Which) (t : Option ℕ) → after n d which t words ≡ together n d which t (options_of words))
     (name value : List ℕ) (not-deep : bytes_eq name (codes "--deep") ≡ false) where
   abbrev Goal : Option ℕ → Bool → Option Which → Option ℕ → Type 0
-  Goal n d which t = chosen_after n d which t (name ∷ value ∷ words) ≡ together n d which t (options_of (name ∷ value ∷ words))
+  Goal n d which t = after n d which t (name ∷ value ∷ words) ≡ together n d which t (options_of (name ∷ value ∷ words))
 
   by-cut : (n : Option ℕ) (d : Bool) (which : Option Which) (t : Option ℕ) → bytes_eq name (codes "--cut") ≡ true → (number : Option ℕ) → number_of value ≡ number → Goal n d which t
   by-cut None d which t e None f = rw (not-deep, e, f) refl
   by-cut None d which t e (Some n) f = rw (not-deep, e, f) (known (Some n) d which t ∙ first-cut None d which t n (options_of words))
-  by-cut (Some m) d which t e None f = let a = cut-is-no-machine name e in let b = cut-is-no-tab name e in rw (not-deep, e, a, b, f) refl
-  by-cut (Some m) d which t e (Some n) f = let a = cut-is-no-machine name e in let b = cut-is-no-tab name e in rw (not-deep, e, a, b, f) (second-cut None d which t m n (options_of words))
+  by-cut (Some m) d which t e None f = rw (not-deep, e, f) refl
+  by-cut (Some m) d which t e (Some n) f = rw (not-deep, e, f) (second-cut None d which t m n (options_of words))
 
   by-machine : (n : Option ℕ) (d : Bool) (which : Option Which) (t : Option ℕ) → bytes_eq name (codes "--cut") ≡ false → bytes_eq name (codes "--machine") ≡ true → (machine : Option Which) → which_of value ≡ machine → Goal n d which t
   by-machine n d None t a e None f = rw (not-deep, a, e, f) refl
   by-machine n d None t a e (Some w) f = rw (not-deep, a, e, f) (known n d (Some w) t ∙ first-machine n d None t w (options_of words))
-  by-machine n d (Some v) t a e None f = let b = machine-is-no-tab name e in rw (not-deep, a, e, b, f) refl
-  by-machine n d (Some v) t a e (Some w) f = let b = machine-is-no-tab name e in rw (not-deep, a, e, b, f) (second-machine n d None t v w (options_of words))
+  by-machine n d (Some v) t a e None f = rw (not-deep, a, e, f) refl
+  by-machine n d (Some v) t a e (Some w) f = rw (not-deep, a, e, f) (second-machine n d None t v w (options_of words))
 
   by-tab : (n : Option ℕ) (d : Bool) (which : Option Which) (t : Option ℕ) → bytes_eq name (codes "--cut") ≡ false → bytes_eq name (codes "--machine") ≡ false → bytes_eq name (codes "--tab") ≡ true
       → (size : Option ℕ) → tab_of value ≡ size → Goal n d which t
@@ -129,44 +114,40 @@ module _ (words : List (List ℕ)) (known : (n : Option ℕ) (d : Bool) (which :
   by-name n d which t false false false e f g = rw (not-deep, e, f, g) refl
 
 -- `--deep`, and more words
-module _ (word : List ℕ) (words : List (List ℕ)) (known : (n : Option ℕ) (d : Bool) (which : Option Which) (t : Option ℕ) → chosen_after n d which t (word ∷ words) ≡ together n d which t (options_of (word ∷ words)))
-    (name : List ℕ) (is-deep : bytes_eq name (codes "--deep") ≡ true) where
-  by-deep : (n : Option ℕ) (d : Bool) (which : Option Which) (t : Option ℕ) → chosen_after n d which t (name ∷ word ∷ words) ≡ together n d which t (options_of (name ∷ word ∷ words))
-  by-deep n false which t = rw is-deep (known n true which t ∙ first-deep n false which t (options_of (word ∷ words)))
-  by-deep n true which t =
-      let a = deep-is-no-cut name is-deep in
-      let b = deep-is-no-machine name is-deep in
-      let s = deep-is-no-tab name is-deep in
-      rw (is-deep, a, b, s) (second-deep n true which t (options_of (word ∷ words)))
+by-deep : (word : List ℕ) (words : List (List ℕ)) → ((n : Option ℕ) (d : Bool) (which : Option Which) (t : Option ℕ) → after n d which t (word ∷ words) ≡ together n d which t (options_of (word ∷ words)))
+    → (name : List ℕ) → bytes_eq name (codes "--deep") ≡ true
+    → (n : Option ℕ) (d : Bool) (which : Option Which) (t : Option ℕ) → after n d which t (name ∷ word ∷ words) ≡ together n d which t (options_of (name ∷ word ∷ words))
+by-deep word words known name is-deep n false which t = rw is-deep (known n true which t ∙ first-deep n false which t (options_of (word ∷ words)))
+by-deep word words known name is-deep n true which t = rw is-deep (second-deep n true which t (options_of (word ∷ words)))
 
 -- without more options
 one-of : {A : Type 0} (o : Option A) → at_most_one (given o ++ []) ≡ Some o
 one-of None = refl
 one-of (Some x) = refl
 
-alone : (n : Option ℕ) (d : Bool) (which : Option Which) (t : Option ℕ) → chosen_after n d which t [] ≡ together n d which t (Some [])
+alone : (n : Option ℕ) (d : Bool) (which : Option Which) (t : Option ℕ) → after n d which t [] ≡ together n d which t (Some [])
 alone n true which t = rw (one-of n, one-of which, one-of t) refl
 alone n false which t = rw (one-of n, one-of which, one-of t) refl
 
 one-word : (n : Option ℕ) (d : Bool) (which : Option Which) (t : Option ℕ) (name : List ℕ) (b : Bool) → bytes_eq name (codes "--deep") ≡ b
-    → chosen_after n d which t (name ∷ []) ≡ together n d which t (options_of (name ∷ []))
+    → after n d which t (name ∷ []) ≡ together n d which t (options_of (name ∷ []))
 one-word n false which t name true e = rw e (alone n true which t ∙ first-deep n false which t (Some []))
 one-word n true which t name true e = rw e (second-deep n true which t (Some []))
 one-word n d which t name false e = rw e refl
 
-first-word : (name value : List ℕ) (words : List (List ℕ)) (known : (n : Option ℕ) (d : Bool) (which : Option Which) (t : Option ℕ) → chosen_after n d which t words ≡ together n d which t (options_of words))
-    → ((n : Option ℕ) (d : Bool) (which : Option Which) (t : Option ℕ) → chosen_after n d which t (value ∷ words) ≡ together n d which t (options_of (value ∷ words)))
-    → (n : Option ℕ) (d : Bool) (which : Option Which) (t : Option ℕ) (b : Bool) → bytes_eq name (codes "--deep") ≡ b → chosen_after n d which t (name ∷ value ∷ words) ≡ together n d which t (options_of (name ∷ value ∷ words))
+first-word : (name value : List ℕ) (words : List (List ℕ)) (known : (n : Option ℕ) (d : Bool) (which : Option Which) (t : Option ℕ) → after n d which t words ≡ together n d which t (options_of words))
+    → ((n : Option ℕ) (d : Bool) (which : Option Which) (t : Option ℕ) → after n d which t (value ∷ words) ≡ together n d which t (options_of (value ∷ words)))
+    → (n : Option ℕ) (d : Bool) (which : Option Which) (t : Option ℕ) (b : Bool) → bytes_eq name (codes "--deep") ≡ b → after n d which t (name ∷ value ∷ words) ≡ together n d which t (options_of (name ∷ value ∷ words))
 first-word name value words known known-behind n d which t true e = by-deep value words known-behind name e n d which t
 first-word name value words known known-behind n d which t false e =
     by-name words known name value e n d which t (bytes_eq name (codes "--cut")) (bytes_eq name (codes "--machine")) (bytes_eq name (codes "--tab")) refl refl refl
 
-chosen_after-together : (n : Option ℕ) (d : Bool) (which : Option Which) (t : Option ℕ) (words : List (List ℕ)) → chosen_after n d which t words ≡ together n d which t (options_of words)
-chosen_after-together n d which t [] = alone n d which t
-chosen_after-together n d which t (name ∷ []) = one-word n d which t name (bytes_eq name (codes "--deep")) refl
-chosen_after-together n d which t (name ∷ value ∷ words) =
-    first-word name value words (λ m e w u. chosen_after-together m e w u words) (λ m e w u. chosen_after-together m e w u (value ∷ words)) n d which t (bytes_eq name (codes "--deep")) refl
+after-together : (n : Option ℕ) (d : Bool) (which : Option Which) (t : Option ℕ) (words : List (List ℕ)) → after n d which t words ≡ together n d which t (options_of words)
+after-together n d which t [] = alone n d which t
+after-together n d which t (name ∷ []) = one-word n d which t name (bytes_eq name (codes "--deep")) refl
+after-together n d which t (name ∷ value ∷ words) =
+    first-word name value words (λ m e w u. after-together m e w u words) (λ m e w u. after-together m e w u (value ∷ words)) n d which t (bytes_eq name (codes "--deep")) refl
 
 -- words choose what the options that they spell choose
-pub chosen_after-chosen : (words : List (List ℕ)) → chosen_after None false None None words ≡ chosen words
-chosen_after-chosen words = chosen_after-together None false None None words
+pub chosen_after-chosen : (words : List (List ℕ)) → chosen_after (record { cut = None; deep = false; machine = None; tab = None }) words ≡ chosen words
+chosen_after-chosen words = after-together None false None None words

@@ -1,19 +1,33 @@
 -- Inner: what words choose, word by word, as private functions speak of it. No public clause cites this file.
-use Rattle.std.specs.Prelude.{ℕ, ◌&&◌, not, Bool, true, List, [], ◌∷◌, Option, Some, None, unwrap_or, codes, cond}
-use Rattle.std.specs.Option.{is_none, option_and_then}
+use Rattle.std.specs.Prelude.{ℕ, true, List, [], ◌∷◌, Option, Some, None, unwrap_or, codes, cond}
+use Rattle.std.specs.Option.{option_and_then, option_map}
 use Rattle.std.specs.Str.{bytes_eq}
 use Rattle.mdprint.specs.declared.words.Choice.{Choice}
-use Rattle.mdprint.specs.declared.words.Which.{Which}
+use Rattle.mdprint.specs.declared.words.SoFar.{SoFar}
 use Rattle.mdprint.specs.declared.words.Which.TheVariants.{Lines}
 use Rattle.mdprint.specs.Words.{number_of, which_of, tab_of, taken}
 
--- what words choose after these options: `--deep`, `--cut` and a number, `--machine` and a name, or `--tab` and a size of tabs, each
--- where it did not come before
-abbrev pub chosen_after : Option ℕ → Bool → Option Which → Option ℕ → List (List ℕ) → Option Choice
-chosen_after cut deep machine tab [] = taken cut deep (unwrap_or machine Lines) (unwrap_or tab 4)
-chosen_after cut deep machine tab (option ∷ []) = cond (bytes_eq option (codes "--deep") && not deep) (taken cut true (unwrap_or machine Lines) (unwrap_or tab 4)) None
-chosen_after cut deep machine tab (option ∷ word ∷ words) =
-    cond (bytes_eq option (codes "--deep") && not deep) (chosen_after cut true machine tab (word ∷ words))
-    (cond (bytes_eq option (codes "--cut") && is_none cut) (option_and_then (λ n. chosen_after (Some n) deep machine tab words) (number_of word))
-    (cond (bytes_eq option (codes "--machine") && is_none machine) (option_and_then (λ which. chosen_after cut deep (Some which) tab words) (which_of word))
-    (cond (bytes_eq option (codes "--tab") && is_none tab) (option_and_then (λ t. chosen_after cut deep machine (Some t) words) (tab_of word)) None)))
+-- a value, where there was none before
+abbrev pub once : {A : Type 0} → Option A → Option A → Option A
+once None value = value
+once (Some x) value = None
+
+-- what came so far and an option with its value: `--cut` and a number, `--machine` and a name, or `--tab` and a size of tabs
+abbrev pub with_value : SoFar → List ℕ → List ℕ → Option SoFar
+with_value so_far option value =
+    cond (bytes_eq option (codes "--cut")) (option_map (λ n. record { cut = Some n; deep = so_far.deep; machine = so_far.machine; tab = so_far.tab }) (once so_far.cut (number_of value)))
+    (cond (bytes_eq option (codes "--machine")) (option_map (λ which. record { cut = so_far.cut; deep = so_far.deep; machine = Some which; tab = so_far.tab }) (once so_far.machine (which_of value)))
+    (cond (bytes_eq option (codes "--tab")) (option_map (λ t. record { cut = so_far.cut; deep = so_far.deep; machine = so_far.machine; tab = Some t }) (once so_far.tab (tab_of value))) None))
+
+-- the choice of what came so far
+abbrev pub taken_of : SoFar → Option Choice
+taken_of so_far = taken so_far.cut so_far.deep (unwrap_or so_far.machine Lines) (unwrap_or so_far.tab 4)
+
+-- what words choose after what came so far: `--deep`, where it did not come before, or an option with its value
+abbrev pub chosen_after : SoFar → List (List ℕ) → Option Choice
+chosen_after so_far [] = taken_of so_far
+chosen_after so_far (option ∷ []) =
+    cond (bytes_eq option (codes "--deep")) (cond so_far.deep None (taken_of (record { cut = so_far.cut; deep = true; machine = so_far.machine; tab = so_far.tab }))) None
+chosen_after so_far (option ∷ value ∷ words) =
+    cond (bytes_eq option (codes "--deep")) (cond so_far.deep None (chosen_after (record { cut = so_far.cut; deep = true; machine = so_far.machine; tab = so_far.tab }) (value ∷ words)))
+    (option_and_then (λ new. chosen_after new words) (with_value so_far option value))

@@ -1,6 +1,6 @@
 //! The words that the program is called with.
 
-ghost use Rattle.std.specs.Prelude.{◌≡◌, ◌≤◌, IfSome, map, string_bytes, codes, unwrap_or};
+ghost use Rattle.std.specs.Prelude.{◌≡◌, ◌≤◌, IfSome, map, string_bytes, codes};
 ghost use Rattle.std.specs.Char.{is_ascii_digit};
 ghost use Rattle.std.specs.List.{list_all};
 
@@ -42,8 +42,8 @@ pub struct Choice {
     pub tab: TabSize,
 }
 
-ghost use Rattle.mdprint.specs.Words.{chosen, taken, links_text, which_of, number_of, tab_of, CanCut};
-ghost use Rattle.mdprint.specs.WordsInner.{chosen_after};
+ghost use Rattle.mdprint.specs.Words.{chosen, links_text, which_of, number_of, tab_of, CanCut};
+ghost use Rattle.mdprint.specs.WordsInner.{once, with_value, taken_of, chosen_after};
 
 /// What the words after the program's name choose: `--cut` with a number, `--deep`, `--machine` with a name, and `--tab` with a
 /// number from 1 to 16, in any order, each at most once. The machine is that of lines where none is named, and tab stops stand at
@@ -52,7 +52,13 @@ pub fn read_words(words: &[String]) -> Option<Choice>
     ensures chosen { result ≡ chosen (map string_bytes words.now) }
     ensures cut { IfSome result CanCut }
 {
-    read_options(words, None, false, None, None)
+    let nothing = SoFar {
+        cut: None,
+        deep: false,
+        machine: None,
+        tab: None,
+    };
+    read_options(words, nothing)
 }
 
 /// The line that answers words which choose nothing has this text.
@@ -60,57 +66,96 @@ pub fn usage_line_stays()
     ensures { USAGE.now ≡ codes "usage: mdevents [--cut n] [--deep] [--machine name] [--tab n]" }
 {}
 
-/// The rest of the words, where some options came before.
-fn read_options(
-    words: &[String],
+/// The options that came so far, with their values.
+#[derive(Clone, Copy)]
+struct SoFar {
     cut: Option<usize>,
     deep: bool,
     machine: Option<Which>,
     tab: Option<TabSize>,
-) -> Option<Choice>
-    requires cut { IfSome cut (λ n. 1 ≤ n) }
-    ensures chosen { result ≡ chosen_after cut deep machine tab (map string_bytes words.now) }
+}
+
+/// The rest of the words, where these options came before.
+fn read_options(words: &[String], so_far: SoFar) -> Option<Choice>
+    requires cut { IfSome so_far.cut (λ n. 1 ≤ n) }
+    ensures chosen { result ≡ chosen_after so_far (map string_bytes words.now) }
     ensures cut { IfSome result CanCut }
 {
     let Some((option, rest)) = words.split_first() else {
-        return taken(cut, deep, machine.unwrap_or(Which::Lines), tab);
+        return taken(so_far);
     };
     let option = option.as_str();
-    if option == "--deep" && !deep {
-        return read_options(rest, cut, true, machine, tab);
+    if option == "--deep" {
+        if so_far.deep {
+            return None;
+        }
+        let deeply = SoFar {
+            deep: true,
+            ..so_far
+        };
+        return read_options(rest, deeply);
     }
     let (value, rest) = rest.split_first()?;
-    if option == "--cut" && cut.is_none() {
-        let n = read_number(value.as_str())?;
-        return read_options(rest, Some(n), deep, machine, tab);
-    }
-    if option == "--machine" && machine.is_none() {
-        let which = read_which(value.as_str())?;
-        return read_options(rest, cut, deep, Some(which), tab);
-    }
-    if option == "--tab" && tab.is_none() {
-        let size = read_tab(value.as_str())?;
-        return read_options(rest, cut, deep, machine, Some(size));
-    }
-    None
+    let so_far = with_value(so_far, option, value.as_str())?;
+    read_options(rest, so_far)
 }
 
-/// The choice of these, if they are taken together.
-fn taken(cut: Option<usize>, deep: bool, machine: Which, tab: Option<TabSize>) -> Option<Choice>
-    requires cut { IfSome cut (λ n. 1 ≤ n) }
-    ensures taken { result ≡ taken cut deep machine (unwrap_or tab 4) }
+/// What came so far and an option with its value, if there is such an option and it did not come before.
+fn with_value(so_far: SoFar, option: &str, value: &str) -> Option<SoFar>
+    requires cut { IfSome so_far.cut (λ n. 1 ≤ n) }
+    ensures value { result ≡ with_value so_far option.now value.now }
+    ensures cut { IfSome result (λ new. IfSome new.cut (λ n. 1 ≤ n)) }
+{
+    if option == "--cut" {
+        let cut = once(so_far.cut, read_number(value))?;
+        Some(SoFar {
+            cut: Some(cut),
+            ..so_far
+        })
+    } else if option == "--machine" {
+        let machine = once(so_far.machine, read_which(value))?;
+        Some(SoFar {
+            machine: Some(machine),
+            ..so_far
+        })
+    } else if option == "--tab" {
+        let tab = once(so_far.tab, read_tab(value))?;
+        Some(SoFar {
+            tab: Some(tab),
+            ..so_far
+        })
+    } else {
+        None
+    }
+}
+
+/// A value, where there was none before.
+fn once<T: Copy>(before: Option<T>, value: Option<T>) -> Option<T>
+    ensures { result ≡ once before value }
+{
+    match before {
+        Some(_) => None,
+        None => value,
+    }
+}
+
+/// The choice of these options, if they are taken together.
+fn taken(so_far: SoFar) -> Option<Choice>
+    requires cut { IfSome so_far.cut (λ n. 1 ≤ n) }
+    ensures taken { result ≡ taken_of so_far }
     ensures cut { IfSome result CanCut }
 {
-    if deep && !links_text(machine) {
+    let machine = so_far.machine.unwrap_or(Which::Lines);
+    if so_far.deep && !links_text(machine) {
         return None;
     }
-    let tab = match tab {
+    let tab = match so_far.tab {
         Some(size) => size,
         None => TabSize::default(),
     };
     Some(Choice {
-        cut,
-        deep,
+        cut: so_far.cut,
+        deep: so_far.deep,
         machine,
         tab,
     })
