@@ -4,12 +4,14 @@
 usage: bench/gate.py [COMMAND..]        `rt ci` where no command is given
 
 Each second it looks at the prover's processes that the command has started, so the last second of each is not counted.
-An edit's check is told by the texts of the copy that it works on.
+An edit's check is told by the texts of the copy that it works on. The time in all is that of the command and of each process
+that it has waited for, as the system counts it: the prover, the tests, the programs and rt itself.
 """
 
 import collections
 import glob
 import os
+import resource
 import subprocess
 import sys
 import time
@@ -66,7 +68,7 @@ def seen(process, session):
         return None
     if int(fields[3]) != session:
         return None
-    return (process, fields[19]), words, room, sum(map(int, fields[11:15])) / TICKS
+    return (process, fields[19]), words, room, sum(map(int, fields[11:13])) / TICKS
 
 
 def main(command):
@@ -92,7 +94,9 @@ def main(command):
     print(f"\n{'crate':16}{'part':8}{'checks':>8}{'seconds':>10}")
     for crate, part in sums:
         print(f"{crate:16}{part:8}{counts[crate, part]:8}{sums[crate, part]:10.0f}")
-    print(f"in all {sum(sums.values()) / 60:.1f} minutes of processor time, {(time.time() - started) / 60:.1f} of the clock")
+    used = resource.getrusage(resource.RUSAGE_CHILDREN)
+    print(f"these in all: {sum(sums.values()) / 60:.1f} minutes of processor time")
+    print(f"the command in all: {(used.ru_utime + used.ru_stime) / 60:.1f}, and {(time.time() - started) / 60:.1f} of the clock")
     print("\nthe dearest edits:")
     edits = [(times[key], *names[key]) for key in names if names[key][1] not in ("proof", "tests")]
     for spent, crate, name in sorted(edits, reverse=True)[:20]:

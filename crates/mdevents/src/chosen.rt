@@ -21,67 +21,74 @@ fn choose(alloc: Global, text: &str, want: Option<Choice>) -> bool {
     }
 }
 
-const CHOSEN: [(&str, Option<usize>, bool, Which); 15] = [
-    ("", None, false, Which::Lines),
-    ("--cut 2", Some(2), false, Which::Lines),
-    ("--cut 016", Some(16), false, Which::Lines),
+/// Words, and what they choose: where to cut, whether to go deep, the machine, and the size of tabs.
+const CHOSEN: &[(&str, Option<usize>, bool, Which, usize)] = &[
+    ("", None, false, Which::Lines, 4),
+    ("--cut 2", Some(2), false, Which::Lines, 4),
+    ("--cut 016", Some(16), false, Which::Lines, 4),
     (
         "--cut 18446744073709551615",
         Some(usize::MAX),
         false,
         Which::Lines,
+        4,
     ),
-    ("--machine lines", None, false, Which::Lines),
-    ("--machine paragraphs", None, false, Which::Paragraphs),
-    ("--machine peek", None, false, Which::Peek),
-    ("--machine deep --cut 3", Some(3), false, Which::Deep),
-    ("--cut 3 --machine deep", Some(3), false, Which::Deep),
-    ("--machine back", None, false, Which::Back),
-    ("--machine save", None, false, Which::Save),
-    ("--machine text", None, false, Which::Text),
-    ("--deep --machine text", None, true, Which::Text),
-    ("--deep --machine paragraphs", None, true, Which::Paragraphs),
+    ("--machine lines", None, false, Which::Lines, 4),
+    ("--machine paragraphs", None, false, Which::Paragraphs, 4),
+    ("--machine peek", None, false, Which::Peek, 4),
+    ("--machine deep --cut 3", Some(3), false, Which::Deep, 4),
+    ("--cut 3 --machine deep", Some(3), false, Which::Deep, 4),
+    ("--machine back", None, false, Which::Back, 4),
+    ("--machine save", None, false, Which::Save, 4),
+    ("--machine text", None, false, Which::Text, 4),
+    ("--deep --machine text", None, true, Which::Text, 4),
+    (
+        "--deep --machine paragraphs",
+        None,
+        true,
+        Which::Paragraphs,
+        4,
+    ),
     (
         "--machine paragraphs --deep --cut 1",
         Some(1),
         true,
         Which::Paragraphs,
+        4,
+    ),
+    ("--tab 1", None, false, Which::Lines, 1),
+    ("--tab 2", None, false, Which::Lines, 2),
+    ("--tab 004", None, false, Which::Lines, 4),
+    ("--tab 16", None, false, Which::Lines, 16),
+    (
+        "--machine paragraphs --tab 3 --deep --cut 1",
+        Some(1),
+        true,
+        Which::Paragraphs,
+        3,
     ),
 ];
 
+/// The choice of these; `None` where no tab stops stand so.
+fn choice(cut: Option<usize>, deep: bool, machine: Which, tab: usize) -> Option<Choice> {
+    let tab = TabSize::new(tab)?;
+    Some(Choice {
+        cut,
+        deep,
+        machine,
+        tab,
+    })
+}
+
 #[test]
 fn words_choose(rt: HostRuntime) {
-    for (text, cut, deep, machine) in CHOSEN {
-        let want = Some(Choice {
-            cut,
-            deep,
-            machine,
-            tab: TabSize::default(),
-        });
-        assert!(rt; choose(rt.alloc(), text, want), "{text}");
+    for &(text, cut, deep, machine, tab) in CHOSEN {
+        let want = choice(cut, deep, machine, tab);
+        assert!(rt; want.is_some() && choose(rt.alloc(), text, want), "{text}");
     }
 }
 
-/// Words that choose a size of tabs, and its number.
-const TABS: [(&str, usize); 5] = [
-    ("--tab 1", 1),
-    ("--tab 2", 2),
-    ("--tab 004", 4),
-    ("--tab 16", 16),
-    ("--machine paragraphs --tab 3 --deep --cut 1", 3),
-];
-
-#[test]
-fn words_choose_the_size_of_tabs(rt: HostRuntime) -> Result<(), AllocError> {
-    for (text, size) in TABS {
-        let chosen = choice_of(rt.alloc(), text)?;
-        let chosen = chosen.map(|choice| choice.tab);
-        assert!(rt; chosen.is_some() && chosen == TabSize::new(size), "{text}");
-    }
-    Ok(())
-}
-
-const REFUSED: [&str; 20] = [
+const REFUSED: &[&str] = &[
     "--tab 0",
     "--tab 17",
     "--tab",
@@ -106,15 +113,14 @@ const REFUSED: [&str; 20] = [
 
 #[test]
 fn other_words_choose_nothing(rt: HostRuntime) {
-    for text in REFUSED {
+    for &text in REFUSED {
         assert!(rt; choose(rt.alloc(), text, None), "{text}");
     }
 }
 
 #[test]
 fn empty_word_chooses_nothing(rt: HostRuntime) -> Result<(), AllocError> {
-    let mut words = Vec::new(rt.alloc());
-    words.push(String::new(rt.alloc()))?;
-    assert!(rt; read_words(words.as_slice()).is_none());
+    let word = vec![in rt.alloc(); String::new(rt.alloc())]?;
+    assert!(rt; read_words(word.as_slice()).is_none());
     Ok(())
 }

@@ -67,7 +67,7 @@ fn same_readings(
 }
 
 /// For each size of documents: how many there are, whether they are cut twice, and how many readings there are from each start.
-const SIZES: [(usize, usize, bool, usize); 5] = [
+const SIZES: &[(usize, usize, bool, usize)] = &[
     (0, 1, true, 2),
     (1, 5, true, 25),
     (2, 25, true, 225),
@@ -77,7 +77,7 @@ const SIZES: [(usize, usize, bool, usize); 5] = [
 
 #[test]
 fn no_cut_of_a_text_leaves_a_trace(rt: HostRuntime) -> Result<(), AllocError> {
-    for (size, count, twice, places) in SIZES {
+    for &(size, count, twice, places) in SIZES {
         let same = same_readings(rt.alloc(), size, count, twice)?;
         assert_eq!(rt; same, Some(2 * places), "of size {size}");
     }

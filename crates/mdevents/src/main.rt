@@ -138,7 +138,7 @@ mod tests {
         chosen == Ok(want)
     }
 
-    const CHOSEN: [(&[u8], Option<usize>, bool, Which); 6] = [
+    const CHOSEN: &[(&[u8], Option<usize>, bool, Which)] = &[
         (b"mdevents", None, false, Which::Lines),
         (b"--cut", None, false, Which::Lines),
         (b"mdevents --cut 016", Some(16), false, Which::Lines),
@@ -164,7 +164,7 @@ mod tests {
 
     #[test]
     fn takes_the_words_after_the_name(rt: HostRuntime) {
-        for (words, cut, deep, machine) in CHOSEN {
+        for &(words, cut, deep, machine) in CHOSEN {
             let want = Some(Choice {
                 cut,
                 deep,
@@ -175,7 +175,7 @@ mod tests {
         }
     }
 
-    const REFUSED: [&[u8]; 5] = [
+    const REFUSED: &[&[u8]] = &[
         b"--cut 2",
         b"mdevents --cut",
         b"mdevents --cut 2 --cut 2",
@@ -185,7 +185,7 @@ mod tests {
 
     #[test]
     fn takes_no_other_words(rt: HostRuntime) {
-        for words in REFUSED {
+        for &words in REFUSED {
             assert!(rt; chooses(rt.alloc(), words, None));
         }
     }
@@ -264,7 +264,7 @@ mod tests {
     }
 
     /// Words, the status, what is written, and what is shown on standard error.
-    const DONE: [(&[u8], u8, &[u8], &[u8]); 12] = [
+    const DONE: &[(&[u8], u8, &[u8], &[u8])] = &[
         (b"mdevents", 0, PARAGRAPH, b""),
         (b"mdevents --machine deep", 0, SHORT_DATA, b""),
         (b"mdevents --machine deep --cut 1", 0, SHORT_DATA, b""),
@@ -281,7 +281,7 @@ mod tests {
 
     #[test]
     fn does_what_the_words_choose(rt: HostRuntime) {
-        for (words, status, written, shown) in DONE {
+        for &(words, status, written, shown) in DONE {
             assert!(rt; does(rt.alloc(), words, status, written, shown));
         }
     }
@@ -311,7 +311,7 @@ mod tests {
 
     #[test]
     fn shows_what_failed(rt: HostRuntime) {
-        for (good_reads, good_writes, want) in [
+        for &(good_reads, good_writes, want) in &[
             (0, 99, NOT_READ),
             (1, 0, NOT_READ),
             (99, 0, NOT_WRITTEN),

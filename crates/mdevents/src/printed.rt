@@ -62,20 +62,25 @@ fn writes_lines(rt: HostRuntime) -> Result<(), AllocError> {
 }
 
 /// Whether a failure is shown as this line.
-fn shows(alloc: Global, failure: Failure, line: &str) -> Result<bool, AllocError> {
-    let text = failure.to_string(alloc)?;
-    Ok(text.as_str() == line)
+fn shows(alloc: Global, failure: Failure, line: &str) -> bool {
+    match failure.to_string(alloc) {
+        Ok(text) => text.as_str() == line,
+        Err(_) => false,
+    }
 }
 
 #[test]
-fn shows_lines(rt: HostRuntime) -> Result<(), AllocError> {
-    let memory = Failure::from(AllocError);
-    assert!(rt; shows(rt.alloc(), memory, "out of memory")?);
-    assert!(rt; shows(rt.alloc(), Failure::Read, "cannot read input")?);
-    assert!(rt; shows(rt.alloc(), Failure::Write, "cannot write output")?);
-    assert!(rt; shows(rt.alloc(), Failure::TooLong, "input too long")?);
-    assert!(rt; shows(rt.alloc(), Failure::NotReady, "events are not ready")?);
+fn shows_lines(rt: HostRuntime) {
+    assert!(rt; shows(rt.alloc(), Failure::from(AllocError), "out of memory"));
+    assert!(rt; shows(rt.alloc(), Failure::Read, "cannot read input"));
+    assert!(rt; shows(rt.alloc(), Failure::Write, "cannot write output"));
+    assert!(rt; shows(rt.alloc(), Failure::TooLong, "input too long"));
+    assert!(rt; shows(rt.alloc(), Failure::NotReady, "events are not ready"));
+}
+
+#[test]
+fn shows_a_message(rt: HostRuntime) -> Result<(), AllocError> {
     let refused = Failure::Message(message(rt.alloc())?);
-    assert!(rt; shows(rt.alloc(), refused, "1:2: x (markdown:r)")?);
+    assert!(rt; shows(rt.alloc(), refused, "1:2: x (markdown:r)"));
     Ok(())
 }

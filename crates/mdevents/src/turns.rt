@@ -10,6 +10,7 @@ use mdprint::program::write_events;
 use mdprint::read::read_to_end;
 use mdprint::words::{Choice, Which};
 use std::alloc::Global;
+use std::io::{Read, Write};
 
 const DOCUMENT: &[u8] = b"a\r\nb";
 
@@ -25,17 +26,48 @@ fn uncut() -> Choice
     }
 }
 
+/// How a run ended.
+#[derive(Clone, Copy, PartialEq, Eq)]
+enum Ended {
+    Well,
+    NotRead,
+    NotWritten,
+    Otherwise,
+}
+
+/// How a run ended that gave this.
+fn ending(answer: Result<(), Failure>) -> Ended {
+    match answer {
+        Ok(()) => Ended::Well,
+        Err(Failure::Read) => Ended::NotRead,
+        Err(Failure::Write) => Ended::NotWritten,
+        Err(_) => Ended::Otherwise,
+    }
+}
+
+/// Writes the events of what a reader gives.
+fn run<R: Read, W: Write>(alloc: Global, reader: &mut R, writer: &mut W) -> Ended {
+    let uncut = uncut();
+    ending(write_events(alloc, reader, writer, &uncut))
+}
+
+/// Runs over the document, where the read after so many good ones fails: how it ended, and what it wrote.
+fn run_with_reads(alloc: Global, good_reads: usize, fault: Fault) -> (Ended, Line) {
+    let mut reader = FailingReader::new(DOCUMENT, good_reads, fault);
+    let mut written = Line::new();
+    let ended = run(alloc, &mut reader, &mut written);
+    (ended, written)
+}
+
 /// Fails the read after each number of good ones, until a run ends well: how many good reads that takes. `None` where a run
 /// that failed wrote something, or did not fail by the reader.
 fn reads_of_a_run(alloc: Global, fault: Fault) -> Option<usize> {
-    let uncut = uncut();
     for good_reads in 0..100 {
-        let mut reader = FailingReader::new(DOCUMENT, good_reads, fault);
-        let mut written = Line::new();
-        match write_events(alloc, &mut reader, &mut written, &uncut) {
-            Ok(()) => return (written.text() == TWO_LINES).then_some(good_reads),
-            Err(Failure::Read) if written.text().is_empty() => {}
-            Err(_) => return None,
+        let (ended, written) = run_with_reads(alloc, good_reads, fault);
+        match ended {
+            Ended::Well => return (written.text() == TWO_LINES).then_some(good_reads),
+            Ended::NotRead if written.text().is_empty() => {}
+            _ => return None,
         }
     }
     None
@@ -44,41 +76,56 @@ fn reads_of_a_run(alloc: Global, fault: Fault) -> Option<usize> {
 /// Four bytes, one a read, and the end.
 #[test]
 fn each_read_fails_in_turn(rt: HostRuntime) {
-    for fault in [Fault::ErrorOnce, Fault::ErrorFromThenOn] {
+    for &fault in &[Fault::ErrorOnce, Fault::ErrorFromThenOn] {
         assert_eq!(rt; reads_of_a_run(rt.alloc(), fault), Some(5));
     }
 }
 
-/// Whether all of a text is read, where the read after so many good ones fails.
-fn reads_all(alloc: Global, good_reads: usize) -> Result<bool, Failure> {
-    let mut reader = FailingReader::new(b"a\r\nb", good_reads, Fault::ErrorOnce);
-    let all = read_to_end(alloc, &mut reader, TabSize::default())?;
-    Ok(all.as_slice() == b"a\r\nb".as_slice())
+/// Reads the document to its end, where the read after so many good ones fails.
+fn read_all(alloc: Global, good_reads: usize) -> Ended {
+    let mut reader = FailingReader::new(DOCUMENT, good_reads, Fault::ErrorOnce);
+    match read_to_end(alloc, &mut reader, TabSize::default()) {
+        Ok(all) if all.as_slice() == DOCUMENT => Ended::Well,
+        Ok(_) => Ended::Otherwise,
+        Err(failure) => ending(Err(failure)),
+    }
 }
 
 #[test]
 fn reads_to_the_end(rt: HostRuntime) {
-    for good_reads in 0..5 {
-        assert!(rt; matches!(reads_all(rt.alloc(), good_reads), Err(Failure::Read)));
+    for good_reads in 0..6 {
+        let want = if good_reads < 5 {
+            Ended::NotRead
+        } else {
+            Ended::Well
+        };
+        assert!(rt;
+            read_all(rt.alloc(), good_reads) == want,
+            "after {good_reads}"
+        );
     }
-    assert!(rt; matches!(reads_all(rt.alloc(), 5), Ok(true)));
+}
+
+/// Runs over the document, where the write after so many good ones, of a byte each, fails: how it ended, and what it wrote.
+fn run_with_writes(alloc: Global, good_writes: usize, fault: Fault) -> (Ended, Line) {
+    let mut reader = DOCUMENT;
+    let mut writer = FailingWriter::new(1, good_writes, fault);
+    let ended = run(alloc, &mut reader, &mut writer);
+    (ended, writer.written)
 }
 
 /// Fails the write after each number of good ones, of a byte each, until a run ends well: how many good writes that takes.
 /// `None` where a run that failed wrote more or less than a beginning of that many bytes, or did not fail by the writer.
 fn writes_of_a_run(alloc: Global, fault: Fault) -> Option<usize> {
-    let uncut = uncut();
     for good_writes in 0..400 {
-        let mut reader = DOCUMENT;
-        let mut writer = FailingWriter::new(1, good_writes, fault);
-        let result = write_events(alloc, &mut reader, &mut writer, &uncut);
-        if writer.written.text() != beginning(good_writes) {
+        let (ended, written) = run_with_writes(alloc, good_writes, fault);
+        if written.text() != beginning(good_writes) {
             return None;
         }
-        match result {
-            Ok(()) => return Some(good_writes),
-            Err(Failure::Write) => {}
-            Err(_) => return None,
+        match ended {
+            Ended::Well => return Some(good_writes),
+            Ended::NotWritten => {}
+            _ => return None,
         }
     }
     None
@@ -92,7 +139,7 @@ fn beginning(count: usize) -> &'static [u8] {
 #[test]
 fn each_write_fails_in_turn(rt: HostRuntime) {
     let all = Some(TWO_LINES.len());
-    for fault in [
+    for &fault in &[
         Fault::ErrorOnce,
         Fault::ErrorFromThenOn,
         Fault::NothingOnce,

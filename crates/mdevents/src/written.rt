@@ -80,7 +80,7 @@ fn writes(alloc: Global, document: &[u8], machine: Which, deep: bool, want: &[u8
 }
 
 /// A document, the machine that reads it, whether its chunks are read too, and what is written.
-const WRITTEN: [(&[u8], Which, bool, &[u8]); 24] = [
+const WRITTEN: &[(&[u8], Which, bool, &[u8])] = &[
     (b"a\r\nb", Which::Lines, false, TWO_LINES),
     (b"", Which::Lines, false, b""),
     (b"\ta", Which::Lines, false, AFTER_TAB),
@@ -109,7 +109,7 @@ const WRITTEN: [(&[u8], Which, bool, &[u8]); 24] = [
 
 #[test]
 fn writes_the_events(rt: HostRuntime) {
-    for (document, machine, deep, want) in WRITTEN {
+    for &(document, machine, deep, want) in WRITTEN {
         assert!(rt; writes(rt.alloc(), document, machine, deep, want));
     }
 }
@@ -143,7 +143,7 @@ fn writes_with_tabs(alloc: Global, size: usize, want: &[u8]) -> bool {
 
 #[test]
 fn tabs_have_the_chosen_size(rt: HostRuntime) {
-    for (size, want) in [
+    for &(size, want) in &[
         (1, AFTER_TAB_OF_ONE),
         (2, AFTER_TAB_OF_TWO),
         (4, AFTER_TAB),
@@ -168,7 +168,7 @@ fn writes_long(
 }
 
 /// The first byte of a document, how many bytes it has, the machine that reads it, and what is written.
-const LONG: [(u8, usize, Which, &[u8]); 6] = [
+const LONG: &[(u8, usize, Which, &[u8])] = &[
     (b'a', 100_000, Which::Lines, LONG_PARAGRAPH),
     (b'a', 100_000, Which::Peek, LONG_DATA),
     (b'a', 2000, Which::Deep, DEEP_DATA),
@@ -179,7 +179,7 @@ const LONG: [(u8, usize, Which, &[u8]); 6] = [
 
 #[test]
 fn writes_the_events_of_long_documents(rt: HostRuntime) -> Result<(), AllocError> {
-    for (first, count, machine, want) in LONG {
+    for &(first, count, machine, want) in LONG {
         assert!(rt; writes_long(rt.alloc(), first, count, machine, want)?);
     }
     Ok(())
@@ -233,8 +233,8 @@ fn many_cuts(rt: HostRuntime) -> Result<(), AllocError> {
     Ok(())
 }
 
-#[test]
-fn cuts_around_a_carriage_return_leave_no_trace(rt: HostRuntime) -> Result<(), AllocError> {
+/// The lines of a text that is cut before and behind the carriage return of a CR LF.
+fn cut_around_a_carriage_return(alloc: Global) -> Result<Vec<u8>, AllocError> {
     let options = ParseOptions::default();
     let parse_state = ParseState {
         bytes: b"a\r\nb",
@@ -242,10 +242,15 @@ fn cuts_around_a_carriage_return_leave_no_trace(rt: HostRuntime) -> Result<(), A
         machine: &Lines {},
     };
     let cuts = [(1, 0), (2, 0)];
-    let Ok((events, _)) = run(rt.alloc(), &parse_state, Name::FlowStart, &cuts, false) else {
-        return Err(AllocError);
-    };
-    let written = lines_of(rt.alloc(), events.as_slice())?;
+    match run(alloc, &parse_state, Name::FlowStart, &cuts, false) {
+        Ok((events, _)) => lines_of(alloc, events.as_slice()),
+        Err(_) => Err(AllocError),
+    }
+}
+
+#[test]
+fn cuts_around_a_carriage_return_leave_no_trace(rt: HostRuntime) -> Result<(), AllocError> {
+    let written = cut_around_a_carriage_return(rt.alloc())?;
     assert_eq!(rt; written.as_slice(), TWO_LINES);
     Ok(())
 }

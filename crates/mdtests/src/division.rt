@@ -177,7 +177,7 @@ const TWO_DATA: [Row; 6] = [
 
 /// A list, its document, where the chain begins, its child, and what comes of them: a chunk without events becomes nothing;
 /// links of a child lead to their places; an empty chunk gets no event.
-const PUT: [(&[Row], &[u8], usize, &[Row], &str); 3] = [
+const PUT: &[(&[Row], &[u8], usize, &[Row], &str)] = &[
     (
         &THREE_LINES,
         b"a\nb\nc",
@@ -227,7 +227,7 @@ const PUT: [(&[Row], &[u8], usize, &[Row], &str); 3] = [
 
 #[test]
 fn child_is_divided_over_its_chunks(rt: HostRuntime) -> Result<(), AllocError> {
-    for (list, bytes, index, child, want) in PUT {
+    for &(list, bytes, index, child, want) in PUT {
         assert!(rt; bytes.len() < 9);
         assert_shown(&rt, put(rt.alloc(), list, bytes, index, child), want)?;
     }

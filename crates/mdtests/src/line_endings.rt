@@ -4,7 +4,7 @@ use markdown::util::line_ending::LineEnding;
 
 #[test]
 fn reads_what_it_writes(rt: HostRuntime) {
-    for (ending, text) in [
+    for &(ending, text) in &[
         (LineEnding::CarriageReturnLineFeed, "\r\n"),
         (LineEnding::CarriageReturn, "\r"),
         (LineEnding::LineFeed, "\n"),
@@ -17,7 +17,7 @@ fn reads_what_it_writes(rt: HostRuntime) {
 
 #[test]
 fn refuses_other_texts(rt: HostRuntime) {
-    for text in ["aaa", "", "\n\r", "\n\n", "\r\n "] {
+    for &text in &["aaa", "", "\n\r", "\n\n", "\r\n "] {
         assert!(rt; LineEnding::parse(text) == Err("Expected CR, LF, or CRLF"));
     }
 }

@@ -7,7 +7,7 @@ fn void_names_are_told(rt: HostRuntime) {
     for name in &VOID_EVENTS {
         assert!(rt; name.is_void());
     }
-    for name in [
+    for &name in &[
         Name::Paragraph,
         Name::Content,
         Name::LinePrefix,

@@ -40,19 +40,22 @@ fn cuts(alloc: Global, bytes: &[u8], n: usize) -> Result<String, AllocError>
     format!(in alloc; "{cuts:?}")
 }
 
-/// The last one is of a tab before a stop, which is one byte.
+/// Bytes, after how many virtual ones each they are cut, and where that is. The last one is of a tab before a stop, which is one
+/// byte.
+const CUTS: &[(&[u8], usize, &str)] = &[
+    (
+        b"a\tb\r\n\tc",
+        1,
+        "[(1, 0), (1, 1), (1, 2), (2, 0), (4, 0), (5, 0), (5, 1), (5, 2), (5, 3), (6, 0)]",
+    ),
+    (b"a\tb\r\n\tc", 3, "[(1, 2), (5, 0), (5, 3)]"),
+    (b"a\tb\r\n\tc", 11, "[]"),
+    (b"abc\td", 1, "[(1, 0), (2, 0), (3, 0), (4, 0)]"),
+];
+
 #[test]
 fn cuts_of_a_text(rt: HostRuntime) -> Result<(), AllocError> {
-    for (bytes, n, want) in [
-        (
-            b"a\tb\r\n\tc".as_slice(),
-            1,
-            "[(1, 0), (1, 1), (1, 2), (2, 0), (4, 0), (5, 0), (5, 1), (5, 2), (5, 3), (6, 0)]",
-        ),
-        (b"a\tb\r\n\tc".as_slice(), 3, "[(1, 2), (5, 0), (5, 3)]"),
-        (b"a\tb\r\n\tc".as_slice(), 11, "[]"),
-        (b"abc\td".as_slice(), 1, "[(1, 0), (2, 0), (3, 0), (4, 0)]"),
-    ] {
+    for &(bytes, n, want) in CUTS {
         assert!(rt; n > 0 && bytes.len() < 9);
         assert_shown(&rt, cuts(rt.alloc(), bytes, n), want)?;
     }

@@ -46,7 +46,7 @@ const CROSSED: [Row; 4] = [
 
 /// A list, its document, the content of the chains that fit, and whether the list is ready: of chains in the text or behind its
 /// end, of gaps, and of spans that do not end or cross.
-const LISTS: [(&[Row], &[u8], Option<Content>, bool); 17] = [
+const LISTS: &[(&[Row], &[u8], Option<Content>, bool)] = &[
     (&TWO_CHUNKS, b"ab", TEXT, true),
     (&TWO_CHUNKS, b"ab", None, true),
     (&TWO_CHUNKS, b"a", TEXT, false),
@@ -68,7 +68,7 @@ const LISTS: [(&[Row], &[u8], Option<Content>, bool); 17] = [
 
 #[test]
 fn chains_that_fit_can_be_read(rt: HostRuntime) -> Result<(), AllocError> {
-    for (list, bytes, filter, want) in LISTS {
+    for &(list, bytes, filter, want) in LISTS {
         assert!(rt; is_ready(rt.alloc(), list, bytes, filter)? == want);
     }
     Ok(())
@@ -76,7 +76,7 @@ fn chains_that_fit_can_be_read(rt: HostRuntime) -> Result<(), AllocError> {
 
 /// Where the only chunk of a list begins and ends, its content, a document, and the content of the chains that fit: whether
 /// the list is ready.
-const PLACES: [(Place, Place, Content, &[u8], Option<Content>, bool); 7] = [
+const PLACES: &[(Place, Place, Content, &[u8], Option<Content>, bool)] = &[
     ((1, 3, 0, 2), (1, 5, 1, 0), Content::Text, b"\t", TEXT, true),
     (
         (1, 3, 0, 2),
@@ -109,7 +109,7 @@ const PLACES: [(Place, Place, Content, &[u8], Option<Content>, bool); 7] = [
 
 #[test]
 fn chunk_stands_at_places_that_are_shown(rt: HostRuntime) -> Result<(), AllocError> {
-    for (from, to, content, bytes, filter, want) in PLACES {
+    for &(from, to, content, bytes, filter, want) in PLACES {
         let list = [Chunk(from, content, None, None), Exit(Name::Data, to)];
         assert!(rt; is_ready(rt.alloc(), &list, bytes, filter)? == want);
     }
@@ -199,7 +199,7 @@ const ITEM_AFTER_BLANK_LINE: [Row; 10] = [
 ];
 
 /// A list, an index, whether list items may be tasks, and whether the chain is in the first paragraph of one.
-const ITEMS: [(&[Row], usize, bool, bool); 5] = [
+const ITEMS: &[(&[Row], usize, bool, bool)] = &[
     (&ITEM, 4, true, true),
     (&ITEM, 2, true, false),
     (&ITEM_AFTER_BLANK_LINE, 6, true, true),
@@ -209,7 +209,7 @@ const ITEMS: [(&[Row], usize, bool, bool); 5] = [
 
 #[test]
 fn first_paragraph_of_a_list_item_is_found(rt: HostRuntime) -> Result<(), AllocError> {
-    for (list, index, tasks, want) in ITEMS {
+    for &(list, index, tasks, want) in ITEMS {
         let constructs = if tasks {
             Constructs::gfm()
         } else {

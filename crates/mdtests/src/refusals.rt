@@ -66,7 +66,7 @@ fn one_byte_is_refused(rt: HostRuntime) -> Result<(), AllocError> {
 }
 
 /// The numbers of calls before the one that refuses, and what is answered then.
-const ANSWERS: [(usize, &str); 4] = [
+const ANSWERS: &[(usize, &str)] = &[
     (0, AT_ONCE),
     (
         1,
@@ -97,7 +97,7 @@ const ANSWERS: [(usize, &str); 4] = [
 
 #[test]
 fn message_waits_for_the_flush(rt: HostRuntime) -> Result<(), AllocError> {
-    for (at, want) in &ANSWERS {
+    for (at, want) in ANSWERS {
         for resolve in [false, true] {
             assert_shown(&rt, read_two(rt.alloc(), *at, resolve), want)?;
         }

@@ -38,7 +38,7 @@ fn read_one(
 }
 
 /// Whether the machine's resolvers refuse, whether they go over the events, those that stay registered, and what is answered.
-const ANSWERS: [(bool, bool, &[Resolver], &str); 3] = [
+const ANSWERS: &[(bool, bool, &[Resolver], &str)] = &[
     (
         false,
         true,
@@ -82,7 +82,7 @@ const ANSWERS: [(bool, bool, &[Resolver], &str); 3] = [
 /// Resolvers wrap what was read; they stay where none resolves; or one refuses the document.
 #[test]
 fn resolvers_go_over_what_was_read(rt: HostRuntime) -> Result<(), AllocError> {
-    for (refuse, resolve, resolvers, want) in &ANSWERS {
+    for (refuse, resolve, resolvers, want) in ANSWERS {
         assert_shown(
             &rt,
             read_one(rt.alloc(), *refuse, *resolve, resolvers),

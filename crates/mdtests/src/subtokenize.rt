@@ -130,7 +130,7 @@ const TWO_BYTES: [Row; 6] = [
 ];
 
 /// What is shown, a list, its document, and what is answered where its chains of text are read as lines of data.
-const OF_LINES: [(&str, &[Row], &[u8], &str); 6] = [
+const OF_LINES: &[(&str, &[Row], &[u8], &str)] = &[
     (
         "a child stands in the place of its chunks",
         &QUOTE,
@@ -227,7 +227,7 @@ const OF_LINES: [(&str, &[Row], &[u8], &str); 6] = [
 
 #[test]
 fn children_stand_in_place_of_their_chunks(rt: HostRuntime) -> Result<(), AllocError> {
-    for (what, list, bytes, want) in OF_LINES {
+    for &(what, list, bytes, want) in OF_LINES {
         assert!(rt; bytes.len() < 9);
         assert_told(&rt, what, with_lines(rt.alloc(), list, bytes), want)?;
     }
@@ -247,7 +247,7 @@ const AFTER_LF: [Row; 8] = [
 ];
 
 /// What is shown, a list, its document, and what is answered where its chains of strings are read by attempts.
-const OF_ATTEMPTS: [(&str, &[Row], &[u8], &str); 2] = [
+const OF_ATTEMPTS: &[(&str, &[Row], &[u8], &str)] = &[
     (
         "nothing is done where no chain fits",
         &QUOTE,
@@ -286,7 +286,7 @@ const OF_ATTEMPTS: [(&str, &[Row], &[u8], &str); 2] = [
 
 #[test]
 fn choices_of_children_go_back_over_gaps(rt: HostRuntime) -> Result<(), AllocError> {
-    for (what, list, bytes, want) in OF_ATTEMPTS {
+    for &(what, list, bytes, want) in OF_ATTEMPTS {
         assert!(rt; bytes.len() < 9);
         assert_told(&rt, what, with_attempts(rt.alloc(), list, bytes), want)?;
     }
@@ -317,7 +317,7 @@ fn refused_at(alloc: Global, at: usize) -> Result<String, AllocError> {
 
 #[test]
 fn message_of_the_second_chain_leaves_the_first(rt: HostRuntime) -> Result<(), AllocError> {
-    for (calls, want) in [
+    for &(calls, want) in &[
         (0, REFUSED),
         (1, REFUSED),
         (2, REFUSED),

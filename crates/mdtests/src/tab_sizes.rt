@@ -45,7 +45,7 @@ const fn at(column: usize, index: usize, vs: usize) -> Point
 
 #[test]
 fn tab_stops_stand_one_to_sixteen_columns_apart(rt: HostRuntime) -> Result<(), AllocError> {
-    for (n, want) in [
+    for &(n, want) in &[
         (0, 0),
         (1, 1),
         (4, 4),
@@ -141,7 +141,7 @@ fn tab_of_one_column_is_one_byte(rt: HostRuntime) {
 
 #[test]
 fn cuts_by_one_virtual_byte(rt: HostRuntime) -> Result<(), AllocError> {
-    for (n, want) in [(1, 2), (3, 3), (4, 4), (8, 8), (16, 16)] {
+    for &(n, want) in &[(1, 2), (3, 3), (4, 4), (8, 8), (16, 16)] {
         assert!(rt; 1 <= n && n <= 16);
         let cuts = cuts_every(rt.alloc(), b"a\tb", every(n), 1)?;
         assert_eq!(rt; cuts.len(), want);
@@ -176,7 +176,7 @@ fn is_ready(alloc: Global, n: usize, from: Place, to: Place) -> Result<bool, All
 
 #[test]
 fn chunks_stand_at_places_of_tabs(rt: HostRuntime) -> Result<(), AllocError> {
-    for (n, from, to, want) in [
+    for &(n, from, to, want) in &[
         (1, (1, 1, 0, 0), (1, 2, 1, 0), true),
         (1, (1, 1, 0, 0), (1, 5, 1, 0), false),
         (4, (1, 3, 0, 2), (1, 5, 1, 0), true),

@@ -56,7 +56,7 @@ const ESCAPE: &str = "enter CharacterEscape 1:1 (0+0)\n\
     exit Data 1:5 (4+0)\n";
 
 /// A text and its events.
-const TEXTS: [(&[u8], &str); 7] = [
+const TEXTS: &[(&[u8], &str)] = &[
     (b"`a`", CODE),
     (b"``a`", LONG_RUN_FIRST),
     (b"`a``", LONG_RUN_LAST),
@@ -79,7 +79,7 @@ fn lines_of_text(alloc: Global, bytes: &[u8], options: &ParseOptions) -> Result<
 #[test]
 fn texts_have_their_constructs(rt: HostRuntime) -> Result<(), AllocError> {
     let options = ParseOptions::default();
-    for (bytes, want) in &TEXTS {
+    for (bytes, want) in TEXTS {
         assert!(rt; bytes.len() < 9);
         assert_shown(&rt, lines_of_text(rt.alloc(), bytes, &options), want)?;
     }

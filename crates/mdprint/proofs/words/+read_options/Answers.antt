@@ -27,6 +27,6 @@ returns-clause-chosen t c =
     let behind = c.in_ok-value.ensures.cases.0 in
     let named = ap (λ o. bytes_eq o (codes "--deep")) (sym c.as_str-option.ensures.value) ∙ sym c.eq.ensures ∙ c.if-eq.false in
     let value = ap (λ o. with_value c.args.so_far o (string_bytes c.in_ok-value.value.now)) (sym c.as_str-option.ensures.value)
-        ∙ ap (with_value c.args.so_far c.as_str-option.result.now) (sym c.as_str.ensures.value) ∙ sym c.in_ok-so_far.ensures.value in
+    ∙ ap (with_value c.args.so_far c.as_str-option.result.now) (sym c.as_str.ensures.value) ∙ sym c.in_ok-so_far.ensures.value in
     rw (are, behind) (c.read_options-2.ensures.chosen
     ∙ sym (value-chosen c.args.so_far (string_bytes c.in-Some.option.now) (string_bytes c.in_ok-value.value.now) (map string_bytes c.in_ok-value.rest.now) c.in_ok-so_far.so_far named value))
