@@ -1,7 +1,7 @@
 #!/usr/bin/env python3
 """Runs the gate, or another command at the top, and lists what its checks took in seconds of processor time.
 
-usage: bench/gate.py [COMMAND..]        `rt ci` where no command is given
+usage: bench/gate.py [-C FOLDER] [COMMAND..]        `rt ci` where no command is given, in this checkout or that of FOLDER
 
 Each second it looks at the prover's processes that the command has started, so the last second of each is not counted.
 An edit's check is told by the texts of the copy that it works on. The time in all is that of the command and of each process
@@ -16,7 +16,7 @@ import subprocess
 import sys
 import time
 
-TOP = os.path.dirname(os.path.dirname(os.path.realpath(__file__)))
+HERE = os.path.dirname(os.path.dirname(os.path.realpath(__file__)))
 TICKS = os.sysconf("SC_CLK_TCK")
 
 
@@ -28,8 +28,8 @@ def text_of(path):
         return ""
 
 
-def texts_with(edit, crate):
-    """Returns the texts of the crate's files that an edit changes, by their path, once it has changed them."""
+def texts_with(edit, folder):
+    """Returns the texts of the files of a crate's folder that an edit changes, by their path, once it has changed them."""
     texts, path, old = {}, "", ""
     for line in text_of(edit).split("\n"):
         word, _, rest = line.partition(": ")
@@ -38,15 +38,15 @@ def texts_with(edit, crate):
         elif word == "old":
             old = rest
         elif line.startswith("new:"):
-            before = texts.get(path) or text_of(f"{TOP}/crates/{crate}/{path}")
+            before = texts.get(path) or text_of(f"{folder}/{path}")
             texts[path] = before.replace(old, line[len("new:") :].removeprefix(" "))
     return texts
 
 
-def edit_in(room, crate):
-    """Returns the name of the edit that a copy of a crate has, or a word for a copy with none."""
-    for edit in sorted(glob.glob(f"{TOP}/crates/{crate}/must-fail/*.edit")):
-        texts = texts_with(edit, crate)
+def edit_in(room, folder):
+    """Returns the name of the edit that a copy of a crate's folder has, or a word for a copy with none."""
+    for edit in sorted(glob.glob(f"{folder}/must-fail/*.edit")):
+        texts = texts_with(edit, folder)
         if all(text_of(f"{room}/{path}") == text for path, text in texts.items()):
             return os.path.basename(edit).removesuffix(".edit")
     return "none"
@@ -71,9 +71,9 @@ def seen(process, session):
     return (process, fields[19]), words, room, sum(map(int, fields[11:13])) / TICKS
 
 
-def main(command):
+def main(top, command):
     started, names, times = time.time(), {}, {}
-    running = subprocess.Popen(command, cwd=TOP, start_new_session=True)
+    running = subprocess.Popen(command, cwd=top, start_new_session=True)
     while running.poll() is None:
         for process in filter(str.isdigit, os.listdir("/proc")):
             it = seen(process, running.pid)
@@ -83,7 +83,7 @@ def main(command):
             if key not in names:
                 crate = words[words.index("--crate-name") + 1]
                 is_edit = os.path.basename(room).startswith("rt-edit-")
-                names[key] = crate, edit_in(room, crate) if is_edit else "tests" if "--test" in words else "proof"
+                names[key] = crate, edit_in(room, f"{top}/crates/{crate}") if is_edit else "tests" if "--test" in words else "proof"
             times[key] = spent
         time.sleep(1)
     sums, counts = collections.Counter(), collections.Counter()
@@ -105,4 +105,8 @@ def main(command):
 
 
 if __name__ == "__main__":
-    sys.exit(main(sys.argv[1:] or ["rt", "ci"]))
+    words = sys.argv[1:]
+    top = HERE
+    if words[:1] == ["-C"] and len(words) > 1:
+        top, words = os.path.realpath(words[1]), words[2:]
+    sys.exit(main(top, words or ["rt", "ci"]))
