@@ -12,6 +12,7 @@ pub mod paragraphs;
 pub mod peek;
 mod reading;
 mod refusal;
+pub mod refusing;
 pub mod save;
 pub mod words;
 pub mod wrap;

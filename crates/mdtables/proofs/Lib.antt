@@ -11,3 +11,5 @@ pub mod TableLaws
 pub mod Texts
 pub mod PlainSteps
 pub mod PlainWriteSteps
+pub mod KeptByReading
+pub mod RefusalLaws

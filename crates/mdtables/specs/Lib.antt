@@ -8,3 +8,4 @@ pub mod RowTest
 pub mod Rows
 pub mod PlainTables
 pub mod PlainWrites
+pub mod Refusals
