@@ -1,5 +1,5 @@
 -- Escapes as items: where one stands, it is read with its events.
-use Rattle.std.proofs.Common.{◌≡◌, ℕ, ◌+◌, ◌<◌, ◌∷◌, ◌++◌, [], List, Bool, true, false, cond, refl, sym, ◌∙◌, ap, subst, Option, Some, None, arith, length, take, drop, slice_get}
+use Rattle.std.proofs.Common.{◌≡◌, ℕ, ◌+◌, ◌∷◌, ◌++◌, [], List, Bool, true, false, cond, refl, sym, ◌∙◌, ap, subst, Some, None, arith, drop, slice_get}
 use Rattle.std.proofs.lemmas.Option.{slice_get_within}
 use Rattle.std.proofs.lemmas.List.{drop-drop}
 use Rattle.std.specs.Char.{is_ascii_punctuation}
@@ -8,7 +8,7 @@ use Rattle.markdown_base.specs.declared.event.Event.{Event}
 use Rattle.markdown_base.specs.declared.state.State.TheVariants.{Next, Retry}
 use Rattle.markdown_base.specs.declared.state.TheConstants.Name.{TextBefore}
 use Rattle.markdown_base.specs.Virtual.{Seat}
-use Rattle.markdown.specs.declared.waiting.Waits.TheVariants.{Nothing, Byte}
+use Rattle.markdown.specs.declared.waiting.Waits.TheVariants.{Nothing}
 use Rattle.markdown.specs.Text.{Given, Text}
 use Rattle.markdown.specs.Configuration.{Local}
 use Rattle.mdtext.specs.Items.{Item, escape, item_at, if_on, or_else}

@@ -1,13 +1,16 @@
 -- Documents, and the events of their text written out: examples of the definition, each proved by computing.
-use Rattle.std.proofs.Common.{◌≡◌, ℕ, ◌+◌, List, [], ◌∷◌, ◌++◌, Bool, true, false, None, refl, take, drop}
+use Rattle.std.proofs.Common.{◌≡◌, ℕ, ◌+◌, List, [], ◌∷◌, ◌++◌, Bool, true, false, Option, Some, None, refl, take, drop}
 use Rattle.std.specs.Prelude.{codes, replicate}
 use Rattle.markdown_base.specs.declared.configuration.Constructs.{Constructs}
+use Rattle.markdown_base.specs.declared.event.Content.TheVariants.{Text}
 use Rattle.markdown_base.specs.declared.event.Event.{Event}
 use Rattle.markdown_base.specs.declared.event.Kind.TheVariants.{Enter, Exit}
 use Rattle.markdown_base.specs.declared.event.Name.{Name}
-use Rattle.markdown_base.specs.declared.event.Name.TheVariants.{Data, LineEnding, CodeText, CodeTextSequence, CodeTextData, Autolink, AutolinkMarker, AutolinkProtocol, CharacterEscape, CharacterEscapeMarker, CharacterEscapeValue}
+use Rattle.markdown_base.specs.declared.event.Name.TheVariants.{Paragraph, Data, LineEnding, BlockQuoteMarker, CodeText, CodeTextSequence, CodeTextData, Autolink, AutolinkMarker, AutolinkProtocol, CharacterEscape, CharacterEscapeMarker, CharacterEscapeValue}
 use Rattle.markdown_base.specs.Virtual.{point, virtual}
-use Rattle.markdown_base.specs.Presets.{default_constructs}
+use Rattle.markdown_base.specs.Presets.{default_constructs, default_parse_options}
+use Rattle.markdown.specs.Engine.{given_by}
+use Rattle.mdtext.specs.ChainTexts.{with_texts}
 use Rattle.mdtext.specs.TextEvents.{seat_events}
 
 -- the events of a whole document
@@ -111,3 +114,17 @@ carriage-return = refl
 
 pub nothing : by_default [] ≡ []
 nothing = refl
+
+-- A chain of text: two chunks of a paragraph, and before the second one a quote mark, which is none of it
+abbrev chunk_at : (previous next : Option ℕ) → (line column index : ℕ) → Event
+chunk_at previous next line column index =
+    record { kind = Enter; name = Data; point = point line column index 0; link = Some (record { previous = previous; next = next; content = Text }) }
+
+abbrev quoted : List Event
+quoted = begins Paragraph 0 ∷ chunk_at None (Some 5) 1 1 0 ∷ ends_at Data 2 1 3 ∷ begins_at BlockQuoteMarker 2 1 3 ∷ ends_at BlockQuoteMarker 2 2 4
+    ∷ chunk_at (Some 1) None 2 2 4 ∷ ends_at Data 2 4 6 ∷ ends_at Paragraph 2 4 6 ∷ []
+
+pub quoted-code : with_texts (given_by (codes "`a\n>b`") default_parse_options) quoted ≡ begins Paragraph 0 ∷ begins CodeText 0 ∷ (holds CodeTextSequence 0 1 ++ (holds CodeTextData 1 2
+    ++ (begins LineEnding 2 ∷ ends_at LineEnding 2 1 3 ∷ begins_at BlockQuoteMarker 2 1 3 ∷ ends_at BlockQuoteMarker 2 2 4 ∷ begins_at CodeTextData 2 2 4 ∷ ends_at CodeTextData 2 3 5
+    ∷ begins_at CodeTextSequence 2 3 5 ∷ ends_at CodeTextSequence 2 4 6 ∷ ends_at CodeText 2 4 6 ∷ ends_at Paragraph 2 4 6 ∷ [])))
+quoted-code = refl

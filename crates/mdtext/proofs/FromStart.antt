@@ -1,11 +1,11 @@
 -- A whole document is read as its text: from the start, and as a run answers it.
-use Rattle.std.proofs.Common.{◌≡◌, ◌+◌, ◌⊎◌, inl, inr, [], List, Bool, true, false, cond, refl, sym, ◌∙◌, ap, subst, arith, length, nat_lt}
+use Rattle.std.proofs.Common.{◌≡◌, inl, inr, [], List, Bool, true, false, cond, refl, sym, ◌∙◌, ap, subst, arith, length, nat_lt}
 use Rattle.markdown_base.specs.declared.event.Event.{Event}
 use Rattle.markdown_base.specs.declared.message.Message.{Message}
 use Rattle.markdown_base.specs.declared.state.State.TheVariants.{Next, Retry, Ok, Error}
 use Rattle.markdown_base.specs.declared.state.TheConstants.Name.{TextStart, TextBefore}
 use Rattle.markdown.specs.declared.subtokenize.Subresult.{Subresult}
-use Rattle.markdown.specs.declared.waiting.Waits.TheVariants.{Nothing, Byte, End}
+use Rattle.markdown.specs.declared.waiting.Waits.TheVariants.{Byte, End}
 use Rattle.markdown.specs.Text.{Given, Text, IsDocument}
 use Rattle.markdown.specs.Configuration.{Configuration, start_configuration}
 use Rattle.markdown.specs.Calls.{with_local}
@@ -16,7 +16,7 @@ use Rattle.mdconstructs.specs.Tables.{counts}
 use Rattle.mdtext.specs.TextEvents.{text_events}
 use Rattle.mdtext.specs.TextRules.{text_rules}
 use Rattle.mdtext.proofs.Positive.{items-positive}
-use Rattle.mdtext.proofs.Steps.{text_step, EndsWith, between_items, leads-called, leads-fed}
+use Rattle.mdtext.proofs.Steps.{text_step, EndsWith, leads-called, leads-fed}
 use Rattle.mdtext.proofs.Whole.{AddsItem, reads-text}
 use Rattle.mdtext.proofs.WholeTexts.{whole-is-text}
 use Rattle.mdtext.proofs.TextItems.{adds-each-item}
@@ -34,10 +34,10 @@ module _ (g : Given) (text : Text) where
   called-fed : (k : Configuration Unit Unit) (events : List Event) → EndsWith g text k [] (Next TextBefore) events → EndsWith g text (fed text k) [] (Retry TextBefore) events
   called-fed k events h calls = let it = h calls in (it.0, ((fed-ends g (text_step g) text calls k [] TextBefore it.0).1 it.1.0, it.1.1, it.1.2))
 
-  -- from the start
-  pub from-start : AddsItem g text → EndsWith g text (start_configuration false) [] (Next TextStart) (text_events g text)
-  from-start adds =
-      let k : Configuration Unit Unit = start_configuration false in
+  -- from the start, in the first paragraph of a list item or not
+  pub from-start : (flag : Bool) → AddsItem g text → EndsWith g text (start_configuration flag) [] (Next TextStart) (text_events g text)
+  from-start flag adds =
+      let k : Configuration Unit Unit = start_configuration flag in
       let k1 = with_local k (counts k.local) in
       leads-fed g text k [] TextStart (text_events g text)
       (leads-called g text (fed text k) [] TextStart (text_events g text)
@@ -48,13 +48,13 @@ module _ (g : Given) (text : Text) where
 module _ (g : Given) (adds : AddsItem g (whole_text g)) where
   pub run-events : (events : List Event) (sub : Subresult) → IsRun g text_rules false TextStart events sub → events ≡ text_events g (whole_text g)
   run-events events sub h =
-      let there = from-start g (whole_text g) adds 0 in
+      let there = from-start g (whole_text g) false adds 0 in
       let same = one-end g (text_step g) (whole_text g) 0 (start_configuration false) [] (Next TextStart) h.result there.0 h.ends there.1.0 in
       h.events ∙ ap (λ (k : Configuration Unit Unit). k.events) h.resolved.0 ∙ ap (λ r. r.configuration.events) same ∙ there.1.2
 
   pub never-refused : (m : Message) → IsRunRefused g text_rules false TextStart m → ⊥
   never-refused m h =
-      let there = from-start g (whole_text g) adds 0 in
+      let there = from-start g (whole_text g) false adds 0 in
       let same = one-end g (text_step g) (whole_text g) 0 (start_configuration false) [] (Next TextStart) h.result there.0 h.ends there.1.0 in
       elim h.message [
         | inl refused ↦ let e : Ok ≡ Error m = sym there.1.1 ∙ sym (ap (λ r. r.answer) same) ∙ refused in absurd (cc)

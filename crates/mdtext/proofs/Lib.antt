@@ -6,6 +6,7 @@ pub mod AutolinkPlaces
 pub mod AutolinkSchemes
 pub mod AutolinkSteps
 pub mod Autolinks
+pub mod ChainEvents
 pub mod CodeSpanCalls
 pub mod CodeSpanClasses
 pub mod CodeSpanCuts
@@ -23,6 +24,7 @@ pub mod Escapes
 pub mod Examples
 pub mod FromStart
 pub mod LineEndings
+pub mod NoRefusals
 pub mod PlainClasses
 pub mod PlainData
 pub mod PlainEscapes
@@ -34,6 +36,7 @@ pub mod RunsFound
 pub mod RunsPieces
 pub mod RunsShort
 pub mod Steps
+pub mod TextEnds
 pub mod TextItems
 pub mod Whole
 pub mod WholeTexts

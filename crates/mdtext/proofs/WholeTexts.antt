@@ -8,7 +8,7 @@ use Rattle.std.proofs.lemmas.List.Elements.{Contains-append_right}
 use Rattle.markdown_base.specs.declared.event.Point.{Point}
 use Rattle.markdown_base.specs.Virtual.{Seat, point, virtual, end_after, document_end}
 use Rattle.markdown_base.specs.Places.{stands_before, shown, IsPointOf, is_upto}
-use Rattle.markdown.specs.Text.{Given, Text, IsDocument, IsText, pushed, in_range}
+use Rattle.markdown.specs.Text.{Given, IsDocument, IsText, pushed, in_range}
 use Rattle.markdown.specs.Engine.{whole_text}
 use Rattle.markdown.proofs.PlaceOrder.{every-map, filter-every}
 use Rattle.markdown.proofs.PlaceChains.{IsChain, whole-chain}

@@ -1,3 +1,4 @@
+pub mod ChainTexts
 pub mod Items
 pub mod TextCosts
 pub mod TextEvents

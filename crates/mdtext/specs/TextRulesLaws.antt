@@ -79,7 +79,7 @@ module _ (g : Given) where
   flow-kept : KeepsInvariant g (flow_rules g)
   flow-kept = knowing-invariant_kept flow knows_chunk g flow-fit flow-known
 
-  inline-kept : KeepsInvariant g (inline_rules g)
+  pub inline-kept : KeepsInvariant g (inline_rules g)
   inline-kept = invariant_kept g late (table-keeps_plain_writing texts g texts-plain) (late-invariant_kept texts begins_construct follows_construct g texts-late)
 
   pub text-consumes_once : ConsumesOnce g (text_rules g)

@@ -8,6 +8,7 @@ ghost use Rattle.markdown.specs.Configuration.{at_configuration};
 ghost use Rattle.markdown.specs.Sight.{sight_seen};
 ghost use Rattle.mdconstructs.specs.Costs.{StartsAmong};
 ghost use Rattle.markdown.specs.declared.waiting.Waits.TheVariants.{Byte};
+ghost use Rattle.mdtables.specs.Refusals.{RefuseNothing};
 ghost use Rattle.mdtables.specs.Rows.{class_of, picked, step_of};
 ghost use Rattle.mdtables.specs.RowInvariant.{DoesAll, IsCallable, step_in};
 ghost use Rattle.mdtext.specs.TextCosts.{text_byte, is_tick};
@@ -105,6 +106,11 @@ impl Machine for Text {
 pub fn cost_at_the_start()
     ensures paragraphs { StartsAmong text_rules (FlowStart ∷ TextStart ∷ []) FlowStart (λ n. 4 * n + 3) }
     ensures text { StartsAmong text_rules (FlowStart ∷ TextStart ∷ []) TextStart (λ n. 4 * n * n + 9 * n + 2) }
+{}
+
+/// No reading by this machine ends in a message, of whatever text and from whatever state: it makes events of each document.
+pub fn no_document_is_refused()
+    ensures { RefuseNothing text_rules }
 {}
 
 /// In front of a text.
