@@ -1,2 +1,3 @@
+pub mod DeepRefusals
 pub mod OptionWords
 pub mod ShortNames

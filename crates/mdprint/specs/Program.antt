@@ -26,6 +26,7 @@ use Rattle.mdconstructs.specs.Peek.{peek_rules}
 use Rattle.mdconstructs.specs.Deep.{deep_rules}
 use Rattle.mdconstructs.specs.Back.{back_rules}
 use Rattle.mdconstructs.specs.Save.{save_rules}
+use Rattle.mdtext.specs.ChainTexts.{with_texts}
 use Rattle.mdtext.specs.TextRules.{text_rules}
 use Rattle.mdprint.specs.Printed.{printed_events}
 use Rattle.mdprint.specs.Reading.{IsWithinLimit}
@@ -40,13 +41,13 @@ document t bytes = given_by bytes (options_with t)
 
 -- a machine
 module _ {R D : Type 0} (rules : Given → Rules R D) (t : ℕ) (bytes : List ℕ) where
-  -- events of a document with the children of their chains of text in place of the chunks, all read by the machine
+  -- events of a document, whose chains of text can be read, with the children of these in place of the chunks, all read by the machine
   abbrev pub HasChildren : List Event → List Event → Type 0
-  HasChildren old new = (sub : Subresult) × IsSubtokenized (document t bytes) rules (Some TextContent) old new sub
+  HasChildren old new = IsReady t bytes (Some TextContent) old × ((sub : Subresult) × IsSubtokenized (document t bytes) rules (Some TextContent) old new sub)
 
   -- the first of these children that does not end well ends in a message
   abbrev pub HasRefusedChild : List Event → Message → Type 0
-  HasRefusedChild old m = IsSubtokenizeRefused (document t bytes) rules (Some TextContent) old m
+  HasRefusedChild old m = IsReady t bytes (Some TextContent) old × IsSubtokenizeRefused (document t bytes) rules (Some TextContent) old m
 
 -- a machine with a start
 module _ {R D : Type 0} (rules : Given → Rules R D) (start : Name) (t : ℕ) (bytes : List ℕ) where
@@ -66,6 +67,11 @@ module _ {R D : Type 0} (rules : Given → Rules R D) (start : Name) (t : ℕ) (
   abbrev pub GivesUnready : Type 0
   GivesUnready = (flat : List Event) × Gives flat × ¬ IsReady t bytes (Some TextContent) flat
 
+-- a run of the machine of texts answers events, and these are they with the texts of their chains in place of the chunks: each text by
+-- its items, by a definition without states
+abbrev pub GivesTexts : (t : ℕ) → List ℕ → List Event → Type 0
+GivesTexts t bytes events = (flat : List Event) × Gives text_rules FlowStart t bytes flat × HasChildren text_rules t bytes flat events × (events ≡ with_texts (document t bytes) flat)
+
 -- the events of a document are those that its machine gives, and with `--deep` those with children; two machines alone link
 abbrev pub AreEventsOf : (deep : Bool) → Which → (t : ℕ) → List ℕ → List Event → Type 0
 AreEventsOf deep Lines = Gives lines_rules FlowStart
@@ -76,19 +82,7 @@ AreEventsOf deep Deep = Gives deep_rules StringStart
 AreEventsOf deep Back = Gives back_rules TextStart
 AreEventsOf deep Save = Gives save_rules TextStart
 AreEventsOf false Text = Gives text_rules FlowStart
-AreEventsOf true Text = GivesDeep text_rules FlowStart
-
--- a document is refused where its machine refuses it, and with `--deep` where it refuses a child
-abbrev pub IsRefusedBy : (deep : Bool) → Which → (t : ℕ) → List ℕ → Message → Type 0
-IsRefusedBy deep Lines t bytes = IsRunRefused (document t bytes) lines_rules false FlowStart
-IsRefusedBy false Paragraphs t bytes = IsRunRefused (document t bytes) paragraphs_rules false FlowStart
-IsRefusedBy true Paragraphs t bytes = IsRefusedDeep paragraphs_rules FlowStart t bytes
-IsRefusedBy deep Peek t bytes = IsRunRefused (document t bytes) peek_rules false TextStart
-IsRefusedBy deep Deep t bytes = IsRunRefused (document t bytes) deep_rules false StringStart
-IsRefusedBy deep Back t bytes = IsRunRefused (document t bytes) back_rules false TextStart
-IsRefusedBy deep Save t bytes = IsRunRefused (document t bytes) save_rules false TextStart
-IsRefusedBy false Text t bytes = IsRunRefused (document t bytes) text_rules false FlowStart
-IsRefusedBy true Text t bytes = IsRefusedDeep text_rules FlowStart t bytes
+AreEventsOf true Text = GivesTexts
 
 -- the events of a document are not ready: with `--deep` alone, where its machine gives some that are not
 abbrev pub IsUnreadyBy : (deep : Bool) → Which → (t : ℕ) → List ℕ → Type 0
@@ -111,10 +105,6 @@ pub record IsReadToEnd (t : ℕ) (old new : Option (List ℕ)) (bytes : List ℕ
   pub all : Consumes old new bytes
   pub end : IsAtEnd new
   pub within : IsWithinLimit t bytes
-
--- what was read to its end is refused with this message
-abbrev pub IsReadAndRefused : Choice → Option (List ℕ) → Option (List ℕ) → Message → Type 0
-IsReadAndRefused choice old new m = (bytes : List ℕ) × IsReadToEnd choice.tab old new bytes × IsRefusedBy choice.deep choice.machine choice.tab bytes m
 
 -- the events of what was read to its end are not ready
 abbrev pub IsReadAndUnready : Choice → Option (List ℕ) → Option (List ℕ) → Type 0

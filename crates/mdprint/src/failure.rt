@@ -21,7 +21,7 @@ pub enum Failure {
     TooLong,
     /// The events have chains of text that cannot be read. Answered with `--deep` alone.
     NotReady,
-    /// The document is refused.
+    /// The document is refused, by a state or a resolver. No machine that the program offers does that.
     Message(Message),
 }
 

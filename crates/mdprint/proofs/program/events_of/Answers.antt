@@ -1,16 +1,22 @@
+use Rattle.std.proofs.Common.{false}
+use Rattle.mdtables.proofs.RefusalLaws.{no-run-refused}
+use Rattle.mdconstructs.specs.Lines.{lines_rules}
+use Rattle.mdconstructs.specs.Paragraphs.{paragraphs_rules}
+use Rattle.mdconstructs.specs.Peek.{peek_rules}
+use Rattle.mdconstructs.specs.Deep.{deep_rules}
+use Rattle.mdconstructs.specs.Back.{back_rules}
+use Rattle.mdconstructs.specs.Save.{save_rules}
+use Rattle.mdconstructs.proofs.NoRefusals.{lines-refuse-nothing, paragraphs-refuse-nothing, peek-refuses-nothing, deep-refuses-nothing, back-refuses-nothing, save-refuses-nothing}
+use Rattle.mdtext.specs.TextRules.{text_rules}
+use Rattle.mdtext.proofs.NoRefusals.{text-refuses-nothing}
+use Rattle.mdprint.proofs.DeepRefusals.{none-refused-deep}
 use Rattle.mdprint.proofs.program.events_of.Goals as goal
 
 pub returns-in-Lines-clause-events : goal.returns-in-Lines-clause-events
 returns-in-Lines-clause-events c = let e = c.in-Lines.is in rw e c.read_by.ensures.events
 
-pub returns-in-Lines-clause-message : goal.returns-in-Lines-clause-message
-returns-in-Lines-clause-message c = let e = c.in-Lines.is in rw e c.read_by.ensures.message
-
 pub returns-in-Paragraphs-clause-events : goal.returns-in-Paragraphs-clause-events
 returns-in-Paragraphs-clause-events c = let e = c.in-Paragraphs.is in let d = c.if-choice.true in rw (e, d) c.read_deep_by.ensures.events
-
-pub returns-in-Paragraphs-clause-message : goal.returns-in-Paragraphs-clause-message
-returns-in-Paragraphs-clause-message c = let e = c.in-Paragraphs.is in let d = c.if-choice.true in rw (e, d) c.read_deep_by.ensures.message
 
 pub returns-in-Paragraphs-clause-unready : goal.returns-in-Paragraphs-clause-unready
 returns-in-Paragraphs-clause-unready c = let e = c.in-Paragraphs.is in let d = c.if-choice.true in rw (e, d) c.read_deep_by.ensures.unready
@@ -18,44 +24,50 @@ returns-in-Paragraphs-clause-unready c = let e = c.in-Paragraphs.is in let d = c
 pub returns-in-Paragraphs-2-clause-events : goal.returns-in-Paragraphs-2-clause-events
 returns-in-Paragraphs-2-clause-events c = let e = c.in-Paragraphs-2.is in let d = c.if-choice.false in rw (e, d) c.read_by-in-Paragraphs-2.ensures.events
 
-pub returns-in-Paragraphs-2-clause-message : goal.returns-in-Paragraphs-2-clause-message
-returns-in-Paragraphs-2-clause-message c = let e = c.in-Paragraphs-2.is in let d = c.if-choice.false in rw (e, d) c.read_by-in-Paragraphs-2.ensures.message
-
 pub returns-in-Peek-clause-events : goal.returns-in-Peek-clause-events
 returns-in-Peek-clause-events c = let e = c.in-Peek.is in rw e c.read_by-in-Peek.ensures.events
-
-pub returns-in-Peek-clause-message : goal.returns-in-Peek-clause-message
-returns-in-Peek-clause-message c = let e = c.in-Peek.is in rw e c.read_by-in-Peek.ensures.message
 
 pub returns-in-Deep-clause-events : goal.returns-in-Deep-clause-events
 returns-in-Deep-clause-events c = let e = c.in-Deep.is in rw e c.read_by-in-Deep.ensures.events
 
-pub returns-in-Deep-clause-message : goal.returns-in-Deep-clause-message
-returns-in-Deep-clause-message c = let e = c.in-Deep.is in rw e c.read_by-in-Deep.ensures.message
-
 pub returns-in-Back-clause-events : goal.returns-in-Back-clause-events
 returns-in-Back-clause-events c = let e = c.in-Back.is in rw e c.read_by-in-Back.ensures.events
-
-pub returns-in-Back-clause-message : goal.returns-in-Back-clause-message
-returns-in-Back-clause-message c = let e = c.in-Back.is in rw e c.read_by-in-Back.ensures.message
 
 pub returns-in-Save-clause-events : goal.returns-in-Save-clause-events
 returns-in-Save-clause-events c = let e = c.in-Save.is in rw e c.read_by-in-Save.ensures.events
 
-pub returns-in-Save-clause-message : goal.returns-in-Save-clause-message
-returns-in-Save-clause-message c = let e = c.in-Save.is in rw e c.read_by-in-Save.ensures.message
-
 pub returns-in-Text-clause-events : goal.returns-in-Text-clause-events
-returns-in-Text-clause-events c = let e = c.in-Text.is in let d = c.if-choice-2.true in rw (e, d) c.read_deep_by-in-Text.ensures.events
-
-pub returns-in-Text-clause-message : goal.returns-in-Text-clause-message
-returns-in-Text-clause-message c = let e = c.in-Text.is in let d = c.if-choice-2.true in rw (e, d) c.read_deep_by-in-Text.ensures.message
+returns-in-Text-clause-events c = let e = c.in-Text.is in let d = c.if-choice-2.true in rw (e, d) c.read_texts.ensures.events
 
 pub returns-in-Text-clause-unready : goal.returns-in-Text-clause-unready
-returns-in-Text-clause-unready c = let e = c.in-Text.is in let d = c.if-choice-2.true in rw (e, d) c.read_deep_by-in-Text.ensures.unready
+returns-in-Text-clause-unready c = let e = c.in-Text.is in let d = c.if-choice-2.true in rw (e, d) c.read_texts.ensures.unready
 
 pub returns-clause-events : goal.returns-clause-events
 returns-clause-events c = let e = c.in-Text-2.is in let d = c.if-choice-2.false in rw (e, d) c.read_by-in-Text-2.ensures.events
 
-pub returns-clause-message : goal.returns-clause-message
-returns-clause-message c = let e = c.in-Text-2.is in let d = c.if-choice-2.false in rw (e, d) c.read_by-in-Text-2.ensures.message
+pub returns-in-Lines-clause-taken : goal.returns-in-Lines-clause-taken
+returns-in-Lines-clause-taken c = λ m e. no-run-refused lines_rules lines-refuse-nothing _ false _ m (c.read_by.ensures.message m e)
+
+pub returns-in-Paragraphs-clause-taken : goal.returns-in-Paragraphs-clause-taken
+returns-in-Paragraphs-clause-taken c = λ m e. none-refused-deep paragraphs_rules paragraphs-refuse-nothing _ _ _ m (c.read_deep_by.ensures.message m e)
+
+pub returns-in-Paragraphs-2-clause-taken : goal.returns-in-Paragraphs-2-clause-taken
+returns-in-Paragraphs-2-clause-taken c = λ m e. no-run-refused paragraphs_rules paragraphs-refuse-nothing _ false _ m (c.read_by-in-Paragraphs-2.ensures.message m e)
+
+pub returns-in-Peek-clause-taken : goal.returns-in-Peek-clause-taken
+returns-in-Peek-clause-taken c = λ m e. no-run-refused peek_rules peek-refuses-nothing _ false _ m (c.read_by-in-Peek.ensures.message m e)
+
+pub returns-in-Deep-clause-taken : goal.returns-in-Deep-clause-taken
+returns-in-Deep-clause-taken c = λ m e. no-run-refused deep_rules deep-refuses-nothing _ false _ m (c.read_by-in-Deep.ensures.message m e)
+
+pub returns-in-Back-clause-taken : goal.returns-in-Back-clause-taken
+returns-in-Back-clause-taken c = λ m e. no-run-refused back_rules back-refuses-nothing _ false _ m (c.read_by-in-Back.ensures.message m e)
+
+pub returns-in-Save-clause-taken : goal.returns-in-Save-clause-taken
+returns-in-Save-clause-taken c = λ m e. no-run-refused save_rules save-refuses-nothing _ false _ m (c.read_by-in-Save.ensures.message m e)
+
+pub returns-in-Text-clause-taken : goal.returns-in-Text-clause-taken
+returns-in-Text-clause-taken c = c.read_texts.ensures.taken
+
+pub returns-clause-taken : goal.returns-clause-taken
+returns-clause-taken c = λ m e. no-run-refused text_rules text-refuses-nothing _ false _ m (c.read_by-in-Text-2.ensures.message m e)
