@@ -1,3 +1,3 @@
-pub mod DeepRefusals
+pub mod DeepEvents
 pub mod OptionWords
 pub mod ShortNames

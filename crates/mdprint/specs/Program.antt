@@ -84,18 +84,6 @@ AreEventsOf deep Save = Gives save_rules TextStart
 AreEventsOf false Text = Gives text_rules FlowStart
 AreEventsOf true Text = GivesTexts
 
--- the events of a document are not ready: with `--deep` alone, where its machine gives some that are not
-abbrev pub IsUnreadyBy : (deep : Bool) → Which → (t : ℕ) → List ℕ → Type 0
-IsUnreadyBy deep Lines t bytes = ⊥
-IsUnreadyBy false Paragraphs t bytes = ⊥
-IsUnreadyBy true Paragraphs t bytes = GivesUnready paragraphs_rules FlowStart t bytes
-IsUnreadyBy deep Peek t bytes = ⊥
-IsUnreadyBy deep Deep t bytes = ⊥
-IsUnreadyBy deep Back t bytes = ⊥
-IsUnreadyBy deep Save t bytes = ⊥
-IsUnreadyBy false Text t bytes = ⊥
-IsUnreadyBy true Text t bytes = GivesUnready text_rules FlowStart t bytes
-
 -- where a document is cut: nowhere, or at every n-th of its virtual bytes
 abbrev pub cut_places : Choice → List ℕ → List (ℕ × ℕ)
 cut_places choice bytes = option_map_or (cuts_every choice.tab bytes) choice.cut []
@@ -105,10 +93,6 @@ pub record IsReadToEnd (t : ℕ) (old new : Option (List ℕ)) (bytes : List ℕ
   pub all : Consumes old new bytes
   pub end : IsAtEnd new
   pub within : IsWithinLimit t bytes
-
--- the events of what was read to its end are not ready
-abbrev pub IsReadAndUnready : Choice → Option (List ℕ) → Option (List ℕ) → Type 0
-IsReadAndUnready choice old new = (bytes : List ℕ) × IsReadToEnd choice.tab old new bytes × IsUnreadyBy choice.deep choice.machine choice.tab bytes
 
 -- What was read to its end has these printed events
 pub record ArePrintedEvents (choice : Choice) (old new : Option (List ℕ)) (text : List ℕ) : Type 0 where

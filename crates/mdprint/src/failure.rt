@@ -19,7 +19,7 @@ pub enum Failure {
     Write,
     /// The size of tabs times the length of the input, and one more, do not fit `usize`.
     TooLong,
-    /// The events have chains of text that cannot be read. Answered with `--deep` alone.
+    /// The events have chains of text that cannot be read. Those of a machine that the program offers all can.
     NotReady,
     /// The document is refused, by a state or a resolver. No machine that the program offers does that.
     Message(Message),

@@ -5,9 +5,9 @@ ghost use Rattle.std.specs.Io.KnownBytes.{Keeps};
 ghost use Rattle.markdown.specs.Engine.{AreCuts};
 ghost use Rattle.mdprint.specs.Failure.{IsOfMaking};
 ghost use Rattle.markdown.specs.Engine.{IsRunRefused};
-ghost use Rattle.mdprint.specs.Program.{options_with, document, cut_places, Gives, GivesDeep, GivesTexts, IsRefusedDeep, GivesUnready, HasChildren, HasRefusedChild, AreEventsOf, IsUnreadyBy, IsReadAndUnready, Prints, PrintsFront};
+ghost use Rattle.markdown.specs.Text.{IsDocument};
+ghost use Rattle.mdprint.specs.Program.{options_with, document, cut_places, Gives, GivesDeep, IsRefusedDeep, GivesUnready, HasChildren, HasRefusedChild, AreEventsOf, Prints, PrintsFront};
 ghost use Rattle.mdchildren.specs.Ready.{IsReady};
-ghost use Rattle.mdtext.specs.TextRules.{text_rules};
 ghost use Rattle.mdprint.specs.Reading.{IsWithinLimit, ReadsWithinLimit, ReadsPastLimit};
 ghost use Rattle.mdprint.specs.Words.{CanCut};
 
@@ -36,8 +36,8 @@ use std::io::{Read, Write};
 ///
 /// Tab stops stand where the choice says. A cut in it is at least 1. The first failure met is answered, in the order of reading, length, making the
 /// events, and writing. Where it is not that of the writer nothing was written; where it is, a beginning of the lines.
-/// But for `TooLong`, what was read is within the limit. `NotReady` is answered only with `--deep`, where the chains of text in
-/// the machine's events cannot be read. `Message` is never answered: no machine that can be chosen refuses a document.
+/// But for `TooLong`, what was read is within the limit. Two failures are never answered: `Message`, as no machine that can be
+/// chosen refuses a document, and `NotReady`, as the chains of text in what such a machine reads can be read.
 pub fn write_events<R: Read, W: Write>(
     alloc: Global,
     reader: &mut R,
@@ -48,8 +48,8 @@ pub fn write_events<R: Read, W: Write>(
     ensures written { OnOk result (Prints choice.now R.remaining reader.old reader.new W.contents writer.old writer.new) }
     ensures too_long { IsErrOf result Failure.TooLong → ReadsPastLimit choice.now.tab (R.remaining reader.old) (R.remaining reader.new) }
     ensures within_else { IfErr result (λ failure. failure ≢ Failure.TooLong → ReadsWithinLimit choice.now.tab (R.remaining reader.old) (R.remaining reader.new)) }
-    ensures unready { IsErrOf result Failure.NotReady → IsReadAndUnready choice.now (R.remaining reader.old) (R.remaining reader.new) }
     ensures taken { (m : _) → ¬ IsErrOf result (Failure.Message m) }
+    ensures ready { ¬ IsErrOf result Failure.NotReady }
     ensures cut_short { IsErrOf result Failure.Write → PrintsFront choice.now R.remaining reader.old reader.new W.contents writer.old writer.new }
     ensures nothing { IfErr result (λ failure. failure ≢ Failure.Write → Keeps (W.contents writer.old) (W.contents writer.new)) }
 {
@@ -64,7 +64,7 @@ fn events_of(alloc: Global, bytes: &[u8], choice: &Choice) -> Result<Vec<Event>,
     requires cut { CanCut choice.now }
     ensures events { IfOk result (λ events. AreEventsOf choice.now.deep choice.now.machine choice.now.tab bytes.now events.items) }
     ensures taken { (m : _) → ¬ IsErrOf result (Failure.Message m) }
-    ensures unready { IsErrOf result Failure.NotReady → IsUnreadyBy choice.now.deep choice.now.machine choice.now.tab bytes.now }
+    ensures ready { ¬ IsErrOf result Failure.NotReady }
     ensures cause { IfErr result IsOfMaking }
 {
     let cuts = cuts_of(alloc, bytes, choice)?;
@@ -80,7 +80,9 @@ fn events_of(alloc: Global, bytes: &[u8], choice: &Choice) -> Result<Vec<Event>,
         Which::Deep => read_by(alloc, &Deep {}, Name::StringStart, bytes, tab, cuts),
         Which::Back => read_by(alloc, &Back {}, Name::TextStart, bytes, tab, cuts),
         Which::Save => read_by(alloc, &Save {}, Name::TextStart, bytes, tab, cuts),
-        Which::Text if choice.deep => read_texts(alloc, bytes, tab, cuts),
+        Which::Text if choice.deep => {
+            read_deep_by(alloc, &Text {}, Name::FlowStart, bytes, tab, cuts)
+        }
         Which::Text => read_by(alloc, &Text {}, Name::FlowStart, bytes, tab, cuts),
     }
 }
@@ -143,28 +145,12 @@ fn read_deep_by<M: Machine>(
     ensures message { (m : _) → IsErrOf result (Failure.Message m) → IsRefusedDeep (M.rules machine.now) start tab bytes.now m }
     ensures unready { IsErrOf result Failure.NotReady → GivesUnready (M.rules machine.now) start tab bytes.now }
     ensures cause { IfErr result IsOfMaking }
-{
-    let events = read_by(alloc, machine, start, bytes, tab, cuts)?;
-    with_children(alloc, machine, bytes, tab, events)
-}
-
-/// The events of a document, as the machine of texts reads it, with the texts of their chains in place of the chunks.
-fn read_texts(
-    alloc: Global,
-    bytes: &[u8],
-    tab: TabSize,
-    cuts: &[(usize, usize)],
-) -> Result<Vec<Event>, Failure>
-    requires limit { IsWithinLimit tab bytes.now }
-    requires cuts { AreCuts tab bytes.now cuts.now }
-    ensures events { IfOk result (λ events. GivesTexts tab bytes.now events.items) }
-    ensures taken { (m : _) → ¬ IsErrOf result (Failure.Message m) }
-    ensures unready { IsErrOf result Failure.NotReady → GivesUnready text_rules Name.FlowStart tab bytes.now }
-    ensures cause { IfErr result IsOfMaking }
+    ensures document { IsDocument (document tab bytes.now) }
 {
     // Tab stops are apart, as the type of their size tells: that makes the document one that can be read.
     let _ = tab.get();
-    read_deep_by(alloc, &Text {}, Name::FlowStart, bytes, tab, cuts)
+    let events = read_by(alloc, machine, start, bytes, tab, cuts)?;
+    with_children(alloc, machine, bytes, tab, events)
 }
 
 /// The events with the children of their chains of text in place of the chunks, each read from its start by the same machine.

@@ -1,11 +1,15 @@
 -- What calls, feeding and the ends of choices keep holds where a reading ends, if it holds where the reading begins.
-use Rattle.std.proofs.Common.{◌≡◌, ℕ, zero, suc, ◌+◌, List, [], ◌∷◌, ◌++◌, Option, Some, None, refl, subst}
+use Rattle.std.proofs.Common.{◌≡◌, ℕ, zero, suc, ◌+◌, List, [], ◌∷◌, ◌++◌, Bool, Option, Some, None, refl, sym, subst}
+use Rattle.std.specs.Prelude.{Contains}
 use Rattle.markdown_base.specs.declared.message.Message.{Message}
 use Rattle.markdown_base.specs.declared.state.Name.{Name}
 use Rattle.markdown_base.specs.declared.state.State.{State}
 use Rattle.markdown_base.specs.declared.state.State.TheVariants.{Next, Retry, Ok, Nok, Error}
-use Rattle.markdown.specs.Text.{Given, Text}
-use Rattle.markdown.specs.Configuration.{Configuration, Choice, Step}
+use Rattle.markdown.specs.Text.{Given, Text, IsText, empty_text}
+use Rattle.markdown.specs.Configuration.{Configuration, Choice, Step, start_configuration}
+use Rattle.markdown.specs.Rules.{Rules}
+use Rattle.markdown.specs.Lawful.{KeepsInvariant}
+use Rattle.markdown.proofs.Working.{holds-on}
 use Rattle.markdown.specs.Sight.{Sight, sight}
 use Rattle.markdown.specs.Reading.{Reading, EndsIn, fed, settled_at, more_calls, settle, after_choices, read}
 
@@ -85,3 +89,19 @@ module _ {R D : Type 0} (g : Given) (step : Sight → Configuration R D → Name
     -- and where it ends in a message
     pub kept-refused : (m : Message) → r.answer ≡ Error m → (ds : List Choice) × P r.configuration ds (Error m)
     kept-refused m is = subst (HoldsIn [] r.configuration) is ended
+
+-- A lawful machine keeps its invariant, and it holds where a text is begun
+module _ {R D : Type 0} (g : Given) (rules : Rules R D) (law : KeepsInvariant g rules) (text : Text) (is : IsText g text) where
+  pub lawful-kept : IsKept g rules.step text (λ k cs s. rules.holds text k cs s)
+  lawful-kept = record {
+    by_feeding = λ k cs name h. law.by_feeding text k cs name is h;
+    by_calls = λ k cs name h. law.by_calls text k cs name is h;
+    by_ok = λ k c cs h. law.by_ok text k c cs is h;
+    by_nok = λ k c cs h. law.by_nok text k c cs is h;
+  }
+
+  pub holds-at-start : (flag : Bool) (name : Name) → Contains rules.starts name → rules.holds text (start_configuration flag) [] (Next name)
+  holds-at-start flag name among =
+      let first : IsText g (empty_text text.start) = record { document = is.document; starts = is.starts; pieces = []; follow = tt; is = refl } in
+      subst (λ (w : Text). rules.holds w (start_configuration flag) [] (Next name)) (sym is.is)
+      (holds-on g rules law (empty_text text.start) is.pieces (start_configuration flag) [] (Next name) first is.follow refl (law.at_starts text.start flag name first among))

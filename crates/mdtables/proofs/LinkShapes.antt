@@ -15,7 +15,7 @@ same-or-not (suc i) zero = inr (λ e. absurd (omega (arith, e)))
 same-or-not (suc i) (suc p) = elim (same-or-not i p) [ inl e ↦ inl (ap suc e) | inr apart ↦ inr (λ e. apart (omega (arith, e))) ]
 
 -- Events that are added
-next-more : (xs : List Event) (e : Event) (i : ℕ) → next_end e ≡ None → next_of (xs ++ e ∷ []) i ≡ next_of xs i
+pub next-more : (xs : List Event) (e : Event) (i : ℕ) → next_end e ≡ None → next_of (xs ++ e ∷ []) i ≡ next_of xs i
 next-more [] e zero h = h
 next-more [] e (suc i) h = refl
 next-more (x ∷ xs) e zero h = refl
@@ -76,7 +76,7 @@ get-other zero (suc i) f (x ∷ xs) apart = refl
 get-other (suc p) zero f (x ∷ xs) apart = refl
 get-other (suc p) (suc i) f (x ∷ xs) apart = get-other p i f xs (λ e. apart (ap suc e))
 
-next-other : (p i : ℕ) (f : Event → Event) (xs : List Event) → (i ≡ p → ⊥) → next_of (updated_at p f xs) i ≡ next_of xs i
+pub next-other : (p i : ℕ) (f : Event → Event) (xs : List Event) → (i ≡ p → ⊥) → next_of (updated_at p f xs) i ≡ next_of xs i
 next-other p i f xs apart = ap (λ (o : Option Event). option_and_then (λ (e : Event). option_and_then (λ (l : Link). l.next) e.link) o) (get-other p i f xs apart)
 
 previous-other : (p i : ℕ) (f : Event → Event) (xs : List Event) → (i ≡ p → ⊥) → previous_of (updated_at p f xs) i ≡ previous_of xs i
@@ -97,7 +97,7 @@ previous-kept zero n (suc i) (x ∷ xs) = refl
 previous-kept (suc p) n zero (x ∷ xs) = refl
 previous-kept (suc p) n (suc i) (x ∷ xs) = previous-kept p n i xs
 
-next-kept : (p n i : ℕ) (xs : List Event) → next_of (updated_at p (with_previous n) xs) i ≡ next_of xs i
+pub next-kept : (p n i : ℕ) (xs : List Event) → next_of (updated_at p (with_previous n) xs) i ≡ next_of xs i
 next-kept p n i [] = refl
 next-kept zero n zero (x ∷ xs) = kept-next n x.link
 next-kept zero n (suc i) (x ∷ xs) = refl

@@ -27,7 +27,7 @@ use Rattle.mdtext.proofs.Steps.{text_step}
 use Rattle.mdtext.proofs.TextEnds.{resolved-events, reading-events, reading-plain}
 
 -- what passes the filter of text is text
-is-text-content : (o : Option Content) → some_fits (Some TextContent) o ≡ true → o ≡ Some TextContent
+pub is-text-content : (o : Option Content) → some_fits (Some TextContent) o ≡ true → o ≡ Some TextContent
 is-text-content None h = absurd (cc)
 is-text-content (Some Flow) h = absurd (cc)
 is-text-content (Some content.Content) h = absurd (cc)

@@ -7,6 +7,8 @@ pub mod AutolinkSchemes
 pub mod AutolinkSteps
 pub mod Autolinks
 pub mod ChainEvents
+pub mod ChunkPairs
+pub mod ChunksReady
 pub mod CodeSpanCalls
 pub mod CodeSpanClasses
 pub mod CodeSpanCuts
@@ -25,6 +27,8 @@ pub mod Examples
 pub mod FromStart
 pub mod LineEndings
 pub mod NoRefusals
+pub mod ParagraphSteps
+pub mod ParagraphsReady
 pub mod PlainClasses
 pub mod PlainData
 pub mod PlainEscapes
@@ -39,4 +43,5 @@ pub mod Steps
 pub mod TextEnds
 pub mod TextItems
 pub mod Whole
+pub mod WholePlaces
 pub mod WholeTexts

@@ -1,11 +1,11 @@
 -- What reading a text ends in: the events of its items, with nothing left to resolve.
-use Rattle.std.proofs.Common.{◌≡◌, List, [], Bool, true, Some, refl, sym, ◌∙◌, ap, subst, arith}
+use Rattle.std.proofs.Common.{◌≡◌, List, [], Bool, true, Some, sym, ◌∙◌, ap, arith}
 use Rattle.std.specs.Prelude.{Contains}
 use Rattle.markdown_base.specs.declared.state.State.{State}
 use Rattle.markdown_base.specs.declared.state.State.TheVariants.{Next, Ok}
 use Rattle.markdown_base.specs.declared.state.TheConstants.Name.{TextStart}
 use Rattle.markdown.specs.declared.subtokenize.Subresult.{Subresult}
-use Rattle.markdown.specs.Text.{Given, Text, IsText, empty_text}
+use Rattle.markdown.specs.Text.{Given, Text, IsText}
 use Rattle.markdown.specs.Configuration.{Configuration, Choice, start_configuration}
 use Rattle.markdown.specs.Plain.{IsPlain}
 use Rattle.markdown.specs.Reading.{Reading, EndsIn}
@@ -14,8 +14,7 @@ use Rattle.markdown.specs.Calls.{with_resolvers}
 use Rattle.markdown_edits.specs.Edited.{edited}
 use Rattle.markdown.proofs.PlainLaws.{edited-same}
 use Rattle.markdown.proofs.Readings.{one-end}
-use Rattle.markdown.proofs.Working.{holds-on}
-use Rattle.mdtables.proofs.KeptByReading.{IsKept, kept-well}
+use Rattle.mdtables.proofs.KeptByReading.{IsKept, kept-well, holds-at-start}
 use Rattle.mdtext.specs.TextEvents.{text_events}
 use Rattle.mdtext.specs.TextRules.{inline_rules, text_rules}
 use Rattle.mdtext.specs.TextRulesLaws.{texts-apart, inline-kept}
@@ -51,17 +50,8 @@ module _ (g : Given) (text : Text) (k : Configuration Unit Unit) (plain : IsPlai
       sym (ap (λ (q : Configuration Unit Unit). q.events) same) ∙ ap (λ es. edited es k.events) plain.1 ∙ edited-same k.events plain.2
 
 module _ (g : Given) (text : Text) (is : IsText g text) (flag : Bool) where
-  first-text : IsText g (empty_text text.start)
-  first-text = record { document = is.document; starts = is.starts; pieces = []; follow = tt; is = refl }
-
   starts-so : Contains (inline_rules g).starts TextStart
   starts-so = (0, omega arith, (cc))
-
-  holds-at-start : (inline_rules g).holds text (start_configuration flag) [] (Next TextStart)
-  holds-at-start =
-      subst (λ (w : Text). (inline_rules g).holds w (start_configuration flag) [] (Next TextStart)) (sym is.is)
-      (holds-on g (inline_rules g) (inline-kept g) (empty_text text.start) is.pieces (start_configuration flag) [] (Next TextStart) first-text is.follow refl
-      ((inline-kept g).at_starts text.start flag TextStart first-text starts-so))
 
   module _ (r : Reading Unit Unit) (ends : EndsIn g (text_step g) text 0 (start_configuration flag) [] (Next TextStart) r) where
     there-same : let there = from-start g text flag (adds-each-item g text is (runs-of-text g text is)) 0 in r ≡ there.0
@@ -78,4 +68,4 @@ module _ (g : Given) (text : Text) (is : IsText g text) (flag : Bool) where
         let there = from-start g text flag (adds-each-item g text is (runs-of-text g text is)) 0 in ap (λ (q : Reading Unit Unit). q.configuration.events) there-same ∙ there.1.2
 
     pub reading-plain : IsPlain r.configuration
-    reading-plain = (kept-well g (text_step g) text (InTexts g text is) (in-texts-kept g text is) 0 (start_configuration flag) (Next TextStart) r holds-at-start ends reading-well).0
+    reading-plain = (kept-well g (text_step g) text (InTexts g text is) (in-texts-kept g text is) 0 (start_configuration flag) (Next TextStart) r (holds-at-start g (inline_rules g) (inline-kept g) text is flag TextStart starts-so) ends reading-well).0

@@ -1,14 +1,10 @@
-use Rattle.std.proofs.Common.{◌<◌, arith, IfOk, Result, Ok, Err, sym, subst}
+use Rattle.std.proofs.Common.{◌<◌, arith, sym, subst}
 use Rattle.markdown.specs.Engine.{AreCuts}
 use Rattle.markdown.proofs.PlaceCuts.{cuts_every-are-cuts}
+use Rattle.std.proofs.lemmas.Result.{IfOk-weaker}
 use Rattle.mdprint.proofs.program.cuts_of.Goals as goal
-
--- what holds of a result holds where it follows
-if-ok : {T E : Type 0} (r : Result T E) (P Q : T → Type 0) → ((x : T) → P x → Q x) → IfOk r P → IfOk r Q
-if-ok (Ok x) P Q f h = f x h
-if-ok (Err e) P Q f h = h
 
 pub returns-in-Some-clause-cuts : goal.returns-in-Some-clause-cuts
 returns-in-Some-clause-cuts c =
     let some : 0 < c.args.choice.now.tab = (let e = c.get.ensures.columns in let least = c.get.ensures.least in omega (arith, e, least)) in
-    if-ok c.cuts_every.result _ _ (λ cuts same. subst (AreCuts c.args.choice.now.tab c.args.bytes.now) (sym same) (cuts_every-are-cuts c.args.choice.now.tab some c.args.bytes.now c.in-Some.n)) c.cuts_every.ensures
+    IfOk-weaker c.cuts_every.result _ _ (λ cuts same. subst (AreCuts c.args.choice.now.tab c.args.bytes.now) (sym same) (cuts_every-are-cuts c.args.choice.now.tab some c.args.bytes.now c.in-Some.n)) c.cuts_every.ensures

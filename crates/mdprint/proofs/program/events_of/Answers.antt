@@ -1,4 +1,5 @@
 use Rattle.std.proofs.Common.{false}
+use Rattle.std.proofs.lemmas.Result.{IfOk-weaker}
 use Rattle.mdtables.proofs.RefusalLaws.{no-run-refused}
 use Rattle.mdconstructs.specs.Lines.{lines_rules}
 use Rattle.mdconstructs.specs.Paragraphs.{paragraphs_rules}
@@ -9,7 +10,8 @@ use Rattle.mdconstructs.specs.Save.{save_rules}
 use Rattle.mdconstructs.proofs.NoRefusals.{lines-refuse-nothing, paragraphs-refuse-nothing, peek-refuses-nothing, deep-refuses-nothing, back-refuses-nothing, save-refuses-nothing}
 use Rattle.mdtext.specs.TextRules.{text_rules}
 use Rattle.mdtext.proofs.NoRefusals.{text-refuses-nothing}
-use Rattle.mdprint.proofs.DeepRefusals.{none-refused-deep}
+use Rattle.mdtext.proofs.ParagraphsReady.{paragraphs-readable, text-readable}
+use Rattle.mdprint.proofs.DeepEvents.{none-refused-deep, all-ready, with-texts}
 use Rattle.mdprint.proofs.program.events_of.Goals as goal
 
 pub returns-in-Lines-clause-events : goal.returns-in-Lines-clause-events
@@ -17,9 +19,6 @@ returns-in-Lines-clause-events c = let e = c.in-Lines.is in rw e c.read_by.ensur
 
 pub returns-in-Paragraphs-clause-events : goal.returns-in-Paragraphs-clause-events
 returns-in-Paragraphs-clause-events c = let e = c.in-Paragraphs.is in let d = c.if-choice.true in rw (e, d) c.read_deep_by.ensures.events
-
-pub returns-in-Paragraphs-clause-unready : goal.returns-in-Paragraphs-clause-unready
-returns-in-Paragraphs-clause-unready c = let e = c.in-Paragraphs.is in let d = c.if-choice.true in rw (e, d) c.read_deep_by.ensures.unready
 
 pub returns-in-Paragraphs-2-clause-events : goal.returns-in-Paragraphs-2-clause-events
 returns-in-Paragraphs-2-clause-events c = let e = c.in-Paragraphs-2.is in let d = c.if-choice.false in rw (e, d) c.read_by-in-Paragraphs-2.ensures.events
@@ -37,10 +36,10 @@ pub returns-in-Save-clause-events : goal.returns-in-Save-clause-events
 returns-in-Save-clause-events c = let e = c.in-Save.is in rw e c.read_by-in-Save.ensures.events
 
 pub returns-in-Text-clause-events : goal.returns-in-Text-clause-events
-returns-in-Text-clause-events c = let e = c.in-Text.is in let d = c.if-choice-2.true in rw (e, d) c.read_texts.ensures.events
-
-pub returns-in-Text-clause-unready : goal.returns-in-Text-clause-unready
-returns-in-Text-clause-unready c = let e = c.in-Text.is in let d = c.if-choice-2.true in rw (e, d) c.read_texts.ensures.unready
+returns-in-Text-clause-events c =
+    let e = c.in-Text.is in
+    let d = c.if-choice-2.true in
+    rw (e, d) (IfOk-weaker c.read_deep_by-in-Text.result _ _ (λ events h. with-texts c.args.choice.now.tab c.args.bytes.now c.read_deep_by-in-Text.ensures.document events.items h) c.read_deep_by-in-Text.ensures.events)
 
 pub returns-clause-events : goal.returns-clause-events
 returns-clause-events c = let e = c.in-Text-2.is in let d = c.if-choice-2.false in rw (e, d) c.read_by-in-Text-2.ensures.events
@@ -67,7 +66,13 @@ pub returns-in-Save-clause-taken : goal.returns-in-Save-clause-taken
 returns-in-Save-clause-taken c = λ m e. no-run-refused save_rules save-refuses-nothing _ false _ m (c.read_by-in-Save.ensures.message m e)
 
 pub returns-in-Text-clause-taken : goal.returns-in-Text-clause-taken
-returns-in-Text-clause-taken c = c.read_texts.ensures.taken
+returns-in-Text-clause-taken c = λ m e. none-refused-deep text_rules text-refuses-nothing _ _ _ m (c.read_deep_by-in-Text.ensures.message m e)
 
 pub returns-clause-taken : goal.returns-clause-taken
 returns-clause-taken c = λ m e. no-run-refused text_rules text-refuses-nothing _ false _ m (c.read_by-in-Text-2.ensures.message m e)
+
+pub returns-in-Paragraphs-clause-ready : goal.returns-in-Paragraphs-clause-ready
+returns-in-Paragraphs-clause-ready c = λ e. all-ready paragraphs_rules paragraphs-readable _ _ c.read_deep_by.ensures.document (c.read_deep_by.ensures.unready e)
+
+pub returns-in-Text-clause-ready : goal.returns-in-Text-clause-ready
+returns-in-Text-clause-ready c = λ e. all-ready text_rules text-readable _ _ c.read_deep_by-in-Text.ensures.document (c.read_deep_by-in-Text.ensures.unready e)

@@ -1,4 +1,5 @@
--- Where rules refuse nothing, no run is refused, nor a child of its chains.
+-- What is read with the children of chains of text: it is refused nowhere where rules refuse nothing, its chains can be read, and by the
+-- machine of texts the children are the texts.
 use Rattle.std.proofs.Common.{ℕ, List, ⊎_elim, false, true}
 use Rattle.markdown_base.specs.declared.event.Event.{Event}
 use Rattle.markdown_base.specs.declared.message.Message.{Message}
@@ -6,12 +7,16 @@ use Rattle.markdown_base.specs.declared.state.Name.{Name}
 use Rattle.markdown.specs.Configuration.{start_configuration}
 use Rattle.markdown.specs.Engine.{IsRunRefused}
 use Rattle.markdown.specs.Rules.{Rules}
-use Rattle.markdown.specs.Text.{Given}
+use Rattle.markdown.specs.Text.{Given, IsDocument}
+use Rattle.markdown_base.specs.declared.state.TheConstants.Name.{FlowStart}
 use Rattle.mdchildren.specs.Chains.{chain_of}
 use Rattle.mdchildren.specs.Reads.{text_of_chain, IsChildRefused}
 use Rattle.mdtables.specs.Refusals.{RefuseNothing}
 use Rattle.mdtables.proofs.RefusalLaws.{none-refused, no-run-refused}
-use Rattle.mdprint.specs.Program.{document, Gives, HasRefusedChild, IsRefusedDeep}
+use Rattle.mdprint.specs.Program.{document, Gives, GivesDeep, GivesTexts, GivesUnready, HasRefusedChild, IsRefusedDeep}
+use Rattle.mdtext.specs.ChainTexts.{HasReadableChains}
+use Rattle.mdtext.specs.TextRules.{text_rules}
+use Rattle.mdtext.proofs.ChainEvents.{texts-of-chains}
 
 module _ {R D : Type 0} (rules : Given → Rules R D) (nothing : RefuseNothing rules) where
   no-child-refused : (g : Given) (events : List Event) (c : ℕ) (m : Message) → ¬ IsChildRefused g rules events c m
@@ -22,3 +27,11 @@ module _ {R D : Type 0} (rules : Given → Rules R D) (nothing : RefuseNothing r
   none-refused-deep start t bytes m h =
       ⊎_elim (λ (run : IsRunRefused (document t bytes) rules false start m). no-run-refused rules nothing (document t bytes) false start m run)
       (λ (child : (flat : List Event) × Gives rules start t bytes flat × HasRefusedChild rules t bytes flat m). no-child-refused (document t bytes) child.0 child.2.1.chain m child.2.1.refused) h
+
+-- a run from the start of paragraphs has chains that can be read
+pub all-ready : (rules : Given → Rules Unit Unit) → HasReadableChains rules FlowStart → (t : ℕ) (bytes : List ℕ) → IsDocument (document t bytes) → ¬ GivesUnready rules FlowStart t bytes
+all-ready rules readable t bytes is h = h.2 (readable (document t bytes) h.0 h.1.0 is h.1.1)
+
+-- the children that the machine of texts read are the texts
+pub with-texts : (t : ℕ) (bytes : List ℕ) → IsDocument (document t bytes) → (events : List Event) → GivesDeep text_rules FlowStart t bytes events → GivesTexts t bytes events
+with-texts t bytes is events h = (h.0, h.1, h.2, texts-of-chains (document t bytes) h.0 is h.2.0 events h.2.1.0 h.2.1.1)
