@@ -106,33 +106,28 @@ pub record IsPair (es : List Event) (k d : ℕ) : Type 0 where
   pub within : d < length es
   pub follows : FollowsChunk es k d
 
-pub mark-more : (es : List Event) (e : Event) (i : ℕ) → IsMark es i → IsMark (es ++ e ∷ []) i
-mark-more es e i h =
-    let last = slice_get_within es (i + 1) h.exit h.exit_at in
-    record {
-      enter = h.enter;
-      exit = h.exit;
-      enter_at = front-get es e i (omega (arith, last)) ∙ h.enter_at;
-      exit_at = front-get es e (i + 1) last ∙ h.exit_at;
-      enters = h.enters;
-      exits = h.exits;
-      same = h.same;
-      enter_alone = h.enter_alone;
-      exit_alone = h.exit_alone;
-    }
-
-mark-updated : (p : ℕ) (f : Event → Event) (es : List Event) (i : ℕ) → ((x : Event) → x.link ≡ None → f x ≡ x) → IsMark es i → IsMark (updated_at p f es) i
-mark-updated p f es i alone h = record {
+-- where its two events stand there too, it stands in another list
+mark-kept : (es fs : List Event) (i : ℕ) (h : IsMark es i) → slice_get fs i ≡ Some h.enter → slice_get fs (i + 1) ≡ Some h.exit → IsMark fs i
+mark-kept es fs i h enter exit = record {
   enter = h.enter;
   exit = h.exit;
-  enter_at = updated-same p f es i h.enter h.enter_at (alone h.enter h.enter_alone);
-  exit_at = updated-same p f es (i + 1) h.exit h.exit_at (alone h.exit h.exit_alone);
+  enter_at = enter;
+  exit_at = exit;
   enters = h.enters;
   exits = h.exits;
   same = h.same;
   enter_alone = h.enter_alone;
   exit_alone = h.exit_alone;
 }
+
+pub mark-more : (es : List Event) (e : Event) (i : ℕ) → IsMark es i → IsMark (es ++ e ∷ []) i
+mark-more es e i h =
+    let last = slice_get_within es (i + 1) h.exit h.exit_at in
+    mark-kept es (es ++ e ∷ []) i h (front-get es e i (omega (arith, last)) ∙ h.enter_at) (front-get es e (i + 1) last ∙ h.exit_at)
+
+mark-updated : (p : ℕ) (f : Event → Event) (es : List Event) (i : ℕ) → ((x : Event) → x.link ≡ None → f x ≡ x) → IsMark es i → IsMark (updated_at p f es) i
+mark-updated p f es i alone h =
+    mark-kept es (updated_at p f es) i h (updated-same p f es i h.enter h.enter_at (alone h.enter h.enter_alone)) (updated-same p f es (i + 1) h.exit h.exit_at (alone h.exit h.exit_alone))
 
 -- of an event in no chain no link end is set
 alone-next : (n : ℕ) (x : Event) → x.link ≡ None → with_next n x ≡ x
