@@ -48,7 +48,7 @@ pub fn write_events<R: Read, W: Write>(
     ensures written { OnOk result (Prints choice.now R.remaining reader.old reader.new W.contents writer.old writer.new) }
     ensures too_long { IsErrOf result Failure.TooLong → ReadsPastLimit choice.now.tab (R.remaining reader.old) (R.remaining reader.new) }
     ensures within_else { IfErr result (λ failure. failure ≢ Failure.TooLong → ReadsWithinLimit choice.now.tab (R.remaining reader.old) (R.remaining reader.new)) }
-    ensures taken { (m : _) → ¬ IsErrOf result (Failure.Message m) }
+    ensures never_refused { (m : _) → ¬ IsErrOf result (Failure.Message m) }
     ensures ready { ¬ IsErrOf result Failure.NotReady }
     ensures cut_short { IsErrOf result Failure.Write → PrintsFront choice.now R.remaining reader.old reader.new W.contents writer.old writer.new }
     ensures nothing { IfErr result (λ failure. failure ≢ Failure.Write → Keeps (W.contents writer.old) (W.contents writer.new)) }
@@ -63,7 +63,7 @@ fn events_of(alloc: Global, bytes: &[u8], choice: &Choice) -> Result<Vec<Event>,
     requires limit { IsWithinLimit choice.now.tab bytes.now }
     requires cut { CanCut choice.now }
     ensures events { IfOk result (λ events. AreEventsOf choice.now.deep choice.now.machine choice.now.tab bytes.now events.items) }
-    ensures taken { (m : _) → ¬ IsErrOf result (Failure.Message m) }
+    ensures never_refused { (m : _) → ¬ IsErrOf result (Failure.Message m) }
     ensures ready { ¬ IsErrOf result Failure.NotReady }
     ensures cause { IfErr result IsOfMaking }
 {

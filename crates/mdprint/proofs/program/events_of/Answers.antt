@@ -44,32 +44,32 @@ returns-in-Text-clause-events c =
 pub returns-clause-events : goal.returns-clause-events
 returns-clause-events c = let e = c.in-Text-2.is in let d = c.if-choice-2.false in rw (e, d) c.read_by-in-Text-2.ensures.events
 
-pub returns-in-Lines-clause-taken : goal.returns-in-Lines-clause-taken
-returns-in-Lines-clause-taken c = λ m e. no-run-refused lines_rules lines-refuse-nothing _ false _ m (c.read_by.ensures.message m e)
+pub returns-in-Lines-clause-never_refused : goal.returns-in-Lines-clause-never_refused
+returns-in-Lines-clause-never_refused c = λ m e. no-run-refused lines_rules lines-refuse-nothing _ false _ m (c.read_by.ensures.message m e)
 
-pub returns-in-Paragraphs-clause-taken : goal.returns-in-Paragraphs-clause-taken
-returns-in-Paragraphs-clause-taken c = λ m e. none-refused-deep paragraphs_rules paragraphs-refuse-nothing _ _ _ m (c.read_deep_by.ensures.message m e)
+pub returns-in-Paragraphs-clause-never_refused : goal.returns-in-Paragraphs-clause-never_refused
+returns-in-Paragraphs-clause-never_refused c = λ m e. none-refused-deep paragraphs_rules paragraphs-refuse-nothing _ _ _ m (c.read_deep_by.ensures.message m e)
 
-pub returns-in-Paragraphs-2-clause-taken : goal.returns-in-Paragraphs-2-clause-taken
-returns-in-Paragraphs-2-clause-taken c = λ m e. no-run-refused paragraphs_rules paragraphs-refuse-nothing _ false _ m (c.read_by-in-Paragraphs-2.ensures.message m e)
+pub returns-in-Paragraphs-2-clause-never_refused : goal.returns-in-Paragraphs-2-clause-never_refused
+returns-in-Paragraphs-2-clause-never_refused c = λ m e. no-run-refused paragraphs_rules paragraphs-refuse-nothing _ false _ m (c.read_by-in-Paragraphs-2.ensures.message m e)
 
-pub returns-in-Peek-clause-taken : goal.returns-in-Peek-clause-taken
-returns-in-Peek-clause-taken c = λ m e. no-run-refused peek_rules peek-refuses-nothing _ false _ m (c.read_by-in-Peek.ensures.message m e)
+pub returns-in-Peek-clause-never_refused : goal.returns-in-Peek-clause-never_refused
+returns-in-Peek-clause-never_refused c = λ m e. no-run-refused peek_rules peek-refuses-nothing _ false _ m (c.read_by-in-Peek.ensures.message m e)
 
-pub returns-in-Deep-clause-taken : goal.returns-in-Deep-clause-taken
-returns-in-Deep-clause-taken c = λ m e. no-run-refused deep_rules deep-refuses-nothing _ false _ m (c.read_by-in-Deep.ensures.message m e)
+pub returns-in-Deep-clause-never_refused : goal.returns-in-Deep-clause-never_refused
+returns-in-Deep-clause-never_refused c = λ m e. no-run-refused deep_rules deep-refuses-nothing _ false _ m (c.read_by-in-Deep.ensures.message m e)
 
-pub returns-in-Back-clause-taken : goal.returns-in-Back-clause-taken
-returns-in-Back-clause-taken c = λ m e. no-run-refused back_rules back-refuses-nothing _ false _ m (c.read_by-in-Back.ensures.message m e)
+pub returns-in-Back-clause-never_refused : goal.returns-in-Back-clause-never_refused
+returns-in-Back-clause-never_refused c = λ m e. no-run-refused back_rules back-refuses-nothing _ false _ m (c.read_by-in-Back.ensures.message m e)
 
-pub returns-in-Save-clause-taken : goal.returns-in-Save-clause-taken
-returns-in-Save-clause-taken c = λ m e. no-run-refused save_rules save-refuses-nothing _ false _ m (c.read_by-in-Save.ensures.message m e)
+pub returns-in-Save-clause-never_refused : goal.returns-in-Save-clause-never_refused
+returns-in-Save-clause-never_refused c = λ m e. no-run-refused save_rules save-refuses-nothing _ false _ m (c.read_by-in-Save.ensures.message m e)
 
-pub returns-in-Text-clause-taken : goal.returns-in-Text-clause-taken
-returns-in-Text-clause-taken c = λ m e. none-refused-deep text_rules text-refuses-nothing _ _ _ m (c.read_deep_by-in-Text.ensures.message m e)
+pub returns-in-Text-clause-never_refused : goal.returns-in-Text-clause-never_refused
+returns-in-Text-clause-never_refused c = λ m e. none-refused-deep text_rules text-refuses-nothing _ _ _ m (c.read_deep_by-in-Text.ensures.message m e)
 
-pub returns-clause-taken : goal.returns-clause-taken
-returns-clause-taken c = λ m e. no-run-refused text_rules text-refuses-nothing _ false _ m (c.read_by-in-Text-2.ensures.message m e)
+pub returns-clause-never_refused : goal.returns-clause-never_refused
+returns-clause-never_refused c = λ m e. no-run-refused text_rules text-refuses-nothing _ false _ m (c.read_by-in-Text-2.ensures.message m e)
 
 pub returns-in-Paragraphs-clause-ready : goal.returns-in-Paragraphs-clause-ready
 returns-in-Paragraphs-clause-ready c = λ e. all-ready paragraphs_rules paragraphs-readable _ _ c.read_deep_by.ensures.document (c.read_deep_by.ensures.unready e)
