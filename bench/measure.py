@@ -2,7 +2,7 @@
 gaps grow.
 
 Instructions are callgrind's counts, the same in each run, less those of a run over nothing; the engine's are those of the
-functions of the crates markdown and markdown_edits. Peak memory is the most that stood on the heap at once (massif), the
+functions of the crates markdown_tokenizer and markdown_edits. Peak memory is the most that stood on the heap at once (massif), the
 same in each run too. The bytes per second are those of the fastest of five runs.
 """
 
@@ -84,7 +84,7 @@ def instructions(program, options, document, counts):
         count = int(found.group(1).replace(",", ""))
         if "PROGRAM TOTALS" in found.group(2):
             whole = count
-        elif re.search(r"\bmarkdown(_edits)?::", found.group(2)):
+        elif re.search(r"\bmarkdown(_edits|_tokenizer)?::", found.group(2)):
             engine += count
     return whole, engine
 

@@ -1,17 +1,14 @@
-//! Laws of texts and of choices.
-//!
-//! Each is a function that does nothing, whose contract is the law.
+//! Laws of all four parts. Each is a function that does nothing; its contract is the law.
 
-ghost use Rattle.markdown.specs.Laws.{CutsLeaveNoTrace, ChoicesPutBack};
-
-/// A range that is pushed in two parts is the range pushed at once, also where the second part begins at the LF of a CR LF
-/// at whose CR the first one ends.
-pub fn cuts_leave_no_trace()
-    ensures { CutsLeaveNoTrace }
-{}
-
-/// What goes on after a choice was put back sees what was there when it was made, with the same spans open and the same
-/// events up to the ends of their links; what states share stays as it is now.
-pub fn choices_put_back<R, D>()
-    ensures { ChoicesPutBack R D }
-{}
+pub use markdown_base::laws::{
+    equal_events_are_one, equal_names_are_one, equal_places_are_one,
+    equal_points_and_links_are_one, equal_states_are_one, equal_tab_sizes_are_one,
+    lists_are_stated, names_differ, numbers_are_stated, start_is_stated, tabs_reach_stops,
+    void_events_are_stated,
+};
+pub use markdown_children::laws::{
+    a_ready_list_has_ordered_chains, children_are_read_in_one_way, children_fit,
+    chunks_can_be_read, edits_give_children, parts_are_by_chunk,
+};
+pub use markdown_edits::laws::{additions_are_new, survivors_keep_links, survivors_keep_order};
+pub use markdown_tokenizer::laws::{choices_put_back, cuts_leave_no_trace, reads_in_one_way};

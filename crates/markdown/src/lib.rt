@@ -1,20 +1,15 @@
-//! The tokenizer engine: a machine of states reads a document, in ranges, and gives a list of events.
+//! The tokenizer engine, under the paths of the Rust crate `markdown`.
+//!
+//! There is no code here. The four parts are proved below: `markdown_base` (events, names, options, places), `markdown_edits` (lists
+//! of events), `markdown_tokenizer` (`Machine`, `Tokenizer`, `run`) and `markdown_children` (content in content).
 #![tactic(auto)]
 
-mod count;
-mod cursor;
 pub mod laws;
-pub mod parser;
-mod places;
-mod skips;
-pub mod state;
 pub mod subtokenize;
-pub mod tokenizer;
 pub mod util;
-pub mod waiting;
-mod work;
 
 pub use markdown_base::configuration::{
     CompileOptions, Constructs, Options, ParseOptions, TabSize,
 };
 pub use markdown_base::{configuration, event, message, owned, unist};
+pub use markdown_tokenizer::{parser, state, tokenizer, waiting};

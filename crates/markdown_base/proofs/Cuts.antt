@@ -3,6 +3,7 @@ use Rattle.std.proofs.Common.{◌≡◌, ◌≢◌, ℕ, zero, suc, ◌+◌, ◌
 use Rattle.std.specs.Prelude.{◌==◌, ◌&&◌, not, nat_lt, nat_le, filter}
 use Rattle.std.specs.List.{AllByRecursion}
 use Rattle.std.proofs.lemmas.Bool.{false≢true, cases_lt}
+use Rattle.std.proofs.Math.Bool.{and-false}
 use Rattle.std.proofs.lemmas.Nat.{mod-mul-add, div-add-mod'}
 use Rattle.std.proofs.lemmas.List.Elements.{filter-append}
 use Rattle.std.proofs.lemmas.List.{append-nil}
@@ -11,7 +12,8 @@ use Rattle.markdown_base.specs.Virtual.{Seat, point, tab_width, end_in_tab, in_t
 use Rattle.markdown_base.specs.Places.{stands_before, in_range, IsPointOf}
 use Rattle.markdown_base.specs.Slices.{spaces_between, spaces_before, spaces_after}
 use Rattle.markdown_base.specs.SlicesInner.{first_byte}
-use Rattle.markdown_base.proofs.Scans.{IsReached, IsSeatPlace, IsPlace, IsOfTab, every-append, every-imp, of_tab, place-of, byte_here}
+use Rattle.markdown_base.proofs.Common.{every-append, every-map, filter-none}
+use Rattle.markdown_base.proofs.Scans.{IsReached, IsSeatPlace, IsPlace, IsOfTab, of_tab, place-of, byte_here}
 
 -- what is left of a tab at a column inside it
 pub tab_left : (t column vs : ℕ) → 0 < t → 1 ≤ column → vs < tab_width t column → tab_width t column - vs ≡ tab_width t (column + vs)
@@ -44,7 +46,7 @@ from-more : (t line column index b : ℕ) (rest : List ℕ) → ((line' column' 
 from-more t line column index b rest next w x y z ew ex ey ez = go w x y z ew ex ey ez
   where
     later : (line' column' : ℕ) → AllByRecursion (λ s. index ≤ s.point.index) (virtual_from t line' column' (suc index) rest)
-    later line' column' = every-imp (λ s. suc index ≤ s.point.index) (λ s. index ≤ s.point.index) (λ s h. omega arith) (virtual_from t line' column' (suc index) rest) (next line' column')
+    later line' column' = every-map (λ s. suc index ≤ s.point.index) (λ s. index ≤ s.point.index) (λ s h. omega arith) (virtual_from t line' column' (suc index) rest) (next line' column')
 
     go : (w x y z : Bool) → (b == 10) ≡ w → (b == 13) ≡ x → begins_with_lf rest ≡ y → (b == 9) ≡ z → AllByRecursion (λ s. index ≤ s.point.index) (virtual_from t line column index (b ∷ rest))
     go true x y z ew ex ey ez = rw ew ((omega arith), later (suc line) 1)
@@ -52,7 +54,7 @@ from-more t line column index b rest next w x y z ew ex ey ez = go w x y z ew ex
     go false true false z ew ex ey ez = rw (ew, ex, ey) ((omega arith), later (suc line) 1)
     go false false y true ew ex ey ez =
         rw (ew, ex, ez) (every-append (λ s. index ≤ s.point.index) (in_tab 9 (tab_width t column) line column index 0) (virtual_from t line (column + tab_width t column) (suc index) rest)
-        (every-imp (IsOfTab line column index (tab_width t column)) (λ s. index ≤ s.point.index) (λ s h. omega (arith, ap (λ p. p.index) h.2)) (in_tab 9 (tab_width t column) line column index 0) (of_tab line column index (tab_width t column)))
+        (every-map (IsOfTab line column index (tab_width t column)) (λ s. index ≤ s.point.index) (λ s h. omega (arith, ap (λ p. p.index) h.2)) (in_tab 9 (tab_width t column) line column index 0) (of_tab line column index (tab_width t column)))
         (later line (column + tab_width t column)))
     go false false y false ew ex ey ez = rw (ew, ex, ez) ((omega arith), later line (suc column))
 
@@ -61,10 +63,6 @@ from-index t line column index [] = tt
 from-index t line column index (b ∷ rest) =
     from-more t line column index b rest (λ line' column'. from-index t line' column' (suc index) rest) (b == 10) (b == 13) (begins_with_lf rest) (b == 9) refl refl refl refl
 
-filter-none : (f : Seat → Bool) (xs : List Seat) → AllByRecursion (λ s. f s ≡ false) xs → filter f xs ≡ []
-filter-none f [] none = refl
-filter-none f (x ∷ xs) none = rw none.0 (filter-none f xs none.1)
-
 -- the virtual bytes at the index of a tab are those of the tab
 tab_alone : (t : ℕ) (bytes : List ℕ) (line column index : ℕ) → IsReached t bytes line column index → index < length bytes → get_or bytes index 0 ≡ 9
     → (f : Seat → Bool) → ((s : Seat) → s.point.index ≢ index → f s ≡ false) → filter f (virtual t bytes) ≡ filter f (in_tab 9 (tab_width t column) line column index 0)
@@ -72,8 +70,8 @@ tab_alone t bytes line column index r within is f other =
     let seats = in_tab 9 (tab_width t column) line column index 0 in
     let after = virtual_from t line (column + tab_width t column) (suc index) (drop (suc index) bytes) in
     let here : virtual_from t line column index (drop index bytes) ≡ seats ++ after = rw (byte_here t bytes line column index r within, is) (refl {a = seats ++ after}) in
-    let before_none = filter-none f r.front (every-imp (λ s. s.point.index < index) (λ s. f s ≡ false) (λ s h. other s (λ e. omega arith)) r.front r.below) in
-    let after_none = filter-none f after (every-imp (λ s. suc index ≤ s.point.index) (λ s. f s ≡ false) (λ s h. other s (λ e. omega arith)) after (from-index t line (column + tab_width t column) (suc index) (drop (suc index) bytes))) in
+    let before_none = filter-none f r.front (every-map (λ s. s.point.index < index) (λ s. f s ≡ false) (λ s h. other s (λ e. omega arith)) r.front r.below) in
+    let after_none = filter-none f after (every-map (λ s. suc index ≤ s.point.index) (λ s. f s ≡ false) (λ s h. other s (λ e. omega arith)) after (from-index t line (column + tab_width t column) (suc index) (drop (suc index) bytes))) in
     ap (λ xs. filter f xs) r.whole ∙ filter-append f r.front (virtual_from t line column index (drop index bytes))
     ∙ ap (λ xs. xs ++ filter f (virtual_from t line column index (drop index bytes))) before_none
     ∙ ap (λ xs. filter f xs) here ∙ filter-append f seats after ∙ ap (λ xs. filter f seats ++ xs) after_none ∙ append-nil (filter f seats)
@@ -88,17 +86,13 @@ tab_count t bytes line column index r within is low high h same =
     let count = count_in_tab (λ s. (s.point.index == index) && h s) low high (tab_width t column) line index (λ s e lt. rw (eq-eqb s.point.index index e) (same s e lt)) 9 (tab_width t column) 0 column (omega arith) in
     ap (λ xs. length xs) alone ∙ count ∙ (omega arith)
 
-and_false : (x : Bool) → (x && false) ≡ false
-and_false true = refl
-and_false false = refl
-
 -- not before a place inside a tab, which is behind the tab byte
 behind_cut : (low vs : ℕ) (r : Bool) → 0 < low → (nat_lt 0 vs && (not (nat_lt vs low) && r)) ≡ (nat_le low vs && r)
 behind_cut low vs r some = go (nat_le low vs) refl
   where
     go : (x : Bool) → nat_le low vs ≡ x → (nat_lt 0 vs && (not (nat_lt vs low) && r)) ≡ (nat_le low vs && r)
     go true e = rw (e, lt-ltb 0 vs (omega (arith, leb-true low vs e)), le-ltb vs low (leb-true low vs e)) refl
-    go false e = rw (e, lt-ltb vs low (leb-false low vs e)) (and_false (nat_lt 0 vs))
+    go false e = rw (e, lt-ltb vs low (leb-false low vs e)) (and-false (nat_lt 0 vs))
 
 -- of two places at one index, and of a place at a later one
 before_here : (s p : Point) → s.index ≡ p.index → stands_before s p ≡ nat_lt s.vs p.vs
@@ -206,4 +200,4 @@ spaces-after_is t some bytes p q is ordered cut (inl whole) =
     let start : (p.index < q.index) ⊎ ((p.index ≡ q.index) × (p.vs ≡ 0)) = elim (not_before p q ordered) [ inl lt ↦ inl lt | inr h ↦ inr (h.0, whole) ] in
     rw (lt-ltb 0 q.vs cut, le-ltb 0 p.vs (omega arith)) (spaces-before_end t some bytes p q is cut start)
 spaces-after_is t some bytes p q is ordered cut (inr other) =
-    rw (lt-ltb 0 q.vs cut, ne_eqb p.index q.index other, and_false (nat_lt 0 p.vs)) (spaces-before_end t some bytes p q is cut (inl (at_lower_index p q ordered other)))
+    rw (lt-ltb 0 q.vs cut, ne_eqb p.index q.index other, and-false (nat_lt 0 p.vs)) (spaces-before_end t some bytes p q is cut (inl (at_lower_index p q ordered other)))

@@ -1,5 +1,5 @@
 -- Lemmas on the equality of events.
-use Rattle.std.proofs.Common.{◌≡◌, ◌↔◌, ℕ, Bool, true, false, ◌&&◌, refl, sym, ap, ◌∙◌, subst, eqb-true, eq-eqb}
+use Rattle.std.proofs.Common.{◌≡◌, ◌↔◌, Bool, true, false, ◌&&◌, refl, ap, ◌∙◌, subst, eqb-true, eq-eqb}
 use Rattle.std.specs.Prelude.{Option, Some, None, nat_eq}
 use Rattle.std.specs.Option.{option_eq}
 use Rattle.std.proofs.lemmas.Bool.{false≢true}

@@ -1,8 +1,11 @@
 pub mod ByteLemmas
 pub mod CharLemmas
+pub mod Common
 pub mod Cuts
 pub mod EqualityLemmas
 pub mod LineLemmas
+pub mod OpenEvents
 pub mod PointAt
 pub mod Scans
+pub mod Seats
 pub mod SliceLemmas

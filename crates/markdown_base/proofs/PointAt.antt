@@ -7,7 +7,7 @@ use Rattle.std.proofs.Math.Nat.{mul-le-mul_left}
 use Rattle.std.proofs.lemmas.List.{append_assoc}
 use Rattle.std.proofs.lemmas.List.Concat.{flat_map-append}
 use Rattle.markdown_base.specs.declared.event.Point.{Point}
-use Rattle.markdown_base.specs.Virtual.{Seat, point, tab_width, in_tab, plain, begins_with_lf, virtual_from, end_after, document_end}
+use Rattle.markdown_base.specs.Virtual.{Seat, point, tab_width, in_tab, other_byte, begins_with_lf, virtual_from, end_after, document_end}
 use Rattle.markdown_base.specs.Places.{shown, follows_cr, point_at, IsPointOf}
 use Rattle.markdown_base.specs.Lines.{HasNoLineEnding}
 use Rattle.markdown_base.proofs.Scans.{IsReached, IsPlace, drop_is, reached-tab, reached-plain, tab_width-least, place-of}
@@ -90,13 +90,13 @@ point-of_reached t some bytes line column index r =
 
 -- a place before bytes that end no line is reached at its own column
 pub reached-of_point : (t : ℕ) → 0 < t → (bytes : List ℕ) (p : Point) (to : ℕ) → IsPointOf t bytes p → p.vs ≡ 0 → p.index < to → HasNoLineEnding bytes p.index to → IsReached t bytes p.line p.column p.index
-reached-of_point t some bytes p to is whole forward plain = go (place-of t some bytes p is)
+reached-of_point t some bytes p to is whole forward other_byte = go (place-of t some bytes p is)
   where
     go : IsPlace t bytes p → IsReached t bytes p.line p.column p.index
     go (inl place) =
         let same : place.column ≡ p.column = omega (arith, place.across) in
         subst (λ c. IsReached t bytes p.line c p.index) same place.reached
-    go (inr cr) = absurd ((plain p.index (omega arith) forward).1 cr.2)
+    go (inr cr) = absurd ((other_byte p.index (omega arith) forward).1 cr.2)
 
 -- one byte on in a line: a tab, and any other byte
 pub moved-tab : (t : ℕ) → 0 < t → (bytes : List ℕ) (line column index : ℕ) → IsReached t bytes line column index → index < length bytes → get_or bytes index 0 ≡ 9 → IsReached t bytes line (column + tab_width t column) (suc index)

@@ -6,8 +6,10 @@ use Rattle.std.specs.Prelude.{◌==◌, ◌&&◌, slice_index}
 use Rattle.std.proofs.lemmas.Bool.{false≢true}
 use Rattle.std.specs.List.{AllByRecursion, flat_map}
 use Rattle.markdown_base.specs.declared.event.Point.{Point}
-use Rattle.markdown_base.specs.Virtual.{Seat, point, tab_width, in_tab, line_feed, plain, begins_with_lf, virtual_from, virtual, end_after, document_end}
+use Rattle.markdown_base.specs.Virtual.{Seat, point, tab_width, in_tab, line_feed, other_byte, begins_with_lf, virtual_from, virtual, end_after, document_end}
 use Rattle.markdown_base.specs.Places.{shown, follows_cr, points, IsPointOf}
+use Rattle.markdown_base.proofs.Common.{and-right, every-append, every-map}
+use Rattle.markdown_base.proofs.Seats.{end-after-append}
 
 -- the virtual text goes on with this line and column at an index
 pub record IsReached (t : ℕ) (bytes : List ℕ) (line column index : ℕ) : Type 0 where
@@ -22,18 +24,6 @@ pub record IsReached (t : ℕ) (bytes : List ℕ) (line column index : ℕ) : Ty
 pub reached_start : (t : ℕ) (bytes : List ℕ) → IsReached t bytes 1 1 0
 reached_start t bytes = record { front = []; whole = refl; ends = refl; below = tt; inside = omega arith; first = omega arith; bound = omega arith }
 
-pub every-append : {X : Type 0} (P : X → Type 0) (xs ys : List X) → AllByRecursion P xs → AllByRecursion P ys → AllByRecursion P (xs ++ ys)
-every-append P [] ys p q = q
-every-append P (x ∷ xs) ys p q = (p.0, every-append P xs ys p.1 q)
-
-pub every-imp : {X : Type 0} (P Q : X → Type 0) → ((x : X) → P x → Q x) → (xs : List X) → AllByRecursion P xs → AllByRecursion Q xs
-every-imp P Q f [] p = tt
-every-imp P Q f (x ∷ xs) p = (f x p.0, every-imp P Q f xs p.1)
-
-end_after-append : (p : Point) (xs ys : List Seat) → end_after p (xs ++ ys) ≡ end_after (end_after p xs) ys
-end_after-append p [] ys = refl
-end_after-append p (x ∷ xs) ys = end_after-append x.end xs ys
-
 -- one byte on: what it is, and where it ends
 advance : (t : ℕ) (bytes : List ℕ) (line column index line' column' : ℕ) (seats : List Seat) → IsReached t bytes line column index → index < length bytes
     → virtual_from t line column index (drop index bytes) ≡ seats ++ virtual_from t line' column' (suc index) (drop (suc index) bytes)
@@ -44,7 +34,7 @@ advance t bytes line column index line' column' seats r within splits here ends 
   front = r.front ++ seats;
   whole = r.whole ∙ ap (λ xs. r.front ++ xs) splits ∙ sym (append_assoc r.front seats (virtual_from t line' column' (suc index) (drop (suc index) bytes)));
   ends = r.ends ∙ ap (λ xs. end_after (point line column index 0) xs) splits ∙ ends;
-  below = every-append (λ s. s.point.index < suc index) r.front seats (every-imp (λ s. s.point.index < index) (λ s. s.point.index < suc index) (λ s p. omega arith) r.front r.below) here;
+  below = every-append (λ s. s.point.index < suc index) r.front seats (every-map (λ s. s.point.index < index) (λ s. s.point.index < suc index) (λ s p. omega arith) r.front r.below) here;
   inside = omega arith;
   first = first;
   bound = bound;
@@ -104,8 +94,8 @@ module _ (t : ℕ) (bytes : List ℕ) (line column index : ℕ) (r : IsReached t
       let rest = virtual_from t line (column + tab_width t column) (suc index) (drop (suc index) bytes) in
       advance t bytes line column index line (column + tab_width t column) (in_tab 9 (tab_width t column) line column index 0) r within
       (rw (byte_here, not_lf, nor, is) refl)
-      (every-imp (IsOfTab line column index (tab_width t column)) (λ s. s.point.index < suc index) (λ s h. omega (arith, ap (λ p. p.index) h.2)) (in_tab 9 (tab_width t column) line column index 0) (of_tab line column index (tab_width t column)))
-      (end_after-append (point line column index 0) (in_tab 9 (tab_width t column) line column index 0) rest ∙ ap (λ p. end_after p rest) (tab_end (point line column index 0) (tab_width t column) line column index (tab_width-least t column some)))
+      (every-map (IsOfTab line column index (tab_width t column)) (λ s. s.point.index < suc index) (λ s h. omega (arith, ap (λ p. p.index) h.2)) (in_tab 9 (tab_width t column) line column index 0) (of_tab line column index (tab_width t column)))
+      (end-after-append (point line column index 0) (in_tab 9 (tab_width t column) line column index 0) rest ∙ ap (λ p. end_after p rest) (tab_end (point line column index 0) (tab_width t column) line column index (tab_width-least t column some)))
       (omega (arith, r.first)) (omega (arith, r.bound))
 
   pub reached-crlf : (get_or bytes index 0 == 10) ≡ false → (get_or bytes index 0 == 13) ≡ true → begins_with_lf (drop (suc index) bytes) ≡ true → IsReached t bytes line column (suc index)
@@ -113,7 +103,7 @@ module _ (t : ℕ) (bytes : List ℕ) (line column index : ℕ) (r : IsReached t
       (rw (byte_here, not_lf, is, next) refl) tt (crlf_end t line column (suc index) (point line column index 0) (point line column (suc index) 0) (drop (suc index) bytes) next) r.first (omega (arith, r.bound))
 
   pub reached-plain : 0 < t → (get_or bytes index 0 == 10) ≡ false → (get_or bytes index 0 == 13) ≡ false → (get_or bytes index 0 == 9) ≡ false → IsReached t bytes line (suc column) (suc index)
-  reached-plain some not_lf nor not_tab = advance t bytes line column index line (suc column) (plain (get_or bytes index 0) line column index ∷ []) r within
+  reached-plain some not_lf nor not_tab = advance t bytes line column index line (suc column) (other_byte (get_or bytes index 0) line column index ∷ []) r within
       (rw (byte_here, not_lf, nor, not_tab) refl) ((omega arith), tt) refl (omega arith) (omega (arith, r.bound))
 
 -- a place in a byte's virtual bytes: of a tab, where it is not its first
@@ -150,10 +140,6 @@ placed-here t bytes line column index r =
 placed-other : (t : ℕ) (bytes : List ℕ) (s : Seat) → IsPlace t bytes s.point → (get_or bytes s.point.index 0 == 10) ≡ false → IsPlaced t bytes s
 placed-other t bytes s here not_lf = (here, subst (IsPlace t bytes) (sym (shown-other bytes s.point not_lf)) here)
 
-and_right : (x y : Bool) → (x && y) ≡ true → y ≡ true
-and_right true y is = is
-and_right false y is = absurd (false≢true is)
-
 cr_before : (bytes : List ℕ) (i : ℕ) → follows_cr bytes i ≡ true → i < length bytes → (i - 1 < length bytes) × (get_or bytes (i - 1) 0 ≡ 13)
 cr_before bytes zero is within = absurd (false≢true is)
 cr_before bytes (suc i) is within =
@@ -166,7 +152,7 @@ placed-line_feed t bytes line column index r within = (placed-here t bytes line 
     go : (x : Bool) → ((slice_index bytes index == 10) && follows_cr bytes index) ≡ x → IsPlace t bytes (shown bytes (point line column index 0))
     go false f = rw f (placed-here t bytes line column index r)
     go true f =
-        let before = cr_before bytes index (and_right (slice_index bytes index == 10) (follows_cr bytes index) f) within in
+        let before = cr_before bytes index (and-right (slice_index bytes index == 10) (follows_cr bytes index) f) within in
         rw f (inr (refl, before.0, before.1))
 
 pub drop_is : (bytes : List ℕ) (i b : ℕ) (rest : List ℕ) → drop i bytes ≡ b ∷ rest → (i < length bytes) × (get_or bytes i 0 ≡ b) × (drop (suc i) bytes ≡ rest)
@@ -214,9 +200,9 @@ placed-more t some bytes line column index b rest is r next false false y true e
     let width = tab_width t column in
     let after = reached-tab t bytes line column index r here.0 some not_lf nor tab in
     let more = next line (column + tab_width t column) after in
-    let seats = every-imp (IsOfTab line column index (tab_width t column)) (IsPlaced t bytes) (placed-tab t bytes line column index r here.0 (eqb-true (get_or bytes index 0) 9 tab)) (in_tab 9 (tab_width t column) line column index 0) (of_tab line column index (tab_width t column)) in
+    let seats = every-map (IsOfTab line column index (tab_width t column)) (IsPlaced t bytes) (placed-tab t bytes line column index r here.0 (eqb-true (get_or bytes index 0) 9 tab)) (in_tab 9 (tab_width t column) line column index 0) (of_tab line column index (tab_width t column)) in
     let rest' = virtual_from t line (column + tab_width t column) (suc index) rest in
-    let ends = end_after-append (point line column index 0) (in_tab 9 (tab_width t column) line column index 0) rest' ∙ ap (λ p. end_after p rest') (tab_end (point line column index 0) (tab_width t column) line column index (tab_width-least t column some)) in
+    let ends = end-after-append (point line column index 0) (in_tab 9 (tab_width t column) line column index 0) rest' ∙ ap (λ p. end_after p rest') (tab_end (point line column index 0) (tab_width t column) line column index (tab_width-least t column some)) in
     rw (ew, ex, ez) (every-append (IsPlaced t bytes) (in_tab 9 (tab_width t column) line column index 0) rest' seats more.0, subst (IsPlace t bytes) (sym ends) more.1)
 placed-more t some bytes line column index b rest is r next false false y false ew ex ey ez =
     let here = drop_is bytes index b rest is in
@@ -224,7 +210,7 @@ placed-more t some bytes line column index b rest is r next false false y false 
     let nor : (get_or bytes index 0 == 13) ≡ false = rw here.1 ex in
     let not_tab : (get_or bytes index 0 == 9) ≡ false = rw here.1 ez in
     let more = next line (suc column) (reached-plain t bytes line column index r here.0 some not_lf nor not_tab) in
-    rw (ew, ex, ez) ((placed-other t bytes (plain b line column index) (placed-here t bytes line column index r) not_lf, more.0), more.1)
+    rw (ew, ex, ez) ((placed-other t bytes (other_byte b line column index) (placed-here t bytes line column index r) not_lf, more.0), more.1)
 
 placed-from : (t : ℕ) → 0 < t → (bytes : List ℕ) (line column index : ℕ) (rest : List ℕ) → drop index bytes ≡ rest → IsReached t bytes line column index → ArePlaced t bytes line column index rest
 placed-from t some bytes line column index [] is r = (tt, placed-here t bytes line column index r)

@@ -1,13 +1,21 @@
 -- The lines of a document, and the point of a byte offset into it.
-use Rattle.std.specs.Prelude.{◌≡◌, ℕ, zero, suc, ◌+◌, ◌-◌, ◌<◌, ◌≤◌, ◌≢◌, ◌^◌, ◌==◌, ◌&&◌, ◌||◌, not, max, nat_le, Bool, true, List, length, filter, fold, take_while, slice_index, Option, Some, None, option_map, if◌then◌else◌}
+use Rattle.std.specs.Prelude.{◌≡◌, ℕ, zero, suc, ◌+◌, ◌-◌, ◌<◌, ◌≤◌, ◌≢◌, ◌^◌, ◌==◌, not, max, nat_le, Bool, true, cond, List, length, filter, fold, take_while, slice_index, Option, Some, None, option_map, if◌then◌else◌}
 use Rattle.std.specs.List.{range_with_len, last_or}
 use Rattle.std.specs.List.Sorted.{IsNonDecreasingBy}
 use Rattle.markdown_base.specs.declared.unist.Point.{Point}
 
--- a line starts at index 0, and after each line ending: after an LF, and after a CR that no LF follows (CommonMark, "Characters and lines")
+-- an LF stands at an index
+abbrev pub is_lf : List ℕ → ℕ → Bool
+is_lf bytes i = slice_index bytes i == 10
+
+-- the byte at an index ends a line: an LF, or a CR that no LF follows (CommonMark, "Characters and lines")
+abbrev pub ends_line : List ℕ → ℕ → Bool
+ends_line bytes i = cond (slice_index bytes i == 13) (not (is_lf bytes (suc i))) (is_lf bytes i)
+
+-- a line starts at index 0, and after each byte that ends one
 abbrev pub is_line_start : List ℕ → ℕ → Bool
 is_line_start bytes zero = true
-is_line_start bytes (suc k) = (slice_index bytes k == 10) || ((slice_index bytes k == 13) && not (slice_index bytes (suc k) == 10))
+is_line_start bytes (suc k) = ends_line bytes k
 
 -- no LF and no CR stands from one index up to another: both are in one line
 abbrev pub HasNoLineEnding : List ℕ → (from to : ℕ) → Type 0

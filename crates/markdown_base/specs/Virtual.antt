@@ -35,8 +35,8 @@ abbrev pub line_feed : (line column index : ℕ) → Seat
 line_feed line column index = record { byte = 10; point = point line column index 0; end = point (suc line) 1 (suc index) 0 }
 
 -- any other byte
-abbrev pub plain : (byte line column index : ℕ) → Seat
-plain byte line column index = record { byte = byte; point = point line column index 0; end = point line (suc column) (suc index) 0 }
+abbrev pub other_byte : (byte line column index : ℕ) → Seat
+other_byte byte line column index = record { byte = byte; point = point line column index 0; end = point line (suc column) (suc index) 0 }
 
 abbrev pub begins_with_lf : List ℕ → Bool
 begins_with_lf [] = false
@@ -54,7 +54,7 @@ virtual_from t line column index (b ∷ bs) =
     (line_feed line column index ∷ virtual_from t (suc line) 1 (suc index) bs))
     (cond (b == 9)
     (in_tab 9 (tab_width t column) line column index 0 ++ virtual_from t line (column + tab_width t column) (suc index) bs)
-    (plain b line column index ∷ virtual_from t line (suc column) (suc index) bs)))
+    (other_byte b line column index ∷ virtual_from t line (suc column) (suc index) bs)))
 
 -- the virtual bytes of a document
 abbrev pub virtual : (t : ℕ) → List ℕ → List Seat

@@ -30,7 +30,7 @@ impl Model for TabSize {
 }
 
 impl TabSize {
-    /// Tab stops at every `n` columns. None where `n` is 0 or above 16.
+    /// Tab stops at every `n` columns. Returns `None` if `n` is 0 or above 16.
     pub fn new(n: usize) -> Option<TabSize>
         ensures taken { 1 ≤ n → n ≤ 16 → result ≡ Some n }
         ensures zero { n ≡ 0 → result ≡ None }
@@ -71,6 +71,7 @@ impl fmt::Debug for TabSize {
 
     ghost debug_output = { λ t. Some (decimal t) };
 
+    /// Writes the number of columns.
     fn fmt<W: fmt::Write>(&self, f: &mut fmt::Formatter<W>) -> fmt::Result {
         write!(f, "{}", self.get())
     }
@@ -289,25 +290,25 @@ impl ParseOptions {
 pub struct CompileOptions {
     /// Whether images may have any address, whatever its protocol.
     pub allow_any_img_src: bool,
-    /// Whether HTML in the document is kept as HTML. Where it is not, it is shown as text.
+    /// Whether HTML in the document is kept as HTML. If it is not, it is shown as text.
     pub allow_dangerous_html: bool,
     /// Whether links and images may have addresses of any protocol.
     pub allow_dangerous_protocol: bool,
-    /// The line ending to write where the document gives none.
+    /// The line ending to write if the document gives none.
     pub default_line_ending: LineEnding,
-    /// What the link back from a footnote is called; `Back to content` where none is given.
+    /// What the link back from a footnote is called; `Back to content` if none is given.
     pub gfm_footnote_back_label: Option<OwnedText>,
-    /// What stands before the `id` of a footnote; `user-content-` where none is given.
+    /// What stands before the `id` of a footnote; `user-content-` if none is given.
     pub gfm_footnote_clobber_prefix: Option<OwnedText>,
-    /// The attributes of the heading of footnotes; `class="sr-only"` where none are given.
+    /// The attributes of the heading of footnotes; `class="sr-only"` if none are given.
     pub gfm_footnote_label_attributes: Option<OwnedText>,
-    /// The name of the element that is the heading of footnotes; `h2` where none is given.
+    /// The name of the element that is the heading of footnotes; `h2` if none is given.
     pub gfm_footnote_label_tag_name: Option<OwnedText>,
-    /// The heading of footnotes; `Footnotes` where none is given.
+    /// The heading of footnotes; `Footnotes` if none is given.
     pub gfm_footnote_label: Option<OwnedText>,
     /// Whether a reader may tick the boxes of task list items.
     pub gfm_task_list_item_checkable: bool,
-    /// Whether GFM's filter of tags is applied, where HTML is kept.
+    /// Whether GFM's filter of tags is applied, if HTML is kept.
     pub gfm_tagfilter: bool,
 }
 

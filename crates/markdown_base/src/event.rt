@@ -4,16 +4,15 @@
 //! and spans nest. Events of one kind of content are joined by links, so that a later pass reads them as
 //! one text.
 
-ghost use Rattle.std.specs.Prelude.{◌≡◌, ◌<◌, ◌≤◌, ◌+◌, ◌-◌, ◌*◌, ◌%◌, ◌^◌, ℕ, length, Some};
+ghost use Rattle.std.specs.Prelude.{◌≡◌, ◌<◌, ◌≤◌, ◌+◌, ◌*◌, ◌^◌, length, Some};
 ghost use Rattle.markdown_base.specs.EventNames.{text_of};
 ghost use Rattle.markdown_base.specs.Events.{is_void};
 ghost use Rattle.markdown_base.specs.Lines.{HasNoLineEnding};
 ghost use Rattle.markdown_base.specs.Places.{IsPointOf, point_at};
-ghost use Rattle.markdown_base.specs.Virtual.{tab_width};
-ghost use Rattle.markdown_base.specs.VoidNames.{void_names};
 
 use crate::configuration::TabSize;
 use crate::unist;
+use crate::util::place::tab_width;
 
 /// What a span is.
 ///
@@ -517,13 +516,6 @@ static NAME_TEXTS: [&str; 142] = [
     "LinePrefix",
 ];
 
-/// [`VOID_EVENTS`] is the list of the void names, in its order.
-///
-/// A law: it does nothing.
-pub fn void_events_are_stated()
-    ensures { VOID_EVENTS ≡ void_names }
-{}
-
 impl Name {
     /// Whether this is a void name: its span holds no other events. Takes no memory.
     ///
@@ -653,6 +645,14 @@ pub struct Point {
 }
 
 impl Point {
+    /// Where a document starts: at line 1, column 1 and byte index 0.
+    pub const START: Point = Point {
+        line: 1,
+        column: 1,
+        index: 0,
+        vs: 0,
+    };
+
     /// This point as unist has it: the byte index is its offset.
     pub fn to_unist(&self) -> unist::Point
         ensures point { result ≡ record { line = self.now.line; column = self.now.column; offset = self.now.index } }
@@ -676,7 +676,7 @@ impl Point {
         let mut column = self.column;
         for byte in &bytes[self.index..index] {
             column += if *byte == b'\t' {
-                t - (column - 1) % t
+                tab_width(t, column)
             } else {
                 1
             };
@@ -689,15 +689,6 @@ impl Point {
         }
     }
 }
-
-/// A tab at a column reaches the next tab stop: the place after it is one, and it is from one to `t` columns wide.
-///
-/// A law: it does nothing. Tab stops stand at every `t` columns, from the first on.
-pub fn tabs_reach_stops()
-    ensures stop { (t column : ℕ) → 0 < t → 1 ≤ column → (column + tab_width t column - 1) % t ≡ 0 }
-    ensures some { (t column : ℕ) → 0 < t → 1 ≤ column → 1 ≤ tab_width t column }
-    ensures most { (t column : ℕ) → 0 < t → 1 ≤ column → tab_width t column ≤ t }
-{}
 
 /// The start or the end of a span.
 #[derive(Clone, Copy, Debug, PartialEq, Eq)]

@@ -2,8 +2,8 @@
 #![tactic(auto)]
 
 pub mod configuration;
-pub mod equality;
 pub mod event;
+pub mod laws;
 pub mod message;
 pub mod owned;
 pub mod state;

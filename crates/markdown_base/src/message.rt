@@ -54,6 +54,7 @@ fn boxed_clone(text: &Boxed<OwnedText>, alloc: Global) -> Result<Boxed<OwnedText
 impl fmt::Display for Message {
     ghost output = { λ m. Some (message_text m) };
 
+    /// Writes the message in one line: its place if it has one, its reason, and the rule that it is of.
     fn fmt<W: fmt::Write>(&self, f: &mut fmt::Formatter<W>) -> fmt::Result {
         write_prefix(&self.place, f)?;
         let reason = self.reason.as_str();
@@ -91,6 +92,7 @@ pub enum Place {
 impl fmt::Display for Place {
     ghost output = { λ p. Some (place_text p) };
 
+    /// Writes the lines and columns, without the offsets.
     fn fmt<W: fmt::Write>(&self, f: &mut fmt::Formatter<W>) -> fmt::Result {
         match self {
             Place::Position(position) => write!(

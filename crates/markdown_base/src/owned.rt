@@ -3,7 +3,7 @@
 //! Contracts compare what a `Vec`, a `String` or a `Box` holds, not where it holds it. Each type here is one of
 //! these, seen as its contents alone; it is made from what it wraps, and gives it back, without taking memory.
 
-ghost use Rattle.std.specs.Prelude.{◌≡◌, ◌++◌, ◌∷◌, [], List, ℕ, IfOk, OnOk, OnErr, bytes_eq, string_bytes, length};
+ghost use Rattle.std.specs.Prelude.{◌≡◌, ◌++◌, ◌∷◌, [], List, ℕ, IfOk, OnOk, OnErr, bytes_eq, string_bytes};
 ghost use Rattle.std.specs.Cmp.{partial_equiv_from_equiv};
 ghost use Rattle.std.specs.Cmp.Lexicographic.{pointwise, lists_per, lists_equiv, nat_list_eq_equiv};
 
@@ -57,7 +57,7 @@ impl<T> Items<T> {
 }
 
 impl<T: Drop> Items<T> {
-    /// Puts an item at the end. Where memory is refused the items stay as they were.
+    /// Puts an item at the end. If it runs out of memory, the items stay as they were.
     pub fn push(&mut self, item: T) -> Result<(), AllocError>
         ensures ok { OnOk result (self.new ≡ self.old ++ item ∷ []) }
         ensures err { OnErr result (self.new ≡ self.old) }
@@ -72,6 +72,7 @@ impl<T: PartialEq> PartialEq for Items<T> {
 
     ghost laws = { lists_per T.laws };
 
+    /// Whether the items are equal, one by one.
     fn eq(&self, other: &Self) -> bool {
         self.items == other.items
     }
@@ -82,6 +83,7 @@ impl<T: Eq> Eq for Items<T> {
 }
 
 impl<T: fmt::Debug> fmt::Debug for Items<T> {
+    /// Writes the items as a `Vec` writes them.
     fn fmt<W: fmt::Write>(&self, f: &mut fmt::Formatter<W>) -> fmt::Result {
         fmt::Debug::fmt(&self.items, f)
     }
@@ -139,6 +141,7 @@ impl PartialEq for OwnedText {
 
     ghost laws = { partial_equiv_from_equiv nat_list_eq_equiv };
 
+    /// Whether the texts are equal, byte by byte.
     fn eq(&self, other: &Self) -> bool {
         self.as_str() == other.as_str()
     }
@@ -149,6 +152,7 @@ impl Eq for OwnedText {
 }
 
 impl fmt::Debug for OwnedText {
+    /// Writes the text as a `String` writes it.
     fn fmt<W: fmt::Write>(&self, f: &mut fmt::Formatter<W>) -> fmt::Result {
         fmt::Debug::fmt(&self.text, f)
     }
@@ -195,6 +199,7 @@ impl<T: PartialEq> PartialEq for Boxed<T> {
 
     ghost laws = { T.laws };
 
+    /// Whether what the boxes hold is equal.
     fn eq(&self, other: &Self) -> bool {
         self.item == other.item
     }
@@ -205,6 +210,7 @@ impl<T: Eq> Eq for Boxed<T> {
 }
 
 impl<T: fmt::Debug> fmt::Debug for Boxed<T> {
+    /// Writes what the box holds, as a `Box` writes it.
     fn fmt<W: fmt::Write>(&self, f: &mut fmt::Formatter<W>) -> fmt::Result {
         fmt::Debug::fmt(&self.item, f)
     }

@@ -3,9 +3,7 @@
 //! A state is named by the construct that it reads and by the place in it. A machine's `call` runs the
 //! state of a name and answers a [`State`].
 
-ghost use Rattle.std.specs.Prelude.{◌≡◌, ◌≢◌, ◌↔◌, IfOk, IsOk, AllPairs, map};
-ghost use Rattle.std.specs.List.{range_with_len};
-ghost use Rattle.markdown_base.specs.StateNames.{state_names};
+ghost use Rattle.std.specs.Prelude.{◌≡◌, ◌≢◌, ◌↔◌, IfOk, IsOk};
 ghost use Rattle.markdown_base.specs.States.{IsOkOrError};
 
 use crate::message::Message;
@@ -659,15 +657,7 @@ impl Name {
     pub const TitleNok: Name = Name { number: 316 };
 }
 
-/// The names of states are numbered from 0 on, by construct: no two are one.
-///
-/// A law: it does nothing.
-pub fn names_differ()
-    ensures numbers { map (λ name. name.number) state_names ≡ range_with_len 0 317 }
-    ensures differ { AllPairs (λ one other. one ≢ other) state_names }
-{}
-
-/// What a state answers.
+/// What a state returns.
 #[derive(Debug, PartialEq, Eq, Drop)]
 pub enum State {
     /// The document is refused, with this message.

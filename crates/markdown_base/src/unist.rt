@@ -61,6 +61,7 @@ impl Position {
 impl fmt::Debug for Point {
     ghost debug_output = { λ p. Some (point_debug_text p) };
 
+    /// Writes the point as `line:column (offset)`.
     fn fmt<W: fmt::Write>(&self, f: &mut fmt::Formatter<W>) -> fmt::Result {
         write!(f, "{}:{} ({})", self.line, self.column, self.offset)
     }
@@ -69,6 +70,7 @@ impl fmt::Debug for Point {
 impl fmt::Debug for Position {
     ghost debug_output = { λ p. Some (position_debug_text p) };
 
+    /// Writes the position as `line:column-line:column (offset-offset)`.
     fn fmt<W: fmt::Write>(&self, f: &mut fmt::Formatter<W>) -> fmt::Result {
         write!(
             f,

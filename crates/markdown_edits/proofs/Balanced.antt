@@ -14,6 +14,11 @@ names_after_all-append None xs ys = refl
 names_after_all-append (Some st) [] ys = refl
 names_after_all-append (Some st) (e ∷ xs) ys = names_after_all-append (names_after e.kind e.name st) xs ys
 
+-- no events open or close nothing
+pub names-none : (o : Option (List Name)) → names_after_all o [] ≡ o
+names-none None = refl
+names-none (Some st) = refl
+
 pub same_name-refl : (n : Name) → same_name n n ≡ true
 same_name-refl n = true_same the_type n n refl
 
@@ -74,15 +79,6 @@ pub balanced_from_open : (es : List Event) → names_after_all (Some []) es ≡ 
 balanced_from_open es h = balanced_from_closes es (closes_from_open es [] h)
 
 -- ---- replacing
-
--- a balanced list put anywhere into a balanced list
-pub IsBalanced-insert : (xs ys zs : List Event) → IsBalanced (xs ++ zs) → IsBalanced ys → IsBalanced (xs ++ (ys ++ zs))
-IsBalanced-insert xs ys zs b c = balanced_from_open (xs ++ (ys ++ zs))
-    (names_after_all-append (Some []) xs (ys ++ zs) ∙ stays (names_after_all (Some []) xs) ∙ sym (names_after_all-append (Some []) xs zs) ∙ names_after_balanced b [])
-  where
-    stays : (o : Option (List Name)) → names_after_all o (ys ++ zs) ≡ names_after_all o zs
-    stays None = refl
-    stays (Some st) = names_after_all-append (Some st) ys zs ∙ ap (λ o. names_after_all o zs) (names_after_balanced c st)
 
 -- a balanced list taken out of a balanced list
 pub IsBalanced-remove : (xs ys zs : List Event) → IsBalanced (xs ++ (ys ++ zs)) → IsBalanced ys → IsBalanced (xs ++ zs)

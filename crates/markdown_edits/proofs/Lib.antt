@@ -1,13 +1,6 @@
 pub mod Balanced
-pub mod Common
-pub mod EditEntries
-pub mod EditFinalPlaces
-pub mod EditPasses
-pub mod EditPuts
-pub mod EditShifts
-pub mod EditSplices
-pub mod EditSurvivors
-pub mod EditTurns
+pub mod Edits
 pub mod LinkEnds
 pub mod Mirrors
+pub mod Results
 pub mod SpanRuns

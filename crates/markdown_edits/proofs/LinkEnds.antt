@@ -3,6 +3,12 @@ use Rattle.std.proofs.Common.{◌≡◌, ℕ, zero, suc, ◌<◌, List, [], ◌�
 use Rattle.markdown_base.specs.declared.event.Event.{Event}
 use Rattle.markdown_edits.specs.Links.{with_next, with_previous, updated_at, linked_to}
 
+-- as many events as before
+pub updated-length : (i : ℕ) (f : Event → Event) (xs : List Event) → length (updated_at i f xs) ≡ length xs
+updated-length i f [] = refl
+updated-length zero f (x ∷ xs) = refl
+updated-length (suc i) f (x ∷ xs) = ap suc (updated-length i f xs)
+
 -- a write of the changed event is the change
 pub set-updated_at : (i : ℕ) (f : Event → Event) (es : List Event) (d : Event) → i < length es → set es i (f (get_or es i d)) ≡ updated_at i f es
 set-updated_at i f [] d l = absurd (omega arith)

@@ -1,5 +1,6 @@
 -- Lists seen from behind: a walk back is a walk over the mirror, and goes as far as the longest run that ends there.
 use Rattle.std.proofs.Common.{◌≡◌, ℕ, zero, suc, ◌+◌, ◌-◌, ◌<◌, ◌≤◌, true, false, cond, Some, List, [], ◌∷◌, ◌++◌, length, take, drop, get_or, refl, sym, ◌∙◌, ap, subst, arith, append_assoc, append-nil, length-append, length-drop, take-append-drop}
+use Rattle.std.proofs.Math.Seq.{drop-append_seam}
 use Rattle.std.proofs.lemmas.List.{length-take-le}
 use Rattle.std.specs.List.{between}
 use Rattle.markdown_base.specs.declared.event.Event.{Event}
@@ -63,18 +64,13 @@ module _ (names : List Name) where
       (IsSpanRun-append (flip s.exit ∷ (mirror s.inside ++ flip s.enter ∷ [])) (IsSpanRun-mirror c)
       (span_and_run names (flip s.exit) (flip s.enter) (mirror s.inside) [] refl (flip_exit s.exit s.exits) (ap (is_wanted names) s.same ∙ s.wanted) (flip_enter s.enter s.enters) (sym s.same) (IsBalanced-mirror s.balanced) no_span))
 
-  -- a list behind a front
-  drop_front : (xs ys : List Event) → drop (length xs) (xs ++ ys) ≡ ys
-  drop_front [] ys = refl
-  drop_front (x ∷ xs) ys = drop_front xs ys
-
   -- a front of the mirror is the mirror of a back
   mirror_take : (n : ℕ) (xs : List Event) → n ≤ length xs → mirror (take n (mirror xs)) ≡ drop (length xs - n) xs
   mirror_take n xs l =
       let m : List Event = mirror xs in
       let whole : mirror (drop n m) ++ mirror (take n m) ≡ xs = sym (mirror-append (take n m) (drop n m)) ∙ ap mirror (take-append-drop n m) ∙ mirror-mirror xs in
       let len : length (mirror (drop n m)) ≡ length xs - n = length-mirror (drop n m) ∙ length-drop n m ∙ ap (λ k. k - n) (length-mirror xs) in
-      sym (drop_front (mirror (drop n m)) (mirror (take n m))) ∙ ap (λ k. drop k (mirror (drop n m) ++ mirror (take n m))) len ∙ ap (drop (length xs - n)) whole
+      sym (drop-append_seam (mirror (drop n m)) (mirror (take n m))) ∙ ap (λ k. drop k (mirror (drop n m) ++ mirror (take n m))) len ∙ ap (drop (length xs - n)) whole
 
   -- a stretch is a back of a front, or a front of a back
   drop_take : (a b : ℕ) (xs : List Event) → drop a (take b xs) ≡ take (b - a) (drop a xs)

@@ -1,5 +1,7 @@
 -- The walk over wanted spans goes as far as the longest run.
-use Rattle.std.proofs.Common.{◌≡◌, ℕ, suc, ◌+◌, ◌-◌, ◌≤◌, Bool, true, false, cond, Option, Some, None, List, [], ◌∷◌, ◌++◌, length, take, drop, refl, sym, ◌∙◌, ap, subst, arith, append_assoc, append-nil, length-append, length-drop, take-append-drop, eqb, ◌&&◌}
+use Rattle.std.proofs.Common.{◌≡◌, ℕ, suc, ◌+◌, ◌-◌, ◌≤◌, Bool, true, false, cond, Option, Some, None, List, [], ◌∷◌, ◌++◌, length, take, drop, refl, sym, ◌∙◌, ap, subst, arith, append_assoc, append-nil, length-append, length-drop, take-append-drop, eqb}
+use Rattle.std.proofs.Math.Bool.{and-false}
+use Rattle.std.proofs.Math.Seq.{take-append-add}
 use Rattle.std.proofs.lemmas.Bool.{ne_eqb}
 use Rattle.std.proofs.lemmas.List.{length-take-le}
 use Rattle.markdown_base.specs.declared.event.Event.{Event}
@@ -11,13 +13,6 @@ use Rattle.markdown_base.specs.Events.{is_enter}
 use Rattle.markdown_edits.specs.SpanWalksInner.{run_len, is_stop, depth_after}
 use Rattle.markdown_edits.specs.OpenNames.{names_after_all}
 use Rattle.markdown_edits.proofs.Balanced.{Closes, all_closed, closing, closes_from_open, names_after_all-append, names_after_balanced, none_is_not_some}
-
--- a front of two lists that takes in the first
-take-append-add : {A : Type 0} (xs ys : List A) (n : ℕ) → take (length xs + n) (xs ++ ys) ≡ xs ++ take n ys
-take-append-add [] ys n = let z : 0 + n ≡ n = omega arith in ap (λ k. take k ys) z
-take-append-add (x ∷ xs) ys n =
-    let z : suc (length xs) + n ≡ suc (length xs + n) = omega arith in
-    ap (λ k. take k (x ∷ (xs ++ ys))) z ∙ ap (λ t. x ∷ t) (take-append-add xs ys n)
 
 eqb_suc : (d : ℕ) → eqb (suc d) 0 ≡ false
 eqb_suc d = let ne : suc d ≡ 0 → ⊥ = omega arith in ne_eqb (suc d) 0 ne
@@ -53,11 +48,7 @@ module _ (names : List Name) where
       rw (k, w) b
 
   enter_other : (e : Event) (es : List Event) → is_wanted names e.name ≡ false → run_len names 0 (e ∷ es) ≡ 0
-  enter_other e es w = rw (w, and_false (is_enter e.kind)) refl
-    where
-      and_false : (b : Bool) → (b && false) ≡ false
-      and_false true = refl
-      and_false false = refl
+  enter_other e es w = rw (w, and-false (is_enter e.kind)) refl
 
   exit_stops : (e : Event) (es : List Event) → e.kind ≡ Exit → run_len names 0 (e ∷ es) ≡ 0
   exit_stops e es k = rw k refl

@@ -14,6 +14,15 @@ pub record Edit : Type 0 where
 abbrev pub edit_at : ℕ → ℕ → List Event → Edit
 edit_at index remove additions = record { index = index; remove = remove; additions = additions }
 
+-- how many events the edits remove, and how many they add
+abbrev pub removed_by : List Edit → ℕ
+removed_by [] = 0
+removed_by (e ∷ es) = e.remove + removed_by es
+
+abbrev pub added_by : List Edit → ℕ
+added_by [] = 0
+added_by (e ∷ es) = length e.additions + added_by es
+
 -- nothing goes and nothing comes
 abbrev pub is_no_edit : Edit → Bool
 is_no_edit d = (d.remove == 0) && (length d.additions == 0)

@@ -4,11 +4,6 @@ use Rattle.markdown_base.specs.declared.event.Event.{Event}
 use Rattle.markdown_base.specs.Events.{relinked}
 use Rattle.markdown_edits.specs.Edits.{Edit}
 
--- how many events the edits add
-abbrev pub added_by : List Edit → ℕ
-added_by [] = 0
-added_by (e ∷ es) = length e.additions + added_by es
-
 -- where the event at n comes to stand, after edits in front of which `removed` events went and `added` events came
 abbrev pub place_from : List Edit → ℕ → ℕ → ℕ → Option ℕ
 place_from [] removed added n = Some (n - removed + added)

@@ -4,13 +4,11 @@
 //! edits at indices into the events as they are, and every event and link end is moved once.
 
 ghost use Rattle.std.specs.List.{AllByRecursion};
-ghost use Rattle.std.specs.Prelude.{◌≡◌, ◌++◌, ◌+◌, ◌<◌, ◌≤◌, ◌^◌, [], ◌∷◌, length, take, OnOk, OnErr, IsOk, All, IsTrue};
+ghost use Rattle.std.specs.Prelude.{◌≡◌, ◌++◌, ◌+◌, ◌<◌, ◌≤◌, ◌^◌, [], ◌∷◌, length, take, OnOk, OnErr, IsOk, All, IsTrue, if◌then◌else◌};
 ghost use Rattle.markdown_base.specs.Events.{EndsBelow};
 ghost use Rattle.markdown_edits.specs.Edits.{Edit, edit_at, is_no_edit, added_after, added_before, removal_at, AreDisjoint, AreBehind};
 ghost use Rattle.markdown_edits.specs.Edited.{edited};
 ghost use Rattle.markdown_edits.specs.Stored.{as_edit, edits_of};
-
-pub mod laws;
 
 use crate::replacement::Replacement;
 use crate::splice::spliced_events;
@@ -48,8 +46,8 @@ impl EditMap {
 
     /// Adds an edit: at `index` (into the events as they are) `remove` events go, and `additions` come in their place.
     ///
-    /// Where the index has an edit the two become one: their removals add up, and these additions come behind those
-    /// that are there. No removal with no addition is no edit, and takes no memory. Where memory is refused the map
+    /// If the index has an edit, the two become one: their removals add up, and these additions come behind those
+    /// that are there. No removal with no addition is no edit, and takes no memory. If it runs out of memory, the map
     /// stays as it was, and the additions are dropped.
     pub fn add(
         &mut self,
@@ -62,16 +60,7 @@ impl EditMap {
         ensures err { OnErr result (self.new ≡ self.old) }
         ensures no_edit { IsTrue (is_no_edit (edit_at index remove additions.items)) → IsOk result }
     {
-        if remove == 0 && additions.is_empty() {
-            return Ok(());
-        }
-        match self.edits.get_mut(&index) {
-            Some(there) => there.append(remove, &additions)?,
-            None => {
-                self.edits.insert(index, Replacement { remove, additions })?;
-            }
-        }
-        Ok(())
+        self.add_impl(index, remove, additions, false)
     }
 
     /// Adds an edit as [`EditMap::add`] does, but with these additions in front of those that are there.
@@ -86,11 +75,27 @@ impl EditMap {
         ensures err { OnErr result (self.new ≡ self.old) }
         ensures no_edit { IsTrue (is_no_edit (edit_at index remove additions.items)) → IsOk result }
     {
+        self.add_impl(index, remove, additions, true)
+    }
+
+    /// Adds an edit, with its additions in front of those that are there if `before` is set, and else behind them.
+    fn add_impl(
+        &mut self,
+        index: usize,
+        remove: usize,
+        additions: Vec<Event>,
+        before: bool,
+    ) -> Result<(), AllocError>
+        requires sum_fits { 0 < remove → removal_at self.old index + remove < 2 ^ 64 }
+        ensures ok { OnOk result (self.new ≡ (if before then added_before self.old (edit_at index remove additions.items) else added_after self.old (edit_at index remove additions.items))) }
+        ensures err { OnErr result (self.new ≡ self.old) }
+        ensures no_edit { IsTrue (is_no_edit (edit_at index remove additions.items)) → IsOk result }
+    {
         if remove == 0 && additions.is_empty() {
             return Ok(());
         }
         match self.edits.get_mut(&index) {
-            Some(there) => there.prepend(remove, additions)?,
+            Some(there) => there.add(remove, additions, before)?,
             None => {
                 self.edits.insert(index, Replacement { remove, additions })?;
             }
@@ -98,8 +103,8 @@ impl EditMap {
         Ok(())
     }
 
-    /// Moves the edits of another map, which stand behind all that are there, into this one: all of them, or none where
-    /// memory is refused. The other map is left empty, or as it was.
+    /// Moves the edits of another map, which stand behind all that are there, into this one: all of them, or none if it
+    /// runs out of memory. The other map is left empty, or as it was.
     pub fn append(&mut self, more: &mut EditMap) -> Result<(), AllocError>
         requires { AreBehind self.old more.old }
         ensures ok { OnOk result ((self.new ≡ self.old ++ more.old) × (more.new ≡ [])) }
@@ -115,7 +120,8 @@ impl EditMap {
     /// At each place come the additions, and then the event there, unless it is removed. A link between events that
     /// stay joins the same two, by both ends; an end whose event was removed becomes `None`; link ends inside
     /// additions stand for places in the new list. Each edit ends at or before the index of the next, and inside the
-    /// list. An empty map takes no memory. Where memory is refused map and events stay as they were.
+    /// list. An empty map takes no memory. If it runs out of memory, map and events stay as they
+    /// were.
     pub fn consume(&mut self, events: &mut Vec<Event>) -> Result<(), AllocError>
         requires disjoint { AreDisjoint 0 self.old (length events.old.items) }
         requires links { All (EndsBelow (length events.old.items)) events.old.items }
@@ -156,7 +162,7 @@ fn push_copy(
     Ok(())
 }
 
-/// Puts copies of edits behind all that are there: of each of them, or none where memory is refused.
+/// Puts copies of edits behind all that are there: of each of them, or none if it runs out of memory.
 fn push_copies(
     edits: &mut BTreeMap<usize, Replacement>,
     more: &BTreeMap<usize, Replacement>,

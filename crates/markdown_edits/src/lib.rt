@@ -2,6 +2,7 @@
 #![tactic(auto)]
 
 pub mod edit_map;
+pub mod laws;
 pub mod links;
 mod replacement;
 mod shift;

@@ -1,6 +1,6 @@
 //! Edits as a map keeps them.
 
-ghost use Rattle.std.specs.Prelude.{◌≡◌, ◌+◌, ◌<◌, ◌^◌, ◌++◌, OnOk, OnErr};
+ghost use Rattle.std.specs.Prelude.{◌≡◌, ◌+◌, ◌<◌, ◌^◌, ◌++◌, OnOk, OnErr, if◌then◌else◌};
 
 use markdown_base::event::Event;
 use std::alloc::AllocError;
@@ -15,10 +15,32 @@ pub(crate) struct Replacement {
 }
 
 impl Replacement {
+    /// Makes one edit of this and a second one at its index, whose additions come in front if `before` is set, and else
+    /// behind.
+    ///
+    /// If it runs out of memory, the edit means what it meant.
+    pub(crate) fn add(
+        &mut self,
+        remove: usize,
+        additions: Vec<Event>,
+        before: bool,
+    ) -> Result<(), AllocError>
+        requires sum_fits { 0 < remove → self.old.remove + remove < 2 ^ 64 }
+        ensures remove { OnOk result (self.new.remove ≡ self.old.remove + remove) }
+        ensures additions { OnOk result (self.new.additions.items ≡ (if before then additions.items ++ self.old.additions.items else self.old.additions.items ++ additions.items)) }
+        ensures err { OnErr result ((self.new.remove ≡ self.old.remove) × (self.new.additions.items ≡ self.old.additions.items)) }
+    {
+        if before {
+            self.prepend(remove, additions)
+        } else {
+            self.append(remove, &additions)
+        }
+    }
+
     /// Makes one edit of this and a second one at its index, whose additions come behind.
     ///
-    /// Where memory is refused the edit means what it meant.
-    pub(crate) fn append(&mut self, remove: usize, additions: &[Event]) -> Result<(), AllocError>
+    /// If it runs out of memory, the edit means what it meant.
+    fn append(&mut self, remove: usize, additions: &[Event]) -> Result<(), AllocError>
         requires sum_fits { 0 < remove → self.old.remove + remove < 2 ^ 64 }
         ensures remove { OnOk result (self.new.remove ≡ self.old.remove + remove) }
         ensures additions { OnOk result (self.new.additions.items ≡ self.old.additions.items ++ additions.now) }
@@ -31,8 +53,8 @@ impl Replacement {
 
     /// Makes one edit of this and a second one at its index, whose additions come in front.
     ///
-    /// Where memory is refused the edit means what it meant.
-    pub(crate) fn prepend(&mut self, remove: usize, additions: Vec<Event>) -> Result<(), AllocError>
+    /// If it runs out of memory, the edit means what it meant.
+    fn prepend(&mut self, remove: usize, additions: Vec<Event>) -> Result<(), AllocError>
         requires sum_fits { 0 < remove → self.old.remove + remove < 2 ^ 64 }
         ensures remove { OnOk result (self.new.remove ≡ self.old.remove + remove) }
         ensures additions { OnOk result (self.new.additions.items ≡ additions.items ++ self.old.additions.items) }

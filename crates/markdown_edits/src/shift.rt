@@ -22,7 +22,8 @@ pub(crate) struct Shift {
     pub(crate) added: usize,
 }
 
-/// The shifts by the edits of `len` events, in order. An error where memory is refused, or all lengths together do not fit.
+/// The shifts by the edits of `len` events, in order. Returns an error if it runs out of memory, or if all
+/// lengths together do not fit.
 pub(crate) fn shifts_of(
     alloc: Global,
     edits: &BTreeMap<usize, Replacement>,

@@ -12,7 +12,7 @@ use markdown_base::event::{Event, Kind, Name};
 
 /// Skip whole spans of the names, forwards.
 ///
-/// Answers the index after the longest run of such spans that begins at `index`; `index` itself where there is none.
+/// Returns the index after the longest run of such spans that begins at `index`; `index` itself if there is none.
 pub fn opt(events: &[Event], index: usize, names: &[Name]) -> usize
     requires { IsBalanced events.now }
     ensures { IsLongestRunFrom names.now events.now index result }
@@ -26,8 +26,8 @@ pub fn opt(events: &[Event], index: usize, names: &[Name]) -> usize
 
 /// Skip whole spans of the names, backwards.
 ///
-/// Answers the index before the longest run of such spans that ends with the event at `index`, or 0 where the run
-/// begins at 0; `index` itself where there is none.
+/// Returns the index before the longest run of such spans that ends with the event at `index`, or 0 if the run
+/// begins at 0; `index` itself if there is none.
 pub fn opt_back(events: &[Event], index: usize, names: &[Name]) -> usize
     requires { IsFront events.now }
     ensures skipped { index < length events.now
@@ -43,7 +43,7 @@ pub fn opt_back(events: &[Event], index: usize, names: &[Name]) -> usize
 
 /// Skip forwards to an event, enter or exit, with one of the names.
 ///
-/// Answers the index of the first one at or after `index`, or the number of events where none follows.
+/// Returns the index of the first one at or after `index`, or the number of events if none follows.
 pub fn to(events: &[Event], index: usize, names: &[Name]) -> usize
     ensures { IsFirstWanted names.now events.now index result }
 {
@@ -56,7 +56,7 @@ pub fn to(events: &[Event], index: usize, names: &[Name]) -> usize
 
 /// Skip backwards to an event, enter or exit, with one of the names.
 ///
-/// Answers the index of the last one at or before `index`.
+/// Returns the index of the last one at or before `index`.
 pub fn to_back(events: &[Event], index: usize, names: &[Name]) -> usize
     requires { index < length events.now → Any (HasWanted names.now) (take (index + 1) events.now) }
     ensures found { index < length events.now → IsLastWanted names.now events.now index result }

@@ -1,7 +1,7 @@
 //! The list of events that edits give.
 
 ghost use Rattle.std.specs.Prelude.{◌≡◌, ◌-◌, ◌≤◌, ◌++◌, length, take, drop, OnOk, IfOk, IfSome, All, option_and_then};
-ghost use Rattle.markdown_base.specs.Events.{EndsBelow, EachEnd, relinked};
+ghost use Rattle.markdown_base.specs.Events.{EndsBelow, relinked};
 ghost use Rattle.markdown_edits.specs.Edits.{AreDisjoint};
 ghost use Rattle.markdown_edits.specs.Shifts.{shifts, place_by, AreShifts, EndsFit};
 ghost use Rattle.markdown_edits.specs.Spliced.{moved, spliced};
@@ -13,6 +13,7 @@ use markdown_base::event::{Event, Link};
 use std::alloc::{AllocError, Global};
 use std::collections::BTreeMap;
 
+/// Where a link end points in the new list, an index into it; `None` if its event is removed.
 fn moved_end(shifts: &[Shift], end: Option<usize>) -> Option<usize>
     requires { IfSome end (λ n. AreShifts n 0 shifts.now) }
     ensures { result ≡ option_and_then (place_by shifts.now 0 0) end }
@@ -23,6 +24,7 @@ fn moved_end(shifts: &[Shift], end: Option<usize>) -> Option<usize>
     }
 }
 
+/// An event of the list as the new list holds it: with both ends of its link moved.
 fn moved_event(shifts: &[Shift], event: Event) -> Event
     requires { EndsFit shifts.now event }
     ensures { result ≡ relinked (place_by shifts.now 0 0) event }

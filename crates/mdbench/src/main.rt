@@ -1,13 +1,13 @@
 //! Measures the edit map: `bench/run.sh` counts the instructions of its runs.
 //!
 //! Standard input has one byte for each span of a list of linked spans, and an edit for each span puts two events in front of
-//! it. Where the first byte is `d` the edits are made at descending indices, and else at ascending ones. The number of events
+//! it. If the first byte is `d` the edits are made at descending indices, and else at ascending ones. The number of events
 //! afterwards is printed.
 #![tactic(auto)]
 
 ghost use Rattle.std.specs.Prelude.{◌≡◌, ◌+◌, ◌*◌, ◌^◌, ◌<◌, length, All, None, IfOk, IfSome};
-ghost use Rattle.markdown_base.specs.Events.{EndsBelow};
-ghost use Rattle.markdown_edits.specs.Edits.{AreDisjoint};
+ghost use Rattle.markdown.specs.Events.{EndsBelow};
+ghost use Rattle.markdown.specs.Edits.{AreDisjoint};
 
 use markdown::event::{Content, Event, Kind, Link, Name, Point};
 use markdown::util::edit_map::EditMap;
@@ -27,16 +27,10 @@ fn main(rt: HostRuntime) -> io::Result<()> {
 fn event_of(kind: Kind) -> Event
     ensures { result.link ≡ None }
 {
-    let point = Point {
-        line: 1,
-        column: 1,
-        index: 0,
-        vs: 0,
-    };
     Event {
         kind,
         name: Name::Data,
-        point,
+        point: Point::START,
         link: None,
     }
 }
@@ -58,7 +52,7 @@ fn enter_behind(k: usize, count: usize) -> Option<usize>
     if k + 1 < count { Some(2 * k + 2) } else { None }
 }
 
-/// The enter of span `k`, of so many, which is linked to those beside it.
+/// The enter of span `k`, of so many, which is linked to those before and behind it.
 fn linked_enter(k: usize, count: usize) -> Event
     requires fits { 2 * count < 2 ^ 64 }
     requires inside { k < count }

@@ -1,4 +1,17 @@
--- Each machine's answers stand in a folder of its own.
-pub mod Mapped
-pub mod Rows
-pub mod NoRefusals
+pub use Rattle.mdconstructs_tables.proofs.LinkShapes
+pub use Rattle.mdconstructs_tables.proofs.Markers
+pub use Rattle.mdconstructs_tables.proofs.GrowingTexts
+pub use Rattle.mdconstructs_tables.proofs.KeptByReading
+pub use Rattle.mdconstructs_tables.proofs.Rows
+pub use Rattle.mdconstructs_tables.proofs.Tables
+pub use Rattle.mdconstructs_machines.proofs.Mapped
+pub use Rattle.mdconstructs_machines.proofs.RowSteps
+pub use Rattle.mdconstructs_machines.proofs.NoRefusals
+pub use Rattle.mdconstructs_text.proofs.Examples
+pub use Rattle.mdconstructs_text.proofs.NoRefusals as TextNoRefusals
+pub use Rattle.mdconstructs_text.proofs.Autolinks
+pub use Rattle.mdconstructs_text.proofs.CodeSpans
+pub use Rattle.mdconstructs_text.proofs.Escapes
+pub use Rattle.mdconstructs_text.proofs.Plain
+pub use Rattle.mdconstructs_text.proofs.Paragraphs as TextParagraphs
+pub use Rattle.mdconstructs_text.proofs.Texts

@@ -1,18 +1,24 @@
-//! Machines of states for the tokenizer, each proved lawful.
+//! Machines of states, each proved lawful, `read_text`, and what the author of a machine needs.
+//!
+//! There is no code here. The three parts are proved below: `mdconstructs_tables` (machines as tables), `mdconstructs_machines` (the
+//! small machines) and `mdconstructs_text` (`Text` and its definition).
 #![tactic(auto)]
 
-pub mod back;
-pub mod begin;
-pub mod costs;
-pub mod deep;
-pub mod fail;
-pub mod lines;
-pub mod misfits;
-pub mod paragraphs;
-pub mod peek;
-mod reading;
-mod refusal;
-pub mod refusing;
-pub mod save;
-pub mod words;
-pub mod wrap;
+pub mod laws;
+
+pub use mdconstructs_machines::back::Back;
+pub use mdconstructs_machines::deep::Deep;
+pub use mdconstructs_machines::fail::Fail;
+pub use mdconstructs_machines::lines::Lines;
+pub use mdconstructs_machines::paragraphs::Paragraphs;
+pub use mdconstructs_machines::peek::Peek;
+pub use mdconstructs_machines::save::Save;
+pub use mdconstructs_machines::words::Words;
+pub use mdconstructs_machines::wrap::Wrap;
+pub use mdconstructs_machines::{
+    back, begin, deep, fail, lines, paragraphs, peek, save, words, wrap,
+};
+pub use mdconstructs_tables::marker;
+pub use mdconstructs_text::read::read_text;
+pub use mdconstructs_text::text::Text;
+pub use mdconstructs_text::{read, text};

@@ -1,10 +1,10 @@
 //! What the words choose that the program is called with.
 
 use markdown::configuration::TabSize;
-use mdprint::words::{Choice, Which, read_words};
+use mdevents_program::arguments::{Choice, Which, read_words};
 use std::alloc::{AllocError, Global};
 
-/// What words choose, which stand in a text with spaces between.
+/// What the words of a text choose, which have spaces between them.
 fn choice_of(alloc: Global, text: &str) -> Result<Option<Choice>, AllocError> {
     let mut words = Vec::new(alloc);
     for word in text.split_whitespace() {
@@ -13,7 +13,7 @@ fn choice_of(alloc: Global, text: &str) -> Result<Option<Choice>, AllocError> {
     Ok(read_words(words.as_slice()))
 }
 
-/// Whether words choose this, which stand in a text with spaces between.
+/// Whether the words of a text choose this, which have spaces between them.
 fn choose(alloc: Global, text: &str, want: Option<Choice>) -> bool {
     match choice_of(alloc, text) {
         Ok(choice) => choice == want,
@@ -69,7 +69,7 @@ const CHOSEN: &[(&str, Option<usize>, bool, Which, usize)] = &[
     ),
 ];
 
-/// The choice of these; `None` where no tab stops stand so.
+/// The choice of these; `None` if no tabs have that size.
 fn choice(cut: Option<usize>, deep: bool, machine: Which, tab: usize) -> Option<Choice> {
     let tab = TabSize::new(tab)?;
     Some(Choice {

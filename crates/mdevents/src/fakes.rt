@@ -15,9 +15,9 @@ use std::rt::Env;
 /// How a reader or a writer fails after its good calls.
 #[derive(Clone, Copy, PartialEq, Eq)]
 pub enum Fault {
-    /// One call answers an error, and those after it are good.
+    /// One call returns an error, and those after it are good.
     ErrorOnce,
-    /// All calls answer an error.
+    /// All calls return an error.
     ErrorFromThenOn,
     /// One write takes nothing, and those after it are good.
     NothingOnce,
@@ -31,7 +31,7 @@ impl Fault {
         self == Fault::ErrorFromThenOn || self == Fault::NothingFromThenOn
     }
 
-    /// What a call that fails answers. The error is one that Rust's own loops try again after.
+    /// What a call that fails returns. The error is one that Rust's own loops try again after.
     fn answer(self) -> io::Result<usize>
         ensures { IfOk result (λ count. count ≡ 0) }
     {

@@ -2,26 +2,20 @@
 //!
 //! `mdevents [--cut n] [--deep] [--machine name] [--tab n]`: with `--cut` the document is read in parts, cut after each n
 //! virtual bytes, which changes nothing in what is written; with `--machine` the machine of that name reads it, and else
-//! that of lines; with `--deep`, which goes with `--machine paragraphs` and `--machine text` alone, the chunks of text that
-//! it links are read too, and their events stand in their place; with `--tab` tab stops stand at every n columns, from 1 to
-//! 16, and else at every 4. The status is 0; where something fails, a line says what on standard error and the status is 1;
-//! other words are answered by a line on how to call the program, and the status is 2.
+//! that of lines; with `--deep`, which goes only with `--machine paragraphs` and `--machine text`, the chunks of text that
+//! it links are read too, and their events are put in their place; with `--tab` tab stops are n columns apart, from 1 to
+//! 16, and else 4. The status is 0. If something fails, a line says what on standard error and the status is 1. For other
+//! words a line says how to call the program, and the status is 2.
 #![tactic(auto)]
 
 ghost use Rattle.std.specs.Prelude.{◌≡◌, ◌≤◌, IfOk, IfSome, IsErr, IsOkUnless, Ok, None};
 ghost use Rattle.std.specs.Io.KnownBytes.{Keeps};
 ghost use Rattle.std.specs.Process.{exit_status};
-ghost use Rattle.mdprint.specs.Program.{Prints, PrintsChosen};
-ghost use Rattle.mdprint.specs.Words.{CanCut};
+ghost use Rattle.mdevents_program.specs.Program.{Prints, PrintsChosen};
+ghost use Rattle.mdevents_program.specs.Arguments.{CanCut};
 
 #[cfg(test)]
 mod chosen;
-#[cfg(test)]
-mod driven;
-#[cfg(test)]
-mod every_cut;
-#[cfg(test)]
-mod every_cut_of_text;
 #[cfg(test)]
 mod expected;
 #[cfg(test)]
@@ -29,17 +23,13 @@ mod fakes;
 #[cfg(test)]
 mod printed;
 #[cfg(test)]
-mod ranges;
-#[cfg(test)]
-mod rows;
-#[cfg(test)]
 mod turns;
 #[cfg(test)]
 mod written;
 
-use mdprint::failure::Failure;
-use mdprint::program::write_events;
-use mdprint::words::{Choice, USAGE, read_words};
+pub use mdevents_program::arguments::{Choice, USAGE, Which, read_words};
+pub use mdevents_program::failure::Failure;
+pub use mdevents_program::program::write_events;
 use std::env;
 use std::io::{ErrorKind, Read, Write};
 use std::process::ExitCode;
@@ -49,7 +39,7 @@ fn main(rt: HostRuntime) -> ExitCode {
     answer_call(&rt, &mut rt.stdin(), &mut rt.stdout())
 }
 
-/// Does what the words after the program's name choose: the status is 0 only where all of it was written, and 2 only where
+/// Does what the words after the program's name choose: the status is 0 only if all of it was written, and 2 only if
 /// nothing was read or written. There is no other but 1.
 fn answer_call<R: Read, W: Write>(
     rt: &(impl Env + AllocGlobal + Eprint),
@@ -65,8 +55,8 @@ fn answer_call<R: Read, W: Write>(
     answer_choice(rt, choice, reader, writer)
 }
 
-/// Does what was chosen: the status is 0 only where all was written, and 1 where something failed, which a line on
-/// standard error says. Where nothing was chosen the usage line is shown there, the status is 2, and nothing is read or
+/// Does what was chosen: the status is 0 only if all was written, and 1 if something failed, which a line on
+/// standard error says. If nothing was chosen the usage line is shown there, the status is 2, and nothing is read or
 /// written.
 fn answer_choice<R: Read, W: Write>(
     rt: &(impl AllocGlobal + Eprint),
@@ -126,7 +116,6 @@ mod tests {
     use crate::expected::{PARAGRAPH, SHORT_DATA, TWO_LINES};
     use crate::fakes::{CalledWith, FailingReader, FailingWriter, Fault, Line, message};
     use markdown::configuration::TabSize;
-    use mdprint::words::Which;
     use std::alloc::{AllocError, Global};
 
     const USAGE_SHOWN: &[u8] = b"usage: mdevents [--cut n] [--deep] [--machine name] [--tab n]\n";
@@ -286,7 +275,7 @@ mod tests {
         }
     }
 
-    /// Whether a run over a document of two lines ends so, where the read and the write after so many good ones fail.
+    /// Whether a run over a document of two lines ends so, if the read and the write after so many good ones fail.
     fn fails(alloc: Global, good_reads: usize, good_writes: usize, want: Wanted) -> bool {
         call(alloc, b"mdevents", b"a\r\nb", good_reads, good_writes).is(want)
     }
@@ -353,7 +342,7 @@ mod tests {
         shown: b"",
     };
 
-    /// Also where some growth is refused, which `rt try --test --fail-alloc N` does.
+    /// Also if there is no memory for some growth, which `rt try --test --fail-alloc N` does.
     #[test]
     fn memory_is_no_fault_of_the_reader(rt: HostRuntime) {
         let ended = call(rt.alloc(), b"mdevents --cut 1", b"ab", 99, 99);

@@ -1,10 +1,9 @@
 //! The lines of events and of failures.
 
-use crate::driven::lines_of;
 use crate::fakes::{FailingWriter, Fault, message};
 use markdown::event::{Event, Kind, Name, Point};
-use mdprint::failure::Failure;
-use mdprint::write::write_lines;
+use mdevents_program::failure::Failure;
+use mdevents_program::write::write_lines;
 use std::alloc::{AllocError, Global};
 
 const ENTER: Event = Event {
@@ -31,7 +30,16 @@ const EXIT: Event = Event {
     link: None,
 };
 
-/// Whether the line of an event of 26 bytes is written, or this much of it, where a writer that takes at most so many bytes a
+/// The lines of events.
+pub fn lines_of(alloc: Global, events: &[Event]) -> Result<Vec<u8>, AllocError> {
+    let mut text = Vec::new(alloc);
+    match write_lines(&mut text, events) {
+        Ok(()) => Ok(text),
+        Err(_) => Err(AllocError),
+    }
+}
+
+/// Whether the line of an event of 26 bytes is written, or this much of it, if a writer that takes at most so many bytes a
 /// write takes nothing after its good ones.
 fn writes(most: usize, good_writes: usize, want: &[u8]) -> bool {
     let mut writer = FailingWriter::new(most, good_writes, Fault::NothingOnce);

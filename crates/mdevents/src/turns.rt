@@ -5,10 +5,10 @@ ghost use Rattle.std.specs.Prelude.{◌≡◌, None};
 use crate::expected::{PEEKED, TWO_LINES};
 use crate::fakes::{FailingReader, FailingWriter, Fault, Line};
 use markdown::configuration::TabSize;
-use mdprint::failure::Failure;
-use mdprint::program::write_events;
-use mdprint::read::read_to_end;
-use mdprint::words::{Choice, Which};
+use mdevents_program::arguments::{Choice, Which};
+use mdevents_program::failure::Failure;
+use mdevents_program::program::write_events;
+use mdevents_program::read::read_to_end;
 use std::alloc::Global;
 use std::io::{Read, Write};
 
@@ -51,7 +51,7 @@ fn run<R: Read, W: Write>(alloc: Global, reader: &mut R, writer: &mut W) -> Ende
     ending(write_events(alloc, reader, writer, &uncut))
 }
 
-/// Runs over the document, where the read after so many good ones fails: how it ended, and what it wrote.
+/// Runs over the document, whose read after so many good ones fails: how it ended, and what it wrote.
 fn run_with_reads(alloc: Global, good_reads: usize, fault: Fault) -> (Ended, Line) {
     let mut reader = FailingReader::new(DOCUMENT, good_reads, fault);
     let mut written = Line::new();
@@ -59,7 +59,7 @@ fn run_with_reads(alloc: Global, good_reads: usize, fault: Fault) -> (Ended, Lin
     (ended, written)
 }
 
-/// Fails the read after each number of good ones, until a run ends well: how many good reads that takes. `None` where a run
+/// Fails the read after each number of good ones, until a run ends well: how many good reads that takes. `None` if a run
 /// that failed wrote something, or did not fail by the reader.
 fn reads_of_a_run(alloc: Global, fault: Fault) -> Option<usize> {
     for good_reads in 0..100 {
@@ -81,7 +81,7 @@ fn each_read_fails_in_turn(rt: HostRuntime) {
     }
 }
 
-/// Reads the document to its end, where the read after so many good ones fails.
+/// Reads the document to its end, of which the read after so many good ones fails.
 fn read_all(alloc: Global, good_reads: usize) -> Ended {
     let mut reader = FailingReader::new(DOCUMENT, good_reads, Fault::ErrorOnce);
     match read_to_end(alloc, &mut reader, TabSize::default()) {
@@ -106,7 +106,7 @@ fn reads_to_the_end(rt: HostRuntime) {
     }
 }
 
-/// Runs over the document, where the write after so many good ones, of a byte each, fails: how it ended, and what it wrote.
+/// Runs over the document, and the write after so many good ones, of a byte each, fails: how it ended, and what it wrote.
 fn run_with_writes(alloc: Global, good_writes: usize, fault: Fault) -> (Ended, Line) {
     let mut reader = DOCUMENT;
     let mut writer = FailingWriter::new(1, good_writes, fault);
@@ -115,7 +115,7 @@ fn run_with_writes(alloc: Global, good_writes: usize, fault: Fault) -> (Ended, L
 }
 
 /// Fails the write after each number of good ones, of a byte each, until a run ends well: how many good writes that takes.
-/// `None` where a run that failed wrote more or less than a beginning of that many bytes, or did not fail by the writer.
+/// `None` if a run that failed wrote more or less than a beginning of that many bytes, or did not fail by the writer.
 fn writes_of_a_run(alloc: Global, fault: Fault) -> Option<usize> {
     for good_writes in 0..400 {
         let (ended, written) = run_with_writes(alloc, good_writes, fault);

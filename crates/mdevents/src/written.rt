@@ -1,16 +1,16 @@
 //! What the program writes for a document, machine by machine.
 
-ghost use Rattle.mdprint.specs.Words.{CanCut};
+ghost use Rattle.mdevents_program.specs.Arguments.{CanCut};
 
-use crate::driven::lines_of;
 use crate::expected::{ONE_DATA, SHORT_DATA, THREE_DATA, TWO_LINES};
+use crate::printed::lines_of;
 use markdown::configuration::{ParseOptions, TabSize};
 use markdown::parser::ParseState;
 use markdown::state::Name;
 use markdown::tokenizer::{cuts_every, run};
-use mdconstructs::lines::Lines;
-use mdprint::program::write_events;
-use mdprint::words::{Choice, Which};
+use mdconstructs::Lines;
+use mdevents_program::arguments::{Choice, Which};
+use mdevents_program::program::write_events;
 use std::alloc::{AllocError, Global};
 
 const TWO_CHUNKS: &[u8] =
@@ -214,7 +214,7 @@ fn writes_the_events_of_many_lines(rt: HostRuntime) -> Result<(), AllocError> {
     Ok(())
 }
 
-/// How many cuts there are where a text of so many bytes is cut after each, and the last one.
+/// How many cuts there are if a text of so many bytes is cut after each, and the last one.
 fn cuts_by_one(alloc: Global, count: usize) -> Result<(usize, (usize, usize)), AllocError> {
     let mut bytes = Vec::new(alloc);
     bytes.resize(count, b'a')?;

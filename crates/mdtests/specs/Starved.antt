@@ -1,13 +1,13 @@
--- The machine that lacks memory: each byte is data of its own. At which call memory is refused no step tells.
+-- The machine that runs out of memory: each byte is data of its own. No step tells at which call there is none.
 use Rattle.std.specs.Prelude.{◌∷◌, [], Option, Some, None}
-use Rattle.markdown_base.specs.declared.event.Name.TheVariants.{Data}
-use Rattle.markdown_base.specs.declared.state.TheConstants.Name.{TextStart}
-use Rattle.markdown_base.specs.declared.state.State.TheVariants.{Next, Ok}
+use Rattle.markdown.specs.declared.event.Name.TheVariants.{Data}
+use Rattle.markdown.specs.StateConstants.Name.{TextStart}
+use Rattle.markdown.specs.declared.state.State.TheVariants.{Next, Ok}
 use Rattle.markdown.specs.Text.{Given}
 use Rattle.markdown.specs.Rules.{Rules}
 use Rattle.markdown.specs.Plain as shape
-use Rattle.mdtables.specs.Rows.{enter, exit, consume, Rows, row, StateRows, calls, no_cost, plain, Table}
-use Rattle.mdtables.specs.RowInvariant.{table_rules}
+use Rattle.mdconstructs.specs.Rows.{enter, exit, consume, Rows, row, StateRows, calls, no_cost, state, Table}
+use Rattle.mdconstructs.specs.RowInvariant.{table_rules}
 use Rattle.mdconstructs.specs.Tables.{LineByte, line_byte, counts}
 
 -- before a byte
@@ -16,7 +16,7 @@ text_start_rows _ None = row [] Ok
 text_start_rows _ (Some _) = row (enter Data ∷ consume ∷ exit Data ∷ []) (Next TextStart)
 
 abbrev pub text_start : StateRows LineByte Unit Unit
-text_start = plain TextStart text_start_rows [] (calls 1 1)
+text_start = state TextStart text_start_rows [] (calls 1 1)
 
 abbrev pub starved : Table LineByte Unit Unit
 starved = record { class = line_byte; first = counts; states = text_start ∷ []; starts = TextStart ∷ []; cost = no_cost }

@@ -1,8 +1,8 @@
 -- The table of the machine passes the test, so that the machine is lawful.
 use Rattle.std.proofs.Common.{◌≡◌, [], Option, Some, None, refl, true}
-use Rattle.mdtables.specs.PlainTables.{are_plain_states, IsPlainTable}
-use Rattle.mdtables.specs.RowTest.{misfits}
-use Rattle.mdtables.proofs.TableLaws.{IsFit, no-falls}
+use Rattle.mdconstructs.specs.PlainTables.{are_plain_states, IsPlainTable}
+use Rattle.mdconstructs.specs.RowTest.{misfits}
+use Rattle.mdconstructs_tables.proofs.Tables.Laws.{IsFit, no-falls}
 use Rattle.mdconstructs.specs.Tables.{LineByte, line_ending, other}
 use Rattle.mdtests.specs.Starved.{starved}
 

@@ -1,18 +1,18 @@
 //! A child's events in the place of the chunks that it was read from, with answers worked by hand.
 
 ghost use Rattle.std.specs.Prelude.{◌≡◌, ◌+◌, ◌*◌, ◌^◌, ◌<◌, true, length, None, IfSome, IfOk, All};
-ghost use Rattle.markdown_base.specs.Events.{EndsBelow};
-ghost use Rattle.markdown_edits.specs.Edits.{AreDisjoint};
-ghost use Rattle.mdchildren.specs.Chains.{begins};
-ghost use Rattle.mdchildren.specs.Laws.{HasEndsWithin};
+ghost use Rattle.markdown.specs.Events.{EndsBelow};
+ghost use Rattle.markdown.specs.Edits.{AreDisjoint};
+ghost use Rattle.markdown.specs.Chains.{begins};
+ghost use Rattle.markdown.specs.ChildrenLaws.{HasEndsWithin};
 
 use crate::chunks::Row::{Chunk, Enter, Exit};
 use crate::chunks::{EMPTY_CHUNK, QUOTE, Row, listed};
 use crate::shown::{assert_shown, shown};
 use markdown::configuration::TabSize;
 use markdown::event::{Content, Event, Name};
+use markdown::subtokenize::{divide_events, ready};
 use markdown::util::edit_map::EditMap;
-use mdchildren::subtokenize::{divide_events, ready};
 use std::alloc::{AllocError, Global};
 
 /// Whether a chain begins at an index.
@@ -86,7 +86,7 @@ fn edits_of(
         return Ok(None);
     }
     let mut map = EditMap::new(alloc);
-    let sums = divide_events(&mut map, events, index, child, (0, 0))?;
+    let sums = divide_events(alloc, &mut map, events, index, child, (0, 0))?;
     Ok(Some((sums, map)))
 }
 

@@ -1,7 +1,7 @@
 //! A document, read call by call.
 
 ghost use Rattle.std.specs.Prelude.{◌≡◌, ◌+◌, ◌*◌, ◌^◌, ◌<◌, ◌∷◌, [], true, false, length, All, Contains, IfOk};
-ghost use Rattle.markdown_base.specs.Virtual.{point};
+ghost use Rattle.markdown.specs.Virtual.{point};
 ghost use Rattle.markdown.specs.Configuration.{start_seen};
 ghost use Rattle.markdown.specs.Engine.{AreCuts, CanPush, HoldsOf, IsPushed, given_of};
 ghost use Rattle.markdown.specs.Text.{empty_text};
@@ -15,7 +15,7 @@ use markdown::tokenizer::{Fault, Tokenizer};
 use std::alloc::{AllocError, Global};
 
 /// Reads a document, cut at one place: pushes a range up to it and one up to the end, flushes, and pushes once more. Appends
-/// what was answered, a line for each call, and how the tokenizer was left: whether these resolvers are registered, and the events.
+/// what was returned, a line for each call, and how the tokenizer was left: whether these resolvers are registered, and the events.
 pub fn read<M: Machine>(
     alloc: Global,
     text: &mut String,
@@ -29,14 +29,8 @@ pub fn read<M: Machine>(
     requires start { Contains (M.rules parse_state.now.machine.now (given_of parse_state.now)).starts start }
     requires cut { AreCuts parse_state.now.options.now.tab_size parse_state.now.bytes.now (cut ∷ []) }
 {
-    let point = Point {
-        line: 1,
-        column: 1,
-        index: 0,
-        vs: 0,
-    };
     let _ = parse_state.options.tab_size.get();
-    let mut tokenizer = Tokenizer::new(alloc, point, parse_state);
+    let mut tokenizer = Tokenizer::new(alloc, Point::START, parse_state);
     let read = read_new(
         text,
         &mut tokenizer,
@@ -74,7 +68,7 @@ fn read_new<M: Machine>(
     push_end(text, tokenizer, &flushed, resolvers)
 }
 
-/// Pushes a range, and appends the state that is answered.
+/// Pushes a range, and appends the state that is returned.
 fn push_shown<M: Machine>(
     text: &mut String,
     tokenizer: &mut Tokenizer<M>,
@@ -96,7 +90,7 @@ fn push_shown<M: Machine>(
     }
 }
 
-/// Appends what a flush answered, and a push after it; then the number of calls, and where the flush succeeded, whether these
+/// Appends what a flush returned, and a push after it; then the number of calls, and if the flush succeeded, whether these
 /// resolvers are registered, and the events.
 fn push_end<M: Machine>(
     text: &mut String,
@@ -118,7 +112,7 @@ fn push_end<M: Machine>(
     push_lines(text, tokenizer.events())
 }
 
-/// Pushes where a tokenizer was flushed, and appends what is answered.
+/// Pushes after a tokenizer was flushed, and appends what is returned.
 fn push_later<M: Machine>(text: &mut String, tokenizer: &mut Tokenizer<M>) -> Result<(), AllocError>
     requires closed { tokenizer.old.closed ≡ true }
 {
@@ -126,7 +120,7 @@ fn push_later<M: Machine>(text: &mut String, tokenizer: &mut Tokenizer<M>) -> Re
     push_pushed(text, &later)
 }
 
-/// Appends what a push answered where it was to fail.
+/// Appends what a push returned that was to fail.
 fn push_pushed(text: &mut String, pushed: &Result<State, Fault>) -> Result<(), AllocError> {
     match pushed {
         Ok(_state) => text.push_str("pushed\n"),

@@ -1,7 +1,7 @@
 //! Edits of small lists, with answers worked by hand.
 
-ghost use Rattle.markdown_edits.specs.Edits.{AreDisjoint};
-ghost use Rattle.markdown_base.specs.Events.{EndsBelow};
+ghost use Rattle.markdown.specs.Edits.{AreDisjoint};
+ghost use Rattle.markdown.specs.Events.{EndsBelow};
 ghost use Rattle.std.specs.Prelude.{◌≡◌, ◌*◌, ◌^◌, ◌<◌, length, All, None, IfOk, IfSome};
 
 use crate::shown::{assert_shown, shown};

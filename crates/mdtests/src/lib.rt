@@ -14,6 +14,12 @@ mod driven;
 #[cfg(test)]
 mod edit_map;
 #[cfg(test)]
+mod every_cut;
+#[cfg(test)]
+mod every_cut_of_text;
+#[cfg(test)]
+mod expected;
+#[cfg(test)]
 mod faults;
 #[cfg(test)]
 mod line_endings;
@@ -38,11 +44,17 @@ mod places;
 #[cfg(test)]
 mod points;
 #[cfg(test)]
+mod pushed;
+#[cfg(test)]
+mod ranges;
+#[cfg(test)]
 mod ready;
 #[cfg(test)]
 mod refusals;
 #[cfg(test)]
 mod resolving;
+#[cfg(test)]
+mod rows;
 #[cfg(test)]
 mod shown;
 #[cfg(test)]
@@ -56,8 +68,9 @@ mod states;
 #[cfg(test)]
 mod subtokenize;
 #[cfg(test)]
-mod tab_sizes;
+mod surface;
 #[cfg(test)]
+mod tab_sizes;
 #[cfg(test)]
 mod texts;
 #[cfg(test)]

@@ -1,7 +1,7 @@
 //! The machines of paragraphs and of words, with answers worked by hand.
 
 ghost use Rattle.std.specs.Prelude.{◌+◌, ◌*◌, ◌^◌, ◌<◌, length, Contains};
-ghost use Rattle.markdown_base.specs.Presets.{default_parse_options};
+ghost use Rattle.markdown.specs.Presets.{default_parse_options};
 ghost use Rattle.markdown.specs.Engine.{given_by};
 
 use crate::shown::{assert_shown, shown};
@@ -9,11 +9,7 @@ use markdown::configuration::ParseOptions;
 use markdown::parser::ParseState;
 use markdown::state::{Machine, Name};
 use markdown::tokenizer::run;
-use mdconstructs::deep::Deep;
-use mdconstructs::lines::Lines;
-use mdconstructs::paragraphs::Paragraphs;
-use mdconstructs::peek::Peek;
-use mdconstructs::words::Words;
+use mdconstructs::{Deep, Lines, Paragraphs, Peek, Words};
 use std::alloc::{AllocError, Global};
 
 /// The events of a document, which a machine reads from this start with the default options, or why it is refused.

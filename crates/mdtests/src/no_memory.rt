@@ -9,13 +9,13 @@ use crate::tokenizer::{START, Types};
 use markdown::configuration::{Constructs, ParseOptions};
 use markdown::parser::ParseState;
 use markdown::state::Name;
+use markdown::subtokenize::at_first_paragraph_of_list_item;
 use markdown::tokenizer::Tokenizer;
 use markdown::unist::Point;
 use markdown::util::edit_map::EditMap;
 use markdown::util::location::Location;
 use markdown::util::slice::Slice;
-use mdchildren::subtokenize::at_first_paragraph_of_list_item;
-use mdconstructs::fail::Fail;
+use mdconstructs::Fail;
 use std::alloc::Global;
 
 #[test]

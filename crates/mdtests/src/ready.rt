@@ -6,7 +6,7 @@ use crate::chunks::{
 };
 use markdown::configuration::{Constructs, TabSize};
 use markdown::event::{Content, Name};
-use mdchildren::subtokenize::{at_first_paragraph_of_list_item, ready};
+use markdown::subtokenize::{at_first_paragraph_of_list_item, ready};
 use std::alloc::{AllocError, Global};
 
 /// The content of the chains that fit.

@@ -6,7 +6,7 @@ use crate::shown::assert_shown;
 use markdown::configuration::ParseOptions;
 use markdown::parser::ParseState;
 use markdown::state::Name;
-use mdconstructs::fail::Fail;
+use mdconstructs::Fail;
 use std::alloc::{AllocError, Global};
 
 /// Reads `ab` up to its second byte, and then to its end, by a machine that refuses at a call: what was answered.

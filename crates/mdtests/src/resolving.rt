@@ -6,7 +6,8 @@ use crate::shown::assert_shown;
 use markdown::configuration::ParseOptions;
 use markdown::parser::ParseState;
 use markdown::state::Name;
-use mdconstructs::wrap::{Resolver, Wrap};
+use mdconstructs::Wrap;
+use mdconstructs::wrap::Resolver;
 use std::alloc::{AllocError, Global};
 
 /// Reads `a` up to its end, by the machine that wraps: what was answered, and how the tokenizer was left, where these resolvers

@@ -1,10 +1,10 @@
 //! Walks over small lists, with answers worked by hand.
 
 ghost use Rattle.std.specs.Prelude.{◌≡◌, [], ◌∷◌, take, Any};
-ghost use Rattle.markdown_base.specs.Events.{IsBalanced};
-ghost use Rattle.markdown_base.specs.declared.event.Kind.TheVariants.{Enter, Exit};
-ghost use Rattle.markdown_base.specs.declared.event.Name.TheVariants.{SpaceOrTab};
-ghost use Rattle.markdown_edits.specs.SpanWalks.{HasWanted};
+ghost use Rattle.markdown.specs.Events.{IsBalanced};
+ghost use Rattle.markdown.specs.declared.event.Kind.TheVariants.{Enter, Exit};
+ghost use Rattle.markdown.specs.declared.event.Name.TheVariants.{SpaceOrTab};
+ghost use Rattle.markdown.specs.SpanWalks.{HasWanted};
 
 use markdown::event::{Event, Kind, Name, Point};
 use markdown::util::skip::{opt, opt_back, to, to_back};

@@ -1,8 +1,8 @@
-//! A machine that lacks memory at a call: what is answered at every depth, and what stands afterwards.
+//! A machine that runs out of memory at a call: what is returned at every depth, and what is left afterwards.
 
-ghost use Rattle.std.specs.Prelude.{◌≡◌, IfOk};
-ghost use Rattle.mdtables.specs.RowInvariant.{DoesAll, IsCallable, begun, step_in};
-ghost use Rattle.mdconstructs.specs.Tables.{line_byte, counts};
+ghost use Rattle.std.specs.Prelude.{IfOk};
+ghost use Rattle.mdconstructs.specs.RowInvariant.{DoesAll, IsCallable, step_in};
+ghost use Rattle.mdconstructs.specs.Tables.{line_byte};
 ghost use Rattle.mdtests.specs.Starved.{text_start};
 
 use crate::chunks::QUOTE;
@@ -13,14 +13,14 @@ use markdown::event::{self, Content};
 use markdown::state::{Machine, MachineTypes, Name, State};
 use markdown::subtokenize::Subresult;
 use markdown::tokenizer::{Fault, Tokenizer};
-use mdtables::marker;
+use mdconstructs::begin::begin;
+use mdconstructs::marker;
 use std::alloc::{AllocError, Global};
 
-/// Reads each byte as data of its own. The call before which `at` calls were counted is refused memory, as if what it asked for
-/// was not there.
+/// Reads each byte as data of its own. The call before which `at` calls were counted runs out of memory.
 #[derive(Drop)]
 pub struct Starved {
-    /// How many calls are counted in `size` before the one that is refused memory.
+    /// How many calls are counted in `size` before the one that runs out of memory.
     pub at: usize,
 }
 
@@ -31,13 +31,13 @@ impl MachineTypes for Starved {
 }
 
 impl Machine for Starved {
-    ghost use Rattle.mdtables.proofs.TableLaws as laws;
-    ghost use Rattle.mdtables.proofs.CostLaws.{table-cost_pays};
+    ghost use Rattle.mdconstructs_tables.proofs.Tables.Laws as laws;
+    ghost use Rattle.mdconstructs_tables.proofs.Tables.Costs.{table-cost_pays};
     ghost use Rattle.mdtests.specs.Starved.{starved, starved_rules};
     ghost use Rattle.mdtests.specs.StarvedLaws.{starved-fit, starved-plain};
-    ghost use Rattle.mdtables.specs.RowInvariant.{table_rules};
-    ghost use Rattle.mdtables.proofs.PlainSteps.{table-keeps_plain};
-    ghost use Rattle.markdown.proofs.PlainLaws as plain;
+    ghost use Rattle.mdconstructs.specs.RowInvariant.{table_rules};
+    ghost use Rattle.mdconstructs_tables.proofs.Tables.Plain.{table-keeps_plain};
+    ghost use Rattle.markdown_tokenizer.proofs.Readings.Plain as plain;
 
     ghost rules = { λ _. starved_rules };
 
@@ -78,14 +78,6 @@ impl Machine for Starved {
     ghost cost_pays = { λ _ g. plain.cost_pays g (table_rules starved g) (table-cost_pays starved g starved-fit) };
 
     ghost resolvers_keep = { λ _ g. plain.resolvers_keep g (table_rules starved g) };
-}
-
-/// Counts a call.
-fn begin<'a>(t: &mut Tokenizer<'a, Starved>)
-    ensures { t.new ≡ begun counts t.old }
-{
-    t.tick();
-    t.tokenize_state.size = t.tokenize_state.size.saturating_add(1);
 }
 
 /// Before a byte.

@@ -1,9 +1,9 @@
 //! Chains read by machines, and their children put in the list, with answers worked by hand.
 
 ghost use Rattle.std.specs.Prelude.{◌≡◌, ◌+◌, ◌*◌, ◌^◌, ◌<◌, length, Some, Contains};
-ghost use Rattle.markdown_base.specs.Presets.{default_parse_options};
+ghost use Rattle.markdown.specs.Presets.{default_parse_options};
 ghost use Rattle.markdown.specs.Engine.{given_by};
-ghost use Rattle.mdchildren.specs.Reads.{start_name};
+ghost use Rattle.markdown.specs.Reads.{start_name};
 
 use crate::chunks::Row::{Chunk, Enter, Exit};
 use crate::chunks::{CHAIN_AROUND_ANOTHER, CHAIN_AROUND_CHILDREN, EMPTY_CHUNK, QUOTE, Row, listed};
@@ -12,11 +12,8 @@ use markdown::configuration::ParseOptions;
 use markdown::event::{Content, Event, Name};
 use markdown::parser::ParseState;
 use markdown::state::{self, Machine};
-use mdchildren::subtokenize::{ready, subtokenize};
-use mdconstructs::deep::Deep;
-use mdconstructs::fail::Fail;
-use mdconstructs::paragraphs::Paragraphs;
-use mdconstructs::wrap::Wrap;
+use markdown::subtokenize::{ready, subtokenize};
+use mdconstructs::{Deep, Fail, Paragraphs, Wrap};
 use std::alloc::{AllocError, Global};
 
 /// Puts the children of the chains of one content, which are read from this start, in their place, and appends what was answered.

@@ -7,9 +7,9 @@ use crate::chunks::{Place, listed};
 use crate::shown::assert_shown;
 use markdown::configuration::TabSize;
 use markdown::event::{Content, Name, Point};
+use markdown::subtokenize::ready;
 use markdown::tokenizer::{cuts_every, point_at};
 use markdown::util::slice::{Position, Slice};
-use mdchildren::subtokenize::ready;
 use std::alloc::{AllocError, Global};
 
 /// Tab stops at every `n` columns.
@@ -71,13 +71,7 @@ fn behind_the_tab(n: usize) -> Point
     requires most { n ≤ 16 }
 {
     let tab_size = every(n);
-    let start = Point {
-        line: 1,
-        column: 1,
-        index: 0,
-        vs: 0,
-    };
-    start.shift_to(b"a\tb", tab_size, 2)
+    Point::START.shift_to(b"a\tb", tab_size, 2)
 }
 
 #[test]

@@ -6,8 +6,7 @@ use crate::machines::lines_of;
 use crate::shown::{assert_shown, shown};
 use markdown::configuration::ParseOptions;
 use markdown::state::Name;
-use mdtext::read::read_text;
-use mdtext::text::Text;
+use mdconstructs::{Text, read_text};
 use std::alloc::{AllocError, Global};
 
 /// A code span.

@@ -1,6 +1,6 @@
 //! Characters: which one stands at an index of a text's bytes, what class it is of, and how to show it.
 
-ghost use Rattle.std.specs.Prelude.{◌≡◌, ◌<◌, ◌≤◌, ℕ, Bool, length, MatchBool, IsUtf8, IsCharBoundary, IfOk, slice_index, string_bytes};
+ghost use Rattle.std.specs.Prelude.{◌≡◌, ◌<◌, ◌≤◌, length, MatchBool, IsUtf8, IsCharBoundary, IfOk, string_bytes};
 ghost use Rattle.markdown_base.specs.Classes.{char_before, char_after, IsClassOf, IsClassOfOpt};
 ghost use Rattle.markdown_base.specs.CharTexts.{code_point, shown_char, shown_char_opt, shown_byte_opt};
 
@@ -97,7 +97,7 @@ pub fn classify_opt<P: Fn(char) -> bool>(char: Option<char>, punctuation: &P) ->
 
 /// A character as messages show it: itself, if it is visible ASCII, and its number.
 ///
-/// `AllocError` where memory is refused.
+/// Returns `AllocError` if it runs out of memory.
 pub fn format(alloc: Global, char: char) -> Result<String, AllocError>
     ensures shown { IfOk result (λ text. string_bytes text ≡ shown_char char) }
 {
@@ -111,7 +111,7 @@ pub fn format(alloc: Global, char: char) -> Result<String, AllocError>
 
 /// A character, or the end of the input, as messages show it.
 ///
-/// `AllocError` where memory is refused.
+/// Returns `AllocError` if it runs out of memory.
 pub fn format_opt(alloc: Global, char: Option<char>) -> Result<String, AllocError>
     ensures shown { IfOk result (λ text. string_bytes text ≡ shown_char_opt char) }
 {
@@ -126,7 +126,7 @@ pub fn format_opt(alloc: Global, char: Option<char>) -> Result<String, AllocErro
 
 /// A byte as messages show it: as the character with its number.
 ///
-/// `AllocError` where memory is refused.
+/// Returns `AllocError` if it runs out of memory.
 pub fn format_byte(alloc: Global, byte: u8) -> Result<String, AllocError>
     ensures shown { IfOk result (λ text. string_bytes text ≡ shown_char byte) }
 {
@@ -135,7 +135,7 @@ pub fn format_byte(alloc: Global, byte: u8) -> Result<String, AllocError>
 
 /// A byte, or the end of the input, as messages show it.
 ///
-/// `AllocError` where memory is refused.
+/// Returns `AllocError` if it runs out of memory.
 pub fn format_byte_opt(alloc: Global, byte: Option<u8>) -> Result<String, AllocError>
     ensures shown { IfOk result (λ text. string_bytes text ≡ shown_byte_opt byte) }
 {

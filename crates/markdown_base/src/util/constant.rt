@@ -2,10 +2,6 @@
 //!
 //! Where CommonMark or GFM gives one, its section is named.
 
-ghost use Rattle.std.specs.Prelude.{◌≡◌, codes, map};
-ghost use Rattle.markdown_base.specs.Texts.{tagfilter_names, html_block_names, html_raw_names};
-ghost use Rattle.markdown_base.specs.Texts.{safe_protocols_of_links, safe_protocols_of_images};
-
 /// How many characters the scheme of an autolink may have at most: CommonMark, "Autolinks".
 pub const AUTOLINK_SCHEME_SIZE_MAX: usize = 32;
 
@@ -164,38 +160,3 @@ pub const TAB_SIZE: usize = 4;
 
 /// How many markers a thematic break has at least: CommonMark, "Thematic breaks".
 pub const THEMATIC_BREAK_MARKER_COUNT_MIN: usize = 3;
-
-/// What each number is.
-///
-/// A law: it does nothing.
-pub fn numbers_are_stated()
-    ensures autolink_scheme_size_max { AUTOLINK_SCHEME_SIZE_MAX ≡ 32 }
-    ensures autolink_domain_size_max { AUTOLINK_DOMAIN_SIZE_MAX ≡ 63 }
-    ensures character_reference_decimal_size_max { CHARACTER_REFERENCE_DECIMAL_SIZE_MAX ≡ 7 }
-    ensures character_reference_hexadecimal_size_max { CHARACTER_REFERENCE_HEXADECIMAL_SIZE_MAX ≡ 6 }
-    ensures character_reference_named_size_max { CHARACTER_REFERENCE_NAMED_SIZE_MAX ≡ 31 }
-    ensures code_fenced_sequence_size_min { CODE_FENCED_SEQUENCE_SIZE_MIN ≡ 3 }
-    ensures frontmatter_sequence_size { FRONTMATTER_SEQUENCE_SIZE ≡ 3 }
-    ensures gfm_html_tagfilter_size_max { GFM_HTML_TAGFILTER_SIZE_MAX ≡ 9 }
-    ensures hard_break_prefix_size_min { HARD_BREAK_PREFIX_SIZE_MIN ≡ 2 }
-    ensures heading_atx_opening_fence_size_max { HEADING_ATX_OPENING_FENCE_SIZE_MAX ≡ 6 }
-    ensures html_raw_size_max { HTML_RAW_SIZE_MAX ≡ 8 }
-    ensures link_reference_size_max { LINK_REFERENCE_SIZE_MAX ≡ 999 }
-    ensures list_item_value_size_max { LIST_ITEM_VALUE_SIZE_MAX ≡ 10 }
-    ensures math_flow_sequence_size_min { MATH_FLOW_SEQUENCE_SIZE_MIN ≡ 2 }
-    ensures resource_destination_balance_max { RESOURCE_DESTINATION_BALANCE_MAX ≡ 32 }
-    ensures tab_size { TAB_SIZE ≡ 4 }
-    ensures thematic_break_marker_count_min { THEMATIC_BREAK_MARKER_COUNT_MIN ≡ 3 }
-{}
-
-/// What each list is, text by text and in order.
-///
-/// A law: it does nothing.
-pub fn lists_are_stated()
-    ensures gfm_html_tagfilter_names { map (λ name. name.now) GFM_HTML_TAGFILTER_NAMES ≡ tagfilter_names }
-    ensures html_block_names { map (λ name. name.now) HTML_BLOCK_NAMES ≡ html_block_names }
-    ensures html_cdata_prefix { HTML_CDATA_PREFIX ≡ codes "CDATA[" }
-    ensures html_raw_names { map (λ name. name.now) HTML_RAW_NAMES ≡ html_raw_names }
-    ensures safe_protocol_href { map (λ name. name.now) SAFE_PROTOCOL_HREF ≡ safe_protocols_of_links }
-    ensures safe_protocol_src { map (λ name. name.now) SAFE_PROTOCOL_SRC ≡ safe_protocols_of_images }
-{}

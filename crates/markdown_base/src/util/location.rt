@@ -5,6 +5,7 @@ ghost use Rattle.std.specs.Prelude.{◌≡◌, ◌<◌, ◌^◌, ◌+◌, IfOk, 
 ghost use Rattle.markdown_base.specs.Lines.{Lines, lines_of, point_in, is_line_start, absolute_offset, IsKept};
 
 use crate::unist::Point;
+use crate::util::place::ends_line;
 use std::alloc::{AllocError, Global};
 use std::marker::Model;
 
@@ -31,7 +32,8 @@ impl Model for Location {
 impl Location {
     /// Finds the lines of a document.
     ///
-    /// A line ends with a line feed, a carriage return, or both in this order. `AllocError` where memory is refused.
+    /// A line ends with a line feed, a carriage return, or both in this order. Returns `AllocError` if
+    /// it runs out of memory.
     pub fn new(alloc: Global, bytes: &[u8]) -> Result<Location, AllocError>
         ensures lines { IfOk result (λ location. location ≡ lines_of bytes.now) }
     {
@@ -49,7 +51,7 @@ impl Location {
 
     /// The line, the column and the offset of a byte offset into the document, columns counted in bytes.
     ///
-    /// The offset of the document's end has a point too. Past it there is none.
+    /// The offset of the document's end has a point too. Returns `None` past it.
     pub fn to_point(&self, offset: usize) -> Option<Point>
         ensures point { result ≡ point_in self.now offset }
     {
@@ -62,7 +64,7 @@ impl Location {
 
     /// The point of a byte offset into a text that was put together of parts of the document.
     ///
-    /// There is none where the text has no part, or where the offset into the document is past its end.
+    /// Returns `None` if the text has no part, or if the offset into the document is past its end.
     pub fn relative_to_point(&self, stops: &[Stop], relative: usize) -> Option<Point>
         requires fits { IfSome (absolute_offset stops.now relative) (λ offset. offset < 2 ^ 64) }
         ensures point { result ≡ option_and_then (point_in self.now) (absolute_offset stops.now relative) }
@@ -72,7 +74,7 @@ impl Location {
 
     /// The byte offset into the document of a byte offset into a text that was put together of its parts.
     ///
-    /// There is none where the text has no part.
+    /// Returns `None` if the text has no part.
     pub fn relative_to_absolute(stops: &[Stop], relative: usize) -> Option<usize>
         requires fits { IfSome (absolute_offset stops.now relative) (λ offset. offset < 2 ^ 64) }
         ensures offset { result ≡ absolute_offset stops.now relative }
@@ -89,16 +91,9 @@ impl Location {
     }
 }
 
-/// Whether a line starts at an index, of at most the length.
+/// Whether a line starts at a byte index, of at most the length: at the first one, and after each byte that ends one.
 fn starts_line(bytes: &[u8], index: usize) -> bool
     ensures { result ≡ is_line_start bytes.now index }
 {
-    if index == 0 {
-        return true;
-    }
-    match bytes.get(index - 1) {
-        Some(b'\n') => true,
-        Some(b'\r') => bytes.get(index) != Some(&b'\n'),
-        _ => false,
-    }
+    index == 0 || ends_line(bytes, index - 1)
 }

@@ -7,6 +7,7 @@ ghost use Rattle.markdown_base.specs.SlicesInner.{first_byte};
 
 use crate::configuration::TabSize;
 use crate::event::{Event, Kind, Point};
+use crate::util::place::tab_width;
 use std::alloc::{AllocError, Global};
 
 /// A range between two points.
@@ -63,8 +64,8 @@ pub struct Slice<'a> {
 impl<'a> Slice<'a> {
     /// The part of a document in a range, with tab stops at every `tab_size` columns.
     ///
-    /// Where the range begins inside a tab, what is left of the tab is spaces before the bytes. Where it ends inside
-    /// a tab, the tab is the last byte, and what else is covered of it is spaces after the bytes. Where both ends lie
+    /// If the range begins inside a tab, what is left of the tab is spaces before the bytes. If it ends inside
+    /// a tab, the tab is the last byte, and what else is covered of it is spaces after the bytes. If both ends lie
     /// inside one tab, there are no bytes, and the spaces between are before.
     pub fn from_position(bytes: &'a [u8], tab_size: TabSize, position: &Position) -> Slice<'a>
         requires start_is_place { IsPointOf tab_size bytes.now position.now.start.now }
@@ -120,7 +121,8 @@ impl<'a> Slice<'a> {
         }
     }
 
-    /// The spaces before, the bytes and the spaces after, as a text. `AllocError` where memory is refused.
+    /// The spaces before, the bytes and the spaces after, as a text. Returns `AllocError` if it runs
+    /// out of memory.
     pub fn serialize(&self, alloc: Global) -> Result<String, AllocError>
         requires text { IsUtf8 self.now.bytes.now }
         requires fits { self.now.before + length self.now.bytes.now + self.now.after < 2 ^ 64 }
@@ -176,7 +178,7 @@ fn spaces_before(t: usize, start: &Point, end: &Point) -> usize
     } else if start.index == end.index {
         end.vs - start.vs
     } else {
-        t - (start.column - 1) % t
+        tab_width(t, start.column)
     }
 }
 

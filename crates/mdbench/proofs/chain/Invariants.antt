@@ -1,5 +1,5 @@
 use Rattle.std.proofs.Common.{◌≡◌, ◌*◌, length, All}
-use Rattle.markdown_base.specs.Events.{EndsBelow}
+use Rattle.markdown.specs.Events.{EndsBelow}
 use Rattle.mdbench.proofs.chain.Given as goal
 
 abbrev pub invariant-loop-k : goal.invariant-loop-k

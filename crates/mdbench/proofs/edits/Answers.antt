@@ -1,5 +1,5 @@
 use Rattle.std.proofs.Common.{ℕ, ◌*◌, List, ◌<◌, sym, subst, arith}
-use Rattle.markdown_edits.specs.Edits.{Edit}
+use Rattle.markdown.specs.Edits.{Edit}
 use Rattle.mdbench.proofs.Insertions.{AreInsertions, apart, added}
 use Rattle.mdbench.proofs.edits.Goals as goal
 

@@ -5,8 +5,8 @@ use Rattle.std.proofs.lemmas.Map.Iter.{rest_more}
 use Rattle.markdown_edits.specs.Edits.{Edit}
 use Rattle.markdown_edits.specs.Stored.{as_edit, edits_of}
 use Rattle.markdown_edits.specs.declared.replacement.Replacement.{Replacement}
-use Rattle.markdown_edits.proofs.Common.{OnErr-holds, OnOk-holds}
-use Rattle.markdown_edits.proofs.EditEntries.{IsAscending, IsAscending-entries, IsAscending-behind, below-next}
+use Rattle.markdown_edits.proofs.Results.{OnErr-holds, OnOk-holds}
+use Rattle.markdown_edits.proofs.Edits.Entries.{IsAscending, IsAscending-entries, IsAscending-behind, below-next}
 use Rattle.markdown_edits.proofs.edit_map.push_copies.Goals as goal
 
 pub push_copy-requires : goal.push_copy-requires

@@ -5,7 +5,7 @@ use Rattle.std.proofs.lemmas.List.{get_or_default}
 use Rattle.std.proofs.lemmas.List.Sorted.{IsPartitionPoint-from_clause, IsPartitionedBy-leb}
 use Rattle.markdown_edits.specs.Shifts.{place_by, AreShifts}
 use Rattle.markdown_edits.specs.declared.shift.Shift.{Shift}
-use Rattle.markdown_edits.proofs.EditShifts.{IsNonDecreasingBy-shifts, place_at, place_by-front, place_by-row, row_fits}
+use Rattle.markdown_edits.proofs.Edits.Shifts.{IsNonDecreasingBy-shifts, place_at, place_by-front, place_by-row, row_fits}
 use Rattle.markdown_edits.proofs.shift.place_after.Goals as goal
 
 -- the rows that begin at or before an index stand in front of the others

@@ -2,10 +2,10 @@ use Rattle.std.proofs.Common.{◌≡◌, ◌+◌, ◌-◌, [], ◌++◌, append-
 use Rattle.std.specs.Map.Iter.{deref_pair}
 use Rattle.std.proofs.lemmas.Map.Iter.{rest_more, rest_all}
 use Rattle.markdown_edits.specs.Shifts.{shifts, AreShifts}
-use Rattle.markdown_edits.specs.Spliced.{added_by}
+use Rattle.markdown_edits.specs.Edits.{added_by}
 use Rattle.markdown_edits.specs.Stored.{edits_of}
-use Rattle.markdown_edits.proofs.EditShifts.{AreShifts-shifts}
-use Rattle.markdown_edits.proofs.EditTurns.{disjoint_next}
+use Rattle.markdown_edits.proofs.Edits.Shifts.{AreShifts-shifts}
+use Rattle.markdown_edits.proofs.Edits.Turns.{disjoint_next}
 use Rattle.markdown_edits.proofs.shift.shifts_of.Goals as goal
 
 pub overflow_add-removed : goal.overflow_add-removed

@@ -1,7 +1,6 @@
 use Rattle.std.proofs.Common.{◌≡◌, ℕ, ◌+◌, ◌-◌, ◌≤◌, ◌++◌}
-use Rattle.markdown_edits.specs.Edits.{AreDisjoint}
+use Rattle.markdown_edits.specs.Edits.{AreDisjoint, added_by}
 use Rattle.markdown_edits.specs.Shifts.{shifts}
-use Rattle.markdown_edits.specs.Spliced.{added_by}
 use Rattle.markdown_edits.specs.Stored.{edits_of}
 use Rattle.markdown_edits.proofs.shift.shifts_of.Given as goal
 

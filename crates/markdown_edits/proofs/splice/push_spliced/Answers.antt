@@ -1,7 +1,7 @@
 use Rattle.std.proofs.Common.{arith, length}
 use Rattle.std.specs.Map.Iter.{deref_pair}
 use Rattle.std.proofs.lemmas.Map.Iter.{rest_more}
-use Rattle.markdown_edits.proofs.EditTurns.{disjoint_next}
+use Rattle.markdown_edits.proofs.Edits.Turns.{disjoint_next}
 use Rattle.markdown_edits.proofs.splice.push_spliced.Goals as goal
 
 pub push_moved-requires-clause-within : goal.push_moved-requires-clause-within

@@ -1,5 +1,5 @@
 use Rattle.std.proofs.Common.{length}
-use Rattle.markdown_edits.proofs.EditShifts.{EndsFit-all}
+use Rattle.markdown_edits.proofs.Edits.Shifts.{EndsFit-all}
 use Rattle.markdown_edits.proofs.splice.spliced_events.Goals as goal
 
 pub push_spliced-requires-clause-ends : goal.push_spliced-requires-clause-ends

@@ -1,5 +1,5 @@
 use Rattle.std.proofs.Common.{refl}
-use Rattle.markdown_base.specs.Virtual.{point}
+use Rattle.markdown.specs.Virtual.{point}
 use Rattle.mdevents.proofs.written.cut_around_a_carriage_return.Goals as goal
 
 pub run-requires-clause-cuts : goal.run-requires-clause-cuts

@@ -1,9 +1,8 @@
-use Rattle.std.proofs.Common.{◌+◌, ◌*◌, ◌^◌, ◌<◌, ℕ, None, [], ◌++◌, List, length, refl, sym, ◌∙◌, ap, subst, arith}
-use Rattle.markdown_base.specs.declared.event.Event.{Event}
-use Rattle.markdown_edits.specs.Edits.{Edit, AreDisjoint}
-use Rattle.mdchildren.specs.Laws.{HasEndsWithin}
-use Rattle.mdchildren.specs.Parts.{divided, chain_edits}
-use Rattle.mdchildren.proofs.Forward.{forward-chain, within, one-chain-disjoint, ends-inside}
+use Rattle.std.proofs.Common.{◌+◌, ◌*◌, ◌^◌, ◌<◌, ℕ, None, ◌++◌, List, length, refl, sym, ◌∙◌, ap, subst, arith}
+use Rattle.markdown.specs.Edits.{Edit, AreDisjoint}
+use Rattle.markdown.specs.ChildrenLaws.{HasEndsWithin}
+use Rattle.markdown.specs.Parts.{divided, chain_edits}
+use Rattle.markdown.proofs.ChainOrder.Forward.{forward-chain, within, one-chain-disjoint, ends-inside}
 use Rattle.mdtests.proofs.division.edits_of.Goals as goal
 
 pub ready-requires : goal.ready-requires

@@ -1,7 +1,7 @@
-use Rattle.std.proofs.Common.{◌≡◌, ℕ, ◌+◌, ◌<◌, ⊎_elim, length, get_or, List, [], ◌∷◌, zero, suc, sym, ap, subst, refl, arith, ◌∙◌}
+use Rattle.std.proofs.Common.{◌≡◌, ℕ, ◌<◌, ⊎_elim, length, get_or, List, [], ◌∷◌, zero, suc, sym, ap, subst, refl, arith, ◌∙◌}
 use Rattle.std.proofs.lemmas.Bool.{cases_eq}
-use Rattle.markdown_base.specs.declared.event.Event.{Event}
-use Rattle.markdown_base.specs.Events.{EndsBelow}
+use Rattle.markdown.specs.declared.event.Event.{Event}
+use Rattle.markdown.specs.Events.{EndsBelow}
 use Rattle.mdtests.proofs.division.has_ends_within.Goals as goal
 
 -- inside a list it does not matter what stands for a missing element

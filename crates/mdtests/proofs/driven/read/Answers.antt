@@ -1,5 +1,5 @@
 use Rattle.markdown.specs.Engine.{given_by}
-use Rattle.markdown.proofs.Runs.{start-is-point, apart-by}
+use Rattle.markdown.proofs.Runs.Whole.{start-is-point, apart-by}
 use Rattle.mdtests.proofs.driven.read.Goals as goal
 
 pub new-tokenizer-requires-clause-place : goal.new-tokenizer-requires-clause-place

@@ -1,7 +1,7 @@
-use Rattle.std.proofs.Common.{[], ◌∷◌, length, refl}
-use Rattle.markdown_base.specs.declared.state.State.TheVariants.{Next}
+use Rattle.std.proofs.Common.{[], ◌∷◌, length}
+use Rattle.markdown.specs.declared.state.State.TheVariants.{Next}
 use Rattle.markdown.specs.Engine.{given_by}
-use Rattle.markdown.proofs.Runs.{apart-by, run-start, run-last, run-range, run-holds, run-pushed}
+use Rattle.markdown.proofs.Runs.Whole.{apart-by, run-start, run-last, run-range, run-holds, run-pushed}
 use Rattle.mdtests.proofs.driven.read_new.Goals as goal
 
 pub push_shown-requires-clause-range : goal.push_shown-requires-clause-range

@@ -1,5 +1,5 @@
 use Rattle.std.proofs.Common.{◌-◌, ◌*◌}
-use Rattle.markdown_edits.specs.Edits.{AreDisjoint}
+use Rattle.markdown.specs.Edits.{AreDisjoint}
 use Rattle.mdtests.proofs.edit_map.chain_edited.Given as goal
 
 -- the edits so far stand at the last spans

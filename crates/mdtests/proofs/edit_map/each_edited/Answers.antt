@@ -2,10 +2,10 @@ use Rattle.std.proofs.Common.{rules, ◌≡◌, ℕ, ◌+◌, ◌<◌, ◌≤◌
 use Rattle.std.specs.Prelude.{All, None}
 use Rattle.std.proofs.lemmas.Bool.{cases_order}
 use Rattle.std.proofs.lemmas.List.Elements.{All-push}
-use Rattle.markdown_base.specs.declared.event.Event.{Event}
-use Rattle.markdown_edits.specs.Edits.{Edit, AreDisjoint, edit_at, is_no_edit, added_after, put_after}
-use Rattle.markdown_edits.proofs.EditPuts.{put-same, put-more}
-use Rattle.markdown_edits.proofs.EditTurns.{AreDisjoint-le}
+use Rattle.markdown.specs.declared.event.Event.{Event}
+use Rattle.markdown.specs.Edits.{Edit, AreDisjoint, edit_at, is_no_edit, added_after, put_after}
+use Rattle.markdown.proofs.Edits.Puts.{put-same, put-more}
+use Rattle.markdown.proofs.Edits.Turns.{AreDisjoint-le}
 use Rattle.mdtests.proofs.edit_map.each_edited.Goals as goal
 
 apart-wider : (es : List Edit) (from n m : ℕ) → n ≤ m → AreDisjoint from es n → AreDisjoint from es m

@@ -1,5 +1,5 @@
 use Rattle.std.proofs.Common.{◌≡◌, None, length, All}
-use Rattle.markdown_edits.specs.Edits.{AreDisjoint}
+use Rattle.markdown.specs.Edits.{AreDisjoint}
 use Rattle.mdtests.proofs.edit_map.each_edited.Given as goal
 
 -- each edit is in front of an event that has no link

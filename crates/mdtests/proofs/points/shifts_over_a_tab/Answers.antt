@@ -1,6 +1,6 @@
 use Rattle.std.proofs.Common.{ℕ, List, [], ◌∷◌, ◌+◌, ◌*◌, ◌^◌, ◌<◌, length, refl, sym, subst, lit<}
-use Rattle.markdown_base.specs.Places.{IsPointOf}
-use Rattle.markdown_base.specs.Virtual.{point}
+use Rattle.markdown.specs.Places.{IsPointOf}
+use Rattle.markdown.specs.Virtual.{point}
 use Rattle.mdtests.proofs.points.shifts_over_a_tab.Goals as goal
 
 -- the bytes of the document

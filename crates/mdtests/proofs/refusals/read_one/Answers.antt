@@ -1,5 +1,5 @@
 use Rattle.std.proofs.Common.{refl}
-use Rattle.markdown_base.specs.Virtual.{point}
+use Rattle.markdown.specs.Virtual.{point}
 use Rattle.mdtests.proofs.refusals.read_one.Goals as goal
 
 pub read-requires-clause-cut : goal.read-requires-clause-cut

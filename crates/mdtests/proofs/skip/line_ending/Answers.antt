@@ -1,5 +1,5 @@
 use Rattle.std.proofs.Common.{sym, ◌∙◌}
-use Rattle.markdown_edits.proofs.Balanced.{IsBalanced-pair}
+use Rattle.markdown.proofs.Balanced.{IsBalanced-pair}
 use Rattle.mdtests.proofs.skip.line_ending.Goals as goal
 
 pub returns : goal.returns

@@ -1,6 +1,6 @@
 use Rattle.std.proofs.Common.{[], ◌∷◌, refl, sym, ◌∙◌, arith}
-use Rattle.markdown_base.specs.Events.{span, empty}
-use Rattle.markdown_edits.proofs.Balanced.{IsBalanced-pair}
+use Rattle.markdown.specs.Events.{span, empty}
+use Rattle.markdown.proofs.Balanced.{IsBalanced-pair}
 use Rattle.mdtests.proofs.skip.white_space_and_data.Goals as goal
 
 pub returns-clause-balanced : goal.returns-clause-balanced

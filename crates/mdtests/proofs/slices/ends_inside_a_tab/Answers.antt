@@ -1,7 +1,7 @@
 use Rattle.std.proofs.Common.{ℕ, List, [], ◌∷◌, refl, sym, subst, lit<}
-use Rattle.markdown_base.specs.declared.event.Point.{Point}
-use Rattle.markdown_base.specs.Places.{IsPointOf}
-use Rattle.markdown_base.specs.Virtual.{point}
+use Rattle.markdown.specs.declared.event.Point.{Point}
+use Rattle.markdown.specs.Places.{IsPointOf}
+use Rattle.markdown.specs.Virtual.{point}
 use Rattle.mdtests.proofs.slices.ends_inside_a_tab.Goals as goal
 
 -- the bytes of the document

@@ -1,5 +1,5 @@
 use Rattle.std.proofs.Common.{◌+◌, ◌*◌, ◌^◌, ◌<◌, length, sym, subst}
-use Rattle.markdown_base.specs.declared.configuration.ParseOptions.{ParseOptions}
+use Rattle.markdown.specs.declared.configuration.ParseOptions.{ParseOptions}
 use Rattle.mdtests.proofs.subtokenize.put_children.Goals as goal
 
 pub ready-requires : goal.ready-requires

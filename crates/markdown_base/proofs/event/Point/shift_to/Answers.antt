@@ -1,6 +1,5 @@
 use Rattle.std.proofs.Common.{◌≡◌, ◌+◌, ◌-◌, ◌<◌, ℕ, List, suc, length, get_or, take, drop, arith, sym, ap, ◌∙◌, subst}
 use Rattle.std.proofs.lemmas.List.{get_or-take, get_or-drop, length-take}
-use Rattle.std.proofs.Math.Nat.{mod-lt}
 use Rattle.markdown_base.specs.Virtual.{tab_width}
 use Rattle.markdown_base.proofs.Scans.{IsReached}
 use Rattle.markdown_base.proofs.PointAt.{point-of_reached, reached-of_point, moved-tab, moved-plain, column-fits}
@@ -18,9 +17,6 @@ loop-byte-init c =
 read : (bytes : List ℕ) (from to k : ℕ) → k < to - from → get_or (take (to - from) (drop from bytes)) k 0 ≡ get_or bytes (from + k) 0
 read bytes from to k within = get_or-take (to - from) (drop from bytes) k 0 within ∙ get_or-drop from bytes k 0
 
-pub overflow_sub-column : goal.overflow_sub-column
-overflow_sub-column c = omega (arith, mod-lt (c.loop-byte.column - 1) c.get-t.ensures.least)
-
 pub overflow_add-column : goal.overflow_add-column
 overflow_add-column c =
     let t = c.args.tab_size in
@@ -34,7 +30,7 @@ overflow_add-column c =
     let fits = column-fits t some bytes c.args.self.now.line column at c.loop-byte.invariant inside in
     elim c.if-byte-eq9.branch [
       | then-byte-eq9 w ↦
-          let width : c.if-byte-eq9.column ≡ tab_width t column = w.column-is ∙ ap (λ n. tab_width n column) c.get-t.ensures.columns in
+          let width : c.if-byte-eq9.column ≡ tab_width t column = w.column-is ∙ w.tab_width.ensures.width ∙ ap (λ n. tab_width n column) c.get-t.ensures.columns in
           omega (arith, fits.0, width)
       | else-byte-eq9 w ↦ omega (arith, w.column-is, fits.1)
     ]
@@ -56,7 +52,7 @@ loop-byte-preserved c =
     elim c.if-byte-eq9.branch [
       | then-byte-eq9 w ↦
           let moved = moved-tab t some bytes line column at c.loop-byte.invariant inside (sym byte ∙ w.if-byte-eq9.true) in
-          let width = w.column-is ∙ ap (λ n. tab_width n column) c.get-t.ensures.columns in
+          let width = w.column-is ∙ w.tab_width.ensures.width ∙ ap (λ n. tab_width n column) c.get-t.ensures.columns in
           subst (IsReached t bytes line (column + c.if-byte-eq9.column)) next (subst (λ n. IsReached t bytes line (column + n) (suc at)) (sym width) moved)
       | else-byte-eq9 w ↦
           let moved = moved-plain t some bytes line column at c.loop-byte.invariant inside other.0 other.1 (λ tab. w.if-byte-eq9.false (byte ∙ tab)) in

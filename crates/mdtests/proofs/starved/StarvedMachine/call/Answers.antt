@@ -1,5 +1,5 @@
 use Rattle.std.proofs.Common.{refl, rules}
-use Rattle.mdtables.proofs.RowCalls.{callable}
+use Rattle.mdconstructs.proofs.Rows.Calls.{callable}
 use Rattle.mdconstructs.specs.Tables.{counts}
 use Rattle.mdtests.specs.Starved.{starved, text_start}
 use Rattle.mdtests.proofs.starved.StarvedMachine.call.Goals as goal

@@ -1,9 +1,0 @@
-use Rattle.std.proofs.Common.{refl}
-use Rattle.markdown.proofs.Fields.{closed-sound}
-use Rattle.markdown.proofs.tokenizer.Tokenizer.close.Goals as goal
-
-pub invariant_of-self : goal.invariant_of-self
-invariant_of-self g c = closed-sound c.self.inside c.self.invariant
-
-pub returns : goal.returns
-returns g c = rw (← c.self.view_is) refl

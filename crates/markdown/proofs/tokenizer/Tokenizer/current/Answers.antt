@@ -1,5 +1,0 @@
-use Rattle.markdown.proofs.Steps.{current-is}
-use Rattle.markdown.proofs.tokenizer.Tokenizer.current.Goals as goal
-
-pub returns : goal.returns
-returns g c = rw (← c.self.view_is) (current-is c.self.inside c.self.invariant)

@@ -1,6 +1,0 @@
-use Rattle.std.specs.Prelude.{drop}
-use Rattle.markdown.proofs.Resolvers.{ResolvesOn}
-use Rattle.markdown.proofs.tokenizer.Tokenizer.resolve_each.Given as goal
-
-abbrev pub invariant-loop-name : goal.invariant-loop-name
-invariant-loop-name g l = ResolvesOn g.M.Machine.rules l.fn.self l.names (drop l.name-index l.names) l.fn.sub l.self l.found

@@ -1,6 +1,0 @@
-use Rattle.std.proofs.Common.{◌∙◌, reverse}
-use Rattle.markdown.proofs.Unwinding.{unwound-next}
-use Rattle.markdown.proofs.waiting.unwind.Goals as goal
-
-pub returns-in-Next : goal.returns-in-Next
-returns-in-Next c = unwound-next (reverse c.loop-goal.kept_choices.items) c.loop-goal.goal c.in-Next.field-0 c.loop-goal.from c.in-Next.is ∙ c.loop-goal.invariant

@@ -1,0 +1,18 @@
+-- Lemmas on the enters that are open behind events, where the events' links are left out.
+use Rattle.std.proofs.Common.{◌≡◌, ◌-◌, List, [], ◌∷◌, length, take, refl, sym, ap, ◌∙◌}
+use Rattle.std.proofs.lemmas.List.{take-map, map-append, length-map}
+use Rattle.std.specs.Prelude.{map}
+use Rattle.markdown_base.specs.declared.event.Event.{Event}
+use Rattle.markdown_base.specs.declared.event.Kind.{Kind}
+use Rattle.markdown_base.specs.declared.event.Kind.TheVariants.{Enter, Exit}
+use Rattle.markdown_base.specs.Events.{unlinked, open_after, open_events_from}
+
+-- one event more
+pub open_after-unlinked : (kind : Kind) (e : Event) (before : List Event) → open_after kind (unlinked e) (map unlinked before) ≡ map unlinked (open_after kind e before)
+open_after-unlinked Enter e before = sym (map-append unlinked before (e ∷ []))
+open_after-unlinked Exit e before = ap (λ n. take (n - 1) (map unlinked before)) (length-map before unlinked) ∙ take-map unlinked (length before - 1) before
+
+-- and all of a list
+pub open_events_from-unlinked : (before es : List Event) → open_events_from (map unlinked before) (map unlinked es) ≡ map unlinked (open_events_from before es)
+open_events_from-unlinked before [] = refl
+open_events_from-unlinked before (e ∷ es) = ap (λ xs. open_events_from xs (map unlinked es)) (open_after-unlinked e.kind e before) ∙ open_events_from-unlinked (open_after e.kind e before) es

@@ -1,0 +1,6 @@
+-- Chains of a list of events.
+pub mod Following
+pub mod Forward
+pub mod OneChain
+pub mod Spaced
+pub mod Turns

@@ -1,0 +1,233 @@
+-- The chunks of the chains that fit follow one another.
+use Rattle.std.proofs.Common.{◌≡◌, ℕ, zero, suc, ◌+◌, ◌<◌, ◌≤◌, ⊎_elim, Bool, true, false, cond, List, [], ◌∷◌, ◌++◌, length, Option, Some, None, refl, sym, ◌∙◌, ap, arith}
+use Rattle.std.specs.Prelude.{◌&&◌, filter, flat_map, unwrap_or, option_map, is_none}
+use Rattle.std.specs.List.{range_with_len, AllByRecursion}
+use Rattle.std.proofs.lemmas.Bool.{cases_eq}
+use Rattle.std.proofs.lemmas.Option.{none-some, slice_get_within}
+use Rattle.markdown_base.specs.declared.event.Content.{Content}
+use Rattle.markdown_base.specs.declared.event.Event.{Event}
+use Rattle.markdown_base.specs.declared.event.Kind.TheVariants.{Enter, Exit}
+use Rattle.markdown_edits.specs.Links.{next_of, previous_of}
+use Rattle.markdown_children.specs.Chains.{content_at, some_fits, fits, begins, chain_from, chain_of}
+use Rattle.markdown_children.specs.Ready.{IsChunk, IsGap, IsReady}
+use Rattle.markdown_children.specs.Laws.{LeadOnFrom, IsWholeFrom, AreSpaced, FollowOneAnother}
+
+-- ---- one more element of a filter
+
+pub filter-yes : (test : ℕ → Bool) (x : ℕ) (xs : List ℕ) → test x ≡ true → filter test (x ∷ xs) ≡ x ∷ filter test xs
+filter-yes test x xs e = ap (λ b. cond b (x ∷ filter test xs) (filter test xs)) e
+
+pub filter-no : (test : ℕ → Bool) (x : ℕ) (xs : List ℕ) → test x ≡ false → filter test (x ∷ xs) ≡ filter test xs
+filter-no test x xs e = ap (λ b. cond b (x ∷ filter test xs) (filter test xs)) e
+
+pub both-first : (a b : Bool) → (a && b) ≡ true → a ≡ true
+both-first true b e = refl
+both-first false b e = e
+
+some_content : (wanted o : Option Content) → some_fits wanted o ≡ true → (c : Content) × (o ≡ Some c)
+some_content wanted None e = absurd (cc)
+some_content wanted (Some c) e = (c, refl)
+
+module _ (tab : ℕ) (bytes : List ℕ) (wanted : Option Content) (events : List Event) (ready : IsReady tab bytes wanted events) where
+  abbrev n : ℕ
+  n = length events
+
+  abbrev Fits : ℕ → Type 0
+  Fits k = fits wanted events k ≡ true
+
+  -- ---- chunks
+
+  pub chunk : (k : ℕ) → Fits k → IsChunk events k
+  chunk k h = let c = some_content wanted (content_at events k) h in ready.chunks k c.0 c.1
+
+  pub inside : (k : ℕ) → Fits k → k + 1 < n
+  inside k h = let c = chunk k h in slice_get_within events (k + 1) c.exit c.exit_at
+
+  -- the exit of a chunk is in no chain
+  pub apart : (k : ℕ) → Fits k → Fits (k + 1) → ⊥
+  apart k h m =
+      let c = chunk k h in
+      let d = chunk (k + 1) m in
+      let same : c.exit ≡ d.enter = ap (λ o. unwrap_or o c.exit) (sym c.exit_at ∙ d.enter_at) in
+      let kinds : Exit ≡ Enter = sym c.ended.exits ∙ ap (λ (e : Event). e.kind) same ∙ d.linked.enter in
+      cc
+
+  pub fits_next : (k d : ℕ) → Fits k → next_of events k ≡ Some d → Fits d
+  fits_next k d h e = ap (some_fits wanted) (sym (ready.one_content k d e)) ∙ h
+
+  pub fits_back : (k d : ℕ) → Fits d → next_of events k ≡ Some d → Fits k
+  fits_back k d h e = ap (some_fits wanted) (ready.one_content k d e) ∙ h
+
+  -- nothing that fits stands between two neighbours
+  none_between : (p d i : ℕ) → Fits p → next_of events p ≡ Some d → Fits i → p < i → i < d → ⊥
+  none_between p d i h e m l r = ⊎_elim
+      (λ (s : i ≡ p + 1). apart p h (ap (fits wanted events) (sym s) ∙ m))
+      (λ (s : i ≡ p + 1 → ⊥).
+      let g : IsGap events p d = ready.gaps p d h e in
+      let c = some_content wanted (content_at events i) m in
+      none-some c.0 (sym (g.no_link i (omega arith) r) ∙ c.1))
+      (cases_eq i (p + 1))
+
+  -- ---- chains: more bounds than needed change nothing
+
+  abbrev rest_of : Option ℕ → List ℕ
+  rest_of o = unwrap_or (option_map (chain_of events) o) []
+
+  more_enough : (f g k : ℕ) → Fits k → ((d : ℕ) → Fits d → k < d → chain_from f events d ≡ chain_from g events d) → (o : Option ℕ) → next_of events k ≡ o
+      → unwrap_or (option_map (λ d. chain_from f events d) o) [] ≡ unwrap_or (option_map (λ d. chain_from g events d) o) []
+  more_enough f g k h ih None e = refl
+  more_enough f g k h ih (Some d) e = ih d (fits_next k d h e) (ready.forward k d e)
+
+  enough : (f g k : ℕ) → Fits k → n ≤ f + k → n ≤ g + k → chain_from f events k ≡ chain_from g events k
+  enough zero g k h a b = absurd (omega (arith, inside k h))
+  enough (suc f) zero k h a b = absurd (omega (arith, inside k h))
+  enough (suc f) (suc g) k h a b = ap (λ ks. k ∷ ks) (more_enough f g k h (λ d m l. enough f g d m (omega arith) (omega arith)) (next_of events k) refl)
+
+  chain_from-step : (f k : ℕ) → Fits k → n ≤ f + k → chain_from f events k ≡ k ∷ rest_of (next_of events k)
+  chain_from-step zero k h a = absurd (omega (arith, inside k h))
+  chain_from-step (suc f) k h a = ap (λ ks. k ∷ ks) (more_enough f n k h (λ d m l. enough f n d m (omega arith) (omega arith)) (next_of events k) refl)
+
+  chain-step : (k : ℕ) → Fits k → chain_of events k ≡ k ∷ rest_of (next_of events k)
+  chain-step k h = chain_from-step n k h (omega arith)
+
+  -- ---- the walk over the list
+
+  -- before the event at i the chain that goes on at o is open, and no other that fits
+  record IsOpen (i : ℕ) (o : Option ℕ) : Type 0 where
+    only : (p d : ℕ) → Fits p → next_of events p ≡ Some d → p < i → i ≤ d → o ≡ Some d
+    is : (d : ℕ) → o ≡ Some d → (p : ℕ) × Fits p × (next_of events p ≡ Some d) × (p < i) × (i ≤ d)
+
+  open-none : (i : ℕ) (o : Option ℕ) → IsOpen i o → fits wanted events i ≡ false → IsOpen (i + 1) o
+  open-none i o h never = record {
+    only = λ p d a e l m. ⊎_elim
+        (λ (s : p ≡ i). absurd (let t : true ≡ false = sym a ∙ ap (fits wanted events) s ∙ never in cc))
+        (λ (s : p ≡ i → ⊥). h.only p d a e (omega arith) (omega arith))
+        (cases_eq p i);
+    is = λ d e. let w = h.is d e in (
+      w.0,
+      w.1,
+      w.2,
+      omega (arith, w.3),
+      ⊎_elim
+          (λ (s : d ≡ i). absurd (let t : true ≡ false = sym (fits_next w.0 d w.1 w.2) ∙ ap (fits wanted events) s ∙ never in cc))
+          (λ (s : d ≡ i → ⊥). let l : i ≤ d = w.4 in omega arith)
+          (cases_eq d i),
+    );
+  }
+
+  open-next : (i : ℕ) → Fits i → IsOpen (i + 1) (next_of events i)
+  open-next i h = record {
+    only = λ p d a e l m. ⊎_elim
+        (λ (s : p ≡ i). ap (next_of events) (sym s) ∙ e)
+        (λ (s : p ≡ i → ⊥). absurd (none_between p d i a e h (omega arith) (omega arith)))
+        (cases_eq p i);
+    is = λ d e. (i, h, e, omega arith, let l = ready.forward i d e in omega arith);
+  }
+
+  -- the open chain goes on where something fits
+  goes_on : (i d : ℕ) → Fits i → IsOpen i (Some d) → d ≡ i
+  goes_on i d h so =
+      let w = so.is d refl in
+      ⊎_elim
+      (λ (s : d ≡ i). s)
+      (λ (s : d ≡ i → ⊥). let l : i ≤ d = w.4 in absurd (none_between w.0 d i w.1 w.2 h w.3 (omega arith)))
+      (cases_eq d i)
+
+  -- a chain begins where none is open
+  step : (f i : ℕ) (o : Option ℕ) → Fits i → IsOpen i o → filter (begins wanted events) (range_with_len i (suc f)) ≡ cond (is_none o) (i ∷ []) [] ++ filter (begins wanted events) (range_with_len (i + 1) f)
+  step f i None h so = filter-yes (begins wanted events) i (range_with_len (i + 1) f) (λ j. h j && is_none (none (previous_of events i) refl j))
+    where
+      none : (b : Option ℕ) → previous_of events i ≡ b → b ≡ None
+      none None e = refl
+      none (Some p) e =
+          let on = (ready.joined p i).1 e in
+          absurd (none-some i (so.only p i (fits_back p i h on) on (ready.forward p i on) (omega arith)))
+  step f i (Some d) h so =
+      let w = so.is d refl in
+      let back : previous_of events d ≡ Some w.0 = (ready.joined w.0 d).0 w.2 in
+      let s : d ≡ i = goes_on i d h so in
+      filter-no (begins wanted events) i (range_with_len (i + 1) f) (λ j. h j && is_none ((ap (previous_of events) (sym s) ∙ back) j))
+
+  -- the chunks behind an index are what is open, and the chains that begin there
+  abbrev IsInOrder : (f i : ℕ) (o : Option ℕ) → Type 0
+  IsInOrder f i o = filter (fits wanted events) (range_with_len i f) ≡ rest_of o ++ flat_map (chain_of events) (filter (begins wanted events) (range_with_len i f))
+
+  in_order_at : (f i : ℕ) (o : Option ℕ) → IsOpen i o → ((p : Option ℕ) → IsOpen (i + 1) p → IsInOrder f (i + 1) p) → (b : Bool) → fits wanted events i ≡ b → IsInOrder (suc f) i o
+  in_order_at f i o so ih false never =
+      filter-no (fits wanted events) i (range_with_len (i + 1) f) never ∙ ih o (open-none i o so never)
+      ∙ ap (λ ks. rest_of o ++ flat_map (chain_of events) ks) (sym (filter-no (begins wanted events) i (range_with_len (i + 1) f) (λ j. never j && is_none (previous_of events i))))
+  in_order_at f i o so ih true h =
+      filter-yes (fits wanted events) i (range_with_len (i + 1) f) h ∙ ap (λ ks. i ∷ ks) (ih (next_of events i) (open-next i h))
+      ∙ ap (λ ks. ks ++ flat_map (chain_of events) (filter (begins wanted events) (range_with_len (i + 1) f))) (sym (chain-step i h))
+      ∙ from o so
+    where
+      from : (o : Option ℕ) → IsOpen i o → chain_of events i ++ flat_map (chain_of events) (filter (begins wanted events) (range_with_len (i + 1) f)) ≡ rest_of o ++ flat_map (chain_of events) (filter (begins wanted events) (range_with_len i (suc f)))
+      from None so = ap (flat_map (chain_of events)) (sym (step f i None h so))
+      from (Some d) so = (λ j. chain_of events (sym (goes_on i d h so) j) ++ flat_map (chain_of events) (sym (step f i (Some d) h so) j))
+
+  in_order : (f i : ℕ) (o : Option ℕ) → f + i ≡ n → IsOpen i o → IsInOrder f i o
+  in_order zero i None e so = refl
+  in_order zero i (Some d) e so = let w = so.is d refl in let l : i ≤ d = w.4 in absurd (omega (arith, inside d (fits_next w.0 d w.1 w.2)))
+  in_order (suc f) i o e so = in_order_at f i o so (λ p q. in_order f (i + 1) p (omega arith) q) (fits wanted events i) refl
+
+  none-open : IsOpen 0 None
+  none-open = record { only = λ p d a e l m. absurd (omega arith); is = λ d e. absurd (none-some d e) }
+
+  -- ---- chunks overlap nowhere
+
+  spaced_at : (f i from : ℕ) → f + suc i ≡ n → ((k : ℕ) → Fits k → i ≤ k → from ≤ k)
+      → ((m : ℕ) → m ≤ n → ((k : ℕ) → Fits k → i + 1 ≤ k → m ≤ k) → AreSpaced m (filter (fits wanted events) (range_with_len (i + 1) f)) n)
+      → from ≤ n → (b : Bool) → fits wanted events i ≡ b → AreSpaced from (filter (fits wanted events) (range_with_len i (suc f))) n
+  spaced_at f i from e above ih l false never = rw (filter-no (fits wanted events) i (range_with_len (i + 1) f) never) (ih from l (λ k h m. above k h (omega arith)))
+  spaced_at f i from e above ih l true h = rw (filter-yes (fits wanted events) i (range_with_len (i + 1) f) h) (
+    above i h (omega arith),
+    ih (i + 2) (let a = inside i h in omega arith) (λ k m a. ⊎_elim
+        (λ (s : k ≡ i + 1). absurd (apart i h (ap (fits wanted events) (sym s) ∙ m)))
+        (λ (s : k ≡ i + 1 → ⊥). omega arith)
+        (cases_eq k (i + 1))),
+  )
+
+  spaced : (f i from : ℕ) → f + i ≡ n → ((k : ℕ) → Fits k → i ≤ k → from ≤ k) → from ≤ n → AreSpaced from (filter (fits wanted events) (range_with_len i f)) n
+  spaced zero i from e above l = l
+  spaced (suc f) i from e above l = spaced_at f i from (omega arith) above (λ m a b. spaced f (i + 1) m (omega arith) b a) l (fits wanted events i) refl
+
+  -- ---- chains are whole
+
+  abbrev WholeBy : ℕ → ℕ → Type 0
+  WholeBy f k = (ks : List ℕ) × (chain_from f events k ≡ k ∷ ks) × LeadOnFrom events k ks
+
+  whole : (f k : ℕ) → Fits k → n ≤ f + k → WholeBy f k
+  whole zero k h l = absurd (omega (arith, inside k h))
+  whole (suc f) k h l = at (next_of events k) refl (λ d m a. whole f d m (omega arith))
+    where
+      at : (o : Option ℕ) → next_of events k ≡ o → ((d : ℕ) → Fits d → k < d → WholeBy f d) → WholeBy (suc f) k
+      at None e ih = ([], ap (λ o. k ∷ unwrap_or (option_map (λ d. chain_from f events d) o) []) e, e)
+      at (Some d) e ih =
+          let r = ih d (fits_next k d h e) (ready.forward k d e) in
+          (d ∷ r.0, ap (λ o. k ∷ unwrap_or (option_map (λ d. chain_from f events d) o) []) e ∙ ap (λ ks. k ∷ ks) r.1, (e, ready.forward k d e, r.2))
+
+  pub whole-from : (k : ℕ) → Fits k → IsWholeFrom events k
+  whole-from k h = whole n k h (omega arith)
+
+  whole_all : (ks : List ℕ) → AllByRecursion (IsWholeFrom events) (filter (begins wanted events) ks)
+  whole_all [] = tt
+  whole_all (k ∷ ks) = at (begins wanted events k) refl (whole_all ks)
+    where
+      at : (b : Bool) → begins wanted events k ≡ b → AllByRecursion (IsWholeFrom events) (filter (begins wanted events) ks) → AllByRecursion (IsWholeFrom events) (filter (begins wanted events) (k ∷ ks))
+      at false e r = rw (filter-no (begins wanted events) k ks e) r
+      at true e r = rw (filter-yes (begins wanted events) k ks e) (whole-from k (both-first (fits wanted events k) (is_none (previous_of events k)) e), r)
+
+  pub starts_fit : (ks : List ℕ) → AllByRecursion (λ k. fits wanted events k ≡ true) (filter (begins wanted events) ks)
+  starts_fit [] = tt
+  starts_fit (k ∷ ks) = at (begins wanted events k) refl (starts_fit ks)
+    where
+      at : (b : Bool) → begins wanted events k ≡ b → AllByRecursion (λ k. fits wanted events k ≡ true) (filter (begins wanted events) ks) → AllByRecursion (λ k. fits wanted events k ≡ true) (filter (begins wanted events) (k ∷ ks))
+      at false e r = rw (filter-no (begins wanted events) k ks e) r
+      at true e r = rw (filter-yes (begins wanted events) k ks e) (both-first (fits wanted events k) (is_none (previous_of events k)) e, r)
+
+  pub follow_one_another : FollowOneAnother wanted events
+  follow_one_another = record {
+    in_order = sym (in_order n 0 None (omega arith) none-open);
+    spaced = spaced n 0 0 (omega arith) (λ k h l. l) (omega arith);
+    whole = whole_all (range_with_len 0 n);
+  }

@@ -1,0 +1,101 @@
+-- The chains of a ready list that fit lead forward, and the edits of one of them.
+use Rattle.std.proofs.Common.{◌≡◌, ℕ, ◌+◌, ◌<◌, ◌≤◌, ⊎_elim, true, List, [], ◌∷◌, ◌++◌, length, Option, Some, None, refl, sym, ◌∙◌, ap, subst, arith, append-nil}
+use Rattle.std.specs.Prelude.{All, IfSome, slice_get, slice_index_or, is_none, option_and_then}
+use Rattle.std.specs.List.{AllByRecursion}
+use Rattle.std.proofs.lemmas.Bool.{cases_lt, cases_eq}
+use Rattle.std.proofs.lemmas.Option.{none-some, slice_get_past, slice_get-get_or}
+use Rattle.markdown_base.specs.declared.event.Content.{Content}
+use Rattle.markdown_base.specs.declared.event.Event.{Event}
+use Rattle.markdown_base.specs.declared.event.Link.{Link}
+use Rattle.markdown_base.specs.Events.{EndsBelow, EachEnd}
+use Rattle.markdown_edits.specs.Edits.{Edit, AreDisjoint}
+use Rattle.markdown_edits.specs.Links.{next_of, previous_of}
+use Rattle.markdown_children.specs.Chains.{chain_of, fits, begins}
+use Rattle.markdown_children.specs.Ready.{IsReady}
+use Rattle.markdown_children.specs.Laws.{LeadOnFrom, AreSpaced}
+use Rattle.markdown_children.specs.Parts.{divided, chain_edits, IsForward}
+use Rattle.markdown_children.proofs.ChainOrder.Following.{both-first, inside, apart, fits_next, whole-from}
+use Rattle.markdown_children.proofs.Parts.Edits.{all_edits-spaced}
+
+module _ (tab : ℕ) (bytes : List ℕ) (wanted : Option Content) (events : List Event) (ready : IsReady tab bytes wanted events) where
+  abbrev Fits : ℕ → Type 0
+  Fits k = fits wanted events k ≡ true
+
+  pub begins-fits : (i : ℕ) → begins wanted events i ≡ true → Fits i
+  begins-fits i b = both-first (fits wanted events i) (is_none (previous_of events i)) b
+
+  pub within : (i : ℕ) → begins wanted events i ≡ true → i + 1 < length events
+  within i b = inside tab bytes wanted events ready i (begins-fits i b)
+
+  is-forward : (k : ℕ) → Fits k → IsForward events k
+  is-forward k h = record {
+    within = inside tab bytes wanted events ready k h;
+    next = λ d e.
+        let l = ready.forward k d e in
+        let fit = fits_next tab bytes wanted events ready k d h e in (
+          ⊎_elim
+              (λ (s : d ≡ k + 1). absurd (apart tab bytes wanted events ready k h (ap (fits wanted events) (sym s) ∙ fit)))
+              (λ (s : d ≡ k + 1 → ⊥). omega arith)
+              (cases_eq d (k + 1)),
+          inside tab bytes wanted events ready d fit,
+        );
+  }
+
+  forward-all : (k : ℕ) (ks : List ℕ) → Fits k → LeadOnFrom events k ks → AllByRecursion (IsForward events) (k ∷ ks)
+  forward-all k [] h lead = (is-forward k h, tt)
+  forward-all k (d ∷ ks) h lead = (is-forward k h, forward-all d ks (fits_next tab bytes wanted events ready k d h lead.0) lead.2)
+
+  pub forward-chain : (i : ℕ) → begins wanted events i ≡ true → AllByRecursion (IsForward events) (chain_of events i)
+  forward-chain i b =
+      let w = whole-from tab bytes wanted events ready i (begins-fits i b) in
+      subst (AllByRecursion (IsForward events)) (sym w.1) (forward-all i w.0 (begins-fits i b) w.2)
+
+  inside-back : (k d : ℕ) → previous_of events d ≡ Some k → d < length events
+  inside-back k d e = ⊎_elim
+      (λ (l : d < length events). l)
+      (λ (l : length events ≤ d). absurd (none-some k (sym (ap (option_and_then (λ (x : Event). option_and_then (λ (m : Link). m.previous) x.link)) (slice_get_past events d l)) ∙ e)))
+      (cases_lt d (length events))
+
+  inside-on : (k d : ℕ) → next_of events d ≡ Some k → d < length events
+  inside-on k d e = ⊎_elim
+      (λ (l : d < length events). l)
+      (λ (l : length events ≤ d). absurd (none-some k (sym (ap (option_and_then (λ (x : Event). option_and_then (λ (m : Link). m.next) x.link)) (slice_get_past events d l)) ∙ e)))
+      (cases_lt d (length events))
+
+  -- link ends lie inside a list with mutual chains
+  pub ends-inside : All (EndsBelow (length events)) events
+  ends-inside k d l =
+      let x : Event = slice_index_or events k d in
+      let at : slice_get events k ≡ Some x = slice_get-get_or events k d l in
+      on_link x at x.link refl
+    where
+      on_link : (x : Event) → slice_get events k ≡ Some x → (o : Option Link) → x.link ≡ o → IfSome o (EachEnd (λ m. m < length events))
+      on_link x at None e = tt
+      on_link x at (Some m) e = (
+        before m.previous (ap (option_and_then (λ (y : Event). option_and_then (λ (n : Link). n.previous) y.link)) at ∙ ap (option_and_then (λ (n : Link). n.previous)) e),
+        behind m.next (ap (option_and_then (λ (y : Event). option_and_then (λ (n : Link). n.next) y.link)) at ∙ ap (option_and_then (λ (n : Link). n.next)) e),
+      )
+        where
+          before : (o : Option ℕ) → previous_of events k ≡ o → IfSome o (λ j. j < length events)
+          before None e = tt
+          before (Some j) e = inside-on k j ((ready.joined j k).1 e)
+
+          behind : (o : Option ℕ) → next_of events k ≡ o → IfSome o (λ j. j < length events)
+          behind None e = tt
+          behind (Some j) e = inside-back k j ((ready.joined k j).0 e)
+
+  -- ---- one chain
+
+  lead-spaced : (from k : ℕ) (ks : List ℕ) → from ≤ k → AllByRecursion (IsForward events) (k ∷ ks) → LeadOnFrom events k ks → AreSpaced from (k ∷ ks) (length events)
+  lead-spaced from k [] h f lead = (h, let w = f.0.within in omega arith)
+  lead-spaced from k (d ∷ ks) h f lead = (h, lead-spaced (k + 2) d ks (f.0.next d lead.0).0 f.1 lead.2)
+
+  -- the edits of one chain are disjoint and inside the list
+  pub one-chain-disjoint : (i removed added : ℕ) → begins wanted events i ≡ true → (child : List Event) → AreDisjoint 0 (chain_edits removed added (divided events i child)) (length events)
+  one-chain-disjoint i removed added b child =
+      let w = whole-from tab bytes wanted events ready i (begins-fits i b) in
+      let spaced : AreSpaced 0 (chain_of events i ++ []) (length events) =
+      subst (λ ks. AreSpaced 0 ks (length events)) (sym (append-nil (chain_of events i) ∙ w.1))
+      (lead-spaced 0 i w.0 (omega arith) (subst (AllByRecursion (IsForward events)) w.1 (forward-chain i b)) w.2) in
+      subst (λ (es : List Edit). AreDisjoint 0 es (length events)) (append-nil (chain_edits removed added (divided events i child)))
+      (all_edits-spaced events (i ∷ []) (child ∷ []) removed added 0 (length events) spaced)

@@ -1,0 +1,6 @@
+-- Children are read, chain by chain.
+pub mod ChainReads
+pub mod OneAnswer
+pub mod Pieces
+pub mod Reading
+pub mod SoFar

@@ -1,0 +1,72 @@
+-- The chunks of a chain that fits can be read one after another.
+use Rattle.std.proofs.Common.{◌≡◌, ℕ, ◌+◌, Bool, true, false, cond, List, [], ◌∷◌, Option, Some, ◌⊎◌, refl, sym, ◌∙◌, ap, subst, inl, inr, ⊎_elim}
+use Rattle.std.specs.Prelude.{is_none}
+use Rattle.markdown_base.specs.declared.configuration.ParseOptions.{ParseOptions}
+use Rattle.markdown_base.specs.declared.event.Content.{Content}
+use Rattle.markdown_base.specs.declared.event.Event.{Event}
+use Rattle.markdown_base.specs.declared.event.Point.{Point}
+use Rattle.markdown_base.specs.Places.{stands_before, denotes_same}
+use Rattle.markdown_edits.specs.Links.{next_of, previous_of}
+use Rattle.markdown_tokenizer.specs.Text.{Given, Text, pushed, passed, followed_by, empty_text, FitsAfter, CanFollow}
+use Rattle.markdown_tokenizer.proofs.Positions.Cursors.{upto-order, upto-same, same-self}
+use Rattle.markdown_children.specs.Chains.{fits, begins}
+use Rattle.markdown_children.specs.Ready.{IsReady, place_at}
+use Rattle.markdown_children.specs.Laws.{LeadOnFrom}
+use Rattle.markdown_children.specs.Reads.{pieces_behind, pieces_of, CanReadChain}
+use Rattle.markdown_children.proofs.ChainOrder.Following.{both-first, fits_next, whole-from}
+
+module _ (tab : ℕ) (bytes : List ℕ) (options : ParseOptions) (wanted : Option Content) (events : List Event) (ready : IsReady tab bytes wanted events) where
+  abbrev g : Given
+  g = record { bytes = bytes; options = options; tab = tab }
+
+  abbrev Fits : ℕ → Type 0
+  Fits k = fits wanted events k ≡ true
+
+  -- a chunk fits where the text ends at its enter
+  chunk-fits : (text : Text) (k : ℕ) → Fits k → denotes_same tab bytes (place_at events k) text.end ≡ true → FitsAfter g text (pushed (place_at events k) (place_at events (k + 1)))
+  chunk-fits text k h same =
+      let r = ready.readable k h in
+      (r.from.0, r.to.0, same, upto-order tab bytes (place_at events k) (place_at events (k + 1)) r.forward)
+
+  -- where neither of two places is before the other, they denote the same
+  same-order : (p q : Point) → stands_before p q ≡ false → stands_before q p ≡ false → denotes_same tab bytes p q ≡ true
+  same-order p q a b = upto-same tab bytes p q (upto-order tab bytes p q b) (upto-order tab bytes q p a)
+
+  -- a gap within a line: there is none, or it ends later
+  later-fits : (p q : Point) (b : Bool) → stands_before q p ≡ b → stands_before p q ≡ false → q.column ≡ 1 → p.line ≡ q.line
+      → (denotes_same tab bytes p q ≡ true) ⊎ ((q.column ≡ 1) × (p.line ≡ q.line) × (stands_before q p ≡ true))
+  later-fits p q true e f column line = inr (column, line, e)
+  later-fits p q false e f column line = inl (same-order p q f e)
+
+  gap-fits : (text : Text) (k d : ℕ) → Fits k → next_of events k ≡ Some d → text.end ≡ place_at events (k + 1) → FitsAfter g text (passed (place_at events d))
+  gap-fits text k d h e at =
+      let gap = ready.gaps k d h e in
+      let p : Point = place_at events d in
+      let r = ready.readable d (fits_next tab bytes wanted events ready k d h e) in (
+        r.from.0,
+        subst (λ (q : Point). (denotes_same tab bytes p q ≡ true) ⊎ ((q.column ≡ 1) × (p.line ≡ q.line) × (stands_before q p ≡ true))) (sym at) (⊎_elim
+            (λ (s : place_at events (k + 1) ≡ p). inl (ap (λ (q : Point). denotes_same tab bytes p q) s ∙ same-self tab bytes p))
+            (λ (s : ((place_at events (k + 1)).column ≡ 1) × (p.line ≡ (place_at events (k + 1)).line)). later-fits p (place_at events (k + 1)) (stands_before (place_at events (k + 1)) p) refl gap.forward s.0 s.1)
+            gap.in_line),
+      )
+
+  behind : (text : Text) (k : ℕ) (ks : List ℕ) → Fits k → LeadOnFrom events k ks → text.end ≡ place_at events (k + 1) → CanFollow g text (pieces_behind events ks)
+  behind text k [] h lead at = tt
+  behind text k (d ∷ ks) h lead at =
+      let fit = fits_next tab bytes wanted events ready k d h lead.0 in
+      let more : Text = followed_by g text (passed (place_at events d)) in (
+        gap-fits text k d h lead.0 at,
+        (chunk-fits more d fit (after (denotes_same tab bytes (place_at events d) text.end) refl), behind (followed_by g more (pushed (place_at events d) (place_at events (d + 1)))) d ks fit lead.2 refl),
+      )
+    where
+      after : (b : Bool) → denotes_same tab bytes (place_at events d) text.end ≡ b → denotes_same tab bytes (place_at events d) (cond b text (record { start = text.start; seats = text.seats; end = place_at events d })).end ≡ true
+      after true e = e
+      after false e = same-self tab bytes (place_at events d)
+
+  pub chunks_can_be_read : (c : ℕ) → begins wanted events c ≡ true → CanReadChain g events c
+  chunks_can_be_read c b =
+      let h = both-first (fits wanted events c) (is_none (previous_of events c)) b in
+      let w = whole-from tab bytes wanted events ready c h in
+      let text : Text = empty_text (place_at events c) in
+      subst (λ ks. CanFollow g text (pieces_of events ks)) (sym w.1)
+      (chunk-fits text c h (same-self tab bytes (place_at events c)), behind (followed_by g text (pushed (place_at events c) (place_at events (c + 1)))) c w.0 h w.2 refl)

@@ -1,0 +1,272 @@
+-- The loop of `subtokenize`: what is known before the event at an index is looked at.
+use Rattle.std.proofs.Common.{◌≡◌, ℕ, zero, suc, ◌+◌, ◌-◌, ◌*◌, ◌<◌, ◌↔◌, true, false, List, [], ◌∷◌, ◌++◌, length, Option, Some, refl, sym, ◌∙◌, ap, subst, arith, append_assoc, append-nil}
+use Rattle.std.specs.Prelude.{flat_map, filter}
+use Rattle.std.specs.List.{AllByRecursion, AllZip, range_with_len}
+use Rattle.std.proofs.lemmas.List.{map-append, length-map}
+use Rattle.std.proofs.lemmas.List.Elements.{filter-append}
+use Rattle.std.proofs.lemmas.Grind.{flat_map-append}
+use Rattle.markdown_base.specs.declared.event.Content.{Content}
+use Rattle.markdown_base.specs.declared.event.Event.{Event}
+use Rattle.markdown_base.specs.declared.message.Message.{Message}
+use Rattle.markdown_base.specs.Events.{IsBalanced, relinked}
+use Rattle.markdown_edits.specs.Edits.{Edit, AreDisjoint, removed_by, added_by}
+use Rattle.markdown_edits.specs.Edited.{edited}
+use Rattle.markdown_edits.proofs.Edits.Turns.{AreDisjoint-le}
+use Rattle.markdown_tokenizer.specs.declared.subtokenize.Subresult.{Subresult}
+use Rattle.markdown_tokenizer.specs.declared.tokenizer.fault.Fault.{Fault}
+use Rattle.markdown_tokenizer.specs.declared.tokenizer.fault.Fault.TheVariants.{Memory, Failed}
+use Rattle.markdown_tokenizer.specs.declared.tokenizer.fault.Fault.TheVariants as fault
+use Rattle.markdown_tokenizer.specs.Text.{Given}
+use Rattle.markdown_tokenizer.specs.Rules.{Rules}
+use Rattle.markdown_tokenizer.specs.Resolving.{with_more}
+use Rattle.markdown_children.specs.Chains.{chain_of, begins, fitting_starts}
+use Rattle.markdown_children.specs.Ready.{IsReady}
+use Rattle.markdown_children.specs.Laws.{AreSpaced, HasEndsWithin}
+use Rattle.markdown_children.specs.Parts.{Divided, divided, divided_over, child_place, part_edits, chain_edits, all_edits, total, StandBefore}
+use Rattle.markdown_children.specs.Children.{with_children}
+use Rattle.markdown_children.specs.Reads.{Child, lists, IsChild, AreChildren, IsChildRefused, IsChildFault, IsSubtokenized, IsSubtokenizeRefused, IsSubtokenizeFault}
+use Rattle.markdown_children.specs.SoFar.{SoFar, starts_below}
+use Rattle.markdown_children.proofs.ChainOrder.Following.{filter-yes, filter-no, whole-from, follow_one_another}
+use Rattle.markdown_children.proofs.ChainOrder.Forward.{begins-fits, within}
+use Rattle.markdown_children.proofs.ChainOrder.Spaced.{HasParts, divided-parts, divided_over-parts}
+use Rattle.markdown_children.proofs.Parts.Kept.{children_fit}
+use Rattle.markdown_children.proofs.Parts.Edits.{all_edits-spaced, total-divided, edits_give_children}
+
+-- ---- one chain more
+
+removed_by-append : (es fs : List Edit) → removed_by (es ++ fs) ≡ removed_by es + removed_by fs
+removed_by-append [] fs = omega arith
+removed_by-append (e ∷ es) fs = omega (arith, removed_by-append es fs)
+
+added_by-append : (es fs : List Edit) → added_by (es ++ fs) ≡ added_by es + added_by fs
+added_by-append [] fs = omega arith
+added_by-append (e ∷ es) fs = omega (arith, added_by-append es fs)
+
+removed_by-parts : (f : ℕ → Option ℕ) (ks : List ℕ) (ps : List (List Event)) → length ks ≡ length ps → removed_by (part_edits f ks ps) ≡ 2 * length ks
+removed_by-parts f [] ps e = omega arith
+removed_by-parts f (k ∷ ks) [] e = absurd (omega arith)
+removed_by-parts f (k ∷ ks) (p ∷ ps) e = omega (arith, removed_by-parts f ks ps (omega arith))
+
+added_by-parts : (f : ℕ → Option ℕ) (ks : List ℕ) (ps : List (List Event)) → length ks ≡ length ps → added_by (part_edits f ks ps) ≡ total ps
+added_by-parts f [] [] e = refl
+added_by-parts f [] (p ∷ ps) e = absurd (omega arith)
+added_by-parts f (k ∷ ks) [] e = absurd (omega arith)
+added_by-parts f (k ∷ ks) (p ∷ ps) e = omega (arith, length-map p (relinked f), added_by-parts f ks ps (omega arith))
+
+-- the edits of chains, and of one more behind them
+pub all_edits-push : (removed added : ℕ) (ds : List Divided) (d : Divided) → AllByRecursion HasParts ds
+    → all_edits removed added (ds ++ d ∷ []) ≡ all_edits removed added ds ++ chain_edits (removed + removed_by (all_edits removed added ds)) (added + added_by (all_edits removed added ds)) d
+all_edits-push removed added [] d h =
+    let z : removed ≡ removed + 0 = omega arith in
+    let y : added ≡ added + 0 = omega arith in
+    append-nil (chain_edits removed added d) ∙ (λ j. chain_edits (z j) (y j) d)
+all_edits-push removed added (c ∷ ds) d h =
+    let f : ℕ → Option ℕ = child_place c.chunks c.parts removed added in
+    let front : List Edit = chain_edits removed added c in
+    let rest : List Edit = all_edits (removed + 2 * length c.chunks) (added + total c.parts) ds in
+    let z : removed + 2 * length c.chunks + removed_by rest ≡ removed + removed_by (front ++ rest) = omega (arith, removed_by-append front rest, removed_by-parts f c.chunks c.parts h.0) in
+    let y : added + total c.parts + added_by rest ≡ added + added_by (front ++ rest) = omega (arith, added_by-append front rest, added_by-parts f c.chunks c.parts h.0) in
+    ap (λ es. front ++ es) (all_edits-push (removed + 2 * length c.chunks) (added + total c.parts) ds d h.1)
+    ∙ sym (append_assoc front rest (chain_edits (removed + 2 * length c.chunks + removed_by rest) (added + total c.parts + added_by rest) d))
+    ∙ (λ j. (front ++ rest) ++ chain_edits (z j) (y j) d)
+
+divided_over-push : (events : List Event) (cs : List ℕ) (children : List (List Event)) (c : ℕ) (child : List Event) → length cs ≡ length children
+    → divided_over events (cs ++ c ∷ []) (children ++ child ∷ []) ≡ divided_over events cs children ++ divided events c child ∷ []
+divided_over-push events [] [] c child e = refl
+divided_over-push events [] (x ∷ children) c child e = absurd (omega arith)
+divided_over-push events (b ∷ cs) [] c child e = absurd (omega arith)
+divided_over-push events (b ∷ cs) (x ∷ children) c child e = ap (λ ds. divided events b x ∷ ds) (divided_over-push events cs children c child (omega arith))
+
+all-zip-push : {A B : Type 0} (R : A → B → Type 0) (xs : List A) (ys : List B) (x : A) (y : B) → AllZip R xs ys → R x y → AllZip R (xs ++ x ∷ []) (ys ++ y ∷ [])
+all-zip-push R [] [] x y h r = (r, tt)
+all-zip-push R [] (b ∷ ys) x y h r = absurd h
+all-zip-push R (a ∷ xs) [] x y h r = absurd h
+all-zip-push R (a ∷ xs) (b ∷ ys) x y h r = (h.0, all-zip-push R xs ys x y h.1 r)
+
+all-zip-long : {A B : Type 0} (R : A → B → Type 0) (xs : List A) (ys : List B) → AllZip R xs ys → length xs ≡ length ys
+all-zip-long R [] [] h = refl
+all-zip-long R [] (b ∷ ys) h = absurd h
+all-zip-long R (a ∷ xs) [] h = absurd h
+all-zip-long R (a ∷ xs) (b ∷ ys) h = ap suc (all-zip-long R xs ys h.1)
+
+all-push : {A : Type 0} (P : A → Type 0) (xs : List A) (x : A) → AllByRecursion P xs → P x → AllByRecursion P (xs ++ x ∷ [])
+all-push P [] x h p = (p, tt)
+all-push P (y ∷ xs) x h p = (h.0, all-push P xs x h.1 p)
+
+-- ---- the chains that begin below an index
+
+range-split : (a k m : ℕ) → range_with_len a (k + m) ≡ range_with_len a k ++ range_with_len (a + k) m
+range-split a zero m = let z : 0 + m ≡ m = omega arith in let y : a ≡ a + 0 = omega arith in (λ j. range_with_len (y j) (z j))
+range-split a (suc k) m =
+    let z : suc k + m ≡ suc (k + m) = omega arith in
+    let y : a + 1 + k ≡ a + suc k = omega arith in
+    ap (range_with_len a) z ∙ ap (λ ks. a ∷ ks) (range-split (a + 1) k m) ∙ ap (λ b. (a ∷ range_with_len (a + 1) k) ++ range_with_len b m) y
+
+starts-next : (wanted : Option Content) (events : List Event) (i : ℕ) → starts_below wanted events (i + 1) ≡ starts_below wanted events i ++ filter (begins wanted events) (i ∷ [])
+starts-next wanted events i =
+    let z : 0 + i ≡ i = omega arith in
+    ap (filter (begins wanted events)) (range-split 0 i 1 ∙ ap (λ b. range_with_len 0 i ++ b ∷ []) z) ∙ filter-append (begins wanted events) (range_with_len 0 i) (i ∷ [])
+
+starts-split : (wanted : Option Content) (events : List Event) (i : ℕ) → i < length events → begins wanted events i ≡ true → (behind : List ℕ) × (fitting_starts wanted events ≡ starts_below wanted events i ++ i ∷ behind)
+starts-split wanted events i l b =
+    let m : ℕ = length events - (i + 1) in
+    let z : length events ≡ i + suc m = omega arith in
+    let y : 0 + i ≡ i = omega arith in (
+      filter (begins wanted events) (range_with_len (i + 1) m),
+      ap (λ n. filter (begins wanted events) (range_with_len 0 n)) z
+          ∙ ap (filter (begins wanted events)) (range-split 0 i (suc m) ∙ ap (λ c. range_with_len 0 i ++ range_with_len c (suc m)) y)
+          ∙ filter-append (begins wanted events) (range_with_len 0 i) (range_with_len i (suc m))
+          ∙ ap (λ ks. starts_below wanted events i ++ ks) (filter-yes (begins wanted events) i (range_with_len (i + 1) m) b),
+    )
+
+-- ---- what the calls ask
+
+spaced-front : (from n k : ℕ) (xs ys : List ℕ) → AreSpaced from (xs ++ k ∷ ys) n → AreSpaced from xs k
+spaced-front from n k [] ys h = h.0
+spaced-front from n k (x ∷ xs) ys h = (h.0, spaced-front (x + 2) n k xs ys h.1)
+
+two-parts : (f : ℕ → Option ℕ) (ks : List ℕ) (ps : List (List Event)) (es : List Edit) → AllByRecursion (λ (e : Edit). e.remove ≡ 2) es → AllByRecursion (λ (e : Edit). e.remove ≡ 2) (part_edits f ks ps ++ es)
+two-parts f [] ps es h = h
+two-parts f (k ∷ ks) [] es h = h
+two-parts f (k ∷ ks) (p ∷ ps) es h = (refl, two-parts f ks ps es h)
+
+two-each : (removed added : ℕ) (ds : List Divided) → AllByRecursion (λ (e : Edit). e.remove ≡ 2) (all_edits removed added ds)
+two-each removed added [] = tt
+two-each removed added (d ∷ ds) =
+    two-parts (child_place d.chunks d.parts removed added) d.chunks d.parts (all_edits (removed + 2 * length d.chunks) (added + total d.parts) ds) (two-each (removed + 2 * length d.chunks) (added + total d.parts) ds)
+
+below-all : (es : List Edit) (from n : ℕ) → AreDisjoint from es n → AllByRecursion (λ (e : Edit). e.remove ≡ 2) es → AllByRecursion (λ (e : Edit). e.index < n) es
+below-all [] from n d h = tt
+below-all (e ∷ es) from n d h = (let two : e.remove ≡ 2 = h.0 in omega (arith, AreDisjoint-le es (e.index + e.remove) n d.1), below-all es (e.index + e.remove) n d.1 h.1)
+
+module _ (tab : ℕ) (bytes : List ℕ) (wanted : Option Content) (events : List Event) (ready : IsReady tab bytes wanted events) where
+  -- the edits of the chains that begin below a chain's first chunk stand before it
+  pub stand-before : (i : ℕ) (children : List (List Event)) → begins wanted events i ≡ true → StandBefore (all_edits 0 0 (divided_over events (starts_below wanted events i) children)) i
+  stand-before i children b =
+      let f = follow_one_another tab bytes wanted events ready in
+      let w = whole-from tab bytes wanted events ready i (begins-fits tab bytes wanted events ready i b) in
+      let inside : i + 1 < length events = within tab bytes wanted events ready i b in
+      let s = starts-split wanted events i (omega arith) b in
+      let below : List ℕ = starts_below wanted events i in
+      let is : flat_map (chain_of events) (fitting_starts wanted events) ≡ flat_map (chain_of events) below ++ i ∷ (w.0 ++ flat_map (chain_of events) s.0) =
+      ap (flat_map (chain_of events)) s.1 ∙ flat_map-append (chain_of events) below (i ∷ s.0)
+      ∙ ap (λ ks. flat_map (chain_of events) below ++ (ks ++ flat_map (chain_of events) s.0)) w.1 in
+      let spaced : AreSpaced 0 (flat_map (chain_of events) below ++ i ∷ (w.0 ++ flat_map (chain_of events) s.0)) (length events) =
+      subst (λ (ks : List ℕ). AreSpaced 0 ks (length events)) (sym f.in_order ∙ is) f.spaced in
+      let d = all_edits-spaced events below children 0 0 0 i (spaced-front 0 (length events) i (flat_map (chain_of events) below) (w.0 ++ flat_map (chain_of events) s.0) spaced) in
+      record { disjoint = d; below = below-all (all_edits 0 0 (divided_over events below children)) 0 i d (two-each 0 0 (divided_over events below children)) }
+
+-- ---- the invariant
+
+module _ {R D : Type 0} (g : Given) (rules : Given → Rules R D) (wanted : Option Content) (events : List Event) where
+  pub so_far-start : (es : List Edit) (sub : Subresult) → es ≡ [] → sub.done ≡ true → sub.definitions ≡ [] → sub.gfm_footnote_definitions ≡ [] → SoFar g rules wanted events 0 es (0, 0) sub
+  so_far-start es sub e d f n = record { children = []; read = tt; balanced = tt; ends = tt; edits = e; removed = ap removed_by (sym e); added = ap added_by (sym e); done = ((λ t. refl), (λ t. d)); definitions = f; footnotes = n }
+
+  -- nothing begins there
+  pub so_far-same : (i : ℕ) (es : List Edit) (sums : ℕ × ℕ) (sub : Subresult) → begins wanted events i ≡ false → SoFar g rules wanted events i es sums sub → SoFar g rules wanted events (i + 1) es sums sub
+  so_far-same i es sums sub b s =
+      let same : starts_below wanted events i ≡ starts_below wanted events (i + 1) =
+      sym (starts-next wanted events i ∙ ap (λ ks. starts_below wanted events i ++ ks) (filter-no (begins wanted events) i [] b) ∙ append-nil (starts_below wanted events i)) in
+      record {
+        children = s.children;
+        read = subst (λ (ks : List ℕ). AreChildren g rules events ks s.children) same s.read;
+        balanced = s.balanced;
+        ends = s.ends;
+        edits = s.edits ∙ ap (λ ks. all_edits 0 0 (divided_over events ks (lists s.children))) same;
+        removed = s.removed;
+        added = s.added;
+        done = subst (λ (ks : List ℕ). (sub.done ≡ true) ↔ (ks ≡ [])) same s.done;
+        definitions = s.definitions;
+        footnotes = s.footnotes;
+      }
+
+  pub so_far-other : (i : ℕ) (es fs : List Edit) (sums more : ℕ × ℕ) (sub found : Subresult) → begins wanted events i ≡ false → fs ≡ es → more ≡ sums → found ≡ sub → SoFar g rules wanted events i es sums sub
+      → SoFar g rules wanted events (i + 1) fs more found
+  so_far-other i es fs sums more sub found b e d f s =
+      subst (λ (x : List Edit). SoFar g rules wanted events (i + 1) x more found) (sym e)
+      (subst (λ (y : ℕ × ℕ). SoFar g rules wanted events (i + 1) es y found) (sym d)
+      (subst (λ (z : Subresult). SoFar g rules wanted events (i + 1) es sums z) (sym f) (so_far-same i es sums sub b s)))
+
+  -- one more chain was read
+  pub so_far-next : (i : ℕ) (es fs : List Edit) (sums more : ℕ × ℕ) (sub found : Subresult) (child : Child) (tab : ℕ) (bytes : List ℕ) → IsReady tab bytes wanted events → begins wanted events i ≡ true → SoFar g rules wanted events i es sums sub
+      → IsChild g rules events i child → IsBalanced child.events → HasEndsWithin child.events
+      → fs ≡ es ++ chain_edits sums.0 sums.1 (divided events i child.events)
+      → more.0 ≡ sums.0 + 2 * length (chain_of events i) → more.1 ≡ sums.1 + length child.events
+      → found ≡ record (with_more sub (Some child.found)) { done = false }
+      → SoFar g rules wanted events (i + 1) fs more found
+  so_far-next i es fs sums more sub found child tab bytes ready b s is bal ends e r a f_is =
+      let cs : List ℕ = starts_below wanted events i in
+      let d : found.done ≡ false = ap (λ (x : Subresult). x.done) f_is in
+      let defs : found.definitions ≡ sub.definitions ++ child.found.definitions = ap (λ (x : Subresult). x.definitions) f_is in
+      let notes : found.gfm_footnote_definitions ≡ sub.gfm_footnote_definitions ++ child.found.gfm_footnote_definitions = ap (λ (x : Subresult). x.gfm_footnote_definitions) f_is in
+      let next : cs ++ i ∷ [] ≡ starts_below wanted events (i + 1) = sym (starts-next wanted events i ∙ ap (λ ks. cs ++ ks) (filter-yes (begins wanted events) i [] b)) in
+      let both : lists (s.children ++ child ∷ []) ≡ lists s.children ++ child.events ∷ [] = map-append (λ (c : Child). c.events) s.children (child ∷ []) in
+      let long : length cs ≡ length (lists s.children) = all-zip-long (IsChild g rules events) cs s.children s.read ∙ sym (length-map s.children (λ (c : Child). c.events)) in
+      let ds : List Divided = divided_over events cs (lists s.children) in
+      let dv : Divided = divided events i child.events in
+      let old : List Edit = all_edits 0 0 ds in
+      let f : ℕ → Option ℕ = child_place dv.chunks dv.parts sums.0 sums.1 in
+      let w = whole-from tab bytes wanted events ready i (begins-fits tab bytes wanted events ready i b) in
+      let zero_r : sums.0 ≡ 0 + removed_by old = s.removed ∙ ap removed_by s.edits ∙ (omega arith) in
+      let zero_a : sums.1 ≡ 0 + added_by old = s.added ∙ ap added_by s.edits ∙ (omega arith) in
+      record {
+        children = s.children ++ child ∷ [];
+        read = subst (λ (ks : List ℕ). AreChildren g rules events ks (s.children ++ child ∷ [])) next (all-zip-push (IsChild g rules events) cs s.children i child s.read is);
+        balanced = subst (AllByRecursion IsBalanced) (sym both) (all-push IsBalanced (lists s.children) child.events s.balanced bal);
+        ends = subst (AllByRecursion HasEndsWithin) (sym both) (all-push HasEndsWithin (lists s.children) child.events s.ends ends);
+        edits = e ∙ (λ j. s.edits j ++ chain_edits (zero_r j) (zero_a j) dv)
+            ∙ sym (all_edits-push 0 0 ds dv (divided_over-parts events cs (lists s.children)))
+            ∙ ap (all_edits 0 0) (sym (divided_over-push events cs (lists s.children) i child.events long))
+            ∙ (λ j. all_edits 0 0 (divided_over events (next j) (sym both j)));
+        removed = r ∙ omega (arith, s.removed, ap removed_by e, removed_by-append es (chain_edits sums.0 sums.1 dv), removed_by-parts f dv.chunks dv.parts (divided-parts events i child.events));
+        added = a ∙ omega (arith, s.added, ap added_by e, added_by-append es (chain_edits sums.0 sums.1 dv), added_by-parts f dv.chunks dv.parts (divided-parts events i child.events), total-divided events i child.events w);
+        done = ((λ t. absurd (let no : true ≡ false = sym t ∙ d in cc)), (λ t. absurd (no-push cs i (next ∙ t))));
+        definitions = defs ∙ ap (λ xs. xs ++ child.found.definitions) s.definitions ∙ sym (flat_map-append (λ (c : Child). c.found.definitions) s.children (child ∷ []) ∙ ap (λ ys. flat_map (λ (c : Child). c.found.definitions) s.children ++ ys) (append-nil child.found.definitions));
+        footnotes = notes ∙ ap (λ xs. xs ++ child.found.gfm_footnote_definitions) s.footnotes ∙ sym (flat_map-append (λ (c : Child). c.found.gfm_footnote_definitions) s.children (child ∷ []) ∙ ap (λ ys. flat_map (λ (c : Child). c.found.gfm_footnote_definitions) s.children ++ ys) (append-nil child.found.gfm_footnote_definitions));
+      }
+    where
+      no-push : (xs : List ℕ) (x : ℕ) → xs ++ x ∷ [] ≡ [] → ⊥
+      no-push [] x e = cc
+      no-push (y ∷ xs) x e = cc
+
+  -- all was read, and the edits were made
+  pub so_far-end : (tab : ℕ) (bytes : List ℕ) (es : List Edit) (sums : ℕ × ℕ) (sub : Subresult) (new : List Event) → IsReady tab bytes wanted events → SoFar g rules wanted events (length events) es sums sub → new ≡ edited es events
+      → IsSubtokenized g rules wanted events new sub
+  so_far-end tab bytes es sums sub new ready s e =
+      let fit = children_fit tab bytes wanted events ready (lists s.children) in
+      let is : new ≡ with_children wanted events (lists s.children) = e ∙ ap (λ fs. edited fs events) s.edits ∙ (edits_give_children tab bytes wanted events (lists s.children) ready).give s.ends in
+      record {
+        children = s.children;
+        read = s.read;
+        events = is;
+        balanced = subst IsBalanced (sym is) (fit.balanced s.balanced);
+        stays = fit.stays;
+        links = fit.links;
+        done = s.done;
+        definitions = s.definitions;
+        footnotes = s.footnotes;
+      }
+
+  pub so_far-disjoint : (tab : ℕ) (bytes : List ℕ) (es : List Edit) (sums : ℕ × ℕ) (sub : Subresult) → IsReady tab bytes wanted events → SoFar g rules wanted events (length events) es sums sub → AreDisjoint 0 es (length events)
+  so_far-disjoint tab bytes es sums sub ready s = subst (λ (fs : List Edit). AreDisjoint 0 fs (length events)) (sym s.edits) (edits_give_children tab bytes wanted events (lists s.children) ready).disjoint
+
+  pub so_far-before : (tab : ℕ) (bytes : List ℕ) (i : ℕ) (es : List Edit) (sums : ℕ × ℕ) (sub : Subresult) → IsReady tab bytes wanted events → begins wanted events i ≡ true → SoFar g rules wanted events i es sums sub → StandBefore es i
+  so_far-before tab bytes i es sums sub ready b s = subst (λ (fs : List Edit). StandBefore fs i) (sym s.edits) (stand-before tab bytes wanted events ready i (lists s.children) b)
+
+  -- a chain ended in a message
+  pub so_far-refused : (i : ℕ) (es : List Edit) (sums : ℕ × ℕ) (sub : Subresult) (m : Message) → i < length events → begins wanted events i ≡ true → SoFar g rules wanted events i es sums sub → IsChildRefused g rules events i m
+      → IsSubtokenizeRefused g rules wanted events m
+  so_far-refused i es sums sub m l b s r =
+      let split = starts-split wanted events i l b in
+      record { front = starts_below wanted events i; chain = i; behind = split.0; starts = split.1; children = s.children; read = s.read; refused = r }
+
+  -- so `subtokenize` fails as the chain does
+  pub so_far-fault : (i : ℕ) (es : List Edit) (sums : ℕ × ℕ) (sub : Subresult) (f : Fault) → i < length events → begins wanted events i ≡ true → SoFar g rules wanted events i es sums sub → IsChildFault g rules events i f
+      → IsSubtokenizeFault g rules wanted events f
+  so_far-fault i es sums sub Memory l b s r = tt
+  so_far-fault i es sums sub Failed l b s r = absurd r
+  so_far-fault i es sums sub (fault.Message m) l b s r = so_far-refused i es sums sub m l b s r
+
+  -- and where memory runs out
+  pub memory-fault : (f : Fault) → f ≡ Memory → IsSubtokenizeFault g rules wanted events f
+  memory-fault f e = subst (IsSubtokenizeFault g rules wanted events) (sym e) tt

@@ -1,0 +1,5 @@
+pub mod Examples
+pub mod ChainOrder
+pub mod Parts
+pub mod Ready
+pub mod ChildReads

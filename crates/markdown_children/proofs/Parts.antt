@@ -1,0 +1,8 @@
+-- Parts of a child, and the edits that put them in their place.
+pub mod Adding
+pub mod ByChunk
+pub mod ChildPlaces
+pub mod Edits
+pub mod Kept
+pub mod Placed
+pub mod Tabled

@@ -1,0 +1,40 @@
+-- Edits added in order.
+use Rattle.std.proofs.Common.{◌≡◌, ℕ, zero, suc, ◌+◌, ◌<◌, List, [], ◌∷◌, ◌++◌, length, map, take, get_or, Option, refl, sym, ◌∙◌, ap, arith, add-one}
+use Rattle.std.specs.List.{AllByRecursion}
+use Rattle.std.proofs.Math.Seq.{take-suc}
+use Rattle.std.proofs.lemmas.Bool.{ne_eqb}
+use Rattle.std.proofs.lemmas.List.{map-append}
+use Rattle.markdown_base.specs.declared.event.Event.{Event}
+use Rattle.markdown_edits.specs.Edits.{Edit, put_after, removal_at}
+use Rattle.markdown_edits.proofs.Edits.Puts.{put-more}
+use Rattle.markdown_children.specs.Tables.{AreRising, chunk_edit}
+use Rattle.markdown_children.specs.declared.division.Chunk.{Chunk}
+
+-- an edit behind all others is put at the end
+put-last : (es : List Edit) (d : Edit) → AllByRecursion (λ (e : Edit). e.index < d.index) es → put_after es d ≡ es ++ d ∷ []
+put-last [] d h = refl
+put-last (e ∷ es) d h = put-more (λ there more. there ++ more) e d es h.0 ∙ ap (λ fs. e ∷ fs) (put-last es d h.1)
+
+removal-none : (es : List Edit) (i : ℕ) → AllByRecursion (λ (e : Edit). e.index < i) es → removal_at es i ≡ 0
+removal-none [] i h = refl
+removal-none (e ∷ es) i h = let l : e.index < i = h.0 in let ne = ne_eqb e.index i (omega arith) in rw (ne, removal-none es i h.1) refl
+
+all-at : (P : Chunk → Type 0) (cs : List Chunk) (i : ℕ) (d : Chunk) → AllByRecursion P cs → i < length cs → P (get_or cs i d)
+all-at P [] i d h l = absurd (omega arith)
+all-at P (c ∷ cs) zero d h l = h.0
+all-at P (c ∷ cs) (suc i) d h l = all-at P cs i d h.1 (omega arith)
+
+module _ (f : ℕ → Option ℕ) (child : List Event) where
+  edits-below : (cs : List Chunk) (i : ℕ) (d : Chunk) → AreRising cs → i < length cs → AllByRecursion (λ (e : Edit). e.index < (get_or cs i d).index) (map (chunk_edit f child) (take i cs))
+  edits-below [] i d h l = absurd (omega arith)
+  edits-below (c ∷ cs) zero d h l = tt
+  edits-below (c ∷ cs) (suc i) d h l = (all-at (λ (e : Chunk). c.index < e.index) cs i d h.0 (omega arith), edits-below cs i d h.1 (omega arith))
+
+  pub edits-room : (cs : List Chunk) (i : ℕ) (d : Chunk) (es : List Edit) → AreRising cs → i < length cs → es ≡ map (chunk_edit f child) (take i cs) → removal_at es (get_or cs i d).index ≡ 0
+  edits-room cs i d es h l e = ap (λ fs. removal_at fs (get_or cs i d).index) e ∙ removal-none (map (chunk_edit f child) (take i cs)) (get_or cs i d).index (edits-below cs i d h l)
+
+  pub edits-more : (cs : List Chunk) (i : ℕ) (d : Chunk) (es fs : List Edit) → AreRising cs → i < length cs → es ≡ map (chunk_edit f child) (take i cs) → fs ≡ put_after es (chunk_edit f child (get_or cs i d))
+      → fs ≡ map (chunk_edit f child) (take (i + 1) cs)
+  edits-more cs i d es fs h l e p =
+      p ∙ ap (λ gs. put_after gs (chunk_edit f child (get_or cs i d))) e ∙ put-last (map (chunk_edit f child) (take i cs)) (chunk_edit f child (get_or cs i d)) (edits-below cs i d h l)
+      ∙ sym (ap (λ n. map (chunk_edit f child) (take n cs)) (add-one i) ∙ ap (map (chunk_edit f child)) (take-suc cs i d l) ∙ map-append (chunk_edit f child) (take i cs) (get_or cs i d ∷ []))

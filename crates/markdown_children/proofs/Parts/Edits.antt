@@ -1,0 +1,113 @@
+-- The edits of the chains that fit.
+use Rattle.std.proofs.Common.{◌≡◌, ℕ, zero, suc, ◌+◌, ◌*◌, ◌<◌, Bool, true, false, List, [], ◌∷◌, ◌++◌, length, map, Option, refl, sym, ◌∙◌, ap, subst, arith, length-append}
+use Rattle.std.specs.Prelude.{flat_map, filter, All}
+use Rattle.std.specs.List.{AllByRecursion, range_with_len}
+use Rattle.std.proofs.lemmas.List.Elements.{All-head, All-tail, All-from_recursion}
+use Rattle.markdown_base.specs.declared.event.Content.{Content}
+use Rattle.markdown_base.specs.declared.event.Event.{Event}
+use Rattle.markdown_base.specs.declared.event.Point.{Point}
+use Rattle.markdown_base.specs.Events.{EndsBelow}
+use Rattle.markdown_edits.specs.Edits.{Edit, AreDisjoint}
+use Rattle.markdown_children.specs.Chains.{chain_of, begins, fitting_starts}
+use Rattle.markdown_children.specs.Ready.{IsReady, place_at}
+use Rattle.markdown_children.specs.Laws.{IsWholeFrom, AreSpaced, HasEndsWithin, EditsGiveChildren}
+use Rattle.markdown_children.specs.Parts.{parts, Divided, divided, divided_over, child_place, part_edits, total, all_edits}
+use Rattle.markdown_children.specs.Children.{first_chunk}
+use Rattle.markdown_children.proofs.ChainOrder.Following.{filter-yes, filter-no, follow_one_another}
+use Rattle.markdown_children.proofs.ChainOrder.Spaced.{AreSpaced-le, divided-parts, changes_are_apart}
+use Rattle.markdown_children.proofs.Parts.Kept.{joined, joined-parts}
+use Rattle.markdown_children.proofs.Parts.Placed.{HasEndsInside, AreChains, edited-children}
+
+-- ---- disjoint
+
+edits-spaced : (f : ℕ → Option ℕ) (from n : ℕ) (ks more : List ℕ) (ps : List (List Event)) (es : List Edit) → length ks ≡ length ps → AreSpaced from (ks ++ more) n
+    → ((m : ℕ) → AreSpaced m more n → AreDisjoint m es n) → AreDisjoint from (part_edits f ks ps ++ es) n
+edits-spaced f from n [] more ps es e h rest = rest from h
+edits-spaced f from n (k ∷ ks) more [] es e h rest = absurd (omega arith)
+edits-spaced f from n (k ∷ ks) more (p ∷ ps) es e h rest = (h.0, edits-spaced f (k + 2) n ks more ps es (omega arith) h.1 rest)
+
+pub all_edits-spaced : (events : List Event) (cs : List ℕ) (children : List (List Event)) (removed added from n : ℕ) → AreSpaced from (flat_map (chain_of events) cs) n
+    → AreDisjoint from (all_edits removed added (divided_over events cs children)) n
+all_edits-spaced events [] children removed added from n h = h
+all_edits-spaced events (c ∷ cs) [] removed added from n h = AreSpaced-le from n (flat_map (chain_of events) (c ∷ cs)) h
+all_edits-spaced events (c ∷ cs) (child ∷ children) removed added from n h =
+    let d : Divided = divided events c child in
+    edits-spaced (child_place d.chunks d.parts removed added) from n d.chunks (flat_map (chain_of events) cs) d.parts (all_edits (removed + 2 * length d.chunks) (added + total d.parts) (divided_over events cs children))
+    (divided-parts events c child) h (λ m r. all_edits-spaced events cs children (removed + 2 * length d.chunks) (added + total d.parts) m n r)
+
+-- ---- the chains that fit begin at different chunks
+
+abbrev IsRising : List ℕ → Type 0
+IsRising [] = Unit {0}
+IsRising (c ∷ cs) = AllByRecursion (λ (d : ℕ). c < d) cs × IsRising cs
+
+above : (test : ℕ → Bool) (f i m : ℕ) → m < i → AllByRecursion (λ (d : ℕ). m < d) (filter test (range_with_len i f))
+above test zero i m l = tt
+above test (suc f) i m l = at (test i) refl (above test f (i + 1) m (omega arith))
+  where
+    at : (b : Bool) → test i ≡ b → AllByRecursion (λ (d : ℕ). m < d) (filter test (range_with_len (i + 1) f)) → AllByRecursion (λ (d : ℕ). m < d) (filter test (range_with_len i (suc f)))
+    at true e r = rw (filter-yes test i (range_with_len (i + 1) f) e) (l, r)
+    at false e r = rw (filter-no test i (range_with_len (i + 1) f) e) r
+
+rising : (test : ℕ → Bool) (f i : ℕ) → IsRising (filter test (range_with_len i f))
+rising test zero i = tt
+rising test (suc f) i = at (test i) refl (rising test f (i + 1))
+  where
+    at : (b : Bool) → test i ≡ b → IsRising (filter test (range_with_len (i + 1) f)) → IsRising (filter test (range_with_len i (suc f)))
+    at true e r = rw (filter-yes test i (range_with_len (i + 1) f) e) (above test f (i + 1) i (omega arith), r)
+    at false e r = rw (filter-no test i (range_with_len (i + 1) f) e) r
+
+first-whole : (events : List Event) (c : ℕ) → IsWholeFrom events c → first_chunk (chain_of events c) ≡ c
+first-whole events c w = ap first_chunk w.1
+
+differ : (events : List Event) (c b : ℕ) (cs : List ℕ) (children : List (List Event)) → b ≡ c → AllByRecursion (λ (d : ℕ). c < d) cs → AllByRecursion (IsWholeFrom events) cs
+    → AllByRecursion (λ (other : Divided). first_chunk other.chunks ≡ b → ⊥) (divided_over events cs children)
+differ events c b [] children e h w = tt
+differ events c b (d ∷ cs) [] e h w = tt
+differ events c b (d ∷ cs) (child ∷ children) e h w =
+    ((λ s. let l : c < d = h.0 in let is : d ≡ c = sym (first-whole events d w.0) ∙ s ∙ e in absurd (omega arith)), differ events c b cs children e h.1 w.1)
+
+-- ---- the parts' link ends lie inside the child
+
+pub total-joined : (ps : List (List Event)) → total ps ≡ length (joined ps)
+total-joined [] = refl
+total-joined (p ∷ ps) = omega (arith, total-joined ps, length-append p (joined ps))
+
+all-both : (P : Event → Type 0) (xs ys : List Event) → All P (xs ++ ys) → AllByRecursion P xs × All P ys
+all-both P [] ys h = (tt, h)
+all-both P (x ∷ xs) ys h = let r = all-both P xs ys (All-tail P x (xs ++ ys) h) in ((All-head P x (xs ++ ys) h, r.0), r.1)
+
+ends-parts : (n : ℕ) (ps : List (List Event)) → All (EndsBelow n) (joined ps) → AllByRecursion (All (EndsBelow n)) ps
+ends-parts n [] h = tt
+ends-parts n (p ∷ ps) h = let b = all-both (EndsBelow n) p (joined ps) h in (All-from_recursion (EndsBelow n) p b.0, ends-parts n ps b.1)
+
+pub total-divided : (events : List Event) (c : ℕ) (child : List Event) → IsWholeFrom events c → total (divided events c child).parts ≡ length child
+total-divided events c child w =
+    ap (λ ks. total (parts (map (λ k. place_at events (k + 1)) ks) child)) w.1
+    ∙ total-joined (parts (place_at events (c + 1) ∷ map (λ k. place_at events (k + 1)) w.0) child)
+    ∙ ap length (joined-parts (place_at events (c + 1)) (map (λ k. place_at events (k + 1)) w.0) child)
+
+ends-divided : (events : List Event) (c : ℕ) (child : List Event) → IsWholeFrom events c → HasEndsWithin child → HasEndsInside (divided events c child)
+ends-divided events c child w h =
+    let ends : List Point = map (λ k. place_at events (k + 1)) w.0 in
+    let ps : List (List Event) = parts (place_at events (c + 1) ∷ ends) child in
+    let is : (divided events c child).parts ≡ ps = ap (λ ks. parts (map (λ k. place_at events (k + 1)) ks) child) w.1 in
+    let inside : All (EndsBelow (length child)) (joined ps) = subst (All (EndsBelow (length child))) (sym (joined-parts (place_at events (c + 1)) ends child)) h in
+    subst (λ (n : ℕ). AllByRecursion (All (EndsBelow n)) (divided events c child).parts) (sym (total-divided events c child w))
+    (subst (AllByRecursion (All (EndsBelow (length child)))) (sym is) (ends-parts (length child) ps inside))
+
+pub are-chains : (events : List Event) (cs : List ℕ) (children : List (List Event)) → IsRising cs → AllByRecursion (IsWholeFrom events) cs → AllByRecursion HasEndsWithin children → AreChains (divided_over events cs children)
+are-chains events [] children r w h = tt
+are-chains events (c ∷ cs) [] r w h = tt
+are-chains events (c ∷ cs) (child ∷ children) r w h =
+    ((divided-parts events c child, ends-divided events c child w.0 h.0), differ events c (first_chunk (chain_of events c)) cs children (first-whole events c w.0) r.0 w.1, are-chains events cs children r.1 w.1 h.1)
+
+pub edits_give_children : (tab : ℕ) (bytes : List ℕ) (wanted : Option Content) (events : List Event) (children : List (List Event)) → IsReady tab bytes wanted events → EditsGiveChildren wanted events children
+edits_give_children tab bytes wanted events children ready =
+    let f = follow_one_another tab bytes wanted events ready in
+    let cs : List ℕ = fitting_starts wanted events in
+    record {
+      disjoint = all_edits-spaced events cs children 0 0 0 (length events) (subst (λ (ks : List ℕ). AreSpaced 0 ks (length events)) (sym f.in_order) f.spaced);
+      give = λ h. edited-children (divided_over events cs children) events (changes_are_apart tab bytes wanted events children ready).apart
+          (are-chains events cs children (rising (begins wanted events) (length events) 0) f.whole h);
+    }

@@ -1,0 +1,189 @@
+-- Balanced children keep a list balanced.
+--
+-- Between two chunks of a chain stands a balanced list, which leaves each stack of open names as it is; so the parts of a child act on it
+-- one directly after another, as the child itself would, and that is balanced.
+use Rattle.std.proofs.Common.{◌≡◌, ℕ, zero, suc, true, ◌+◌, ◌-◌, ◌≤◌, List, [], ◌∷◌, ◌++◌, length, map, drop, take, Option, Some, None, refl, sym, ◌∙◌, ap, subst, arith, append-nil, take-append-drop}
+use Rattle.std.specs.Prelude.{flat_map, slice_get}
+use Rattle.std.specs.List.{AllByRecursion, between, range_with_len}
+use Rattle.std.proofs.lemmas.List.{map-append, drop-drop}
+use Rattle.markdown_base.specs.declared.event.Content.{Content}
+use Rattle.markdown_base.specs.declared.event.Event.{Event}
+use Rattle.markdown_base.specs.declared.event.Name.{Name}
+use Rattle.markdown_base.specs.declared.event.Point.{Point}
+use Rattle.markdown_base.specs.Events.{IsBalanced}
+use Rattle.markdown_base.proofs.Common.{drop-at}
+use Rattle.markdown_edits.specs.OpenNames.{names_after, names_after_all}
+use Rattle.markdown_edits.specs.Woven.{Tagged, Change, woven, placed_in}
+use Rattle.markdown_edits.proofs.Edits.Passes.{AreApart, olds, pass, woven-pass}
+use Rattle.markdown_edits.proofs.Balanced.{names_after_all-append, names_after_balanced, balanced_from_open, IsBalanced-pair, names-none}
+use Rattle.markdown_edits.proofs.Edits.Survivors.{stays_unless_removed, keeps_links}
+use Rattle.markdown_children.specs.Chains.{chain_of, fits, fitting_starts}
+use Rattle.markdown_children.specs.Ready.{IsReady, place_at}
+use Rattle.markdown_children.specs.Laws.{LeadOnFrom, IsWholeFrom, AreSpaced, ChildrenFit}
+use Rattle.markdown_children.specs.Parts.{front_until, parts, divided_over}
+use Rattle.markdown_children.specs.Children.{tagged_child, part_changes, chain_changes, child_changes, with_children}
+use Rattle.markdown_children.proofs.ChainOrder.Following.{chunk, starts_fit, follow_one_another}
+use Rattle.markdown_children.proofs.ChainOrder.Spaced.{length-parts, length-map_ends, changes_are_apart}
+
+-- ---- the parts together are the child
+
+abbrev pub joined : List (List Event) → List Event
+joined [] = []
+joined (p ∷ ps) = p ++ joined ps
+
+take-drop_taken : (k : ℕ) (es : List Event) → take k es ++ drop (length (take k es)) es ≡ es
+take-drop_taken zero es = refl
+take-drop_taken (suc k) [] = refl
+take-drop_taken (suc k) (e ∷ es) = ap (λ t. e ∷ t) (take-drop_taken k es)
+
+front-rest : (end : Point) (es : List Event) → front_until end es ++ drop (length (front_until end es)) es ≡ es
+front-rest end es = take-drop_taken _ es
+
+pub joined-parts : (end : Point) (ends : List Point) (es : List Event) → joined (parts (end ∷ ends) es) ≡ es
+joined-parts end [] es = append-nil es
+joined-parts end (next ∷ ends) es = ap (λ t. front_until end es ++ t) (joined-parts next ends (drop (length (front_until end es)) es)) ∙ front-rest end es
+
+-- ---- events without their identities
+
+abbrev untagged : List Tagged → List Event
+untagged ts = map (λ (t : Tagged). t.event) ts
+
+untagged-olds : (i : ℕ) (xs : List Event) → untagged (olds i xs) ≡ xs
+untagged-olds i [] = refl
+untagged-olds i (x ∷ xs) = ap (λ ys. x ∷ ys) (untagged-olds (i + 1) xs)
+
+untagged-child : (c j : ℕ) (es : List Event) → untagged (tagged_child c j es) ≡ es
+untagged-child c j [] = refl
+untagged-child c j (e ∷ es) = ap (λ ys. e ∷ ys) (untagged-child c (j + 1) es)
+
+-- link ends do not matter
+names-placed : (o : Option (List Name)) (ts us : List Tagged) → names_after_all o (placed_in ts us) ≡ names_after_all o (untagged us)
+names-placed None ts us = refl
+names-placed (Some st) ts [] = refl
+names-placed (Some st) ts (u ∷ us) = names-placed (names_after u.event.kind u.event.name st) ts us
+
+names-leave : {xs : List Event} → IsBalanced xs → (o : Option (List Name)) → names_after_all o xs ≡ o
+names-leave b None = refl
+names-leave b (Some st) = names_after_balanced b st
+
+names-three : (o : Option (List Name)) (xs ys zs : List Event) → names_after_all o (xs ++ (ys ++ zs)) ≡ names_after_all (names_after_all (names_after_all o xs) ys) zs
+names-three o xs ys zs = names_after_all-append o xs (ys ++ zs) ∙ names_after_all-append (names_after_all o xs) ys zs
+
+-- the list from i on is what stands up to k, and from k on
+split-at : (events : List Event) (i k : ℕ) → i ≤ k → drop i events ≡ between i k events ++ drop k events
+split-at events i k l =
+    let z : i + (k - i) ≡ k = omega arith in
+    sym (take-append-drop (k - i) (drop i events)) ∙ ap (λ ys. between i k events ++ ys) (drop-drop (k - i) i events ∙ ap (λ m. drop m events) z)
+
+module _ (tab : ℕ) (bytes : List ℕ) (wanted : Option Content) (events : List Event) (ready : IsReady tab bytes wanted events) where
+  abbrev n : ℕ
+  n = length events
+
+  abbrev Fits : ℕ → Type 0
+  Fits k = fits wanted events k ≡ true
+
+  -- the events from i on, after changes
+  abbrev after_changes : List Change → ℕ → List Event
+  after_changes ws i = untagged (pass ws i (drop i events))
+
+  after-step : (w : Change) (ws : List Change) (i : ℕ) → i ≤ w.index → after_changes (w ∷ ws) i ≡ between i w.index events ++ (untagged w.events ++ after_changes ws (w.index + w.remove))
+  after-step w ws i l =
+      let z : i + (w.index + w.remove - i) ≡ w.index + w.remove = omega arith in
+      let rest : drop (w.index + w.remove - i) (drop i events) ≡ drop (w.index + w.remove) events = drop-drop (w.index + w.remove - i) i events ∙ ap (λ m. drop m events) z in
+      map-append (λ (t : Tagged). t.event) (olds i (between i w.index events)) (w.events ++ pass ws (w.index + w.remove) (drop (w.index + w.remove - i) (drop i events)))
+      ∙ ap (λ ys. ys ++ untagged (w.events ++ pass ws (w.index + w.remove) (drop (w.index + w.remove - i) (drop i events)))) (untagged-olds i (between i w.index events))
+      ∙ ap (λ ys. between i w.index events ++ ys) (map-append (λ (t : Tagged). t.event) w.events (pass ws (w.index + w.remove) (drop (w.index + w.remove - i) (drop i events)))
+      ∙ ap (λ xs. untagged w.events ++ untagged (pass ws (w.index + w.remove) xs)) rest)
+
+  -- a chunk leaves each stack
+  names-chunk : (k : ℕ) → Fits k → (o : Option (List Name)) → names_after_all o (drop k events) ≡ names_after_all o (drop (k + 2) events)
+  names-chunk k h o =
+      let c = chunk tab bytes wanted events ready k h in
+      let one : suc k ≡ k + 1 = omega arith in
+      let two : suc (suc k) ≡ k + 2 = omega arith in
+      let is : drop k events ≡ (c.enter ∷ c.exit ∷ []) ++ drop (k + 2) events =
+      drop-at events k c.enter c.enter_at
+      ∙ ap (λ ys. c.enter ∷ ys) (drop-at events (suc k) c.exit (ap (slice_get events) one ∙ c.exit_at) ∙ ap (λ m. c.exit ∷ drop m events) two) in
+      ap (names_after_all o) is ∙ names_after_all-append o (c.enter ∷ c.exit ∷ []) (drop (k + 2) events)
+      ∙ ap (λ p. names_after_all p (drop (k + 2) events)) (names-leave (IsBalanced-pair c.enter c.exit c.linked.enter c.ended.exits c.ended.same) o)
+
+  -- what comes behind the chains at hand is kept
+  abbrev IsKeptBehind : List ℕ → List Change → Type 0
+  IsKeptBehind more ws = (m : ℕ) → AreSpaced m more n → (o : Option (List Name)) → names_after_all o (after_changes ws m) ≡ names_after_all o (drop m events)
+
+  -- behind the chunk at k its chain's other parts act as if they stood together
+  through : (c j k : ℕ) (ks more : List ℕ) (ps : List (List Event)) (ws : List Change) → Fits k → LeadOnFrom events k ks → length ks ≡ length ps → AreSpaced (k + 2) (ks ++ more) n → IsKeptBehind more ws
+      → (o : Option (List Name)) → names_after_all o (after_changes (part_changes c j ks ps ++ ws) (k + 2)) ≡ names_after_all (names_after_all o (joined ps)) (drop (k + 2) events)
+  through c j k [] more [] ws h lead e sp kept o = kept (k + 2) sp o ∙ ap (λ p. names_after_all p (drop (k + 2) events)) (sym (names-none o))
+  through c j k [] more (p ∷ ps) ws h lead e sp kept o = absurd (omega arith)
+  through c j k (d ∷ ks) more [] ws h lead e sp kept o = absurd (omega arith)
+  through c j k (d ∷ ks) more (p ∷ ps) ws h lead e sp kept o =
+      let w : Change = record { index = d; remove = 2; events = tagged_child c j p } in
+      let rest : List Change = part_changes c (j + length p) ks ps ++ ws in
+      let gap = names-leave (ready.gaps k d h lead.0).balanced in
+      let fit = Rattle.markdown_children.proofs.ChainOrder.Following.fits_next tab bytes wanted events ready k d h lead.0 in
+      let old : (q : Option (List Name)) → names_after_all q (drop (k + 2) events) ≡ names_after_all q (drop (d + 2) events) =
+      λ q. ap (names_after_all q) (split-at events (k + 2) d sp.0) ∙ names_after_all-append q (between (k + 2) d events) (drop d events) ∙ ap (λ r. names_after_all r (drop d events)) (gap q) ∙ names-chunk d fit q in
+      ap (names_after_all o) (after-step w rest (k + 2) sp.0)
+      ∙ names-three o (between (k + 2) d events) (untagged w.events) (after_changes rest (d + 2))
+      ∙ ap (λ q. names_after_all (names_after_all q (untagged w.events)) (after_changes rest (d + 2))) (gap o)
+      ∙ ap (λ ys. names_after_all (names_after_all o ys) (after_changes rest (d + 2))) (untagged-child c j p)
+      ∙ through c (j + length p) d ks more ps ws fit lead.2 (omega arith) sp.1 kept (names_after_all o p)
+      ∙ ap (λ q. names_after_all q (drop (d + 2) events)) (sym (names_after_all-append o p (joined ps)))
+      ∙ sym (old (names_after_all o (p ++ joined ps)))
+
+  -- a chain whose parts together are balanced
+  one_chain : (c i : ℕ) (ks more : List ℕ) (ps : List (List Event)) (ws : List Change) → Fits c → LeadOnFrom events c ks → suc (length ks) ≡ length ps → IsBalanced (joined ps) → AreSpaced i (c ∷ (ks ++ more)) n → IsKeptBehind more ws
+      → (o : Option (List Name)) → names_after_all o (after_changes (part_changes c 0 (c ∷ ks) ps ++ ws) i) ≡ names_after_all o (drop i events)
+  one_chain c i ks more [] ws h lead e b sp kept o = absurd (omega arith)
+  one_chain c i ks more (p ∷ ps) ws h lead e b sp kept o =
+      let w : Change = record { index = c; remove = 2; events = tagged_child c 0 p } in
+      let rest : List Change = part_changes c (0 + length p) ks ps ++ ws in
+      let q : Option (List Name) = names_after_all o (between i c events) in
+      ap (names_after_all o) (after-step w rest i sp.0)
+      ∙ names-three o (between i c events) (untagged w.events) (after_changes rest (c + 2))
+      ∙ ap (λ ys. names_after_all (names_after_all q ys) (after_changes rest (c + 2))) (untagged-child c 0 p)
+      ∙ through c (0 + length p) c ks more ps ws h lead (omega arith) sp.1 kept (names_after_all q p)
+      ∙ ap (λ r. names_after_all r (drop (c + 2) events)) (sym (names_after_all-append q p (joined ps)) ∙ names-leave b q)
+      ∙ sym (names-chunk c h q)
+      ∙ sym (names_after_all-append o (between i c events) (drop c events))
+      ∙ ap (names_after_all o) (sym (split-at events i c sp.0))
+
+  all_chains : (cs : List ℕ) (children : List (List Event)) (i : ℕ) → AllByRecursion Fits cs → AllByRecursion (IsWholeFrom events) cs → AllByRecursion IsBalanced children → AreSpaced i (flat_map (chain_of events) cs) n
+      → (o : Option (List Name)) → names_after_all o (after_changes (flat_map chain_changes (divided_over events cs children)) i) ≡ names_after_all o (drop i events)
+  all_chains [] children i fs wh bs sp o = ap (names_after_all o) (untagged-olds i (drop i events))
+  all_chains (c ∷ cs) [] i fs wh bs sp o = ap (names_after_all o) (untagged-olds i (drop i events))
+  all_chains (c ∷ cs) (child ∷ children) i fs wh bs sp o =
+      let ks = wh.0.0 in
+      let is : chain_of events c ≡ c ∷ ks = wh.0.1 in
+      let ends : List Point = map (λ k. place_at events (k + 1)) ks in
+      let ps : List (List Event) = parts (place_at events (c + 1) ∷ ends) child in
+      let ws : List Change = flat_map chain_changes (divided_over events cs children) in
+      let many : suc (length ks) ≡ length ps = sym (length-parts (place_at events (c + 1) ∷ ends) child ∙ ap suc (length-map_ends events ks)) in
+      let b : IsBalanced (joined ps) = subst IsBalanced (sym (joined-parts (place_at events (c + 1)) ends child)) bs.0 in
+      let changes : List ℕ → List Change = λ ys. chain_changes (record { chunks = ys; parts = parts (map (λ k. place_at events (k + 1)) ys) child }) in
+      ap (λ ys. names_after_all o (after_changes (changes ys ++ ws) i)) is
+      ∙ one_chain c i ks (flat_map (chain_of events) cs) ps ws fs.0 wh.0.2 many b (subst (λ (ys : List ℕ). AreSpaced i (ys ++ flat_map (chain_of events) cs) n) is sp)
+      (λ m r q. all_chains cs children m fs.1 wh.1 bs.1 r q) o
+
+  pub with_children_balanced : (children : List (List Event)) → AllByRecursion IsBalanced children → IsBalanced (with_children wanted events children)
+  with_children_balanced children bs =
+      let f = follow_one_another tab bytes wanted events ready in
+      let ws : List Change = child_changes wanted events children in
+      let z : n ≡ 0 + n = omega arith in
+      let apart : AreApart 0 ws (0 + n) = subst (AreApart 0 ws) z (changes_are_apart tab bytes wanted events children ready).apart in
+      let spaced : AreSpaced 0 (flat_map (chain_of events) (fitting_starts wanted events)) n = subst (λ (ks : List ℕ). AreSpaced 0 ks n) (sym f.in_order) f.spaced in
+      balanced_from_open (with_children wanted events children)
+      (names-placed (Some []) (woven ws 0 events) (woven ws 0 events)
+      ∙ ap (λ ts. names_after_all (Some []) (untagged ts)) (woven-pass ws 0 events apart)
+      ∙ all_chains (fitting_starts wanted events) children 0 (starts_fit tab bytes wanted events ready (range_with_len 0 n)) f.whole bs spaced (Some [])
+      ∙ names_after_balanced ready.balanced [])
+
+  pub children_fit : (children : List (List Event)) → ChildrenFit wanted events children
+  children_fit children =
+      let a = changes_are_apart tab bytes wanted events children ready in
+      record {
+        balanced = with_children_balanced children;
+        stays = stays_unless_removed (child_changes wanted events children) events a.fresh;
+        links = keeps_links (child_changes wanted events children) events a.fresh;
+      }

@@ -1,0 +1,179 @@
+-- The tests together decide whether a list is ready.
+use Rattle.std.proofs.Common.{◌≡◌, ◌≢◌, ℕ, ◌+◌, ◌-◌, ◌<◌, ◌⊎◌, ⊎_elim, Bool, true, false, cond, List, length, Option, Some, None, refl, sym, ◌∙◌, ap, subst, arith, Result}
+use Rattle.std.specs.Prelude.{◌&&◌, not, nat_lt, slice_get, unwrap_or, ◌↔◌, IfOk}
+use Rattle.std.specs.declared.result.Result.TheVariants as result
+use Rattle.std.proofs.lemmas.Bool.{lt-ltb, not-true, not_from_false, cases_eq, and_parts}
+use denote.Enum.Bare.{sameb}
+use Rattle.markdown_base.specs.contracts.event.Content.{the_type as contents}
+use Rattle.markdown_base.specs.declared.event.Content.{Content}
+use Rattle.markdown_base.specs.declared.event.Content.TheVariants.{Flow}
+use Rattle.markdown_base.specs.declared.event.Event.{Event}
+use Rattle.markdown_base.specs.declared.event.Link.{Link}
+use Rattle.markdown_base.specs.declared.event.Point.{Point}
+use Rattle.markdown_base.specs.Places.{stands_before}
+use Rattle.markdown_edits.specs.Links.{next_of, previous_of}
+use Rattle.markdown_children.proofs.ChainOrder.Following.{apart, fits_next}
+use Rattle.markdown_children.specs.Chains.{content_at, lets_through, some_fits, fits}
+use Rattle.markdown_children.specs.Ready.{place_at, IsShownPlace, IsReady}
+use Rattle.markdown_children.specs.ReadyTests.{closes, link_at, is_number, is_chunk, leads_back_to, is_joined_on, leads_on_to, is_joined_back, is_sound, is_sound_at, is_gap_on, is_readable, can_be_read, can_be_read_at, AllBelow, FailsSomewhere}
+use Rattle.markdown_children.specs.ByteStarts.{byte_starts, is_of_some_byte}
+use Rattle.markdown_children.specs.declared.byte_starts.ByteStart.{ByteStart}
+use Rattle.markdown_children.proofs.Ready.Reached.{place-sound, place-complete}
+use Rattle.markdown_children.proofs.Ready.Tests.{and-both, balanced-closes, closes-balanced, content-is, is-content, is-number, content-at, next-at, previous-at, with-content, with-next, with-previous, inside-link, span-void, sound-chunk, sound-joined, sound-forward, sound-content, gap-of, of-gap}
+
+-- ---- a test that is made only if another holds
+
+then-of : (a b : Bool) → cond a b true ≡ true → a ≡ true → b ≡ true
+then-of true b e f = e
+then-of false b e f = absurd (cc)
+
+then-to : (a b : Bool) → (a ≡ true → b ≡ true) → cond a b true ≡ true
+then-to true b h = h refl
+then-to false b h = refl
+
+module _ (t : ℕ) (bytes : List ℕ) (wanted : Option Content) (events : List Event) (place : Point → Bool) where
+  fits-link : (k : ℕ) (l : Link) → link_at events k ≡ Some l → fits wanted events k ≡ lets_through wanted l.content
+  fits-link k l e = ap (some_fits wanted) (content-at events k l e)
+
+  fit-content : (o : Option Content) → some_fits wanted o ≡ true → (c : Content) × (o ≡ Some c)
+  fit-content None e = absurd (cc)
+  fit-content (Some c) e = (c, refl)
+
+  with-fit : (k : ℕ) → fits wanted events k ≡ true → (l : Link) × (link_at events k ≡ Some l) × (lets_through wanted l.content ≡ true)
+  with-fit k h =
+      let c = fit-content (content_at events k) h in
+      let l = with-content events k c.0 c.1 in
+      (l.0, l.1, sym (fits-link k l.0 l.1) ∙ h)
+
+  not-flow : (c : Content) → sameb contents c Flow ≡ false → Some c ≢ Some Flow
+  not-flow c e f = let g : c ≡ Flow = ap (λ o. unwrap_or o c) f in let h = is-content c Flow g in cc
+
+  flow-not : (c : Content) → Some c ≢ Some Flow → sameb contents c Flow ≡ false
+  flow-not c h = go (sameb contents c Flow) refl
+    where
+      go : (b : Bool) → sameb contents c Flow ≡ b → sameb contents c Flow ≡ false
+      go true e = absurd (h (ap (λ x. Some x) (content-is c Flow e)))
+      go false e = e
+
+  module _ (sound-place : (p : Point) → place p ≡ true → IsShownPlace t bytes p) where
+    ready-of : closes events ≡ true → AllBelow (length events) (is_sound_at events) → AllBelow (length events) (can_be_read_at place wanted events) → IsReady t bytes wanted events
+    ready-of closed sound read = record {
+      balanced = balanced-closes events closed;
+      chunks = λ k c e. let l = with-content events k c e in sound-chunk events sound k l.0 l.1;
+      joined = sound-joined events sound;
+      forward = sound-forward events sound;
+      one_content = sound-content events sound;
+      readable = λ k h.
+          let l = with-fit k h in
+          let two = asked k l.0 l.1 l.2 in
+          let x = and_parts (not (sameb contents l.0.content Flow) && not (stands_before (place_at events (k + 1)) (place_at events k))) (place (place_at events k) && place (place_at events (k + 1))) two.0 in
+          let a = and_parts (not (sameb contents l.0.content Flow)) (not (stands_before (place_at events (k + 1)) (place_at events k))) x.0 in
+          let b = and_parts (place (place_at events k)) (place (place_at events (k + 1))) x.1 in
+          record {
+            content = λ f. not-flow l.0.content (not-true (sameb contents l.0.content Flow) a.0) (sym (content-at events k l.0 l.1) ∙ f);
+            from = sound-place (place_at events k) b.0;
+            to = sound-place (place_at events (k + 1)) b.1;
+            forward = not-true (stands_before (place_at events (k + 1)) (place_at events k)) a.1;
+          };
+      gaps = λ k d h e.
+          let l = with-fit k h in
+          let two = asked k l.0 l.1 l.2 in
+          let next : l.0.next ≡ Some d = sym (next-at events k l.0 l.1) ∙ e in
+          gap-of events k d (ap (is_gap_on events k) (sym next) ∙ two.1);
+    }
+      where
+        asked : (k : ℕ) (l : Link) → link_at events k ≡ Some l → lets_through wanted l.content ≡ true → (is_readable place events k l.content ≡ true) × (is_gap_on events k l.next ≡ true)
+        asked k l e f =
+            let h : can_be_read place wanted events k (Some l) ≡ true = ap (can_be_read place wanted events k) (sym e) ∙ read k (inside-link events k l e) in
+            and_parts (is_readable place events k l.content) (is_gap_on events k l.next) (then-of (lets_through wanted l.content) (is_readable place events k l.content && is_gap_on events k l.next) h f)
+
+  module _ (complete-place : (p : Point) → IsShownPlace t bytes p → place p ≡ true) (ready : IsReady t bytes wanted events) where
+    of-ready-sound : (k : ℕ) → is_sound_at events k ≡ true
+    of-ready-sound k = go (link_at events k) refl
+      where
+        on-at : (l : Link) → link_at events k ≡ Some l → (o : Option ℕ) → l.next ≡ o → is_joined_on events k l.content o ≡ true
+        on-at l e None f = refl
+        on-at l e (Some d) f =
+            let n : next_of events k ≡ Some d = next-at events k l e ∙ f in
+            let m = with-previous events d k ((ready.joined k d).0 n) in
+            let c : Some m.0.content ≡ Some l.content = sym (content-at events d m.0 m.1) ∙ sym (ready.one_content k d n) ∙ content-at events k l e in
+            and-both (nat_lt k d) (leads_back_to k l.content (link_at events d)) (lt-ltb k d (ready.forward k d n))
+            (ap (leads_back_to k l.content) m.1
+            ∙ and-both (is_number m.0.previous k) (sameb contents m.0.content l.content) (is-number m.0.previous k m.2) (is-content m.0.content l.content (ap (λ o. unwrap_or o m.0.content) c)))
+
+        back-at : (l : Link) → link_at events k ≡ Some l → (o : Option ℕ) → l.previous ≡ o → is_joined_back events k o ≡ true
+        back-at l e None f = refl
+        back-at l e (Some p) f =
+            let n : previous_of events k ≡ Some p = previous-at events k l e ∙ f in
+            let m = with-next events p k ((ready.joined p k).1 n) in
+            ap (leads_on_to k) m.1 ∙ is-number m.0.next k m.2
+
+        go : (o : Option Link) → link_at events k ≡ o → is_sound events k (link_at events k) ≡ true
+        go None e = ap (is_sound events k) e
+        go (Some l) e =
+            let c = ready.chunks k l.content (content-at events k l e) in
+            ap (is_sound events k) e
+            ∙ and-both (is_chunk events k) (is_joined_on events k l.content l.next && is_joined_back events k l.previous)
+            (span-void (slice_get events k) (slice_get events (k + 1)) (record { enter = c.enter; exit = c.exit; enter_at = c.enter_at; exit_at = c.exit_at; enters = c.linked.enter; void = c.linked.void; exits = c.ended.exits; same = c.ended.same }))
+            (and-both (is_joined_on events k l.content l.next) (is_joined_back events k l.previous) (on-at l e l.next refl) (back-at l e l.previous refl))
+
+    of-ready-read : (k : ℕ) → can_be_read_at place wanted events k ≡ true
+    of-ready-read k = go (link_at events k) refl
+      where
+        gap-on : (l : Link) → link_at events k ≡ Some l → fits wanted events k ≡ true → (o : Option ℕ) → l.next ≡ o → is_gap_on events k o ≡ true
+        gap-on l e h None f = refl
+        gap-on l e h (Some d) f =
+            let n : next_of events k ≡ Some d = next-at events k l e ∙ f in
+            let lt : k < d = ready.forward k d n in
+            of-gap events k d (⊎_elim
+            (λ (s : d ≡ k + 1). absurd (apart t bytes wanted events ready k h (ap (fits wanted events) (sym s) ∙ fits_next t bytes wanted events ready k d h n)))
+            (λ (s : d ≡ k + 1 → ⊥). omega arith)
+            (cases_eq d (k + 1))) (ready.gaps k d h n)
+
+        go : (o : Option Link) → link_at events k ≡ o → can_be_read place wanted events k (link_at events k) ≡ true
+        go None e = ap (can_be_read place wanted events k) e
+        go (Some l) e =
+            ap (can_be_read place wanted events k) e
+            ∙ then-to (lets_through wanted l.content) (is_readable place events k l.content && is_gap_on events k l.next) (λ h.
+            let f : fits wanted events k ≡ true = fits-link k l e ∙ h in
+            let r = ready.readable k f in
+            and-both (is_readable place events k l.content) (is_gap_on events k l.next)
+            (and-both (not (sameb contents l.content Flow) && not (stands_before (place_at events (k + 1)) (place_at events k))) (place (place_at events k) && place (place_at events (k + 1)))
+            (and-both (not (sameb contents l.content Flow)) (not (stands_before (place_at events (k + 1)) (place_at events k)))
+            (not_from_false (sameb contents l.content Flow) (flow-not l.content (λ g. r.content (content-at events k l e ∙ g)))) (not_from_false (stands_before (place_at events (k + 1)) (place_at events k)) r.forward))
+            (and-both (place (place_at events k)) (place (place_at events (k + 1))) (complete-place (place_at events k) r.from) (complete-place (place_at events (k + 1)) r.to)))
+            (gap-on l e f l.next refl))
+
+never-ready : (test : ℕ → Bool) (n : ℕ) → FailsSomewhere n test → ((k : ℕ) → test k ≡ true) → ⊥
+never-ready test n f h = let e = sym f.2 ∙ h f.0 in cc
+
+module _ (t : ℕ) (some : 0 < t) (bytes : List ℕ) (wanted : Option Content) (events : List Event) where
+  pub not-ready-closes : (b : Bool) → b ≡ closes events → b ≡ false → (false ≡ true) ↔ IsReady t bytes wanted events
+  not-ready-closes b e f = ((λ g. absurd (cc)), (λ r. sym (sym e ∙ f) ∙ closes-balanced events r.balanced))
+
+  pub not-ready-sound : FailsSomewhere (length events) (is_sound_at events) → (false ≡ true) ↔ IsReady t bytes wanted events
+  not-ready-sound f = ((λ g. absurd (cc)), (λ r. absurd (never-ready (is_sound_at events) (length events) f (of-ready-sound t bytes wanted events (λ p. true) (λ p h. refl) r))))
+
+  module _ (filter : Option Content) (rs : List ByteStart) (same : filter ≡ wanted) (table : rs ≡ byte_starts t bytes) where
+    abbrev place : Point → Bool
+    place p = is_of_some_byte p (slice_get rs p.index)
+
+    place-is : (p : Point) → place p ≡ is_of_some_byte p (slice_get (byte_starts t bytes) p.index)
+    place-is p = ap (λ xs. is_of_some_byte p (slice_get xs p.index)) table
+
+    ready-is : closes events ≡ true → AllBelow (length events) (is_sound_at events) → (b : Bool) → (b ≡ true → AllBelow (length events) (can_be_read_at place filter events)) → (b ≡ false → FailsSomewhere (length events) (can_be_read_at place filter events))
+        → (b ≡ true) ↔ IsReady t bytes wanted events
+    ready-is closed sound true all fails = (
+      (λ e. subst (λ w. IsReady t bytes w events) same (ready-of t bytes filter events place (λ p h. place-sound t some bytes p (sym (place-is p) ∙ h)) closed sound (all e))),
+      (λ r. refl),
+    )
+    ready-is closed sound false all fails = (
+      (λ e. absurd (cc)),
+      (λ r. absurd (never-ready (can_be_read_at place filter events) (length events) (fails refl)
+          (of-ready-read t bytes filter events place (λ p h. place-is p ∙ place-complete t some bytes p h) (subst (λ w. IsReady t bytes w events) (sym same) r)))),
+    )
+
+    pub ready-if : {E : Type 0} (r : Result Bool E) → closes events ≡ true → AllBelow (length events) (is_sound_at events) → IfOk r (λ b. b ≡ true → AllBelow (length events) (can_be_read_at place filter events))
+        → IfOk r (λ b. b ≡ false → FailsSomewhere (length events) (can_be_read_at place filter events)) → IfOk r (λ b. (b ≡ true) ↔ IsReady t bytes wanted events)
+    ready-if (result.Ok b) closed sound all fails = ready-is closed sound b all fails
+    ready-if (result.Err e) closed sound all fails = tt

@@ -1,0 +1,243 @@
+-- Where each byte of a document begins, and its places.
+use Rattle.std.proofs.Common.{◌≡◌, ◌≢◌, ℕ, zero, suc, ◌+◌, ◌-◌, ◌<◌, ◌≤◌, ◌⊎◌, inl, inr, Bool, true, false, cond, List, [], ◌∷◌, ◌++◌, length, drop, get_or, Option, Some, None, refl, sym, ◌∙◌, ap, subst, arith, eqb-true, ne_eqb, append_assoc, leb, unwrap_or}
+use Rattle.std.specs.Prelude.{◌==◌, ◌&&◌, nat_le, nat_lt, slice_index, slice_get}
+use Rattle.std.proofs.lemmas.Bool.{leb-true, leb-false, ltb-true, le-leb, lt-ltb, eq-eqb, and_parts}
+use Rattle.std.proofs.lemmas.List.{get_or_past}
+use Rattle.std.proofs.lemmas.List.FromFn.{get_or-map-range_with_len, length-map-range_with_len, map-range_with_len_more}
+use Rattle.std.proofs.lemmas.Option.{slice_get-get_or, slice_get_past}
+use Rattle.markdown_base.specs.declared.event.Point.{Point}
+use Rattle.markdown_base.specs.Virtual.{Seat, point, tab_width, in_tab, begins_with_lf, virtual, virtual_from}
+use Rattle.markdown_base.specs.Places.{shown, follows_cr, IsPointOf, IsShown, point_at}
+use Rattle.markdown_base.proofs.Scans.{IsReached, IsSeatPlace, IsReturnPlace, tab_width-least, reached_start, reached-line_feed, reached-return, reached-crlf, reached-tab, reached-plain, place-of, byte_here}
+use Rattle.markdown_base.proofs.PointAt.{point-of_reached}
+use Rattle.markdown_base.specs.Lines.{is_lf, ends_line}
+use Rattle.markdown_base.proofs.Common.{and-false-never}
+use Rattle.markdown_tokenizer.proofs.Positions.Points.{point_at-point, point_at-is}
+use Rattle.markdown_tokenizer.proofs.Positions.Standing.{IsAmong}
+use Rattle.markdown_tokenizer.proofs.Positions.SeatLaws.{seat-is-point}
+use Rattle.markdown_children.specs.Ready.{IsShownPlace}
+use Rattle.markdown_children.specs.ByteStarts.{width_at, line_after, column_after, line_at, column_at, byte_start_at, byte_starts_upto, byte_starts, is_of_byte, is_of_some_byte}
+use Rattle.markdown_children.specs.declared.byte_starts.ByteStart.{ByteStart}
+
+-- ---- where each byte begins
+
+lf-next : (bytes : List ℕ) (i : ℕ) → begins_with_lf (drop i bytes) ≡ is_lf bytes i
+lf-next [] zero = refl
+lf-next [] (suc i) = refl
+lf-next (b ∷ bytes) zero = refl
+lf-next (b ∷ bytes) (suc i) = lf-next bytes i
+
+module _ (t : ℕ) (some : 0 < t) (bytes : List ℕ) where
+  -- one byte on, by what it is: an LF, a CR, an LF behind it, a tab
+  reached-on : (line column i : ℕ) (w x y z : Bool) → IsReached t bytes line column i → i < length bytes → is_lf bytes i ≡ w → (slice_index bytes i == 13) ≡ x → is_lf bytes (suc i) ≡ y → (slice_index bytes i == 9) ≡ z
+      → IsReached t bytes (line_after bytes line i) (column_after t bytes column i) (suc i)
+  reached-on line column i true true y z r within a b c d = let e = eqb-true (get_or bytes i 0) 10 a in let f = eqb-true (get_or bytes i 0) 13 b in absurd (omega arith)
+  reached-on line column i true false y z r within a b c d = rw (b, a) (reached-line_feed t bytes line column i r within a)
+  reached-on line column i false true true z r within a b c d = rw (b, c) (reached-crlf t bytes line column i r within a b (lf-next bytes (suc i) ∙ c))
+  reached-on line column i false true false z r within a b c d = rw (b, c) (reached-return t bytes line column i r within a b (lf-next bytes (suc i) ∙ c))
+  reached-on line column i false false y true r within a b c d = rw (b, a, d) (reached-tab t bytes line column i r within some a b d)
+  reached-on line column i false false y false r within a b c d = rw (b, a, d) (reached-plain t bytes line column i r within some a b d)
+
+  pub reached-at : (k : ℕ) → k ≤ length bytes → IsReached t bytes (line_at bytes k) (column_at t bytes k) k
+  reached-at zero h = reached_start t bytes
+  reached-at (suc k) h =
+      reached-on (line_at bytes k) (column_at t bytes k) k (is_lf bytes k) (slice_index bytes k == 13) (is_lf bytes (suc k)) (slice_index bytes k == 9)
+      (reached-at k (omega arith)) (omega arith) refl refl refl refl
+
+line-more : (b : Bool) (l k : ℕ) → l ≤ k → cond b (suc l) l ≤ suc k
+line-more true l k h = omega arith
+line-more false l k h = omega arith
+
+pub line_at-le : (bytes : List ℕ) (k : ℕ) → line_at bytes k ≤ k + 1
+line_at-le bytes zero = omega arith
+line_at-le bytes (suc k) = let h = line-more (ends_line bytes k) (line_at bytes k) (k + 1) (line_at-le bytes k) in omega (arith, h)
+
+-- ---- where the byte at an index begins
+
+pub byte_start-there : (t : ℕ) (bytes : List ℕ) (i : ℕ) → i ≤ length bytes → slice_get (byte_starts t bytes) i ≡ Some (byte_start_at t bytes i)
+byte_start-there t bytes i h =
+    let n = length-map-range_with_len (byte_start_at t bytes) 0 (length bytes + 1) in
+    let within : i < length (byte_starts t bytes) = omega (arith, n) in
+    let is : 0 + i ≡ i = omega arith in
+    slice_get-get_or (byte_starts t bytes) i (byte_start_at t bytes i) within ∙ ap (λ r. Some r) (get_or-map-range_with_len (byte_start_at t bytes) 0 (length bytes + 1) i i (byte_start_at t bytes i) (omega arith) is)
+
+pub byte_start-past : (t : ℕ) (bytes : List ℕ) (i : ℕ) → length bytes < i → slice_get (byte_starts t bytes) i ≡ None
+byte_start-past t bytes i h =
+    let n = length-map-range_with_len (byte_start_at t bytes) 0 (length bytes + 1) in
+    slice_get_past (byte_starts t bytes) i (omega (arith, n))
+
+-- ---- the places of a tab
+
+in_tab-among : (byte n line column index vs k : ℕ) → k < n → (s : Seat) × IsAmong s (in_tab byte n line column index vs) × (s.point ≡ point line (column + k) index (vs + k))
+in_tab-among byte zero line column index vs k h = absurd (omega arith)
+in_tab-among byte (suc n) line column index vs zero h =
+    let s : Seat = record { byte = byte; point = point line column index vs; end = Rattle.markdown_base.specs.Virtual.end_in_tab n line column index vs } in
+    let a : column ≡ column + 0 = omega arith in
+    let b : vs ≡ vs + 0 = omega arith in
+    (s, record { front = []; back = in_tab 32 n line (suc column) index (suc vs); splits = refl }, λ j. point line (a j) index (b j))
+in_tab-among byte (suc n) line column index vs (suc k) h =
+    let r = in_tab-among 32 n line (suc column) index (suc vs) k (omega arith) in
+    let a : suc column + k ≡ column + suc k = omega arith in
+    let b : suc vs + k ≡ vs + suc k = omega arith in
+    let s : Seat = record { byte = byte; point = point line column index vs; end = Rattle.markdown_base.specs.Virtual.end_in_tab n line column index vs } in
+    (r.0, record { front = s ∷ r.1.front; back = r.1.back; splits = ap (λ ss. s ∷ ss) r.1.splits }, r.2 ∙ (λ j. point line (a j) index (b j)))
+
+among-front : (s : Seat) (xs ys : List Seat) → IsAmong s xs → IsAmong s (xs ++ ys)
+among-front s xs ys a = record { front = a.front; back = a.back ++ ys; splits = ap (λ zs. zs ++ ys) a.splits ∙ append_assoc a.front (s ∷ a.back) ys }
+
+among-behind : (s : Seat) (xs ys : List Seat) → IsAmong s ys → IsAmong s (xs ++ ys)
+among-behind s xs ys a = record { front = xs ++ a.front; back = a.back; splits = ap (λ zs. xs ++ zs) a.splits ∙ sym (append_assoc xs a.front (s ∷ a.back)) }
+
+among-in : (s : Seat) (xs ys : List Seat) → xs ≡ ys → IsAmong s ys → IsAmong s xs
+among-in s xs ys e a = subst (IsAmong s) (sym e) a
+
+no-byte : (b n m : ℕ) → b ≡ n → n ≢ m → (b == m) ≡ false
+no-byte b n m e h = ne_eqb b m (λ f. h (sym e ∙ f))
+
+module _ (t : ℕ) (some : 0 < t) (bytes : List ℕ) where
+  tab-place : (line column i k : ℕ) → IsReached t bytes line column i → i < length bytes → get_or bytes i 0 ≡ 9 → k < tab_width t column → IsPointOf t bytes (point line (column + k) i k)
+  tab-place line column i k r within is h =
+      let w = tab_width t column in
+      let rest = virtual_from t line (column + w) (suc i) (drop (suc i) bytes) in
+      let z : 0 + k ≡ k = omega arith in
+      let among = in_tab-among 9 w line column i 0 k h in
+      let s = among.0 in
+      let here : virtual_from t line column i (drop i bytes) ≡ in_tab 9 w line column i 0 ++ rest =
+      rw (byte_here t bytes line column i r within, no-byte (get_or bytes i 0) 9 10 is (λ e. omega arith), no-byte (get_or bytes i 0) 9 13 is (λ e. omega arith), eq-eqb (get_or bytes i 0) 9 is) refl in
+      let a = among-in s (virtual t bytes) (r.front ++ virtual_from t line column i (drop i bytes)) r.whole
+      (among-behind s r.front (virtual_from t line column i (drop i bytes))
+      (among-in s (virtual_from t line column i (drop i bytes)) (in_tab 9 w line column i 0 ++ rest) here (among-front s (in_tab 9 w line column i 0) rest among.1))) in
+      subst (IsPointOf t bytes) (among.2 ∙ (λ j. point line (column + k) i (z j))) (seat-is-point t bytes s a)
+
+  begin-place : (line column i : ℕ) → IsReached t bytes line column i → IsPointOf t bytes (point line column i 0)
+  begin-place line column i r = (point_at-is t bytes (i, 0) (point line column i 0) (point-of_reached t some bytes line column i r)).is_point
+
+  shown-if : (p : Point) → (is_lf bytes p.index && follows_cr bytes p.index) ≡ false → IsShown bytes p
+  shown-if p e = rw e refl
+
+  not-lf : (p : Point) → get_or bytes p.index 0 ≡ 9 → (is_lf bytes p.index && follows_cr bytes p.index) ≡ false
+  not-lf p e = rw (no-byte (get_or bytes p.index 0) 9 10 e (λ f. omega arith)) refl
+
+  -- a point that is one of the places of a byte
+  of-byte : (p : Point) (line column : ℕ) (y z : Bool) → IsReached t bytes line column p.index → (slice_index bytes p.index == 9) ≡ y → (is_lf bytes p.index && follows_cr bytes p.index) ≡ z
+      → line ≡ p.line → column ≤ p.column → p.column - column ≡ p.vs → p.vs < width_at t bytes column p.index → IsShownPlace t bytes p
+  of-byte p line column true z r e f a b c d =
+      let is : get_or bytes p.index 0 ≡ 9 = eqb-true (get_or bytes p.index 0) 9 e in
+      let w : width_at t bytes column p.index ≡ tab_width t column = rw e refl in
+      let within : p.index < length bytes = inside-byte bytes p.index is in
+      let same : column + p.vs ≡ p.column = omega (arith, b, c) in
+      (subst (IsPointOf t bytes) (λ j. point (a j) (same j) p.index p.vs) (tab-place line column p.index p.vs r within is (omega (arith, d, w))), shown-if p (not-lf p is))
+    where
+      inside-byte : (bs : List ℕ) (i : ℕ) → get_or bs i 0 ≡ 9 → i < length bs
+      inside-byte [] i h = absurd (omega arith)
+      inside-byte (x ∷ bs) zero h = omega arith
+      inside-byte (x ∷ bs) (suc i) h = omega (arith, inside-byte bs i h)
+  of-byte p line column false true r e f a b c d =
+      let w : width_at t bytes column p.index ≡ 0 = rw (e, f) refl in
+      absurd (omega (arith, d, w))
+  of-byte p line column false false r e f a b c d =
+      let w : width_at t bytes column p.index ≡ 1 = rw (e, f) refl in
+      let v : 0 ≡ p.vs = omega (arith, d, w) in
+      let same : column ≡ p.column = omega (arith, b, c, v) in
+      (subst (IsPointOf t bytes) (λ j. point (a j) (same j) p.index (v j)) (begin-place line column p.index r), shown-if p f)
+
+  -- the test tells places that are shown
+  pub place-sound : (p : Point) → is_of_some_byte p (slice_get (byte_starts t bytes) p.index) ≡ true → IsShownPlace t bytes p
+  place-sound p e = go (leb p.index (length bytes)) refl
+    where
+      go : (b : Bool) → leb p.index (length bytes) ≡ b → IsShownPlace t bytes p
+      go true h =
+          let inside = leb-true p.index (length bytes) h in
+          let start = byte_start_at t bytes p.index in
+          let f : is_of_byte p start ≡ true = ap (is_of_some_byte p) (sym (byte_start-there t bytes p.index inside)) ∙ e in
+          let two = and_parts ((start.line == p.line) && nat_le start.column p.column) ((p.column - start.column == p.vs) && nat_lt p.vs start.width) f in
+          let a = and_parts (start.line == p.line) (nat_le start.column p.column) two.0 in
+          let c = and_parts (p.column - start.column == p.vs) (nat_lt p.vs start.width) two.1 in
+          of-byte p start.line start.column (slice_index bytes p.index == 9) (is_lf bytes p.index && follows_cr bytes p.index) (reached-at t some bytes p.index inside) refl refl
+          (eqb-true start.line p.line a.0) (leb-true start.column p.column a.1) (eqb-true (p.column - start.column) p.vs c.0) (ltb-true p.vs start.width c.1)
+      go false h = let past : length bytes < p.index = omega (arith, leb-false p.index (length bytes) h) in absurd (let f = ap (is_of_some_byte p) (sym (byte_start-past t bytes p.index past)) ∙ e in cc)
+
+  -- a place of a byte passes the test
+  is-of-byte : (p : Point) (start : ByteStart) → start.line ≡ p.line → start.column + p.vs ≡ p.column → p.vs < start.width → is_of_byte p start ≡ true
+  is-of-byte p start a b c =
+      let le : start.column ≤ p.column = omega (arith, b) in
+      let vs : p.column - start.column ≡ p.vs = omega (arith, b) in
+      rw (eq-eqb start.line p.line a, le-leb start.column p.column le, eq-eqb (p.column - start.column) p.vs vs, lt-ltb p.vs start.width c) refl
+
+  not-pair : (p : Point) → IsShown bytes p → (is_lf bytes p.index && follows_cr bytes p.index) ≡ false
+  not-pair p e = go p.index refl (is_lf bytes p.index && follows_cr bytes p.index) refl
+    where
+      go : (i : ℕ) → p.index ≡ i → (b : Bool) → (is_lf bytes p.index && follows_cr bytes p.index) ≡ b → (is_lf bytes p.index && follows_cr bytes p.index) ≡ false
+      go i is false h = h
+      go zero is true h = let f : (is_lf bytes 0 && false) ≡ true = ap (λ n. is_lf bytes n && follows_cr bytes n) (sym is) ∙ h in absurd (and-false-never (is_lf bytes 0) f)
+      go (suc i) is true h =
+          let cr : shown bytes p ≡ point p.line p.column (p.index - 1) p.vs = rw h refl in
+          let moved : p.index - 1 ≡ p.index = ap (λ (q : Point). q.index) (sym cr ∙ e) in
+          absurd (omega (arith, is, moved))
+
+  some-width : (column i : ℕ) (y : Bool) → (slice_index bytes i == 9) ≡ y → (is_lf bytes i && follows_cr bytes i) ≡ false → 0 < width_at t bytes column i
+  some-width column i true e f = rw e (tab_width-least t column some)
+  some-width column i false e f = rw (e, f) (omega arith)
+
+  one-begin : (line column line' column' i : ℕ) → IsReached t bytes line column i → IsReached t bytes line' column' i → (line ≡ line') × (column ≡ column')
+  one-begin line column line' column' i r s =
+      let e : Some (point line column i 0) ≡ Some (point line' column' i 0) = sym (point-of_reached t some bytes line column i r) ∙ point-of_reached t some bytes line' column' i s in
+      let f = ap (λ (o : Option Point). unwrap_or o (point 0 0 0 0)) e in
+      (ap (λ (q : Point). q.line) f, ap (λ (q : Point). q.column) f)
+
+  place-of-byte : (p : Point) → IsPointOf t bytes p → IsShown bytes p → (v : ℕ) → p.vs ≡ v → IsSeatPlace t bytes p ⊎ IsReturnPlace bytes p
+      → (p.index ≤ length bytes) × (is_of_byte p (byte_start_at t bytes p.index) ≡ true)
+  place-of-byte p is shown zero v o =
+      let inside = upto o in
+      let r = reached-at t some bytes p.index inside in
+      let start = byte_start_at t bytes p.index in
+      let e : Some p ≡ Some (point start.line start.column p.index 0) = sym (point_at-point t bytes some p is) ∙ (λ j. point_at t bytes (p.index, v j)) ∙ point-of_reached t some bytes start.line start.column p.index r in
+      let f = ap (λ (o : Option Point). unwrap_or o (point 0 0 0 0)) e in
+      let l : p.line ≡ start.line = ap (λ (q : Point). q.line) f in
+      let c : p.column ≡ start.column = ap (λ (q : Point). q.column) f in
+      (inside, is-of-byte p start (sym l) (omega (arith, c, v)) (omega (arith, v, some-width start.column p.index (slice_index bytes p.index == 9) refl (not-pair p shown))))
+    where
+      upto : IsSeatPlace t bytes p ⊎ IsReturnPlace bytes p → p.index ≤ length bytes
+      upto (inl s) = s.reached.inside
+      upto (inr s) = omega (arith, s.1)
+  place-of-byte p is shown (suc n) v (inl s) =
+      let tab = s.in_tab (omega (arith, v)) in
+      let inside : p.index ≤ length bytes = omega (arith, tab.0) in
+      let start = byte_start_at t bytes p.index in
+      let same = one-begin p.line s.column start.line start.column p.index s.reached (reached-at t some bytes p.index inside) in
+      let w : start.width ≡ tab_width t start.column = rw (eq-eqb (get_or bytes p.index 0) 9 tab.1) refl in
+      let wide : tab_width t s.column ≡ tab_width t start.column = ap (tab_width t) same.1 in
+      (inside, is-of-byte p start (sym same.0) (omega (arith, same.1, s.across)) (omega (arith, w, wide, tab.2)))
+  place-of-byte p is shown (suc n) v (inr s) = absurd (omega (arith, v, s.0))
+
+  pub place-complete : (p : Point) → IsShownPlace t bytes p → is_of_some_byte p (slice_get (byte_starts t bytes) p.index) ≡ true
+  place-complete p h =
+      let r = place-of-byte p h.0 h.1 p.vs refl (place-of t some bytes p h.0) in
+      ap (is_of_some_byte p) (byte_start-there t bytes p.index r.0) ∙ r.1
+
+-- ---- where the bytes begin, one after another
+
+pub starts-more : (t : ℕ) (bytes : List ℕ) (rs : List ByteStart) (line column width i : ℕ) → rs ≡ byte_starts_upto t bytes i → line ≡ line_at bytes i → column ≡ column_at t bytes i → width ≡ width_at t bytes column i
+    → rs ++ record { line = line; column = column; width = width } ∷ [] ≡ byte_starts_upto t bytes (i + 1)
+starts-more t bytes rs line column width i e l c w =
+    let v : width ≡ width_at t bytes (column_at t bytes i) i = w ∙ ap (λ n. width_at t bytes n i) c in
+    let s : 0 + i ≡ i = omega arith in
+    (λ j. e j ++ record { line = l j; column = c j; width = v j } ∷ []) ∙ sym (map-range_with_len_more (byte_start_at t bytes) 0 i i s)
+
+pub width-end : (t : ℕ) (bytes : List ℕ) (column : ℕ) → 1 ≡ width_at t bytes column (length bytes)
+width-end t bytes column = rw (get_or_past bytes (length bytes) 0 (omega arith)) refl
+
+-- line and column after a byte
+pub line-on : (bytes : List ℕ) (line i : ℕ) (b : Bool) → line ≡ line_at bytes i → ends_line bytes i ≡ b → cond b (line + 1) line ≡ line_at bytes (i + 1)
+line-on bytes line i b l e =
+    let s : suc i ≡ i + 1 = omega arith in
+    go b e ∙ ap (line_at bytes) s
+  where
+    go : (b : Bool) → ends_line bytes i ≡ b → cond b (line + 1) line ≡ line_at bytes (suc i)
+    go true e = let n : line + 1 ≡ suc (line_at bytes i) = omega (arith, l) in n ∙ ap (λ b. cond b (suc (line_at bytes i)) (line_at bytes i)) (sym e)
+    go false e = l ∙ ap (λ b. cond b (suc (line_at bytes i)) (line_at bytes i)) (sym e)
+
+pub column-on : (t : ℕ) (bytes : List ℕ) (column i : ℕ) → column ≡ column_at t bytes i → column_after t bytes column i ≡ column_at t bytes (i + 1)
+column-on t bytes column i c =
+    let s : suc i ≡ i + 1 = omega arith in
+    ap (λ n. column_after t bytes n i) c ∙ ap (column_at t bytes) s

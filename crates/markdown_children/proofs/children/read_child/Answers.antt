@@ -1,0 +1,19 @@
+use Rattle.std.proofs.Common.{sym, ap, subst, ◌∙◌}
+use Rattle.markdown_base.specs.declared.event.Point.{Point}
+use Rattle.markdown_base.specs.Places.{IsPointOf}
+use Rattle.markdown_tokenizer.specs.Text.{empty_text}
+use Rattle.markdown_tokenizer.specs.Configuration.{start_seen}
+use Rattle.markdown_tokenizer.specs.Engine.{given_by}
+use Rattle.markdown_children.proofs.ChildReads.Reading.{chain-place}
+use Rattle.markdown_children.proofs.children.read_child.Goals as goal
+
+pub new-tokenizer-requires-clause-place : goal.new-tokenizer-requires-clause-place
+new-tokenizer-requires-clause-place g c =
+    let p = c.args.parse_state.now in
+    subst (IsPointOf p.options.now.tab_size p.bytes.now) (sym c.place_at-place.ensures)
+    (chain-place g.M.Machine.rules p.machine.now p.bytes.now p.options.now c.args.filter c.args.events.now c.requires.ready c.args.index c.in-Some.start c.requires.begins)
+
+pub read_chunks-read-requires-clause-new : goal.read_chunks-read-requires-clause-new
+read_chunks-read-requires-clause-new g c =
+    let p = c.args.parse_state.now in
+    c.new-tokenizer.ensures.start ∙ ap (λ (q : Point). start_seen (given_by p.bytes.now p.options.now) p.machine.now (empty_text q)) c.place_at-place.ensures

@@ -1,0 +1,13 @@
+use Rattle.std.proofs.Common.{◌≡◌, ◌-◌, length, Some}
+use Rattle.markdown_base.specs.declared.state.Name.{Name}
+use Rattle.markdown_children.specs.Reads.{start_at}
+use Rattle.markdown_children.proofs.ChildReads.Reading.{ReadsChain}
+use Rattle.markdown_children.proofs.children.read_chunks.Given as goal
+
+abbrev pub invariant-loop-next : goal.invariant-loop-next
+invariant-loop-next g l =
+    (start : Name) × (start_at l.events l.index ≡ Some start)
+    × ReadsChain g.M.Machine.rules l.fn.parse_state.machine.now l.fn.parse_state.bytes.now l.fn.parse_state.options.now l.fn.filter l.events l.index start l.at l.tokenizer l.state
+
+abbrev pub decreases-loop-next : goal.decreases-loop-next
+decreases-loop-next g l = length l.initial.events - l.at

@@ -1,0 +1,50 @@
+-- Chains: the enters of some void spans of a list of events, joined by links.
+--
+-- A linked enter and the exit behind it are a chunk, which is named by the enter's index. The text of a chain's chunks
+-- together is content of its own (the crate's comments on `subtokenize`).
+use Rattle.std.specs.Prelude.{ℕ, zero, suc, Bool, true, false, ◌&&◌, List, [], ◌∷◌, length, filter, Option, Some, None, option_map, option_and_then, unwrap_or, is_none, slice_get}
+use Rattle.std.specs.List.{range_with_len}
+use denote.Enum.Bare.{sameb}
+use Rattle.markdown_base.specs.contracts.event.Content.{the_type}
+use Rattle.markdown_base.specs.declared.event.Content.{Content}
+use Rattle.markdown_base.specs.declared.event.Event.{Event}
+use Rattle.markdown_edits.specs.Links.{content_of, next_of, previous_of}
+
+-- what the event's chain at an index is read as, if the event is in one
+abbrev pub content_at : List Event → ℕ → Option Content
+content_at events i = option_and_then content_of (slice_get events i)
+
+-- no filter lets each content through, and a filter its own
+abbrev pub lets_through : Option Content → Content → Bool
+lets_through None c = true
+lets_through (Some wanted) c = sameb the_type wanted c
+
+-- whether there is a content, and it is let through
+abbrev pub some_fits : Option Content → Option Content → Bool
+some_fits wanted None = false
+some_fits wanted (Some c) = lets_through wanted c
+
+-- the event at an index is in a chain that fits the filter
+abbrev pub fits : Option Content → List Event → ℕ → Bool
+fits wanted events i = some_fits wanted (content_at events i)
+
+-- and begins it
+abbrev pub begins : Option Content → List Event → ℕ → Bool
+begins wanted events i = fits wanted events i && is_none (previous_of events i)
+
+-- the indices from i on along the links, at most n
+abbrev pub chain_from : ℕ → List Event → ℕ → List ℕ
+chain_from zero events i = []
+chain_from (suc n) events i = i ∷ unwrap_or (option_map (λ d. chain_from n events d) (next_of events i)) []
+
+-- the chunks of the chain that begins at an index
+abbrev pub chain_of : List Event → ℕ → List ℕ
+chain_of events i = chain_from (length events) events i
+
+-- the chunks of chains that fit, in order
+abbrev pub fitting_chunks : Option Content → List Event → List ℕ
+fitting_chunks wanted events = filter (fits wanted events) (range_with_len 0 (length events))
+
+-- where the chains that fit begin, in order
+abbrev pub fitting_starts : Option Content → List Event → List ℕ
+fitting_starts wanted events = filter (begins wanted events) (range_with_len 0 (length events))

@@ -1,0 +1,106 @@
+-- What is true of the chains of a list that is ready.
+use Rattle.std.specs.Prelude.{◌≡◌, ℕ, ◌+◌, ◌<◌, ◌≤◌, List, [], ◌∷◌, ◌++◌, length, flat_map, drop, replicate, suc, if◌then◌else◌, All, Contains, true, Option, Some, None}
+use Rattle.std.specs.List.{AllByRecursion}
+use Rattle.markdown_base.specs.declared.event.Content.{Content}
+use Rattle.markdown_base.specs.declared.event.Event.{Event}
+use Rattle.markdown_base.specs.declared.event.Point.{Point}
+use Rattle.markdown_base.specs.Places.{stands_before}
+use Rattle.markdown_base.specs.Events.{IsBalanced, EndsBelow}
+use Rattle.markdown_edits.specs.Links.{next_of}
+use Rattle.markdown_edits.specs.Survivors.{AreNew, StaysUnlessRemoved, KeepsLinks}
+use Rattle.markdown_edits.specs.Woven.{AreApart}
+use Rattle.markdown_edits.specs.Edits.{Edit, AreDisjoint}
+use Rattle.markdown_edits.specs.Edited.{edited}
+use Rattle.markdown_children.specs.Children.{child_changes, with_children}
+use Rattle.markdown_children.specs.Parts.{parts, divided_over, all_edits}
+use Rattle.markdown_children.specs.Chains.{chain_of, begins, fits, fitting_chunks, fitting_starts}
+use Rattle.markdown_children.specs.Ready.{IsReady}
+
+-- what holds of each list that is ready for a filter, over a document and with tab stops
+abbrev pub ForReadyLists : (ℕ → List ℕ → Option Content → List Event → Type 0) → Type 0
+ForReadyLists P = (tab : ℕ) (bytes : List ℕ) (wanted : Option Content) (events : List Event) → IsReady tab bytes wanted events → P tab bytes wanted events
+
+-- the chunks after the one at k lead on by links, and the last one's leads nowhere
+abbrev pub LeadOnFrom : List Event → ℕ → List ℕ → Type 0
+LeadOnFrom events k [] = next_of events k ≡ None
+LeadOnFrom events k (d ∷ ks) = (next_of events k ≡ Some d) × (k < d) × LeadOnFrom events d ks
+
+-- a chain is whole: from its first chunk to its last
+abbrev pub IsWholeFrom : List Event → ℕ → Type 0
+IsWholeFrom events k = (ks : List ℕ) × (chain_of events k ≡ k ∷ ks) × LeadOnFrom events k ks
+
+-- chunks follow one another: each begins at or behind `from` and ends before the next, and the last ends within n events
+abbrev pub AreSpaced : ℕ → List ℕ → ℕ → Type 0
+AreSpaced from [] n = from ≤ n
+AreSpaced from (k ∷ ks) n = (from ≤ k) × AreSpaced (k + 2) ks n
+
+-- The chunks of the chains that fit, chain by chain, are all chunks that fit, in order; they overlap nowhere; and each chain is whole
+pub record FollowOneAnother (wanted : Option Content) (events : List Event) : Type 0 where
+  pub in_order : flat_map (chain_of events) (fitting_starts wanted events) ≡ fitting_chunks wanted events
+  pub spaced : AreSpaced 0 (fitting_chunks wanted events) (length events)
+  pub whole : AllByRecursion (IsWholeFrom events) (fitting_starts wanted events)
+
+-- The changes that children make are apart and inside the list; what they bring is new to it
+pub record ChangesAreApart (wanted : Option Content) (events : List Event) (children : List (List Event)) : Type 0 where
+  pub apart : AreApart 0 (child_changes wanted events children) (length events)
+  pub fresh : AreNew (child_changes wanted events children)
+
+-- Children keep a list balanced, and other links by both ends: two events that are not in replaced chunks are linked exactly as before
+pub record ChildrenFit (wanted : Option Content) (events : List Event) (children : List (List Event)) : Type 0 where
+  pub balanced : AllByRecursion IsBalanced children → IsBalanced (with_children wanted events children)
+  pub stays : StaysUnlessRemoved (child_changes wanted events children) events
+  pub links : KeepsLinks (child_changes wanted events children) events
+
+-- link ends of a child's events lie inside the child
+abbrev pub HasEndsWithin : List Event → Type 0
+HasEndsWithin child = All (EndsBelow (length child)) child
+
+-- The edits of the chains that fit, one after another, each with its link ends at their final places
+abbrev pub child_edits : Option Content → List Event → List (List Event) → List Edit
+child_edits wanted events children = all_edits 0 0 (divided_over events (fitting_starts wanted events) children)
+
+-- they are disjoint and inside the list, and give the list with children
+pub record EditsGiveChildren (wanted : Option Content) (events : List Event) (children : List (List Event)) : Type 0 where
+  pub disjoint : AreDisjoint 0 (child_edits wanted events children) (length events)
+  pub give : AllByRecursion HasEndsWithin children → edited (child_edits wanted events children) events ≡ with_children wanted events children
+
+-- the chunk is one of the chain that begins at an index
+abbrev pub IsInChain : List Event → ℕ → ℕ → Type 0
+IsInChain events k c = Contains (chain_of events c) k
+
+-- The chunk belongs to one chain that fits, and to no other
+pub record IsInOneChain (wanted : Option Content) (events : List Event) (k : ℕ) : Type 0 where
+  pub chain : ℕ
+  pub begin : begins wanted events chain ≡ true
+  pub member : IsInChain events k chain
+  pub only : (c : ℕ) → begins wanted events c ≡ true → IsInChain events k c → c ≡ chain
+
+-- The chains of a ready list that fit: they follow one another, each chunk is in one of them, and what children change is apart
+pub record HasOrderedChains (wanted : Option Content) (events : List Event) : Type 0 where
+  pub follow : FollowOneAnother wanted events
+  pub once : (k : ℕ) → fits wanted events k ≡ true → IsInOneChain wanted events k
+  pub apart : (children : List (List Event)) → ChangesAreApart wanted events children
+
+-- how many chunks are passed over until the first whose end is not before a place; the last one is never passed over
+abbrev pub passed_over : List Point → Point → ℕ
+passed_over [] p = 0
+passed_over (end ∷ []) p = 0
+passed_over (end ∷ next ∷ ends) p = if stands_before end p then suc (passed_over (next ∷ ends) p) else 0
+
+-- the number of each event's chunk, where chunk c has the first of these ends: it is the first one, from that of the event before on, whose
+-- end is not before the event; the last one if there is none
+abbrev pub chunk_numbers : List Point → ℕ → List Event → List ℕ
+chunk_numbers ends c [] = []
+chunk_numbers ends c (e ∷ es) =
+    let m : ℕ = passed_over ends e.point in
+    (c + m) ∷ chunk_numbers (drop m ends) (c + m) es
+
+-- the number of each event's part, the first being c
+abbrev pub part_numbers : ℕ → List (List Event) → List ℕ
+part_numbers c [] = []
+part_numbers c (p ∷ ps) = replicate (length p) c ++ part_numbers (c + 1) ps
+
+-- The parts are the child, cut: and each event is in the part of its chunk
+pub record AreByChunk (ends : List Point) (child : List Event) : Type 0 where
+  pub all : flat_map (λ p. p) (parts ends child) ≡ child
+  pub numbers : part_numbers 0 (parts ends child) ≡ chunk_numbers ends 0 child

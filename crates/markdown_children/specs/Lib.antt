@@ -1,0 +1,10 @@
+pub mod Chains
+pub mod Ready
+pub mod Laws
+pub mod Parts
+pub mod Children
+pub mod Reads
+pub mod Tables
+pub mod SoFar
+pub mod ByteStarts
+pub mod ReadyTests

@@ -1,0 +1,148 @@
+-- What the chains of a list are read as.
+use Rattle.std.specs.Prelude.{◌≡◌, ℕ, ◌+◌, ◌-◌, ◌<◌, ◌↔◌, ◌⊎◌, Bool, true, List, [], ◌∷◌, ◌++◌, map, flat_map, Option, Some, None, option_and_then, IsSomeAnd, slice_get, Contains}
+use Rattle.std.specs.List.{AllZip}
+use Rattle.markdown_base.specs.declared.configuration.Constructs.{Constructs}
+use Rattle.markdown_base.specs.declared.event.Content.{Content}
+use Rattle.markdown_base.specs.declared.event.Content.TheVariants.{Flow, String, Text}
+use Rattle.markdown_base.specs.declared.event.Content.TheVariants as content
+use Rattle.markdown_base.specs.declared.event.Event.{Event}
+use Rattle.markdown_base.specs.declared.event.Kind.TheVariants.{Enter, Exit}
+use Rattle.markdown_base.specs.declared.event.Name.TheVariants.{BlankLineEnding, Definition, LineEnding, SpaceOrTab, Paragraph, ListItemPrefix}
+use Rattle.markdown_base.specs.declared.message.Message.{Message}
+use Rattle.markdown_base.specs.declared.state.Name.{Name}
+use Rattle.markdown_base.specs.declared.state.TheConstants.Name.{ContentDefinitionBefore, StringStart, TextStart}
+use Rattle.markdown_base.specs.declared.state.State.TheVariants.{Next, Ok, Error}
+use Rattle.markdown_base.specs.Events.{IsBalanced}
+use Rattle.markdown_tokenizer.specs.declared.subtokenize.Subresult.{Subresult}
+use Rattle.markdown_tokenizer.specs.declared.tokenizer.fault.Fault.{Fault}
+use Rattle.markdown_tokenizer.specs.declared.tokenizer.fault.Fault.TheVariants.{Memory, Failed}
+use Rattle.markdown_tokenizer.specs.declared.tokenizer.fault.Fault.TheVariants as fault
+use Rattle.markdown_tokenizer.specs.Text.{Given, Text as TextOf, Piece, pushed, passed, empty_text, followed_by_all, CanFollow}
+use Rattle.markdown_tokenizer.specs.Configuration.{Configuration, start_configuration}
+use Rattle.markdown_tokenizer.specs.Rules.{Rules}
+use Rattle.markdown_tokenizer.specs.Reading.{Reading, EndsIn}
+use Rattle.markdown_tokenizer.specs.Resolving.{IsResolved, IsResolvingRefused}
+use Rattle.markdown_edits.specs.SpanWalks.{IsLongestRunTo}
+use Rattle.markdown_edits.specs.Survivors.{StaysUnlessRemoved, KeepsLinks}
+use Rattle.markdown_children.specs.Chains.{content_at, chain_of, begins, fitting_starts}
+use Rattle.markdown_children.specs.Ready.{place_at}
+use Rattle.markdown_children.specs.Children.{first_chunk, child_changes, with_children}
+
+-- the event at an index is the first paragraph of a list item: task list items are on, the paragraph is entered directly before, and what
+-- stands in front of that, but for blank lines, definitions and white space, is the prefix of a list item
+pub record IsAtFirstParagraph (events : List Event) (index : ℕ) (constructs : Constructs) : Type 0 where
+  pub on : constructs.gfm_task_list_item ≡ true
+  pub above : 2 < index
+  pub paragraph : IsSomeAnd (slice_get events (index - 1)) (λ e. (e.kind ≡ Enter) × (e.name ≡ Paragraph))
+  pub start : ℕ
+  pub run : IsLongestRunTo (BlankLineEnding ∷ Definition ∷ LineEnding ∷ SpaceOrTab ∷ []) events (index - 2) start
+  pub item : IsSomeAnd (slice_get events (start - 1)) (λ e. (e.kind ≡ Exit) × (e.name ≡ ListItemPrefix))
+
+-- the state with which content is read; that of blocks is not read here
+abbrev pub start_name : Content → Option Name
+start_name Flow = None
+start_name content.Content = Some ContentDefinitionBefore
+start_name String = Some StringStart
+start_name Text = Some TextStart
+
+abbrev pub start_at : List Event → ℕ → Option Name
+start_at events i = option_and_then start_name (content_at events i)
+
+-- each chunk's range is pushed, and the gap in front of it passed
+abbrev pub pieces_behind : List Event → List ℕ → List Piece
+pieces_behind events [] = []
+pieces_behind events (k ∷ ks) = passed (place_at events k) ∷ pushed (place_at events k) (place_at events (k + 1)) ∷ pieces_behind events ks
+
+abbrev pub pieces_of : List Event → List ℕ → List Piece
+pieces_of events [] = []
+pieces_of events (k ∷ ks) = pushed (place_at events k) (place_at events (k + 1)) ∷ pieces_behind events ks
+
+-- the text of a chain
+abbrev pub text_of_chain : Given → List Event → List ℕ → TextOf
+text_of_chain g events ks = followed_by_all g (empty_text (place_at events (first_chunk ks))) (pieces_of events ks)
+
+-- the pieces of the chain that begins at an index can be read one after another
+abbrev pub CanReadChain : Given → List Event → ℕ → Type 0
+CanReadChain g events c = CanFollow g (empty_text (place_at events c)) (pieces_of events (chain_of events c))
+
+-- What reading a chain gave
+pub record Child : Type 0 where
+  pub events : List Event
+  pub found : Subresult
+
+-- the events of each
+abbrev pub lists : List Child → List (List Event)
+lists children = map (λ (c : Child). c.events) children
+
+module _ {R D : Type 0} (g : Given) (rules : Given → Rules R D) where
+  -- The chain that begins at c is read, from the start of its content, to this end
+  pub record IsRead (events : List Event) (c : ℕ) (r : Reading R D) : Type 0 where
+    pub flag : Bool
+    pub flagged : (flag ≡ true) ↔ IsAtFirstParagraph events c g.options.constructs
+    pub start : Name
+    pub starts : start_at events c ≡ Some start
+    pub ends : EndsIn g (rules g).step (text_of_chain g events (chain_of events c)) 0 (start_configuration flag) [] (Next start) r
+
+  -- The child of the chain that begins at c: what resolvers make of its reading
+  pub record IsChild (events : List Event) (c : ℕ) (child : Child) : Type 0 where
+    pub result : Reading R D
+    pub read : IsRead events c result
+    pub well : result.answer ≡ Ok
+    pub final : Configuration R D
+    pub resolved : IsResolved (rules g).resolver g (text_of_chain g events (chain_of events c)) true result.configuration final child.found
+    pub left : child.events ≡ final.events
+
+  -- The chain that begins at c is refused with a message, in which its reading ends, or a resolver after it
+  pub record IsChildRefused (events : List Event) (c : ℕ) (m : Message) : Type 0 where
+    pub result : Reading R D
+    pub read : IsRead events c result
+    pub message : (result.answer ≡ Error m)
+        ⊎ ((result.answer ≡ Ok) × IsResolvingRefused (rules g).resolver g (text_of_chain g events (chain_of events c)) true result.configuration m)
+
+  -- why there is no child of the chain that begins at c: memory was refused, or the chain with a message
+  abbrev pub IsChildFault : List Event → ℕ → Fault → Type 0
+  IsChildFault events c Memory = Unit {0}
+  IsChildFault events c Failed = ⊥
+  IsChildFault events c (fault.Message m) = IsChildRefused events c m
+
+  -- The children of chains, in their order
+  abbrev pub AreChildren : List Event → List ℕ → List Child → Type 0
+  AreChildren events cs children = AllZip (IsChild events) cs children
+
+  -- What `subtokenize` leaves: the list with the children of all chains that fit
+  pub record IsSubtokenized (wanted : Option Content) (old new : List Event) (sub : Subresult) : Type 0 where
+    pub children : List Child
+    pub read : AreChildren old (fitting_starts wanted old) children
+    pub events : new ≡ with_children wanted old (lists children)
+    pub balanced : IsBalanced new
+    pub stays : StaysUnlessRemoved (child_changes wanted old (lists children)) old
+    pub links : KeepsLinks (child_changes wanted old (lists children)) old
+    pub done : (sub.done ≡ true) ↔ (fitting_starts wanted old ≡ [])
+    pub definitions : sub.definitions ≡ flat_map (λ (c : Child). c.found.definitions) children
+    pub footnotes : sub.gfm_footnote_definitions ≡ flat_map (λ (c : Child). c.found.gfm_footnote_definitions) children
+
+  -- `subtokenize` is refused with a message: that of the first chain whose reading, or a resolver after it, ends in one
+  pub record IsSubtokenizeRefused (wanted : Option Content) (events : List Event) (m : Message) : Type 0 where
+    pub front : List ℕ
+    pub chain : ℕ
+    pub behind : List ℕ
+    pub starts : fitting_starts wanted events ≡ front ++ chain ∷ behind
+    pub children : List Child
+    pub read : AreChildren events front children
+    pub refused : IsChildRefused events chain m
+
+  -- why `subtokenize` fails: memory was refused, or a chain with a message
+  abbrev pub IsSubtokenizeFault : Option Content → List Event → Fault → Type 0
+  IsSubtokenizeFault wanted events Memory = Unit {0}
+  IsSubtokenizeFault wanted events Failed = ⊥
+  IsSubtokenizeFault wanted events (fault.Message m) = IsSubtokenizeRefused wanted events m
+
+  -- A list is given its children in one way: what is left of it, and what was found, is one; it is not refused too; and one message refuses it
+  pub record HasOneAnswer (wanted : Option Content) (events : List Event) : Type 0 where
+    pub list : (new other : List Event) (sub more : Subresult) → IsSubtokenized wanted events new sub → IsSubtokenized wanted events other more → (new ≡ other) × (sub ≡ more)
+    pub well : (new : List Event) (sub : Subresult) (m : Message) → IsSubtokenized wanted events new sub → IsSubtokenizeRefused wanted events m → ⊥
+    pub message : (m n : Message) → IsSubtokenizeRefused wanted events m → IsSubtokenizeRefused wanted events n → m ≡ n
+
+-- the chains that fit are read from start names among these
+abbrev pub StartAmong : List Name → Option Content → List Event → Type 0
+StartAmong starts wanted events = (c : ℕ) (name : Name) → begins wanted events c ≡ true → start_at events c ≡ Some name → Contains starts name

@@ -1,0 +1,201 @@
+//! A child divided over the chunks of its chain.
+
+ghost use Rattle.std.specs.Prelude.{◌≡◌, ◌+◌, ◌-◌, ◌*◌, ◌<◌, ◌≤◌, ◌^◌, ◌++◌, length, drop, map, IfOk, OnOk, OnErr, IfSome, Some, All};
+ghost use Rattle.std.specs.Option.{option_and_then};
+ghost use Rattle.std.specs.List.{between, AllByRecursion};
+ghost use Rattle.markdown_base.specs.Events.{EachEnd, relinked};
+ghost use Rattle.markdown_edits.specs.Edits.{removed_by, added_by};
+ghost use Rattle.markdown_children.specs.Chains.{chain_of};
+ghost use Rattle.markdown_children.specs.Laws.{HasEndsWithin};
+ghost use Rattle.markdown_children.specs.Parts.{front_until, divided, chain_edits, IsForward, StandBefore};
+ghost use Rattle.markdown_children.specs.Tables.{rest_table, table_place, AreAbove, AreRising, chunk_edit};
+
+use crate::chains::{next_of, place_at, stands_before};
+use markdown_base::event::{Event, Link, Point};
+use markdown_tokenizer::util::edit_map::EditMap;
+use std::alloc::{AllocError, Global};
+
+/// Adds to the map one edit for each chunk of a chain: its two events go, and its part of the child comes.
+///
+/// Child events are assigned in order. Event `j` goes to the first chunk that ends at or after it; the search starts at the chunk of
+/// event `j - 1`. If every chunk ends before the event, it goes to the last one. Links of child events lead to their final places.
+/// `link_index` is the chain's first chunk. Every edit in the map is before it, and `acc_before` counts the events that these edits
+/// remove and add. Returns both counts with the edits of the chain included. If it runs out of memory, the map and the child events
+/// stay as they were; else no child event is left.
+pub fn divide_events(
+    alloc: Global,
+    map: &mut EditMap,
+    events: &[Event],
+    link_index: usize,
+    child_events: &mut Vec<Event>,
+    acc_before: (usize, usize),
+) -> Result<(usize, usize), AllocError>
+    requires chain { AllByRecursion (IsForward events.now) (chain_of events.now link_index) }
+    requires within { link_index + 1 < length events.now }
+    requires before { StandBefore map.old link_index }
+    requires sums { (acc_before.0 ≡ removed_by map.old) × (acc_before.1 ≡ added_by map.old) }
+    requires ends { HasEndsWithin child_events.old.items }
+    requires fits { length events.now + acc_before.1 + length child_events.old.items < 2 ^ 64 }
+    ensures ok { OnOk result (map.new ≡ map.old ++ chain_edits acc_before.0 acc_before.1 (divided events.now link_index child_events.old.items)) }
+    ensures sums { IfOk result (λ acc. (acc.0 ≡ acc_before.0 + 2 * length (chain_of events.now link_index)) × (acc.1 ≡ acc_before.1 + length child_events.old.items)) }
+    ensures left { OnOk result (length child_events.new.items ≡ 0) }
+    ensures err { OnErr result ((map.new ≡ map.old) × (child_events.new.items ≡ child_events.old.items)) }
+{
+    let chunks = chunks_of(alloc, events, link_index, child_events.as_slice())?;
+    let mut edits = edits_of(alloc, &chunks, acc_before, child_events.as_slice())?;
+    map.append(&mut edits)?;
+    let sums = (
+        acc_before.0 + 2 * chunks.len(),
+        acc_before.1 + child_events.len(),
+    );
+    child_events.clear();
+    Ok(sums)
+}
+
+/// A chunk, with the bounds of its part in the child.
+#[derive(Clone, Copy)]
+pub(crate) struct Chunk {
+    pub(crate) index: usize,
+    pub(crate) start: usize,
+    pub(crate) end: usize,
+}
+
+/// The end of the part that begins at an event of the child: the first event from there on that is behind the chunk's end.
+fn part_end(child: &[Event], start: usize, end: Point) -> usize
+    requires { start ≤ length child.now }
+    ensures { result ≡ start + length (front_until end (drop start child.now)) }
+{
+    let mut at = start;
+    while at < child.len() {
+        if stands_before(end, child[at].point) {
+            return at;
+        }
+        at += 1;
+    }
+    at
+}
+
+/// The chunks of the chain that begins at an index, with their parts.
+pub(crate) fn chunks_of(
+    alloc: Global,
+    events: &[Event],
+    link_index: usize,
+    child: &[Event],
+) -> Result<Vec<Chunk>, AllocError>
+    requires first { link_index + 1 < length events.now }
+    requires forward { AllByRecursion (IsForward events.now) (chain_of events.now link_index) }
+    ensures { IfOk result (λ v. v.items ≡ rest_table events.now child.now (length events.now) link_index 0) }
+{
+    let mut chunks = Vec::new(alloc);
+    let mut index = link_index;
+    let mut start = 0;
+    while let Some(next) = next_of(events, index) {
+        let exit = place_at(events, index + 1);
+        let end = part_end(child, start, exit);
+        chunks.push(Chunk { index, start, end })?;
+        index = next;
+        start = end;
+    }
+    chunks.push(Chunk {
+        index,
+        start,
+        end: child.len(),
+    })?;
+    Ok(chunks)
+}
+
+/// The final place of an event of the child.
+fn place_in(chunks: &[Chunk], acc: (usize, usize), index: usize) -> Option<usize>
+    requires apart { AreAbove acc.0 chunks.now }
+    requires fits { All (λ c. c.index + 2 + acc.1 + index < 2 ^ 64) chunks.now }
+    ensures { result ≡ table_place chunks.now acc.0 acc.1 index }
+{
+    let (before, added) = acc;
+    let mut removed = before;
+    for chunk in chunks {
+        if index < chunk.end {
+            return Some(chunk.index - removed + added + index);
+        }
+        removed += 2;
+    }
+    None
+}
+
+/// The final place that a link end of an event of the child leads to.
+fn placed_end(chunks: &[Chunk], acc: (usize, usize), end: Option<usize>) -> Option<usize>
+    requires apart { AreAbove acc.0 chunks.now }
+    requires fits { IfSome end (λ n. All (λ c. c.index + 2 + acc.1 + n < 2 ^ 64) chunks.now) }
+    ensures { result ≡ option_and_then (table_place chunks.now acc.0 acc.1) end }
+{
+    match end {
+        None => None,
+        Some(index) => place_in(chunks, acc, index),
+    }
+}
+
+/// Leads the link of an event of the child to its final places. An event without a link is not written to.
+fn place_link(chunks: &[Chunk], acc: (usize, usize), event: &mut Event)
+    requires apart { AreAbove acc.0 chunks.now }
+    requires fits { IfSome event.old.link (EachEnd (λ n. All (λ c. c.index + 2 + acc.1 + n < 2 ^ 64) chunks.now)) }
+    ensures { event.new ≡ relinked (table_place chunks.now acc.0 acc.1) event.old }
+{
+    if let Some(link) = event.link {
+        event.link = Some(Link {
+            previous: placed_end(chunks, acc, link.previous),
+            next: placed_end(chunks, acc, link.next),
+            ..link
+        });
+    }
+}
+
+/// Leads the links of these events of the child to their final places.
+fn place_links(chunks: &[Chunk], acc: (usize, usize), events: &mut [Event])
+    requires apart { AreAbove acc.0 chunks.now }
+    requires fits { All (λ e. IfSome e.link (EachEnd (λ n. All (λ c. c.index + 2 + acc.1 + n < 2 ^ 64) chunks.now))) events.old }
+    ensures { events.new ≡ map (relinked (table_place chunks.now acc.0 acc.1)) events.old }
+{
+    for event in events.iter_mut() {
+        place_link(chunks, acc, event);
+    }
+}
+
+/// The part of a chunk, with its link ends at their final places: copied at once, as few events have a link.
+fn placed_part(
+    alloc: Global,
+    chunks: &[Chunk],
+    acc: (usize, usize),
+    child: &[Event],
+    chunk: Chunk,
+) -> Result<Vec<Event>, AllocError>
+    requires apart { AreAbove acc.0 chunks.now }
+    requires fits { All (λ e. IfSome e.link (EachEnd (λ n. All (λ c. c.index + 2 + acc.1 + n < 2 ^ 64) chunks.now))) child.now }
+    requires order { chunk.start ≤ chunk.end }
+    requires within { chunk.end ≤ length child.now }
+    ensures { IfOk result (λ v. v.items ≡ map (relinked (table_place chunks.now acc.0 acc.1)) (between chunk.start chunk.end child.now)) }
+{
+    let mut part = Vec::new(alloc);
+    part.extend_from_slice(&child[chunk.start..chunk.end])?;
+    place_links(chunks, acc, part.as_mut_slice());
+    Ok(part)
+}
+
+/// The edits that put each part in the place of its chunk.
+pub(crate) fn edits_of(
+    alloc: Global,
+    chunks: &[Chunk],
+    acc: (usize, usize),
+    child: &[Event],
+) -> Result<EditMap, AllocError>
+    requires apart { AreAbove acc.0 chunks.now }
+    requires rising { AreRising chunks.now }
+    requires fits { All (λ e. IfSome e.link (EachEnd (λ n. All (λ c. c.index + 2 + acc.1 + n < 2 ^ 64) chunks.now))) child.now }
+    requires within { All (λ c. (c.start ≤ c.end) × (c.end ≤ length child.now)) chunks.now }
+    ensures { IfOk result (λ m. m ≡ map (chunk_edit (table_place chunks.now acc.0 acc.1) child.now) chunks.now) }
+{
+    let mut edits = EditMap::new(alloc);
+    for chunk in chunks {
+        let part = placed_part(alloc, chunks, acc, child, *chunk)?;
+        edits.add(chunk.index, 2, part)?;
+    }
+    Ok(edits)
+}

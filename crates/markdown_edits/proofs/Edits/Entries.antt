@@ -1,0 +1,182 @@
+-- Changes of the entries, as changes of what they mean.
+use Rattle.std.proofs.Common.{◌≡◌, ℕ, ◌+◌, ◌<◌, ◌≤◌, Bool, true, false, cond, eqb, ltb, List, [], ◌∷◌, ◌++◌, Option, Some, None, refl, sym, ◌∙◌, ap, ⊎_elim, arith}
+use Rattle.std.specs.Ordering.{nat_cmp, is_eq}
+use Rattle.std.specs.BTreeMap.{is_at, insert_entry}
+use Rattle.std.specs.Map.{lookup, set_value, keys_of}
+use Rattle.std.specs.List.{AllByRecursion}
+use Rattle.std.specs.List.Sorted.{IsStrictlySortedBy}
+use Rattle.std.specs.declared.cmp.Ordering.TheVariants.{Less, Greater}
+use Rattle.std.proofs.lemmas.Bool.{ne_eqb, eq-eqb, lt-ltb, le-ltb, cases_order}
+use Rattle.std.proofs.lemmas.Map.Keys.{sorted_head, sorted_tail}
+use Rattle.markdown_base.specs.declared.event.Event.{Event}
+use Rattle.markdown_base.proofs.Common.{every-append, every-map}
+use Rattle.markdown_edits.specs.Edits.{Edit, merged, put_by, removal_at, is_no_edit, added_after, added_before}
+use Rattle.markdown_edits.specs.Stored.{as_edit, edits_of}
+use Rattle.markdown_edits.specs.declared.replacement.Replacement.{Replacement}
+use Rattle.markdown_edits.proofs.Edits.Puts.{put-same, put-more}
+
+at_same : (k x : ℕ) → k ≡ x → is_at (nat_cmp k) x ≡ true
+at_same k x e =
+    let a : ltb k x ≡ false = le-ltb k x (omega arith) in
+    let b : eqb k x ≡ true = eq-eqb k x e in
+    rw (a, b) refl
+
+at_less : (k x : ℕ) → k < x → is_at (nat_cmp k) x ≡ false
+at_less k x l = let a : ltb k x ≡ true = lt-ltb k x l in rw a refl
+
+at_more : (k x : ℕ) → x < k → is_at (nat_cmp k) x ≡ false
+at_more k x l =
+    let a : ltb k x ≡ false = le-ltb k x (omega arith) in
+    let b : eqb k x ≡ false = ne_eqb k x (omega arith) in
+    rw (a, b) refl
+
+less_from_cmp : (x y : ℕ) → nat_cmp x y ≡ Less → x < y
+less_from_cmp x y e = ⊎_elim
+    (λ (q : x ≡ y). let t : is_at (nat_cmp x) y ≡ true = at_same x y q in absurd (no (sym (ap is_eq e) ∙ t)))
+    (⊎_elim (λ (q : x < y). q) (λ (q : y < x).
+    let a : ltb x y ≡ false = le-ltb x y (omega arith) in
+    let b : eqb x y ≡ false = ne_eqb x y (omega arith) in
+    let g : nat_cmp x y ≡ Greater = rw (a, b) refl in
+    absurd (no' (sym g ∙ e))))
+    (cases_order x y)
+  where
+    no : false ≡ true → ⊥
+    no e = cc
+
+    no' : Greater ≡ Less → ⊥
+    no' e = cc
+
+none_above : (es : List (ℕ × Replacement)) (k x : ℕ) → k < x → AllByRecursion (λ y. nat_cmp x y ≡ Less) (keys_of es) → lookup (is_at (nat_cmp k)) es ≡ None
+none_above [] k x l h = refl
+none_above (e ∷ es) k x l h =
+    let more : x < e.0 = less_from_cmp x e.0 h.0 in
+    rw (at_less k e.0 (omega arith)) (none_above es k x l h.1)
+
+-- a value that means what the old one did
+same_edit : (k : ℕ) (v w x : Replacement) → w.remove ≡ v.remove → w.additions.items ≡ v.additions.items → x ≡ v → as_edit (k, w) ≡ as_edit (k, x)
+same_edit k v w x r a q = λ i. let d : Edit = record { index = k; remove = (r ∙ sym (ap (λ (y : Replacement). y.remove) q)) i; additions = (a ∙ sym (ap (λ (y : Replacement). y.additions.items) q)) i } in d
+
+set_same_step : (b : Bool) (e : ℕ × Replacement) (es fs : List (ℕ × Replacement)) (o : Option Replacement) (v w : Replacement) → w.remove ≡ v.remove → w.additions.items ≡ v.additions.items → cond b (Some e.1) o ≡ Some v
+    → (o ≡ Some v → edits_of fs ≡ edits_of es) → edits_of (cond b ((e.0, w) ∷ es) (e ∷ fs)) ≡ edits_of (e ∷ es)
+set_same_step true e es fs o v w r a h rest = ap (λ d. d ∷ edits_of es) (same_edit e.0 v w e.1 r a cc)
+set_same_step false e es fs o v w r a h rest = ap (λ ds. as_edit e ∷ ds) (rest h)
+
+pub set_same : (test : ℕ → Bool) (es : List (ℕ × Replacement)) (v w : Replacement) → lookup test es ≡ Some v → w.remove ≡ v.remove → w.additions.items ≡ v.additions.items → edits_of (set_value test es w) ≡ edits_of es
+set_same test [] v w h r a = refl
+set_same test (e ∷ es) v w h r a = set_same_step (test e.0) e es (set_value test es w) (lookup test es) v w r a h (λ h. set_same test es v w h r a)
+
+-- a value changed at a key that is there
+pub set_put : (f : List Event → List Event → List Event) (k : ℕ) (es : List (ℕ × Replacement)) (v w : Replacement) (d : Edit) → IsStrictlySortedBy nat_cmp (keys_of es) → lookup (is_at (nat_cmp k)) es ≡ Some v
+    → d.index ≡ k → w.remove ≡ v.remove + d.remove → w.additions.items ≡ f v.additions.items d.additions → edits_of (set_value (is_at (nat_cmp k)) es w) ≡ put_by f (edits_of es) d
+set_put f k [] v w d s h i r a = no_value v h
+  where
+    no_value : (v : Replacement) → None ≡ Some v → [] ≡ d ∷ []
+    no_value v e = cc
+set_put f k (e ∷ es) v w d s h i r a = ⊎_elim
+    (λ (q : k ≡ e.0).
+    let found : Some e.1 ≡ Some v = rw (at_same k e.0 q) at h in
+    let x : e.1 ≡ v = cc in
+    rw (at_same k e.0 q) (ap (λ t. t ∷ edits_of es) (same x) ∙ sym (put-same f (as_edit e) d (edits_of es) (i ∙ q))))
+    (⊎_elim
+    (λ (q : k < e.0).
+    let later : lookup (is_at (nat_cmp k)) es ≡ Some v = rw (at_less k e.0 q) at h in
+    let none : lookup (is_at (nat_cmp k)) es ≡ None = none_above es k e.0 q (sorted_head nat_cmp e.0 (keys_of es) s) in
+    absurd (no_both (lookup (is_at (nat_cmp k)) es) v none later))
+    (λ (q : e.0 < k).
+    let later : lookup (is_at (nat_cmp k)) es ≡ Some v = rw (at_more k e.0 q) at h in
+    rw (at_more k e.0 q) (ap (λ ds. as_edit e ∷ ds) (set_put f k es v w d (sorted_tail nat_cmp e.0 (keys_of es) s) later i r a) ∙ sym (put-more f (as_edit e) d (edits_of es) (omega arith)))))
+    (cases_order k e.0)
+  where
+    no_both : (o : Option Replacement) (v : Replacement) → o ≡ None → o ≡ Some v → ⊥
+    no_both o v p q = cc
+
+    same : e.1 ≡ v → as_edit (e.0, w) ≡ merged f (as_edit e) d
+    same x = λ j. let t : Edit = record { index = e.0; remove = (r ∙ ap (λ (y : Replacement). y.remove + d.remove) (sym x)) j; additions = (a ∙ ap (λ (y : Replacement). f y.additions.items d.additions) (sym x)) j } in t
+
+-- a new key
+pub insert_put : (f : List Event → List Event → List Event) (k : ℕ) (es : List (ℕ × Replacement)) (w : Replacement) → lookup (is_at (nat_cmp k)) es ≡ None → edits_of (insert_entry nat_cmp es k w) ≡ put_by f (edits_of es) (as_edit (k, w))
+insert_put f k [] w h = refl
+insert_put f k (e ∷ es) w h = ⊎_elim
+    (λ (q : k ≡ e.0).
+    let found : Some e.1 ≡ None = rw (at_same k e.0 q) at h in
+    absurd (no_value e.1 found))
+    (⊎_elim
+    (λ (q : k < e.0). let a : ltb k e.0 ≡ true = lt-ltb k e.0 q in rw a refl)
+    (λ (q : e.0 < k).
+    let a : ltb k e.0 ≡ false = le-ltb k e.0 (omega arith) in
+    let b : eqb k e.0 ≡ false = ne_eqb k e.0 (omega arith) in
+    let later : lookup (is_at (nat_cmp k)) es ≡ None = rw (at_more k e.0 q) at h in
+    rw (a, b) (ap (λ ds. as_edit e ∷ ds) (insert_put f k es w later))))
+    (cases_order k e.0)
+  where
+    no_value : (v : Replacement) → Some v ≡ None → ⊥
+    no_value v e = cc
+
+pub remove-le-removal_at : (k : ℕ) (es : List (ℕ × Replacement)) (v : Replacement) → lookup (is_at (nat_cmp k)) es ≡ Some v → v.remove ≤ removal_at (edits_of es) k
+remove-le-removal_at k [] v h = no_value v h
+  where
+    no_value : (v : Replacement) → None ≡ Some v → v.remove ≤ 0
+    no_value v e = cc
+remove-le-removal_at k (e ∷ es) v h = ⊎_elim
+    (λ (q : k ≡ e.0).
+    let found : Some e.1 ≡ Some v = rw (at_same k e.0 q) at h in
+    let x : e.1 ≡ v = cc in
+    let m : e.1.remove ≡ v.remove = ap (λ (y : Replacement). y.remove) x in
+    let t : eqb e.0 k ≡ true = eq-eqb e.0 k (sym q) in
+    counted (eqb e.0 k) t m)
+    (⊎_elim
+    (λ (q : k < e.0). let later : lookup (is_at (nat_cmp k)) es ≡ Some v = rw (at_less k e.0 q) at h in omega (arith, remove-le-removal_at k es v later))
+    (λ (q : e.0 < k). let later : lookup (is_at (nat_cmp k)) es ≡ Some v = rw (at_more k e.0 q) at h in omega (arith, remove-le-removal_at k es v later)))
+    (cases_order k e.0)
+  where
+    counted : (b : Bool) → b ≡ true → e.1.remove ≡ v.remove → v.remove ≤ cond b e.1.remove 0 + removal_at (edits_of es) k
+    counted true t m = omega arith
+    counted false t m = cc
+
+-- the additions of two edits at one index, those of the second in front or behind
+abbrev pub joined : Bool → List Event → List Event → List Event
+joined before there more = cond before (more ++ there) (there ++ more)
+
+-- an edit that is one is put into the list
+pub added-put : (before : Bool) (es : List Edit) (d : Edit) → is_no_edit d ≡ false → cond before (added_before es d) (added_after es d) ≡ put_by (joined before) es d
+added-put true es d e = rw e refl
+added-put false es d e = rw e refl
+
+-- each edit stands before the next
+abbrev pub IsAscending : List Edit → Type 0
+IsAscending [] = Unit {0}
+IsAscending (e ∷ es) = AllByRecursion (λ (d : Edit). e.index < d.index) es × IsAscending es
+
+keys-below : (k : ℕ) (es : List (ℕ × Replacement)) → AllByRecursion (λ y. nat_cmp k y ≡ Less) (keys_of es) → AllByRecursion (λ (d : Edit). k < d.index) (edits_of es)
+keys-below k [] h = tt
+keys-below k (e ∷ es) h = (less_from_cmp k e.0 h.0, keys-below k es h.1)
+
+pub IsAscending-entries : (es : List (ℕ × Replacement)) → IsStrictlySortedBy nat_cmp (keys_of es) → IsAscending (edits_of es)
+IsAscending-entries [] s = tt
+IsAscending-entries (e ∷ es) s = (keys-below e.0 es (sorted_head nat_cmp e.0 (keys_of es) s), IsAscending-entries es (sorted_tail nat_cmp e.0 (keys_of es) s))
+
+all-above : (m n : ℕ) (ds : List Edit) → m < n → AllByRecursion (λ (d : Edit). n ≤ d.index) ds → AllByRecursion (λ (d : Edit). m < d.index) ds
+all-above m n ds l h = every-map (λ (d : Edit). n ≤ d.index) (λ (d : Edit). m < d.index) (λ d a. omega arith) ds h
+
+-- edits behind others ascend with them
+pub IsAscending-behind : (n : ℕ) (es ds : List Edit) → AllByRecursion (λ (e : Edit). e.index < n) es → AllByRecursion (λ (d : Edit). n ≤ d.index) ds → IsAscending es → IsAscending ds → IsAscending (es ++ ds)
+IsAscending-behind n [] ds h k a b = b
+IsAscending-behind n (e ∷ es) ds h k a b = (every-append (λ (d : Edit). e.index < d.index) es ds a.0 (all-above e.index n ds h.0 k), IsAscending-behind n es ds h.1 k a.1 b)
+
+head-of : (P : Edit → Type 0) (es : List Edit) (d : Edit) (ds : List Edit) → AllByRecursion P (es ++ d ∷ ds) → P d
+head-of P [] d ds h = h.0
+head-of P (e ∷ es) d ds h = head-of P es d ds h.1
+
+-- what stands in front of one of them stands before it
+pub below-next : (es : List Edit) (d : Edit) (ds : List Edit) → IsAscending (es ++ d ∷ ds) → AllByRecursion (λ (e : Edit). e.index < d.index) es
+below-next [] d ds h = tt
+below-next (e ∷ es) d ds h = (head-of (λ (x : Edit). e.index < x.index) es d ds h.0, below-next es d ds h.1)
+
+-- a new key behind all
+pub insert_behind : (k : ℕ) (es : List (ℕ × Replacement)) (w : Replacement) → AllByRecursion (λ (e : Edit). e.index < k) (edits_of es) → insert_entry nat_cmp es k w ≡ es ++ (k, w) ∷ []
+insert_behind k [] w h = refl
+insert_behind k (e ∷ es) w h =
+    let q : e.0 < k = h.0 in
+    let a : ltb k e.0 ≡ false = le-ltb k e.0 (omega arith) in
+    let b : eqb k e.0 ≡ false = ne_eqb k e.0 (omega arith) in
+    rw (a, b) (ap (λ ds. e ∷ ds) (insert_behind k es w h.1))

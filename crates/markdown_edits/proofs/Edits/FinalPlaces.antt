@@ -1,0 +1,117 @@
+-- Where the events of a list stand after disjoint changes.
+use Rattle.std.proofs.Common.{◌≡◌, ℕ, suc, ◌+◌, ◌-◌, ◌<◌, ◌≤◌, Bool, true, false, cond, eqb, ltb, List, [], ◌∷◌, ◌++◌, length, take, drop, Option, Some, None, refl, sym, ap, subst, ⊎_elim, arith, length-drop}
+use Rattle.std.specs.List.{AllByRecursion}
+use Rattle.std.specs.Option.{option_map}
+use Rattle.std.proofs.lemmas.Bool.{ne_eqb, eq-eqb, lt-ltb, le-ltb, cases_lt, cases_eq}
+use Rattle.std.proofs.lemmas.List.{length-take-le}
+use Rattle.markdown_base.specs.declared.event.Event.{Event}
+use Rattle.markdown_edits.specs.Woven.{Identity, of_list, Tagged, place_in, is_same, Change}
+use Rattle.markdown_edits.proofs.Edits.Passes.{olds, pass, AreApart, AreApart-le}
+
+-- the place in the first of two lists, or that in the second behind n
+abbrev pub or_after : ℕ → Option ℕ → Option ℕ → Option ℕ
+or_after n None o = option_map (λ p. n + p) o
+or_after n (Some p) o = Some p
+
+or_after-step : (c : Bool) (n : ℕ) (a o : Option ℕ) → cond c (Some 0) (option_map suc (or_after n a o)) ≡ or_after (suc n) (cond c (Some 0) (option_map suc a)) o
+or_after-step true n a o = refl
+or_after-step false n (Some p) o = refl
+or_after-step false n None None = refl
+or_after-step false n None (Some q) = let e : suc (n + q) ≡ suc n + q = omega arith in ap Some e
+
+or_after-zero : (o : Option ℕ) → o ≡ or_after 0 None o
+or_after-zero None = refl
+or_after-zero (Some p) = let e : p ≡ 0 + p = omega arith in ap Some e
+
+pub place_in-append : (b : Identity) (xs ys : List Tagged) → place_in b (xs ++ ys) ≡ or_after (length xs) (place_in b xs) (place_in b ys)
+place_in-append b [] ys = or_after-zero (place_in b ys)
+place_in-append b (t ∷ xs) ys = rw (place_in-append b xs ys) (or_after-step (is_same b t.identity) (length xs) (place_in b xs) (place_in b ys))
+
+pub length-olds : (i : ℕ) (xs : List Event) → length (olds i xs) ≡ length xs
+length-olds i [] = refl
+length-olds i (x ∷ xs) = ap suc (length-olds (i + 1) xs)
+
+-- no event with the identity comes
+abbrev pub HasNo : Identity → List Change → Type 0
+HasNo b ws = AllByRecursion (λ w. place_in b w.events ≡ None) ws
+
+-- where the event at n comes to stand, by prefix sums
+abbrev pub old_place : List Change → ℕ → ℕ → ℕ → Option ℕ
+old_place [] removed added n = Some (n - removed + added)
+old_place (e ∷ es) removed added n =
+    cond (ltb n e.index) (Some (n - removed + added)) (cond (ltb n (e.index + e.remove)) None (old_place es (removed + e.remove) (added + length e.events) n))
+
+pub place_in-olds : (n i : ℕ) (xs : List Event) → i ≤ n → n < i + length xs → place_in (of_list n) (olds i xs) ≡ Some (n - i)
+place_in-olds n i [] l m = absurd (omega arith)
+place_in-olds n i (x ∷ xs) l m = ⊎_elim
+    (λ (e : n ≡ i). let here : eqb n i ≡ true = eq-eqb n i e in let z : 0 ≡ n - i = omega arith in rw here (ap Some z))
+    (λ (ne : n ≡ i → ⊥).
+    let there : eqb n i ≡ false = ne_eqb n i ne in
+    let more : place_in (of_list n) (olds (i + 1) xs) ≡ Some (n - (i + 1)) = place_in-olds n (i + 1) xs (omega arith) (omega arith) in
+    let z : suc (n - (i + 1)) ≡ n - i = omega arith in
+    rw (there, more) (ap Some z))
+    (cases_eq n i)
+
+pub place_in-olds_below : (n i : ℕ) (xs : List Event) → n < i → place_in (of_list n) (olds i xs) ≡ None
+place_in-olds_below n i [] h = refl
+place_in-olds_below n i (x ∷ xs) h =
+    let there : eqb n i ≡ false = ne_eqb n i (omega arith) in
+    rw (there, place_in-olds_below n (i + 1) xs (omega arith)) refl
+
+pub place_in-olds_above : (n i : ℕ) (xs : List Event) → i + length xs ≤ n → place_in (of_list n) (olds i xs) ≡ None
+place_in-olds_above n i [] h = refl
+place_in-olds_above n i (x ∷ xs) h =
+    let there : eqb n i ≡ false = ne_eqb n i (omega arith) in
+    rw (there, place_in-olds_above n (i + 1) xs (omega arith)) refl
+
+-- one part of a pass: events that stay, those that come, and the rest
+pub place_in-part : (n i : ℕ) (xs : List Event) (adds ts : List Tagged) → place_in (of_list n) adds ≡ None → place_in (of_list n) (olds i xs ++ (adds ++ ts)) ≡ or_after (length xs) (place_in (of_list n) (olds i xs)) (or_after (length adds) None (place_in (of_list n) ts))
+place_in-part n i xs adds ts none =
+    rw (place_in-append (of_list n) (olds i xs) (adds ++ ts), place_in-append (of_list n) adds ts, none, length-olds i xs) refl
+
+pub place_in-pass_below : (es : List Change) (n i : ℕ) (xs : List Event) → HasNo (of_list n) es → AreApart i es (i + length xs) → n < i → place_in (of_list n) (pass es i xs) ≡ None
+place_in-pass_below [] n i xs h d l = place_in-olds_below n i xs l
+place_in-pass_below (e ∷ es) n i xs h d l =
+    let a : i ≤ e.index = d.0 in
+    let b : e.index + e.remove ≤ i + length xs = AreApart-le es (e.index + e.remove) (i + length xs) d.1 in
+    let m : i + length xs ≡ e.index + e.remove + length (drop (e.index + e.remove - i) xs) = omega (arith, length-drop (e.index + e.remove - i) xs) in
+    let d' : AreApart (e.index + e.remove) es (e.index + e.remove + length (drop (e.index + e.remove - i) xs)) = subst (λ k. AreApart (e.index + e.remove) es k) m d.1 in
+    let more : place_in (of_list n) (pass es (e.index + e.remove) (drop (e.index + e.remove - i) xs)) ≡ None =
+    place_in-pass_below es n (e.index + e.remove) (drop (e.index + e.remove - i) xs) h.1 d' (omega arith) in
+    rw (place_in-part n i (take (e.index - i) xs) e.events (pass es (e.index + e.remove) (drop (e.index + e.remove - i) xs)) h.0, place_in-olds_below n i (take (e.index - i) xs) l, more) refl
+
+-- prefix sums place an event of the list: `removed` events went and `added` events came before i
+pub old_place-pass : (es : List Change) (n i removed added : ℕ) (xs : List Event) → HasNo (of_list n) es → AreApart i es (i + length xs) → removed ≤ i → i ≤ n → n < i + length xs
+    → option_map (λ p. i - removed + added + p) (place_in (of_list n) (pass es i xs)) ≡ old_place es removed added n
+old_place-pass [] n i removed added xs h d r l m =
+    let z : i - removed + added + (n - i) ≡ n - removed + added = omega arith in
+    rw (place_in-olds n i xs l m) (ap Some z)
+old_place-pass (e ∷ es) n i removed added xs h d r l m =
+    let a : i ≤ e.index = d.0 in
+    let b : e.index + e.remove ≤ i + length xs = AreApart-le es (e.index + e.remove) (i + length xs) d.1 in
+    let m' : i + length xs ≡ e.index + e.remove + length (drop (e.index + e.remove - i) xs) = omega (arith, length-drop (e.index + e.remove - i) xs) in
+    let d' : AreApart (e.index + e.remove) es (e.index + e.remove + length (drop (e.index + e.remove - i) xs)) = subst (λ k. AreApart (e.index + e.remove) es k) m' d.1 in
+    let front : length (take (e.index - i) xs) ≡ e.index - i = length-take-le (e.index - i) xs (omega arith) in
+    rw (place_in-part n i (take (e.index - i) xs) e.events (pass es (e.index + e.remove) (drop (e.index + e.remove - i) xs)) h.0, front)
+    (⊎_elim
+    (λ (c : n < e.index).
+    let t : ltb n e.index ≡ true = lt-ltb n e.index c in
+    let z : i - removed + added + (n - i) ≡ n - removed + added = omega arith in
+    rw (t, place_in-olds n i (take (e.index - i) xs) l (omega arith)) (ap Some z))
+    (λ (c : e.index ≤ n).
+    let t : ltb n e.index ≡ false = le-ltb n e.index c in
+    rw (t, place_in-olds_above n i (take (e.index - i) xs) (omega arith))
+    (⊎_elim
+    (λ (u : n < e.index + e.remove).
+    let v : ltb n (e.index + e.remove) ≡ true = lt-ltb n (e.index + e.remove) u in
+    rw (v, place_in-pass_below es n (e.index + e.remove) (drop (e.index + e.remove - i) xs) h.1 d' u) refl)
+    (λ (u : e.index + e.remove ≤ n).
+    let v : ltb n (e.index + e.remove) ≡ false = le-ltb n (e.index + e.remove) u in
+    let more = old_place-pass es n (e.index + e.remove) (removed + e.remove) (added + length e.events) (drop (e.index + e.remove - i) xs) h.1 d' (omega arith) u (omega arith) in
+    rw (v, sym more) (shifted i (e.index - i) (length e.events) (e.index + e.remove) removed added (removed + e.remove) (place_in (of_list n) (pass es (e.index + e.remove) (drop (e.index + e.remove - i) xs))) (omega arith)))
+    (cases_lt n (e.index + e.remove))))
+    (cases_lt n e.index))
+  where
+    shifted : (i k g j removed added removed' : ℕ) (o : Option ℕ) → i - removed + added + (k + g) ≡ j - removed' + (added + g) → option_map (λ p. i - removed + added + p) (or_after k None (or_after g None o)) ≡ option_map (λ p. j - removed' + (added + g) + p) o
+    shifted i k g j removed added removed' None e = refl
+    shifted i k g j removed added removed' (Some p) e = let z : i - removed + added + (k + (g + p)) ≡ j - removed' + (added + g) + p = omega arith in ap Some z

@@ -1,0 +1,137 @@
+-- The edited list by identities is the one by prefix sums.
+use Rattle.std.proofs.Common.{◌≡◌, ℕ, ◌+◌, ◌-◌, ◌<◌, cond, ltb, List, [], ◌∷◌, ◌++◌, map, length, take, drop, Option, Some, None, refl, sym, ◌∙◌, ap, subst, arith}
+use Rattle.std.specs.Option.{option_map, option_and_then, IfSome}
+use Rattle.std.specs.List.{All}
+use Rattle.std.proofs.lemmas.List.{map-append, length-map}
+use Rattle.std.proofs.lemmas.List.Elements.{All-head, All-tail, All-take, All-drop, All-from_recursion}
+use Rattle.markdown_base.specs.declared.event.Event.{Event}
+use Rattle.markdown_base.specs.declared.event.Link.{Link}
+use Rattle.markdown_base.specs.Events.{relinked, with_ends, EndsBelow, EachEnd}
+use Rattle.markdown_edits.specs.Edits.{Edit, AreDisjoint}
+use Rattle.markdown_edits.specs.Edited.{as_addition, as_change, edited}
+use Rattle.markdown_edits.specs.Woven.{Change, of_list, Tagged, place_in, placed_end, woven, placed_in}
+use Rattle.markdown_edits.specs.Survivors.{AreNew}
+use Rattle.markdown_edits.specs.Shifts.{shifts, place_by}
+use Rattle.markdown_edits.specs.Spliced.{place_from, moved, spliced}
+use Rattle.markdown_edits.proofs.Edits.Passes.{olds, pass, AreApart, woven-pass}
+use Rattle.markdown_edits.proofs.Edits.FinalPlaces.{HasNo, old_place, old_place-pass}
+use Rattle.markdown_edits.proofs.Edits.Shifts.{place_by-shifts}
+
+-- disjoint edits are disjoint changes
+pub AreApart-edits : (es : List Edit) (from n : ℕ) → AreDisjoint from es n → AreApart from (map as_change es) n
+AreApart-edits [] from n d = d
+AreApart-edits (e ∷ es) from n d = (d.0, AreApart-edits es (e.index + e.remove) n d.1)
+
+place_in-additions : (n : ℕ) (xs : List Event) → place_in (of_list n) (map as_addition xs) ≡ None
+place_in-additions n [] = refl
+place_in-additions n (x ∷ xs) = rw (place_in-additions n xs) refl
+
+-- no addition is an event of the list
+HasNo-edits : (n : ℕ) (es : List Edit) → HasNo (of_list n) (map as_change es)
+HasNo-edits n [] = tt
+HasNo-edits n (e ∷ es) = (place_in-additions n e.additions, HasNo-edits n es)
+
+pub AreNew-edits : (es : List Edit) → AreNew (map as_change es)
+AreNew-edits es n = All-from_recursion (λ (w : Change). place_in (of_list n) w.events ≡ None) (map as_change es) (HasNo-edits n es)
+
+old_place-edits : (es : List Edit) (removed added n : ℕ) → old_place (map as_change es) removed added n ≡ place_from es removed added n
+old_place-edits [] removed added n = refl
+old_place-edits (e ∷ es) removed added n =
+    rw (length-map e.additions as_addition)
+    (ap (λ (o : Option ℕ). cond (ltb n e.index) (Some (n - removed + added)) (cond (ltb n (e.index + e.remove)) None o)) (old_place-edits es (removed + e.remove) (added + length e.additions) n))
+
+-- ends that are left as they are
+end_same : (o : Option ℕ) → option_and_then Some o ≡ o
+end_same None = refl
+end_same (Some n) = refl
+
+link_same : (o : Option Link) → option_map (with_ends Some) o ≡ o
+link_same None = refl
+link_same (Some l) = rw (end_same l.previous, end_same l.next) refl
+
+pub relinked-same : (e : Event) → relinked Some e ≡ e
+relinked-same e = ap (λ (l : Option Link). record e { link = l }) (link_same e.link)
+
+-- two ways to move ends that agree below n
+end_agree : (f g : ℕ → Option ℕ) (n : ℕ) (o : Option ℕ) → ((k : ℕ) → k < n → f k ≡ g k) → IfSome o (λ k. k < n) → option_and_then f o ≡ option_and_then g o
+end_agree f g n None h b = refl
+end_agree f g n (Some k) h b = h k b
+
+link_agree : (f g : ℕ → Option ℕ) (n : ℕ) (o : Option Link) → ((k : ℕ) → k < n → f k ≡ g k) → IfSome o (EachEnd (λ k. k < n)) → option_map (with_ends f) o ≡ option_map (with_ends g) o
+link_agree f g n None h b = refl
+link_agree f g n (Some l) h b = rw (end_agree f g n l.previous h b.0, end_agree f g n l.next h b.1) refl
+
+pub relinked-agree : (f g : ℕ → Option ℕ) (n : ℕ) (e : Event) → ((k : ℕ) → k < n → f k ≡ g k) → EndsBelow n e → relinked f e ≡ relinked g e
+relinked-agree f g n e h b = ap (λ (l : Option Link). record e { link = l }) (link_agree f g n e.link h b)
+
+pub placed_in-additions : (ts : List Tagged) (xs : List Event) → placed_in ts (map as_addition xs) ≡ xs
+placed_in-additions ts [] = refl
+placed_in-additions ts (x ∷ xs) = rw (relinked-same x, placed_in-additions ts xs) refl
+
+pub placed_in-append : (ts us vs : List Tagged) → placed_in ts (us ++ vs) ≡ placed_in ts us ++ placed_in ts vs
+placed_in-append ts us vs = map-append (λ (u : Tagged). relinked (placed_end ts u.identity) u.event) us vs
+
+pub placed_in-olds : (ts : List Tagged) (place : ℕ → Option ℕ) (n i : ℕ) (xs : List Event) → ((k : ℕ) → k < n → place_in (of_list k) ts ≡ place k) → All (EndsBelow n) xs → placed_in ts (olds i xs) ≡ moved place xs
+placed_in-olds ts place n i [] h b = refl
+placed_in-olds ts place n i (x ∷ xs) h b =
+    rw (placed_in-olds ts place n (i + 1) xs h (All-tail (EndsBelow n) x xs b))
+    (ap (λ (y : Event). y ∷ moved place xs) (relinked-agree (λ k. place_in (of_list k) ts) place n x h (All-head (EndsBelow n) x xs b)))
+
+pub placed_in-pass : (ts : List Tagged) (place : ℕ → Option ℕ) (n : ℕ) → ((k : ℕ) → k < n → place_in (of_list k) ts ≡ place k) → (es : List Edit) (i : ℕ) (xs : List Event) → All (EndsBelow n) xs → placed_in ts (pass (map as_change es) i xs) ≡ spliced place es i xs
+placed_in-pass ts place n h [] i xs b = placed_in-olds ts place n i xs h b
+placed_in-pass ts place n h (e ∷ es) i xs b =
+    let rest = placed_in-pass ts place n h es (e.index + e.remove) (drop (e.index + e.remove - i) xs) (All-drop (EndsBelow n) (e.index + e.remove - i) xs b) in
+    let front = placed_in-olds ts place n i (take (e.index - i) xs) h (All-take (EndsBelow n) (e.index - i) xs b) in
+    rw (
+      placed_in-append ts (olds i (take (e.index - i) xs)) (map as_addition e.additions ++ pass (map as_change es) (e.index + e.remove) (drop (e.index + e.remove - i) xs)),
+      placed_in-append ts (map as_addition e.additions) (pass (map as_change es) (e.index + e.remove) (drop (e.index + e.remove - i) xs)),
+      placed_in-additions ts e.additions,
+      front,
+      rest,
+    ) refl
+
+-- a place that nothing has shifted
+pub same_shift : (o : Option ℕ) → option_map (λ p. 0 - 0 + 0 + p) o ≡ o
+same_shift None = refl
+same_shift (Some p) = let e : 0 - 0 + 0 + p ≡ p = omega arith in ap Some e
+
+-- an event's place by prefix sums
+pub place_in-woven : (es : List Edit) (xs : List Event) → AreDisjoint 0 es (length xs) → (k : ℕ) → k < length xs → place_in (of_list k) (woven (map as_change es) 0 xs) ≡ place_from es 0 0 k
+place_in-woven es xs d k l =
+    let z : length xs ≡ 0 + length xs = omega arith in
+    let d' : AreApart 0 (map as_change es) (0 + length xs) = subst (λ m. AreApart 0 (map as_change es) m) z (AreApart-edits es 0 (length xs) d) in
+    rw (woven-pass (map as_change es) 0 xs d')
+    (sym (same_shift (place_in (of_list k) (pass (map as_change es) 0 xs)))
+    ∙ old_place-pass (map as_change es) k 0 0 0 xs (HasNo-edits k es) d' (omega arith) (omega arith) (omega arith)
+    ∙ old_place-edits es 0 0 k)
+
+-- where the events of a list come to stand after edits, by the table of their shifts
+abbrev pub place_after : List Edit → ℕ → Option ℕ
+place_after es = place_by (shifts 0 0 es) 0 0
+
+-- the list by identities is the list by prefix sums
+pub edited-spliced : (es : List Edit) (xs : List Event) → AreDisjoint 0 es (length xs) → All (EndsBelow (length xs)) xs → edited es xs ≡ spliced (place_after es) es 0 xs
+edited-spliced es xs d b =
+    let z : length xs ≡ 0 + length xs = omega arith in
+    let d' : AreApart 0 (map as_change es) (0 + length xs) = subst (λ m. AreApart 0 (map as_change es) m) z (AreApart-edits es 0 (length xs) d) in
+    let all : List Tagged = woven (map as_change es) 0 xs in
+    ap (placed_in all) (woven-pass (map as_change es) 0 xs d')
+    ∙ placed_in-pass all (place_after es) (length xs) (λ k l. place_in-woven es xs d k l ∙ sym (place_by-shifts es 0 0 k)) es 0 xs b
+
+end_stays : (o : Option ℕ) → option_and_then (place_by [] 0 0) o ≡ o
+end_stays None = refl
+end_stays (Some n) = let z : n - 0 + 0 ≡ n = omega arith in ap Some z
+
+link_stays : (o : Option Link) → option_map (with_ends (place_by [] 0 0)) o ≡ o
+link_stays None = refl
+link_stays (Some l) = rw (end_stays l.previous, end_stays l.next) refl
+
+moved-none : (xs : List Event) → moved (place_by [] 0 0) xs ≡ xs
+moved-none [] = refl
+moved-none (x ∷ xs) =
+    let e : relinked (place_by [] 0 0) x ≡ x = ap (λ (l : Option Link). record x { link = l }) (link_stays x.link) in
+    rw (e, moved-none xs) refl
+
+-- no edits change nothing
+pub edited-none : (xs : List Event) → All (EndsBelow (length xs)) xs → edited [] xs ≡ xs
+edited-none xs b = edited-spliced [] xs (omega arith) b ∙ moved-none xs

@@ -1,0 +1,208 @@
+-- The events of a list that stay through changes keep their order, and links between them.
+use Rattle.std.proofs.Common.{◌≡◌, ℕ, suc, ◌+◌, ◌-◌, ◌<◌, ◌≤◌, ◌⊎◌, ◌↔◌, Bool, true, false, not, cond, eqb, List, [], ◌∷◌, ◌++◌, length, Option, Some, None, refl, sym, ◌∙◌, ap, inl, inr, ⊎_elim, arith}
+use Rattle.std.specs.List.{slice_get}
+use Rattle.std.specs.Option.{option_map, option_and_then, is_some}
+use Rattle.std.proofs.lemmas.Bool.{ne_eqb, eq-eqb, eqb-true, cases_eq, cases_order}
+use Rattle.std.proofs.lemmas.Option.{none-some, same_Some, slice_get-map}
+use Rattle.std.proofs.lemmas.List.Elements.{recursion_from_All}
+use Rattle.markdown_base.specs.declared.event.Event.{Event}
+use Rattle.markdown_base.specs.declared.event.Link.{Link}
+use Rattle.markdown_base.specs.Events.{relinked, with_ends}
+use Rattle.markdown_edits.specs.Links.{next_of, previous_of}
+use Rattle.markdown_edits.specs.Woven.{Identity, of_list, Tagged, as_listed, place_in, placed_end, Change, events_at, is_removed, woven, changed}
+use Rattle.markdown_edits.specs.Survivors.{AreNew, place_after, StaysUnlessRemoved, StaysAsItWas, KeepsOrder, KeepsLinks}
+use Rattle.markdown_edits.proofs.Edits.FinalPlaces.{HasNo, place_in-append}
+
+place_in-events_at : (b : Identity) (ws : List Change) (i : ℕ) → HasNo b ws → place_in b (events_at ws i) ≡ None
+place_in-events_at b [] i h = refl
+place_in-events_at b (w ∷ ws) i h = here (eqb w.index i) (place_in-events_at b ws i h.1)
+  where
+    here : (c : Bool) → place_in b (events_at ws i) ≡ None → place_in b (cond c w.events [] ++ events_at ws i) ≡ None
+    here true none = rw (place_in-append b w.events (events_at ws i), h.0, none) refl
+    here false none = none
+
+-- the place in the list from the next index on, behind what stands for this one
+abbrev behind : ℕ → Bool → Bool → Option ℕ → Option ℕ
+behind n gone here o = option_map (λ p. n + p) (cond gone o (cond here (Some 0) (option_map suc o)))
+
+place_in-woven_cons : (ws : List Change) (n i : ℕ) (x : Event) (xs : List Event) → HasNo (of_list n) ws
+    → place_in (of_list n) (woven ws i (x ∷ xs)) ≡ behind (length (events_at ws i)) (is_removed ws i) (eqb n i) (place_in (of_list n) (woven ws (i + 1) xs))
+place_in-woven_cons ws n i x xs h =
+    rw (place_in-append (of_list n) (events_at ws i) (cond (is_removed ws i) [] (as_listed i x ∷ []) ++ woven ws (i + 1) xs), place_in-events_at (of_list n) ws i h)
+    (ap (option_map (λ p. length (events_at ws i) + p)) (shape (is_removed ws i) (woven ws (i + 1) xs)))
+  where
+    shape : (gone : Bool) (ts : List Tagged) → place_in (of_list n) (cond gone [] (as_listed i x ∷ []) ++ ts) ≡ cond gone (place_in (of_list n) ts) (cond (eqb n i) (Some 0) (option_map suc (place_in (of_list n) ts)))
+    shape true ts = refl
+    shape false ts = refl
+
+-- a place is that of the event at this index, or one behind
+record Here (ws : List Change) (n i p : ℕ) : Type 0 where
+  same : n ≡ i
+  stays : is_removed ws i ≡ false
+  first : p ≡ length (events_at ws i)
+
+record There (ws : List Change) (n i : ℕ) (xs : List Event) (p : ℕ) : Type 0 where
+  place : ℕ
+  found : place_in (of_list n) (woven ws (i + 1) xs) ≡ Some place
+  sum : p ≡ length (events_at ws i) + cond (is_removed ws i) 0 1 + place
+
+woven_cases : (ws : List Change) (n i p : ℕ) (x : Event) (xs : List Event) → HasNo (of_list n) ws → place_in (of_list n) (woven ws i (x ∷ xs)) ≡ Some p
+    → Here ws n i p ⊎ There ws n i xs p
+woven_cases ws n i p x xs h e =
+    told (is_removed ws i) (eqb n i) (place_in (of_list n) (woven ws (i + 1) xs)) refl refl refl (sym (place_in-woven_cons ws n i x xs h) ∙ e)
+  where
+    told : (gone here : Bool) (o : Option ℕ) → is_removed ws i ≡ gone → eqb n i ≡ here → place_in (of_list n) (woven ws (i + 1) xs) ≡ o
+        → behind (length (events_at ws i)) gone here o ≡ Some p → Here ws n i p ⊎ There ws n i xs p
+    told true here None g a f q = absurd (none-some p q)
+    told true here (Some k) g a f q = inr (record { place = k; found = f; sum = rw g (omega (arith, same_Some (length (events_at ws i) + k) p q)) })
+    told false true o g a f q = inl (record { same = eqb-true n i a; stays = g; first = omega (arith, same_Some (length (events_at ws i) + 0) p q) })
+    told false false None g a f q = absurd (none-some p q)
+    told false false (Some k) g a f q = inr (record { place = k; found = f; sum = rw g (omega (arith, same_Some (length (events_at ws i) + suc k) p q)) })
+
+-- no event stands where none of its kind is left
+le_of_place : (ws : List Change) (n i p : ℕ) (xs : List Event) → HasNo (of_list n) ws → place_in (of_list n) (woven ws i xs) ≡ Some p → i ≤ n
+le_of_place ws n i p [] h e = absurd (none-some p (sym (place_in-events_at (of_list n) ws i h) ∙ e))
+le_of_place ws n i p (x ∷ xs) h e = ⊎_elim
+    (λ (k : Here ws n i p). omega (arith, k.same))
+    (λ (k : There ws n i xs p). omega (arith, le_of_place ws n (i + 1) k.place xs h k.found))
+    (woven_cases ws n i p x xs h e)
+
+place_in-below : (ws : List Change) (n i : ℕ) (xs : List Event) → HasNo (of_list n) ws → n < i → place_in (of_list n) (woven ws i xs) ≡ None
+place_in-below ws n i xs h l = none (place_in (of_list n) (woven ws i xs)) (λ p e. let m = le_of_place ws n i p xs h e in omega arith)
+  where
+    none : (o : Option ℕ) → ((p : ℕ) → o ≡ Some p → ⊥) → o ≡ None
+    none None f = refl
+    none (Some p) f = absurd (f p refl)
+
+-- an event stays unless it is removed
+stays : (ws : List Change) (n i : ℕ) (xs : List Event) → HasNo (of_list n) ws → i ≤ n → n < i + length xs → is_some (place_in (of_list n) (woven ws i xs)) ≡ not (is_removed ws n)
+stays ws n i [] h l m = absurd (omega arith)
+stays ws n i (x ∷ xs) h l m = ap is_some (place_in-woven_cons ws n i x xs h) ∙ ⊎_elim
+    (λ (e : n ≡ i).
+    let at : eqb n i ≡ true = eq-eqb n i e in
+    let none : place_in (of_list n) (woven ws (i + 1) xs) ≡ None = place_in-below ws n (i + 1) xs h (omega arith) in
+    rw (at, none) (now (length (events_at ws i)) (is_removed ws i) ∙ ap (λ k. not (is_removed ws k)) (sym e)))
+    (λ (ne : n ≡ i → ⊥).
+    let at : eqb n i ≡ false = ne_eqb n i ne in
+    rw at (later (length (events_at ws i)) (is_removed ws i) (place_in (of_list n) (woven ws (i + 1) xs)) ∙ stays ws n (i + 1) xs h (omega arith) (omega arith)))
+    (cases_eq n i)
+  where
+    now : (k : ℕ) (gone : Bool) → is_some (behind k gone true None) ≡ not gone
+    now k true = refl
+    now k false = refl
+
+    later : (k : ℕ) (gone : Bool) (o : Option ℕ) → is_some (behind k gone false o) ≡ is_some o
+    later k true None = refl
+    later k true (Some p) = refl
+    later k false None = refl
+    later k false (Some p) = refl
+
+-- events that stay keep their order
+order : (ws : List Change) (n m i p q : ℕ) (xs : List Event) → HasNo (of_list n) ws → HasNo (of_list m) ws
+    → place_in (of_list n) (woven ws i xs) ≡ Some p → place_in (of_list m) (woven ws i xs) ≡ Some q → n < m → p < q
+order ws n m i p q [] h k e f l = absurd (none-some p (sym (place_in-events_at (of_list n) ws i h) ∙ e))
+order ws n m i p q (x ∷ xs) h k e f l = ⊎_elim
+    (λ (a : Here ws n i p). ⊎_elim
+    (λ (b : Here ws m i q). absurd (omega (arith, a.same, b.same)))
+    (λ (b : There ws m i xs q). let s = rw a.stays at b.sum in omega (arith, a.first, s))
+    (woven_cases ws m i q x xs k f))
+    (λ (a : There ws n i xs p). ⊎_elim
+    (λ (b : Here ws m i q). absurd (omega (arith, b.same, le_of_place ws n (i + 1) a.place xs h a.found)))
+    (λ (b : There ws m i xs q). omega (arith, a.sum, b.sum, order ws n m (i + 1) a.place b.place xs h k a.found b.found l))
+    (woven_cases ws m i q x xs k f))
+    (woven_cases ws n i p x xs h e)
+
+slice_get-behind : {X : Type 0} (xs ys : List X) (k : ℕ) → slice_get (xs ++ ys) (length xs + k) ≡ slice_get ys k
+slice_get-behind [] ys k = let z : 0 + k ≡ k = omega arith in ap (slice_get ys) z
+slice_get-behind (x ∷ xs) ys k = let z : suc (length xs) + k ≡ suc (length xs + k) = omega arith in ap (slice_get (x ∷ (xs ++ ys))) z ∙ slice_get-behind xs ys k
+
+-- what stands at an event's place
+same_event : (ws : List Change) (n i p : ℕ) (xs : List Event) → HasNo (of_list n) ws → place_in (of_list n) (woven ws i xs) ≡ Some p
+    → slice_get (woven ws i xs) p ≡ option_map (as_listed n) (slice_get xs (n - i))
+same_event ws n i p [] h e = absurd (none-some p (sym (place_in-events_at (of_list n) ws i h) ∙ e))
+same_event ws n i p (x ∷ xs) h e = ⊎_elim
+    (λ (a : Here ws n i p).
+    let z : p ≡ length (events_at ws i) + 0 = omega (arith, a.first) in
+    let y : n - i ≡ 0 = omega (arith, a.same) in
+    ap (slice_get (woven ws i (x ∷ xs))) z
+    ∙ slice_get-behind (events_at ws i) (cond (is_removed ws i) [] (as_listed i x ∷ []) ++ woven ws (i + 1) xs) 0
+    ∙ rw (a.stays, y, a.same) refl)
+    (λ (a : There ws n i xs p).
+    let l = le_of_place ws n (i + 1) a.place xs h a.found in
+    let z : p ≡ length (events_at ws i) + (cond (is_removed ws i) 0 1 + a.place) = omega (arith, a.sum) in
+    let y : n - i ≡ suc (n - (i + 1)) = omega (arith, l) in
+    ap (slice_get (woven ws i (x ∷ xs))) z
+    ∙ slice_get-behind (events_at ws i) (cond (is_removed ws i) [] (as_listed i x ∷ []) ++ woven ws (i + 1) xs) (cond (is_removed ws i) 0 1 + a.place)
+    ∙ rest (is_removed ws i) a.place (woven ws (i + 1) xs)
+    ∙ same_event ws n (i + 1) a.place xs h a.found
+    ∙ ap (λ k. option_map (as_listed n) (slice_get (x ∷ xs) k)) (sym y))
+    (woven_cases ws n i p x xs h e)
+  where
+    rest : (gone : Bool) (k : ℕ) (ts : List Tagged) → slice_get (cond gone [] (as_listed i x ∷ []) ++ ts) (cond gone 0 1 + k) ≡ slice_get ts k
+    rest true k ts = let z : 0 + k ≡ k = omega arith in ap (slice_get ts) z
+    rest false k ts = let z : 1 + k ≡ suc k = omega arith in ap (slice_get (as_listed i x ∷ ts)) z
+
+-- the laws
+
+has_no : (ws : List Change) → AreNew ws → (n : ℕ) → HasNo (of_list n) ws
+has_no ws new n = recursion_from_All (λ w. place_in (of_list n) w.events ≡ None) ws (new n)
+
+pub stays_unless_removed : (ws : List Change) (xs : List Event) → AreNew ws → StaysUnlessRemoved ws xs
+stays_unless_removed ws xs new n l = stays ws n 0 xs (has_no ws new n) (omega arith) (omega arith)
+
+pub keeps_order : (ws : List Change) (xs : List Event) → AreNew ws → KeepsOrder ws xs
+keeps_order ws xs new n m p q e f l = order ws n m 0 p q xs (has_no ws new n) (has_no ws new m) e f l
+
+pub stays_as_it_was : (ws : List Change) (xs : List Event) → AreNew ws → StaysAsItWas ws xs
+stays_as_it_was ws xs new n p e =
+    let z : n - 0 ≡ n = omega arith in
+    let ts : List Tagged = woven ws 0 xs in
+    slice_get-map (λ (u : Tagged). relinked (placed_end ts u.identity) u.event) ts p
+    ∙ ap (option_map (λ (u : Tagged). relinked (placed_end ts u.identity) u.event)) (same_event ws n 0 p xs (has_no ws new n) e ∙ ap (λ k. option_map (as_listed n) (slice_get xs k)) z)
+    ∙ both (slice_get xs n)
+  where
+    both : (o : Option Event) → option_map (λ (u : Tagged). relinked (placed_end (woven ws 0 xs) u.identity) u.event) (option_map (as_listed n) o) ≡ option_map (relinked (place_after ws xs)) o
+    both None = refl
+    both (Some x) = refl
+
+next_moved : (f : ℕ → Option ℕ) (o : Option Event) → option_and_then (λ (e : Event). option_and_then (λ (l : Link). l.next) e.link) (option_map (relinked f) o)
+    ≡ option_and_then f (option_and_then (λ (e : Event). option_and_then (λ (l : Link). l.next) e.link) o)
+next_moved f None = refl
+next_moved f (Some e) = link e.link
+  where
+    link : (o : Option Link) → option_and_then (λ (l : Link). l.next) (option_map (with_ends f) o) ≡ option_and_then f (option_and_then (λ (l : Link). l.next) o)
+    link None = refl
+    link (Some l) = refl
+
+previous_moved : (f : ℕ → Option ℕ) (o : Option Event) → option_and_then (λ (e : Event). option_and_then (λ (l : Link). l.previous) e.link) (option_map (relinked f) o)
+    ≡ option_and_then f (option_and_then (λ (e : Event). option_and_then (λ (l : Link). l.previous) e.link) o)
+previous_moved f None = refl
+previous_moved f (Some e) = link e.link
+  where
+    link : (o : Option Link) → option_and_then (λ (l : Link). l.previous) (option_map (with_ends f) o) ≡ option_and_then f (option_and_then (λ (l : Link). l.previous) o)
+    link None = refl
+    link (Some l) = refl
+
+-- no two events come to stand at one place
+one_place : (ws : List Change) (xs : List Event) → AreNew ws → (n m p : ℕ) → place_after ws xs n ≡ Some p → place_after ws xs m ≡ Some p → n ≡ m
+one_place ws xs new n m p e f = ⊎_elim
+    (λ (s : n ≡ m). s)
+    (⊎_elim
+    (λ (l : n < m). absurd (omega (arith, keeps_order ws xs new n m p p e f l)))
+    (λ (l : m < n). absurd (omega (arith, keeps_order ws xs new m n p p f e l))))
+    (cases_order n m)
+
+moved_end : (ws : List Change) (xs : List Event) → AreNew ws → (m q : ℕ) → place_after ws xs m ≡ Some q → (o : Option ℕ) → (o ≡ Some m) ↔ (option_and_then (place_after ws xs) o ≡ Some q)
+moved_end ws xs new m q f None = ((λ e. absurd (none-some m e)), (λ e. absurd (none-some q e)))
+moved_end ws xs new m q f (Some k) =
+    ((λ e. ap (place_after ws xs) (same_Some k m e) ∙ f), (λ e. ap Some (one_place ws xs new k m q e f)))
+
+pub keeps_links : (ws : List Change) (xs : List Event) → AreNew ws → KeepsLinks ws xs
+keeps_links ws xs new n m p q e f =
+    let next : next_of (changed ws xs) p ≡ option_and_then (place_after ws xs) (next_of xs n) =
+    ap (option_and_then (λ (e : Event). option_and_then (λ (l : Link). l.next) e.link)) (stays_as_it_was ws xs new n p e) ∙ next_moved (place_after ws xs) (slice_get xs n) in
+    let previous : previous_of (changed ws xs) q ≡ option_and_then (place_after ws xs) (previous_of xs m) =
+    ap (option_and_then (λ (e : Event). option_and_then (λ (l : Link). l.previous) e.link)) (stays_as_it_was ws xs new m q f) ∙ previous_moved (place_after ws xs) (slice_get xs m) in
+    let on = moved_end ws xs new m q f (next_of xs n) in
+    let back = moved_end ws xs new n p e (previous_of xs m) in
+    ((λ a. (next ∙ on.0 a.0, previous ∙ back.0 a.1)), (λ a. (on.1 (sym next ∙ a.0), back.1 (sym previous ∙ a.1))))

@@ -1,0 +1,8 @@
+-- The fields of a tokenizer, call by call.
+pub mod Changes
+pub mod Choices
+pub mod Fields
+pub mod GoingOn
+pub mod Made
+pub mod Steps
+pub mod Unwinding

@@ -1,0 +1,454 @@
+-- Choices end, and what they go on with is fed: what that does to the fields of a tokenizer, and what it means.
+use Rattle.std.proofs.Common.{◌≡◌, ◌==◌, ℕ, ◌≤◌, ◌<◌, List, [], ◌∷◌, ◌++◌, Bool, true, false, cond, Option, Some, None, length, refl, sym, ap, ◌∙◌, subst, arith, take, length-take, ◌⊎◌, inl, inr}
+use Rattle.std.specs.Prelude.{map, reverse, IfSome, IsSome, unwrap_or, nat_lt, Result}
+use Rattle.std.specs.Global.{Vec}
+use Rattle.std.specs.declared.result.Result.TheVariants as result
+use Rattle.std.proofs.lemmas.Bool.Decides.{nat_tests}
+use Rattle.std.proofs.lemmas.List.{take-take, take_all}
+use Rattle.std.proofs.lemmas.Bool.{lt-ltb, le-ltb}
+use Rattle.markdown_base.specs.declared.event.Event.{Event}
+use Rattle.markdown_base.specs.declared.event.Kind.{Kind}
+use Rattle.markdown_base.specs.declared.event.Kind.TheVariants.{Enter, Exit}
+use Rattle.markdown_base.specs.declared.event.Name.{Name}
+use Rattle.markdown_base.specs.declared.event.Point.{Point}
+use Rattle.markdown_base.specs.declared.state.Name.{Name as StateName}
+use Rattle.markdown_base.specs.declared.state.State.{State}
+use Rattle.markdown_base.specs.declared.state.State.TheVariants.{Next, Ok, Nok}
+use Rattle.markdown_base.specs.Events.{open_events}
+use Rattle.markdown_base.specs.Places.{shown}
+use Rattle.markdown_base.proofs.Seats.{stands-self}
+use Rattle.markdown_tokenizer.specs.declared.waiting.AttemptKind.{AttemptKind}
+use Rattle.markdown_tokenizer.specs.declared.waiting.AttemptKind.TheVariants.{Attempt, Check}
+use Rattle.markdown_tokenizer.specs.declared.waiting.GoesOn.{GoesOn}
+use Rattle.markdown_tokenizer.specs.declared.waiting.GoesOn.TheVariants as continuation
+use Rattle.markdown_tokenizer.specs.declared.waiting.KeptChoice.{KeptChoice}
+use Rattle.markdown_tokenizer.specs.declared.waiting.Progress.{Progress}
+use Rattle.markdown_tokenizer.specs.declared.waiting.Waits.{Waits}
+use Rattle.markdown_tokenizer.specs.declared.waiting.Waits.TheVariants.{Nothing, Byte, End}
+use Rattle.markdown_tokenizer.specs.declared.waiting.Phase.TheVariants.{Reading}
+use Rattle.markdown_tokenizer.specs.declared.tokenizer.Tokenizer.TheInside.{Inside}
+use Rattle.markdown_tokenizer.specs.Configuration.{Configuration, Choice, Saved, Step, Local, TokenizerValue, at_configuration}
+use Rattle.markdown_tokenizer.specs.Reading.{fed, unfed, restored, settled_at}
+use Rattle.markdown_tokenizer.specs.Work.{settled_all, settled_to, answer_of, answer_in, EndsClosed, TakesUp}
+use Rattle.markdown_tokenizer.specs.Unwound.{continuation_of, saved_for, ended_by, Unwinding, unwinding, unwound}
+use Rattle.markdown_tokenizer.specs.Gaps.{resumed}
+use Rattle.markdown_tokenizer.specs.Made.{IsMade, last_kind}
+use Rattle.markdown_tokenizer.specs.Cursor.{IsNextByte}
+use Rattle.markdown_tokenizer.specs.View.{tab_of, seen, text_within, state_of, choice_of, saved_of, position_from, standing, reach, can_feed, ByteWaits, IsWhatWaits, IsProgress, AreNested, events_of, stack_of, IsSound}
+use Rattle.markdown_tokenizer.proofs.Inside.Fields.{wide_of, looks, next-more, next-past, next-none-left, nested-map, nested-wider, nested-front}
+use Rattle.markdown_tokenizer.proofs.Inside.Steps.{before-end}
+use Rattle.markdown_tokenizer.proofs.Inside.Changes.{same-choices}
+use Rattle.markdown_tokenizer.proofs.Inside.Choices.{progress_of, saves-here, byte-more, closed-more}
+use Rattle.markdown_tokenizer.proofs.Inside.Made.{last_view, open_events-enter}
+use Rattle.markdown_tokenizer.proofs.Inside.Unwinding.{reverse-last}
+
+-- what choices saved
+module _ (P : Progress → Type 0) where
+  -- no more events and open spans than before
+  abbrev pub IsBehind : Progress → Progress → Type 0
+  IsBehind p from = (p.events_len ≤ from.events_len) × (p.stack_len ≤ from.stack_len)
+
+  abbrev pub GoesFrom : Progress → List KeptChoice → Progress → Type 0
+  GoesFrom from kept_choices p = P p × AreNested P p.events_len p.stack_len kept_choices × IsBehind p from
+
+  from-saved : (from : Progress) (saved : Option Progress) (kept_choices : List KeptChoice) → P from → IfSome saved (λ p. (p.events_len ≤ from.events_len) × (p.stack_len ≤ from.stack_len) × P p)
+      → AreNested P (events_of from.events_len saved) (stack_of from.stack_len saved) kept_choices → GoesFrom from kept_choices (unwrap_or saved from)
+  from-saved from None kept_choices now h k = (now, k, (omega arith, omega arith))
+  from-saved from (Some p) kept_choices now h k = (h.2, k, (h.0, h.1))
+
+  from-one : (kind : AttemptKind) (ok nok : GoesOn) (saved : Option Progress) (kept_choices : List KeptChoice) (from : Progress) (b : Bool)
+      → let choice : KeptChoice = record { kind = kind; ok = ok; nok = nok; saved = saved } in
+      P from → AreNested P from.events_len from.stack_len (choice ∷ kept_choices) → GoesFrom from kept_choices (unwrap_or (saved_for choice b) from)
+  from-one Attempt ok nok saved kept_choices from true now h = (now, nested-front P from.events_len from.stack_len (record { kind = Attempt; ok = ok; nok = nok; saved = saved }) kept_choices h, (omega arith, omega arith))
+  from-one Check ok nok saved kept_choices from true now h = from-saved from saved kept_choices now h.0 h.1
+  from-one Attempt ok nok saved kept_choices from false now h = from-saved from saved kept_choices now h.0 h.1
+  from-one Check ok nok saved kept_choices from false now h = from-saved from saved kept_choices now h.0 h.1
+
+  behind-behind : (a b c : Progress) → IsBehind a b → IsBehind b c → IsBehind a c
+  behind-behind a b c h k = (omega (arith, h.0, k.0), omega (arith, h.1, k.1))
+
+  pub from-all : (kept_choices : List KeptChoice) (goal : GoesOn) (from : Progress) → P from → AreNested P from.events_len from.stack_len kept_choices
+      → let u = unwound kept_choices goal from in GoesFrom from u.kept_choices u.from
+  from-all [] goal from now h = (now, tt, (omega arith, omega arith))
+  from-all (choice ∷ kept_choices) (continuation.Next name) from now h = (now, h, (omega arith, omega arith))
+  from-all (choice ∷ kept_choices) continuation.Ok from now h =
+      let one = from-one choice.kind choice.ok choice.nok choice.saved kept_choices from true now h in
+      let next = unwrap_or (saved_for choice true) from in
+      let all = from-all kept_choices (continuation_of choice true) next one.0 one.1 in
+      (all.0, all.1, behind-behind (unwound kept_choices (continuation_of choice true) next).from next from all.2 one.2)
+  from-all (choice ∷ kept_choices) continuation.Nok from now h =
+      let one = from-one choice.kind choice.ok choice.nok choice.saved kept_choices from false now h in
+      let next = unwrap_or (saved_for choice false) from in
+      let all = from-all kept_choices (continuation_of choice false) next one.0 one.1 in
+      (all.0, all.1, behind-behind (unwound kept_choices (continuation_of choice false) next).from next from all.2 one.2)
+
+-- what one goes on from
+module _ {R D : Type 0} (position : Point → ℕ) (events : List Event) (stack : List Name) (local : Local R D) where
+  abbrev pub at_from : Progress → Configuration R D
+  at_from from = record { position = position from.after_previous; waiting = Nothing; ended = from.ended; events = take from.events_len events; stack = take from.stack_len stack; local = local }
+
+  settled-saved : (from : Progress) (saved : Option Progress) → IfSome saved (λ p. p.events_len ≤ from.events_len) → restored (saved_of position stack saved) (at_from from) ≡ at_from (unwrap_or saved from)
+  settled-saved from None h = refl
+  settled-saved from (Some p) h = let e = take-take p.events_len from.events_len events h in rw e refl
+
+  settled-one : (kind : AttemptKind) (ok nok : GoesOn) (saved : Option Progress) (from : Progress) (b : Bool) → IfSome saved (λ p. p.events_len ≤ from.events_len)
+      → settled_at kind (saved_of position stack saved) (answer_of b) (at_from from) ≡ at_from (unwrap_or (saved_for (record { kind = kind; ok = ok; nok = nok; saved = saved }) b) from)
+  settled-one Attempt ok nok saved from true h = refl
+  settled-one Check ok nok saved from true h = settled-saved from saved h
+  settled-one Attempt ok nok saved from false h = settled-saved from saved h
+  settled-one Check ok nok saved from false h = settled-saved from saved h
+
+  fewer : (P : Progress → Type 0) (from : Progress) (saved : Option Progress) → IfSome saved (λ p. (p.events_len ≤ from.events_len) × (p.stack_len ≤ from.stack_len) × P p) → IfSome saved (λ p. p.events_len ≤ from.events_len)
+  fewer P from None h = tt
+  fewer P from (Some p) h = h.0
+
+  abbrev pub choices_of : List KeptChoice → List Choice
+  choices_of kept_choices = map (choice_of position stack) kept_choices
+
+  abbrev pub step_of : Unwinding → Step R D
+  step_of u = record { configuration = at_from u.from; choices = choices_of u.kept_choices; answer = state_of u.goal }
+
+  -- the code and the definition end the same choices
+  pub settled-unwound : (P : Progress → Type 0) (kept_choices : List KeptChoice) (goal : GoesOn) (from : Progress) → P from → AreNested P from.events_len from.stack_len kept_choices
+      → settled_all (at_from from) (choices_of kept_choices) (state_of goal) ≡ step_of (unwound kept_choices goal from)
+  settled-unwound P [] (continuation.Next name) from now h = refl
+  settled-unwound P [] continuation.Ok from now h = refl
+  settled-unwound P [] continuation.Nok from now h = refl
+  settled-unwound P (choice ∷ kept_choices) (continuation.Next name) from now h = refl
+  settled-unwound P (choice ∷ kept_choices) continuation.Ok from now h =
+      let one = from-one P choice.kind choice.ok choice.nok choice.saved kept_choices from true now h in
+      let e = settled-one choice.kind choice.ok choice.nok choice.saved from true (fewer P from choice.saved h.0) in
+      ap (λ (k : Configuration R D). settled_all k (choices_of kept_choices) (state_of choice.ok)) e ∙ settled-unwound P kept_choices (continuation_of choice true) (unwrap_or (saved_for choice true) from) one.0 one.1
+  settled-unwound P (choice ∷ kept_choices) continuation.Nok from now h =
+      let one = from-one P choice.kind choice.ok choice.nok choice.saved kept_choices from false now h in
+      let e = settled-one choice.kind choice.ok choice.nok choice.saved from false (fewer P from choice.saved h.0) in
+      ap (λ (k : Configuration R D). settled_all k (choices_of kept_choices) (state_of choice.nok)) e ∙ settled-unwound P kept_choices (continuation_of choice false) (unwrap_or (saved_for choice false) from) one.0 one.1
+
+-- what waits makes no difference where a choice ends
+restored-unfed : {R D : Type 0} (saved : Option Saved) (k : Configuration R D) → restored saved k ≡ restored saved (unfed k)
+restored-unfed None k = refl
+restored-unfed (Some saved) k = refl
+
+settled-unfed : {R D : Type 0} (kind : AttemptKind) (saved : Option Saved) (b : Bool) (k : Configuration R D) → settled_at kind saved (answer_of b) k ≡ settled_at kind saved (answer_of b) (unfed k)
+settled-unfed Attempt saved true k = refl
+settled-unfed Check saved true k = restored-unfed saved k
+settled-unfed Attempt saved false k = restored-unfed saved k
+settled-unfed Check saved false k = restored-unfed saved k
+
+all-unfed : {R D : Type 0} (c : Choice) (cs : List Choice) (b : Bool) (k : Configuration R D) → settled_all k (c ∷ cs) (answer_of b) ≡ settled_all (unfed k) (c ∷ cs) (answer_of b)
+all-unfed {R} {D} c cs true k = ap (λ (q : Configuration R D). settled_all q cs c.ok) (settled-unfed c.kind c.saved true k)
+all-unfed {R} {D} c cs false k = ap (λ (q : Configuration R D). settled_all q cs c.nok) (settled-unfed c.kind c.saved false k)
+
+some-unfed : {R D : Type 0} (choices : List Choice) (b : Bool) (k : Configuration R D) → (choices ≡ [] → ⊥) → settled_all k choices (answer_of b) ≡ settled_all (unfed k) choices (answer_of b)
+some-unfed [] b k h = absurd (h refl)
+some-unfed (c ∷ cs) b k h = all-unfed c cs b k
+
+ended-state : (b : Bool) → state_of (ended_by b) ≡ answer_of b
+ended-state true = refl
+ended-state false = refl
+
+-- where no span is open each event is up to where an exit would stand
+exit-last : (events : List Event) → open_events events ≡ [] → last_kind Exit events ≡ Exit
+exit-last events e = cases (last_view events)
+  where
+    by-kind : (ys : List Event) (y : Event) (k : Kind) → y.kind ≡ k → events ≡ ys ++ y ∷ [] → last_kind Exit events ≡ Exit
+    by-kind ys y Enter f is = let g : [] ≡ open_events ys ++ y ∷ [] = sym e ∙ ap open_events is ∙ open_events-enter ys y f in absurd (not-empty (open_events ys) y (sym g))
+      where
+        not-empty : (xs : List Event) (x : Event) → xs ++ x ∷ [] ≡ [] → ⊥
+        not-empty [] x h = cc
+        not-empty (z ∷ zs) x h = cc
+    by-kind ys y Exit f is = ap (last_kind Exit) is ∙ last-of Exit ys y ∙ f
+      where
+        last-of : (k : Kind) (xs : List Event) (x : Event) → last_kind k (xs ++ x ∷ []) ≡ x.kind
+        last-of k [] x = refl
+        last-of k (z ∷ zs) x = last-of z.kind zs x
+
+    cases : (events ≡ []) ⊎ ((ys : List Event) × (y : Event) × (events ≡ ys ++ y ∷ [])) → last_kind Exit events ≡ Exit
+    cases (inl none) = ap (last_kind Exit) none
+    cases (inr p) = by-kind p.0 p.1 p.1.kind refl p.2
+
+map-none : (events : List Event) → map (λ (e : Event). e.name) events ≡ [] → events ≡ []
+map-none [] h = refl
+map-none (e ∷ es) h = absurd cc
+
+pub made-closed : (bytes : List ℕ) (events : List Event) (stack : List Name) (after_previous bound : Point) → IsMade bytes events stack after_previous bound → stack ≡ [] → IsMade bytes events stack after_previous after_previous
+made-closed bytes events stack after_previous bound m e = record {
+  names = m.names;
+  nested = m.nested;
+  tight = m.tight;
+  in_order = m.in_order;
+  behind = m.read (exit-last events (map-none (open_events events) (m.names ∙ e)));
+  read = m.read;
+  left_bound = stands-self after_previous;
+  left_shown = m.left_shown;
+  bound_shown = m.left_shown;
+}
+
+-- a tokenizer whose choices end
+module _ {M R D : Type 0} (t : Inside M R D) (sound : IsSound t) (ok : Bool) (some : t.kept_choices.items ≡ [] → ⊥) (list : List KeptChoice) (goal : GoesOn) (from : Progress)
+    (ends : unwinding (reverse list) goal from ≡ unwound (reverse t.kept_choices.items) (ended_by ok) (progress_of t)) where
+  abbrev bytes_in : List ℕ
+  bytes_in = t.parse_state.now.bytes.now
+
+  abbrev tab_in : ℕ
+  tab_in = tab_of t.parse_state.now
+
+  wide_in : 0 < tab_in
+  wide_in = wide_of t sound
+
+  abbrev position_in : Point → ℕ
+  position_in = position_from tab_in bytes_in t.skips t.start
+
+  abbrev Kept : Progress → Type 0
+  Kept = IsProgress t.phase tab_in bytes_in t.skips (text_within t) t.events.items t.stack.items t.closed
+
+  goes-from : GoesFrom Kept (progress_of t) (reverse list) from
+  goes-from = subst (λ (u : Unwinding). GoesFrom Kept (progress_of t) u.kept_choices u.from) (sym ends) (from-all Kept (reverse t.kept_choices.items) (ended_by ok) (progress_of t) (saves-here t sound) sound.kept_choices)
+
+  pub kept-here : Kept from
+  kept-here = goes-from.0
+
+  some-choices : map (choice_of position_in t.stack.items) (reverse t.kept_choices.items) ≡ [] → ⊥
+  some-choices = cases (last_view t.kept_choices.items)
+    where
+      cases : (t.kept_choices.items ≡ []) ⊎ ((ms : List KeptChoice) × (m : KeptChoice) × (t.kept_choices.items ≡ ms ++ m ∷ [])) → map (choice_of position_in t.stack.items) (reverse t.kept_choices.items) ≡ [] → ⊥
+      cases (inl none) h = some none
+      cases (inr p) h = (let e = ap (map (choice_of position_in t.stack.items)) (reverse-last t.kept_choices.items p.0 p.1 p.2) in let g = sym e ∙ h in cc)
+
+  unfed-here : unfed (seen t).configuration ≡ at_from position_in t.events.items t.stack.items (seen t).configuration.local (progress_of t)
+  unfed-here =
+      let e : take (length t.events.items) t.events.items ≡ t.events.items = take_all (length t.events.items) t.events.items (omega arith) in
+      let s : take (length t.stack.items) t.stack.items ≡ t.stack.items = take_all (length t.stack.items) t.stack.items (omega arith) in
+      rw (e, s) refl
+
+  -- what the definition comes to
+  pub settled-is : settled_all (seen t).configuration (seen t).choices (answer_of ok) ≡ step_of position_in t.events.items t.stack.items (seen t).configuration.local (unwinding (reverse list) goal from)
+  settled-is =
+      let local = (seen t).configuration.local in
+      some-unfed (seen t).choices ok (seen t).configuration some-choices
+      ∙ ap (λ (k : Configuration R D). settled_all k (seen t).choices (answer_of ok)) unfed-here
+      ∙ ap (settled_all (at_from position_in t.events.items t.stack.items local (progress_of t)) (seen t).choices) (sym (ended-state ok))
+      ∙ settled-unwound position_in t.events.items t.stack.items local Kept (reverse t.kept_choices.items) (ended_by ok) (progress_of t) (saves-here t sound) sound.kept_choices
+      ∙ ap (step_of position_in t.events.items t.stack.items local) (sym ends)
+
+  module _ (events : List Event) (stack : List Name) (cut : events ≡ take from.events_len t.events.items) (top : stack ≡ take from.stack_len t.stack.items) where
+    front-events : (n : ℕ) → n ≤ from.events_len → take n events ≡ take n t.events.items
+    front-events n le = rw cut (take-take n from.events_len t.events.items le)
+
+    front-stack : (n : ℕ) → n ≤ from.stack_len → take n stack ≡ take n t.stack.items
+    front-stack n le = rw top (take-take n from.stack_len t.stack.items le)
+
+    pub going-kept_choices : AreNested (IsProgress t.phase tab_in bytes_in t.skips (text_within t) events stack t.closed) (length events) (length stack) (reverse list)
+    going-kept_choices =
+        let Q = IsProgress t.phase tab_in bytes_in t.skips (text_within t) events stack t.closed in
+        nested-wider Q from.events_len from.stack_len (length events) (length stack) (reverse list)
+        (omega (arith, goes-from.2.0, ap length cut, length-take from.events_len t.events.items))
+        (omega (arith, goes-from.2.1, ap length top, length-take from.stack_len t.stack.items))
+        (nested-map Kept Q from.events_len from.stack_len (reverse list)
+        (λ q a b h. let e = front-events q.events_len a in let s = front-stack q.stack_len b in
+        record { read = h.read; ended = h.ended; made = rw (e, s) h.made }) goes-from.1)
+
+    pub going-choices : map (choice_of position_in stack) (reverse list) ≡ map (choice_of position_in t.stack.items) (reverse list)
+    going-choices = same-choices position_in stack t.stack.items Kept from.events_len from.stack_len (reverse list) front-stack goes-from.1
+
+    abbrev size_in : ℕ
+    size_in = length (text_within t).seats
+
+    abbrev MadeUpto : Point → Type 0
+    MadeUpto p = t.phase ≡ Reading → IsMade bytes_in events stack (shown bytes_in from.after_previous) (shown bytes_in p)
+
+    going-reach : MadeUpto (reach t.skips from.after_previous (can_feed (position_in from.after_previous) size_in t.closed))
+    going-reach = rw (cut, top) kept-here.made
+
+    reach-is : (b : Bool) → can_feed (position_in from.after_previous) size_in t.closed ≡ b → MadeUpto (reach t.skips from.after_previous b)
+    reach-is b e = subst (λ (c : Bool). MadeUpto (reach t.skips from.after_previous c)) e going-reach
+
+    -- a byte is fed
+    module _ (byte : ℕ) (n : IsNextByte tab_in bytes_in (resumed t.skips from.after_previous) t.end (Some byte)) where
+      pub byte-left : position_in from.after_previous < size_in
+      byte-left = next-more tab_in wide_in bytes_in t.skips t.start (text_within t).end from.after_previous from.previous sound.skips kept-here.read n.0 n.1 (before-end t sound n.0.point ∙ n.2)
+
+      pub byte-waits-there : ByteWaits tab_in bytes_in t.skips from.after_previous (text_within t).end (Some byte)
+      byte-waits-there = record { seat = n.0; at = n.1; before = before-end t sound n.0.point ∙ n.2; is = ap Some (sym n.3) }
+
+      pub byte-made : MadeUpto (resumed t.skips from.after_previous)
+      byte-made = reach-is true (byte-more (position_in from.after_previous) size_in t.closed byte-left)
+
+    -- no byte is left
+    module _ (n : IsNextByte tab_in bytes_in (resumed t.skips from.after_previous) t.end None) where
+      pub none-left-there : size_in ≤ position_in from.after_previous
+      none-left-there = by n
+        where
+          by : IsNextByte tab_in bytes_in (resumed t.skips from.after_previous) t.end None → size_in ≤ position_in from.after_previous
+          by (inl e) = next-none-left tab_in wide_in bytes_in t.skips t.start (text_within t).end from.after_previous from.previous sound.skips kept-here.read e
+          by (inr m) = next-past tab_in wide_in bytes_in t.skips t.start (text_within t).end from.after_previous from.previous sound.skips kept-here.read m.0 m.1 (before-end t sound m.0.point ∙ m.2)
+
+      pub end-made : t.closed ≡ true → MadeUpto (resumed t.skips from.after_previous)
+      end-made closed = reach-is true (closed-more (position_in from.after_previous) size_in t.closed closed)
+
+      pub none-made : t.closed ≡ false → MadeUpto from.after_previous
+      none-made still = reach-is false (none-more (position_in from.after_previous) size_in t.closed none-left-there still)
+        where
+          none-more : (position size : ℕ) (closed : Bool) → size ≤ position → closed ≡ false → can_feed position size closed ≡ false
+          none-more position size closed le e = let f = le-ltb position size le in rw (e, f) refl
+
+    -- the reading has ended
+    pub ended-made : stack ≡ [] → MadeUpto from.after_previous
+    ended-made e reads = made-closed bytes_in events stack (shown bytes_in from.after_previous) (shown bytes_in (reach t.skips from.after_previous (can_feed (position_in from.after_previous) size_in t.closed))) (going-reach reads) e
+
+-- where the code looks for the next byte
+module _ (skips : List Point) (after_previous : Point) (slice : List Point) (place : Point) (same : slice ≡ skips) (here : place ≡ resumed slice after_previous) where
+  going-at : place ≡ resumed skips after_previous
+  going-at = here ∙ ap (λ (xs : List Point). resumed xs after_previous) same
+
+  pub going-next : (tab : ℕ) (bytes : List ℕ) (end : ℕ × ℕ) (o : Option ℕ) → IsNextByte tab bytes place end o → IsNextByte tab bytes (resumed skips after_previous) end o
+  going-next tab bytes end o h = subst (λ (p : Point). IsNextByte tab bytes p end o) going-at h
+
+  pub going-within : (bytes : List ℕ) → (0 < (resumed skips after_previous).vs → (resumed skips after_previous).index < length bytes) → 0 < place.vs → place.index < length bytes
+  going-within bytes h = subst (λ (p : Point). 0 < p.vs → p.index < length bytes) (sym going-at) h
+
+pub some-by : (items : List KeptChoice) (n : ℕ) (b : Bool) → b ≡ (n == 0) → b ≡ false → n ≡ length items → items ≡ [] → ⊥
+some-by items n b e f g none = let z : n ≡ 0 = g ∙ ap length none in let same : b ≡ true = e ∙ ap (λ (k : ℕ). k == 0) z in let c : true ≡ false = sym same ∙ f in cc
+
+pub none-by : (items : List KeptChoice) (n : ℕ) (b : Bool) → b ≡ (n == 0) → b ≡ true → n ≡ length items → items ≡ []
+none-by [] n b e f g = refl
+none-by (x ∷ xs) n b e f g = absurd (by n (sym e ∙ f) g)
+  where
+    by : (k : ℕ) → (k == 0) ≡ true → k ≡ length (x ∷ xs) → ⊥
+    by k h i = let z : k ≡ 0 = grind (arith, nat_tests) in (omega arith)
+
+-- with no choice the reading has ended
+pub takes-ended : {M R D : Type 0} (flush : Bool) (q : TokenizerValue M R D) (ok : Bool) (answer : State) → q.choices ≡ [] → answer ≡ answer_of ok
+    → let s = settled_all q.configuration q.choices (answer_of ok) in TakesUp flush (settled_to q s) q s.answer (result.Err answer)
+takes-ended flush q true answer e f = rw e (refl, f)
+takes-ended flush q false answer e f = rw e (refl, f)
+
+-- the fields once choices have ended
+module _ {M R D : Type 0} (t : Inside M R D) (sound : IsSound t) (flush ok : Bool) (some : t.kept_choices.items ≡ [] → ⊥) (kept_choices : Vec KeptChoice) (goal : GoesOn) (from : Progress)
+    (ends : unwinding (reverse kept_choices.items) goal from ≡ unwound (reverse t.kept_choices.items) (ended_by ok) (progress_of t))
+    (events : Vec Event) (stack : Vec Name) (cut : events.items ≡ take from.events_len t.events.items) (top : stack.items ≡ take from.stack_len t.stack.items) where
+  abbrev bytes_there : List ℕ
+  bytes_there = t.parse_state.now.bytes.now
+
+  abbrev tab_there : ℕ
+  tab_there = tab_of t.parse_state.now
+
+  wide_there : 0 < tab_there
+  wide_there = wide_of t sound
+
+  abbrev position_there : ℕ
+  position_there = position_from tab_there bytes_there t.skips t.start from.after_previous
+
+  abbrev size_there : ℕ
+  size_there = length (text_within t).seats
+
+  abbrev pub after : Waits → Bool → Option ℕ → Inside M R D
+  after waits ended current = record t { kept_choices = kept_choices; after_previous = from.after_previous; previous = from.previous; events = events; stack = stack; waits = waits; ended = ended; current = current }
+
+  abbrev NextThere : Option ℕ → Type 0
+  NextThere o = IsNextByte tab_there bytes_there (resumed t.skips from.after_previous) t.end o
+
+  sound-by : (waits : Waits) (ended : Bool) (current : Option ℕ) → IsWhatWaits tab_there bytes_there t.skips (text_within t) from.after_previous current t.closed waits → (ended ≡ true → t.closed ≡ true)
+      → (t.phase ≡ Reading → IsMade bytes_there events.items stack.items (shown bytes_there from.after_previous) (shown bytes_there (standing t.skips from.after_previous waits))) → IsSound (after waits ended current)
+  sound-by waits ended current w e m = record {
+    limit = sound.limit;
+    tab = sound.tab;
+    reads = sound.reads;
+    end_at = sound.end_at;
+    text = sound.text;
+    skips = sound.skips;
+    read = (kept-here t sound ok some kept_choices.items goal from ends).read;
+    waiting = w;
+    ended = e;
+    made = m;
+    kept_choices = going-kept_choices t sound ok some kept_choices.items goal from ends events.items stack.items cut top;
+  }
+
+  -- a byte
+  pub byte-sound : (byte : ℕ) → NextThere (Some byte) → IsSound (after Byte from.ended (Some byte))
+  byte-sound byte n = sound-by Byte from.ended (Some byte) (byte-waits-there t sound ok some kept_choices.items goal from ends events.items stack.items cut top byte n)
+      (kept-here t sound ok some kept_choices.items goal from ends).ended (byte-made t sound ok some kept_choices.items goal from ends events.items stack.items cut top byte n)
+
+  -- the end
+  pub end-sound : NextThere None → t.closed ≡ true → IsSound (after End true None)
+  end-sound n closed = sound-by End true None (record { none = refl; closed_too = closed; all = none-left-there t sound ok some kept_choices.items goal from ends events.items stack.items cut top n })
+      (λ _. closed) (end-made t sound ok some kept_choices.items goal from ends events.items stack.items cut top n closed)
+
+  -- nothing
+  pub none-sound : NextThere None → t.closed ≡ false → IsSound (after Nothing from.ended None)
+  none-sound n still = sound-by Nothing from.ended None refl (kept-here t sound ok some kept_choices.items goal from ends).ended
+      (none-made t sound ok some kept_choices.items goal from ends events.items stack.items cut top n still)
+
+  -- the reading has ended
+  pub ended-sound : stack.items ≡ [] → IsSound (after Nothing from.ended None)
+  ended-sound e = sound-by Nothing from.ended None refl (kept-here t sound ok some kept_choices.items goal from ends).ended
+      (ended-made t sound ok some kept_choices.items goal from ends events.items stack.items cut top e)
+
+  abbrev step_there : Step R D
+  step_there = step_of (position_from tab_there bytes_there t.skips t.start) t.events.items t.stack.items (seen t).configuration.local (unwinding (reverse kept_choices.items) goal from)
+
+  abbrev TakesThere : TokenizerValue M R D → Result StateName State → Type 0
+  TakesThere new answer = let s = settled_all (seen t).configuration (seen t).choices (answer_of ok) in TakesUp flush (settled_to (seen t) s) new s.answer answer
+
+  by-step : (new : TokenizerValue M R D) (answer : Result StateName State) → TakesUp flush (settled_to (seen t) step_there) new (state_of goal) answer → TakesThere new answer
+  by-step new answer h = subst (λ (s : Step R D). TakesUp flush (settled_to (seen t) s) new s.answer answer) (sym (settled-is t sound ok some kept_choices.items goal from ends)) h
+
+  abbrev waiting_there : Waits → Bool → TokenizerValue M R D
+  waiting_there waits ended = record {
+    given = (seen t).given;
+    machine = (seen t).machine;
+    text = (seen t).text;
+    configuration = record {
+      position = position_there;
+      waiting = waits;
+      ended = ended;
+      events = take from.events_len t.events.items;
+      stack = take from.stack_len t.stack.items;
+      local = (seen t).configuration.local;
+    };
+    choices = step_there.choices;
+    calls = (seen t).calls;
+    closed = (seen t).closed;
+    phase = (seen t).phase;
+  }
+
+  seen-there : (waits : Waits) (ended : Bool) (current : Option ℕ) → seen (after waits ended current) ≡ waiting_there waits ended
+  seen-there waits ended current = let c = going-choices t sound ok some kept_choices.items goal from ends events.items stack.items cut top in rw (c, cut, top) refl
+
+  fed-there : (b : Bool) → nat_lt position_there size_there ≡ b
+      → at_configuration (settled_to (seen t) step_there) (fed (seen t).text step_there.configuration) ≡ cond b (waiting_there Byte from.ended) (waiting_there End true)
+  fed-there true e = rw e refl
+  fed-there false e = rw e refl
+
+  -- what waits, and for which state
+  pub takes-byte : (name : StateName) (byte : ℕ) → goal ≡ continuation.Next name → NextThere (Some byte) → TakesThere (seen (after Byte from.ended (Some byte))) (result.Ok name)
+  takes-byte name byte e n =
+      let lt = byte-left t sound ok some kept_choices.items goal from ends events.items stack.items cut top byte n in
+      by-step _ _ (rw e (refl, seen-there Byte from.ended (Some byte) ∙ sym (fed-there true (lt-ltb position_there size_there lt)), λ f. lt))
+
+  pub takes-end : (name : StateName) → goal ≡ continuation.Next name → flush ≡ true → NextThere None → TakesThere (seen (after End true None)) (result.Ok name)
+  takes-end name e f n =
+      let le = none-left-there t sound ok some kept_choices.items goal from ends events.items stack.items cut top n in
+      by-step _ _ (rw e (refl, seen-there End true None ∙ sym (fed-there false (le-ltb position_there size_there le)), λ g. absurd (let c : true ≡ false = sym f ∙ g in cc)))
+
+  pub takes-none : (name : StateName) → goal ≡ continuation.Next name → flush ≡ false → NextThere None → TakesThere (seen (after Nothing from.ended None)) (result.Err (Next name))
+  takes-none name e f n =
+      let le = none-left-there t sound ok some kept_choices.items goal from ends events.items stack.items cut top n in
+      by-step _ _ (rw e (seen-there Nothing from.ended None, refl, f, le))
+
+  pub takes-ok : goal ≡ continuation.Ok → TakesThere (seen (after Nothing from.ended None)) (result.Err Ok)
+  takes-ok e = by-step _ _ (rw e (seen-there Nothing from.ended None, refl))
+
+  pub takes-nok : goal ≡ continuation.Nok → TakesThere (seen (after Nothing from.ended None)) (result.Err Nok)
+  takes-nok e = by-step _ _ (rw e (seen-there Nothing from.ended None, refl))
+
+  -- no span is open where the reading has ended
+  pub closes : EndsClosed (settled_all (seen t).configuration (seen t).choices (answer_of ok)) → (goal ≡ continuation.Ok) ⊎ (goal ≡ continuation.Nok) → stack.items ≡ []
+  closes h o = top ∙ subst EndsClosed (settled-is t sound ok some kept_choices.items goal from ends) h (answered o)
+    where
+      answered : (goal ≡ continuation.Ok) ⊎ (goal ≡ continuation.Nok) → IsSome (answer_in (state_of goal))
+      answered (inl e) = rw e refl
+      answered (inr e) = rw e refl
+
+  pub within-there : 0 < (resumed t.skips from.after_previous).vs → (resumed t.skips from.after_previous).index < length bytes_there
+  within-there = (looks tab_there wide_there bytes_there t.skips t.start (text_within t).end from.after_previous from.previous sound.skips (kept-here t sound ok some kept_choices.items goal from ends).read).place.bounds.tab

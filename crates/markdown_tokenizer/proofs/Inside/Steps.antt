@@ -1,0 +1,297 @@
+-- Each call on a tokenizer keeps what holds of its fields, and does what its contract says.
+use Rattle.std.proofs.Common.{◌≡◌, ℕ, ◌≤◌, ◌<◌, List, [], true, false, Option, Some, None, length, refl, sym, ap, ◌∙◌, subst, add-one, inl, inr}
+use Rattle.std.specs.Prelude.{map}
+use Rattle.std.proofs.lemmas.Bool.{lt-ltb}
+use Rattle.markdown_base.specs.declared.event.Point.{Point}
+use Rattle.markdown_base.specs.declared.event.Name.{Name}
+use Rattle.markdown_base.specs.Virtual.{Seat}
+use Rattle.markdown_base.specs.Places.{shown, stands_before}
+use Rattle.markdown_base.specs.Events.{open_events}
+use Rattle.markdown_base.proofs.Seats.{stands-self}
+use Rattle.markdown_tokenizer.specs.declared.waiting.Waits.{Waits}
+use Rattle.markdown_tokenizer.specs.declared.waiting.Waits.TheVariants.{Nothing, Byte, End}
+use Rattle.markdown_tokenizer.specs.declared.waiting.Phase.TheVariants.{Reading}
+use Rattle.markdown_tokenizer.specs.declared.tokenizer.Tokenizer.TheInside.{Inside}
+use Rattle.markdown_tokenizer.specs.Configuration.{at_configuration}
+use Rattle.markdown_tokenizer.specs.Sight.{sight, byte_of, point_of, current_of, point_or}
+use Rattle.markdown_tokenizer.specs.Calls.{consumed}
+use Rattle.markdown_tokenizer.specs.Reading.{fed}
+use Rattle.markdown_tokenizer.specs.Engine.{IsWellFormed}
+use Rattle.markdown_tokenizer.specs.Work.{IsInText}
+use Rattle.markdown_tokenizer.specs.Gaps.{resumed}
+use Rattle.markdown_tokenizer.specs.View.{tab_of, seen, text_within, end_point, seats_between, position_from, standing, IsReadTo, ByteWaits, EndWaits, IsWhatWaits, IsSound}
+use Rattle.markdown_tokenizer.specs.Cursor.{IsPlace, IsSeatAt, rest_at, is_before_pair, IsNextByte}
+use Rattle.markdown_tokenizer.proofs.Positions.Order.{later-later}
+use Rattle.markdown_tokenizer.proofs.Positions.Seats.{one-seat}
+use Rattle.markdown_tokenizer.proofs.Positions.Standing.{place-of-point, shown-shown, shown-upto, seat-shown, seat-passes}
+use Rattle.markdown_tokenizer.proofs.Positions.Gaps.{IsResumed}
+use Rattle.markdown_tokenizer.proofs.Positions.Points.{point_at-is, shown-line, shown-column, same-numbers}
+use Rattle.markdown_tokenizer.specs.Made.{IsMade}
+use Rattle.markdown_tokenizer.proofs.Inside.Made.{made-consume, made-end}
+use Rattle.markdown_tokenizer.proofs.Inside.Fields.{wide_of, looks, within, next-shown, next-seat, next-more, next-past, next-number, read-next, next-none-left, end-shown, made-later}
+
+module _ {M R D : Type 0} (t : Inside M R D) (sound : IsSound t) where
+  abbrev bytes_in : List ℕ
+  bytes_in = t.parse_state.now.bytes.now
+
+  abbrev tab_in : ℕ
+  tab_in = tab_of t.parse_state.now
+
+  wide_in : 0 < tab_in
+  wide_in = wide_of t sound
+
+  abbrev end_in : Point
+  end_in = end_point tab_in bytes_in t.end
+
+  abbrev skips_in : List Point
+  skips_in = t.skips
+
+  abbrev here_in : Point
+  here_in = resumed skips_in t.after_previous
+
+  abbrev position_in : ℕ
+  position_in = position_from tab_in bytes_in skips_in t.start t.after_previous
+
+  -- the place from which the next byte is looked for
+  looks_in : IsResumed tab_in bytes_in skips_in t.start end_in t.after_previous here_in
+  looks_in = looks tab_in wide_in bytes_in skips_in t.start end_in t.after_previous t.previous sound.skips sound.read
+
+  pub end-place-in : IsPlace tab_in bytes_in end_in
+  end-place-in = place-of-point tab_in bytes_in wide_in end_in (point_at-is tab_in bytes_in t.end end_in sound.end_at).is_point
+
+  bytes-wait : (w : Waits) → IsWhatWaits tab_in bytes_in skips_in (text_within t) t.after_previous t.current t.closed w → w ≡ Byte → ByteWaits tab_in bytes_in skips_in t.after_previous end_in t.current
+  bytes-wait Nothing h e = absurd cc
+  bytes-wait Byte h e = h
+  bytes-wait End h e = absurd cc
+
+  pub byte-waits : t.waits ≡ Byte → ByteWaits tab_in bytes_in skips_in t.after_previous end_in t.current
+  byte-waits e = bytes-wait t.waits sound.waiting e
+
+  ends-wait : (w : Waits) → IsWhatWaits tab_in bytes_in skips_in (text_within t) t.after_previous t.current t.closed w → w ≡ End → EndWaits t.current t.closed position_in (length (seats_between tab_in bytes_in skips_in t.start end_in))
+  ends-wait Nothing h e = absurd cc
+  ends-wait Byte h e = absurd cc
+  ends-wait End h e = h
+
+  end-waits : t.waits ≡ End → EndWaits t.current t.closed position_in (length (seats_between tab_in bytes_in skips_in t.start end_in))
+  end-waits e = ends-wait t.waits sound.waiting e
+
+  -- where all was read one stands at the end of the text, after what is passed
+  end-is : length (seen t).text.seats ≤ (seen t).configuration.position → record { line = here_in.line; column = here_in.column; index = t.end.0; vs = t.end.1 } ≡ end_in
+  end-is all =
+      let at = point_at-is tab_in bytes_in t.end end_in sound.end_at in
+      let s = end-shown tab_in wide_in bytes_in skips_in t.start end_in t.after_previous t.previous sound.skips sound.read all end-place-in in
+      same-numbers here_in.line here_in.column t.end.0 t.end.1 end_in.line end_in.column end_in.index end_in.vs
+      (sym (shown-line bytes_in here_in) ∙ ap (λ (p : Point). p.line) (sym s) ∙ shown-line bytes_in end_in)
+      (sym (shown-column bytes_in here_in) ∙ ap (λ (p : Point). p.column) (sym s) ∙ shown-column bytes_in end_in)
+      (sym at.index) (sym at.vs)
+
+  -- a byte waits
+  pub point-byte : t.waits ≡ Byte → (seat : Seat) → IsSeatAt tab_in bytes_in here_in seat → seat.point ≡ (sight (seen t).given (seen t).text (seen t).configuration).point
+  point-byte e seat n =
+      let w = byte-waits e in
+      let is = ap (point_or end_in) (next-seat tab_in wide_in bytes_in skips_in t.start end_in t.after_previous t.previous sound.skips sound.read w.seat w.at w.before) in
+      rw e (ap (λ (s : Seat). s.point) (one-seat tab_in bytes_in here_in seat w.seat n w.at) ∙ sym is)
+
+  pub byte-is-there : t.waits ≡ Byte → rest_at tab_in bytes_in here_in ≡ [] → ⊥
+  byte-is-there e none = let w = byte-waits e in let f = sym none ∙ w.at.is in absurd cc
+
+  -- the end waits
+  pub point-end : t.waits ≡ End → record { line = here_in.line; column = here_in.column; index = t.end.0; vs = t.end.1 } ≡ (sight (seen t).given (seen t).text (seen t).configuration).point
+  point-end e = rw e (end-is (end-waits e).all)
+
+  current-by : (w : Waits) → IsWhatWaits tab_in bytes_in skips_in (text_within t) t.after_previous t.current t.closed w → t.current ≡ current_of (text_within t) position_in w
+  current-by Nothing h = h
+  current-by Byte h = h.is ∙ ap byte_of (sym (next-seat tab_in wide_in bytes_in skips_in t.start end_in t.after_previous t.previous sound.skips sound.read h.seat h.at h.before))
+  current-by End h = h.none
+
+  pub current-is : t.current ≡ (sight (seen t).given (seen t).text (seen t).configuration).current
+  current-is = current-by t.waits sound.waiting
+
+  here-by : (w : Waits) → IsWhatWaits tab_in bytes_in skips_in (text_within t) t.after_previous t.current t.closed w → shown bytes_in (standing skips_in t.after_previous w) ≡ shown bytes_in (point_of (text_within t) position_in w)
+  here-by Nothing h = ap (shown bytes_in) sound.read.back
+  here-by Byte h =
+      sym (next-shown tab_in wide_in bytes_in skips_in t.start end_in t.after_previous t.previous sound.skips sound.read h.seat h.at)
+      ∙ ap (λ (o : Option Seat). shown bytes_in (point_or end_in o)) (sym (next-seat tab_in wide_in bytes_in skips_in t.start end_in t.after_previous t.previous sound.skips sound.read h.seat h.at h.before))
+  here-by End h = sym (end-shown tab_in wide_in bytes_in skips_in t.start end_in t.after_previous t.previous sound.skips sound.read h.all end-place-in)
+
+  -- where an enter stands
+  pub here-is : shown bytes_in (standing skips_in t.after_previous t.waits) ≡ (sight (seen t).given (seen t).text (seen t).configuration).enter_place
+  here-is = here-by t.waits sound.waiting
+
+  pub after_previous-is : shown bytes_in t.after_previous ≡ (sight (seen t).given (seen t).text (seen t).configuration).exit_place
+  after_previous-is = ap (shown bytes_in) sound.read.back
+
+  closed-by : (w : Waits) → t.waits ≡ w → IsWhatWaits tab_in bytes_in skips_in (text_within t) t.after_previous t.current t.closed w → w ≡ End → t.closed ≡ true
+  closed-by Nothing e h f = absurd cc
+  closed-by Byte e h f = absurd cc
+  closed-by End e h f = h.closed_too
+
+  more-by : (w : Waits) → IsWhatWaits tab_in bytes_in skips_in (text_within t) t.after_previous t.current t.closed w → w ≡ Byte → position_in < length (seats_between tab_in bytes_in skips_in t.start end_in)
+  more-by Nothing h f = absurd cc
+  more-by Byte h f = next-more tab_in wide_in bytes_in skips_in t.start end_in t.after_previous t.previous sound.skips sound.read h.seat h.at h.before
+  more-by End h f = absurd cc
+
+  pub in-text : IsInText (seen t)
+  in-text = record {
+    text = sound.text;
+    within = within tab_in wide_in bytes_in skips_in t.start end_in t.after_previous t.previous sound.skips sound.read;
+    byte = more-by t.waits sound.waiting;
+    end = closed-by t.waits refl sound.waiting;
+    ended = sound.ended;
+    reads = sound.reads;
+  }
+
+  pub well-formed : t.phase ≡ Reading → t.stack.items ≡ [] → IsWellFormed bytes_in (seen t).configuration
+  well-formed reads e =
+      let after_previous = shown bytes_in t.after_previous in let bound = shown bytes_in (standing skips_in t.after_previous t.waits) in
+      let m = subst (λ (stack : List Name). IsMade bytes_in t.events.items stack after_previous bound) e (sound.made reads) in
+      let w = made-end bytes_in t.events.items after_previous bound m in
+      record { balanced = w.0; void_tight = w.1; in_order = w.2 }
+
+  pub stack-is : t.phase ≡ Reading → t.stack.items ≡ map (λ e. e.name) (open_events t.events.items)
+  stack-is reads = sym (sound.made reads).names
+
+  -- the test of the code
+  pub before-end : (q : Point) → stands_before q end_in ≡ is_before_pair q t.end
+  before-end q = let at = point_at-is tab_in bytes_in t.end end_in sound.end_at in let i = at.index in let v = at.vs in rw (i, v) refl
+
+  -- an enter may stand after what is passed
+  abbrev MadeHere : Type 0
+  MadeHere = IsMade bytes_in t.events.items t.stack.items (shown bytes_in t.after_previous) (shown bytes_in here_in)
+
+  stands-here : (w : Waits) → IsMade bytes_in t.events.items t.stack.items (shown bytes_in t.after_previous) (shown bytes_in (standing skips_in t.after_previous w)) → MadeHere
+  stands-here Nothing m = made-later tab_in wide_in bytes_in skips_in t.start end_in t.after_previous t.previous sound.skips sound.read t.events.items t.stack.items m
+  stands-here Byte m = m
+  stands-here End m = m
+
+  made-here : t.phase ≡ Reading → MadeHere
+  made-here reads = stands-here t.waits (sound.made reads)
+
+  -- the next byte is fed
+  module _ (seat : Seat) (n : IsSeatAt tab_in bytes_in here_in seat) where
+    pub fed-more : is_before_pair seat.point t.end ≡ true → (seen t).configuration.position < length (seen t).text.seats
+    fed-more lt = next-more tab_in wide_in bytes_in skips_in t.start end_in t.after_previous t.previous sound.skips sound.read seat n (before-end seat.point ∙ lt)
+
+    pub fed-seen : (byte : ℕ) → is_before_pair seat.point t.end ≡ true
+        → seen (record t { waits = Byte; current = Some byte }) ≡ at_configuration (seen t) (fed (seen t).text (seen t).configuration)
+    fed-seen byte lt = let f = lt-ltb (seen t).configuration.position (length (seen t).text.seats) (fed-more lt) in rw f refl
+
+    pub fed-sound : (byte : ℕ) → is_before_pair seat.point t.end ≡ true → seat.byte ≡ byte → IsSound (record t { waits = Byte; current = Some byte })
+    fed-sound byte lt e = record {
+      limit = sound.limit;
+      tab = sound.tab;
+      reads = sound.reads;
+      end_at = sound.end_at;
+      text = sound.text;
+      skips = sound.skips;
+      read = sound.read;
+      waiting = record { seat = seat; at = n; before = before-end seat.point ∙ lt; is = ap Some (sym e) };
+      ended = sound.ended;
+      made = made-here;
+      kept_choices = sound.kept_choices;
+    }
+
+    pub fed-past : is_before_pair seat.point t.end ≡ false → length (seen t).text.seats ≤ (seen t).configuration.position
+    fed-past lt = next-past tab_in wide_in bytes_in skips_in t.start end_in t.after_previous t.previous sound.skips sound.read seat n (before-end seat.point ∙ lt)
+
+  fed-nothing : rest_at tab_in bytes_in here_in ≡ [] → length (seen t).text.seats ≤ (seen t).configuration.position
+  fed-nothing e = next-none-left tab_in wide_in bytes_in skips_in t.start end_in t.after_previous t.previous sound.skips sound.read e
+
+  -- no byte is left
+  pub fed-none : IsNextByte tab_in bytes_in here_in t.end None → length (seen t).text.seats ≤ (seen t).configuration.position
+  fed-none (inl e) = fed-nothing e
+  fed-none (inr n) = fed-past n.0 n.1 n.2
+
+  -- the end is fed
+  pub end-fed-sound : length (seen t).text.seats ≤ (seen t).configuration.position → t.closed ≡ true → IsSound (record t { waits = End; current = None; ended = true })
+  end-fed-sound all closed = record {
+    limit = sound.limit;
+    tab = sound.tab;
+    reads = sound.reads;
+    end_at = sound.end_at;
+    text = sound.text;
+    skips = sound.skips;
+    read = sound.read;
+    waiting = record { none = refl; closed_too = closed; all = all };
+    ended = λ _. closed;
+    made = made-here;
+    kept_choices = sound.kept_choices;
+  }
+
+  -- a byte is consumed
+  module _ (waits : ByteWaits tab_in bytes_in skips_in t.after_previous end_in t.current) where
+    module _ (after_previous : Point) (l : after_previous ≡ waits.seat.end) where
+      pub consumed-read : IsReadTo tab_in bytes_in skips_in (text_within t) after_previous t.current
+      consumed-read =
+          let r = read-next tab_in wide_in bytes_in skips_in t.start end_in t.after_previous t.previous sound.skips sound.read waits.seat waits.at waits.before in
+          let f = waits.is in rw (l, f) r
+
+      consumed-later : stands_before (shown bytes_in after_previous) (shown bytes_in here_in) ≡ false
+      consumed-later =
+          let s = seat-shown tab_in bytes_in wide_in here_in waits.seat looks_in.place waits.at in
+          let q = shown bytes_in here_in in
+          rw (l, s) (later-later waits.seat.end.index waits.seat.end.vs here_in.index here_in.vs q.index q.vs (seat-passes tab_in bytes_in wide_in here_in waits.seat looks_in.place waits.at) (shown-upto tab_in bytes_in here_in))
+
+      pub consumed-made : t.phase ≡ Reading → IsMade bytes_in t.events.items t.stack.items (shown bytes_in after_previous) (shown bytes_in after_previous)
+      consumed-made reads = made-consume bytes_in t.events.items t.stack.items (shown bytes_in t.after_previous) (shown bytes_in here_in) (made-here reads) (shown bytes_in after_previous) (shown bytes_in after_previous)
+          consumed-later (stands-self (shown bytes_in after_previous)) (shown-shown tab_in bytes_in after_previous) (shown-shown tab_in bytes_in after_previous)
+
+      pub consumed-sound : IsSound (record t { after_previous = after_previous; previous = t.current; current = None; ended = false; waits = Nothing })
+      consumed-sound = record {
+        limit = sound.limit;
+        tab = sound.tab;
+        reads = sound.reads;
+        end_at = sound.end_at;
+        text = sound.text;
+        skips = sound.skips;
+        read = consumed-read;
+        waiting = refl;
+        ended = λ h. absurd cc;
+        made = consumed-made;
+        kept_choices = sound.kept_choices;
+      }
+
+  pub consumed-seen : (waits : ByteWaits tab_in bytes_in skips_in t.after_previous end_in t.current) (after_previous : Point) → after_previous ≡ waits.seat.end
+      → seen (record t { after_previous = after_previous; previous = t.current; current = None; ended = false; waits = Nothing }) ≡ at_configuration (seen t) (consumed (seen t).configuration)
+  consumed-seen waits after_previous l =
+      let n = next-number tab_in wide_in bytes_in skips_in t.start end_in t.after_previous t.previous sound.skips sound.read waits.seat waits.at ∙ sym (add-one position_in) in
+      rw (l, n) refl
+
+  -- the byte that is consumed is the next of the document
+  pub byte-of-seat : (waits : ByteWaits tab_in bytes_in skips_in t.after_previous end_in t.current) (byte : ℕ) → t.current ≡ Some byte → waits.seat.byte ≡ byte
+  byte-of-seat waits byte e = let same : Some waits.seat.byte ≡ Some byte = sym waits.is ∙ e in cc
+
+  -- the place is that of a byte, or at the end of the document
+  pub here-within : 0 < here_in.vs → here_in.index < length bytes_in
+  here-within = looks_in.place.bounds.tab
+
+  pub here-place : IsPlace tab_in bytes_in here_in
+  here-place = looks_in.place
+
+  -- the code's place, from its list of gaps
+  pub at-here : (slice : List Point) (place : Point) → slice ≡ t.skips → place ≡ resumed slice t.after_previous → place ≡ here_in
+  at-here slice place e f = f ∙ ap (λ (skips : List Point). resumed skips t.after_previous) e
+
+  pub within-at : (slice : List Point) (place : Point) → slice ≡ t.skips → place ≡ resumed slice t.after_previous → 0 < place.vs → place.index < length bytes_in
+  within-at slice place e f = let is = at-here slice place e f in rw is here-within
+
+  pub byte-at : (slice : List Point) (place : Point) (o : Option ℕ) → slice ≡ t.skips → place ≡ resumed slice t.after_previous → IsNextByte tab_in bytes_in place t.end o → IsNextByte tab_in bytes_in here_in t.end o
+  byte-at slice place o e f h = subst (λ (p : Point). IsNextByte tab_in bytes_in p t.end o) (at-here slice place e f) h
+
+  pub place-at : (slice : List Point) (place : Point) → slice ≡ t.skips → place ≡ resumed slice t.after_previous → IsPlace tab_in bytes_in place
+  place-at slice place e f = subst (IsPlace tab_in bytes_in) (sym (at-here slice place e f)) here-place
+
+  pub seat-at : (slice : List Point) (place : Point) (seat : Seat) → slice ≡ t.skips → place ≡ resumed slice t.after_previous → IsSeatAt tab_in bytes_in here_in seat → IsSeatAt tab_in bytes_in place seat
+  seat-at slice place seat e f h = subst (λ (p : Point). IsSeatAt tab_in bytes_in p seat) (sym (at-here slice place e f)) h
+
+  pub point-byte-at : (slice : List Point) (place : Point) → slice ≡ t.skips → place ≡ resumed slice t.after_previous → t.waits ≡ Byte → (seat : Seat) → IsSeatAt tab_in bytes_in place seat
+      → seat.point ≡ (sight (seen t).given (seen t).text (seen t).configuration).point
+  point-byte-at slice place e f w seat n = point-byte w seat (subst (λ (p : Point). IsSeatAt tab_in bytes_in p seat) (at-here slice place e f) n)
+
+  pub byte-is-there-at : (slice : List Point) (place : Point) → slice ≡ t.skips → place ≡ resumed slice t.after_previous → t.waits ≡ Byte → rest_at tab_in bytes_in place ≡ [] → ⊥
+  byte-is-there-at slice place e f w n = byte-is-there w (subst (λ (p : Point). rest_at tab_in bytes_in p ≡ []) (at-here slice place e f) n)
+
+  pub point-end-at : (slice : List Point) (place : Point) → slice ≡ t.skips → place ≡ resumed slice t.after_previous → t.waits ≡ End
+      → record { line = place.line; column = place.column; index = t.end.0; vs = t.end.1 } ≡ (sight (seen t).given (seen t).text (seen t).configuration).point
+  point-end-at slice place e f w =
+      ap (λ (p : Point). record { line = p.line; column = p.column; index = t.end.0; vs = t.end.1 }) (at-here slice place e f) ∙ point-end w

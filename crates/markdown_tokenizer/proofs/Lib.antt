@@ -1,0 +1,4 @@
+pub mod Positions
+pub mod Inside
+pub mod Readings
+pub mod Runs

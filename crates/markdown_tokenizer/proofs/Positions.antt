@@ -1,0 +1,13 @@
+-- Places of a document, and its virtual bytes.
+pub mod Chains
+pub mod Cursors
+pub mod Cuts
+pub mod Gaps
+pub mod Order
+pub mod Points
+pub mod SeatLaws
+pub mod Seats
+pub mod Skips
+pub mod Standing
+pub mod TextOrder
+pub mod Walks

@@ -1,0 +1,47 @@
+-- A document can be cut at every n-th of its virtual bytes.
+use Rattle.std.specs.List.{AllByRecursion}
+use Rattle.std.proofs.Common.{◌≡◌, ℕ, ◌+◌, ◌<◌, List, [], ◌∷◌, true, false, cond, refl, arith, ap}
+use Rattle.std.specs.Prelude.{filter, map}
+use Rattle.std.specs.List.{enumerate_from}
+use Rattle.markdown_base.specs.declared.event.Point.{Point}
+use Rattle.markdown_base.specs.Virtual.{Seat, point, virtual}
+use Rattle.markdown_base.specs.Places.{stands_before, IsPointOf}
+use Rattle.markdown_base.proofs.Common.{every-map}
+use Rattle.markdown_tokenizer.proofs.Positions.Order.{after-before, not-before, every-all}
+use Rattle.markdown_tokenizer.proofs.Positions.Standing.{IsAmong}
+use Rattle.markdown_tokenizer.proofs.Positions.SeatLaws.{seat-is-point}
+use Rattle.markdown_tokenizer.proofs.Positions.Points.{point_at-point}
+use Rattle.markdown_tokenizer.proofs.Positions.Cursors.{upto-order}
+use Rattle.markdown_tokenizer.specs.Cuts.{place_of, is_cut, cuts_every}
+use Rattle.markdown_tokenizer.specs.Engine.{FollowInOrder, AreCuts}
+use Rattle.markdown_tokenizer.proofs.Positions.TextOrder.{AreInOrder, Follows, virtual-order}
+
+every-among : (P : Seat → Type 0) (all xs : List Seat) → ((s : Seat) → IsAmong s xs → P s) → AllByRecursion P xs
+every-among P all [] h = tt
+every-among P all (x ∷ xs) h = (h x (record { front = []; back = xs; splits = refl }), every-among P all xs (λ s a. h s (record { front = x ∷ a.front; back = a.back; splits = ap (λ ys. x ∷ ys) a.splits })))
+
+module _ (t : ℕ) (bytes : List ℕ) (d : 0 < t) where
+  seats-are-points : AllByRecursion (λ s. IsPointOf t bytes s.point) (virtual t bytes)
+  seats-are-points = every-among (λ s. IsPointOf t bytes s.point) [] (virtual t bytes) (λ s a. seat-is-point t bytes s a)
+
+  -- those that come later are not before it
+  later : (s : Seat) (ss : List Seat) → AllByRecursion (Follows s) ss → AllByRecursion (λ r. stands_before r.point s.point ≡ false) ss
+  later s ss h = every-map (Follows s) (λ r. stands_before r.point s.point ≡ false) (λ r k. after-before s.point.index s.point.vs r.point.index r.point.vs k.0) ss h
+
+  cuts-follow : (n number : ℕ) (p : Point) (xs : List Seat) → AllByRecursion (λ s. IsPointOf t bytes s.point) xs → AllByRecursion (λ s. stands_before s.point p ≡ false) xs → AreInOrder bytes xs
+      → FollowInOrder t bytes p (map (λ x. place_of x.1) (filter (λ x. is_cut n x.0) (enumerate_from number xs)))
+  cuts-follow n number p [] points h order = tt
+  cuts-follow n number p (s ∷ ss) points h order =
+      let rest = filter (λ (x : ℕ × Seat). is_cut n x.0) (enumerate_from (number + 1) ss) in
+      let cut = cuts-follow n (number + 1) s.point ss points.1 (later s ss order.1) order.2 in
+      let uncut = cuts-follow n (number + 1) p ss points.1 h.1 order.2 in
+      elim (is_cut n number) as (λ b. FollowInOrder t bytes p (map (λ (x : ℕ × Seat). place_of x.1) (cond b ((number, s) ∷ rest) rest))) [
+        | true ↦ (s.point, point_at-point t bytes d s.point points.0, upto-order t bytes p s.point h.0, cut)
+        | false ↦ uncut
+      ]
+
+-- the places of the virtual bytes number n, 2n, 3n, .. are cuts
+pub cuts_every-are-cuts : (t : ℕ) → 0 < t → (bytes : List ℕ) (n : ℕ) → AreCuts t bytes (cuts_every t bytes n)
+cuts_every-are-cuts t d bytes n =
+    cuts-follow t bytes d n 0 (point 1 1 0 0) (virtual t bytes) (seats-are-points t bytes d)
+    (every-all (λ s. stands_before s.point (point 1 1 0 0) ≡ false) (λ s. not-before s.point.index s.point.vs 0 0 (omega arith) refl) (virtual t bytes)) (virtual-order t bytes)

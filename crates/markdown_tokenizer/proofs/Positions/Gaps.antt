@@ -1,0 +1,571 @@
+-- Laws of gaps: where places lie in lines and columns, and what a gap leaves to be read.
+use Rattle.std.specs.List.{AllByRecursion}
+use Rattle.std.proofs.Common.{◌≡◌, ℕ, suc, ◌≤◌, ◌<◌, ◌==◌, List, [], ◌∷◌, ◌++◌, Bool, true, false, cond, Option, Some, None, refl, sym, ap, ◌∙◌, subst, arith, append_assoc, ◌⊎◌, inl, inr}
+use Rattle.std.specs.Prelude.{filter, unwrap_or, nat_lt, not, ◌&&◌, ◌||◌}
+use Rattle.std.proofs.lemmas.Bool.Decides.{nat_tests}
+use Rattle.std.proofs.lemmas.List.Elements.{filter-append}
+use Rattle.std.proofs.lemmas.List.{append-nil, append_cancel_left}
+use Rattle.std.proofs.lemmas.Bool.{eqb-true, not-true}
+use Rattle.markdown_base.specs.declared.event.Point.{Point}
+use Rattle.markdown_base.specs.Virtual.{Seat, point, virtual, end_after}
+use Rattle.markdown_base.specs.Places.{stands_before, shown, is_upto, denotes_same}
+use Rattle.markdown_base.proofs.Common.{every-map, every-append, filter-none, leads-back}
+use Rattle.markdown_base.proofs.Seats.{end-after-append}
+use Rattle.markdown_tokenizer.specs.Cursor.{rest_at, IsPlace, IsSeatAt, goes_on, end_at}
+use Rattle.markdown_tokenizer.specs.Text.{in_range}
+use Rattle.markdown_tokenizer.proofs.Positions.Order.{later-later, before-self, is-not, before-upto, upto-before, after-before, below-before, more-before, every-both, every-all, filter-every, filter-same}
+use Rattle.markdown_tokenizer.proofs.Positions.Seats.{rest-later}
+use Rattle.markdown_tokenizer.proofs.Positions.Chains.{Begins, IsChain, whole-chain}
+use Rattle.markdown_tokenizer.proofs.Positions.Standing.{chain-split, next-begins, shown-upto, chain-upto}
+use Rattle.markdown_tokenizer.proofs.Positions.Cursors.{upto-order, upto-self, upto-upto, same-upto, upto-same, same-back, same-self, rest-upto, left_of, text-splits, range-same, range-empty, Leads, upto-leads, split-every, place-before}
+use Rattle.markdown_tokenizer.proofs.Positions.Points.{shown-line, shown-column, same-shown}
+use Rattle.markdown_tokenizer.specs.Gaps.{skip_of, is_kept_by, is_kept, resumed, kept_between, IsSkip, IsOutside}
+
+-- by line, then by column, one place is before another
+abbrev pub lies_before : Point → Point → Bool
+lies_before p q = nat_lt p.line q.line || ((p.line == q.line) && nat_lt p.column q.column)
+
+-- a virtual byte ends at a later column of its line, or in the next line
+end_at-lies : (t byte : ℕ) (p : Point) (b c : Bool) → (byte == 10) ≡ b → goes_on t byte p ≡ c → lies_before p (end_at t byte p) ≡ true
+end_at-lies t byte p true c e f = rw e (below-before p.line p.column (suc p.line) 1 (omega arith))
+end_at-lies t byte p false true e f = rw (e, f) (more-before p.line p.column)
+end_at-lies t byte p false false e f = rw (e, f) (more-before p.line p.column)
+
+lies-like : (p q r : Point) → p.line ≡ q.line → p.column ≡ q.column → lies_before p r ≡ lies_before q r
+lies-like p q r e f = rw (e, f) refl
+
+lies-alike : (r p q : Point) → p.line ≡ q.line → p.column ≡ q.column → lies_before r p ≡ lies_before r q
+lies-alike r p q e f = rw (e, f) refl
+
+not-lies : (p q : Point) → p.line ≡ q.line → p.column ≡ q.column → lies_before p q ≡ false
+not-lies p q e f = rw (e, f) (before-self q.line q.column)
+
+lies-numbers : (k l m n : ℕ) (b : Bool) → nat_lt k m ≡ b → (nat_lt k m || ((k == m) && nat_lt l n)) ≡ true → (k < m) ⊎ ((k ≡ m) × (l < n))
+lies-numbers k l m n true e h = inl (grind (arith, nat_tests))
+lies-numbers k l m n false e h = inr (grind (arith, nat_tests), grind (arith, nat_tests))
+
+-- in a later line, or in a later column of the line
+pub lies-later : (p q : Point) → lies_before p q ≡ true → (p.line < q.line) ⊎ ((p.line ≡ q.line) × (p.column < q.column))
+lies-later p q h = lies-numbers p.line p.column q.line q.column (nat_lt p.line q.line) refl h
+
+lies-in-numbers : (i j k l m n : ℕ) → (nat_lt k i || ((k == i) && nat_lt l j)) ≡ false → (nat_lt k m || ((k == m) && nat_lt l n)) ≡ true → (i ≤ k) × (k ≤ m) × (k ≡ i → j ≤ l)
+lies-in-numbers i j k l m n h g = (grind (arith, nat_tests), grind (arith, nat_tests), λ e. grind (arith, nat_tests))
+
+-- a virtual byte lies between two places
+abbrev LiesIn : Point → Point → Seat → Type 0
+LiesIn p q s = (lies_before s.point p ≡ false) × (lies_before s.point q ≡ true)
+
+-- so its line is between theirs
+abbrev pub StandsBetween : Point → Point → Seat → Type 0
+StandsBetween p q s = (p.line ≤ s.point.line) × (s.point.line ≤ q.line) × (s.point.line ≡ p.line → p.column ≤ s.point.column)
+
+every-unfilter : (P : Seat → Type 0) (f : Seat → Bool) (xs : List Seat) → AllByRecursion P (filter f xs) → AllByRecursion (λ s. f s ≡ true → P s) xs
+every-unfilter P f [] h = tt
+every-unfilter P f (x ∷ xs) h = elim (f x) as (λ b. (f x ≡ b) → AllByRecursion P (cond b (x ∷ filter f xs) (filter f xs)) → AllByRecursion (λ s. f s ≡ true → P s) (x ∷ xs)) [
+  | true ↦ λ e k. (λ g. k.0, every-unfilter P f xs k.1)
+  | false ↦ λ e k. (λ g. absurd (cc), every-unfilter P f xs k)
+] refl h
+
+-- what a filter keeps passes it
+every-kept : (P : Seat → Type 0) (f : Seat → Bool) (xs : List Seat) → AllByRecursion P xs → AllByRecursion (λ s. P s × (f s ≡ true)) (filter f xs)
+every-kept P f [] h = tt
+every-kept P f (x ∷ xs) h = elim (f x) as (λ b. (f x ≡ b) → AllByRecursion (λ s. P s × (f s ≡ true)) (cond b (x ∷ filter f xs) (filter f xs))) [
+  | true ↦ λ e. ((h.0, e), every-kept P f xs h.1)
+  | false ↦ λ e. every-kept P f xs h.1
+] refl
+
+-- each of many facts holds of each element
+every-for : {A : Type 0} {X : Type 0} (P : X → A → Type 0) (xs : List A) → ((x : X) → AllByRecursion (P x) xs) → AllByRecursion (λ a. (x : X) → P x a) xs
+every-for P [] h = tt
+every-for P (a ∷ rest) h = (λ x. (h x).0, every-for P rest (λ x. (h x).1))
+
+every-given : (b : Bool) (P : Seat → Type 0) (xs : List Seat) → (b ≡ true → AllByRecursion P xs) → AllByRecursion (λ s. b ≡ true → P s) xs
+every-given true P xs h = every-map P (λ s. true ≡ true → P s) (λ s k e. k) xs (h refl)
+every-given false P xs h = every-all (λ s. false ≡ true → P s) (λ s e. absurd (cc)) xs
+
+module _ (t : ℕ) (bytes : List ℕ) where
+  begins-line : (p : Point) (s : Seat) (rest : List Seat) → Begins t bytes p s rest → s.point.line ≡ p.line
+  begins-line p s rest b = sym (shown-line bytes s.point) ∙ ap (λ (x : Point). x.line) b.shown_is
+
+  begins-column : (p : Point) (s : Seat) (rest : List Seat) → Begins t bytes p s rest → s.point.column ≡ p.column
+  begins-column p s rest b = sym (shown-column bytes s.point) ∙ ap (λ (x : Point). x.column) b.shown_is
+
+  begins-lies : (p : Point) (s : Seat) (rest : List Seat) → Begins t bytes p s rest → lies_before p s.end ≡ true
+  begins-lies p s rest b =
+      sym (lies-like s.point p s.end (begins-line p s rest b) (begins-column p s rest b))
+      ∙ sym (ap (lies_before s.point) b.end_is) ∙ end_at-lies t s.byte s.point (s.byte == 10) (goes_on t s.byte s.point) refl refl
+
+  chain-rises : (p : Point) (xs ys : List Seat) → IsChain t bytes p (xs ++ ys) → lies_before (end_after p xs) p ≡ false
+  chain-rises p [] ys c = before-self p.line p.column
+  chain-rises p (s ∷ ss) ys c =
+      let q = end_after s.end ss in
+      later-later q.line q.column s.end.line s.end.column p.line p.column (chain-rises s.end ss ys c.2)
+      (after-before p.line p.column s.end.line s.end.column (begins-lies p s (ss ++ ys) c.1))
+
+  chain-passes : (p : Point) (s : Seat) (ss ys : List Seat) → IsChain t bytes p (s ∷ ss ++ ys) → lies_before p (end_after s.end ss) ≡ true
+  chain-passes p s ss ys c =
+      let q = end_after s.end ss in
+      before-upto p.line p.column s.end.line s.end.column q.line q.column (begins-lies p s (ss ++ ys) c.1) (chain-rises s.end ss ys c.2)
+
+  chain-between : (p : Point) (xs ys : List Seat) → IsChain t bytes p (xs ++ ys) → AllByRecursion (LiesIn p (end_after p xs)) xs
+  chain-between p [] ys c = tt
+  chain-between p (s ∷ ss) ys c =
+      let q = end_after s.end ss in
+      let line = begins-line p s (ss ++ ys) c.1 in
+      let column = begins-column p s (ss ++ ys) c.1 in
+      let upto = after-before p.line p.column s.end.line s.end.column (begins-lies p s (ss ++ ys) c.1) in (
+        (not-lies s.point p line column, lies-like s.point p q line column ∙ chain-passes p s ss ys c),
+        every-map (LiesIn s.end q) (LiesIn p q)
+            (λ r h. (later-later r.point.line r.point.column s.end.line s.end.column p.line p.column h.0 upto, h.1)) ss (chain-between s.end ss ys c.2),
+      )
+
+  -- what stands from a place on before a second, which is not before the first
+  module _ (d : 0 < t) (a b : Point) (first : IsPlace t bytes a) (second : IsPlace t bytes b) (upto : is_upto t bytes a b ≡ true) where
+    before-grows : second.before ≡ first.before ++ left_of t bytes a b
+    before-grows =
+        let f = λ (s : Seat). stands_before s.point b in
+        let leads = split-every t bytes (Leads a b) a first (upto-leads t bytes a b upto) in
+        sym (place-before t bytes b second) ∙ ap (filter f) first.splits ∙ filter-append f first.before (rest_at t bytes a)
+        ∙ ap (λ (xs : List Seat). xs ++ left_of t bytes a b) (filter-every f first.before (every-both (λ s. stands_before s.point a ≡ true) (Leads a b) (λ s. f s ≡ true) (λ s h k. k h) first.before first.behind leads.0))
+
+    way-chain : IsChain t bytes (shown bytes a) (left_of t bytes a b ++ rest_at t bytes b)
+    way-chain =
+        let whole = second.splits ∙ ap (λ (xs : List Seat). xs ++ rest_at t bytes b) before-grows ∙ append_assoc first.before (left_of t bytes a b) (rest_at t bytes b) in
+        let c = chain-split t bytes (point 1 1 0 0) first.before (left_of t bytes a b ++ rest_at t bytes b) (subst (IsChain t bytes (point 1 1 0 0)) whole (whole-chain t bytes d)) in
+        subst (λ (p : Point). IsChain t bytes p (left_of t bytes a b ++ rest_at t bytes b)) (sym first.stands) c
+
+    way-ends : shown bytes b ≡ end_after (shown bytes a) (left_of t bytes a b)
+    way-ends =
+        second.stands ∙ ap (end_after (point 1 1 0 0)) before-grows ∙ end-after-append (point 1 1 0 0) first.before (left_of t bytes a b)
+        ∙ ap (λ (p : Point). end_after p (left_of t bytes a b)) (sym first.stands)
+
+    way-none : left_of t bytes a b ≡ [] → denotes_same t bytes a b ≡ true
+    way-none e =
+        let same : second.before ≡ first.before = before-grows ∙ ap (λ (xs : List Seat). first.before ++ xs) e ∙ append-nil first.before in
+        let rest : rest_at t bytes b ≡ rest_at t bytes a = append_cancel_left first.before (rest_at t bytes b) (rest_at t bytes a)
+        (ap (λ (xs : List Seat). xs ++ rest_at t bytes b) (sym same) ∙ sym second.splits ∙ first.splits) in
+        upto-same t bytes a b upto (rest-upto t bytes a b first rest)
+
+    lies-shown : lies_before (shown bytes a) (shown bytes b) ≡ lies_before a b
+    lies-shown = rw (shown-line bytes a, shown-line bytes b, shown-column bytes a, shown-column bytes b) refl
+
+    way-cases : (mid : List Seat) → left_of t bytes a b ≡ mid → (denotes_same t bytes a b ≡ true) ⊎ (lies_before a b ≡ true)
+    way-cases [] e = inl (way-none e)
+    way-cases (s ∷ ss) e =
+        let c = subst (λ (xs : List Seat). IsChain t bytes (shown bytes a) (xs ++ rest_at t bytes b)) e way-chain in
+        let ends : shown bytes b ≡ end_after s.end ss = way-ends ∙ ap (end_after (shown bytes a)) e in
+        inr (sym lies-shown ∙ ap (lies_before (shown bytes a)) ends ∙ chain-passes (shown bytes a) s ss (rest_at t bytes b) c)
+
+    -- it denotes the same, or lies in a later line or a later column
+    pub upto-lies : (denotes_same t bytes a b ≡ true) ⊎ (lies_before a b ≡ true)
+    upto-lies = way-cases (left_of t bytes a b) refl
+
+    between-upto : (s : Seat) → lies_before s.point (shown bytes a) ≡ false → lies_before s.point a ≡ false
+    between-upto s h = lies-alike s.point a (shown bytes a) (sym (shown-line bytes a)) (sym (shown-column bytes a)) ∙ h
+
+    between-below : (s : Seat) → lies_before s.point (end_after (shown bytes a) (left_of t bytes a b)) ≡ true → lies_before s.point b ≡ true
+    between-below s h = lies-alike s.point b (shown bytes b) (sym (shown-line bytes b)) (sym (shown-column bytes b)) ∙ ap (lies_before s.point) way-ends ∙ h
+
+    -- and what stands between them lies between them
+    pub between-lies : AllByRecursion (LiesIn a b) (left_of t bytes a b)
+    between-lies =
+        let p = shown bytes a in
+        let q = end_after p (left_of t bytes a b) in
+        every-map (LiesIn p q) (LiesIn a b) (λ s h. (between-upto s h.0, between-below s h.1)) (left_of t bytes a b) (chain-between p (left_of t bytes a b) (rest_at t bytes b) way-chain)
+
+    -- it is not shown before the first
+    pub upto-shown : stands_before (shown bytes b) (shown bytes a) ≡ false
+    upto-shown = ap (λ (p : Point). stands_before p (shown bytes a)) way-ends ∙ chain-upto t bytes (shown bytes a) (left_of t bytes a b) (rest_at t bytes b) way-chain
+
+    -- it denotes the same, or its line is later, or its column is in the same line
+    pub places-rise : (denotes_same t bytes a b ≡ true) ⊎ ((a.line < b.line) ⊎ ((a.line ≡ b.line) × (a.column < b.column)))
+    places-rise = elim upto-lies [ inl h ↦ inl h | inr h ↦ inr (lies-later a b h) ]
+
+    pub seats-between : AllByRecursion (StandsBetween a b) (left_of t bytes a b)
+    seats-between = every-map (LiesIn a b) (StandsBetween a b) (λ s h. lies-in-numbers a.line a.column s.point.line s.point.column b.line b.column h.0 h.1) (left_of t bytes a b) between-lies
+
+    -- said of what is left at the first place
+    pub seats-rise : AllByRecursion (λ s. stands_before s.point b ≡ true → StandsBetween a b s) (rest_at t bytes a)
+    seats-rise = every-unfilter (StandsBetween a b) (λ s. stands_before s.point b) (rest_at t bytes a) seats-between
+
+skip-cases : (P : Point → Type 0) (x : Point) (xs : List Point) (line : ℕ) (p : Point) (b : Bool) → (x.line == line) ≡ b → P x → (skip_of xs line ≡ Some p → (p.line ≡ line) × P p)
+    → cond b (Some x) (skip_of xs line) ≡ Some p → (p.line ≡ line) × P p
+skip-cases P x xs line p true e h k f = let is : x ≡ p = cc in subst (λ (y : Point). (y.line ≡ line) × P y) is (eqb-true x.line line e, h)
+skip-cases P x xs line p false e h k f = k f
+
+-- the place up to which a line is passed is in that line, and one of those listed
+skip-is : (P : Point → Type 0) (skips : List Point) (line : ℕ) (p : Point) → AllByRecursion P skips → skip_of skips line ≡ Some p → (p.line ≡ line) × P p
+skip-is P [] line p h e = absurd (cc)
+skip-is P (x ∷ xs) line p h e = skip-cases P x xs line p (x.line == line) refl h.0 (skip-is P xs line p h.1) e
+
+-- whether a virtual byte is in a gap is said by its line
+kept-by : (skips : List Point) (s : Seat) (line : ℕ) (o : Option Point) → s.point.line ≡ line → skip_of skips line ≡ o → is_kept skips s ≡ is_kept_by o s
+kept-by skips s line o e f = ap (λ (l : ℕ). is_kept_by (skip_of skips l) s) e ∙ ap (λ (x : Option Point). is_kept_by x s) f
+
+not-of-true : (b : Bool) → b ≡ true → not b ≡ false
+not-of-true b e = ap not e
+
+not-of-false : (b : Bool) → b ≡ false → not b ≡ true
+not-of-false b e = ap not e
+
+-- What holds of the place from which on the next byte is looked for
+pub record IsResumed (t : ℕ) (bytes : List ℕ) (skips : List Point) (start end after_previous r : Point) : Type 0 where
+  pub place : IsPlace t bytes r
+  pub later : is_upto t bytes after_previous r ≡ true
+  pub not_before : stands_before r after_previous ≡ false
+  pub shown_later : stands_before (shown bytes r) (shown bytes after_previous) ≡ false
+  pub from : is_upto t bytes start r ≡ true
+  pub upto : is_upto t bytes r end ≡ true
+  pub same : kept_between t bytes skips start r ≡ kept_between t bytes skips start after_previous
+  pub fresh : (seat : Seat) → IsSeatAt t bytes r seat → is_kept skips seat ≡ true
+
+module _ (t : ℕ) (bytes : List ℕ) (d : 0 < t) where
+  -- the next virtual byte is in the line of the place
+  pub seat-line : (p : Point) (seat : Seat) → IsPlace t bytes p → IsSeatAt t bytes p seat → seat.point.line ≡ p.line
+  seat-line p seat place n =
+      begins-line t bytes (end_after (point 1 1 0 0) place.before) seat n.after (next-begins t bytes d p seat place n)
+      ∙ ap (λ (x : Point). x.line) (sym place.stands) ∙ shown-line bytes p
+
+  -- places of one line denote the same only in one column
+  pub same-column : (p q : Point) → IsPlace t bytes p → IsPlace t bytes q → denotes_same t bytes p q ≡ true → p.column ≡ q.column
+  same-column p q a b h = sym (shown-column bytes p) ∙ ap (λ (x : Point). x.column) (same-shown t bytes p q a b h) ∙ shown-column bytes q
+
+  -- of two places of a line the one that is not after the other has no later column
+  pub column-rises : (p q : Point) → IsPlace t bytes p → IsPlace t bytes q → is_upto t bytes p q ≡ true → p.line ≡ q.line → p.column ≤ q.column
+  column-rises p q a b h e = elim (places-rise t bytes d p q a b h) [
+    | inl s ↦ (let f = same-column p q a b s in omega arith)
+    | inr (inl l) ↦ absurd (omega arith)
+    | inr (inr l) ↦ omega (arith, l.1)
+  ]
+
+  -- a gap from a place on
+  module _ (skips : List Point) (after_previous : Point) (place : IsPlace t bytes after_previous) where
+    -- all that is passed is in the gap
+    jump-none : (q : Point) → IsPlace t bytes q → q.line ≡ after_previous.line → skip_of skips after_previous.line ≡ Some q → is_upto t bytes after_previous q ≡ true → filter (is_kept skips) (left_of t bytes after_previous q) ≡ []
+    jump-none q at line e later =
+        let f = λ (s : Seat). stands_before s.point q in
+        filter-none (is_kept skips) (left_of t bytes after_previous q)
+        (every-map (λ s. (stands_before s.point q ≡ true → StandsBetween after_previous q s) × (f s ≡ true)) (λ s. is_kept skips s ≡ false)
+        (λ s h. let between = h.0 h.1 in let same : s.point.line ≡ after_previous.line = omega (arith, between.0, between.1) in kept-by skips s after_previous.line (Some q) same e ∙ not-of-true (stands_before s.point q) h.1)
+        (left_of t bytes after_previous q) (every-kept (λ s. stands_before s.point q ≡ true → StandsBetween after_previous q s) f (rest_at t bytes after_previous) (seats-rise t bytes d after_previous q place at later)))
+
+    jump-same : (start q : Point) → is_upto t bytes start after_previous ≡ true → IsPlace t bytes q → q.line ≡ after_previous.line → skip_of skips after_previous.line ≡ Some q → is_upto t bytes after_previous q ≡ true → kept_between t bytes skips start q ≡ kept_between t bytes skips start after_previous
+    jump-same start q from at line e later =
+        let read = filter (in_range start after_previous) (virtual t bytes) in
+        ap (filter (is_kept skips)) (text-splits t bytes start after_previous q place from later) ∙ filter-append (is_kept skips) read (left_of t bytes after_previous q)
+        ∙ ap (λ (xs : List Seat). filter (is_kept skips) read ++ xs) (jump-none q at line e later) ∙ append-nil (filter (is_kept skips) read)
+
+  module _ (skips : List Point) (start end after_previous : Point) (are : AllByRecursion (IsSkip t bytes end) skips) (place : IsPlace t bytes after_previous)
+      (from : is_upto t bytes start after_previous ≡ true) (upto : is_upto t bytes after_previous end ≡ true) (outside : IsOutside skips after_previous) where
+    stays : ((seat : Seat) → IsSeatAt t bytes after_previous seat → is_kept skips seat ≡ true) → IsResumed t bytes skips start end after_previous after_previous
+    stays fresh = record {
+      place = place;
+      later = upto-self t bytes after_previous;
+      not_before = before-self after_previous.index after_previous.vs;
+      shown_later = before-self (shown bytes after_previous).index (shown bytes after_previous).vs;
+      from = from;
+      upto = upto;
+      same = refl;
+      fresh = fresh;
+    }
+
+    fresh-none : skip_of skips after_previous.line ≡ None → (seat : Seat) → IsSeatAt t bytes after_previous seat → is_kept skips seat ≡ true
+    fresh-none e seat n = kept-by skips seat after_previous.line None (seat-line after_previous seat place n) e
+
+    -- after a gap
+    fresh-after : (p q : Point) → IsPlace t bytes p → p.line ≡ after_previous.line → skip_of skips after_previous.line ≡ Some q → stands_before p q ≡ false → (seat : Seat) → IsSeatAt t bytes p seat → is_kept skips seat ≡ true
+    fresh-after p q at line e later seat n =
+        kept-by skips seat after_previous.line (Some q) (seat-line p seat at n ∙ line) e
+        ∙ not-of-false (stands_before seat.point q) (later-later seat.point.index seat.point.vs p.index p.vs q.index q.vs n.later later)
+
+    stays-after : (q : Point) → (after_previous.column == 1) ≡ false → skip_of skips after_previous.line ≡ Some q → IsResumed t bytes skips start end after_previous after_previous
+    stays-after q e f = elim (outside q f) [
+      | inl h ↦ absurd (is-not after_previous.column 1 e h)
+      | inr h ↦ stays (fresh-after after_previous q place refl f h)
+    ]
+
+    jump-before : (q : Point) → IsPlace t bytes q → after_previous.column ≡ 1 → q.line ≡ after_previous.line → 1 < q.column → stands_before after_previous q ≡ true
+    jump-before q at first line inside = elim (stands_before after_previous q) as (λ b. (stands_before after_previous q ≡ b) → b ≡ true) [
+      | true ↦ λ e. refl
+      | false ↦ λ e. (let f = column-rises q after_previous at place (upto-order t bytes q after_previous e) line in absurd (omega arith))
+    ] refl
+
+    jumps : (q : Point) → after_previous.column ≡ 1 → skip_of skips after_previous.line ≡ Some q → IsResumed t bytes skips start end after_previous q
+    jumps q first e =
+        let found = skip-is (IsSkip t bytes end) skips after_previous.line q are e in
+        let skip = found.1 in
+        let before = jump-before q skip.place first found.0 skip.inside in
+        let later = upto-order t bytes after_previous q (after-before after_previous.index after_previous.vs q.index q.vs before) in
+        record {
+          place = skip.place;
+          later = later;
+          not_before = after-before after_previous.index after_previous.vs q.index q.vs before;
+          shown_later = upto-shown t bytes d after_previous q place skip.place later;
+          from = upto-upto t bytes start after_previous q from later;
+          upto = skip.upto;
+          same = jump-same skips after_previous place start q from skip.place found.0 e later;
+          fresh = fresh-after q q skip.place found.0 e (before-self q.index q.vs);
+        }
+
+    resumed-by : (b : Bool) (o : Option Point) → (after_previous.column == 1) ≡ b → skip_of skips after_previous.line ≡ o → IsResumed t bytes skips start end after_previous (cond b (unwrap_or o after_previous) after_previous)
+    resumed-by false None e f = stays (fresh-none f)
+    resumed-by false (Some q) e f = stays-after q e f
+    resumed-by true None e f = stays (fresh-none f)
+    resumed-by true (Some q) e f = jumps q (eqb-true after_previous.column 1 e) f
+
+    pub resumed-at : IsResumed t bytes skips start end after_previous (resumed skips after_previous)
+    resumed-at = resumed-by (after_previous.column == 1) (skip_of skips after_previous.line) refl refl
+
+-- a virtual byte ends at the beginning of a line, or in the line where it is
+end_at-line : (t byte : ℕ) (p : Point) (b c : Bool) → (byte == 10) ≡ b → goes_on t byte p ≡ c → ((end_at t byte p).column ≡ 1) ⊎ ((end_at t byte p).line ≡ p.line)
+end_at-line t byte p true c e f = inl (rw e refl)
+end_at-line t byte p false true e f = inr (rw (e, f) refl)
+end_at-line t byte p false false e f = inr (rw (e, f) refl)
+
+module _ (t : ℕ) (bytes : List ℕ) (d : 0 < t) where
+  -- after a virtual byte that is in no gap one is in no gap
+  module _ (r : Point) (seat : Seat) (skips : List Point) (place : IsPlace t bytes r) (n : IsSeatAt t bytes r seat) (kept : is_kept skips seat ≡ true) where
+    after-kept : (p : Point) → seat.end.line ≡ seat.point.line → skip_of skips seat.end.line ≡ Some p → stands_before seat.end p ≡ false
+    after-kept p line e =
+        let begins = next-begins t bytes d r seat place n in
+        let same = ap (skip_of skips) (sym line) ∙ e in
+        let later = not-true (stands_before seat.point p) (sym (kept-by skips seat seat.point.line (Some p) refl same) ∙ kept) in
+        later-later seat.end.index seat.end.vs seat.point.index seat.point.vs p.index p.vs (after-before seat.point.index seat.point.vs seat.end.index seat.end.vs begins.ends) later
+
+    end-line : (seat.end.column ≡ 1) ⊎ (seat.end.line ≡ seat.point.line)
+    end-line =
+        let begins = next-begins t bytes d r seat place n in
+        subst (λ (q : Point). (q.column ≡ 1) ⊎ (q.line ≡ seat.point.line)) begins.end_is (end_at-line t seat.byte seat.point (seat.byte == 10) (goes_on t seat.byte seat.point) refl refl)
+
+    pub consumed-outside : IsOutside skips seat.end
+    consumed-outside p e = elim end-line [ inl h ↦ inl h | inr h ↦ inr (after-kept p h e) ]
+
+  -- the virtual byte is in no gap that ends by a place
+  abbrev PastGaps : Point → Seat → Type 0
+  PastGaps end s = (p : Point) → is_upto t bytes p end ≡ true → stands_before s.point p ≡ false
+
+  rest-past : (p end : Point) → IsPlace t bytes end → is_upto t bytes p end ≡ true → AllByRecursion (λ s. stands_before s.point p ≡ false) (rest_at t bytes end)
+  rest-past p end place upto =
+      every-both (Leads p end) (λ s. stands_before s.point end ≡ false) (λ s. stands_before s.point p ≡ false) (λ s h k. leads-back (stands_before s.point p) (stands_before s.point end) h k) (rest_at t bytes end)
+      (split-every t bytes (Leads p end) end place (upto-leads t bytes p end upto)).1 (rest-later t bytes end)
+
+  -- gaps that end by a place end by a later one
+  pub skips-upto : (skips : List Point) (end to : Point) → AllByRecursion (IsSkip t bytes end) skips → is_upto t bytes end to ≡ true → AllByRecursion (IsSkip t bytes to) skips
+  skips-upto skips end to are h = every-map (IsSkip t bytes end) (IsSkip t bytes to)
+      (λ p k. record { place = k.place; inside = k.inside; upto = upto-upto t bytes p end to k.upto h }) skips are
+
+  past-gaps : (end : Point) → IsPlace t bytes end → AllByRecursion (PastGaps end) (rest_at t bytes end)
+  past-gaps end place = every-for (λ (p : Point) (s : Seat). is_upto t bytes p end ≡ true → stands_before s.point p ≡ false) (rest_at t bytes end)
+      (λ p. every-given (is_upto t bytes p end) (λ s. stands_before s.point p ≡ false) (rest_at t bytes end) (rest-past p end place))
+
+  kept-past : (skips : List Point) (end : Point) → AllByRecursion (IsSkip t bytes end) skips → (s : Seat) → PastGaps end s → (o : Option Point) → skip_of skips s.point.line ≡ o → is_kept skips s ≡ true
+  kept-past skips end are s past None e = kept-by skips s s.point.line None refl e
+  kept-past skips end are s past (Some p) e =
+      let found = skip-is (IsSkip t bytes end) skips s.point.line p are e in
+      kept-by skips s s.point.line (Some p) refl e ∙ not-of-false (stands_before s.point p) (past p found.1.upto)
+
+  -- a range that is pushed
+  module _ (skips : List Point) (end from to : Point) (are : AllByRecursion (IsSkip t bytes end) skips) (place : IsPlace t bytes end) (same : denotes_same t bytes from end ≡ true) (upto : is_upto t bytes from to ≡ true) where
+    end-upto : is_upto t bytes end to ≡ true
+    end-upto = upto-upto t bytes end from to (same-upto t bytes from end same).1 upto
+
+    pushed-is : filter (in_range from to) (virtual t bytes) ≡ left_of t bytes end to
+    pushed-is =
+        range-same t bytes from to end to same (same-self t bytes to) ∙ text-splits t bytes end end to place (upto-self t bytes end) end-upto
+        ∙ ap (λ (xs : List Seat). xs ++ left_of t bytes end to) (range-empty t bytes end)
+
+    -- none of what is pushed is in a gap
+    pub pushed-kept : filter (is_kept skips) (filter (in_range from to) (virtual t bytes)) ≡ filter (in_range from to) (virtual t bytes)
+    pushed-kept =
+        let f = λ (s : Seat). stands_before s.point to in
+        ap (filter (is_kept skips)) pushed-is
+        ∙ filter-every (is_kept skips) (left_of t bytes end to) (every-map (λ s. PastGaps end s × (f s ≡ true)) (λ s. is_kept skips s ≡ true) (λ s h. kept-past skips end are s h.0 (skip_of skips s.point.line) refl)
+        (left_of t bytes end to) (every-kept (PastGaps end) f (rest_at t bytes end) (past-gaps end place)))
+        ∙ sym pushed-is
+
+    pub pushed-skips : AllByRecursion (IsSkip t bytes to) skips
+    pushed-skips = skips-upto skips end to are end-upto
+
+skip-other : (skips : List Point) (q : Point) (line : ℕ) → (q.line == line) ≡ false → skip_of (skips ++ q ∷ []) line ≡ skip_of skips line
+skip-other [] q line e = rw e refl
+skip-other (x ∷ xs) q line e = ap (λ (o : Option Point). cond (x.line == line) (Some x) o) (skip-other xs q line e)
+
+skip-added : (skips : List Point) (q : Point) (line : ℕ) → (q.line == line) ≡ true → skip_of skips line ≡ None → skip_of (skips ++ q ∷ []) line ≡ Some q
+skip-added [] q line e h = rw e refl
+skip-added (x ∷ xs) q line e h = elim (x.line == line) as (λ b. cond b (Some x) (skip_of xs line) ≡ None → cond b (Some x) (skip_of (xs ++ q ∷ []) line) ≡ Some q) [
+  | true ↦ λ k. absurd (cc)
+  | false ↦ λ k. skip-added xs q line e k
+] h
+
+below-not : (m n : ℕ) → n < m → (m == n) ≡ false
+below-not m n h = grind (arith, nat_tests)
+
+is-line : (m n : ℕ) → m ≡ n → (m == n) ≡ true
+is-line m n e = grind (arith, nat_tests)
+
+none-of : (o : Option Point) → ((p : Point) → o ≡ Some p → ⊥) → o ≡ None
+none-of None h = refl
+none-of (Some p) h = absurd (h p refl)
+
+no-seat-first : (line column : ℕ) (p : Point) → 1 ≤ p.column → column ≡ 1 → (p.line < line) ⊎ ((p.line ≡ line) × (p.column < column)) → p.line < line
+no-seat-first line column p h e (inl l) = l
+no-seat-first line column p h e (inr l) = let f = l.1 in absurd (omega arith)
+
+in-range-before : (a b : Bool) → (not a && b) ≡ true → b ≡ true
+in-range-before true b h = absurd (cc)
+in-range-before false b h = h
+
+resumed-like : (skips added : List Point) (p : Point) → skip_of added p.line ≡ skip_of skips p.line → resumed added p ≡ resumed skips p
+resumed-like skips added p e = ap (λ (o : Option Point). cond (p.column == 1) (unwrap_or o p) p) e
+
+resumed-to : (skips : List Point) (p q : Point) → p.column ≡ 1 → skip_of skips p.line ≡ Some q → resumed skips p ≡ q
+resumed-to skips p q e f = let g = is-line p.column 1 e in rw (g, f) refl
+
+resumed-none : (skips : List Point) (p : Point) → p.column ≡ 1 → skip_of skips p.line ≡ None → resumed skips p ≡ p
+resumed-none skips p e f = let g = is-line p.column 1 e in rw (g, f) refl
+
+module _ (t : ℕ) (bytes : List ℕ) (d : 0 < t) where
+  chain-columns : (p : Point) (xs ys : List Seat) → IsChain t bytes p (xs ++ ys) → AllByRecursion (λ s. 1 ≤ s.point.column) xs
+  chain-columns p [] ys c = tt
+  chain-columns p (s ∷ ss) ys c = (c.1.seat_bounds.first, chain-columns s.end ss ys c.2)
+
+  -- what stands before the beginning of a line is in earlier lines
+  module _ (e : Point) (at : IsPlace t bytes e) (first : e.column ≡ 1) where
+    behind-chain : IsChain t bytes (point 1 1 0 0) (at.before ++ rest_at t bytes e)
+    behind-chain = subst (IsChain t bytes (point 1 1 0 0)) at.splits (whole-chain t bytes d)
+
+    behind-lies : (s : Seat) → LiesIn (point 1 1 0 0) (end_after (point 1 1 0 0) at.before) s → 1 ≤ s.point.column → s.point.line < e.line
+    behind-lies s h k =
+        let lies = lies-alike s.point e (shown bytes e) (sym (shown-line bytes e)) (sym (shown-column bytes e)) ∙ ap (lies_before s.point) at.stands ∙ h.1 in
+        no-seat-first e.line e.column s.point k first (lies-later s.point e lies)
+
+    behind-earlier : AllByRecursion (λ s. s.point.line < e.line) at.before
+    behind-earlier =
+        let p = point 1 1 0 0 in
+        every-both (LiesIn p (end_after p at.before)) (λ s. 1 ≤ s.point.column) (λ s. s.point.line < e.line) behind-lies at.before
+        (chain-between t bytes p at.before (rest_at t bytes e) behind-chain) (chain-columns p at.before (rest_at t bytes e) behind-chain)
+
+    -- a virtual byte before a place is in an earlier line
+    abbrev Earlier : Point → Seat → Type 0
+    Earlier after_previous s = stands_before s.point after_previous ≡ true → s.point.line < e.line
+
+    seats-earlier : AllByRecursion (Earlier e) (virtual t bytes)
+    seats-earlier = subst (AllByRecursion (Earlier e)) (sym at.splits) (every-append (Earlier e) at.before (rest_at t bytes e)
+        (every-map (λ s. s.point.line < e.line) (Earlier e) (λ s h k. h) at.before behind-earlier)
+        (every-map (λ s. stands_before s.point e ≡ false) (Earlier e) (λ s h k. absurd (cc)) (rest_at t bytes e) (rest-later t bytes e)))
+
+    read-earlier : (start after_previous : Point) → is_upto t bytes after_previous e ≡ true → AllByRecursion (λ s. s.point.line < e.line) (filter (in_range start after_previous) (virtual t bytes))
+    read-earlier start after_previous upto =
+        every-map (λ s. Earlier after_previous s × (in_range start after_previous s ≡ true)) (λ s. s.point.line < e.line)
+        (λ s h. h.0 (in-range-before (stands_before s.point start) (stands_before s.point after_previous) h.1)) (filter (in_range start after_previous) (virtual t bytes))
+        (every-kept (Earlier after_previous) (in_range start after_previous) (virtual t bytes)
+        (every-both (Leads after_previous e) (Earlier e) (Earlier after_previous) (λ s h k l. k (h l)) (virtual t bytes) (upto-leads t bytes after_previous e upto) seats-earlier))
+
+    after_previous-cases : (after_previous : Point) → IsPlace t bytes after_previous → (denotes_same t bytes after_previous e ≡ true) ⊎ ((after_previous.line < e.line) ⊎ ((after_previous.line ≡ e.line) × (after_previous.column < e.column)))
+        → (after_previous.line < e.line) ⊎ ((after_previous.line ≡ e.line) × (after_previous.column ≡ 1) × (denotes_same t bytes after_previous e ≡ true))
+    after_previous-cases after_previous place (inl h) =
+        let s = same-shown t bytes after_previous e place at h in
+        inr (sym (shown-line bytes after_previous) ∙ ap (λ (x : Point). x.line) s ∙ shown-line bytes e, same-column t bytes d after_previous e place at h ∙ first, h)
+    after_previous-cases after_previous place (inr (inl h)) = inl h
+    after_previous-cases after_previous place (inr (inr h)) = let c = h.1 in let b = place.bounds.first in absurd (omega arith)
+
+    -- a place that is not after the beginning of a line is in an earlier line, or denotes the same
+    pub after_previous-earlier : (after_previous : Point) → IsPlace t bytes after_previous → is_upto t bytes after_previous e ≡ true
+        → (after_previous.line < e.line) ⊎ ((after_previous.line ≡ e.line) × (after_previous.column ≡ 1) × (denotes_same t bytes after_previous e ≡ true))
+    after_previous-earlier after_previous place upto = after_previous-cases after_previous place (places-rise t bytes d after_previous e place at upto)
+
+    -- gaps that end up to there are in earlier lines
+    pub skips-earlier : (skips : List Point) → AllByRecursion (IsSkip t bytes e) skips → AllByRecursion (λ (p : Point). p.line < e.line) skips
+    skips-earlier skips are = every-map (IsSkip t bytes e) (λ (p : Point). p.line < e.line)
+        (λ p h. elim (after_previous-earlier p h.place h.upto) [
+          | inl l ↦ l
+          | inr r ↦ (let a = h.inside in let b = r.1 in absurd (omega arith))
+        ]) skips are
+
+  -- a gap is added, from the beginning of the line where the text ends
+  module _ (skips : List Point) (start e q : Point) (are : AllByRecursion (IsSkip t bytes e) skips) (at : IsPlace t bytes e) (to : IsPlace t bytes q)
+      (first : e.column ≡ 1) (line : q.line ≡ e.line) (before : stands_before e q ≡ true) (other : denotes_same t bytes q e ≡ false) where
+    added-upto : is_upto t bytes e q ≡ true
+    added-upto = upto-order t bytes e q (after-before e.index e.vs q.index q.vs before)
+
+    -- the line had no gap
+    pub added-none : skip_of skips e.line ≡ None
+    added-none = none-of (skip_of skips e.line) (λ p h.
+        let found = skip-is (IsSkip t bytes e) skips e.line p are h in
+        let skip = found.1 in
+        let inside = skip.inside in
+        let column = column-rises t bytes d p e skip.place at skip.upto found.0 in
+        absurd (omega arith))
+
+    added-inside : 1 < q.column
+    added-inside = elim (places-rise t bytes d e q at to added-upto) [
+      | inl h ↦ (let f = same-back t bytes e q h in absurd (cc))
+      | inr (inl h) ↦ absurd (omega arith)
+      | inr (inr h) ↦ omega (arith, h.1)
+    ]
+
+    pub added-skips : AllByRecursion (IsSkip t bytes q) (skips ++ q ∷ [])
+    added-skips = every-append (IsSkip t bytes q) skips (q ∷ []) (skips-upto t bytes d skips e q are added-upto)
+        (record { place = to; inside = added-inside; upto = upto-self t bytes q }, tt)
+
+    added-there : (k : ℕ) → k ≡ e.line → skip_of (skips ++ q ∷ []) k ≡ Some q
+    added-there k h = skip-added skips q k (is-line q.line k (line ∙ sym h)) (ap (skip_of skips) h ∙ added-none)
+
+    added-earlier : (k : ℕ) → k < e.line → skip_of (skips ++ q ∷ []) k ≡ skip_of skips k
+    added-earlier k h = skip-other skips q k (below-not q.line k (omega arith))
+
+    -- what was read keeps what it kept
+    pub added-read : (after_previous : Point) → is_upto t bytes after_previous e ≡ true → kept_between t bytes (skips ++ q ∷ []) start after_previous ≡ kept_between t bytes skips start after_previous
+    added-read after_previous upto =
+        let read = filter (in_range start after_previous) (virtual t bytes) in
+        filter-same (is_kept (skips ++ q ∷ [])) (is_kept skips) read
+        (every-map (λ s. s.point.line < e.line) (λ s. is_kept (skips ++ q ∷ []) s ≡ is_kept skips s)
+        (λ s h. ap (λ (o : Option Point). is_kept_by o s) (added-earlier s.point.line h)) read (read-earlier e at first start after_previous upto))
+
+    -- the gap has nothing that is kept
+    pub added-text : is_upto t bytes start e ≡ true → kept_between t bytes (skips ++ q ∷ []) start q ≡ kept_between t bytes skips start e
+    added-text from = jump-same t bytes d (skips ++ q ∷ []) e at start q from to line (added-there e.line refl) added-upto ∙ added-read e (upto-self t bytes e)
+
+    -- a place that is not after where the text ended
+    module _ (after_previous : Point) (place : IsPlace t bytes after_previous) (upto : is_upto t bytes after_previous e ≡ true) where
+      pub added-outside : IsOutside skips after_previous → IsOutside (skips ++ q ∷ []) after_previous
+      added-outside outside p h = elim (after_previous-earlier e at first after_previous place upto) [
+        | inl l ↦ outside p (sym (added-earlier after_previous.line l) ∙ h)
+        | inr l ↦ inl l.1
+      ]
+
+      -- the next byte is looked for where it was, or after the gap
+      pub added-resumed : (resumed (skips ++ q ∷ []) after_previous ≡ resumed skips after_previous) ⊎ ((denotes_same t bytes after_previous e ≡ true) × (resumed skips after_previous ≡ after_previous) × (resumed (skips ++ q ∷ []) after_previous ≡ q))
+      added-resumed = elim (after_previous-earlier e at first after_previous place upto) [
+        | inl l ↦ inl (resumed-like skips (skips ++ q ∷ []) after_previous (added-earlier after_previous.line l))
+        | inr l ↦ inr (l.2, resumed-none skips after_previous l.1 (ap (skip_of skips) l.0 ∙ added-none), resumed-to (skips ++ q ∷ []) after_previous q l.1 (added-there after_previous.line l.0))
+      ]
+
+      pub added-shown : stands_before (shown bytes (resumed (skips ++ q ∷ []) after_previous)) (shown bytes (resumed skips after_previous)) ≡ false
+      added-shown = elim added-resumed [
+        | inl r ↦ (let p = shown bytes (resumed skips after_previous) in ap (λ (x : Point). stands_before (shown bytes x) p) r ∙ before-self p.index p.vs)
+        | inr r ↦ ap (λ (x : Point). stands_before (shown bytes x) (shown bytes (resumed skips after_previous))) r.2 ∙ ap (λ (x : Point). stands_before (shown bytes q) (shown bytes x)) r.1
+            ∙ upto-shown t bytes d after_previous q place to (upto-upto t bytes after_previous e q upto added-upto)
+      ]
+
+  -- whether a place denotes the same as one that it stands after, by where it is shown
+  pub same-not_before : (p e : Point) → IsPlace t bytes p → IsPlace t bytes e → denotes_same t bytes p e ≡ true → stands_before e (shown bytes p) ≡ false
+  same-not_before p e a b h = ap (stands_before e) (same-shown t bytes p e a b h) ∙ shown-upto t bytes e
+
+  further : (p e : Point) (a : IsPlace t bytes p) (b : IsPlace t bytes e) → is_upto t bytes e p ≡ true → (mid : List Seat) → left_of t bytes e p ≡ mid → (denotes_same t bytes e p ≡ true) ⊎ (stands_before e (shown bytes p) ≡ true)
+  further p e a b upto [] h = inl (way-none t bytes d e p b a upto h)
+  further p e a b upto (s ∷ ss) h =
+      let c = subst (λ (xs : List Seat). IsChain t bytes (shown bytes e) (xs ++ rest_at t bytes p)) h (way-chain t bytes d e p b a upto) in
+      let ends : shown bytes p ≡ end_after s.end ss = way-ends t bytes d e p b a upto ∙ ap (end_after (shown bytes e)) h in
+      let f = λ (r : Seat). stands_before r.point p in
+      let after = λ (r : Seat). (stands_before r.point e ≡ false) × (f r ≡ true) in
+      let later = subst (AllByRecursion after) h (every-kept (λ r. stands_before r.point e ≡ false) f (rest_at t bytes e) (rest-later t bytes e)) in
+      let q = end_after s.end ss in
+      let passes = upto-before e.index e.vs s.point.index s.point.vs s.end.index s.end.vs later.0.0 c.1.ends in
+      inr (ap (stands_before e) ends ∙ before-upto e.index e.vs s.end.index s.end.vs q.index q.vs passes (chain-upto t bytes s.end ss (rest_at t bytes p) c.2))
+
+  pub other-before : (p e : Point) → IsPlace t bytes p → IsPlace t bytes e → stands_before e p ≡ true → denotes_same t bytes p e ≡ false → stands_before e (shown bytes p) ≡ true
+  other-before p e a b before other = elim (further p e a b (upto-order t bytes e p (after-before e.index e.vs p.index p.vs before)) (left_of t bytes e p) refl) [
+    | inl h ↦ (let f = same-back t bytes e p h in absurd (cc))
+    | inr h ↦ h
+  ]

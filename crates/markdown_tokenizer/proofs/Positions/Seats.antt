@@ -1,0 +1,229 @@
+-- Which virtual byte stands at a place, read from the bytes.
+use Rattle.std.specs.List.{AllByRecursion}
+use Rattle.std.proofs.Common.{◌≡◌, ◌≢◌, ℕ, zero, suc, ◌+◌, ◌-◌, ◌≤◌, ◌<◌, ◌==◌, List, [], ◌∷◌, ◌++◌, Bool, true, false, cond, length, drop, Some, ◌⊎◌, inl, inr, refl, sym, ap, ◌∙◌, arith, drop-cons, add-one, rules}
+use Rattle.std.specs.Prelude.{slice_index, nat_lt, ◌&&◌}
+use Rattle.std.proofs.lemmas.List.{drop_all}
+use Rattle.std.proofs.lemmas.Bool.{ltb-true, lt-ltb, eqb-true, and_parts}
+use Rattle.std.proofs.lemmas.Bool.Decides.{nat_tests}
+use Rattle.std.proofs.Math.Nat.{mod-lt}
+use Rattle.markdown_base.specs.declared.event.Point.{Point}
+use Rattle.markdown_base.specs.Virtual.{Seat, point, tab_width, in_tab, end_in_tab, virtual_from, begins_with_lf}
+use Rattle.markdown_base.specs.Places.{stands_before}
+use Rattle.markdown_base.proofs.Common.{every-map, every-append}
+use Rattle.markdown_tokenizer.specs.Cursor.{rest_at, begins_pair, IsSeatAt, IsNextSeat}
+use Rattle.markdown_tokenizer.proofs.Positions.Order.{every-cond, not-before, not-before-in, above-later, before-self, eq-zero, is-not, not-number}
+
+-- seats from an index on
+abbrev FromIndex : ℕ → Seat → Type 0
+FromIndex i s = i ≤ s.point.index
+
+from-later : (i : ℕ) (xs : List Seat) → AllByRecursion (FromIndex (suc i)) xs → AllByRecursion (FromIndex i) xs
+from-later i xs h = every-map (FromIndex (suc i)) (FromIndex i) (λ s k. omega (arith, k)) xs h
+
+pub tab-index : (byte n line column index vs : ℕ) → AllByRecursion (λ s. (s.point.index ≡ index) × (vs ≤ s.point.vs)) (in_tab byte n line column index vs)
+tab-index byte zero line column index vs = tt
+tab-index byte (suc n) line column index vs =
+    ((refl, omega arith), every-map (λ s. (s.point.index ≡ index) × (suc vs ≤ s.point.vs)) (λ s. (s.point.index ≡ index) × (vs ≤ s.point.vs)) (λ s h. (h.0, omega (arith, h.1))) (in_tab 32 n line (suc column) index (suc vs)) (tab-index 32 n line (suc column) index (suc vs)))
+
+pub virtual-index : (t line column index : ℕ) (bs : List ℕ) → AllByRecursion (FromIndex index) (virtual_from t line column index bs)
+virtual-index t line column index [] = tt
+virtual-index t line column index (b ∷ bs) =
+    let P = FromIndex index in
+    let here : index ≤ index = omega arith in
+    let next = λ (l m : ℕ). from-later index (virtual_from t l m (suc index) bs) (virtual-index t l m (suc index) bs) in
+    every-cond P (b == 10) _ _ (here, next (suc line) 1)
+    (every-cond P (b == 13) _ _ (every-cond P (begins_with_lf bs) _ _ (next line column) (here, next (suc line) 1))
+    (every-cond P (b == 9) _ _
+    (every-append P _ _ (every-map (λ s. (s.point.index ≡ index) × (0 ≤ s.point.vs)) P (λ s h. omega (arith, h.0)) _ (tab-index 9 (tab_width t column) line column index 0)) (next line (column + tab_width t column)))
+    (here, next line (suc column))))
+
+-- what follows a place does not stand before it
+rest-later-at : (t : ℕ) (bytes : List ℕ) (p : Point) (b : Bool) → (p.vs == 0) ≡ b → AllByRecursion (λ s. stands_before s.point p ≡ false) (rest_at t bytes p)
+rest-later-at t bytes p true e = rw e
+    (every-map (FromIndex p.index) (λ s. stands_before s.point p ≡ false) (λ s h. not-before s.point.index s.point.vs p.index p.vs h (eq-zero p.vs e))
+    (virtual_from t p.line p.column p.index (drop p.index bytes)) (virtual-index t p.line p.column p.index (drop p.index bytes)))
+rest-later-at t bytes p false e = rw e
+    (every-append (λ s. stands_before s.point p ≡ false) (in_tab 32 (tab_width t p.column) p.line p.column p.index p.vs) (virtual_from t p.line (p.column + tab_width t p.column) (suc p.index) (drop (suc p.index) bytes))
+    (every-map (λ s. (s.point.index ≡ p.index) × (p.vs ≤ s.point.vs)) (λ s. stands_before s.point p ≡ false) (λ s h. not-before-in s.point.index s.point.vs p.index p.vs h.0 h.1)
+    (in_tab 32 (tab_width t p.column) p.line p.column p.index p.vs) (tab-index 32 (tab_width t p.column) p.line p.column p.index p.vs))
+    (every-map (FromIndex (suc p.index)) (λ s. stands_before s.point p ≡ false) (λ s h. above-later s.point.index s.point.vs p.index p.vs (omega (arith, h)))
+    (virtual_from t p.line (p.column + tab_width t p.column) (suc p.index) (drop (suc p.index) bytes)) (virtual-index t p.line (p.column + tab_width t p.column) (suc p.index) (drop (suc p.index) bytes))))
+
+pub rest-later : (t : ℕ) (bytes : List ℕ) (p : Point) → AllByRecursion (λ s. stands_before s.point p ≡ false) (rest_at t bytes p)
+rest-later t bytes p = rest-later-at t bytes p (p.vs == 0) refl
+
+pub drop-at : (bytes : List ℕ) (i : ℕ) → i < length bytes → drop i bytes ≡ slice_index bytes i ∷ drop (suc i) bytes
+drop-at bytes i h = drop-cons bytes i 0 h
+
+tab-tail : (byte n line column index vs : ℕ) → 0 < n → (end : Point) × (after : List Seat) × (in_tab byte n line column index vs ≡ record { byte = byte; point = point line column index vs; end = end } ∷ after)
+tab-tail byte zero line column index vs h = absurd (omega arith)
+tab-tail byte (suc n) line column index vs h = (end_in_tab n line column index vs, in_tab 32 n line (suc column) index (suc vs), refl)
+
+pub width-pos : (t column : ℕ) → 0 < t → 0 < tab_width t column
+width-pos t column h = let e = mod-lt (column - 1) h in omega arith
+
+-- in a tab a space waits
+pub seat-in-tab : (t : ℕ) (bytes : List ℕ) (p : Point) → 0 < t → 0 < p.vs → p.index < length bytes → IsNextSeat t bytes p (Some (32, p))
+seat-in-tab t bytes p d h i =
+    let e : (p.vs == 0) ≡ false = grind (arith, nat_tests) in
+    let tail = tab-tail 32 (tab_width t p.column) p.line p.column p.index p.vs (width-pos t p.column d) in
+    let more = virtual_from t p.line (p.column + tab_width t p.column) (suc p.index) (drop (suc p.index) bytes) in (
+      tail.0,
+      record {
+        after = tail.1 ++ more;
+        is = rw e (ap (λ (xs : List Seat). xs ++ more) tail.2);
+        same = refl;
+        later = before-self p.index p.vs;
+        inside = i;
+      },
+    )
+
+-- past the end nothing waits
+pub seat-none : (t : ℕ) (bytes : List ℕ) (p : Point) → p.vs ≡ 0 → length bytes ≤ p.index → rest_at t bytes p ≡ []
+seat-none t bytes p h i =
+    let none : drop p.index bytes ≡ [] = drop_all p.index bytes i in
+    rw (h, none) refl
+
+-- the first virtual byte of some bytes, where they do not begin with CR LF
+abbrev FirstIs : ℕ → ℕ → ℕ → ℕ → ℕ → List ℕ → Type 0
+FirstIs t l c i b bs = (end : Point) × (after : List Seat) × (virtual_from t l c i (b ∷ bs) ≡ record { byte = cond (b == 13) 10 b; point = point l c i 0; end = end } ∷ after)
+
+tab-first : (t l c i : ℕ) (bs : List ℕ) → 0 < t → FirstIs t l c i 9 bs
+tab-first t l c i bs d =
+    let tail = tab-tail 9 (tab_width t c) l c i 0 (width-pos t c d) in
+    let more = virtual_from t l (c + tab_width t c) (suc i) bs in
+    (tail.0, tail.1 ++ more, ap (λ (xs : List Seat). xs ++ more) tail.2)
+
+first-at : (t l c i b : ℕ) (bs : List ℕ) (x y z : Bool) → 0 < t → (b == 10) ≡ x → (b == 13) ≡ y → (b == 9) ≡ z → (b ≡ 13 → begins_with_lf bs ≡ false) → FirstIs t l c i b bs
+first-at t l c i b bs true y z d ex ey ez alone = let e = eqb-true b 10 ex in rw e (_, _, refl)
+first-at t l c i b bs false true z d ex ey ez alone = let e = eqb-true b 13 ey in let f = alone e in rw e (rw f (_, _, refl))
+first-at t l c i b bs false false true d ex ey ez alone = let e = eqb-true b 9 ez in rw e (tab-first t l c i bs d)
+first-at t l c i b bs false false false d ex ey ez alone = rw (ex, ey, ez) (_, _, refl)
+
+-- the seat of a byte that is no CR before LF
+pub seat-plain : (t : ℕ) (bytes : List ℕ) (p : Point) (b : ℕ) → 0 < t → p.vs ≡ 0 → p.index < length bytes → slice_index bytes p.index ≡ b → (b ≡ 13 → begins_with_lf (drop (suc p.index) bytes) ≡ false)
+    → IsNextSeat t bytes p (Some (cond (b == 13) 10 b, p))
+seat-plain t bytes p b d h i is alone =
+    let first = first-at t p.line p.column p.index b (drop (suc p.index) bytes) (b == 10) (b == 13) (b == 9) d refl refl refl alone in
+    let bytes_are : drop p.index bytes ≡ b ∷ drop (suc p.index) bytes = drop-at bytes p.index i ∙ ap (λ (n : ℕ). n ∷ drop (suc p.index) bytes) is in
+    let here : rest_at t bytes p ≡ virtual_from t p.line p.column p.index (b ∷ drop (suc p.index) bytes) = rw (h, bytes_are) refl in
+    let at : point p.line p.column p.index 0 ≡ p = ap (λ (n : ℕ). point p.line p.column p.index n) (sym h) in (
+      first.0,
+      record {
+        after = first.1;
+        is = here ∙ first.2 ∙ ap (λ (q : Point). record { byte = cond (b == 13) 10 b; point = q; end = first.0 } ∷ first.1) at;
+        same = refl;
+        later = before-self p.index p.vs;
+        inside = i;
+      },
+    )
+
+-- the seat of a CR before LF is that of the LF
+pub seat-crlf : (t : ℕ) (bytes : List ℕ) (p : Point) → p.vs ≡ 0 → suc p.index < length bytes → slice_index bytes p.index ≡ 13 → slice_index bytes (suc p.index) ≡ 10
+    → IsNextSeat t bytes p (Some (10, point p.line p.column (suc p.index) p.vs))
+seat-crlf t bytes p h i cr lf =
+    let first_byte : drop p.index bytes ≡ 13 ∷ drop (suc p.index) bytes = drop-at bytes p.index (omega arith) ∙ ap (λ (n : ℕ). n ∷ drop (suc p.index) bytes) cr in
+    let second_byte : drop (suc p.index) bytes ≡ 10 ∷ drop (suc (suc p.index)) bytes = drop-at bytes (suc p.index) i ∙ ap (λ (n : ℕ). n ∷ drop (suc (suc p.index)) bytes) lf in
+    let q = point p.line p.column (suc p.index) p.vs in
+    let there : rest_at t bytes q ≡ virtual_from t p.line p.column (suc p.index) (10 ∷ drop (suc (suc p.index)) bytes) = rw (h, second_byte) refl in
+    let here : rest_at t bytes p ≡ virtual_from t p.line p.column (suc p.index) (10 ∷ drop (suc (suc p.index)) bytes) = rw (h, first_byte, second_byte) refl in (
+      point (suc p.line) 1 (suc (suc p.index)) 0,
+      record {
+        after = virtual_from t (suc p.line) 1 (suc (suc p.index)) (drop (suc (suc p.index)) bytes);
+        is = here ∙ ap (λ (v : ℕ). record { byte = 10; point = point p.line p.column (suc p.index) v; end = point (suc p.line) 1 (suc (suc p.index)) 0 } ∷ virtual_from t (suc p.line) 1 (suc (suc p.index)) (drop (suc (suc p.index)) bytes)) (sym h);
+        same = there ∙ sym here;
+        later = above-later (suc p.index) p.vs p.index p.vs (omega arith);
+        inside = i;
+      },
+    )
+
+pub seat-other : (t : ℕ) (bytes : List ℕ) (p : Point) → 0 < t → p.vs ≡ 0 → p.index < length bytes → slice_index bytes p.index ≢ 13 → IsNextSeat t bytes p (Some (slice_index bytes p.index, p))
+seat-other t bytes p d h i ne =
+    let e = not-number (slice_index bytes p.index) 13 ne in
+    let s = seat-plain t bytes p (slice_index bytes p.index) d h i refl (λ k. absurd (ne k)) in rw e at s
+
+no-lf-at : (bytes : List ℕ) (i : ℕ) (b : Bool) → nat_lt i (length bytes) ≡ b → (i < length bytes → slice_index bytes i ≢ 10) → begins_with_lf (drop i bytes) ≡ false
+no-lf-at bytes i true e alone =
+    let l = ltb-true i (length bytes) e in
+    let is = drop-at bytes i l in
+    let no = not-number (slice_index bytes i) 10 (alone l) in
+    rw is no
+no-lf-at bytes i false e alone =
+    let past : length bytes ≤ i = grind (arith, nat_tests) in
+    let none : drop i bytes ≡ [] = drop_all i bytes past in rw none refl
+
+no-lf : (bytes : List ℕ) (i : ℕ) → (i < length bytes → slice_index bytes i ≢ 10) → begins_with_lf (drop i bytes) ≡ false
+no-lf bytes i alone = no-lf-at bytes i (nat_lt i (length bytes)) refl alone
+
+pub seat-cr : (t : ℕ) (bytes : List ℕ) (p : Point) → 0 < t → p.vs ≡ 0 → p.index < length bytes → slice_index bytes p.index ≡ 13 → (p.index + 1 < length bytes → slice_index bytes (p.index + 1) ≢ 10) → IsNextSeat t bytes p (Some (10, p))
+seat-cr t bytes p d h i cr alone = seat-plain t bytes p 13 d h i cr (λ k. no-lf bytes (suc p.index) (λ l e. alone (omega arith) (rw add-one e)))
+
+-- the next virtual byte is one
+pub one-seat : (t : ℕ) (bytes : List ℕ) (p : Point) (a b : Seat) → IsSeatAt t bytes p a → IsSeatAt t bytes p b → a ≡ b
+one-seat t bytes p a b h k = let e : a ∷ h.after ≡ b ∷ k.after = sym h.is ∙ k.is in cc
+
+and-no : (a b : Bool) → b ≡ false → (a && b) ≡ false
+and-no true b e = e
+and-no false b e = refl
+
+-- a CR LF begins at an index
+pub pair-is : (bytes : List ℕ) (i : ℕ) → begins_pair bytes i ≡ true → (i + 1 < length bytes) × (slice_index bytes i ≡ 13) × (slice_index bytes (i + 1) ≡ 10)
+pair-is bytes i h =
+    let a = and_parts (nat_lt (i + 1) (length bytes)) ((slice_index bytes i == 13) && (slice_index bytes (i + 1) == 10)) h in
+    let b = and_parts (slice_index bytes i == 13) (slice_index bytes (i + 1) == 10) a.1 in
+    (ltb-true (i + 1) (length bytes) a.0, eqb-true (slice_index bytes i) 13 b.0, eqb-true (slice_index bytes (i + 1)) 10 b.1)
+
+-- a CR begins none
+pub no-pair-is : (bytes : List ℕ) (i : ℕ) → slice_index bytes i ≡ 13 → begins_pair bytes i ≡ false → i + 1 < length bytes → slice_index bytes (i + 1) ≢ 10
+no-pair-is bytes i cr h l lf =
+    let e : nat_lt (i + 1) (length bytes) ≡ true = search (rules, lt-ltb) in
+    let f : begins_pair bytes i ≡ true = rw (e, cr, lf) refl in
+    let g = sym f ∙ h in absurd cc
+
+-- The next virtual byte from a place on stands there, or it is the LF of a CR LF there
+abbrev pub StandsThere : List ℕ → Point → Seat → Type 0
+StandsThere bytes p seat =
+    ((seat.point ≡ p) × (seat.byte ≡ 10 → begins_pair bytes p.index ≡ false)) ⊎ ((begins_pair bytes p.index ≡ true) × (seat.byte ≡ 10) × (seat.point ≡ point p.line p.column (suc p.index) p.vs))
+
+module _ (t : ℕ) (bytes : List ℕ) (p : Point) (seat : Seat) (d : 0 < t) (tab : 0 < p.vs → p.index < length bytes) (n : IsSeatAt t bytes p seat) where
+  same-seat : (byte : ℕ) (q : Point) → IsNextSeat t bytes p (Some (byte, q)) → (seat.byte ≡ byte) × (seat.point ≡ q)
+  same-seat byte q s = let e = one-seat t bytes p seat (record { byte = byte; point = q; end = s.0 }) n s.1 in (ap (λ (r : Seat). r.byte) e, ap (λ (r : Seat). r.point) e)
+
+  within-at : p.vs ≡ 0 → (b : Bool) → nat_lt p.index (length bytes) ≡ b → p.index < length bytes
+  within-at h true e = ltb-true p.index (length bytes) e
+  within-at h false e =
+      let past : length bytes ≤ p.index = grind (arith, nat_tests) in
+      let f = sym (seat-none t bytes p h past) ∙ n.is in absurd cc
+
+  within-bytes : p.vs ≡ 0 → p.index < length bytes
+  within-bytes h = within-at h (nat_lt p.index (length bytes)) refl
+
+  -- by whether a byte follows, and whether that is LF
+  there-cr : p.vs ≡ 0 → slice_index bytes p.index ≡ 13 → (b c : Bool) → nat_lt (p.index + 1) (length bytes) ≡ b → (slice_index bytes (p.index + 1) == 10) ≡ c → StandsThere bytes p seat
+  there-cr h cr true true e f =
+      let l = ltb-true (p.index + 1) (length bytes) e in
+      let lf = eqb-true (slice_index bytes (p.index + 1)) 10 f in
+      let s = same-seat 10 (point p.line p.column (suc p.index) p.vs) (seat-crlf t bytes p h (rw add-one at l) cr (rw add-one at lf)) in
+      inr (rw (e, cr, f) refl, s.0, s.1)
+  there-cr h cr true false e f =
+      let s = same-seat 10 p (seat-cr t bytes p d h (within-bytes h) cr (λ l. is-not (slice_index bytes (p.index + 1)) 10 f)) in
+      inl (s.1, λ _. rw (e, cr, f) refl)
+  there-cr h cr false c e f =
+      let past : length bytes ≤ p.index + 1 = grind (arith, nat_tests) in
+      let s = same-seat 10 p (seat-cr t bytes p d h (within-bytes h) cr (λ l. absurd (omega arith))) in
+      inl (s.1, λ _. rw e refl)
+
+  -- by whether the place is in a tab, and whether CR stands there
+  there-at : (b c : Bool) → (p.vs == 0) ≡ b → (slice_index bytes p.index == 13) ≡ c → StandsThere bytes p seat
+  there-at true true e f = there-cr (eqb-true p.vs 0 e) (eqb-true (slice_index bytes p.index) 13 f) (nat_lt (p.index + 1) (length bytes)) (slice_index bytes (p.index + 1) == 10) refl refl
+  there-at true false e f =
+      let h = eqb-true p.vs 0 e in
+      let s = same-seat (slice_index bytes p.index) p (seat-other t bytes p d h (within-bytes h) (is-not (slice_index bytes p.index) 13 f)) in
+      inl (s.1, λ _. and-no (nat_lt (p.index + 1) (length bytes)) ((slice_index bytes p.index == 13) && (slice_index bytes (p.index + 1) == 10)) (rw f refl))
+  there-at false c e f =
+      let h : 0 < p.vs = grind (arith, nat_tests) in
+      let s = same-seat 32 p (seat-in-tab t bytes p d h (tab h)) in
+      inl (s.1, λ b. let g = sym s.0 ∙ b in absurd cc)
+
+  pub stands-there : StandsThere bytes p seat
+  stands-there = there-at (p.vs == 0) (slice_index bytes p.index == 13) refl refl

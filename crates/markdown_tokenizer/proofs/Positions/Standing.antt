@@ -1,0 +1,254 @@
+-- Places of a document: where each virtual byte begins, is shown and ends, and what is left there.
+use Rattle.std.specs.List.{AllByRecursion}
+use Rattle.std.proofs.Common.{◌≡◌, ◌≢◌, ℕ, zero, suc, ◌+◌, ◌-◌, ◌<◌, ◌==◌, List, [], ◌∷◌, ◌++◌, Bool, true, false, cond, refl, sym, ap, ◌∙◌, subst, arith, append_assoc, ◌⊎◌, inl, inr}
+use Rattle.std.specs.Prelude.{slice_index, nat_lt, ◌&&◌, ◌||◌, Contains}
+use Rattle.std.specs.List.{flat_map}
+use Rattle.std.proofs.lemmas.Bool.Decides.{nat_tests}
+use Rattle.std.proofs.lemmas.List.{append-nil}
+use Rattle.std.proofs.lemmas.List.Elements.{Contains-append_cases}
+use Rattle.std.proofs.lemmas.Bool.{eqb-true}
+use Rattle.markdown_base.specs.declared.event.Point.{Point}
+use Rattle.markdown_base.specs.Virtual.{Seat, point, virtual, end_after, document_end}
+use Rattle.markdown_base.specs.Places.{stands_before, shown, follows_cr, IsShown, IsPointOf}
+use Rattle.markdown_base.proofs.Common.{every-map}
+use Rattle.markdown_base.proofs.Seats.{end-after-one}
+use Rattle.markdown_tokenizer.specs.Cursor.{rest_at, IsPlace, IsSeatAt, begins_pair, goes_on, end_at}
+use Rattle.markdown_tokenizer.proofs.Positions.Order.{not-number, before-self, later-later, after-before, before-upto}
+use Rattle.markdown_tokenizer.proofs.Positions.Seats.{StandsThere, stands-there}
+use Rattle.markdown_tokenizer.proofs.Positions.Chains.{IsAt, Begins, IsChain, whole-chain, shown-other}
+
+point-of-numbers : (a b c d e f : ℕ) → a ≡ b → d ≡ e → point a c d f ≡ point b c e f
+point-of-numbers a b c d e f h k = rw (h, k) refl
+
+module _ (t : ℕ) (bytes : List ℕ) where
+  pub chain-at : (p : Point) (xs : List Seat) → IsChain t bytes p xs → IsAt t bytes p xs
+  chain-at p [] c = c
+  chain-at p (s ∷ ss) c = c.0
+
+  pub chain-split : (p : Point) (xs ys : List Seat) → IsChain t bytes p (xs ++ ys) → IsChain t bytes (end_after p xs) ys
+  chain-split p [] ys c = c
+  chain-split p (s ∷ ss) ys c = chain-split s.end ss ys c.2
+
+  -- what a chain has passed is not after where it stands
+  pub chain-upto : (p : Point) (xs ys : List Seat) → IsChain t bytes p (xs ++ ys) → stands_before (end_after p xs) p ≡ false
+  chain-upto p [] ys c = before-self p.index p.vs
+  chain-upto p (s ∷ ss) ys c =
+      let q = end_after s.end ss in
+      let after = after-before s.point.index s.point.vs s.end.index s.end.vs c.1.ends in
+      later-later q.index q.vs s.end.index s.end.vs p.index p.vs (chain-upto s.end ss ys c.2)
+      (later-later s.end.index s.end.vs s.point.index s.point.vs p.index p.vs after c.1.later)
+
+  chain-behind : (p : Point) (xs ys : List Seat) → IsChain t bytes p (xs ++ ys) → AllByRecursion (λ s. stands_before s.point (end_after p xs) ≡ true) xs
+  chain-behind p [] ys c = tt
+  chain-behind p (s ∷ ss) ys c =
+      let q = end_after s.end ss in
+      (before-upto s.point.index s.point.vs s.end.index s.end.vs q.index q.vs c.1.ends (chain-upto s.end ss ys c.2), chain-behind s.end ss ys c.2)
+
+  back-upto : (i v : ℕ) → (nat_lt i (i - 1) || ((i == i - 1) && nat_lt v v)) ≡ false
+  back-upto i v = grind (arith, nat_tests)
+
+  shown-upto-at : (p : Point) (b : Bool) → stands_before p (cond b (record { line = p.line; column = p.column; index = p.index - 1; vs = p.vs }) p) ≡ false
+  shown-upto-at p true = back-upto p.index p.vs
+  shown-upto-at p false = before-self p.index p.vs
+
+  -- a place is not before where it is shown
+  pub shown-upto : (p : Point) → stands_before p (shown bytes p) ≡ false
+  shown-upto p = shown-upto-at p ((slice_index bytes p.index == 10) && follows_cr bytes p.index)
+
+  not-both : (n : ℕ) → n ≡ 13 → n ≡ 10 → ⊥
+  not-both n e f = absurd (omega arith)
+
+  follows-back : (i : ℕ) → follows_cr bytes i ≡ true → slice_index bytes (i - 1) ≢ 10
+  follows-back zero e = absurd (cc)
+  follows-back (suc i) e =
+      let cr = eqb-true (slice_index bytes i) 13 e in
+      let back : suc i - 1 ≡ i = omega arith in
+      λ k. not-both (slice_index bytes i) cr (ap (slice_index bytes) (sym back) ∙ k)
+
+  shown-again : (p : Point) (b c : Bool) → (slice_index bytes p.index == 10) ≡ b → follows_cr bytes p.index ≡ c → IsShown bytes (shown bytes p)
+  shown-again p true true e f =
+      let q = point p.line p.column (p.index - 1) p.vs in
+      let is : shown bytes p ≡ q = rw (e, f) refl in
+      subst (IsShown bytes) (sym is) (shown-other bytes q (follows-back p.index f))
+  shown-again p true false e f = let is : shown bytes p ≡ p = rw (e, f) refl in subst (IsShown bytes) (sym is) is
+  shown-again p false c e f = let is : shown bytes p ≡ p = rw e refl in subst (IsShown bytes) (sym is) is
+
+  -- where a place is shown is shown at itself
+  pub shown-shown : (p : Point) → IsShown bytes (shown bytes p)
+  shown-shown p = shown-again p (slice_index bytes p.index == 10) (follows_cr bytes p.index) refl refl
+
+-- one of these seats
+pub record IsAmong (s : Seat) (xs : List Seat) : Type 0 where
+  pub front : List Seat
+  pub back : List Seat
+  pub splits : xs ≡ front ++ s ∷ back
+
+module _ (t : ℕ) (bytes : List ℕ) (d : 0 < t) where
+  -- the place after some of the virtual bytes
+  pub place-after : (xs ys : List Seat) → virtual t bytes ≡ xs ++ ys → IsPlace t bytes (end_after (point 1 1 0 0) xs)
+  place-after xs ys e =
+      let c = subst (IsChain t bytes (point 1 1 0 0)) e (whole-chain t bytes d) in
+      let at = chain-at t bytes (end_after (point 1 1 0 0) xs) ys (chain-split t bytes (point 1 1 0 0) xs ys c) in
+      record {
+        before = xs;
+        splits = e ∙ ap (λ (zs : List Seat). xs ++ zs) (sym at.is);
+        behind = chain-behind t bytes (point 1 1 0 0) xs ys c;
+        stands = at.shown;
+        bounds = at.bounds;
+      }
+
+  pub rest-after : (xs ys : List Seat) → virtual t bytes ≡ xs ++ ys → rest_at t bytes (end_after (point 1 1 0 0) xs) ≡ ys
+  rest-after xs ys e =
+      let c = subst (IsChain t bytes (point 1 1 0 0)) e (whole-chain t bytes d) in
+      (chain-at t bytes (end_after (point 1 1 0 0) xs) ys (chain-split t bytes (point 1 1 0 0) xs ys c)).is
+
+  pub end-place : IsPlace t bytes (document_end t bytes)
+  end-place = place-after (virtual t bytes) [] (sym (append-nil (virtual t bytes)))
+
+  module _ (xs : List Seat) (s : Seat) (ys : List Seat) (e : virtual t bytes ≡ xs ++ s ∷ ys) where
+    from-here : IsChain t bytes (end_after (point 1 1 0 0) xs) (s ∷ ys)
+    from-here = chain-split t bytes (point 1 1 0 0) xs (s ∷ ys) (subst (IsChain t bytes (point 1 1 0 0)) e (whole-chain t bytes d))
+
+    pub seat-begins : Begins t bytes (end_after (point 1 1 0 0) xs) s ys
+    seat-begins = from-here.1
+
+    behind-seat : (q : Point) → stands_before q (end_after (point 1 1 0 0) xs) ≡ false → AllByRecursion (λ r. stands_before r.point q ≡ true) xs
+    behind-seat q later =
+        let p = end_after (point 1 1 0 0) xs in
+        every-map (λ r. stands_before r.point p ≡ true) (λ r. stands_before r.point q ≡ true) (λ r h. before-upto r.point.index r.point.vs p.index p.vs q.index q.vs h later) xs
+        (chain-behind t bytes (point 1 1 0 0) xs (s ∷ ys) (subst (IsChain t bytes (point 1 1 0 0)) e (whole-chain t bytes d)))
+
+    -- a seat is a place
+    pub point-place : IsPlace t bytes s.point
+    point-place = record {
+      before = xs;
+      splits = e ∙ ap (λ (zs : List Seat). xs ++ zs) (sym seat-begins.at_seat);
+      behind = behind-seat s.point seat-begins.later;
+      stands = seat-begins.shown_is;
+      bounds = seat-begins.seat_bounds;
+    }
+
+    -- and so is where it is shown
+    pub shown-place : IsPlace t bytes (shown bytes s.point)
+    shown-place = record {
+      before = xs;
+      splits = e ∙ ap (λ (zs : List Seat). xs ++ zs) (sym seat-begins.at_shown);
+      behind = behind-seat (shown bytes s.point) seat-begins.shown_later;
+      stands = shown-shown t bytes s.point ∙ seat-begins.shown_is;
+      bounds = seat-begins.shown_bounds;
+    }
+
+    end-splits : virtual t bytes ≡ (xs ++ s ∷ []) ++ ys
+    end-splits = e ∙ sym (append_assoc xs (s ∷ []) ys)
+
+    -- and the place after it
+    pub after-place : IsPlace t bytes s.end
+    after-place = subst (IsPlace t bytes) (end-after-one (point 1 1 0 0) xs s) (place-after (xs ++ s ∷ []) ys end-splits)
+
+    pub after-rest : rest_at t bytes s.end ≡ ys
+    after-rest = (chain-at t bytes s.end ys from-here.2).is
+
+    -- which no LF of a CR LF is
+    pub after-shown : IsShown bytes s.end
+    after-shown = (chain-at t bytes s.end ys from-here.2).shown
+
+no-element : {A : Type 0} (y : A) → Contains [] y → ⊥
+no-element y (k, lt, is) = absurd (omega arith)
+
+contains-cons : {A : Type 0} (x : A) (xs : List A) (y : A) → Contains (x ∷ xs) y → (x ≡ y) ⊎ Contains xs y
+contains-cons x xs y (zero, lt, is) = inl is
+contains-cons x xs y (suc k, lt, is) = inr (k, (omega arith), is)
+
+-- a seat at which a point is
+abbrev SeatOf : List ℕ → Point → List Seat → Type 0
+SeatOf bytes p xs = (s : Seat) × IsAmong s xs × ((shown bytes s.point ≡ p) ⊎ (s.point ≡ p))
+
+later-seat : (bytes : List ℕ) (p : Point) (x : Seat) (xs : List Seat) → SeatOf bytes p xs → SeatOf bytes p (x ∷ xs)
+later-seat bytes p x xs (s, among, is) = (s, record { front = x ∷ among.front; back = among.back; splits = ap (λ (ys : List Seat). x ∷ ys) among.splits }, is)
+
+seat-of-or : (bytes : List ℕ) (p : Point) (x : Seat) (xs : List Seat) → (SeatOf bytes p xs) ⊎ ((shown bytes x.point ≡ p) ⊎ (x.point ≡ p)) → SeatOf bytes p (x ∷ xs)
+seat-of-or bytes p x xs (inl h) = later-seat bytes p x xs h
+seat-of-or bytes p x xs (inr h) = (x, record { front = []; back = xs; splits = refl }, h)
+
+seat-of-cases : (bytes : List ℕ) (p : Point) (x : Seat) (xs : List Seat) (rest : List Point) → (Contains rest p → SeatOf bytes p xs)
+    → (shown bytes x.point ≡ p) ⊎ Contains (x.point ∷ rest) p → (SeatOf bytes p xs) ⊎ ((shown bytes x.point ≡ p) ⊎ (x.point ≡ p))
+seat-of-cases bytes p x xs rest f (inl h) = inr (inl h)
+seat-of-cases bytes p x xs rest f (inr h) = elim (contains-cons x.point rest p h) [ inl k ↦ inr (inr k) | inr k ↦ inl (f k) ]
+
+seat-of : (bytes : List ℕ) (p : Point) (xs : List Seat) → Contains (flat_map (λ s. shown bytes s.point ∷ s.point ∷ []) xs) p → SeatOf bytes p xs
+seat-of bytes p [] h = absurd (no-element p h)
+seat-of bytes p (x ∷ xs) h =
+    let rest = flat_map (λ s. shown bytes s.point ∷ s.point ∷ []) xs in
+    seat-of-or bytes p x xs (seat-of-cases bytes p x xs rest (seat-of bytes p xs) (contains-cons (shown bytes x.point) (x.point ∷ rest) p h))
+
+seat-of-place : (t : ℕ) (bytes : List ℕ) → 0 < t → (p : Point) → SeatOf bytes p (virtual t bytes) → IsPlace t bytes p
+seat-of-place t bytes d p (s, among, inl e) = subst (IsPlace t bytes) e (shown-place t bytes d among.front s among.back among.splits)
+seat-of-place t bytes d p (s, among, inr e) = subst (IsPlace t bytes) e (point-place t bytes d among.front s among.back among.splits)
+
+-- the point of a place of the document is one that its numbers describe
+pub place-of-point : (t : ℕ) (bytes : List ℕ) → 0 < t → (p : Point) → IsPointOf t bytes p → IsPlace t bytes p
+place-of-point t bytes d p h = elim (Contains-append_cases (flat_map (λ s. shown bytes s.point ∷ s.point ∷ []) (virtual t bytes)) (document_end t bytes ∷ []) p h) [
+  | inl k ↦ seat-of-place t bytes d p (seat-of bytes p (virtual t bytes) k)
+  | inr k ↦ (elim (contains-cons (document_end t bytes) [] p k) [ inl e ↦ subst (IsPlace t bytes) e (end-place t bytes d) | inr n ↦ absurd (no-element p n) ])
+]
+
+-- the next virtual byte from a place on
+module _ (t : ℕ) (bytes : List ℕ) (d : 0 < t) (p : Point) (seat : Seat) (place : IsPlace t bytes p) (n : IsSeatAt t bytes p seat) where
+  pub seat-splits : virtual t bytes ≡ place.before ++ seat ∷ n.after
+  seat-splits = place.splits ∙ ap (λ (ys : List Seat). place.before ++ ys) n.is
+
+  pub next-begins : Begins t bytes (end_after (point 1 1 0 0) place.before) seat n.after
+  next-begins = seat-begins t bytes d place.before seat n.after seat-splits
+
+  pub end-seat-place : IsPlace t bytes seat.end
+  end-seat-place = after-place t bytes d place.before seat n.after seat-splits
+
+  pub seat-rest : rest_at t bytes seat.end ≡ n.after
+  seat-rest = after-rest t bytes d place.before seat n.after seat-splits
+
+  pub seat-end-is : end_at t seat.byte seat.point ≡ seat.end
+  seat-end-is = next-begins.end_is
+
+  pub seat-shown : IsShown bytes seat.end
+  seat-shown = after-shown t bytes d place.before seat n.after seat-splits
+
+  -- the seat's end is after the place
+  pub seat-passes : stands_before seat.end p ≡ false
+  seat-passes = later-later seat.end.index seat.end.vs seat.point.index seat.point.vs p.index p.vs (after-before seat.point.index seat.point.vs seat.end.index seat.end.vs next-begins.ends) n.later
+
+  -- where the next virtual byte ends, read from the bytes
+  there : StandsThere bytes p seat
+  there = stands-there t bytes p seat d place.bounds.tab n
+
+  ends-at : (q : Point) → seat.point ≡ q → end_at t seat.byte q ≡ seat.end
+  ends-at q e = ap (end_at t seat.byte) (sym e) ∙ seat-end-is
+
+  lf-is : seat.byte ≡ 10 → (q : Point) → end_at t seat.byte q ≡ point (suc q.line) 1 (suc q.index) 0
+  lf-is b q = rw b refl
+
+  -- after a CR LF,
+  pub end-of-pair : seat.byte ≡ 10 → begins_pair bytes p.index ≡ true → point (p.line + 1) 1 (p.index + 2) 0 ≡ seat.end
+  end-of-pair b pair = elim there [
+    | inl h ↦ (let f = sym pair ∙ h.1 b in absurd cc)
+    | inr h ↦ (let q = point p.line p.column (suc p.index) p.vs in point-of-numbers (p.line + 1) (suc p.line) 1 (p.index + 2) (suc (suc p.index)) 0 (omega arith) (omega arith) ∙ sym (lf-is b q) ∙ ends-at q h.2)
+  ]
+
+  -- after another line ending,
+  pub end-of-line : seat.byte ≡ 10 → begins_pair bytes p.index ≡ false → point (p.line + 1) 1 (p.index + 1) 0 ≡ seat.end
+  end-of-line b single = elim there [
+    | inl h ↦ point-of-numbers (p.line + 1) (suc p.line) 1 (p.index + 1) (suc p.index) 0 (omega arith) (omega arith) ∙ sym (lf-is b p) ∙ ends-at p h.0
+    | inr h ↦ (let f = sym single ∙ h.0 in absurd cc)
+  ]
+
+  other-there : seat.byte ≢ 10 → seat.point ≡ p
+  other-there b = elim there [ inl h ↦ h.0 | inr h ↦ absurd (b h.1) ]
+
+  -- and after another byte
+  pub end-of-other : seat.byte ≢ 10 → (w : Bool) → goes_on t seat.byte p ≡ w → cond w (point p.line (p.column + 1) p.index (p.vs + 1)) (point p.line (p.column + 1) (p.index + 1) 0) ≡ seat.end
+  end-of-other b w e =
+      let f = not-number seat.byte 10 b in
+      let column : p.column + 1 ≡ suc p.column = omega arith in
+      let index : p.index + 1 ≡ suc p.index = omega arith in
+      let spaces : p.vs + 1 ≡ suc p.vs = omega arith in
+      let is : end_at t seat.byte p ≡ cond w (point p.line (p.column + 1) p.index (p.vs + 1)) (point p.line (p.column + 1) (p.index + 1) 0) = rw (f, e, column, index, spaces) refl in
+      sym is ∙ ends-at p (other-there b)

@@ -1,0 +1,4 @@
+-- Laws of readings.
+pub mod Bounds
+pub mod Ends
+pub mod Plain

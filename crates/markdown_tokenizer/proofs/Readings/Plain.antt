@@ -1,0 +1,138 @@
+-- The laws of machines without resolvers and links, from those of their states.
+use Rattle.std.proofs.Common.{◌≡◌, ℕ, zero, suc, ◌+◌, ◌≤◌, List, [], ◌∷◌, ◌++◌, Bool, true, false, cond, Option, Some, None, length, refl, sym, ap, ◌∙◌, subst, arith, take}
+use Rattle.std.specs.Prelude.{nat_lt, All}
+use Rattle.markdown_base.specs.declared.event.Event.{Event}
+use Rattle.markdown_base.specs.declared.state.State.{State}
+use Rattle.markdown_base.specs.declared.state.State.TheVariants.{Next, Retry, Ok, Nok, Error}
+use Rattle.markdown_base.specs.Events.{IsBalanced, EndsBelow, relinked}
+use Rattle.markdown_tokenizer.specs.declared.waiting.Waits.TheVariants.{Byte, End}
+use Rattle.markdown_tokenizer.specs.declared.waiting.AttemptKind.{AttemptKind}
+use Rattle.markdown_tokenizer.specs.declared.waiting.AttemptKind.TheVariants.{Attempt, Check}
+use Rattle.markdown_tokenizer.specs.Text.{Given, Text}
+use Rattle.markdown_tokenizer.specs.Configuration.{Configuration, Saved}
+use Rattle.markdown_tokenizer.specs.Sight.{sight}
+use Rattle.markdown_tokenizer.specs.Reading.{restored, settled_at}
+use Rattle.markdown_edits.specs.Edited.{edited}
+use Rattle.markdown_edits.specs.Woven.{Tagged, of_list, placed_end, placed_in, woven}
+use Rattle.markdown_edits.specs.Links.{next_of, previous_of, AreMutual}
+use Rattle.markdown_tokenizer.specs.Resolving.{IsInShape}
+use Rattle.markdown_tokenizer.specs.Rules.{Rules}
+use Rattle.markdown_tokenizer.specs.Lawful.{IsAsFar, ConsumesOnce, OnlyAdds, EndsWhenRead, KeepsInvariant, CostPays, ResolversKeep}
+use Rattle.markdown_tokenizer.specs.Plain.{HaveNoLinks, IsPlain, KeepsPlain, NothingResolves, plain}
+
+-- more events without links
+pub no-links-append : (xs ys : List Event) → HaveNoLinks xs → HaveNoLinks ys → HaveNoLinks (xs ++ ys)
+no-links-append [] ys h k = k
+no-links-append (x ∷ xs) ys h k = (h.0, no-links-append xs ys h.1 k)
+
+pub no-links-more : (xs : List Event) (e : Event) → e.link ≡ None → HaveNoLinks xs → HaveNoLinks (xs ++ e ∷ [])
+no-links-more xs e f h = no-links-append xs (e ∷ []) h (f, tt)
+
+pub no-links-take : (n : ℕ) (xs : List Event) → HaveNoLinks xs → HaveNoLinks (take n xs)
+no-links-take zero xs h = tt
+no-links-take (suc n) [] h = tt
+no-links-take (suc n) (x ∷ xs) h = (h.0, no-links-take n xs h.1)
+
+below-first : (n : ℕ) (x : Event) (xs : List Event) → x.link ≡ None → All (EndsBelow n) xs → All (EndsBelow n) (x ∷ xs)
+below-first n x xs e more zero d l = rw e tt
+below-first n x xs e more (suc i) d l = more i d (omega arith)
+
+pub no-links-below : (n : ℕ) (xs : List Event) → HaveNoLinks xs → All (EndsBelow n) xs
+no-links-below n [] h = λ i d l. absurd (omega arith)
+no-links-below n (x ∷ xs) h = below-first n x xs h.0 (no-links-below n xs h.1)
+
+-- no edit changes them
+pub unlinked-same : (f : ℕ → Option ℕ) (e : Event) → e.link ≡ None → relinked f e ≡ e
+unlinked-same f e h = rw h refl
+
+pub woven-same : (ts : List Tagged) (i : ℕ) (xs : List Event) → HaveNoLinks xs → placed_in ts (woven [] i xs) ≡ xs
+woven-same ts i [] h = refl
+woven-same ts i (x ∷ xs) h =
+    ap (λ (e : Event). e ∷ placed_in ts (woven [] (i + 1) xs)) (unlinked-same (placed_end ts (of_list i)) x h.0) ∙ ap (λ (es : List Event). x ∷ es) (woven-same ts (i + 1) xs h.1)
+
+pub edited-same : (xs : List Event) → HaveNoLinks xs → edited [] xs ≡ xs
+edited-same xs h = woven-same (woven [] 0 xs) 0 xs h
+
+no-next : (xs : List Event) → HaveNoLinks xs → (i : ℕ) → next_of xs i ≡ None
+no-next [] h i = refl
+no-next (x ∷ xs) h zero = let e = h.0 in rw e refl
+no-next (x ∷ xs) h (suc i) = no-next xs h.1 i
+
+no-previous : (xs : List Event) → HaveNoLinks xs → (i : ℕ) → previous_of xs i ≡ None
+no-previous [] h i = refl
+no-previous (x ∷ xs) h zero = let e = h.0 in rw e refl
+no-previous (x ∷ xs) h (suc i) = no-previous xs h.1 i
+
+no-links-mutual : (xs : List Event) → HaveNoLinks xs → AreMutual xs
+no-links-mutual xs h i j =
+    ((λ e. let f : None ≡ Some j = sym (no-next xs h i) ∙ e in absurd cc), (λ e. let f : None ≡ Some i = sym (no-previous xs h j) ∙ e in absurd cc))
+
+from-zero : (n : ℕ) → 0 ≤ n
+from-zero n = omega arith
+
+pub no-links-shape : (xs : List Event) → HaveNoLinks xs → IsBalanced xs → IsInShape xs
+no-links-shape xs h balanced = record { balanced = balanced; inside = no-links-below (length xs) xs h; chained = no-links-mutual xs h }
+
+module _ {R D : Type 0} where
+  fed-plain : (text : Text) (k : Configuration R D) (b : Bool) → IsPlain k
+      → IsPlain (cond b (record { position = k.position; waiting = Byte; ended = k.ended; events = k.events; stack = k.stack; local = k.local })
+      (record { position = k.position; waiting = End; ended = true; events = k.events; stack = k.stack; local = k.local }))
+  fed-plain text k true h = h
+  fed-plain text k false h = h
+
+  restored-plain : (saved : Option Saved) (k : Configuration R D) → IsPlain k → IsPlain (restored saved k)
+  restored-plain None k h = h
+  restored-plain (Some s) k h = (h.0, h.1, no-links-take s.events k.events h.2)
+
+  settled-plain : (kind : AttemptKind) (saved : Option Saved) (answer : State) (k : Configuration R D) → IsPlain k → IsPlain (settled_at kind saved answer k)
+  settled-plain Check saved answer k h = restored-plain saved k h
+  settled-plain Attempt saved Nok k h = restored-plain saved k h
+  settled-plain Attempt saved Ok k h = h
+  settled-plain Attempt saved (Next n) k h = h
+  settled-plain Attempt saved (Retry n) k h = h
+  settled-plain Attempt saved (Error n) k h = h
+
+module _ {R D : Type 0} (g : Given) (rules : Rules R D) where
+  pub consumes_once : ConsumesOnce g rules → ConsumesOnce g (plain rules)
+  consumes_once law text k choices name is h = law text k choices name is h.1
+
+  pub only_adds : OnlyAdds g rules → OnlyAdds g (plain rules)
+  only_adds law = record {
+    events = λ text k choices name is h. law.events text k choices name is h.1;
+    stack = λ text k choices name is h. law.stack text k choices name is h.1;
+  }
+
+  pub ends_when_read : EndsWhenRead g rules → EndsWhenRead g (plain rules)
+  ends_when_read law = record { nok = λ text k is h. law.nok text k is h.1; ok = λ text k is h. law.ok text k is h.1 }
+
+  pub invariant_kept : KeepsPlain rules.step → KeepsInvariant g rules → KeepsInvariant g (plain rules)
+  invariant_kept keeps law = record {
+    at_starts = λ p flag name is among. ((refl, refl, tt), law.at_starts p flag name is among);
+    unfed = λ text k choices name is h. law.unfed text k choices name is h.1;
+    waits = λ text k choices name is h. law.waits text k choices name is h.1;
+    by_feeding = λ text k choices name is h. (fed-plain text k (nat_lt k.position (length text.seats)) h.0, law.by_feeding text k choices name is h.1);
+    by_calls = λ text k choices name is h. (keeps (sight g text k) k name h.0, law.by_calls text k choices name is h.1);
+    by_ok = λ text k choice choices is h. (settled-plain choice.kind choice.saved Ok k h.0, law.by_ok text k choice choices is h.1);
+    by_nok = λ text k choice choices is h. (settled-plain choice.kind choice.saved Nok k h.0, law.by_nok text k choice choices is h.1);
+    by_pieces = λ text piece k choices state is fits fresh h. (h.0, law.by_pieces text piece k choices state is fits fresh h.1);
+  }
+
+  pub cost_pays : CostPays g rules → CostPays g (plain rules)
+  cost_pays law = record {
+    for_calls = λ text k choices name is h. law.for_calls text k choices name is h.1;
+    for_feeding = λ text k choices name is h. law.for_feeding text k choices name is h.1;
+    for_ok = λ text k choice choices is h. law.for_ok text k choice choices is h.1;
+    for_nok = λ text k choice choices is h. law.for_nok text k choice choices is h.1;
+  }
+
+  pub resolvers_keep : ResolversKeep g (plain rules)
+  resolvers_keep = record {
+    at_end = λ text k is formed h. ((refl, h.0.1, h.0.2), formed.balanced);
+    by_resolvers = λ text r rs k new more is h e.
+        let same : k ≡ new = cc in
+        subst (λ (q : Configuration R D). NothingResolves text rs q × IsAsFar q k × (q.stack ≡ k.stack)) same (h, (refl, refl, refl), refl);
+    at_last = λ text k is h.
+        let map = h.0.1 in
+        let same = edited-same k.events h.0.2 in
+        rw (map, same) ((from-zero (length k.events), no-links-below (length k.events) k.events h.0.2), no-links-shape k.events h.0.2 h.1);
+  }

@@ -1,0 +1,6 @@
+-- Runs of a tokenizer, from its start to its end.
+pub mod Ranges
+pub mod Resolvers
+pub mod TakingUp
+pub mod Whole
+pub mod Working

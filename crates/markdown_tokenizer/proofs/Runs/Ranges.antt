@@ -1,0 +1,156 @@
+-- An open tokenizer, from its start over ranges and gaps: what a caller owes at each call, and what stands after it. `StandsAt` is for a caller that finds its
+-- ranges as it goes, `HasRanges` for one that has them in a list.
+use Rattle.std.proofs.Common.{◌≡◌, ◌+◌, ◌*◌, ◌^◌, ◌<◌, ◌≤◌, ◌⊎◌, inl, inr, ℕ, length, List, [], ◌∷◌, Option, Some, None, Bool, true, false, cond, drop, get_or, refl, sym, ap, ◌∙◌, subst}
+use Rattle.std.specs.Prelude.{All, Contains}
+use Rattle.std.proofs.lemmas.List.{drop_more}
+use Rattle.markdown_base.specs.declared.configuration.ParseOptions.{ParseOptions}
+use Rattle.markdown_base.specs.declared.event.Point.{Point}
+use Rattle.markdown_base.specs.declared.state.Name.{Name}
+use Rattle.markdown_base.specs.declared.state.State.{State}
+use Rattle.markdown_base.specs.declared.state.State.TheVariants.{Next}
+use Rattle.markdown_base.specs.Virtual.{point}
+use Rattle.markdown_base.specs.Places.{point_at, denotes_same, stands_before}
+use Rattle.markdown_tokenizer.specs.Text.{Given, Text, Piece, FitsAfter, CanFollow, passed, empty_text, followed_by, followed_by_all}
+use Rattle.markdown_tokenizer.specs.Configuration.{TokenizerValue, start_seen, start_configuration}
+use Rattle.markdown_tokenizer.specs.Ranges.{AfterGap, IsGapFrom, IsRangeFrom, FollowOn, after_gap}
+use Rattle.markdown_tokenizer.specs.Rules.{Rules}
+use Rattle.markdown_tokenizer.specs.Lawful.{KeepsInvariant}
+use Rattle.markdown_tokenizer.specs.Engine.{CanPush, HoldsOf, IsPushed, given_by}
+use Rattle.markdown_tokenizer.specs.Work.{extended}
+use Rattle.markdown_tokenizer.proofs.Runs.Whole.{start-is-text, found-place}
+use Rattle.markdown_tokenizer.proofs.Runs.Working.{holds-on}
+
+end-by : (b : Bool) (text : Text) (w : Point) → (cond b text (record { start = text.start; seats = text.seats; end = w })).end ≡ cond b text.end w
+end-by true text w = refl
+end-by false text w = refl
+
+module _ {M R D : Type 0} (rules : M → Given → Rules R D) where
+  -- the invariant holds of a tokenizer and its state, whatever follows its text
+  abbrev Held : M → Given → TokenizerValue M R D → State → Type 0
+  Held m given t state = (rest : List Piece) → CanFollow given t.text rest → (rules m given).holds (followed_by_all given t.text rest) t.configuration t.choices state
+
+  -- an open tokenizer of this document, whose text ends at this place
+  pub record StandsAt (bytes : List ℕ) (options : ParseOptions) (place : Point) (t : TokenizerValue M R D) (state : State) : Type 0 where
+    pub given : t.given ≡ given_by bytes options
+    pub end : t.text.end ≡ place
+    pub held : Held t.machine t.given t state
+
+  -- a new tokenizer stands at the document's start
+  pub stands-start : (bytes : List ℕ) (options : ParseOptions) (m : M) → All (λ b. b < 256) bytes → (1 ≤ options.tab_size) × (options.tab_size ≤ 16) → options.tab_size * length bytes + 1 < 2 ^ 64 → KeepsInvariant (given_by bytes options) (rules m (given_by bytes options))
+      → (start : Name) → Contains (rules m (given_by bytes options)).starts start → (t : TokenizerValue M R D) → t ≡ start_seen (given_by bytes options) m (empty_text (point 1 1 0 0)) → StandsAt bytes options (point 1 1 0 0) t (Next start)
+  stands-start bytes options m below tab limit keeps start starts_so t e =
+      let given = given_by bytes options in
+      let p = point 1 1 0 0 in
+      let text = start-is-text bytes options below tab limit in
+      rw e (record {
+        given = refl;
+        end = refl;
+        held = λ rest can. holds-on given (rules m given) keeps (empty_text p) rest (start_configuration false) [] (Next start) text can refl (keeps.at_starts p false start text starts_so);
+      })
+
+  module _ (bytes : List ℕ) (options : ParseOptions) (p : Point) (t : TokenizerValue M R D) (state : State) (s : StandsAt bytes options p t state) where
+    -- the state is the one that waits: what `push` and `flush` ask of it
+    pub stands-holds : HoldsOf (rules t.machine t.given) t state
+    stands-holds = s.held [] tt
+
+    -- a gap that leads on from the place fits: what `define_skip` asks
+    pub stands-gap : (w : Point) → IsGapFrom options.tab_size bytes p w → FitsAfter t.given t.text (passed w)
+    stands-gap w gap =
+        let e = s.given in
+        let leads = subst (λ (x : Point). (denotes_same options.tab_size bytes w x ≡ true) ⊎ ((x.column ≡ 1) × (w.line ≡ x.line) × (stands_before x w ≡ true))) (sym s.end) gap.leads in
+        rw e (found-place options.tab_size bytes (w.index, w.vs) w gap.at, leads)
+
+    -- after `define_skip` the tokenizer stands where the gap leads
+    pub stands-passed : (w : Point) → IsGapFrom options.tab_size bytes p w → (u : TokenizerValue M R D) → u ≡ extended t (followed_by t.given t.text (passed w)) → StandsAt bytes options (after_gap options.tab_size bytes p w) u state
+    stands-passed w gap u e =
+        let fits = stands-gap w gap in
+        let end = end-by (denotes_same t.given.tab t.given.bytes w t.text.end) t.text w
+        ∙ ap (λ (x : Given). cond (denotes_same x.tab x.bytes w t.text.end) t.text.end w) s.given
+        ∙ ap (λ (x : Point). cond (denotes_same options.tab_size bytes w x) x w) s.end in
+        rw e (record { given = s.given; end = end; held = λ rest can. s.held (passed w ∷ rest) (fits, can) })
+
+    module _ (from to : ℕ × ℕ) (r : IsRangeFrom options.tab_size bytes p from to) where
+      -- a range that begins at the place fits: what `push` asks of it
+      pub stands-range : CanPush t.given t.text from to
+      stands-range =
+          let e = s.given in
+          let same = subst (λ (x : Point). denotes_same options.tab_size bytes r.first x ≡ true) (sym s.end) r.begins in
+          rw e (r.first, r.last, r.from_is, r.to_is, (found-place options.tab_size bytes from r.first r.from_is, found-place options.tab_size bytes to r.last r.to_is, same, r.upto))
+
+      -- after `push` the tokenizer stands at the range's end
+      pub stands-pushed : (u : TokenizerValue M R D) (answer : State) → IsPushed (rules t.machine t.given) t from to state u answer → StandsAt bytes options r.last u answer
+      stands-pushed u answer h =
+          let first_here = subst (λ (x : Given). point_at x.tab x.bytes from ≡ Some r.first) (sym s.given) r.from_is in
+          let last_here = subst (λ (x : Given). point_at x.tab x.bytes to ≡ Some r.last) (sym s.given) r.to_is in
+          let by_given = subst (λ (x : Given). Held t.machine x u answer) (sym h.given) (λ rest can. (h.outcome rest can).kept) in
+          record {
+            given = h.given ∙ s.given;
+            end = ap (λ (x : Text). x.end) (h.text r.first r.last first_here last_here);
+            held = subst (λ (x : M). Held x u.given u answer) (sym h.machine) by_given;
+          }
+
+  -- an open tokenizer of this document, with these ranges to come
+  pub record HasRanges (bytes : List ℕ) (options : ParseOptions) (ranges : List AfterGap) (t : TokenizerValue M R D) (state : State) : Type 0 where
+    pub place : Point
+    pub stands : StandsAt bytes options place t state
+    pub follow : FollowOn options.tab_size bytes place ranges
+
+  -- a new tokenizer has all ranges to come
+  pub ranges-start : (bytes : List ℕ) (options : ParseOptions) (m : M) → All (λ b. b < 256) bytes → (1 ≤ options.tab_size) × (options.tab_size ≤ 16) → options.tab_size * length bytes + 1 < 2 ^ 64 → KeepsInvariant (given_by bytes options) (rules m (given_by bytes options))
+      → (start : Name) → Contains (rules m (given_by bytes options)).starts start → (ranges : List AfterGap) → FollowOn options.tab_size bytes (point 1 1 0 0) ranges
+      → (t : TokenizerValue M R D) → t ≡ start_seen (given_by bytes options) m (empty_text (point 1 1 0 0)) → HasRanges bytes options ranges t (Next start)
+  ranges-start bytes options m below tab limit keeps start starts_so ranges follow t e = record {
+    place = point 1 1 0 0;
+    stands = stands-start bytes options m below tab limit keeps start starts_so t e;
+    follow = follow;
+  }
+
+  -- the next range is the first of those that are left
+  pub ranges-at : (bytes : List ℕ) (options : ParseOptions) (ranges : List AfterGap) (n : ℕ) (d : AfterGap) (t : TokenizerValue M R D) (state : State) → n < length ranges
+      → HasRanges bytes options (drop n ranges) t state → HasRanges bytes options (get_or ranges n d ∷ drop (n + 1) ranges) t state
+  ranges-at bytes options ranges n d t state lt r = record {
+    place = r.place;
+    stands = r.stands;
+    follow = subst (λ (xs : List AfterGap). FollowOn options.tab_size bytes r.place xs) (drop_more ranges n d lt) r.follow;
+  }
+
+  -- the state is the one that waits: what `push` and `flush` ask of it
+  pub ranges-holds : (bytes : List ℕ) (options : ParseOptions) (ranges : List AfterGap) (t : TokenizerValue M R D) (state : State) → HasRanges bytes options ranges t state → HoldsOf (rules t.machine t.given) t state
+  ranges-holds bytes options ranges t state r = stands-holds bytes options r.place t state r.stands
+
+  -- the gap in front of the next range, by what it is equal to
+  with-gap : (bytes : List ℕ) (options : ParseOptions) (x : AfterGap) (gap : Option Point) (ranges : List AfterGap) (t : TokenizerValue M R D) (state : State) → x.0 ≡ gap
+      → HasRanges bytes options (x ∷ ranges) t state → HasRanges bytes options ((gap, x.1, x.2) ∷ ranges) t state
+  with-gap bytes options (o, from, to) gap ranges t state e r = subst (λ (q : Option Point). HasRanges bytes options ((q, from, to) ∷ ranges) t state) e r
+
+  -- the gap in front of the next range fits: what `define_skip` asks
+  pub ranges-gap : (bytes : List ℕ) (options : ParseOptions) (x : AfterGap) (w : Point) (ranges : List AfterGap) (t : TokenizerValue M R D) (state : State) → x.0 ≡ Some w
+      → HasRanges bytes options (x ∷ ranges) t state → FitsAfter t.given t.text (passed w)
+  ranges-gap bytes options x w ranges t state is r = let q = with-gap bytes options x (Some w) ranges t state is r in stands-gap bytes options q.place t state q.stands w q.follow.0
+
+  over-gap : (bytes : List ℕ) (options : ParseOptions) (w : Point) (from to : ℕ × ℕ) (ranges : List AfterGap) (t u : TokenizerValue M R D) (state : State) → HasRanges bytes options ((Some w, from, to) ∷ ranges) t state
+      → u ≡ extended t (followed_by t.given t.text (passed w)) → HasRanges bytes options ((None, from, to) ∷ ranges) u state
+  over-gap bytes options w from to ranges t u state r e = record {
+    place = after_gap options.tab_size bytes r.place w;
+    stands = stands-passed bytes options r.place t state r.stands w r.follow.0 u e;
+    follow = (tt, r.follow.1, r.follow.2);
+  }
+
+  -- after `define_skip`, or with no gap to pass, the next range has none in front of it
+  pub ranges-passed : (bytes : List ℕ) (options : ParseOptions) (x : AfterGap) (ranges : List AfterGap) (t u : TokenizerValue M R D) (state : State) → HasRanges bytes options (x ∷ ranges) t state
+      → ((w : Point) × (x.0 ≡ Some w) × (u ≡ extended t (followed_by t.given t.text (passed w)))) ⊎ ((x.0 ≡ None) × (u ≡ t)) → HasRanges bytes options ((None, x.1, x.2) ∷ ranges) u state
+  ranges-passed bytes options x ranges t u state r (inl (w, is, e)) = over-gap bytes options w x.1 x.2 ranges t u state (with-gap bytes options x (Some w) ranges t state is r) e
+  ranges-passed bytes options x ranges t u state r (inr (is, e)) = rw e (with-gap bytes options x None ranges t state is r)
+
+  module _ (bytes : List ℕ) (options : ParseOptions) (from to : ℕ × ℕ) (ranges : List AfterGap) (t : TokenizerValue M R D) (state : State) (r : HasRanges bytes options ((None, from, to) ∷ ranges) t state) where
+    -- the next range fits: what `push` asks of it
+    pub ranges-range : CanPush t.given t.text from to
+    ranges-range = stands-range bytes options r.place t state r.stands from to r.follow.1
+
+    -- after `push` the ranges behind it are to come
+    pub ranges-pushed : (u : TokenizerValue M R D) (answer : State) → IsPushed (rules t.machine t.given) t from to state u answer → HasRanges bytes options ranges u answer
+    ranges-pushed u answer h = record {
+      place = r.follow.1.last;
+      stands = stands-pushed bytes options r.place t state r.stands from to r.follow.1 u answer h;
+      follow = r.follow.2;
+    }

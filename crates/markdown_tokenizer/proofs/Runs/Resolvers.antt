@@ -1,0 +1,147 @@
+-- Resolvers go over the events.
+use Rattle.std.proofs.Common.{◌≡◌, ℕ, suc, ◌+◌, ◌<◌, List, [], ◌∷◌, true, false, Option, Some, length, refl, sym, ap, ◌∙◌, subst, arith, drop, get_or}
+use Rattle.std.specs.Prelude.{map, reverse}
+use Rattle.std.specs.Global.{Vec}
+use Rattle.markdown_base.specs.declared.event.Event.{Event}
+use Rattle.markdown_base.specs.declared.message.Message.{Message}
+use Rattle.markdown_base.proofs.Common.{none-mapped}
+use Rattle.markdown_tokenizer.specs.declared.subtokenize.Subresult.{Subresult}
+use Rattle.markdown_tokenizer.specs.declared.tokenizer.Tokenizer.TheInside.{Inside}
+use Rattle.markdown_tokenizer.specs.declared.waiting.Phase.{Phase}
+use Rattle.markdown_tokenizer.specs.declared.waiting.Phase.TheVariants.{Reading, Resolving}
+use Rattle.markdown_tokenizer.specs.Text.{Given, Text, IsText}
+use Rattle.markdown_tokenizer.specs.Configuration.{Configuration, TokenizerValue, at_configuration}
+use Rattle.markdown_tokenizer.specs.Sight.{Sight, sight, sight_of}
+use Rattle.markdown_tokenizer.specs.Rules.{Rules}
+use Rattle.markdown_tokenizer.specs.Calls.{with_resolvers}
+use Rattle.markdown_tokenizer.specs.Resolving.{Resolved, resolving, taken, found, done, refused, with_more, edits_made, resolved_by, CanBeEdited, IsInShape}
+use Rattle.markdown_tokenizer.specs.Lawful.{ResolversKeep}
+use Rattle.markdown_tokenizer.specs.Work.{resolved_in, GoneOver}
+use Rattle.markdown_tokenizer.specs.declared.waiting.KeptChoice.{KeptChoice}
+use Rattle.markdown_tokenizer.specs.declared.waiting.Progress.{Progress}
+use Rattle.markdown_edits.specs.Edits.{Edit}
+use Rattle.markdown_tokenizer.specs.View.{tab_of, seen, text_within, choice_of, position_from, AreNested, IsProgress, IsSound}
+use Rattle.markdown_tokenizer.proofs.Inside.Fields.{nested-map}
+use Rattle.markdown_tokenizer.proofs.Runs.Whole.{drop-get}
+
+-- another phase than reading begins
+pub phase-sound : {M R D : Type 0} (t : Inside M R D) → IsSound t → (phase : Phase) (resolvers : Vec R) → (phase ≡ Reading → ⊥) → t.closed ≡ true
+    → IsSound (record t { phase = phase; resolvers = resolvers })
+phase-sound t sound phase resolvers other closed =
+    let bytes = t.parse_state.now.bytes.now in record {
+      limit = sound.limit;
+      tab = sound.tab;
+      end_at = sound.end_at;
+      text = sound.text;
+      skips = sound.skips;
+      read = sound.read;
+      waiting = sound.waiting;
+      ended = sound.ended;
+      reads = λ e. absurd (let f : true ≡ false = sym closed ∙ e in cc);
+      made = λ e. absurd (other e);
+      kept_choices = nested-map (IsProgress t.phase (tab_of t.parse_state.now) bytes t.skips (text_within t) t.events.items t.stack.items t.closed) (IsProgress phase (tab_of t.parse_state.now) bytes t.skips (text_within t) t.events.items t.stack.items t.closed)
+          (length t.events.items) (length t.stack.items) (reverse t.kept_choices.items) (λ p a b h. record { read = h.read; ended = h.ended; made = λ e. absurd (other e) }) sound.kept_choices;
+    }
+
+nested-none : (P : Progress → Type 0) (events stack : ℕ) (kept_choices : List KeptChoice) → kept_choices ≡ [] → AreNested P events stack kept_choices
+nested-none P events stack kept_choices e = rw e tt
+
+-- while resolvers go over the events, and no choice waits, the events and the edits may be any
+pub events-sound : {M R D : Type 0} (t : Inside M R D) → IsSound t → t.phase ≡ Resolving → (seen t).choices ≡ [] → (edits : List Edit) (events : Vec Event)
+    → IsSound (record t { map = edits; events = events })
+events-sound t sound resolves alone edits events =
+    let bytes = t.parse_state.now.bytes.now in record {
+      limit = sound.limit;
+      tab = sound.tab;
+      end_at = sound.end_at;
+      text = sound.text;
+      skips = sound.skips;
+      read = sound.read;
+      waiting = sound.waiting;
+      ended = sound.ended;
+      reads = sound.reads;
+      made = λ e. absurd (let f : Resolving ≡ Reading = sym resolves ∙ e in cc);
+      kept_choices = nested-none (IsProgress t.phase (tab_of t.parse_state.now) bytes t.skips (text_within t) events.items t.stack.items t.closed) (length events.items) (length t.stack.items) (reverse t.kept_choices.items)
+          (none-mapped (choice_of (position_from (tab_of t.parse_state.now) bytes t.skips t.start) t.stack.items) (reverse t.kept_choices.items) alone);
+    }
+
+module _ {R D : Type 0} (resolver : Sight → Configuration R D → R → Resolved R D) (g : Given) (text : Text) where
+  -- what comes after a resolver
+  abbrev after : List R → Subresult → Resolved R D → Resolved R D
+  after rs sub (done new more) = resolved_by resolver g text rs new (with_more sub more)
+  after rs sub (refused message) = refused message
+
+  step-done : (r : R) (rs : List R) (k new : Configuration R D) (sub : Subresult) (more : Option Subresult) → resolver (sight g text k) k r ≡ done new more
+      → resolved_by resolver g text (r ∷ rs) k sub ≡ resolved_by resolver g text rs new (with_more sub more)
+  step-done r rs k new sub more e = ap (after rs sub) e
+
+  step-refused : (r : R) (rs : List R) (k : Configuration R D) (sub : Subresult) (m : Message) → resolver (sight g text k) k r ≡ refused m
+      → resolved_by resolver g text (r ∷ rs) k sub ≡ refused m
+  step-refused r rs k sub m e = ap (after rs sub) e
+
+pub drop-one : {A : Type 0} (xs : List A) (n : ℕ) (d : A) → n < length xs → drop n xs ≡ get_or xs n d ∷ drop (n + 1) xs
+drop-one xs n d h = let next : suc n ≡ n + 1 = omega arith in drop-get xs n d h ∙ ap (λ (k : ℕ). get_or xs n d ∷ drop k xs) next
+
+module _ {M R D : Type 0} (rules : M → Given → Rules R D) where
+  abbrev rules_of : TokenizerValue M R D → Rules R D
+  rules_of t = rules t.machine t.given
+
+  -- after some resolvers, the others lead on to the same
+  pub record ResolvesOn (start : TokenizerValue M R D) (names after_previous : List R) (sub : Subresult) (now : TokenizerValue M R D) (found : Subresult) : Type 0 where
+    pub same : now ≡ at_configuration start now.configuration
+    pub holds : (rules_of start).resolves start.text after_previous now.configuration
+    pub leads : resolved_in (rules_of start) start names start.configuration sub ≡ resolved_in (rules_of start) start after_previous now.configuration found
+
+  module _ (start : TokenizerValue M R D) (names : List R) (sub : Subresult) (is : IsText start.given start.text) (law : ResolversKeep start.given (rules_of start)) where
+    pub resolves-first : (rules_of start).resolves start.text names start.configuration → ResolvesOn start names names sub start sub
+    resolves-first h = record { same = refl; holds = h; leads = refl }
+
+    module _ (now : TokenizerValue M R D) (found : Subresult) where
+      pub resolves-left : (a b : List R) → a ≡ b → ResolvesOn start names a sub now found → ResolvesOn start names b sub now found
+      resolves-left a b e r = subst (λ (x : List R). ResolvesOn start names x sub now found) e r
+
+      module _ (x : R) (rest : List R) (r : ResolvesOn start names (x ∷ rest) sub now found) where
+        pub resolves-holds : (rules_of now).resolves now.text (x ∷ rest) now.configuration
+        resolves-holds = subst (λ (s : TokenizerValue M R D). (rules_of s).resolves s.text (x ∷ rest) now.configuration) (sym r.same) r.holds
+
+        gives-here : (a : Resolved R D) → (rules_of now).resolver (sight_of now) now.configuration x ≡ a
+            → (rules_of start).resolver (sight start.given start.text now.configuration) now.configuration x ≡ a
+        gives-here a e = subst (λ (s : TokenizerValue M R D). (rules_of s).resolver (sight s.given s.text now.configuration) now.configuration x ≡ a) r.same e
+
+        pub resolves-next : (new : TokenizerValue M R D) (all : Subresult) → new ≡ at_configuration now new.configuration → (more : Option Subresult)
+            → (rules_of now).resolver (sight_of now) now.configuration x ≡ done new.configuration more → all ≡ with_more found more
+            → ResolvesOn start names rest sub new all
+        resolves-next new all same more e w =
+            let e' = gives-here (done new.configuration more) e in record {
+              same = same ∙ ap (λ (s : TokenizerValue M R D). at_configuration s new.configuration) r.same;
+              holds = (law.by_resolvers start.text x rest now.configuration new.configuration more is r.holds e').0;
+              leads = r.leads ∙ step-done (rules_of start).resolver start.given start.text x rest now.configuration new.configuration found more e'
+                  ∙ ap (λ (s : Subresult). resolved_in (rules_of start) start rest new.configuration s) (sym w);
+            }
+
+        pub resolves-refused : (m : Message) → (rules_of now).resolver (sight_of now) now.configuration x ≡ refused m → resolved_in (rules_of start) start names start.configuration sub ≡ refused m
+        resolves-refused m e = r.leads ∙ step-refused (rules_of start).resolver start.given start.text x rest now.configuration found m (gives-here (refused m) e)
+
+      module _ (r : ResolvesOn start names [] sub now found) where
+        pub resolves-can : CanBeEdited now.configuration
+        resolves-can = (law.at_last start.text now.configuration is r.holds).0
+
+        pub resolves-done : (new : TokenizerValue M R D) → new ≡ at_configuration now (edits_made now.configuration) → GoneOver (rules_of start) start names start.configuration sub new found
+        resolves-done new e =
+            let k = ap (λ (s : TokenizerValue M R D). s.configuration) e in record {
+              is = r.leads ∙ ap (λ (c : Configuration R D). done c (Some found)) (sym k);
+              in_shape = subst (λ (c : Configuration R D). IsInShape c.events) (sym k) (law.at_last start.text now.configuration is r.holds).1;
+            }
+
+  -- what resolvers make of what the work left, once the definitions were taken out
+  pub resolving-is : (old u w : TokenizerValue M R D) (sub : Subresult) (a : Resolved R D) → u.given ≡ old.given → u.machine ≡ old.machine → u.text ≡ old.text
+      → w ≡ at_configuration u (taken u.configuration) → sub ≡ found u.configuration
+      → resolved_in (rules_of w) w w.configuration.local.resolvers (with_resolvers w.configuration []) sub ≡ a
+      → resolving (rules_of old).resolver old.given old.text u.configuration ≡ a
+  resolving-is old u w sub a given machine text rest answer h =
+      let k = u.configuration in
+      let P : M → Given → Text → Subresult → Type 0 = λ m g x s. resolved_by (rules m g).resolver g x k.local.resolvers (with_resolvers (taken k) []) s ≡ a in
+      let one : P u.machine u.given u.text sub = subst (λ (s : TokenizerValue M R D). resolved_in (rules_of s) s s.configuration.local.resolvers (with_resolvers s.configuration []) sub ≡ a) rest h in
+      let two : P u.machine u.given u.text (found k) = subst (P u.machine u.given u.text) answer one in
+      subst (λ (x : Text). P old.machine old.given x (found k)) text
+      (subst (λ (x : Given). P old.machine x u.text (found k)) given (subst (λ (x : M). P x u.given u.text (found k)) machine two))

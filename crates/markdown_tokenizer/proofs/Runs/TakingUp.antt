@@ -1,0 +1,86 @@
+-- The work from the start to a turn: what stands at a call, and after it.
+use Rattle.std.proofs.Common.{◌≡◌, ◌≢◌, ◌-◌, ◌<◌, Bool, false, refl, sym, ap, subst, ◌∙◌, arith}
+use Rattle.std.specs.declared.result.Result.TheVariants as result
+use Rattle.markdown_base.specs.declared.state.Name.{Name}
+use Rattle.markdown_base.specs.declared.state.State.{State}
+use Rattle.markdown_base.specs.declared.state.State.TheVariants.{Retry}
+use Rattle.markdown_tokenizer.specs.declared.waiting.Waits.TheVariants.{End}
+use Rattle.markdown_tokenizer.specs.Text.{Given, IsText, followed_by_all}
+use Rattle.markdown_tokenizer.specs.Configuration.{TokenizerValue}
+use Rattle.markdown_tokenizer.specs.Sight.{sight}
+use Rattle.markdown_tokenizer.specs.Rules.{Rules}
+use Rattle.markdown_tokenizer.specs.Lawful.{DidStep}
+use Rattle.markdown_tokenizer.specs.Engine.{budget}
+use Rattle.markdown_tokenizer.specs.Work.{HoldsAll, Stops, settled_all, settled_to, EndsClosed, TakesUp, IsInText}
+use Rattle.markdown_tokenizer.proofs.Runs.Working.{Laws, KeptBy, leads-refl, leads-for-settled, settled-only, settled-message, settled-end, settled-ends, settled-closes, stops-there, kept-settled, kept-ended, kept-taken, kept-turn, kept-holds, kept-calls, text-worked, taken-calls, smaller}
+
+module _ {M R D : Type 0} (rules : M → Given → Rules R D) (laws : (m : M) (given : Given) → Laws given (rules m given)) where
+  -- what the work kept since its start
+  abbrev KeptFrom : Bool → TokenizerValue M R D → State → TokenizerValue M R D → State → Type 0
+  KeptFrom flush t a u s = KeptBy rules t.machine t.given flush t a u s
+
+  pub kept-first : (flush : Bool) (t : TokenizerValue M R D) (a : State) → (flush ≡ false → t.configuration.waiting ≢ End) → HoldsAll (rules t.machine t.given) flush t a → KeptFrom flush t a t a
+  kept-first flush t a waits h = record {
+    same = record { given = refl; machine = refl; text = refl; closed = refl; phase = refl; counted = omega arith };
+    message = λ m e. (e, refl);
+    waits = waits;
+    leads = λ rest can only.
+        leads-refl t.given (rules t.machine t.given) (followed_by_all t.given t.text rest) t a (h rest can only);
+  }
+
+  kept-mid : (flush : Bool) (t u : TokenizerValue M R D) (a s : State) → IsText t.given t.text → KeptFrom flush t a u s
+      → let e = settled_all u.configuration u.choices s in KeptFrom flush t a (settled_to u e) e.answer
+  kept-mid flush t u a s is k =
+      let e = settled_all u.configuration u.choices s in
+      kept-settled rules t.machine t.given flush t u (settled_to u e) a s e.answer
+      (text-worked t.given t u is k.same) (sym k.same.machine) (sym k.same.given) k (settled-only u e) (settled-end u.configuration u.choices s) (settled-message u s)
+      (leads-for-settled rules u.machine u.given (laws u.machine u.given) u s)
+
+  -- a state is taken up
+  pub kept-next : (flush : Bool) (t u v : TokenizerValue M R D) (a s : State) (n : Name) → IsText t.given t.text → KeptFrom flush t a u s
+      → (let e = settled_all u.configuration u.choices s in TakesUp flush (settled_to u e) v e.answer (result.Ok n)) → KeptFrom flush t a v (Retry n)
+  kept-next flush t u v a s n is k takes =
+      let e = settled_all u.configuration u.choices s in
+      let mid = settled_to u e in
+      let k1 = kept-mid flush t u a s is k in
+      kept-taken t.given (rules t.machine t.given) (laws t.machine t.given) flush t mid v a e.answer n
+      (text-worked t.given t mid is k1.same) takes k1
+
+  -- the work ends
+  pub kept-last : (flush : Bool) (t u v : TokenizerValue M R D) (a s answer : State) → IsText t.given t.text → KeptFrom flush t a u s
+      → (let e = settled_all u.configuration u.choices s in TakesUp flush (settled_to u e) v e.answer (result.Err answer)) → KeptFrom flush t a v answer
+  kept-last flush t u v a s answer is k takes =
+      let e = settled_all u.configuration u.choices s in
+      kept-ended rules t.machine t.given flush t (settled_to u e) v a e.answer answer takes (kept-mid flush t u a s is k)
+
+  -- a state is called
+  pub kept-call : (flush : Bool) (t u v : TokenizerValue M R D) (a s : State) (n : Name) → IsText t.given t.text → IsInText u
+      → DidStep u v ((rules u.machine u.given).step (sight u.given u.text u.configuration) u.configuration n) s → KeptFrom flush t a u (Retry n) → KeptFrom flush t a v s
+  kept-call flush t u v a s n is within called k =
+      kept-turn rules t.machine t.given (laws t.machine t.given) flush t u v a s n
+      (text-worked t.given t u is k.same) (sym k.same.machine) (sym k.same.given) within called k
+
+  pub holds-there : (flush : Bool) (t u : TokenizerValue M R D) (a s : State) → KeptFrom flush t a u s → (rules u.machine u.given).holds u.text u.configuration u.choices s
+  holds-there flush t u a s k = kept-holds rules t.machine t.given flush t u a s (sym k.same.machine) (sym k.same.given) k
+
+  pub closes-there : (flush : Bool) (t u : TokenizerValue M R D) (a s : State) → IsText t.given t.text → KeptFrom flush t a u s → EndsClosed (settled_all u.configuration u.choices s)
+  closes-there flush t u a s is k =
+      settled-closes rules u.machine u.given (laws u.machine u.given) u s
+      (subst (λ (q : Given). IsText q u.text) (sym k.same.given) (text-worked t.given t u is k.same)) (holds-there flush t u a s k)
+
+  -- a call, after which a state is taken up, leaves fewer
+  pub fewer-left : (flush : Bool) (t u v w : TokenizerValue M R D) (a s : State) (n next : Name) → IsText t.given t.text → KeptFrom flush t a v s
+      → DidStep u v ((rules u.machine u.given).step (sight u.given u.text u.configuration) u.configuration n) s
+      → (let e = settled_all v.configuration v.choices s in TakesUp flush (settled_to v e) w e.answer (result.Ok next))
+      → let all = budget (rules t.machine t.given) t.text t a in all - w.calls < all - u.calls
+  fewer-left flush t u v w a s n next is k called takes =
+      let e = settled_all v.configuration v.choices s in
+      smaller (budget (rules t.machine t.given) t.text t a) u.calls w.calls
+      (kept-calls rules t.machine t.given flush t w a (Retry next) (kept-next flush t v w a s next is k takes))
+      (taken-calls flush (settled_to v e) w e.answer next takes ∙ ap (λ q. q.calls) called.became)
+
+-- where the work ends
+pub stops-at : {M R D : Type 0} (flush : Bool) (u v : TokenizerValue M R D) (s answer : State)
+    → (let e = settled_all u.configuration u.choices s in TakesUp flush (settled_to u e) v e.answer (result.Err answer)) → Stops flush v answer
+stops-at flush u v s answer takes =
+    let e = settled_all u.configuration u.choices s in stops-there flush (settled_to u e) v e.answer answer (settled-ends u.configuration u.choices s) takes

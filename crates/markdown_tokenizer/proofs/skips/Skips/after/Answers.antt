@@ -1,0 +1,59 @@
+use Rattle.std.proofs.Common.{◌≡◌, ℕ, ◌<◌, ◌≤◌, ltb, true, false, List, length, get_or, Option, sym, ap, ◌∙◌, arith, rules}
+use Rattle.std.specs.List.Sorted.{IsPartitionPoint}
+use Rattle.std.specs.Prelude.{slice_get}
+use Rattle.std.proofs.lemmas.Bool.{ltb-true, ltb-false}
+use Rattle.std.proofs.lemmas.List.Sorted.{IsPartitionPoint-from_clause, IsPartitionedBy-ltb}
+use Rattle.markdown_base.specs.declared.event.Point.{Point}
+use Rattle.markdown_tokenizer.specs.Gaps.{skip_of, AreSorted}
+use Rattle.markdown_tokenizer.proofs.Positions.Skips.{IsNonDecreasingBy-lines, found, found-by, found-there, found-other, or-else, or-found, nothing-there, something-there}
+use Rattle.markdown_tokenizer.proofs.skips.Skips.after.Goals as goal
+
+-- the places in earlier lines stand in front of the others
+abbrev IsParted : List Point → ℕ → ℕ → Type 0
+IsParted xs line i = IsPartitionPoint (λ (p : Point). ltb p.line line ≡ true) (λ (p : Point). ltb p.line line ≡ false) xs i
+
+looked : (xs : List Point) (line i : ℕ) → AreSorted xs → i ≤ length xs → IsParted xs line i → skip_of xs line ≡ found (slice_get xs i) line
+looked xs line i h l p = found-by xs i line h
+    (λ k d m n. ltb-true (get_or xs k d).line line (p.0 k d (omega arith) m))
+    (λ d m. ltb-false (get_or xs i d).line line (p.1 i d (omega arith) m))
+
+pub returns-in-None : goal.returns-in-None
+returns-in-None c =
+    let xs = c.self.inside.places.items in
+    let line = c.args.place.now.line in
+    let i = c.partition_point-at.result in
+    let p = IsPartitionPoint-from_clause (λ (p : Point). ltb p.line line) c.deref.result.now i c.partition_point-at.ensures.partitioned (IsPartitionedBy-ltb (λ (p : Point). p.line) c.deref.result.now line (rw c.deref.ensures.value (IsNonDecreasingBy-lines xs c.self.invariant))) (λ a r q k. search rules) in
+    let parted : IsParted xs line i = rw c.deref.ensures.value at p in
+    let bound : i ≤ length xs = rw c.deref.ensures.value at c.partition_point-at.ensures.bound in
+    let told : length xs ≤ i = rw c.deref-2.ensures.value at c.in-None.ensures.lookup.3 in
+    let got = nothing-there xs i told in
+    or-else (skip_of c.args.self.now line) c.args.place.now
+    (ap (λ ys. skip_of ys line) (sym c.self.view_is) ∙ looked xs line i c.self.invariant bound parted ∙ ap (λ (o : Option Point). found o line) got)
+
+pub returns-then-skip-line : goal.returns-then-skip-line
+returns-then-skip-line c =
+    let xs = c.self.inside.places.items in
+    let line = c.args.place.now.line in
+    let i = c.partition_point-at.result in
+    let p = IsPartitionPoint-from_clause (λ (p : Point). ltb p.line line) c.deref.result.now i c.partition_point-at.ensures.partitioned (IsPartitionedBy-ltb (λ (p : Point). p.line) c.deref.result.now line (rw c.deref.ensures.value (IsNonDecreasingBy-lines xs c.self.invariant))) (λ a r q k. search rules) in
+    let parted : IsParted xs line i = rw c.deref.ensures.value at p in
+    let bound : i ≤ length xs = rw c.deref.ensures.value at c.partition_point-at.ensures.bound in
+    let inside : i < length xs = rw c.deref-2.ensures.value at c.in-Some.ensures.lookup.3.0 in
+    let told : c.in-Some.skip.now ≡ get_or xs i c.in-Some.skip.now = rw c.deref-2.ensures.value at (c.in-Some.ensures.lookup.3.1 c.in-Some.skip.now) in
+    let got = something-there xs i c.in-Some.skip.now inside told in
+    or-found (skip_of c.args.self.now line) c.in-Some.skip.now c.args.place.now
+    (ap (λ ys. skip_of ys line) (sym c.self.view_is) ∙ looked xs line i c.self.invariant bound parted ∙ ap (λ (o : Option Point). found o line) got ∙ found-there c.in-Some.skip.now line c.if-skip-line.true)
+
+pub returns-else-skip-line : goal.returns-else-skip-line
+returns-else-skip-line c =
+    let xs = c.self.inside.places.items in
+    let line = c.args.place.now.line in
+    let i = c.partition_point-at.result in
+    let p = IsPartitionPoint-from_clause (λ (p : Point). ltb p.line line) c.deref.result.now i c.partition_point-at.ensures.partitioned (IsPartitionedBy-ltb (λ (p : Point). p.line) c.deref.result.now line (rw c.deref.ensures.value (IsNonDecreasingBy-lines xs c.self.invariant))) (λ a r q k. search rules) in
+    let parted : IsParted xs line i = rw c.deref.ensures.value at p in
+    let bound : i ≤ length xs = rw c.deref.ensures.value at c.partition_point-at.ensures.bound in
+    let inside : i < length xs = rw c.deref-2.ensures.value at c.in-Some.ensures.lookup.3.0 in
+    let told : c.in-Some.skip.now ≡ get_or xs i c.in-Some.skip.now = rw c.deref-2.ensures.value at (c.in-Some.ensures.lookup.3.1 c.in-Some.skip.now) in
+    let got = something-there xs i c.in-Some.skip.now inside told in
+    or-else (skip_of c.args.self.now line) c.args.place.now
+    (ap (λ ys. skip_of ys line) (sym c.self.view_is) ∙ looked xs line i c.self.invariant bound parted ∙ ap (λ (o : Option Point). found o line) got ∙ found-other c.in-Some.skip.now line c.if-skip-line.false)

@@ -1,0 +1,50 @@
+use Rattle.std.proofs.Common.{◌∙◌, sym, ap}
+use Rattle.markdown_base.specs.declared.event.Point.{Point}
+use Rattle.markdown_tokenizer.specs.Cursor.{is_after_pair}
+use Rattle.markdown_tokenizer.proofs.Inside.Changes.{passes, passed-nothing, passed-behind, added-end_at, added-text_is, added-skips_are, added-read_to, added-waiting, added-made, added-kept_choices, added-seen}
+use Rattle.markdown_tokenizer.proofs.tokenizer.Tokenizer.define_skip.Goals as goal
+
+pub push-requires : goal.push-requires
+push-requires g c =
+    let t = c.self.inside in let sound = c.self.invariant in
+    let q = c.args.point in
+    let fits = rw (← c.self.view_is) at c.requires in
+    let is = passes t sound q fits (ap (λ (p : Point). is_after_pair p t.end) (sym c.shown.ensures) ∙ sym c.is_after.ensures ∙ c.if-is_after.true) in
+    passed-behind t sound q fits is
+
+pub invariant_of-self-then-is_after : goal.invariant_of-self-then-is_after
+invariant_of-self-then-is_after g c =
+    let t = c.self.inside in let sound = c.self.invariant in
+    let q = c.args.point in
+    let fits = rw (← c.self.view_is) at c.requires in
+    let is = passes t sound q fits (ap (λ (p : Point). is_after_pair p t.end) (sym c.shown.ensures) ∙ sym c.is_after.ensures ∙ c.if-is_after.true) in
+    let put = c.in_ok-push.ensures.ok in
+    record {
+      limit = sound.limit;
+      tab = sound.tab;
+      reads = sound.reads;
+      end_at = added-end_at t sound q fits is c.push.new.self put;
+      text = added-text_is t sound q fits is c.push.new.self put;
+      skips = added-skips_are t sound q fits is c.push.new.self put;
+      read = added-read_to t sound q fits is c.push.new.self put;
+      waiting = added-waiting t sound q fits is c.push.new.self put;
+      ended = sound.ended;
+      made = added-made t sound q fits is c.push.new.self put;
+      kept_choices = added-kept_choices t sound q fits is c.push.new.self put;
+    }
+
+pub returns-in_ok-push-clause-ok : goal.returns-in_ok-push-clause-ok
+returns-in_ok-push-clause-ok g c =
+    let t = c.self.inside in let sound = c.self.invariant in
+    let q = c.args.point in
+    let fits = rw (← c.self.view_is) at c.requires in
+    let is = passes t sound q fits (ap (λ (p : Point). is_after_pair p t.end) (sym c.shown.ensures) ∙ sym c.is_after.ensures ∙ c.if-is_after.true) in
+    let put = c.in_ok-push.ensures.ok in
+    rw (← c.self.view_is) (added-seen t sound q fits is c.push.new.self put)
+
+pub returns-else-is_after-clause-ok : goal.returns-else-is_after-clause-ok
+returns-else-is_after-clause-ok g c =
+    let t = c.self.inside in let sound = c.self.invariant in
+    let q = c.args.point in
+    let fits = rw (← c.self.view_is) at c.requires in
+    rw (← c.self.view_is) (passed-nothing t sound q fits (ap (λ (p : Point). is_after_pair p t.end) (sym c.shown.ensures) ∙ sym c.is_after.ensures ∙ c.if-is_after.false))

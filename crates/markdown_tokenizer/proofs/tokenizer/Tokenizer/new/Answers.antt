@@ -1,0 +1,49 @@
+use Rattle.std.proofs.Common.{refl}
+use Rattle.markdown_tokenizer.proofs.Inside.Fields.{read-start}
+use Rattle.markdown_tokenizer.proofs.Runs.Whole.{apart-by}
+use Rattle.markdown_tokenizer.proofs.Inside.Changes.{start-end, start-empty, start-found, start-text, start-made}
+use Rattle.markdown_tokenizer.proofs.tokenizer.Tokenizer.new.Goals as goal
+
+pub invariant_of-result : goal.invariant_of-result
+invariant_of-result g c =
+    let bytes = c.args.parse_state.now.bytes.now in
+    let tab = c.args.parse_state.now.options.now.tab_size in
+    let apart = apart-by c.get-tab_size.result tab c.get-tab_size.ensures.columns c.get-tab_size.ensures.least c.get-tab_size.ensures.most in
+    let p = c.args.point in
+    let here = start-end tab apart.0 bytes p c.requires.place in
+    let none = start-empty tab apart.0 bytes p c.requires.place in
+    let events = c.new-events.ensures.items in
+    let stack = c.new-stack.ensures.items in
+    let kept_choices = c.new-kept_choices.ensures.items in
+    let skips = c.new-skips.ensures in
+    record {
+      limit = c.requires.limit;
+      tab = c.get-tab_size.ensures.columns;
+      reads = λ _. refl;
+      end_at = rw here (start-found tab apart.0 bytes p c.requires.place);
+      text = rw (skips, here, none) (start-text tab apart.0 bytes p c.requires.place c.args.parse_state.now.options.now (record { bytes = c.bytes_are_below_256.ensures; tab = apart; limit = c.requires.limit }));
+      skips = rw skips tt;
+      read = rw (skips, here) (read-start tab apart.0 bytes p c.requires.place);
+      waiting = refl;
+      ended = λ h. absurd cc;
+      made = λ _. rw (events, stack) (start-made tab apart.0 bytes p c.requires.place);
+      kept_choices = rw kept_choices tt;
+    }
+
+pub returns-clause-start : goal.returns-clause-start
+returns-clause-start g c =
+    let bytes = c.args.parse_state.now.bytes.now in
+    let tab = c.args.parse_state.now.options.now.tab_size in
+    let apart = apart-by c.get-tab_size.result tab c.get-tab_size.ensures.columns c.get-tab_size.ensures.least c.get-tab_size.ensures.most in
+    let p = c.args.point in
+    let here = start-end tab apart.0 bytes p c.requires.place in
+    let none = start-empty tab apart.0 bytes p c.requires.place in
+    let events = c.new-events.ensures.items in
+    let stack = c.new-stack.ensures.items in
+    let resolvers = c.new-resolvers.ensures.items in
+    let kept_choices = c.new-kept_choices.ensures.items in
+    let skips = c.new-skips.ensures in
+    let map = c.new-map.ensures in
+    let state = c.new-tokenize_state.ensures in
+    let calls = c.new-calls.ensures in
+    rw (skips, here, none, events, stack, resolvers, kept_choices, map, state, calls) refl

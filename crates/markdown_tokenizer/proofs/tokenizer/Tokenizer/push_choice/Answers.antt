@@ -1,0 +1,40 @@
+use Rattle.std.proofs.Common.{◌≡◌, ◌∙◌, ◌++◌, ◌∷◌, [], Option, ap, refl}
+use Rattle.markdown_tokenizer.specs.declared.waiting.Progress.{Progress}
+use Rattle.markdown_tokenizer.proofs.Inside.Choices.{saved_if, chosen-kept_choices, chosen-choices}
+use Rattle.markdown_tokenizer.proofs.tokenizer.Tokenizer.push_choice.Goals.{then-saves, else-saves}
+use Rattle.markdown_tokenizer.proofs.tokenizer.Tokenizer.push_choice.Goals as goal
+
+pub invariant_of-self-2 : goal.invariant_of-self-2
+invariant_of-self-2 g c =
+    let t = c.self.inside in let sound = c.self.invariant in
+    let saved : c.if-saves.saved ≡ saved_if c.args.saves t = (elim c.if-saves.branch [
+      | then-saves w ↦ w.saved-is ∙ (let e = w.if-saves.true in let a = w.len.ensures ∙ t.events.ok.0 in let b = w.len-then-saves.ensures ∙ t.stack.ok.0 in rw (e, a, b) refl)
+      | else-saves w ↦ w.saved-is ∙ (let e = w.if-saves.false in rw e refl)
+    ]) in
+    let put : c.push.new.self.items ≡ t.kept_choices.items ++ record { kind = c.args.kind; ok = c.args.ok; nok = c.args.nok; saved = saved_if c.args.saves t } ∷ [] =
+    c.in_ok-push.ensures.items ∙ ap (λ (s : Option Progress). t.kept_choices.items ++ record { kind = c.args.kind; ok = c.args.ok; nok = c.args.nok; saved = s } ∷ []) saved in
+    record {
+      limit = sound.limit;
+      tab = sound.tab;
+      reads = sound.reads;
+      end_at = sound.end_at;
+      text = sound.text;
+      skips = sound.skips;
+      read = sound.read;
+      waiting = sound.waiting;
+      ended = sound.ended;
+      made = sound.made;
+      kept_choices = chosen-kept_choices t sound c.args.kind c.args.ok c.args.nok c.args.saves c.push.new.self.items put;
+    }
+
+pub returns-clause-ok : goal.returns-clause-ok
+returns-clause-ok g c =
+    let t = c.self.inside in let sound = c.self.invariant in
+    let saved : c.if-saves.saved ≡ saved_if c.args.saves t = (elim c.if-saves.branch [
+      | then-saves w ↦ w.saved-is ∙ (let e = w.if-saves.true in let a = w.len.ensures ∙ t.events.ok.0 in let b = w.len-then-saves.ensures ∙ t.stack.ok.0 in rw (e, a, b) refl)
+      | else-saves w ↦ w.saved-is ∙ (let e = w.if-saves.false in rw e refl)
+    ]) in
+    let put : c.push.new.self.items ≡ t.kept_choices.items ++ record { kind = c.args.kind; ok = c.args.ok; nok = c.args.nok; saved = saved_if c.args.saves t } ∷ [] =
+    c.in_ok-push.ensures.items ∙ ap (λ (s : Option Progress). t.kept_choices.items ++ record { kind = c.args.kind; ok = c.args.ok; nok = c.args.nok; saved = s } ∷ []) saved in
+    let choices = chosen-choices t sound c.args.kind c.args.ok c.args.nok c.args.saves c.push.new.self.items put in
+    rw (← c.self.view_is) (rw choices refl)

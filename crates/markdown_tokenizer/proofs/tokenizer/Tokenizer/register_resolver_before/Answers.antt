@@ -1,0 +1,13 @@
+use Rattle.std.proofs.Common.{sym, refl, ◌∙◌}
+use Rattle.markdown_tokenizer.proofs.tokenizer.Tokenizer.register_resolver_before.Goals as goal
+
+pub returns-else-not-contains-clause-ok : goal.returns-else-not-contains-clause-ok
+returns-else-not-contains-clause-ok g c =
+    let there = rw c.deref.ensures.value at (sym c.contains.ensures.value ∙ c.if-not-contains.false) in
+    rw (← c.self.view_is) (rw there refl)
+
+pub returns-in_ok-insert-clause-ok : goal.returns-in_ok-insert-clause-ok
+returns-in_ok-insert-clause-ok g c =
+    let absent = rw c.deref.ensures.value at (sym c.contains.ensures.value ∙ c.if-not-contains.true) in
+    let items = c.in_ok-insert.ensures.items in
+    rw (← c.self.view_is) (rw (items, absent) refl)

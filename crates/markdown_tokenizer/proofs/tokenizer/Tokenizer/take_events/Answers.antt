@@ -1,0 +1,23 @@
+use Rattle.markdown_tokenizer.proofs.Inside.Made.{made-new}
+use Rattle.markdown_tokenizer.proofs.tokenizer.Tokenizer.take_events.Goals as goal
+
+pub invariant_of-self : goal.invariant_of-self
+invariant_of-self g c =
+    let t = c.self.inside in let sound = c.self.invariant in
+    let left = c.replace.ensures.after in
+    let events = c.new-none.ensures.items in
+    let stack = c.clear.ensures.items in
+    let kept_choices = c.clear-2.ensures.items in
+    record {
+      limit = sound.limit;
+      tab = sound.tab;
+      reads = sound.reads;
+      end_at = sound.end_at;
+      text = sound.text;
+      skips = sound.skips;
+      read = sound.read;
+      waiting = sound.waiting;
+      ended = sound.ended;
+      made = λ f. let m = sound.made f in rw (left, events, stack) (made-new t.parse_state.now.bytes.now _ _ m.left_bound m.left_shown m.bound_shown);
+      kept_choices = rw kept_choices tt;
+    }

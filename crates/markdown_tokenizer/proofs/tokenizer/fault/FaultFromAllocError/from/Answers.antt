@@ -1,0 +1,5 @@
+use Rattle.std.proofs.Common.{refl}
+use Rattle.markdown_tokenizer.proofs.tokenizer.fault.FaultFromAllocError.from.Goals as goal
+
+pub returns : goal.returns
+returns c = refl

@@ -1,0 +1,11 @@
+-- Why a push or a flush fails.
+use Rattle.std.specs.Prelude.{ℕ, List, codes}
+use Rattle.markdown_base.specs.Shown.{message_text}
+use Rattle.markdown_tokenizer.specs.declared.tokenizer.fault.Fault.{Fault}
+use Rattle.markdown_tokenizer.specs.declared.tokenizer.fault.Fault.TheVariants.{Memory, Failed, Message}
+
+-- the line that a fault is shown as
+abbrev pub fault_text : Fault → List ℕ
+fault_text Memory = codes "out of memory"
+fault_text Failed = codes "tokenizer has failed"
+fault_text (Message m) = message_text m

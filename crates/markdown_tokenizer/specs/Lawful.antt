@@ -1,0 +1,97 @@
+-- What a lawful machine keeps. Each law speaks of one call, one feeding, one settled choice or one piece added.
+use Rattle.std.specs.Prelude.{◌≡◌, ◌≢◌, ◌+◌, ◌≤◌, ◌⊎◌, List, [], ◌∷◌, ◌++◌, Bool, true, false, Option, IfSome, All, Contains, length, take, sum_by}
+use Rattle.markdown_base.specs.declared.event.Point.{Point}
+use Rattle.markdown_base.specs.declared.state.Name.{Name}
+use Rattle.markdown_base.specs.declared.state.State.{State}
+use Rattle.markdown_base.specs.declared.state.State.TheVariants.{Next, Retry, Ok, Nok}
+use Rattle.markdown_base.specs.Events.{HasFrontUpToLinkEnds}
+use Rattle.markdown_tokenizer.specs.declared.waiting.Waits.TheVariants.{Nothing, Byte}
+use Rattle.markdown_tokenizer.specs.Text.{Given, Text, Piece, IsText, FitsAfter, followed_by, empty_text}
+use Rattle.markdown_tokenizer.specs.Configuration.{Configuration, Choice, Step, TokenizerValue, start_configuration}
+use Rattle.markdown_tokenizer.specs.Sight.{sight}
+use Rattle.markdown_tokenizer.specs.Reading.{fed, settled_at}
+use Rattle.markdown_tokenizer.specs.Rules.{Rules}
+use Rattle.markdown_tokenizer.specs.declared.subtokenize.Subresult.{Subresult}
+use Rattle.markdown_tokenizer.specs.Calls.{consumed, with_resolvers}
+use Rattle.markdown_edits.specs.Edited.{edited}
+use Rattle.markdown_tokenizer.specs.Resolving.{done, taken, CanBeEdited, IsInShape}
+use Rattle.markdown_tokenizer.specs.Engine.{IsWellFormed}
+
+-- the tokenizer after a call: the step's configuration, its choices above the old ones, and one call more
+abbrev pub stepped : {M R D : Type 0} → TokenizerValue M R D → Step R D → TokenizerValue M R D
+stepped t s = record t { configuration = s.configuration; choices = s.choices ++ t.choices; calls = t.calls + 1 }
+
+-- A call did this step
+pub record DidStep {M R D : Type 0} (old new : TokenizerValue M R D) (s : Step R D) (answer : State) : Type 0 where
+  pub answered : answer ≡ s.answer
+  pub became : new ≡ stepped old s
+
+-- as much was read, the same waits, and the end was fed or not, alike
+abbrev pub IsAsFar : {R D : Type 0} → Configuration R D → Configuration R D → Type 0
+IsAsFar a b = (a.position ≡ b.position) × (a.waiting ≡ b.waiting) × (a.ended ≡ b.ended)
+
+module _ {R D : Type 0} (g : Given) (rules : Rules R D) where
+  -- the step of a state where the invariant holds
+  abbrev pub ForEachCall : (Text → Configuration R D → List Choice → Name → Step R D → Type 0) → Type 0
+  ForEachCall P = (text : Text) (k : Configuration R D) (choices : List Choice) (name : Name)
+      → IsText g text → rules.holds text k choices (Retry name) → P text k choices name (rules.step (sight g text k) k name)
+
+  -- a call consumes at most one byte, and never the end: Next is answered only where it consumed one, Retry only where it consumed none
+  abbrev pub ConsumesOnce : Type 0
+  ConsumesOnce = ForEachCall (λ text k choices name s.
+      (IsAsFar s.configuration k × ((n : Name) → s.answer ≢ Next n))
+      ⊎ ((k.waiting ≡ Byte) × IsAsFar s.configuration (consumed k) × ((n : Name) → s.answer ≢ Retry n)))
+
+  -- a call keeps the events, but for the ends of their links, and adds its own after them; it keeps the stack as far as a waiting choice saved it
+  pub record OnlyAdds : Type 0 where
+    pub events : ForEachCall (λ text k choices name s. HasFrontUpToLinkEnds s.configuration.events k.events)
+    pub stack : ForEachCall (λ text k choices name s.
+        All (λ c. IfSome c.saved (λ saved. take (length saved.stack) s.configuration.stack ≡ take (length saved.stack) k.stack)) choices)
+
+  -- with no choice waiting the invariant never holds of Nok, and holds of Ok only once the end was fed, with each span ended
+  pub record EndsWhenRead : Type 0 where
+    pub nok : (text : Text) (k : Configuration R D) → IsText g text → rules.holds text k [] Nok → ⊥
+    pub ok : (text : Text) (k : Configuration R D) → IsText g text → rules.holds text k [] Ok → (k.ended ≡ true) × (k.stack ≡ [])
+
+  -- The invariant holds at each start, at every place of a document, and is kept by feeding, by a call, where a choice ends, and where
+  -- a piece is added before the end is fed
+  pub record KeepsInvariant : Type 0 where
+    pub at_starts : (p : Point) (flag : Bool) (name : Name) → IsText g (empty_text p) → Contains rules.starts name
+        → rules.holds (empty_text p) (start_configuration flag) [] (Next name)
+    -- a byte, or the end, is fed where nothing waits, and a state is called where something does
+    pub unfed : (text : Text) (k : Configuration R D) (choices : List Choice) (name : Name) → IsText g text → rules.holds text k choices (Next name) → k.waiting ≡ Nothing
+    pub waits : (text : Text) (k : Configuration R D) (choices : List Choice) (name : Name) → IsText g text → rules.holds text k choices (Retry name) → k.waiting ≢ Nothing
+    pub by_feeding : (text : Text) (k : Configuration R D) (choices : List Choice) (name : Name) → IsText g text
+        → rules.holds text k choices (Next name) → rules.holds text (fed text k) choices (Retry name)
+    pub by_calls : ForEachCall (λ text k choices name s. rules.holds text s.configuration (s.choices ++ choices) s.answer)
+    pub by_ok : (text : Text) (k : Configuration R D) (choice : Choice) (choices : List Choice) → IsText g text
+        → rules.holds text k (choice ∷ choices) Ok → rules.holds text (settled_at choice.kind choice.saved Ok k) choices choice.ok
+    pub by_nok : (text : Text) (k : Configuration R D) (choice : Choice) (choices : List Choice) → IsText g text
+        → rules.holds text k (choice ∷ choices) Nok → rules.holds text (settled_at choice.kind choice.saved Nok k) choices choice.nok
+    -- more of the document is pushed, or passed, before the end is fed
+    pub by_pieces : (text : Text) (piece : Piece) (k : Configuration R D) (choices : List Choice) (state : State) → IsText g text
+        → FitsAfter g text piece → k.ended ≡ false → rules.holds text k choices state → rules.holds (followed_by g text piece) k choices state
+
+  -- A call is paid for, with the cost of its answer and the reserves of the choices that it pushes; feeding costs nothing; and
+  -- what a choice goes on with costs at most its reserve
+  pub record CostPays : Type 0 where
+    pub for_calls : ForEachCall (λ text k choices name s.
+        1 + (rules.cost text s.configuration s.answer + sum_by (rules.reserve text) s.choices) ≤ rules.cost text k (Retry name))
+    pub for_feeding : (text : Text) (k : Configuration R D) (choices : List Choice) (name : Name) → IsText g text
+        → rules.holds text k choices (Next name) → rules.cost text (fed text k) (Retry name) ≤ rules.cost text k (Next name)
+    pub for_ok : (text : Text) (k : Configuration R D) (choice : Choice) (choices : List Choice) → IsText g text
+        → rules.holds text k (choice ∷ choices) Ok → rules.cost text (settled_at choice.kind choice.saved Ok k) choice.ok ≤ rules.reserve text choice
+    pub for_nok : (text : Text) (k : Configuration R D) (choice : Choice) (choices : List Choice) → IsText g text
+        → rules.holds text k (choice ∷ choices) Nok → rules.cost text (settled_at choice.kind choice.saved Nok k) choice.nok ≤ rules.reserve text choice
+
+  -- The invariant of resolvers holds of those that are registered once all was read, with the definitions and the list taken out.
+  -- Each resolver keeps it for those that are left, and keeps how far was read and the stack. When none is left the edits can be
+  -- made, and leave the events in shape.
+  pub record ResolversKeep : Type 0 where
+    pub at_end : (text : Text) (k : Configuration R D) → IsText g text → IsWellFormed g.bytes k → rules.holds text k [] Ok
+        → rules.resolves text k.local.resolvers (with_resolvers (taken k) [])
+    pub by_resolvers : (text : Text) (r : R) (rs : List R) (k new : Configuration R D) (more : Option Subresult) → IsText g text
+        → rules.resolves text (r ∷ rs) k → rules.resolver (sight g text k) k r ≡ done new more
+        → rules.resolves text rs new × IsAsFar new k × (new.stack ≡ k.stack)
+    pub at_last : (text : Text) (k : Configuration R D) → IsText g text → rules.resolves text [] k
+        → CanBeEdited k × IsInShape (edited k.local.map k.events)

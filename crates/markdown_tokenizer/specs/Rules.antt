@@ -1,0 +1,20 @@
+-- The rules of a machine on one document: what its laws speak of.
+use Rattle.std.specs.Prelude.{ℕ, List}
+use Rattle.markdown_base.specs.declared.state.Name.{Name}
+use Rattle.markdown_base.specs.declared.state.State.{State}
+use Rattle.markdown_tokenizer.specs.Text.{Text}
+use Rattle.markdown_tokenizer.specs.Configuration.{Configuration, Choice, Step}
+use Rattle.markdown_tokenizer.specs.Sight.{Sight}
+use Rattle.markdown_tokenizer.specs.Resolving.{Resolved}
+
+-- What the call of a state gives, from what it may see; the invariant, of a text, a configuration, the waiting choices and the state at
+-- hand; how many calls a state, and a waiting choice, may still take; with which states a reading may start; what a resolver gives;
+-- and what holds before the resolvers of a list resolve
+pub record Rules (R D : Type 0) : Type 1 where
+  pub step : Sight → Configuration R D → Name → Step R D
+  pub holds : Text → Configuration R D → List Choice → State → Type 0
+  pub cost : Text → Configuration R D → State → ℕ
+  pub reserve : Text → Choice → ℕ
+  pub starts : List Name
+  pub resolver : Sight → Configuration R D → R → Resolved R D
+  pub resolves : Text → List R → Configuration R D → Type 0

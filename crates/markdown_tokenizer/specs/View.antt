@@ -1,0 +1,182 @@
+-- What the fields of a tokenizer mean. An inner file: no public clause names what stands here.
+use Rattle.std.specs.List.{AllByRecursion}
+use Rattle.std.specs.Prelude.{◌≡◌, ℕ, ◌+◌, ◌*◌, ◌<◌, ◌≤◌, ◌^◌, List, [], ◌∷◌, Bool, true, false, cond, nat_lt, ◌||◌, Option, None, Some, length, map, take, reverse, unwrap_or, IfSome, Result}
+use Rattle.std.specs.declared.result.Result.TheVariants as result
+use Rattle.markdown_base.specs.declared.event.Event.{Event}
+use Rattle.markdown_base.specs.declared.event.Name.{Name}
+use Rattle.markdown_base.specs.declared.state.Name.{Name as StateName}
+use Rattle.markdown_base.specs.declared.event.Point.{Point}
+use Rattle.markdown_base.specs.declared.state.State.{State}
+use Rattle.markdown_base.specs.declared.state.State.TheVariants.{Next, Ok, Nok}
+use Rattle.markdown_base.specs.Virtual.{Seat, point}
+use Rattle.markdown_base.specs.Places.{point_at, shown, stands_before, is_upto}
+use Rattle.markdown_tokenizer.specs.declared.waiting.Waits.{Waits}
+use Rattle.markdown_tokenizer.specs.declared.waiting.Waits.TheVariants.{Nothing, Byte, End}
+use Rattle.markdown_tokenizer.specs.declared.waiting.Phase.{Phase}
+use Rattle.markdown_tokenizer.specs.declared.waiting.Phase.TheVariants.{Reading}
+use Rattle.markdown_tokenizer.specs.declared.waiting.GoesOn.{GoesOn}
+use Rattle.markdown_tokenizer.specs.declared.waiting.GoesOn.TheVariants as goal
+use Rattle.markdown_tokenizer.specs.declared.waiting.KeptChoice.{KeptChoice}
+use Rattle.markdown_tokenizer.specs.declared.waiting.Progress.{Progress}
+use Rattle.markdown_tokenizer.specs.declared.waiting.AttemptKind.{AttemptKind}
+use Rattle.markdown_tokenizer.specs.declared.parser.ParseState.{ParseState}
+use Rattle.markdown_tokenizer.specs.declared.tokenizer.Tokenizer.TheInside.{Inside}
+use Rattle.markdown_tokenizer.specs.Text.{Text, IsText}
+use Rattle.markdown_tokenizer.specs.Configuration.{Configuration, Choice, Saved, TokenizerValue}
+use Rattle.markdown_tokenizer.specs.Calls.{saved_at}
+use Rattle.markdown_tokenizer.specs.Sight.{seat_before, byte_of, end_place}
+use Rattle.markdown_tokenizer.specs.Cursor.{IsPlace, IsSeatAt}
+use Rattle.markdown_tokenizer.specs.Gaps.{kept_between, resumed, IsSkip, IsOutside}
+use Rattle.markdown_tokenizer.specs.Made.{IsMade}
+
+abbrev pub state_of : GoesOn → State
+state_of (goal.Next name) = Next name
+state_of goal.Ok = Ok
+state_of goal.Nok = Nok
+
+-- a name to go on with, or the answer at which the work ends
+abbrev pub taken_continuation : Result StateName GoesOn → Result StateName State
+taken_continuation (result.Ok name) = result.Ok name
+taken_continuation (result.Err end) = result.Err (state_of end)
+
+-- a choice that begins in a configuration, and saves it or not
+abbrev pub choice_at : {R D : Type 0} → AttemptKind → (ok nok : State) → (saves : Bool) → Configuration R D → Choice
+choice_at kind ok nok saves k = record { kind = kind; ok = ok; nok = nok; saved = cond saves (Some (saved_at k)) None }
+
+-- at how many columns tab stops stand: what the options say
+abbrev pub tab_of : {M R D : Type 0} → ParseState M R D → ℕ
+tab_of p = p.options.now.tab_size
+
+-- the point of a place, given by index and number in a tab
+abbrev pub end_point : (tab : ℕ) → List ℕ → (ℕ × ℕ) → Point
+end_point tab bytes place = unwrap_or (point_at tab bytes place) (point 1 1 0 0)
+
+-- the virtual bytes from one place on before another, without those in gaps
+abbrev pub seats_between : (tab : ℕ) → List ℕ → List Point → Point → Point → List Seat
+seats_between tab bytes skips from to = kept_between tab bytes skips from to
+
+-- how many virtual bytes of the text stand before a place
+abbrev pub position_from : (tab : ℕ) → List ℕ → List Point → Point → Point → ℕ
+position_from tab bytes skips start p = length (seats_between tab bytes skips start p)
+
+-- what the code saved of a choice, with `position` as the number of bytes before a place, and the stack
+abbrev pub saved_at_place : (Point → ℕ) → List Name → Progress → Saved
+saved_at_place position stack p = record { position = position p.after_previous; ended = p.ended; events = p.events_len; stack = take p.stack_len stack }
+
+abbrev pub saved_of : (Point → ℕ) → List Name → Option Progress → Option Saved
+saved_of position stack None = None
+saved_of position stack (Some p) = Some (saved_at_place position stack p)
+
+abbrev pub choice_of : (Point → ℕ) → List Name → KeptChoice → Choice
+choice_of position stack choice = record { kind = choice.kind; ok = state_of choice.ok; nok = state_of choice.nok; saved = saved_of position stack choice.saved }
+
+abbrev pub seen : {M R D : Type 0} → Inside M R D → TokenizerValue M R D
+seen t =
+    let bytes = t.parse_state.now.bytes.now in
+    let tab = tab_of t.parse_state.now in
+    let position = position_from tab bytes t.skips t.start in record {
+      given = record { bytes = bytes; options = t.parse_state.now.options.now; tab = tab };
+      machine = t.parse_state.now.machine.now;
+      text = record { start = t.start; seats = seats_between tab bytes t.skips t.start (end_point tab bytes t.end); end = end_point tab bytes t.end };
+      configuration = record {
+        position = position t.after_previous;
+        waiting = t.waits;
+        ended = t.ended;
+        events = t.events.items;
+        stack = t.stack.items;
+        local = record {
+          tokenize_state = t.tokenize_state;
+          map = t.map;
+          resolvers = t.resolvers.items;
+          interrupt = t.interrupt;
+          concrete = t.concrete;
+          pierce = t.pierce;
+          lazy = t.lazy;
+        };
+      };
+      choices = map (choice_of position t.stack.items) (reverse t.kept_choices.items);
+      calls = t.calls.made;
+      closed = t.closed;
+      phase = t.phase;
+    }
+
+-- the text that was pushed
+abbrev pub text_within : {M R D : Type 0} → Inside M R D → Text
+text_within t = (seen t).text
+
+-- A text was read up to a place: it is where the byte before ends, or the start, and that byte is known
+pub record IsReadTo (tab : ℕ) (bytes : List ℕ) (skips : List Point) (text : Text) (after_previous : Point) (previous : Option ℕ) : Type 0 where
+  pub place : IsPlace tab bytes after_previous
+  pub from : is_upto tab bytes text.start after_previous ≡ true
+  pub upto : is_upto tab bytes after_previous text.end ≡ true
+  pub outside : IsOutside skips after_previous
+  pub back : after_previous ≡ end_place text (position_from tab bytes skips text.start after_previous)
+  pub previous_is : previous ≡ byte_of (seat_before text (position_from tab bytes skips text.start after_previous))
+
+-- What waits is the next virtual byte
+pub record ByteWaits (tab : ℕ) (bytes : List ℕ) (skips : List Point) (after_previous end : Point) (current : Option ℕ) : Type 0 where
+  pub seat : Seat
+  pub at : IsSeatAt tab bytes (resumed skips after_previous) seat
+  pub before : stands_before seat.point end ≡ true
+  pub is : current ≡ Some seat.byte
+
+-- What waits is the end of the text, all of which was read
+pub record EndWaits (current : Option ℕ) (closed : Bool) (position size : ℕ) : Type 0 where
+  pub none : current ≡ None
+  pub closed_too : closed ≡ true
+  pub all : size ≤ position
+
+-- what waits
+abbrev pub IsWhatWaits : (tab : ℕ) → List ℕ → List Point → Text → Point → Option ℕ → Bool → Waits → Type 0
+IsWhatWaits tab bytes skips text after_previous current closed Nothing = current ≡ None
+IsWhatWaits tab bytes skips text after_previous current closed Byte = ByteWaits tab bytes skips after_previous text.end current
+IsWhatWaits tab bytes skips text after_previous current closed End = EndWaits current closed (position_from tab bytes skips text.start after_previous) (length text.seats)
+
+-- where an enter stands: after what is passed of a line, once something waits there
+abbrev pub standing : List Point → Point → Waits → Point
+standing skips after_previous Nothing = after_previous
+standing skips after_previous Byte = resumed skips after_previous
+standing skips after_previous End = resumed skips after_previous
+
+-- the furthest place at which an enter may stand before more is read: after what is passed of a line, where more can be fed
+abbrev pub reach : List Point → Point → Bool → Point
+reach skips after_previous more = cond more (resumed skips after_previous) after_previous
+
+-- more can be fed than was read up to a place: a byte, or the end
+abbrev pub can_feed : (position size : ℕ) → (closed : Bool) → Bool
+can_feed position size closed = nat_lt position size || closed
+
+-- What a choice saved: a place up to which the text was read, with the events and the stack that were there, until a flush resolves
+pub record IsProgress (phase : Phase) (tab : ℕ) (bytes : List ℕ) (skips : List Point) (text : Text) (events : List Event) (stack : List Name) (closed : Bool) (p : Progress) : Type 0 where
+  pub read : IsReadTo tab bytes skips text p.after_previous p.previous
+  pub ended : p.ended ≡ true → closed ≡ true
+  pub made : phase ≡ Reading → IsMade bytes (take p.events_len events) (take p.stack_len stack) (shown bytes p.after_previous)
+      (shown bytes (reach skips p.after_previous (can_feed (position_from tab bytes skips text.start p.after_previous) (length text.seats) closed)))
+
+abbrev pub events_of : ℕ → Option Progress → ℕ
+events_of n None = n
+events_of n (Some p) = p.events_len
+
+abbrev pub stack_of : ℕ → Option Progress → ℕ
+stack_of n None = n
+stack_of n (Some p) = p.stack_len
+
+-- what choices saved, the last first: each no more events and open spans than the one after it
+abbrev pub AreNested : (Progress → Type 0) → (events stack : ℕ) → List KeptChoice → Type 0
+AreNested P events stack [] = Unit {0}
+AreNested P events stack (choice ∷ kept_choices) =
+    IfSome choice.saved (λ p. (p.events_len ≤ events) × (p.stack_len ≤ stack) × P p) × AreNested P (events_of events choice.saved) (stack_of stack choice.saved) kept_choices
+
+-- what holds of the fields. Of the events it holds until a flush resolves, as resolvers may change them freely.
+pub record IsSound {M R D : Type 0} (t : Inside M R D) : Type 0 where
+  pub limit : tab_of t.parse_state.now * length t.parse_state.now.bytes.now + 1 < 2 ^ 64
+  pub tab : t.tab_size ≡ tab_of t.parse_state.now
+  pub end_at : point_at (tab_of t.parse_state.now) t.parse_state.now.bytes.now t.end ≡ Some (text_within t).end
+  pub text : IsText (seen t).given (text_within t)
+  pub skips : AllByRecursion (IsSkip (tab_of t.parse_state.now) t.parse_state.now.bytes.now (text_within t).end) t.skips
+  pub read : IsReadTo (tab_of t.parse_state.now) t.parse_state.now.bytes.now t.skips (text_within t) t.after_previous t.previous
+  pub waiting : IsWhatWaits (tab_of t.parse_state.now) t.parse_state.now.bytes.now t.skips (text_within t) t.after_previous t.current t.closed t.waits
+  pub ended : t.ended ≡ true → t.closed ≡ true
+  pub reads : t.closed ≡ false → t.phase ≡ Reading
+  pub made : t.phase ≡ Reading → IsMade t.parse_state.now.bytes.now t.events.items t.stack.items (shown t.parse_state.now.bytes.now t.after_previous) (shown t.parse_state.now.bytes.now (standing t.skips t.after_previous t.waits))
+  pub kept_choices : AreNested (IsProgress t.phase (tab_of t.parse_state.now) t.parse_state.now.bytes.now t.skips (text_within t) t.events.items t.stack.items t.closed) (length t.events.items) (length t.stack.items) (reverse t.kept_choices.items)

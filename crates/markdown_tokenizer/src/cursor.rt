@@ -1,0 +1,193 @@
+//! The cursor: where a reader stands in the virtual text of a document.
+
+ghost use Rattle.markdown_tokenizer.specs.Cursor.{goes_on, begins_pair, IsPlace, IsSeatAt, IsNextSeat, IsNextByte, is_before_pair, is_after_pair};
+ghost use Rattle.markdown_tokenizer.specs.Gaps.{skip_of, resumed};
+ghost use Rattle.markdown_base.specs.Places;
+ghost use Rattle.markdown_base.specs.Virtual.{Seat};
+ghost use Rattle.std.specs.Prelude.{◌≡◌, ◌==◌, ◌&&◌, ◌||◌, nat_lt, ◌+◌, ◌*◌, ◌%◌, ◌^◌, ◌<◌, ℕ, length, not, unwrap_or};
+
+use crate::skips::Skips;
+use markdown_base::event::Point;
+
+/// Whether a CR LF begins at an index.
+fn is_pair(bytes: &[u8], index: usize) -> bool
+    requires index { index + 1 < 2 ^ 64 }
+    ensures { result ≡ begins_pair bytes.now index }
+{
+    index + 1 < bytes.len() && bytes[index] == b'\r' && bytes[index + 1] == b'\n'
+}
+
+/// The next virtual byte from a place on, and its seat: of a CR LF that of the LF.
+/// `None` at the document's end. How many columns tab stops stand apart plays no part.
+pub(crate) fn seat_at(bytes: &[u8], point: Point) -> Option<(u8, Point)>
+    requires within { 0 < point.vs → point.index < length bytes.now }
+    ensures { (t : ℕ) → 0 < t → IsNextSeat t bytes.now point result }
+{
+    if point.vs > 0 {
+        return Some((b' ', point));
+    }
+    if point.index >= bytes.len() {
+        return None;
+    }
+    let byte = bytes[point.index];
+    if byte != b'\r' {
+        return Some((byte, point));
+    }
+    if is_pair(bytes, point.index) {
+        // The LF is the seat of the pair. As in the Rust crate, the CR is passed over, and the byte waits at the LF: a text that ends
+        // between the two ends before the line ending, which is read with what follows.
+        return Some((
+            b'\n',
+            Point {
+                index: point.index + 1,
+                ..point
+            },
+        ));
+    }
+    Some((b'\n', point))
+}
+
+/// The next virtual byte from a place on, where it stands before the end of a text.
+pub(crate) fn next_byte(bytes: &[u8], point: Point, end: (usize, usize)) -> Option<u8>
+    requires within { 0 < point.vs → point.index < length bytes.now }
+    ensures { (t : ℕ) → 0 < t → IsNextByte t bytes.now point end result }
+{
+    match seat_at(bytes, point) {
+        None => None,
+        Some((byte, seat)) => {
+            if is_before(seat, end) {
+                Some(byte)
+            } else {
+                None
+            }
+        }
+    }
+}
+
+/// Where the next byte is looked for: at the beginning of a line, after what is passed of it.
+#[inline(always)]
+pub(crate) fn resumed<'a>(skips: &'a Skips, place: &'a Point) -> &'a Point
+    ensures { result.now ≡ resumed skips.now place.now }
+{
+    if !skips.is_empty() && place.column == 1 {
+        skips.after(place)
+    } else {
+        place
+    }
+}
+
+/// Moves a place at the beginning of a line to after what is passed of it.
+///
+/// It is apart from `resume`, and cold: nearly every byte is in mid-line, or of a document without gaps. `resume` is then a test in
+/// the loop of bytes, without the search for a gap.
+#[cold]
+#[inline(never)]
+fn pass_skip(skips: &Skips, place: &mut Point)
+    ensures { place.new ≡ unwrap_or (skip_of skips.now place.old.line) place.old }
+{
+    *place = *skips.after(&*place);
+}
+
+/// Moves a place to where the next byte is looked for.
+#[inline(always)]
+pub(crate) fn resume(skips: &Skips, place: &mut Point)
+    ensures { place.new ≡ resumed skips.now place.old }
+{
+    if !skips.is_empty() && place.column == 1 {
+        pass_skip(skips, place);
+    }
+}
+
+/// Whether the tab at a place goes on after its next virtual byte, which is this one. Tab stops stand at every `t`
+/// columns; at every 4, as nearly always, it is told without a division. `t` is read where a tab asks for it.
+#[inline(always)]
+fn goes_on(t: &usize, point: &Point, byte: u8) -> bool
+    requires some { 0 < t.now }
+    ensures { result ≡ goes_on t.now byte point.now }
+{
+    if point.vs == 0 && byte != b'\t' {
+        return false;
+    }
+    if *t == 4 {
+        point.column % 4 != 0
+    } else {
+        goes_on_by(*t, point.column)
+    }
+}
+
+/// Whether no tab stop stands behind a column, where they stand at every `t` columns. It is apart so that tabs of 4
+/// columns, which never come here, are read by tight code.
+#[cold]
+#[inline(never)]
+fn goes_on_by(t: usize, column: usize) -> bool
+    requires some { 0 < t }
+    ensures { result ≡ not (column % t == 0) }
+{
+    column % t != 0
+}
+
+/// Moves a place over the next virtual byte, which is this one: of a CR LF over both bytes. Tab stops stand at every
+/// `t` columns.
+#[inline(always)]
+pub(crate) fn pass(bytes: &[u8], t: &usize, point: &mut Point, byte: u8)
+    requires some { 0 < t.now }
+    requires limit { t.now * length bytes.now + 1 < 2 ^ 64 }
+    requires place { IsPlace t.now bytes.now point.old }
+    requires next { (seat : Seat) × IsSeatAt t.now bytes.now point.old seat × (seat.byte ≡ byte) }
+    ensures { (seat : Seat) → IsSeatAt t.now bytes.now point.old seat → point.new ≡ seat.end }
+{
+    if point.vs == 0 && byte == b'\n' {
+        point.line += 1;
+        point.column = 1;
+        point.vs = 0;
+        if is_pair(bytes, point.index) {
+            point.index += 2;
+        } else {
+            point.index += 1;
+        }
+    } else if goes_on(t, point, byte) {
+        point.column += 1;
+        point.vs += 1;
+    } else {
+        point.column += 1;
+        point.index += 1;
+        point.vs = 0;
+    }
+}
+
+/// Where a place is shown: at itself, but the LF of a CR LF at its CR.
+pub(crate) fn shown(bytes: &[u8], point: Point) -> Point
+    ensures { result ≡ Places.shown bytes.now point }
+{
+    if point.index > 0 && is_pair(bytes, point.index - 1) {
+        return Point {
+            index: point.index - 1,
+            ..point
+        };
+    }
+    point
+}
+
+/// A place, given by its point, is before another, given by byte index and number in a tab.
+#[inline(always)]
+pub(crate) fn is_before(point: Point, place: (usize, usize)) -> bool
+    ensures { result ≡ is_before_pair point place }
+{
+    point.index < place.0 || is_before_in_byte(point, place)
+}
+
+/// As `is_before`, where the place is not before by its byte. It is apart as nearly every place is.
+#[cold]
+#[inline(never)]
+fn is_before_in_byte(point: Point, place: (usize, usize)) -> bool
+    ensures { result ≡ ((point.index == place.0) && nat_lt point.vs place.1) }
+{
+    point.index == place.0 && point.vs < place.1
+}
+
+/// A place, given by its point, is after another, given by byte index and number in a tab.
+pub(crate) fn is_after(point: Point, place: (usize, usize)) -> bool
+    ensures { result ≡ is_after_pair point place }
+{
+    place.0 < point.index || place.0 == point.index && place.1 < point.vs
+}

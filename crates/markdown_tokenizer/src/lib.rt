@@ -1,0 +1,19 @@
+//! The tokenizer engine: a machine of states reads a document, in ranges, and gives a list of events.
+#![tactic(auto)]
+
+mod count;
+mod cursor;
+pub mod laws;
+pub mod parser;
+mod places;
+mod skips;
+pub mod state;
+pub mod subtokenize;
+pub mod tokenizer;
+pub mod util;
+pub mod waiting;
+
+pub use markdown_base::configuration::{
+    CompileOptions, Constructs, Options, ParseOptions, TabSize,
+};
+pub use markdown_base::{configuration, event, message, owned, unist};

@@ -1,0 +1,94 @@
+//! States, and what a machine of states is.
+
+use crate::subtokenize::Subresult;
+use crate::tokenizer::{Fault, Tokenizer};
+pub use markdown_base::state::{Name, State};
+use std::alloc::{AllocError, Global};
+
+/// The types that a machine brings.
+pub trait MachineTypes {
+    /// The name of a resolver, which goes over the events once all was read.
+    type Resolver: Copy + Eq;
+
+    /// What the machine keeps of a document beside the text that is read.
+    type Document: Drop;
+}
+
+/// A machine of states, which reads a text.
+///
+/// Its rules say what the call of each state gives (`step`), what holds at each call (`holds`), how many calls it may still
+/// take (`cost`, `reserve`) and with which states it may start (`starts`); what a resolver gives (`resolver`), and what holds before
+/// those of a list resolve (`resolves`). It proves six laws of them.
+pub trait Machine: MachineTypes + Sized {
+    ghost use Rattle.std.specs.Prelude.{◌≡◌, ◌≢◌, ◌∷◌, [], List, IfOk, IfErr, IsErrOf};
+    ghost use Rattle.markdown_base.specs.declared.state.State.TheVariants.{Retry};
+    ghost use Rattle.markdown_tokenizer.specs.declared.waiting.Waits.TheVariants.{Nothing};
+    ghost use Rattle.markdown_tokenizer.specs.declared.waiting.Phase.TheVariants.{Resolving};
+    ghost use Rattle.markdown_tokenizer.specs.Configuration.{at_configuration};
+    ghost use Rattle.markdown_tokenizer.specs.Resolving.{done, refused};
+    ghost use Rattle.markdown_tokenizer.specs.Text.{Given};
+    ghost use Rattle.markdown_tokenizer.specs.Sight.{sight_of};
+    ghost use Rattle.markdown_tokenizer.specs.Rules.{Rules};
+    ghost use Rattle.markdown_tokenizer.specs.Engine.{HoldsOf};
+    ghost use Rattle.markdown_tokenizer.specs.Lawful.{DidStep, ConsumesOnce, OnlyAdds, EndsWhenRead, KeepsInvariant, CostPays, ResolversKeep};
+
+    /// Its rules on a document.
+    ghost rules: { Self → Given → Rules Self.Resolver Self.Document };
+
+    /// Calls the state of this name, once something waits.
+    ///
+    /// The state counts its call by one `tick`, and consumes at most the byte that waits: it answers `Next` where it
+    /// consumed one, and `Retry` only where it did not. `AllocError` is answered only where memory was refused.
+    ///
+    /// A state that returns `Retry` after it consumed, in place of `Next`, would be called again with nothing that waits. If the proof
+    /// of `call_is_step` or `consumes_once` fails, look for such a return first.
+    fn call<'a>(
+        &self,
+        alloc: Global,
+        t: &mut Tokenizer<'a, Self>,
+        name: Name,
+    ) -> Result<State, AllocError>
+        requires machine { t.old.machine ≡ self.now }
+        requires waits { t.old.configuration.waiting ≢ Nothing }
+        requires invariant { HoldsOf (rules self.now t.old.given) t.old (Retry name) }
+        ensures call_is_step { IfOk result (DidStep t.old t.new ((rules self.now t.old.given).step (sight_of t.old) t.old.configuration name)) };
+
+    /// Goes over the events as the resolver of this name, once all was read, while a flush resolves.
+    ///
+    /// It may change the events (`events_mut`, `link`, `link_to`), `map`, `tokenize_state` and the flags, and register resolvers, which
+    /// this flush does not run. It answers the definitions that it found. `Message` refuses the document; `Memory` is answered
+    /// only where memory was refused.
+    fn resolve<'a>(
+        &self,
+        alloc: Global,
+        t: &mut Tokenizer<'a, Self>,
+        name: Self::Resolver,
+    ) -> Result<Option<Subresult>, Fault>
+        requires machine { t.old.machine ≡ self.now }
+        requires resolving { t.old.phase ≡ Resolving }
+        requires alone { t.old.choices ≡ [] }
+        requires invariant { (rest : List Self.Resolver) × (rules self.now t.old.given).resolves t.old.text (name ∷ rest) t.old.configuration }
+        ensures same { t.new ≡ at_configuration t.old t.new.configuration }
+        ensures resolves { IfOk result (λ more. (rules self.now t.old.given).resolver (sight_of t.old) t.old.configuration name ≡ done t.new.configuration more) }
+        ensures message { (m : _) → IsErrOf result (Fault.Message m) → (rules self.now t.old.given).resolver (sight_of t.old) t.old.configuration name ≡ refused m }
+        ensures err { IfErr result (λ fault. fault ≢ Fault.Failed) };
+
+    /// A call consumes at most one byte, and never the end.
+    ghost consumes_once: { (m : Self) (g : Given) → ConsumesOnce g (rules m g) };
+
+    /// A call keeps the events, but for the ends of their links, and the spans that waiting choices saved; it adds its own after them.
+    ghost only_adds: { (m : Self) (g : Given) → OnlyAdds g (rules m g) };
+
+    /// With no choice waiting, `Nok` is never answered, and `Ok` only once the end was fed, with each span ended.
+    ghost ends_when_read: { (m : Self) (g : Given) → EndsWhenRead g (rules m g) };
+
+    /// The invariant holds at each start, and is kept by feeding, by a call, where a choice ends, and where a piece is added.
+    ghost invariant_kept: { (m : Self) (g : Given) → KeepsInvariant g (rules m g) };
+
+    /// A call is paid for, feeding costs nothing, and what a choice goes on with costs at most its reserve.
+    ghost cost_pays: { (m : Self) (g : Given) → CostPays g (rules m g) };
+
+    /// The invariant of resolvers holds once all was read, and is kept by each; when none is left the edits can be made, and the
+    /// events are balanced then, with their links in shape.
+    ghost resolvers_keep: { (m : Self) (g : Given) → ResolversKeep g (rules m g) };
+}

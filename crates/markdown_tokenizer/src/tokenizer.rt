@@ -1,0 +1,352 @@
+//! The tokenizer: it feeds the virtual bytes of a document to the states of a machine.
+//!
+//! Here are the tokenizer itself and the calls that states make. `running` calls the states, `resolve` is about resolvers, `look` has the
+//! calls that only read, and `state` what states share.
+
+mod fault;
+mod look;
+mod resolve;
+mod running;
+mod state;
+
+use crate::count::Calls;
+use crate::cursor::{is_after, pass, resume, shown};
+use crate::parser::ParseState;
+use crate::places::bytes_are_below_256;
+pub use crate::places::{cuts_every, point_at};
+use crate::skips::Skips;
+use crate::state::{MachineTypes, State};
+use crate::subtokenize;
+pub use crate::tokenizer::fault::Fault;
+pub use crate::tokenizer::running::run;
+pub use crate::tokenizer::state::{
+    Container, ContainerState, Label, LabelKind, LabelStart, TokenizeState,
+};
+use crate::util::edit_map::EditMap;
+use crate::waiting::{AttemptKind, GoesOn, KeptChoice, Phase, Progress, Waits, standing};
+use markdown_base::event::{Event, Kind, Link, Name, Point};
+use std::alloc::{AllocError, Global};
+use std::marker::Model;
+
+/// The tokenizer.
+///
+/// It is given ranges of a document and a state of its machine, and reads until a range is used up; the end
+/// of the input is fed once it is flushed. Contracts see it as what a reading sees: the text, how much of it was
+/// read, the events and what else states share.
+#[derive(Drop)]
+pub struct Tokenizer<'a, M: MachineTypes> {
+    /// Whether this may interrupt something.
+    pub interrupt: bool,
+    /// Whether what is read cannot be interrupted.
+    pub concrete: bool,
+    /// Whether a lazy line is pierced.
+    pub pierce: bool,
+    /// Whether the line is lazy.
+    pub lazy: bool,
+    /// Edits of the events, which wait until they are consumed.
+    pub map: EditMap,
+    /// Where the text starts.
+    start: Point,
+    /// Where the text ends: byte index and number in a tab.
+    end: (usize, usize),
+    /// Up to where lines are passed.
+    skips: Skips,
+    /// The place after the byte before, or the start.
+    after_previous: Point,
+    /// What waits.
+    waits: Waits,
+    /// Whether the end was fed here.
+    ended: bool,
+    /// The byte before.
+    previous: Option<u8>,
+    /// The byte that waits.
+    current: Option<u8>,
+    /// The events so far.
+    events: Vec<Event>,
+    /// The names of the open spans, the innermost last.
+    stack: Vec<Name>,
+    /// The resolvers that were registered.
+    resolvers: Vec<M::Resolver>,
+    /// The waiting choices, the last one last.
+    kept_choices: Vec<KeptChoice>,
+    /// At how many columns tab stops stand, as the options say: each byte that is consumed asks for it.
+    tab_size: usize,
+    /// Whether nothing more is pushed: memory was refused, or the end was fed.
+    closed: bool,
+    /// Whether a flush resolves, or has resolved.
+    phase: Phase,
+    /// How many states were called, which contracts alone see.
+    calls: Calls,
+    // The longest types stand last: where a proof speaks of a field that is lent, it spells out those in front of it.
+    /// The document, the options and the machine.
+    parse_state: &'a ParseState<'a, M>,
+    /// What states share.
+    pub tokenize_state: TokenizeState<M::Document>,
+}
+
+impl<'a, M: MachineTypes> Model for Tokenizer<'a, M> {
+    ghost use Rattle.markdown_tokenizer.specs.Configuration.{TokenizerValue};
+
+    ghost Value = { TokenizerValue M M.Resolver M.Document };
+
+    ghost use Rattle.markdown_tokenizer.specs.View.{seen, IsSound};
+
+    ghost view = { seen };
+
+    ghost invariant = { IsSound };
+}
+
+ghost use Rattle.std.specs.Prelude.{◌≡◌, ◌+◌, ◌-◌, ◌*◌, ◌^◌, ◌<◌, ◌≤◌, All, length, OnOk, OnErr, None, Some};
+ghost use Rattle.markdown_base.specs.Places.{IsPointOf};
+ghost use Rattle.markdown_tokenizer.specs.Text.{FitsAfter, followed_by, passed, empty_text};
+ghost use Rattle.markdown_tokenizer.specs.Configuration.{at_configuration, start_seen};
+ghost use Rattle.markdown_tokenizer.specs.Sight.{sight_of};
+ghost use Rattle.markdown_edits.specs.Links.{CanLink, linked_to};
+ghost use Rattle.markdown_tokenizer.specs.Calls.{consumed, entered, exited, linked, attempt_at, check_at, with_choice, CanExit, CanGoOn};
+ghost use Rattle.markdown_tokenizer.specs.Engine.{given_of};
+ghost use Rattle.markdown_tokenizer.specs.View.{state_of, choice_at};
+
+/// As `link_to`, on a `Vec`.
+fn link_items(events: &mut Vec<Event>, previous: usize, next: usize)
+    requires can_link { CanLink events.old.items previous next }
+    ensures { events.new.items ≡ linked_to previous next events.old.items }
+{
+    subtokenize::link_to(events.as_mut_slice(), previous, next);
+}
+
+impl<'a, M: MachineTypes> Tokenizer<'a, M> {
+    /// A tokenizer that has read nothing, from this place of the document on. Takes no memory.
+    ///
+    /// The point is that of a place; the size of tabs times the document's length, and one more, fits `usize`. That the document's
+    /// bytes are below 256 is said for callers: what they read is a document that there can be.
+    pub fn new(alloc: Global, point: Point, parse_state: &'a ParseState<'a, M>) -> Self
+        requires place { IsPointOf parse_state.now.options.now.tab_size parse_state.now.bytes.now point }
+        requires limit { parse_state.now.options.now.tab_size * length parse_state.now.bytes.now + 1 < 2 ^ 64 }
+        ensures start { result ≡ start_seen (given_of parse_state.now) parse_state.now.machine.now (empty_text point) }
+        ensures bytes { All (λ b. b < 256) parse_state.now.bytes.now }
+    {
+        bytes_are_below_256(parse_state.bytes);
+        let tab_size = parse_state.options.tab_size.get();
+        let tokenize_state = TokenizeState::new(alloc);
+        let map = EditMap::new(alloc);
+        let events = Vec::new(alloc);
+        let stack = Vec::new(alloc);
+        let resolvers = Vec::new(alloc);
+        let kept_choices = Vec::new(alloc);
+        let skips = Skips::new(alloc);
+        let calls = Calls::new();
+        Tokenizer {
+            tokenize_state,
+            interrupt: false,
+            concrete: false,
+            pierce: false,
+            lazy: false,
+            map,
+            parse_state,
+            start: point,
+            end: (point.index, point.vs),
+            skips,
+            after_previous: point,
+            waits: Waits::Nothing,
+            ended: false,
+            previous: None,
+            current: None,
+            events,
+            stack,
+            resolvers,
+            kept_choices,
+            tab_size,
+            closed: false,
+            phase: Phase::Reading,
+            calls,
+        }
+    }
+
+    /// Counts a call. The count takes no bytes, and contracts alone see it.
+    pub fn tick(&mut self)
+        ensures { self.new ≡ record self.old { calls = self.old.calls + 1 } }
+    {
+        self.calls = self.calls.next();
+    }
+
+    /// Consumes the byte that waits. Takes no memory.
+    ///
+    /// Bytes are virtual: a line ending is one LF, and a tab is the tab byte and then spaces, as many as it has columns,
+    /// told apart by `point().vs`.
+    #[inline(always)]
+    pub fn consume(&mut self)
+        requires { self.old.configuration.waiting ≡ Waits.Byte }
+        ensures { self.new ≡ at_configuration self.old (consumed self.old.configuration) }
+    {
+        let byte = match self.current {
+            None => unreachable!(),
+            Some(byte) => byte,
+        };
+        resume(&self.skips, &mut self.after_previous);
+        pass(
+            self.parse_state.bytes,
+            &self.tab_size,
+            &mut self.after_previous,
+            byte,
+        );
+        self.previous = self.current;
+        self.current = None;
+        self.ended = false;
+        self.waits = Waits::Nothing;
+    }
+
+    /// Begins a span: an enter at the place where one stands. Where memory is refused, events and stack stay as they were.
+    pub fn enter(&mut self, name: Name) -> Result<(), AllocError>
+        ensures ok { OnOk result (self.new ≡ at_configuration self.old (entered name None (sight_of self.old).enter_place self.old.configuration)) }
+        ensures err { OnErr result (self.new ≡ self.old) }
+    {
+        self.enter_with(name, None)
+    }
+
+    /// As `enter`, with a link. Where memory is refused, events and stack stay as they were.
+    pub fn enter_link(&mut self, name: Name, link: Link) -> Result<(), AllocError>
+        ensures ok { OnOk result (self.new ≡ at_configuration self.old (entered name (Some link) (sight_of self.old).enter_place self.old.configuration)) }
+        ensures err { OnErr result (self.new ≡ self.old) }
+    {
+        self.enter_with(name, Some(link))
+    }
+
+    /// Begins a span, with a link if one is given: what `enter` and `enter_link` do. If memory runs out, events and stack are as before.
+    fn enter_with(&mut self, name: Name, link: Option<Link>) -> Result<(), AllocError>
+        ensures ok { OnOk result (self.new ≡ at_configuration self.old (entered name link (sight_of self.old).enter_place self.old.configuration)) }
+        ensures err { OnErr result (self.new ≡ self.old) }
+    {
+        let place = standing(&self.skips, self.after_previous, self.waits);
+        let point = shown(self.parse_state.bytes, place);
+        let open_len = self.stack.len();
+        self.stack.push(name)?;
+        let event = Event {
+            kind: Kind::Enter,
+            name,
+            point,
+            link,
+        };
+        match self.events.push(event) {
+            Ok(()) => Ok(()),
+            Err(_) => {
+                self.stack.truncate(open_len);
+                Err(AllocError)
+            }
+        }
+    }
+
+    /// Ends the innermost span: an exit at the place after the byte before.
+    ///
+    /// The name is that of the innermost span, a byte was consumed since it began, and a void span holds no event. Where
+    /// memory is refused, events and stack stay as they were.
+    pub fn exit(&mut self, name: Name) -> Result<(), AllocError>
+        requires { CanExit name self.old }
+        ensures ok { OnOk result (self.new ≡ at_configuration self.old (exited name (sight_of self.old).exit_place self.old.configuration)) }
+        ensures err { OnErr result (self.new ≡ self.old) }
+    {
+        let point = shown(self.parse_state.bytes, self.after_previous);
+        self.events.push(Event {
+            kind: Kind::Exit,
+            name,
+            point,
+            link: None,
+        })?;
+        let _ = self.stack.pop();
+        Ok(())
+    }
+
+    /// Links the event at `index`, an index into the events, to the one two places before it, as `link_to` does. Takes no memory.
+    pub fn link(&mut self, index: usize)
+        requires behind { 2 ≤ index }
+        requires can_link { CanLink self.old.configuration.events (index - 2) index }
+        ensures { self.new ≡ at_configuration self.old (linked (index - 2) index self.old.configuration) }
+    {
+        self.link_to(index - 2, index);
+    }
+
+    /// Links two events, given by their indices: `next` becomes the next of `previous`, and that one its previous. Takes no memory.
+    ///
+    /// Both are enters of void spans with links of one content, and `previous` is before `next` and directly followed by its exit.
+    pub fn link_to(&mut self, previous: usize, next: usize)
+        requires can_link { CanLink self.old.configuration.events previous next }
+        ensures { self.new ≡ at_configuration self.old (linked previous next self.old.configuration) }
+    {
+        link_items(&mut self.events, previous, next);
+    }
+
+    /// Begins a choice: what is read from here on may be given up.
+    ///
+    /// The first state that answers `Ok` or `Nok` ends the last choice that waits. After `Ok` this one goes on with
+    /// `ok`, from where one then is; after `Nok` with `nok`, from here: as much is read, as many events are there and
+    /// the same spans are open as now, while what states share stays as it is. Where `nok` is [`State::Nok`] nothing is
+    /// put back, as the choice around this one fails with it and puts back what it saved. `ok` and `nok` are each
+    /// `Next`, `Ok` or `Nok`. Where memory is refused, nothing changes.
+    pub fn attempt(&mut self, ok: State, nok: State) -> Result<(), AllocError>
+        requires ok { CanGoOn ok }
+        requires nok { CanGoOn nok }
+        ensures ok { OnOk result (self.new ≡ with_choice self.old (attempt_at ok nok self.old.configuration)) }
+        ensures err { OnErr result (self.new ≡ self.old) }
+    {
+        let nok = GoesOn::of(nok);
+        let saves = !matches!(nok, GoesOn::Nok);
+        self.push_choice(AttemptKind::Attempt, GoesOn::of(ok), nok, saves)
+    }
+
+    /// As `attempt`, for a look ahead: after `Ok` too it goes on from here, as after `Nok`, and with `ok`.
+    pub fn check(&mut self, ok: State, nok: State) -> Result<(), AllocError>
+        requires ok { CanGoOn ok }
+        requires nok { CanGoOn nok }
+        ensures ok { OnOk result (self.new ≡ with_choice self.old (check_at ok nok self.old.configuration)) }
+        ensures err { OnErr result (self.new ≡ self.old) }
+    {
+        self.push_choice(AttemptKind::Check, GoesOn::of(ok), GoesOn::of(nok), true)
+    }
+
+    /// One more choice waits.
+    fn push_choice(
+        &mut self,
+        kind: AttemptKind,
+        ok: GoesOn,
+        nok: GoesOn,
+        saves: bool,
+    ) -> Result<(), AllocError>
+        ensures ok { OnOk result (self.new ≡ with_choice self.old (choice_at kind (state_of ok) (state_of nok) saves self.old.configuration)) }
+        ensures err { OnErr result (self.new ≡ self.old) }
+    {
+        let saved = if saves {
+            Some(Progress {
+                after_previous: self.after_previous,
+                previous: self.previous,
+                ended: self.ended,
+                events_len: self.events.len(),
+                stack_len: self.stack.len(),
+            })
+        } else {
+            None
+        };
+        self.kept_choices.push(KeptChoice {
+            kind,
+            ok,
+            nok,
+            saved,
+        })?;
+        Ok(())
+    }
+
+    /// Passes a gap: where the text ends at the beginning of a line, what comes before this later place of the line is
+    /// never read.
+    ///
+    /// Where the point denotes the text's end nothing changes, and no other point is allowed. `point` stays at the
+    /// beginning of the line until a byte, or the end, is fed. Where memory is refused, nothing changes.
+    pub fn define_skip(&mut self, point: Point) -> Result<(), AllocError>
+        requires { FitsAfter self.old.given self.old.text (passed point) }
+        ensures ok { OnOk result (self.new ≡ record self.old { text = followed_by self.old.given self.old.text (passed point) }) }
+        ensures err { OnErr result (self.new ≡ self.old) }
+    {
+        if is_after(shown(self.parse_state.bytes, point), self.end) {
+            self.skips.push(point)?;
+            self.end = (point.index, point.vs);
+        }
+        Ok(())
+    }
+}

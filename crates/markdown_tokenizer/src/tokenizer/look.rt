@@ -1,0 +1,80 @@
+//! The calls that only read a tokenizer.
+
+ghost use Rattle.std.specs.Prelude.{◌≡◌, map};
+ghost use Rattle.markdown_base.specs.Events.{open_events};
+ghost use Rattle.markdown_tokenizer.specs.Sight.{sight_of};
+
+use super::Tokenizer;
+use crate::cursor::{resumed, seat_at};
+use crate::parser::ParseState;
+use crate::state::MachineTypes;
+use crate::waiting::{Phase, Waits};
+use markdown_base::event::{Event, Name, Point};
+
+impl<'a, M: MachineTypes> Tokenizer<'a, M> {
+    /// The events so far.
+    pub fn events(&self) -> &[Event]
+        ensures { result.now ≡ self.now.configuration.events }
+    {
+        self.events.as_slice()
+    }
+
+    /// The names of the open spans, the innermost last, until a flush resolves.
+    pub fn stack(&self) -> &[Name]
+        ensures stack { result.now ≡ self.now.configuration.stack }
+        ensures open_spans { self.now.phase ≡ Phase.Reading → result.now ≡ map (λ e. e.name) (open_events self.now.configuration.events) }
+    {
+        self.stack.as_slice()
+    }
+
+    /// The place of the byte that waits, of the text's end while that waits, and else the place after the byte before.
+    pub fn point(&self) -> Point
+        ensures { result ≡ (sight_of self.now).point }
+    {
+        match self.waits {
+            Waits::Nothing => self.after_previous,
+            Waits::Byte => {
+                let place = *resumed(&self.skips, &self.after_previous);
+                match seat_at(self.parse_state.bytes, place) {
+                    Some((_, seat)) => seat,
+                    None => place,
+                }
+            }
+            Waits::End => Point {
+                index: self.end.0,
+                vs: self.end.1,
+                ..*resumed(&self.skips, &self.after_previous)
+            },
+        }
+    }
+
+    /// The byte before, if one was read: a virtual byte. A byte that a gap passes is never there.
+    pub fn previous(&self) -> Option<u8>
+        ensures { result ≡ (sight_of self.now).previous }
+    {
+        self.previous
+    }
+
+    /// The byte that waits, if one does: a virtual byte, so 10 for each line ending, and for a tab 9 and then 32.
+    pub fn current(&self) -> Option<u8>
+        ensures { result ≡ (sight_of self.now).current }
+    {
+        self.current
+    }
+
+    /// The names of the resolvers that are registered, none of them twice, in the order in which a flush runs them.
+    pub fn resolvers(&self) -> &[M::Resolver]
+        ensures { result.now ≡ self.now.configuration.local.resolvers }
+    {
+        self.resolvers.as_slice()
+    }
+
+    /// The document, the options and the machine.
+    pub fn parse_state(&self) -> &'a ParseState<'a, M>
+        ensures bytes { result.now.bytes.now ≡ self.now.given.bytes }
+        ensures options { result.now.options.now ≡ self.now.given.options }
+        ensures machine { result.now.machine.now ≡ self.now.machine }
+    {
+        self.parse_state
+    }
+}

@@ -1,0 +1,147 @@
+//! Resolvers: which are registered, and what they may change.
+
+ghost use Rattle.std.specs.Prelude.{◌≡◌, ◌≢◌, ◌∷◌, OnOk, OnErr, IfOk, IfErr, IsErrOf, List, Option, [], true};
+ghost use Rattle.std.specs.Borrow.{sem};
+ghost use Rattle.markdown_tokenizer.specs.declared.waiting.Phase.TheVariants.{Resolving, Resolved};
+ghost use Rattle.markdown_tokenizer.specs.declared.subtokenize.Subresult.{Subresult};
+ghost use Rattle.markdown_tokenizer.specs.Configuration.{at_configuration};
+ghost use Rattle.markdown_tokenizer.specs.Text.{IsText};
+ghost use Rattle.markdown_tokenizer.specs.Sight.{sight_of};
+ghost use Rattle.markdown_tokenizer.specs.Resolving.{edits_made, CanBeEdited, done, refused, with_more};
+ghost use Rattle.markdown_tokenizer.specs.Calls.{with_resolvers};
+ghost use Rattle.markdown_tokenizer.specs.Registering.{with_resolver, with_resolver_before};
+ghost use Rattle.markdown_tokenizer.specs.Work.{resolved_in, GoneOver};
+
+use super::{Fault, Tokenizer};
+use crate::state::{Machine, MachineTypes};
+use crate::subtokenize::{Subresult, joined};
+use crate::waiting::Phase;
+use markdown_base::event::Event;
+use std::alloc::AllocError;
+use std::mem::replace;
+
+impl<'a, M: MachineTypes> Tokenizer<'a, M> {
+    /// Registers a resolver behind those that are there. One that is there stays where it is.
+    ///
+    /// A flush that resolves runs those that are registered once all was read. Where memory is refused, nothing changes.
+    pub fn register_resolver(&mut self, name: M::Resolver) -> Result<(), AllocError>
+        ensures ok { OnOk result (self.new ≡ with_resolver M.Resolver.eq name self.old) }
+        ensures err { OnErr result (self.new ≡ self.old) }
+    {
+        if self.resolvers.contains(&name) {
+            return Ok(());
+        }
+        self.resolvers.push(name)?;
+        Ok(())
+    }
+
+    /// As `register_resolver`, in front of those that are there.
+    pub fn register_resolver_before(&mut self, name: M::Resolver) -> Result<(), AllocError>
+        ensures ok { OnOk result (self.new ≡ with_resolver_before M.Resolver.eq name self.old) }
+        ensures err { OnErr result (self.new ≡ self.old) }
+    {
+        if !self.resolvers.contains(&name) {
+            self.resolvers.insert(0, name)?;
+        }
+        Ok(())
+    }
+
+    /// A flush begins to resolve: the registered resolvers are taken out.
+    fn begin_resolving(&mut self) -> Vec<M::Resolver>
+        requires closed { self.old.closed ≡ true }
+        ensures names { result.items ≡ self.old.configuration.local.resolvers }
+        ensures rest { self.new ≡ record self.old { configuration = with_resolvers self.old.configuration []; phase = Resolving } }
+    {
+        let none = Vec::new(self.allocator());
+        self.phase = Phase::Resolving;
+        replace(&mut self.resolvers, none)
+    }
+
+    /// The edits that wait are made. Where memory is refused, nothing changes.
+    fn make_edits(&mut self) -> Result<(), AllocError>
+        requires resolving { self.old.phase ≡ Resolving }
+        requires alone { self.old.choices ≡ [] }
+        requires can { CanBeEdited self.old.configuration }
+        ensures ok { OnOk result (self.new ≡ at_configuration self.old (edits_made self.old.configuration)) }
+        ensures err { OnErr result (self.new ≡ self.old) }
+    {
+        self.map.consume(&mut self.events)
+    }
+
+    /// A flush has resolved.
+    fn end_resolving(&mut self)
+        requires closed { self.old.closed ≡ true }
+        ensures { self.new ≡ record self.old { phase = Resolved } }
+    {
+        self.phase = Phase::Resolved;
+    }
+}
+
+impl<'a, M: MachineTypes> Tokenizer<'a, M> {
+    ghost use Rattle.markdown_tokenizer.specs.Lent.{LendsEvents};
+
+    /// The events, for a resolver to change, while a flush resolves and no choice waits. Takes no memory.
+    pub fn events_mut(&mut self) -> &mut Vec<Event>
+        requires resolving { self.old.phase ≡ Resolving }
+        requires alone { self.old.choices ≡ [] }
+        ensures* writes_back { sem 𝓛 (LendsEvents M.row M.Resolver.row M.Document.row M.Resolver.PartialEq.own self.entry result) }
+        ensures value { result.now.items ≡ self.old.configuration.events }
+    {
+        &mut self.events
+    }
+}
+
+impl<'a, M: Machine> Tokenizer<'a, M> {
+    /// One resolver goes over the events; what it finds comes behind what was found.
+    fn resolve_next(&mut self, name: M::Resolver, sub: Subresult) -> Result<Subresult, Fault>
+        requires resolving { self.old.phase ≡ Resolving }
+        requires alone { self.old.choices ≡ [] }
+        requires invariant { (rest : List M.Resolver) × (M.rules self.old.machine self.old.given).resolves self.old.text (name ∷ rest) self.old.configuration }
+        ensures same { self.new ≡ at_configuration self.old self.new.configuration }
+        ensures ok { IfOk result (λ all. (more : Option Subresult) × ((M.rules self.old.machine self.old.given).resolver (sight_of self.old) self.old.configuration name ≡ done self.new.configuration more) × (all ≡ with_more sub more)) }
+        ensures message { (m : _) → IsErrOf result (Fault.Message m) → (M.rules self.old.machine self.old.given).resolver (sight_of self.old) self.old.configuration name ≡ refused m }
+        ensures err { IfErr result (λ fault. fault ≢ Fault.Failed) }
+    {
+        let alloc = self.allocator();
+        match self.parse_state().machine.resolve(alloc, self, name)? {
+            None => Ok(sub),
+            Some(more) => Ok(joined(sub, more)?),
+        }
+    }
+
+    /// Resolvers go over the events, in order, and the edits that wait are made.
+    fn resolve_each(&mut self, names: &[M::Resolver], sub: Subresult) -> Result<Subresult, Fault>
+        requires text { IsText self.old.given self.old.text }
+        requires resolving { self.old.phase ≡ Resolving }
+        requires alone { self.old.choices ≡ [] }
+        requires invariant { (M.rules self.old.machine self.old.given).resolves self.old.text names.now self.old.configuration }
+        ensures same { self.new ≡ at_configuration self.old self.new.configuration }
+        ensures ok { IfOk result (λ all. GoneOver (M.rules self.old.machine self.old.given) self.old names.now self.old.configuration sub self.new all) }
+        ensures message { (m : _) → IsErrOf result (Fault.Message m) → resolved_in (M.rules self.old.machine self.old.given) self.old names.now self.old.configuration sub ≡ refused m }
+        ensures err { IfErr result (λ fault. fault ≢ Fault.Failed) }
+    {
+        let mut found = sub;
+        for name in names {
+            found = self.resolve_next(*name, found)?;
+        }
+        self.make_edits()?;
+        Ok(found)
+    }
+
+    /// A flush resolves: the registered resolvers go over the events, in order, and the edits that wait are made.
+    pub(crate) fn resolve_all(&mut self, sub: Subresult) -> Result<Subresult, Fault>
+        requires text { IsText self.old.given self.old.text }
+        requires closed { self.old.closed ≡ true }
+        requires alone { self.old.choices ≡ [] }
+        requires invariant { (M.rules self.old.machine self.old.given).resolves self.old.text self.old.configuration.local.resolvers (with_resolvers self.old.configuration []) }
+        ensures same { self.new ≡ record self.old { configuration = self.new.configuration; phase = Resolved } }
+        ensures ok { IfOk result (λ all. GoneOver (M.rules self.old.machine self.old.given) self.old self.old.configuration.local.resolvers (with_resolvers self.old.configuration []) sub self.new all) }
+        ensures message { (m : _) → IsErrOf result (Fault.Message m) → resolved_in (M.rules self.old.machine self.old.given) self.old self.old.configuration.local.resolvers (with_resolvers self.old.configuration []) sub ≡ refused m }
+        ensures err { IfErr result (λ fault. fault ≢ Fault.Failed) }
+    {
+        let names = self.begin_resolving();
+        let answer = self.resolve_each(names.as_slice(), sub);
+        self.end_resolving();
+        answer
+    }
+}

@@ -1,0 +1,404 @@
+//! The work of a tokenizer: states are called until a range is used up, or until the reading has ended.
+
+ghost use Rattle.std.specs.Prelude.{◌≡◌, ◌≢◌, ◌+◌, ◌*◌, ◌^◌, ◌≤◌, ◌<◌, All, Contains, length, [], Option, false, true, IfOk, IfErr, IsErrOf, IsTrue};
+ghost use Rattle.std.specs.Bool.{OnTrue, OnFalse};
+ghost use Rattle.markdown_base.specs.Virtual.{point};
+ghost use Rattle.markdown_tokenizer.specs.declared.waiting.Waits.TheVariants.{Nothing, End};
+ghost use Rattle.markdown_tokenizer.specs.Configuration.{at_configuration, start_seen};
+ghost use Rattle.markdown_tokenizer.specs.Engine.{HoldsOf, CanPush, IsPushed, IsFlushed, IsRefused, AreCuts, IsRun, IsRunRefused, ForPoints, IsWellFormed, given_of};
+ghost use Rattle.markdown_tokenizer.specs.Lawful.{DidStep};
+ghost use Rattle.markdown_tokenizer.specs.Reading.{fed};
+ghost use Rattle.markdown_tokenizer.specs.Resolving.{found, taken};
+ghost use Rattle.markdown_tokenizer.specs.Sight.{sight_of};
+ghost use Rattle.markdown_tokenizer.specs.Text.{IsText, empty_text, followed_by, pushed};
+ghost use Rattle.markdown_tokenizer.specs.View.{taken_continuation};
+ghost use Rattle.markdown_tokenizer.specs.Work.{IsInText, extended, answer_of, HoldsAll, LeadsAll, OnlyWorked, Stops, settled_all, settled_to, EndsClosed, TakesUp, taken_up};
+
+use super::{Fault, Tokenizer};
+use crate::cursor::{next_byte, resumed};
+use crate::parser::ParseState;
+use crate::state::{Machine, MachineTypes, Name, State};
+use crate::subtokenize::Subresult;
+use crate::waiting::{GoesOn, Phase, Progress, Waits, unwind};
+use markdown_base::event::{Event, Point};
+use markdown_base::owned::Items;
+use std::alloc::{AllocError, Global};
+use std::mem::replace;
+
+/// Reads a whole document, cut at these places: pushes one range up to each, and one up to the end, and flushes.
+///
+/// `start` is a state with which the machine may start. The cuts are places, each an index and a number in a tab, in an
+/// order that never decreases. Where `resolve` is true, the registered resolvers then go over the events, as in a flush. The
+/// answer has no trace of the cuts. `Message` is answered exactly where the reading, or a resolver, ends in that message;
+/// `Failed` never.
+pub fn run<M: Machine>(
+    alloc: Global,
+    parse_state: &ParseState<M>,
+    start: Name,
+    cuts: &[(usize, usize)],
+    resolve: bool,
+) -> Result<(Vec<Event>, Subresult), Fault>
+    requires limit { parse_state.now.options.now.tab_size * length parse_state.now.bytes.now + 1 < 2 ^ 64 }
+    requires start { Contains (M.rules parse_state.now.machine.now (given_of parse_state.now)).starts start }
+    requires cuts { AreCuts parse_state.now.options.now.tab_size parse_state.now.bytes.now cuts.now }
+    ensures ok { IfOk result (λ answer. IsRun (given_of parse_state.now) (M.rules parse_state.now.machine.now) resolve start answer.0.items answer.1) }
+    ensures message { (m : _) → IsErrOf result (Fault.Message m) → IsRunRefused (given_of parse_state.now) (M.rules parse_state.now.machine.now) resolve start m }
+    ensures err { IfErr result (λ fault. fault ≢ Fault.Failed) }
+{
+    // The type of the tab size says that tab stops are apart. The start is the point of a place for that reason.
+    let _ = parse_state.options.tab_size.get();
+    let mut tokenizer = Tokenizer::new(alloc, Point::START, parse_state);
+    let sub = read_cut(&mut tokenizer, parse_state, start, cuts, resolve);
+    let events = tokenizer.into_events();
+    Ok((events, sub?))
+}
+
+/// Pushes one range up to each cut, and one up to the end, to a tokenizer that has read nothing, and flushes it.
+///
+/// It is apart from [`run`], which owns the tokenizer: what owns one drops all of its fields at each way out, and each drop is
+/// followed in the proof. So `run` has one way out, and the ways out by `?` are here.
+fn read_cut<M: Machine>(
+    tokenizer: &mut Tokenizer<M>,
+    parse_state: &ParseState<M>,
+    start: Name,
+    cuts: &[(usize, usize)],
+    resolve: bool,
+) -> Result<Subresult, Fault>
+    requires begins { tokenizer.old ≡ start_seen (given_of parse_state.now) parse_state.now.machine.now (empty_text (point 1 1 0 0)) }
+    requires bytes { All (λ b. b < 256) parse_state.now.bytes.now }
+    requires limit { parse_state.now.options.now.tab_size * length parse_state.now.bytes.now + 1 < 2 ^ 64 }
+    requires start { Contains (M.rules parse_state.now.machine.now (given_of parse_state.now)).starts start }
+    requires cuts { AreCuts parse_state.now.options.now.tab_size parse_state.now.bytes.now cuts.now }
+    ensures ok { IfOk result (λ sub. IsRun (given_of parse_state.now) (M.rules parse_state.now.machine.now) resolve start tokenizer.new.configuration.events sub) }
+    ensures message { (m : _) → IsErrOf result (Fault.Message m) → IsRunRefused (given_of parse_state.now) (M.rules parse_state.now.machine.now) resolve start m }
+    ensures err { IfErr result (λ fault. fault ≢ Fault.Failed) }
+{
+    let _ = parse_state.options.tab_size.get();
+    let mut state = State::Next(start);
+    let mut from = (0, 0);
+    for cut in cuts {
+        state = tokenizer.push(from, *cut, state)?;
+        from = *cut;
+    }
+    let end = (parse_state.bytes.len(), 0);
+    let state = tokenizer.push(from, end, state)?;
+    tokenizer.flush(state, resolve)
+}
+
+impl<'a, M: MachineTypes> Tokenizer<'a, M> {
+    /// The next byte waits, if there is one.
+    fn feed(&mut self) -> bool
+        ensures fed { OnTrue result (self.new ≡ at_configuration self.old (fed self.old.text self.old.configuration)) }
+        ensures more { OnTrue result (self.old.configuration.position < length self.old.text.seats) }
+        ensures same { OnFalse result (self.new ≡ self.old) }
+        ensures end { OnFalse result (length self.old.text.seats ≤ self.old.configuration.position) }
+    {
+        let place = resumed(&self.skips, &self.after_previous);
+        match next_byte(self.parse_state.bytes, *place, self.end) {
+            None => false,
+            Some(byte) => {
+                self.current = Some(byte);
+                self.waits = Waits::Byte;
+                true
+            }
+        }
+    }
+
+    /// The end waits.
+    fn feed_end(&mut self)
+        requires read { length self.old.text.seats ≤ self.old.configuration.position }
+        requires closed { self.old.closed ≡ true }
+        ensures { self.new ≡ at_configuration self.old (fed self.old.text self.old.configuration) }
+    {
+        self.waits = Waits::End;
+        self.current = None;
+        self.ended = true;
+    }
+
+    /// Choices end, the last first, until one goes on with a state, which is fed; or none is left, and then no span is open.
+    /// If the work ends, its answer is returned.
+    ///
+    /// This is one step. Between its parts an enter could be put before an event that is there.
+    #[inline(never)]
+    fn go_on(&mut self, flush: bool, ok: bool) -> Result<Name, GoesOn>
+        requires closed { self.old.closed ≡ flush }
+        requires ends { EndsClosed (settled_all self.old.configuration self.old.choices (answer_of ok)) }
+        ensures { let s = settled_all self.old.configuration self.old.choices (answer_of ok) in TakesUp flush (settled_to self.old s) self.new s.answer (taken_continuation result) }
+    {
+        if self.kept_choices.is_empty() {
+            let last = if ok { GoesOn::Ok } else { GoesOn::Nok };
+            return Err(last);
+        }
+        let from = Progress {
+            after_previous: self.after_previous,
+            previous: self.previous,
+            ended: self.ended,
+            events_len: self.events.len(),
+            stack_len: self.stack.len(),
+        };
+        let (goal, from) = unwind(&mut self.kept_choices, ok, from);
+        self.after_previous = from.after_previous;
+        self.previous = from.previous;
+        self.ended = from.ended;
+        self.events.truncate(from.events_len);
+        self.stack.truncate(from.stack_len);
+        self.waits = Waits::Nothing;
+        self.current = None;
+        let name = match goal {
+            GoesOn::Next(name) => name,
+            GoesOn::Ok => return Err(GoesOn::Ok),
+            GoesOn::Nok => return Err(GoesOn::Nok),
+        };
+        let bytes = self.parse_state.bytes;
+        let end = self.end;
+        let again = resumed(&self.skips, &from.after_previous);
+        match next_byte(bytes, *again, end) {
+            Some(byte) => {
+                self.current = Some(byte);
+                self.waits = Waits::Byte;
+                Ok(name)
+            }
+            None if flush => {
+                self.waits = Waits::End;
+                self.ended = true;
+                Ok(name)
+            }
+            None => Err(GoesOn::Next(name)),
+        }
+    }
+
+    /// A tokenizer has read no more than its text.
+    fn shows_in_text(&self)
+        ensures { IsInText self.now }
+    {
+        let _ = &self.after_previous;
+    }
+
+    /// Where no span is open, the events are well formed, until a flush resolves.
+    fn shows_events(&self)
+        ensures { self.now.phase ≡ Phase.Reading → self.now.configuration.stack ≡ [] → IsWellFormed self.now.given.bytes self.now.configuration }
+    {
+        let _ = &self.after_previous;
+    }
+
+    /// Nothing more is pushed.
+    fn close(&mut self)
+        ensures { self.new ≡ record self.old { closed = true } }
+    {
+        self.closed = true;
+    }
+
+    /// Whether nothing more is pushed.
+    fn is_closed(&self) -> bool
+        ensures { result ≡ self.now.closed }
+    {
+        self.closed
+    }
+
+    /// The allocator of its lists.
+    pub(crate) fn allocator(&self) -> Global {
+        *self.events.allocator()
+    }
+
+    /// The text ends later.
+    fn extend(&mut self, from: (usize, usize), to: (usize, usize))
+        requires range { CanPush self.old.given self.old.text from to }
+        requires open_still { self.old.closed ≡ false }
+        ensures { ForPoints self.old.given from to (λ f t. self.new ≡ extended self.old (followed_by self.old.given self.old.text (pushed f t))) }
+    {
+        self.end = to;
+    }
+
+    /// The definitions that states found are taken out. Takes no memory.
+    fn take_definitions(&mut self) -> Subresult
+        ensures answer { result ≡ found self.old.configuration }
+        ensures rest { self.new ≡ at_configuration self.old (taken self.old.configuration) }
+    {
+        let alloc = self.allocator();
+        let definitions = replace(&mut self.tokenize_state.definitions, Items::new(alloc));
+        let gfm_footnote_definitions = replace(
+            &mut self.tokenize_state.gfm_footnote_definitions,
+            Items::new(alloc),
+        );
+        Subresult {
+            done: false,
+            gfm_footnote_definitions,
+            definitions,
+        }
+    }
+
+    /// The events, and no tokenizer any more. Takes no memory.
+    pub fn into_events(self) -> Vec<Event>
+        ensures { result.items ≡ self.entry.configuration.events }
+    {
+        let mut tokenizer = self;
+        let events = tokenizer.take_events();
+        // As a whole and by a call: taken apart, each of its fields is followed through the proof.
+        drop(tokenizer);
+        events
+    }
+
+    /// The events are taken out: a tokenizer is left that has none, and so neither open spans nor choices. Takes no memory.
+    fn take_events(&mut self) -> Vec<Event>
+        ensures { result.items ≡ self.old.configuration.events }
+    {
+        let none = Vec::new(self.allocator());
+        self.stack.clear();
+        self.kept_choices.clear();
+        replace(&mut self.events, none)
+    }
+}
+
+impl<'a, M: Machine> Tokenizer<'a, M> {
+    /// Feeds the state that is called next and returns its name. Returns `None` if the work ends; then `state` is its answer.
+    #[inline(always)]
+    fn next_call(&mut self, flush: bool, state: &mut State) -> Option<Name>
+        requires closed { self.old.closed ≡ flush }
+        requires ends { EndsClosed (settled_all self.old.configuration self.old.choices state.old) }
+        ensures { let s = settled_all self.old.configuration self.old.choices state.old in TakesUp flush (settled_to self.old s) self.new s.answer (taken_up result state.new) }
+    {
+        let ok = match state {
+            State::Next(name) => {
+                let name = *name;
+                if !self.feed() {
+                    if !flush {
+                        return None;
+                    }
+                    self.feed_end();
+                }
+                return Some(name);
+            }
+            State::Retry(name) => return Some(*name),
+            State::Error(_) => return None,
+            State::Ok => true,
+            State::Nok => false,
+        };
+        match self.go_on(flush, ok) {
+            Ok(name) => Some(name),
+            Err(end) => {
+                drop(replace(state, end.state()));
+                None
+            }
+        }
+    }
+
+    /// One state is called.
+    fn call_state(&mut self, name: Name) -> Result<State, AllocError>
+        requires waits { self.old.configuration.waiting ≢ Nothing }
+        requires holds { HoldsOf (M.rules self.old.machine self.old.given) self.old (State.Retry name) }
+        ensures { IfOk result (DidStep self.old self.new ((M.rules self.old.machine self.old.given).step (sight_of self.old) self.old.configuration name)) }
+    {
+        let alloc = self.allocator();
+        self.parse_state().machine.call(alloc, self, name)
+    }
+
+    /// States are called until the text is used up, or until the reading has ended.
+    fn run_states(&mut self, flush: bool, state: State) -> Result<State, AllocError>
+        requires text { IsText self.old.given self.old.text }
+        requires holds { HoldsAll (M.rules self.old.machine self.old.given) flush self.old state }
+        requires closed { self.old.closed ≡ flush }
+        requires waits { flush ≡ false → self.old.configuration.waiting ≢ End }
+        ensures same { IfOk result (λ _. OnlyWorked self.old self.new) }
+        ensures leads { IfOk result (λ answer. LeadsAll self.old.given (M.rules self.old.machine self.old.given) flush self.old state self.new answer) }
+        ensures stops { IfOk result (λ answer. Stops flush self.new answer) }
+        ensures message { (m : _) → state ≡ State.Error m → IfOk result (λ answer. (answer ≡ State.Error m) × (self.new ≡ self.old)) }
+    {
+        let mut state = state;
+        let mut name = match self.next_call(flush, &mut state) {
+            Some(name) => name,
+            None => return Ok(state),
+        };
+        // By a call, here and below: dropped in place, its fields are spelled out in the proof at each way out.
+        drop(state);
+        loop {
+            self.shows_in_text();
+            let mut answer = self.call_state(name)?;
+            name = match self.next_call(flush, &mut answer) {
+                Some(name) => name,
+                None => return Ok(answer),
+            };
+            drop(answer);
+        }
+    }
+
+    /// Puts a range of the document at the end of the text, and reads until it is used up.
+    ///
+    /// `from` and `to` are places, each an index and a number in a tab. `from` denotes the text's end, and `to` is not before it.
+    /// The state is one with which the machine may start, or what the last push answered. The answer is the state that
+    /// waits for the next byte, or a message, which later pushes answer again. After `Memory` the tokenizer has failed;
+    /// `Failed` is answered where it had before, or was flushed, and then nothing changes.
+    pub fn push(
+        &mut self,
+        from: (usize, usize),
+        to: (usize, usize),
+        state: State,
+    ) -> Result<State, Fault>
+        requires range { self.old.closed ≡ false → CanPush self.old.given self.old.text from to }
+        requires holds { self.old.closed ≡ false → HoldsOf (M.rules self.old.machine self.old.given) self.old state }
+        ensures failed { IsTrue self.old.closed → IsErrOf result Fault.Failed × (self.new ≡ self.old) }
+        ensures ok { IfOk result (λ answer. IsPushed (M.rules self.old.machine self.old.given) self.old from to state self.new answer) }
+        ensures err { self.old.closed ≡ false → IfErr result (λ fault. (fault ≡ Fault.Memory) × (self.new.closed ≡ true)) }
+    {
+        if self.is_closed() {
+            drop(state);
+            return Err(Fault::Failed);
+        }
+        self.shows_in_text();
+        self.extend(from, to);
+        match self.run_states(false, state) {
+            Ok(answer) => {
+                self.shows_in_text();
+                Ok(answer)
+            }
+            Err(_) => {
+                self.close();
+                Err(Fault::Memory)
+            }
+        }
+    }
+
+    /// Feeds the end, and reads until the reading has ended.
+    ///
+    /// The state is as for `push`. What is answered are the definitions that states found; `done` is false. Where `resolve` is
+    /// true, the resolvers that are registered then are taken out and go over the events, in order, the definitions that they
+    /// find are answered too, and the edits of `map` are made. One that is registered meanwhile stays registered, and is not
+    /// run. `Message` is answered exactly where the reading, or a resolver, ends in that message. Afterwards, in each case,
+    /// nothing more is pushed or flushed.
+    pub fn flush(&mut self, state: State, resolve: bool) -> Result<Subresult, Fault>
+        requires holds { self.old.closed ≡ false → HoldsOf (M.rules self.old.machine self.old.given) self.old state }
+        ensures failed { IsTrue self.old.closed → IsErrOf result Fault.Failed × (self.new ≡ self.old) }
+        ensures closed { self.new.closed ≡ true }
+        ensures ok { IfOk result (λ sub. IsFlushed (M.rules self.old.machine self.old.given) resolve self.old state self.new sub) }
+        ensures message { (m : _) → IsErrOf result (Fault.Message m) → IsRefused (M.rules self.old.machine self.old.given) resolve self.old state self.new m }
+        ensures err { self.old.closed ≡ false → IfErr result (λ fault. fault ≢ Fault.Failed) }
+    {
+        if self.is_closed() {
+            drop(state);
+            return Err(Fault::Failed);
+        }
+        self.shows_in_text();
+        self.close();
+        match self.run_states(true, state) {
+            Ok(answer) => match answer {
+                State::Error(message) => Err(Fault::Message(message)),
+                State::Ok => {
+                    self.shows_events();
+                    let sub = self.take_definitions();
+                    if resolve {
+                        self.resolve_all(sub)
+                    } else {
+                        Ok(sub)
+                    }
+                }
+                State::Nok => unreachable!(),
+                State::Next(_) => unreachable!(),
+                State::Retry(_) => unreachable!(),
+            },
+            Err(_) => {
+                // Once more: a state has the whole tokenizer in its hands, and could have put an open one in its place.
+                self.close();
+                Err(Fault::Memory)
+            }
+        }
+    }
+}

@@ -1,0 +1,169 @@
+//! What waits in a tokenizer: a byte, the end, or choices.
+
+use crate::cursor::resumed;
+use crate::skips::Skips;
+use markdown_base::event::Point;
+use markdown_base::state::{Name, State};
+
+/// What waits to be read.
+#[derive(Clone, Copy, Debug, PartialEq, Eq)]
+pub enum Waits {
+    /// Nothing: the next byte is not fed yet.
+    Nothing,
+    /// A byte.
+    Byte,
+    /// The end of the text.
+    End,
+}
+
+/// Whether a choice goes back where it ended well.
+#[derive(Clone, Copy, Debug, PartialEq, Eq)]
+pub enum AttemptKind {
+    /// It goes back only where it failed.
+    Attempt,
+    /// It always goes back.
+    Check,
+}
+
+/// What a tokenizer does.
+#[derive(Clone, Copy, Debug, PartialEq, Eq)]
+pub enum Phase {
+    /// It reads, or has read all.
+    Reading,
+    /// All was read, and resolvers go over the events.
+    Resolving,
+    /// Resolvers have gone over the events.
+    Resolved,
+}
+
+/// What a choice goes on with: of a state's answers those with which one can go on, and no others. Contracts see the answer
+/// (`state_of`).
+#[derive(Clone, Copy)]
+pub(crate) enum GoesOn {
+    /// This state, with the next byte.
+    Next(Name),
+    /// It ends well, and with it what is around it.
+    Ok,
+    /// It fails, and with it what is around it.
+    Nok,
+}
+
+impl GoesOn {
+    ghost use Rattle.std.specs.Prelude.{◌≡◌};
+    ghost use Rattle.markdown_tokenizer.specs.Calls.{CanGoOn};
+    ghost use Rattle.markdown_tokenizer.specs.View.{state_of};
+
+    /// What goes on with this state.
+    pub(crate) fn of(state: State) -> GoesOn
+        requires { CanGoOn state }
+        ensures { state_of result ≡ state }
+    {
+        match state {
+            State::Next(name) => GoesOn::Next(name),
+            State::Ok => GoesOn::Ok,
+            State::Nok => GoesOn::Nok,
+            State::Retry(_) => unreachable!(),
+            State::Error(_) => unreachable!(),
+        }
+    }
+
+    /// The state's answer that goes on so.
+    pub(crate) fn state(self) -> State
+        ensures { result ≡ state_of self }
+    {
+        match self {
+            GoesOn::Next(name) => State::Next(name),
+            GoesOn::Ok => State::Ok,
+            GoesOn::Nok => State::Nok,
+        }
+    }
+}
+
+/// How far a text was read, as a choice saves it.
+#[derive(Clone, Copy)]
+pub(crate) struct Progress {
+    /// The place after the byte before.
+    pub(crate) after_previous: Point,
+    /// The byte before.
+    pub(crate) previous: Option<u8>,
+    /// Whether the end was fed.
+    pub(crate) ended: bool,
+    /// How many events there were.
+    pub(crate) events_len: usize,
+    /// How many spans were open.
+    pub(crate) stack_len: usize,
+}
+
+/// A waiting choice as the tokenizer keeps it. Contracts see the choice that it means (`choice_of`), which puts back a number
+/// of bytes read and a list of open spans, where this one keeps a place and a length of the stack.
+#[derive(Clone, Copy)]
+pub(crate) struct KeptChoice {
+    pub(crate) kind: AttemptKind,
+    pub(crate) ok: GoesOn,
+    pub(crate) nok: GoesOn,
+    pub(crate) saved: Option<Progress>,
+}
+
+impl KeptChoice {
+    ghost use Rattle.std.specs.Prelude.{◌≡◌};
+    ghost use Rattle.markdown_tokenizer.specs.Unwound.{continuation_of, saved_for};
+
+    /// What it goes on with.
+    pub(crate) fn goal(&self, ok: bool) -> GoesOn
+        ensures { result ≡ continuation_of self.now ok }
+    {
+        if ok { self.ok } else { self.nok }
+    }
+
+    /// What it puts back.
+    pub(crate) fn saved_for(&self, ok: bool) -> Option<Progress>
+        ensures { result ≡ saved_for self.now ok }
+    {
+        if ok && self.kind == AttemptKind::Attempt {
+            None
+        } else {
+            self.saved
+        }
+    }
+}
+
+ghost use Rattle.std.specs.Prelude.{◌≡◌, reverse};
+ghost use Rattle.markdown_tokenizer.specs.View.{standing};
+ghost use Rattle.markdown_tokenizer.specs.Unwound.{unwound, ended_by, unwinding};
+
+/// Where an enter stands: after the byte before, or after what is passed of a line, once something waits there.
+pub(crate) fn standing(skips: &Skips, after_previous: Point, waits: Waits) -> Point
+    ensures { result ≡ standing skips.now after_previous waits }
+{
+    match waits {
+        Waits::Nothing => after_previous,
+        Waits::Byte | Waits::End => *resumed(skips, &after_previous),
+    }
+}
+
+/// Choices end, the last first, until one goes on with a state, or none is left. A choice that goes back does so to what
+/// it saved: the answer is what is gone on with, and from where.
+pub(crate) fn unwind(
+    kept_choices: &mut Vec<KeptChoice>,
+    ok: bool,
+    from: Progress,
+) -> (GoesOn, Progress)
+    ensures { unwinding (reverse kept_choices.new.items) result.0 result.1 ≡ unwound (reverse kept_choices.old.items) (ended_by ok) from }
+{
+    let mut goal = if ok { GoesOn::Ok } else { GoesOn::Nok };
+    let mut from = from;
+    loop {
+        let ok = match goal {
+            GoesOn::Next(_) => return (goal, from),
+            GoesOn::Ok => true,
+            GoesOn::Nok => false,
+        };
+        match kept_choices.pop() {
+            None => return (goal, from),
+            Some(choice) => {
+                goal = choice.goal(ok);
+                from = choice.saved_for(ok).unwrap_or(from);
+            }
+        }
+    }
+}

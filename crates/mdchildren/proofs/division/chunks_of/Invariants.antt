@@ -1,9 +1,0 @@
-use Rattle.std.proofs.Common.{ℕ, ◌-◌, length}
-use Rattle.mdchildren.proofs.Turns.{IsLeft}
-use Rattle.mdchildren.proofs.division.chunks_of.Given as goal
-
-abbrev pub invariant-loop-next : goal.invariant-loop-next
-invariant-loop-next l = (f : ℕ) × IsLeft l.events l.child l.link_index l.chunks.items l.index l.start f
-
-abbrev pub decreases-loop-next : goal.decreases-loop-next
-decreases-loop-next l = length l.initial.events - l.index

@@ -1,5 +1,0 @@
-use Rattle.mdchildren.proofs.OneAnswer.{has-one-answer}
-use Rattle.mdchildren.proofs.laws.children_are_read_in_one_way.Goals as goal
-
-pub returns : goal.returns
-returns g c m given wanted events = has-one-answer given (g.M.Machine.rules m) events wanted

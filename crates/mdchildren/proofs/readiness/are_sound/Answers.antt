@@ -1,7 +1,0 @@
-use Rattle.std.proofs.Common.{sym, ◌∙◌}
-use Rattle.mdchildren.specs.ReadyTests.{is_sound_at}
-use Rattle.mdchildren.proofs.ReadyProofs.{all-more}
-use Rattle.mdchildren.proofs.readiness.are_sound.Goals as goal
-
-pub loop-index-preserved : goal.loop-index-preserved
-loop-index-preserved c = all-more (is_sound_at c.args.events.now) c.loop-index.index c.loop-index.invariant (sym c.is_sound_at.ensures ∙ c.if-not-is_sound_at.false)

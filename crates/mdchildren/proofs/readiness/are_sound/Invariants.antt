@@ -1,5 +1,0 @@
-use Rattle.mdchildren.specs.ReadyTests.{is_sound_at, AllBelow}
-use Rattle.mdchildren.proofs.readiness.are_sound.Given as goal
-
-abbrev pub invariant-loop-index : goal.invariant-loop-index
-invariant-loop-index l = AllBelow l.index (is_sound_at l.events)

@@ -1,7 +1,0 @@
-use Rattle.std.proofs.Common.{sym, ◌∙◌}
-use Rattle.mdchildren.proofs.ReadyProofs.{next-inside}
-use Rattle.mdchildren.proofs.readiness.can_be_read_at.Goals as goal
-
-pub is_gap-requires-clause-end : goal.is_gap-requires-clause-end
-is_gap-requires-clause-end c =
-    next-inside c.args.events.now c.args.index c.in-Some-next.next c.in-Some.link c.requires.sound (sym c.link_at.ensures ∙ c.in-Some.is) c.in-Some-next.is

@@ -1,5 +1,0 @@
-use Rattle.std.proofs.Common.{◌==◌, ap}
-use Rattle.mdconstructs.proofs.fail.is_refused.Goals as goal
-
-pub returns : goal.returns
-returns c = ap (λ v. v.configuration.local.tokenize_state.size == c.args.at) c.t.view_is

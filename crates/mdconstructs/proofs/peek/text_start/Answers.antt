@@ -1,5 +1,0 @@
-use Rattle.std.proofs.Common.{refl}
-use Rattle.mdconstructs.proofs.peek.text_start.Goals as goal
-
-pub returns : goal.returns
-returns c = record { answered = refl; became = c.in_ok-check.ensures.ok }

@@ -1,5 +1,0 @@
-use Rattle.std.proofs.Common.{sym, ◌∙◌}
-use Rattle.mdconstructs.proofs.wrap.rename.Goals as goal
-
-pub returns-then-eq : goal.returns-then-eq
-returns-then-eq c = rw (sym c.eq.ensures ∙ c.if-eq.true)

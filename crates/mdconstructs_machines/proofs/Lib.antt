@@ -1,0 +1,4 @@
+-- The proof of each function is in a folder of its own, by its module.
+pub mod Mapped
+pub mod RowSteps
+pub mod NoRefusals

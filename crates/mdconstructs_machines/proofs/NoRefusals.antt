@@ -1,0 +1,39 @@
+-- The machines whose tables refuse nothing, by the test of their rows.
+use Rattle.std.proofs.Common.{◌≡◌, [], Option, Some, None, refl}
+use Rattle.mdconstructs_tables.specs.Refusals.{refusing, RulesRefuseNothing}
+use Rattle.mdconstructs_tables.proofs.Tables.Refusals.{table-steps, refuse-nothing, nothing-found}
+use Rattle.mdconstructs_machines.specs.Tables.{LineByte, line_ending, other}
+use Rattle.mdconstructs_machines.specs.Lines.{lines, lines_rules}
+use Rattle.mdconstructs_machines.specs.Laws.Lines.{lines-none}
+use Rattle.mdconstructs_machines.specs.Paragraphs.{paragraphs, paragraphs_rules}
+use Rattle.mdconstructs_machines.specs.Peek.{peek, peek_rules}
+use Rattle.mdconstructs_machines.specs.Laws.Peek.{peek-none}
+use Rattle.mdconstructs_machines.specs.Deep.{deep, deep_rules}
+use Rattle.mdconstructs_machines.specs.Laws.Deep.{deep-none}
+use Rattle.mdconstructs_machines.specs.Back.{back, back_rules}
+use Rattle.mdconstructs_machines.specs.Laws.Back.{back-none}
+use Rattle.mdconstructs_machines.specs.Save.{save, save_rules}
+use Rattle.mdconstructs_machines.specs.Laws.Save.{save-none}
+
+pub lines-refuse-nothing : RulesRefuseNothing lines_rules
+lines-refuse-nothing = refuse-nothing lines_rules (table-steps lines lines-none) (λ g s k r m. nothing-found k m)
+
+paragraphs-none : (previous current : Option LineByte) → refusing paragraphs previous current ≡ []
+paragraphs-none previous None = refl
+paragraphs-none previous (Some line_ending) = refl
+paragraphs-none previous (Some other) = refl
+
+pub paragraphs-refuse-nothing : RulesRefuseNothing paragraphs_rules
+paragraphs-refuse-nothing = refuse-nothing paragraphs_rules (table-steps paragraphs paragraphs-none) (λ g s k r m. nothing-found k m)
+
+pub peek-refuses-nothing : RulesRefuseNothing peek_rules
+peek-refuses-nothing = refuse-nothing peek_rules (table-steps peek peek-none) (λ g s k r m. nothing-found k m)
+
+pub deep-refuses-nothing : RulesRefuseNothing deep_rules
+deep-refuses-nothing = refuse-nothing deep_rules (table-steps deep deep-none) (λ g s k r m. nothing-found k m)
+
+pub back-refuses-nothing : RulesRefuseNothing back_rules
+back-refuses-nothing = refuse-nothing back_rules (table-steps back back-none) (λ g s k r m. nothing-found k m)
+
+pub save-refuses-nothing : RulesRefuseNothing save_rules
+save-refuses-nothing = refuse-nothing save_rules (table-steps save save-none) (λ g s k r m. nothing-found k m)

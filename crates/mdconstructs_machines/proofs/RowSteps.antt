@@ -1,0 +1,14 @@
+-- What a state did, by the row that its table has for what waits.
+use Rattle.std.proofs.Common.{◌≡◌, ℕ, Option, subst, sym}
+use Rattle.markdown_base.specs.declared.state.State.{State}
+use Rattle.markdown_tokenizer.specs.Configuration.{TokenizerValue}
+use Rattle.markdown_tokenizer.specs.Sight.{sight_of}
+use Rattle.mdconstructs_tables.specs.Rows.{StateRows, class_of, picked, step_of}
+use Rattle.mdconstructs_tables.specs.RowInvariant.{DoesAll, step_in}
+
+-- the row of what waits says what the state does
+pub by-row : {M W R D : Type 0} (class : ℕ → W) (state : StateRows W R D) (w : Option W) (t t' : TokenizerValue M R D) (answer : State) → class_of class (sight_of t).current ≡ w
+    → DoesAll (step_of (picked (state.rows (class_of class (sight_of t).previous) w) t.given (sight_of t) t.configuration) (sight_of t) t.configuration) t t' answer
+    → DoesAll (step_in class state t) t t' answer
+by-row class state w t t' answer is h =
+    subst (λ w. DoesAll (step_of (picked (state.rows (class_of class (sight_of t).previous) w) t.given (sight_of t) t.configuration) (sight_of t) t.configuration) t t' answer) (sym is) h

@@ -1,0 +1,5 @@
+use Rattle.std.proofs.Common.{refl}
+use Rattle.mdconstructs_machines.proofs.peek.text_start.Goals as goal
+
+pub returns : goal.returns
+returns c = record { answered = refl; became = c.in_ok-check.ensures.ok }

@@ -1,0 +1,5 @@
+use Rattle.std.proofs.Common.{◌==◌, ap}
+use Rattle.mdconstructs_machines.proofs.words.are_two.Goals as goal
+
+pub returns : goal.returns
+returns c = ap (λ v. v.configuration.local.tokenize_state.size_b == 2) c.t.view_is

@@ -1,0 +1,256 @@
+-- The table of the machine passes the test, and its resolvers keep what those that are left need, so that the machine is lawful.
+use Rattle.std.proofs.Common.{◌≡◌, ◌==◌, ℕ, zero, suc, ◌+◌, ◌<◌, List, [], ◌∷◌, ◌++◌, Bool, true, false, cond, Option, Some, None, length, map, refl, sym, ap, ◌∙◌, subst, arith}
+use Rattle.std.specs.Prelude.{◌&&◌, ◌||◌, nat_lt, nat_le, Contains, All}
+use Rattle.std.proofs.lemmas.Bool.Decides.{nat_tests}
+use Rattle.std.proofs.lemmas.List.{map-append}
+use Rattle.markdown_base.specs.declared.event.Event.{Event}
+use Rattle.markdown_base.specs.declared.event.Name.TheVariants.{Data, CodeTextData}
+use Rattle.markdown_base.specs.declared.event.Point.{Point}
+use Rattle.markdown_base.specs.declared.state.Name.{Name}
+use Rattle.markdown_base.specs.declared.state.TheConstants.Name.{TextStart, DataStart, DataInside}
+use Rattle.markdown_base.specs.declared.state.State.TheVariants.{Next, Retry}
+use Rattle.markdown_base.specs.Events.{same_name, IsBalanced, empty, span, EndsBelow}
+use Rattle.markdown_tokenizer.specs.declared.subtokenize.Subresult.{Subresult}
+use Rattle.markdown_tokenizer.specs.declared.waiting.Waits.TheVariants.{Byte, End}
+use Rattle.markdown_tokenizer.specs.Text.{Given, Text}
+use Rattle.markdown_tokenizer.specs.Configuration.{Configuration, Choice, Step}
+use Rattle.markdown_tokenizer.specs.Sight.{Sight, sight}
+use Rattle.markdown_tokenizer.specs.Calls.{with_local, with_resolvers, registered, registered_before}
+use Rattle.markdown_edits.specs.Edits.{Edit, edit_at, added_after, AreDisjoint}
+use Rattle.markdown_edits.specs.Edited.{as_addition, as_change, edited}
+use Rattle.markdown_edits.specs.Woven.{Tagged, Change, of_list, as_listed, events_at, is_removed, placed_end, placed_in, woven}
+use Rattle.markdown_tokenizer.specs.Resolving.{done, refused, taken, IsInShape}
+use Rattle.markdown_tokenizer.specs.Lawful.{ConsumesOnce, OnlyAdds, EndsWhenRead, KeepsInvariant, CostPays, ResolversKeep, IsAsFar}
+use Rattle.markdown_tokenizer.specs.Plain.{HaveNoLinks}
+use Rattle.markdown_tokenizer.proofs.Readings.Plain.{no-links-more, no-links-below, no-links-shape, unlinked-same}
+use Rattle.markdown_edits.proofs.Edits.Puts.{put-same, put-more}
+use Rattle.mdconstructs_tables.specs.Rows.{class_of, step_of, picked, step_at}
+use Rattle.mdconstructs_tables.specs.RowTest.{misfits}
+use Rattle.mdconstructs_tables.proofs.Tables.Laws.{IsFit, no-falls, table-consumes_once, table-only_adds, table-ends_when_read, table-invariant_kept}
+use Rattle.mdconstructs_tables.proofs.Tables.Costs.{table-cost_pays}
+use Rattle.mdconstructs_machines.specs.declared.wrap.Resolver.{Resolver}
+use Rattle.mdconstructs_machines.specs.declared.wrap.Resolver.TheVariants.{A, B, C}
+use Rattle.mdconstructs_machines.specs.Tables.{LineByte, line_ending, other, line_byte, counts}
+use Rattle.mdconstructs_machines.specs.Reading.{data_start_rows, data_inside_rows, data_start, data_inside}
+use Rattle.mdconstructs_machines.specs.Messages.{refusal}
+use Rattle.mdconstructs_machines.specs.Wrap.{same_resolver, text_start, wrap, renamed, first_place, begin_event, end_event, one_definition, IsFlat, begins_paragraph, ends_paragraph, wrap_resolver, wrap_resolves, registered_at, IsUnedited, IsUnwrapped, wrap_rules}
+
+fits : (previous current : Option LineByte) → misfits wrap previous current ≡ []
+fits previous None = refl
+fits previous (Some line_ending) = refl
+fits previous (Some other) = refl
+
+pub wrap-fit : IsFit wrap
+wrap-fit = record { fits = fits; paid = (tt, (tt, (tt, tt))); falls = no-falls }
+
+-- what a step leaves
+abbrev IsLeft : Step Resolver Unit → Type 0
+IsLeft q = IsUnwrapped q.configuration q.choices q.answer
+
+start-left : (w : Option LineByte) (g : Given) (s : Sight) (k : Configuration Resolver Unit) → IsUnedited (B ∷ A ∷ []) k → IsLeft (step_of (picked (data_start_rows None w) g s k) s k)
+start-left None g s k h = (refl, h)
+start-left (Some line_ending) g s k h = (refl, (h.0, h.1, no-links-more _ _ refl (no-links-more k.events _ refl h.2)))
+start-left (Some other) g s k h = (refl, (h.0, h.1, no-links-more k.events _ refl h.2))
+
+inside-left : (w : Option LineByte) (g : Given) (s : Sight) (k : Configuration Resolver Unit) → IsUnedited (B ∷ A ∷ []) k → IsLeft (step_of (picked (data_inside_rows None w) g s k) s k)
+inside-left None g s k h = (refl, (h.0, h.1, no-links-more k.events _ refl h.2))
+inside-left (Some line_ending) g s k h = (refl, (h.0, h.1, no-links-more k.events _ refl h.2))
+inside-left (Some other) g s k h = (refl, h)
+
+first-left : (g : Given) (s : Sight) (k : Configuration Resolver Unit) → IsUnedited [] k → IsLeft (step_of (picked (text_start.rows None None) g s k) s k)
+first-left g s k h = (refl, (ap (λ rs. registered_before same_resolver A (registered_before same_resolver B (registered same_resolver A rs))) h.0, h.1, h.2))
+
+-- the state of any name does
+step-left : (one two three : Bool) (g : Given) (s : Sight) (k : Configuration Resolver Unit) → IsUnedited (cond one [] (B ∷ A ∷ [])) k
+    → IsLeft (step_at wrap g (cond one (Some text_start) (cond two (Some data_start) (cond three (Some data_inside) None))) s (with_local k (counts k.local)))
+step-left true two three g s k h = first-left g s (with_local k (counts k.local)) h
+step-left false true three g s k h = start-left (class_of line_byte s.current) g s (with_local k (counts k.local)) h
+step-left false false true g s k h = inside-left (class_of line_byte s.current) g s (with_local k (counts k.local)) h
+step-left false false false g s k h = (refl, h)
+
+fed-left : (b : Bool) (k : Configuration Resolver Unit) (choices : List Choice) (name : Name) → IsUnwrapped k choices (Next name)
+    → IsUnwrapped (cond b (record { position = k.position; waiting = Byte; ended = k.ended; events = k.events; stack = k.stack; local = k.local })
+    (record { position = k.position; waiting = End; ended = true; events = k.events; stack = k.stack; local = k.local })) choices (Retry name)
+fed-left true k choices name h = h
+fed-left false k choices name h = h
+
+none-first : (name : Name) → Contains (TextStart ∷ []) name → [] ≡ registered_at (Next name)
+none-first name (zero, below, is) = rw (← is) refl
+none-first name (suc i, below, is) = absurd (omega arith)
+
+-- choices in front of none
+none-more : (made choices : List Choice) → made ≡ [] → choices ≡ [] → made ++ choices ≡ []
+none-more made choices e f = rw (e, f) refl
+
+pub consumes_once : (refuse : Bool) (g : Given) → ConsumesOnce g (wrap_rules refuse g)
+consumes_once refuse g text k choices name is h = table-consumes_once wrap g wrap-fit text k choices name is h.1
+
+pub only_adds : (refuse : Bool) (g : Given) → OnlyAdds g (wrap_rules refuse g)
+only_adds refuse g =
+    let law = table-only_adds wrap g wrap-fit in
+    record { events = λ text k choices name is h. law.events text k choices name is h.1; stack = λ text k choices name is h. law.stack text k choices name is h.1 }
+
+pub ends_when_read : (refuse : Bool) (g : Given) → EndsWhenRead g (wrap_rules refuse g)
+ends_when_read refuse g =
+    let law = table-ends_when_read wrap g wrap-fit in
+    record { nok = λ text k is h. law.nok text k is h.1; ok = λ text k is h. law.ok text k is h.1 }
+
+pub invariant_kept : (refuse : Bool) (g : Given) → KeepsInvariant g (wrap_rules refuse g)
+invariant_kept refuse g =
+    let law = table-invariant_kept wrap g wrap-fit in
+    record {
+      at_starts = λ p flag name is among. ((refl, (none-first name among, refl, tt)), law.at_starts p flag name is among);
+      unfed = λ text k choices name is h. law.unfed text k choices name is h.1;
+      waits = λ text k choices name is h. law.waits text k choices name is h.1;
+      by_feeding = λ text k choices name is h. (fed-left (nat_lt k.position (length text.seats)) k choices name h.0, law.by_feeding text k choices name is h.1);
+      by_calls = λ text k choices name is h.
+          let left = step-left (name.number == TextStart.number) (name.number == DataStart.number) (name.number == DataInside.number) g (sight g text k) k h.0.1 in
+          ((none-more _ choices left.0 h.0.0, left.1), law.by_calls text k choices name is h.1);
+      by_ok = λ text k choice choices is h. absurd (let e : choice ∷ choices ≡ [] = h.0.0 in cc);
+      by_nok = λ text k choice choices is h. absurd (let e : choice ∷ choices ≡ [] = h.0.0 in cc);
+      by_pieces = λ text piece k choices state is fits fresh h. (h.0, law.by_pieces text piece k choices state is fits fresh h.1);
+    }
+
+pub cost_pays : (refuse : Bool) (g : Given) → CostPays g (wrap_rules refuse g)
+cost_pays refuse g =
+    let law = table-cost_pays wrap g wrap-fit in
+    record {
+      for_calls = λ text k choices name is h. law.for_calls text k choices name is h.1;
+      for_feeding = λ text k choices name is h. law.for_feeding text k choices name is h.1;
+      for_ok = λ text k choice choices is h. law.for_ok text k choice choices is h.1;
+      for_nok = λ text k choice choices is h. law.for_nok text k choice choices is h.1;
+    }
+
+-- renamed events have the same links and kinds, and what was balanced is
+renamed-link : (b : Bool) (e : Event) → (cond b (record e { name = CodeTextData }) e).link ≡ e.link
+renamed-link true e = refl
+renamed-link false e = refl
+
+renamed-kind : (b : Bool) (e : Event) → (cond b (record e { name = CodeTextData }) e).kind ≡ e.kind
+renamed-kind true e = refl
+renamed-kind false e = refl
+
+renamed-name : (b : Bool) (e : Event) → (cond b (record e { name = CodeTextData }) e).name ≡ cond b CodeTextData e.name
+renamed-name true e = refl
+renamed-name false e = refl
+
+renamed-alike : (e f : Event) → f.name ≡ e.name → (renamed f).name ≡ (renamed e).name
+renamed-alike e f h = renamed-name (same_name f.name Data) f ∙ ap (λ n. cond (same_name n Data) CodeTextData n) h ∙ sym (renamed-name (same_name e.name Data) e)
+
+renamed-no-links : (xs : List Event) → HaveNoLinks xs → HaveNoLinks (map renamed xs)
+renamed-no-links [] h = tt
+renamed-no-links (x ∷ xs) h = (renamed-link (same_name x.name Data) x ∙ h.0, renamed-no-links xs h.1)
+
+renamed-balanced : {xs : List Event} → IsBalanced xs → IsBalanced (map renamed xs)
+renamed-balanced empty = empty
+renamed-balanced (span e f xs ys is enters exits same inner rest) =
+    span (renamed e) (renamed f) (map renamed xs) (map renamed ys) (ap (map renamed) is ∙ ap (λ es. renamed e ∷ es) (map-append renamed xs (f ∷ ys)))
+    (renamed-kind (same_name e.name Data) e ∙ enters) (renamed-kind (same_name f.name Data) f ∙ exits) (renamed-alike e f same) (renamed-balanced inner) (renamed-balanced rest)
+
+-- the two edits, in order of their indices
+abbrev both-edits : Point → Point → ℕ → List Edit
+both-edits p q zero = edit_at 0 0 (begin_event p ∷ end_event q ∷ []) ∷ []
+both-edits p q (suc n) = edit_at 0 0 (begin_event p ∷ []) ∷ edit_at (suc n) 0 (end_event q ∷ []) ∷ []
+
+both-are : (p q : Point) (n : ℕ) → added_after (edit_at 0 0 (begin_event p ∷ []) ∷ []) (edit_at n 0 (end_event q ∷ [])) ≡ both-edits p q n
+both-are p q zero = put-same (λ there more. there ++ more) (edit_at 0 0 (begin_event p ∷ [])) (edit_at 0 0 (end_event q ∷ [])) [] refl
+both-are p q (suc n) = put-more (λ there more. there ++ more) (edit_at 0 0 (begin_event p ∷ [])) (edit_at (suc n) 0 (end_event q ∷ [])) [] (omega arith)
+
+both-apart : (p q : Point) (n : ℕ) → AreDisjoint 0 (both-edits p q n) n
+both-apart p q zero = (omega arith, omega arith)
+both-apart p q (suc n) = (omega arith, (omega arith, omega arith))
+
+-- the list after them has the paragraph's enter in front, and its exit behind
+abbrev two : Point → Point → ℕ → List Change
+two p q n = as_change (edit_at 0 0 (begin_event p ∷ [])) ∷ as_change (edit_at n 0 (end_event q ∷ [])) ∷ []
+
+one-of : (a b : Bool) (us vs : List Tagged) (x y : Bool) → a ≡ x → b ≡ y → (cond a us [] ++ (cond b vs [] ++ [])) ≡ cond x us [] ++ (cond y vs [] ++ [])
+one-of a b us vs x y e f = rw (e, f) refl
+
+neither : (a b c d : Bool) → b ≡ false → c ≡ false → ((a && b) || ((c && d) || false)) ≡ false
+neither true b c d e f = rw (e, f) refl
+neither false b c d e f = rw f refl
+
+at-first : (p q : Point) (n : ℕ) → events_at (two p q (suc n)) 0 ≡ as_addition (begin_event p) ∷ []
+at-first p q n = one-of (0 == 0) (suc n == 0) (as_addition (begin_event p) ∷ []) (as_addition (end_event q) ∷ []) true false refl (grind (arith, nat_tests))
+
+at-between : (p q : Point) (n i : ℕ) → 0 < i → i < n → events_at (two p q n) i ≡ []
+at-between p q n i pos lt = one-of (0 == i) (n == i) (as_addition (begin_event p) ∷ []) (as_addition (end_event q) ∷ []) false false (grind (arith, nat_tests)) (grind (arith, nat_tests))
+
+at-last : (p q : Point) (n i : ℕ) → 0 < i → i ≡ n → events_at (two p q n) i ≡ as_addition (end_event q) ∷ []
+at-last p q n i pos is = one-of (0 == i) (n == i) (as_addition (begin_event p) ∷ []) (as_addition (end_event q) ∷ []) false true (grind (arith, nat_tests)) (grind (arith, nat_tests))
+
+stays : (p q : Point) (n i : ℕ) → i < n → is_removed (two p q n) i ≡ false
+stays p q n i lt = neither (nat_le 0 i) (nat_lt i (0 + 0)) (nat_le n i) (nat_lt i (n + 0)) (grind (arith, nat_tests)) (grind (arith, nat_tests))
+
+woven-one : (p q : Point) (n i : ℕ) (x : Event) (xs : List Event) (here : List Tagged) → i < n → events_at (two p q n) i ≡ here
+    → woven (two p q n) i (x ∷ xs) ≡ here ++ as_listed i x ∷ woven (two p q n) (i + 1) xs
+woven-one p q n i x xs here lt is =
+    ap (λ us. us ++ (cond (is_removed (two p q n) i) [] (as_listed i x ∷ []) ++ woven (two p q n) (i + 1) xs)) is
+    ∙ ap (λ b. here ++ (cond b [] (as_listed i x ∷ []) ++ woven (two p q n) (i + 1) xs)) (stays p q n i lt)
+
+tail-is : (p q : Point) (ts : List Tagged) (n i : ℕ) (xs : List Event) → 0 < i → i + length xs ≡ n → HaveNoLinks xs → placed_in ts (woven (two p q n) i xs) ≡ xs ++ end_event q ∷ []
+tail-is p q ts n i [] pos sum h = ap (placed_in ts) (at-last p q n i pos (omega (arith, sum)))
+tail-is p q ts n i (x ∷ xs) pos sum h =
+    let lt : i < n = omega (arith, sum) in
+    ap (placed_in ts) (woven-one p q n i x xs [] lt (at-between p q n i pos lt))
+    ∙ ap (λ e. e ∷ placed_in ts (woven (two p q n) (i + 1) xs)) (unlinked-same (placed_end ts (of_list i)) x h.0)
+    ∙ ap (λ es. x ∷ es) (tail-is p q ts n (i + 1) xs (omega arith) (omega (arith, sum)) h.1)
+
+wrapped : (p q : Point) (xs : List Event) → HaveNoLinks xs → edited (both-edits p q (length xs)) xs ≡ begin_event p ∷ (xs ++ end_event q ∷ [])
+wrapped p q [] h = refl
+wrapped p q (x ∷ xs) h =
+    let n = suc (length xs) in
+    let ts = woven (two p q n) 0 (x ∷ xs) in
+    ap (placed_in ts) (woven-one p q n 0 x xs (as_addition (begin_event p) ∷ []) (omega arith) (at-first p q (length xs)))
+    ∙ ap (λ e. begin_event p ∷ e ∷ placed_in ts (woven (two p q n) 1 xs)) (unlinked-same (placed_end ts (of_list 0)) x h.0)
+    ∙ ap (λ es. begin_event p ∷ x ∷ es) (tail-is p q ts n 1 xs (omega arith) (omega arith) h.1)
+
+-- with both edits the list is in shape
+wrapped-well : (p q : Point) (xs : List Event) (map_is : List Edit) → map_is ≡ both-edits p q (length xs) → IsFlat xs
+    → (AreDisjoint 0 map_is (length xs) × All (EndsBelow (length xs)) xs) × IsInShape (edited map_is xs)
+wrapped-well p q xs map_is is flat =
+    let list = begin_event p ∷ (xs ++ end_event q ∷ []) in
+    let shape = no-links-shape list (refl, no-links-more xs (end_event q) refl flat.0) (span (begin_event p) (end_event q) xs [] refl refl refl refl flat.1 empty) in
+    subst (λ m. (AreDisjoint 0 m (length xs) × All (EndsBelow (length xs)) xs) × IsInShape (edited m xs)) (sym is)
+    ((both-apart p q (length xs), no-links-below (length xs) xs flat.0), subst IsInShape (sym (wrapped p q xs flat.0)) shape)
+
+-- what a resolver leaves
+abbrev IsPassed : Text → List Resolver → (k new : Configuration Resolver Unit) → Type 0
+IsPassed text rs k new = wrap_resolves text rs new × IsAsFar new k × (new.stack ≡ k.stack)
+
+begun : (s : Sight) (text : Text) (k new : Configuration Resolver Unit) (more : Option Subresult) → wrap_resolves text (B ∷ A ∷ []) k → done (begins_paragraph s k) None ≡ done new more
+    → IsPassed text (A ∷ []) k new
+begun s text k new more h e =
+    let same : begins_paragraph s k ≡ new = cc in
+    let p = first_place s.point k.events in
+    let edits = ap (λ m. added_after m (edit_at 0 0 (begin_event p ∷ []))) h.0 in
+    subst (IsPassed text (A ∷ []) k) same ((p, edits, (renamed-no-links k.events h.1.0, renamed-balanced h.1.1)), (refl, refl, refl), refl)
+
+ended : (refuse : Bool) (s : Sight) (text : Text) (k new : Configuration Resolver Unit) (more : Option Subresult) → wrap_resolves text (A ∷ []) k
+    → cond refuse (refused refusal) (done (ends_paragraph s k) (Some one_definition)) ≡ done new more → IsPassed text [] k new
+ended true s text k new more h e = absurd (cc)
+ended false s text k new more h e =
+    let same : ends_paragraph s k ≡ new = cc in
+    let edits = ap (λ m. added_after m (edit_at (length k.events) 0 (end_event s.point ∷ []))) h.1 in
+    subst (IsPassed text [] k) same ((h.0, s.point, edits, h.2), (refl, refl, refl), refl)
+
+passed-by : (refuse : Bool) (s : Sight) (text : Text) (r : Resolver) (rs : List Resolver) (k new : Configuration Resolver Unit) (more : Option Subresult) → wrap_resolves text (r ∷ rs) k
+    → wrap_resolver refuse s k r ≡ done new more → IsPassed text rs k new
+passed-by refuse s text A [] k new more h e = ended refuse s text k new more h e
+passed-by refuse s text A (r ∷ rs) k new more h e = absurd h
+passed-by refuse s text B [] k new more h e = absurd h
+passed-by refuse s text B (A ∷ []) k new more h e = begun s text k new more h e
+passed-by refuse s text B (A ∷ r ∷ rs) k new more h e = absurd h
+passed-by refuse s text B (B ∷ rs) k new more h e = absurd h
+passed-by refuse s text B (C ∷ rs) k new more h e = absurd h
+passed-by refuse s text C rs k new more h e = absurd h
+
+pub resolvers_keep : (refuse : Bool) (g : Given) → ResolversKeep g (wrap_rules refuse g)
+resolvers_keep refuse g = record {
+  at_end = λ text k is formed h.
+      let set = h.0.1 in
+      subst (λ rs. wrap_resolves text rs (with_resolvers (taken k) [])) (sym set.0) (set.1, (set.2, formed.balanced));
+  by_resolvers = λ text r rs k new more is h e. passed-by refuse (sight g text k) text r rs k new more h e;
+  at_last = λ text k is h. wrapped-well h.0 h.1 k.events k.local.map (h.2 ∙ both-are h.0 h.1 (length k.events)) h.3;
+}

@@ -1,0 +1,15 @@
+pub mod Costs
+pub mod Back
+pub mod Deep
+pub mod Fail
+pub mod Lines
+pub mod Messages
+pub mod Misfits
+pub mod Paragraphs
+pub mod Peek
+pub mod Reading
+pub mod Save
+pub mod Tables
+pub mod Words
+pub mod Wrap
+pub mod Laws

@@ -1,0 +1,169 @@
+-- The machine of paragraphs: lines that follow one another are a paragraph, in which each line is a chunk of text, linked to the one before; a line may
+-- begin with a quote mark.
+use Rattle.std.specs.Prelude.{◌≡◌, ℕ, ◌-◌, ◌==◌, ◌∷◌, ◌++◌, [], List, Bool, true, false, Option, Some, None, length}
+use Rattle.markdown_base.specs.declared.event.Content.TheVariants.{Text as TextContent}
+use Rattle.markdown_base.specs.declared.event.Event.{Event}
+use Rattle.markdown_base.specs.declared.event.Link.{Link}
+use Rattle.markdown_base.specs.declared.event.Name.TheVariants.{Paragraph, Data, BlankLineEnding, BlockQuoteMarker}
+use Rattle.markdown_base.specs.declared.state.State.{State}
+use Rattle.markdown_base.specs.declared.state.State.TheVariants.{Next, Retry, Ok}
+use Rattle.markdown_base.specs.declared.state.TheConstants.Name.{FlowStart, ParagraphLineStart, ParagraphStart, ParagraphInside, TextStart, DataStart}
+use Rattle.markdown_tokenizer.specs.Text.{Given}
+use Rattle.markdown_tokenizer.specs.Configuration.{Configuration, Local, Choice, TokenizerValue}
+use Rattle.markdown_tokenizer.specs.Sight.{Sight, sight_of}
+use Rattle.markdown_tokenizer.specs.Calls.{entered, linked}
+use Rattle.markdown_edits.specs.Links.{CanLink, IsLinkedEnter, IsEndedBy, content_of}
+use Rattle.markdown_tokenizer.specs.Rules.{Rules}
+use Rattle.mdconstructs_tables.specs.Rows.{enter, enter_link, exit, consume, links, write, Rows, row, when, at_byte, StateRows, calls, no_cost, state, Table}
+use Rattle.mdconstructs_tables.specs.Knowledge.{knowing_rules}
+use Rattle.mdconstructs_tables.specs.LinkShapes.{next_end, AreInShape}
+use Rattle.mdconstructs_machines.specs.Tables.{LineByte, line_ending, other, line_byte, is_other, is_any, counts}
+use Rattle.mdconstructs_machines.specs.Reading.{data_start, data_inside}
+
+-- a quote mark, `>`, waits
+abbrev pub is_quote_mark : Option ℕ → Bool
+is_quote_mark None = false
+is_quote_mark (Some byte) = byte == 62
+
+abbrev pub at_quote_mark : {R D : Type 0} → Given → Sight → Configuration R D → Bool
+at_quote_mark g s k = is_quote_mark s.current
+
+-- a chunk came before in the paragraph
+abbrev pub is_connected : {R D : Type 0} → Given → Sight → Configuration R D → Bool
+is_connected g s k = k.local.tokenize_state.connect
+
+-- no chunk came before in the paragraph
+abbrev pub alone : {R D : Type 0} → Configuration R D → Local R D
+alone k = record k.local { tokenize_state = record k.local.tokenize_state { connect = false } }
+
+-- the last event, and the chunk that came before
+abbrev pub last_event : {R D : Type 0} → Configuration R D → ℕ
+last_event k = length k.events - 1
+
+abbrev pub chunk_before : {R D : Type 0} → Configuration R D → ℕ
+chunk_before k = k.local.tokenize_state.start
+
+-- the last event is the chunk that came before
+abbrev pub connected : {R D : Type 0} → Configuration R D → Local R D
+connected k = record k.local { tokenize_state = record k.local.tokenize_state { start = last_event k; connect = true } }
+
+-- a chunk is read as text
+abbrev pub text_link : Link
+text_link = record { previous = None; next = None; content = TextContent }
+
+-- the chunk that the last event begins is linked to the one that came before
+abbrev pub chained : {R D : Type 0} → Configuration R D → Configuration R D
+chained k = linked (chunk_before k) (last_event k) k
+
+-- a chunk that begins here can be linked to the one that came before, if one did
+abbrev pub CanLinkChunk : {M R D : Type 0} → TokenizerValue M R D → Type 0
+CanLinkChunk t =
+    let k = entered Data (Some text_link) (sight_of t).enter_place t.configuration in
+    k.local.tokenize_state.connect ≡ true → CanLink k.events (chunk_before k) (last_event k)
+
+-- before a paragraph
+abbrev pub flow_start_rows : {R D : Type 0} → (previous current : Option LineByte) → Rows R D
+flow_start_rows _ None = row [] Ok
+flow_start_rows _ (Some line_ending) = row (enter BlankLineEnding ∷ consume ∷ exit BlankLineEnding ∷ []) (Next FlowStart)
+flow_start_rows _ (Some other) = row (enter Paragraph ∷ write alone ∷ []) (Retry ParagraphLineStart)
+
+abbrev pub flow_start : {R D : Type 0} → StateRows LineByte R D
+flow_start = state FlowStart flow_start_rows [] (calls 4 3)
+
+-- before a line of a paragraph, which ends at a blank one
+abbrev pub paragraph_line_start_rows : {R D : Type 0} → (previous current : Option LineByte) → Rows R D
+paragraph_line_start_rows _ None = row (exit Paragraph ∷ []) (Retry FlowStart)
+paragraph_line_start_rows _ (Some line_ending) = row (exit Paragraph ∷ []) (Retry FlowStart)
+paragraph_line_start_rows _ (Some other) =
+    when at_quote_mark (row (enter BlockQuoteMarker ∷ consume ∷ exit BlockQuoteMarker ∷ []) (Next ParagraphStart)) (row [] (Retry ParagraphStart))
+
+abbrev pub paragraph_line_start : {R D : Type 0} → StateRows LineByte R D
+paragraph_line_start = record (state ParagraphLineStart paragraph_line_start_rows (Paragraph ∷ []) (calls 4 3)) { begun = at_byte is_other }
+
+-- before the chunk of a line
+abbrev pub paragraph_start_rows : {R D : Type 0} → (previous current : Option LineByte) → Rows R D
+paragraph_start_rows _ None = row [] (Retry ParagraphLineStart)
+paragraph_start_rows _ (Some _) =
+    when is_connected (row (enter_link Data text_link ∷ links chunk_before last_event ∷ write connected ∷ []) (Retry ParagraphInside))
+    (row (enter_link Data text_link ∷ write connected ∷ []) (Retry ParagraphInside))
+
+abbrev pub paragraph_start : {R D : Type 0} → StateRows LineByte R D
+paragraph_start = record (state ParagraphStart paragraph_start_rows (Paragraph ∷ []) (calls 4 3)) { begun = at_byte is_other }
+
+-- in a chunk, which ends with its line ending
+abbrev pub paragraph_inside_rows : {R D : Type 0} → (previous current : Option LineByte) → Rows R D
+paragraph_inside_rows _ None = row (exit Data ∷ []) (Retry ParagraphLineStart)
+paragraph_inside_rows _ (Some line_ending) = row (consume ∷ exit Data ∷ []) (Next ParagraphLineStart)
+paragraph_inside_rows _ (Some other) = row (consume ∷ []) (Next ParagraphInside)
+
+abbrev pub paragraph_inside : {R D : Type 0} → StateRows LineByte R D
+paragraph_inside = record (state ParagraphInside paragraph_inside_rows (Paragraph ∷ Data ∷ []) (calls 4 3)) { begun = at_byte is_any }
+
+-- before text, which is read as data
+abbrev pub text_start_rows : (previous current : Option LineByte) → Rows Unit Unit
+text_start_rows _ _ = row [] (Retry DataStart)
+
+abbrev pub text_start : StateRows LineByte Unit Unit
+text_start = state TextStart text_start_rows [] (calls 2 2)
+
+abbrev pub paragraphs : Table LineByte Unit Unit
+paragraphs = record {
+  class = line_byte;
+  first = counts;
+  states = flow_start ∷ paragraph_line_start ∷ paragraph_start ∷ paragraph_inside ∷ text_start ∷ data_start ∷ data_inside ∷ [];
+  starts = FlowStart ∷ TextStart ∷ [];
+  cost = no_cost;
+}
+
+-- An event begins a chunk, which none follows yet
+pub record BeginsChunk (e : Event) : Type 0 where
+  pub linked : IsLinkedEnter e
+  pub named : e.name ≡ Data
+  pub text : content_of e ≡ Some TextContent
+  pub last : next_end e ≡ None
+
+-- The last event, at this index, begins a chunk
+pub record EndsWithChunk (events : List Event) (index : ℕ) : Type 0 where
+  pub before : List Event
+  pub first : Event
+  pub events_are : events ≡ before ++ first ∷ []
+  pub index_is : index ≡ length before
+  pub begins : BeginsChunk first
+
+-- There is a chunk at this index: it begins there, and ends with the next event
+pub record HasChunk (events : List Event) (index : ℕ) : Type 0 where
+  pub before : List Event
+  pub first : Event
+  pub last : Event
+  pub after : List Event
+  pub events_are : events ≡ before ++ first ∷ last ∷ after
+  pub index_is : index ≡ length before
+  pub begins : BeginsChunk first
+  pub ended : IsEndedBy first last
+
+-- in a chunk the last event begins it; elsewhere the chunk before, if there is one, is at the index that is kept for it
+abbrev pub KnowsChunk : (inside : Bool) → List Event → Local Unit Unit → Type 0
+KnowsChunk true events local = EndsWithChunk events local.tokenize_state.start
+KnowsChunk false events local = local.tokenize_state.connect ≡ true → HasChunk events local.tokenize_state.start
+
+-- the state reads a chunk
+abbrev pub is_inside : State → Bool
+is_inside (Next name) = name.number == ParagraphInside.number
+is_inside (Retry name) = name.number == ParagraphInside.number
+is_inside _ = false
+
+-- What the machine knows besides its table: the index of the chunk before, that the links of all chunks are in shape, and that no resolver is
+-- registered and no edit waits
+pub record Knows (inside : Bool) (events : List Event) (local : Local Unit Unit) : Type 0 where
+  pub chunk : KnowsChunk inside events local
+  pub shape : AreInShape events
+  pub resolvers : local.resolvers ≡ []
+  pub edits : local.map ≡ []
+
+-- at an answer. It makes no choice.
+abbrev pub knows_chunk : List Event → Local Unit Unit → List Choice → State → Type 0
+knows_chunk events local [] state = Knows (is_inside state) events local
+knows_chunk events local (choice ∷ choices) state = ⊥
+
+abbrev pub paragraphs_rules : Given → Rules Unit Unit
+paragraphs_rules = knowing_rules paragraphs knows_chunk

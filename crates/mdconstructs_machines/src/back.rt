@@ -1,0 +1,181 @@
+//! The machine that goes back: it reads the first line as data, looks over the next line, goes back, and reads the rest as one more data.
+
+ghost use Rattle.std.specs.Prelude.{IfOk};
+ghost use Rattle.mdconstructs_tables.specs.RowInvariant.{DoesAll, IsCallable, step_in};
+ghost use Rattle.mdconstructs_machines.specs.Tables.{line_byte};
+ghost use Rattle.mdconstructs_machines.specs.Back.{text_start, text_before, data_start, data_inside, data_at_break, string_before};
+
+use crate::begin::begin;
+use markdown_tokenizer::event;
+use markdown_tokenizer::state::{Machine, MachineTypes, Name, State};
+use markdown_tokenizer::subtokenize::Subresult;
+use markdown_tokenizer::tokenizer::{Fault, Tokenizer};
+use std::alloc::{AllocError, Global};
+
+/// Reads the first line as data, with its line ending. Then it looks over the next line and that one's line ending, goes
+/// back to where that line began, and reads all the rest as one more data. A text of one line is one data.
+///
+/// It takes at most 2 n + 4 calls for n virtual bytes.
+#[derive(Drop)]
+pub struct Back {}
+
+impl MachineTypes for Back {
+    type Resolver = ();
+
+    type Document = ();
+}
+
+impl Machine for Back {
+    ghost use Rattle.mdconstructs_tables.proofs.Tables.Laws as laws;
+    ghost use Rattle.mdconstructs_tables.proofs.Tables.Costs.{table-cost_pays};
+    ghost use Rattle.mdconstructs_machines.specs.Back.{back, back_rules};
+    ghost use Rattle.mdconstructs_machines.specs.Laws.Back.{back-fit, back-plain};
+    ghost use Rattle.mdconstructs_tables.specs.RowInvariant.{table_rules};
+    ghost use Rattle.mdconstructs_tables.proofs.Tables.Plain.{table-keeps_plain};
+    ghost use Rattle.markdown_tokenizer.proofs.Readings.Plain as plain;
+
+    ghost rules = { λ _. back_rules };
+
+    /// Counts the call, and does what the state of this name does.
+    fn call<'a>(
+        &self,
+        alloc: Global,
+        t: &mut Tokenizer<'a, Self>,
+        name: Name,
+    ) -> Result<State, AllocError> {
+        begin(t);
+        match name {
+            Name::TextStart => text_start(t),
+            Name::TextBefore => text_before(t),
+            Name::DataStart => data_start(t),
+            Name::DataInside => data_inside(t),
+            // After the look, which always fails.
+            Name::StringStart => Ok(State::Nok),
+            Name::DataAtBreak => data_at_break(t),
+            Name::StringBefore => string_before(t),
+            _ => unreachable!(),
+        }
+    }
+
+    /// Never called, as it registers no resolver.
+    fn resolve<'a>(
+        &self,
+        alloc: Global,
+        t: &mut Tokenizer<'a, Self>,
+        name: (),
+    ) -> Result<Option<Subresult>, Fault> {
+        Ok(None)
+    }
+
+    ghost consumes_once = { λ _ g. plain.consumes_once g (table_rules back g) (laws.table-consumes_once back g back-fit) };
+
+    ghost only_adds = { λ _ g. plain.only_adds g (table_rules back g) (laws.table-only_adds back g back-fit) };
+
+    ghost ends_when_read = { λ _ g. plain.ends_when_read g (table_rules back g) (laws.table-ends_when_read back g back-fit) };
+
+    ghost invariant_kept = { λ _ g. plain.invariant_kept g (table_rules back g) (table-keeps_plain back g back-plain) (laws.table-invariant_kept back g back-fit) };
+
+    ghost cost_pays = { λ _ g. plain.cost_pays g (table_rules back g) (table-cost_pays back g back-fit) };
+
+    ghost resolvers_keep = { λ _ g. plain.resolvers_keep g (table_rules back g) };
+}
+
+/// Before the text: data begins at its first byte.
+fn text_start<'a>(t: &mut Tokenizer<'a, Back>) -> Result<State, AllocError>
+    requires { IsCallable line_byte text_start t.old }
+    ensures { IfOk result (DoesAll (step_in line_byte text_start t.old) t.old t.new) }
+{
+    match t.current() {
+        None => Ok(State::Ok),
+        Some(_) => {
+            t.enter(event::Name::Data)?;
+            Ok(State::Retry(Name::TextBefore))
+        }
+    }
+}
+
+/// In the first line, which ends with its line ending.
+fn text_before<'a>(t: &mut Tokenizer<'a, Back>) -> Result<State, AllocError>
+    requires { IsCallable line_byte text_before t.old }
+    ensures { IfOk result (DoesAll (step_in line_byte text_before t.old) t.old t.new) }
+{
+    match t.current() {
+        None => {
+            t.exit(event::Name::Data)?;
+            Ok(State::Ok)
+        }
+        Some(b'\n') => {
+            t.consume();
+            Ok(State::Next(Name::DataStart))
+        }
+        Some(_) => {
+            t.consume();
+            Ok(State::Next(Name::TextBefore))
+        }
+    }
+}
+
+/// Before the next line: the look begins, which goes on from here either way.
+fn data_start<'a>(t: &mut Tokenizer<'a, Back>) -> Result<State, AllocError>
+    requires { IsCallable line_byte data_start t.old }
+    ensures { IfOk result (DoesAll (step_in line_byte data_start t.old) t.old t.new) }
+{
+    match t.current() {
+        None => {
+            t.exit(event::Name::Data)?;
+            Ok(State::Ok)
+        }
+        Some(_) => {
+            t.check(
+                State::Next(Name::DataAtBreak),
+                State::Next(Name::DataAtBreak),
+            )?;
+            Ok(State::Retry(Name::DataInside))
+        }
+    }
+}
+
+/// In the look: it passes the line and its line ending, and then it fails.
+fn data_inside<'a>(t: &mut Tokenizer<'a, Back>) -> Result<State, AllocError>
+    requires { IsCallable line_byte data_inside t.old }
+    ensures { IfOk result (DoesAll (step_in line_byte data_inside t.old) t.old t.new) }
+{
+    match t.current() {
+        None => Ok(State::Nok),
+        Some(b'\n') => {
+            t.consume();
+            Ok(State::Next(Name::StringStart))
+        }
+        Some(_) => {
+            t.consume();
+            Ok(State::Next(Name::DataInside))
+        }
+    }
+}
+
+/// The look went back to this place: the first data ends here, and another one begins.
+fn data_at_break<'a>(t: &mut Tokenizer<'a, Back>) -> Result<State, AllocError>
+    requires { IsCallable line_byte data_at_break t.old }
+    ensures { IfOk result (DoesAll (step_in line_byte data_at_break t.old) t.old t.new) }
+{
+    t.exit(event::Name::Data)?;
+    t.enter(event::Name::Data)?;
+    Ok(State::Retry(Name::StringBefore))
+}
+
+/// In the rest, which ends with the text.
+fn string_before<'a>(t: &mut Tokenizer<'a, Back>) -> Result<State, AllocError>
+    requires { IsCallable line_byte string_before t.old }
+    ensures { IfOk result (DoesAll (step_in line_byte string_before t.old) t.old t.new) }
+{
+    match t.current() {
+        None => {
+            t.exit(event::Name::Data)?;
+            Ok(State::Ok)
+        }
+        Some(_) => {
+            t.consume();
+            Ok(State::Next(Name::StringBefore))
+        }
+    }
+}

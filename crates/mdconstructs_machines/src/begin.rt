@@ -1,0 +1,16 @@
+//! The beginning of a call.
+
+ghost use Rattle.std.specs.Prelude.{◌≡◌};
+ghost use Rattle.mdconstructs_tables.specs.RowInvariant.{begun};
+ghost use Rattle.mdconstructs_machines.specs.Tables.{counts};
+
+use markdown_tokenizer::state::MachineTypes;
+use markdown_tokenizer::tokenizer::Tokenizer;
+
+/// Counts a call, as each state of these machines does first: it ticks, and `size` is one more, if it can be.
+pub fn begin<'a, M: MachineTypes>(t: &mut Tokenizer<'a, M>)
+    ensures { t.new ≡ begun counts t.old }
+{
+    t.tick();
+    t.tokenize_state.size = t.tokenize_state.size.saturating_add(1);
+}

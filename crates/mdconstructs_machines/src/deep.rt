@@ -1,0 +1,113 @@
+//! The machine of nested attempts: it tries something at every byte, one attempt inside the other. All fail at the end,
+//! and the text is read as data.
+
+ghost use Rattle.std.specs.Prelude.{IfOk};
+ghost use Rattle.mdconstructs_tables.specs.RowInvariant.{DoesAll, IsCallable, step_in};
+ghost use Rattle.mdconstructs_machines.specs.Tables.{line_byte};
+ghost use Rattle.mdconstructs_machines.specs.Deep.{string_start, string_before};
+
+use crate::begin::begin;
+use crate::reading::{data_inside, data_start};
+use markdown_tokenizer::state::{Machine, MachineTypes, Name, State};
+use markdown_tokenizer::subtokenize::Subresult;
+use markdown_tokenizer::tokenizer::{Fault, Tokenizer};
+use std::alloc::{AllocError, Global};
+
+/// Tries something at every byte, in vain, and then reads each line as data.
+///
+/// It takes at most n (n - 1) / 2 + 4 n + 1 calls for n virtual bytes.
+#[derive(Drop)]
+pub struct Deep {}
+
+impl MachineTypes for Deep {
+    type Resolver = ();
+
+    type Document = ();
+}
+
+impl Machine for Deep {
+    ghost use Rattle.mdconstructs_tables.proofs.Tables.Laws as laws;
+    ghost use Rattle.mdconstructs_tables.proofs.Tables.Costs.{table-cost_pays};
+    ghost use Rattle.mdconstructs_machines.specs.Deep.{deep, deep_rules};
+    ghost use Rattle.mdconstructs_machines.specs.Laws.Deep.{deep-fit, deep-plain};
+    ghost use Rattle.mdconstructs_tables.specs.RowInvariant.{table_rules};
+    ghost use Rattle.mdconstructs_tables.proofs.Tables.Plain.{table-keeps_plain};
+    ghost use Rattle.markdown_tokenizer.proofs.Readings.Plain as plain;
+
+    ghost rules = { λ _. deep_rules };
+
+    /// Counts the call, and does what the state of this name does.
+    fn call<'a>(
+        &self,
+        alloc: Global,
+        t: &mut Tokenizer<'a, Self>,
+        name: Name,
+    ) -> Result<State, AllocError> {
+        begin(t);
+        match name {
+            Name::StringStart => string_start(t),
+            Name::StringBefore => string_before(t),
+            Name::DataStart => data_start(t),
+            Name::DataInside => data_inside(t),
+            _ => unreachable!(),
+        }
+    }
+
+    /// Never called, as it registers no resolver.
+    fn resolve<'a>(
+        &self,
+        alloc: Global,
+        t: &mut Tokenizer<'a, Self>,
+        name: (),
+    ) -> Result<Option<Subresult>, Fault> {
+        Ok(None)
+    }
+
+    ghost consumes_once = { λ _ g. plain.consumes_once g (table_rules deep g) (laws.table-consumes_once deep g deep-fit) };
+
+    ghost only_adds = { λ _ g. plain.only_adds g (table_rules deep g) (laws.table-only_adds deep g deep-fit) };
+
+    ghost ends_when_read = { λ _ g. plain.ends_when_read g (table_rules deep g) (laws.table-ends_when_read deep g deep-fit) };
+
+    ghost invariant_kept = { λ _ g. plain.invariant_kept g (table_rules deep g) (table-keeps_plain deep g deep-plain) (laws.table-invariant_kept deep g deep-fit) };
+
+    ghost cost_pays = { λ _ g. plain.cost_pays g (table_rules deep g) (table-cost_pays deep g deep-fit) };
+
+    ghost resolvers_keep = { λ _ g. plain.resolvers_keep g (table_rules deep g) };
+}
+
+/// At a byte to try something at, or at the end, where each attempt fails.
+fn string_start<'a>(t: &mut Tokenizer<'a, Deep>) -> Result<State, AllocError>
+    requires { IsCallable line_byte string_start t.old }
+    ensures { IfOk result (DoesAll (step_in line_byte string_start t.old) t.old t.new) }
+{
+    match t.current() {
+        None => match t.previous() {
+            None => Ok(State::Ok),
+            Some(_) => Ok(State::Nok),
+        },
+        Some(_) => {
+            let after = match t.previous() {
+                None => Name::DataStart,
+                Some(_) => Name::StringBefore,
+            };
+            t.attempt(State::Next(after), State::Next(after))?;
+            t.consume();
+            Ok(State::Next(Name::StringStart))
+        }
+    }
+}
+
+/// In what an attempt that failed goes on with, which fails at the end too.
+fn string_before<'a>(t: &mut Tokenizer<'a, Deep>) -> Result<State, AllocError>
+    requires { IsCallable line_byte string_before t.old }
+    ensures { IfOk result (DoesAll (step_in line_byte string_before t.old) t.old t.new) }
+{
+    match t.current() {
+        None => Ok(State::Nok),
+        Some(_) => {
+            t.consume();
+            Ok(State::Next(Name::StringBefore))
+        }
+    }
+}

@@ -1,0 +1,113 @@
+//! The machine that fails: it passes each byte, and refuses the document at a call of a stated number.
+
+ghost use Rattle.std.specs.Prelude.{◌≡◌, ◌==◌, IfOk};
+ghost use Rattle.markdown_tokenizer.specs.Calls.{with_local};
+ghost use Rattle.markdown_tokenizer.specs.Configuration.{at_configuration};
+ghost use Rattle.mdconstructs_tables.specs.RowInvariant.{DoesAll, IsCallable, step_in};
+ghost use Rattle.mdconstructs_machines.specs.Tables.{line_byte};
+ghost use Rattle.mdconstructs_machines.specs.Fail.{counted, text_start};
+
+use crate::message::refusal;
+use markdown_tokenizer::state::{Machine, MachineTypes, Name, State};
+use markdown_tokenizer::subtokenize::Subresult;
+use markdown_tokenizer::tokenizer::{Fault, Tokenizer};
+use std::alloc::{AllocError, Global};
+
+/// Passes each byte, and refuses the document at the call before which `at` calls were counted.
+///
+/// It takes at most n + 1 calls for n virtual bytes. The message is `1:2: x (markdown:r)`.
+#[derive(Drop)]
+pub struct Fail {
+    /// How many calls are counted in `size` before the one that refuses.
+    pub at: usize,
+}
+
+impl MachineTypes for Fail {
+    type Resolver = ();
+
+    type Document = ();
+}
+
+impl Machine for Fail {
+    ghost use Rattle.mdconstructs_tables.proofs.Tables.Laws as laws;
+    ghost use Rattle.mdconstructs_tables.proofs.Tables.Costs.{table-cost_pays};
+    ghost use Rattle.mdconstructs_machines.specs.Fail.{fail, fail_rules};
+    ghost use Rattle.mdconstructs_machines.specs.Laws.Fail.{fail-fit, fail-plain};
+    ghost use Rattle.mdconstructs_tables.specs.RowInvariant.{table_rules};
+    ghost use Rattle.markdown_tokenizer.proofs.Readings.Plain as plain;
+
+    ghost rules = { λ m. fail_rules m.at };
+
+    /// Counts the call, and does what the state of this name does.
+    fn call<'a>(
+        &self,
+        alloc: Global,
+        t: &mut Tokenizer<'a, Self>,
+        name: Name,
+    ) -> Result<State, AllocError> {
+        t.tick();
+        match name {
+            Name::TextStart => text_start(alloc, t, self.at),
+            _ => unreachable!(),
+        }
+    }
+
+    /// Never called, as it registers no resolver.
+    fn resolve<'a>(
+        &self,
+        alloc: Global,
+        t: &mut Tokenizer<'a, Self>,
+        name: (),
+    ) -> Result<Option<Subresult>, Fault> {
+        Ok(None)
+    }
+
+    ghost consumes_once = { λ m g. plain.consumes_once g (table_rules (fail m.at) g) (laws.table-consumes_once (fail m.at) g (fail-fit m.at)) };
+
+    ghost only_adds = { λ m g. plain.only_adds g (table_rules (fail m.at) g) (laws.table-only_adds (fail m.at) g (fail-fit m.at)) };
+
+    ghost ends_when_read = { λ m g. plain.ends_when_read g (table_rules (fail m.at) g) (laws.table-ends_when_read (fail m.at) g (fail-fit m.at)) };
+
+    ghost invariant_kept = { λ m g. plain.invariant_kept g (table_rules (fail m.at) g) (fail-plain m.at g) (laws.table-invariant_kept (fail m.at) g (fail-fit m.at)) };
+
+    ghost cost_pays = { λ m g. plain.cost_pays g (table_rules (fail m.at) g) (table-cost_pays (fail m.at) g (fail-fit m.at)) };
+
+    ghost resolvers_keep = { λ m g. plain.resolvers_keep g (table_rules (fail m.at) g) };
+}
+
+/// A byte is passed, and at the end all is well, unless this is the call that refuses.
+fn text_start<'a>(
+    alloc: Global,
+    t: &mut Tokenizer<'a, Fail>,
+    at: usize,
+) -> Result<State, AllocError>
+    requires { IsCallable line_byte (text_start at) t.old }
+    ensures { IfOk result (DoesAll (step_in line_byte (text_start at) t.old) t.old t.new) }
+{
+    let refuses = is_refused(t, at);
+    count(t);
+    if refuses {
+        return Ok(State::Error(refusal(alloc)?));
+    }
+    match t.current() {
+        None => Ok(State::Ok),
+        Some(_) => {
+            t.consume();
+            Ok(State::Next(Name::TextStart))
+        }
+    }
+}
+
+/// Whether this call refuses the document: as many were counted before it as stated.
+fn is_refused<'a>(t: &Tokenizer<'a, Fail>, at: usize) -> bool
+    ensures { result ≡ (t.now.configuration.local.tokenize_state.size == at) }
+{
+    t.tokenize_state.size == at
+}
+
+/// Counts a call.
+fn count<'a>(t: &mut Tokenizer<'a, Fail>)
+    ensures { t.new ≡ at_configuration t.old (with_local t.old.configuration (counted t.old.configuration)) }
+{
+    t.tokenize_state.size = t.tokenize_state.size.saturating_add(1);
+}

@@ -1,0 +1,212 @@
+//! The machine of paragraphs: lines that follow one another are a paragraph, in which each line is a chunk of text, linked to
+//! the one before; a line may begin with a quote mark.
+
+ghost use Rattle.std.specs.Prelude.{◌≡◌, IfOk};
+ghost use Rattle.markdown_tokenizer.specs.Calls.{with_local};
+ghost use Rattle.markdown_tokenizer.specs.Configuration.{at_configuration};
+ghost use Rattle.markdown_edits.specs.Links.{CanLink};
+ghost use Rattle.mdconstructs_tables.specs.RowInvariant.{DoesAll, IsCallable, step_in};
+ghost use Rattle.mdconstructs_machines.specs.Tables.{line_byte};
+ghost use Rattle.mdconstructs_machines.specs.Paragraphs.{flow_start, paragraph_line_start, paragraph_start, paragraph_inside, alone, chunk_before, connected, last_event, chained, CanLinkChunk};
+
+use crate::begin::begin;
+use crate::reading::{data_inside, data_start};
+use markdown_tokenizer::event::{self, Content, Link};
+use markdown_tokenizer::state::{Machine, MachineTypes, Name, State};
+use markdown_tokenizer::subtokenize::Subresult;
+use markdown_tokenizer::tokenizer::{Fault, Tokenizer};
+use mdconstructs_tables::marker;
+use std::alloc::{AllocError, Global};
+
+/// What a chunk is read as, before its neighbours in the chain are known.
+const CHUNK: Link = Link {
+    previous: None,
+    next: None,
+    content: Content::Text,
+};
+
+/// Reads lines that follow one another as a paragraph. Each line of it, after a quote mark that it may begin with, is a chunk
+/// of text: data that holds the line ending too, linked to the chunk of the line before. From `TextStart` it reads each line
+/// as data, which is what the chunks of a paragraph are read as together.
+///
+/// It takes at most 4 n + 3 calls for n virtual bytes, and 2 n + 2 from `TextStart`.
+#[derive(Drop)]
+pub struct Paragraphs {}
+
+impl MachineTypes for Paragraphs {
+    type Resolver = ();
+
+    type Document = ();
+}
+
+impl Machine for Paragraphs {
+    ghost use Rattle.mdconstructs_tables.proofs.Tables.Knowledge as laws;
+    ghost use Rattle.mdconstructs_machines.specs.Paragraphs.{paragraphs, knows_chunk, paragraphs_rules};
+    ghost use Rattle.mdconstructs_machines.specs.Laws.Paragraphs.{paragraphs-fit, paragraphs-known};
+
+    ghost rules = { λ _. paragraphs_rules };
+
+    /// Counts the call, and does what the state of this name does.
+    fn call<'a>(
+        &self,
+        alloc: Global,
+        t: &mut Tokenizer<'a, Self>,
+        name: Name,
+    ) -> Result<State, AllocError> {
+        begin(t);
+        match name {
+            Name::FlowStart => flow_start(t),
+            Name::ParagraphLineStart => paragraph_line_start(t),
+            Name::ParagraphStart => paragraph_start(t),
+            Name::ParagraphInside => paragraph_inside(t),
+            Name::TextStart => Ok(State::Retry(Name::DataStart)),
+            Name::DataStart => data_start(t),
+            Name::DataInside => data_inside(t),
+            _ => unreachable!(),
+        }
+    }
+
+    /// Never called, as it registers no resolver.
+    fn resolve<'a>(
+        &self,
+        alloc: Global,
+        t: &mut Tokenizer<'a, Self>,
+        name: (),
+    ) -> Result<Option<Subresult>, Fault> {
+        Ok(None)
+    }
+
+    ghost consumes_once = { λ _ g. laws.knowing-consumes_once paragraphs knows_chunk g paragraphs-fit paragraphs-known };
+
+    ghost only_adds = { λ _ g. laws.knowing-only_adds paragraphs knows_chunk g paragraphs-fit paragraphs-known };
+
+    ghost ends_when_read = { λ _ g. laws.knowing-ends_when_read paragraphs knows_chunk g paragraphs-fit paragraphs-known };
+
+    ghost invariant_kept = { λ _ g. laws.knowing-invariant_kept paragraphs knows_chunk g paragraphs-fit paragraphs-known };
+
+    ghost cost_pays = { λ _ g. laws.knowing-cost_pays paragraphs knows_chunk g paragraphs-fit paragraphs-known };
+
+    ghost resolvers_keep = { λ _ g. laws.knowing-resolvers_keep paragraphs knows_chunk g paragraphs-fit paragraphs-known };
+}
+
+/// Before a paragraph: a blank line is passed, and at another one the paragraph begins.
+pub fn flow_start<'a, M: MachineTypes>(t: &mut Tokenizer<'a, M>) -> Result<State, AllocError>
+    requires { IsCallable line_byte flow_start t.old }
+    ensures { IfOk result (DoesAll (step_in line_byte flow_start t.old) t.old t.new) }
+{
+    match t.current() {
+        None => Ok(State::Ok),
+        Some(b'\n') => {
+            marker(t, event::Name::BlankLineEnding)?;
+            Ok(State::Next(Name::FlowStart))
+        }
+        Some(_) => {
+            t.enter(event::Name::Paragraph)?;
+            disconnect(t);
+            Ok(State::Retry(Name::ParagraphLineStart))
+        }
+    }
+}
+
+/// Before a line of a paragraph: a blank line ends it.
+pub fn paragraph_line_start<'a, M: MachineTypes>(
+    t: &mut Tokenizer<'a, M>,
+) -> Result<State, AllocError>
+    requires { IsCallable line_byte paragraph_line_start t.old }
+    ensures { IfOk result (DoesAll (step_in line_byte paragraph_line_start t.old) t.old t.new) }
+{
+    match t.current() {
+        None => {
+            t.exit(event::Name::Paragraph)?;
+            Ok(State::Retry(Name::FlowStart))
+        }
+        Some(b'\n') => {
+            t.exit(event::Name::Paragraph)?;
+            Ok(State::Retry(Name::FlowStart))
+        }
+        Some(b'>') => {
+            marker(t, event::Name::BlockQuoteMarker)?;
+            Ok(State::Next(Name::ParagraphStart))
+        }
+        Some(_) => Ok(State::Retry(Name::ParagraphStart)),
+    }
+}
+
+/// Before the chunk of a line, which is linked to the one before it in the paragraph.
+pub fn paragraph_start<'a, M: MachineTypes>(t: &mut Tokenizer<'a, M>) -> Result<State, AllocError>
+    requires called { IsCallable line_byte paragraph_start t.old }
+    requires chunk { CanLinkChunk t.old }
+    ensures { IfOk result (DoesAll (step_in line_byte paragraph_start t.old) t.old t.new) }
+{
+    match t.current() {
+        None => Ok(State::Retry(Name::ParagraphLineStart)),
+        Some(_) => {
+            t.enter_link(event::Name::Data, CHUNK)?;
+            if is_connected(t) {
+                link_chunk(t);
+            }
+            connect(t);
+            Ok(State::Retry(Name::ParagraphInside))
+        }
+    }
+}
+
+/// In a chunk, which ends with its line ending.
+pub fn paragraph_inside<'a, M: MachineTypes>(t: &mut Tokenizer<'a, M>) -> Result<State, AllocError>
+    requires { IsCallable line_byte paragraph_inside t.old }
+    ensures { IfOk result (DoesAll (step_in line_byte paragraph_inside t.old) t.old t.new) }
+{
+    match t.current() {
+        None => {
+            t.exit(event::Name::Data)?;
+            Ok(State::Retry(Name::ParagraphLineStart))
+        }
+        Some(b'\n') => {
+            t.consume();
+            t.exit(event::Name::Data)?;
+            Ok(State::Next(Name::ParagraphLineStart))
+        }
+        Some(_) => {
+            t.consume();
+            Ok(State::Next(Name::ParagraphInside))
+        }
+    }
+}
+
+/// The index of the last event.
+fn last_event<'a, M: MachineTypes>(t: &Tokenizer<'a, M>) -> usize
+    ensures { result ≡ last_event t.now.configuration }
+{
+    t.events().len().saturating_sub(1)
+}
+
+/// Whether a chunk came before in the paragraph.
+fn is_connected<'a, M: MachineTypes>(t: &Tokenizer<'a, M>) -> bool
+    ensures { result ≡ t.now.configuration.local.tokenize_state.connect }
+{
+    t.tokenize_state.connect
+}
+
+/// The chunk that the last event begins is linked to the one that came before.
+fn link_chunk<'a, M: MachineTypes>(t: &mut Tokenizer<'a, M>)
+    requires { CanLink t.old.configuration.events (chunk_before t.old.configuration) (last_event t.old.configuration) }
+    ensures { t.new ≡ at_configuration t.old (chained t.old.configuration) }
+{
+    let before = t.tokenize_state.start;
+    t.link_to(before, last_event(t));
+}
+
+/// No chunk came before in the paragraph.
+fn disconnect<'a, M: MachineTypes>(t: &mut Tokenizer<'a, M>)
+    ensures { t.new ≡ at_configuration t.old (with_local t.old.configuration (alone t.old.configuration)) }
+{
+    t.tokenize_state.connect = false;
+}
+
+/// The last event is the chunk that came before.
+fn connect<'a, M: MachineTypes>(t: &mut Tokenizer<'a, M>)
+    ensures { t.new ≡ at_configuration t.old (with_local t.old.configuration (connected t.old.configuration)) }
+{
+    t.tokenize_state.start = last_event(t);
+    t.tokenize_state.connect = true;
+}

@@ -1,0 +1,99 @@
+//! The machine that peeks: it looks at the whole text first, goes back, and then reads it as data.
+
+ghost use Rattle.std.specs.Prelude.{IfOk};
+ghost use Rattle.mdconstructs_tables.specs.RowInvariant.{DoesAll, IsCallable, step_in};
+ghost use Rattle.mdconstructs_machines.specs.Tables.{line_byte};
+ghost use Rattle.mdconstructs_machines.specs.Peek.{text_start, text_before};
+
+use crate::begin::begin;
+use crate::reading::{data_inside, data_start};
+use markdown_tokenizer::state::{Machine, MachineTypes, Name, State};
+use markdown_tokenizer::subtokenize::Subresult;
+use markdown_tokenizer::tokenizer::{Fault, Tokenizer};
+use std::alloc::{AllocError, Global};
+
+/// Looks at the whole text, and then reads each line as data.
+///
+/// It takes at most 3 n + 3 calls for n virtual bytes.
+#[derive(Drop)]
+pub struct Peek {}
+
+impl MachineTypes for Peek {
+    type Resolver = ();
+
+    type Document = ();
+}
+
+impl Machine for Peek {
+    ghost use Rattle.mdconstructs_tables.proofs.Tables.Laws as laws;
+    ghost use Rattle.mdconstructs_tables.proofs.Tables.Costs.{table-cost_pays};
+    ghost use Rattle.mdconstructs_machines.specs.Peek.{peek, peek_rules};
+    ghost use Rattle.mdconstructs_machines.specs.Laws.Peek.{peek-fit, peek-plain};
+    ghost use Rattle.mdconstructs_tables.specs.RowInvariant.{table_rules};
+    ghost use Rattle.mdconstructs_tables.proofs.Tables.Plain.{table-keeps_plain};
+    ghost use Rattle.markdown_tokenizer.proofs.Readings.Plain as plain;
+
+    ghost rules = { λ _. peek_rules };
+
+    /// Counts the call, and does what the state of this name does.
+    fn call<'a>(
+        &self,
+        alloc: Global,
+        t: &mut Tokenizer<'a, Self>,
+        name: Name,
+    ) -> Result<State, AllocError> {
+        begin(t);
+        match name {
+            Name::TextStart => text_start(t),
+            Name::TextBefore => text_before(t),
+            Name::DataStart => data_start(t),
+            Name::DataInside => data_inside(t),
+            _ => unreachable!(),
+        }
+    }
+
+    /// Never called, as it registers no resolver.
+    fn resolve<'a>(
+        &self,
+        alloc: Global,
+        t: &mut Tokenizer<'a, Self>,
+        name: (),
+    ) -> Result<Option<Subresult>, Fault> {
+        Ok(None)
+    }
+
+    ghost consumes_once = { λ _ g. plain.consumes_once g (table_rules peek g) (laws.table-consumes_once peek g peek-fit) };
+
+    ghost only_adds = { λ _ g. plain.only_adds g (table_rules peek g) (laws.table-only_adds peek g peek-fit) };
+
+    ghost ends_when_read = { λ _ g. plain.ends_when_read g (table_rules peek g) (laws.table-ends_when_read peek g peek-fit) };
+
+    ghost invariant_kept = { λ _ g. plain.invariant_kept g (table_rules peek g) (table-keeps_plain peek g peek-plain) (laws.table-invariant_kept peek g peek-fit) };
+
+    ghost cost_pays = { λ _ g. plain.cost_pays g (table_rules peek g) (table-cost_pays peek g peek-fit) };
+
+    ghost resolvers_keep = { λ _ g. plain.resolvers_keep g (table_rules peek g) };
+}
+
+/// Before the look: a check begins, which goes on with data either way.
+fn text_start<'a>(t: &mut Tokenizer<'a, Peek>) -> Result<State, AllocError>
+    requires { IsCallable line_byte text_start t.old }
+    ensures { IfOk result (DoesAll (step_in line_byte text_start t.old) t.old t.new) }
+{
+    t.check(State::Next(Name::DataStart), State::Next(Name::DataStart))?;
+    Ok(State::Retry(Name::TextBefore))
+}
+
+/// In the look: each byte is passed, and at the end the look fails.
+fn text_before<'a>(t: &mut Tokenizer<'a, Peek>) -> Result<State, AllocError>
+    requires { IsCallable line_byte text_before t.old }
+    ensures { IfOk result (DoesAll (step_in line_byte text_before t.old) t.old t.new) }
+{
+    match t.current() {
+        None => Ok(State::Nok),
+        Some(_) => {
+            t.consume();
+            Ok(State::Next(Name::TextBefore))
+        }
+    }
+}

@@ -1,0 +1,53 @@
+//! Reading data: each line is data, with line endings between them. Machines with choices end in it.
+
+ghost use Rattle.std.specs.Prelude.{IfOk};
+ghost use Rattle.mdconstructs_tables.specs.RowInvariant.{DoesAll, IsCallable, step_in};
+ghost use Rattle.mdconstructs_machines.specs.Tables.{line_byte};
+ghost use Rattle.mdconstructs_machines.specs.Reading.{data_start, data_inside};
+
+use markdown_tokenizer::event;
+use markdown_tokenizer::state::{MachineTypes, Name, State};
+use markdown_tokenizer::tokenizer::Tokenizer;
+use mdconstructs_tables::marker;
+use std::alloc::AllocError;
+
+/// A line begins.
+pub(crate) fn data_start<'a, M: MachineTypes>(t: &mut Tokenizer<'a, M>) -> Result<State, AllocError>
+    requires { IsCallable line_byte data_start t.old }
+    ensures { IfOk result (DoesAll (step_in line_byte data_start t.old) t.old t.new) }
+{
+    match t.current() {
+        None => Ok(State::Ok),
+        Some(b'\n') => {
+            marker(t, event::Name::LineEnding)?;
+            Ok(State::Next(Name::DataStart))
+        }
+        Some(_) => {
+            t.enter(event::Name::Data)?;
+            Ok(State::Retry(Name::DataInside))
+        }
+    }
+}
+
+/// In a line.
+pub(crate) fn data_inside<'a, M: MachineTypes>(
+    t: &mut Tokenizer<'a, M>,
+) -> Result<State, AllocError>
+    requires { IsCallable line_byte data_inside t.old }
+    ensures { IfOk result (DoesAll (step_in line_byte data_inside t.old) t.old t.new) }
+{
+    match t.current() {
+        None => {
+            t.exit(event::Name::Data)?;
+            Ok(State::Ok)
+        }
+        Some(b'\n') => {
+            t.exit(event::Name::Data)?;
+            Ok(State::Retry(Name::DataStart))
+        }
+        Some(_) => {
+            t.consume();
+            Ok(State::Next(Name::DataInside))
+        }
+    }
+}

@@ -1,0 +1,105 @@
+//! The machine that saves its place: it passes the first line, tries to go on in vain, goes back to where that line ended,
+//! and reads the rest as data.
+
+ghost use Rattle.std.specs.Prelude.{IfOk};
+ghost use Rattle.mdconstructs_tables.specs.RowInvariant.{DoesAll, IsCallable, step_in};
+ghost use Rattle.mdconstructs_machines.specs.Tables.{line_byte};
+ghost use Rattle.mdconstructs_machines.specs.Save.{text_start, text_before};
+
+use crate::begin::begin;
+use crate::reading::{data_inside, data_start};
+use markdown_tokenizer::state::{Machine, MachineTypes, Name, State};
+use markdown_tokenizer::subtokenize::Subresult;
+use markdown_tokenizer::tokenizer::{Fault, Tokenizer};
+use std::alloc::{AllocError, Global};
+
+/// Passes the first line, saves its place right after the line ending, and tries something there, in vain. It goes back to
+/// that place, and reads each line of the rest as data.
+///
+/// It takes at most 2 n + 1 calls for n virtual bytes.
+#[derive(Drop)]
+pub struct Save {}
+
+impl MachineTypes for Save {
+    type Resolver = ();
+
+    type Document = ();
+}
+
+impl Machine for Save {
+    ghost use Rattle.mdconstructs_tables.proofs.Tables.Laws as laws;
+    ghost use Rattle.mdconstructs_tables.proofs.Tables.Costs.{table-cost_pays};
+    ghost use Rattle.mdconstructs_machines.specs.Save.{save, save_rules};
+    ghost use Rattle.mdconstructs_machines.specs.Laws.Save.{save-fit, save-plain};
+    ghost use Rattle.mdconstructs_tables.specs.RowInvariant.{table_rules};
+    ghost use Rattle.mdconstructs_tables.proofs.Tables.Plain.{table-keeps_plain};
+    ghost use Rattle.markdown_tokenizer.proofs.Readings.Plain as plain;
+
+    ghost rules = { λ _. save_rules };
+
+    /// Counts the call, and does what the state of this name does.
+    fn call<'a>(
+        &self,
+        alloc: Global,
+        t: &mut Tokenizer<'a, Self>,
+        name: Name,
+    ) -> Result<State, AllocError> {
+        begin(t);
+        match name {
+            Name::TextStart => text_start(t),
+            Name::TextBefore => text_before(t),
+            Name::DataStart => data_start(t),
+            Name::DataInside => data_inside(t),
+            _ => unreachable!(),
+        }
+    }
+
+    /// Never called, as it registers no resolver.
+    fn resolve<'a>(
+        &self,
+        alloc: Global,
+        t: &mut Tokenizer<'a, Self>,
+        name: (),
+    ) -> Result<Option<Subresult>, Fault> {
+        Ok(None)
+    }
+
+    ghost consumes_once = { λ _ g. plain.consumes_once g (table_rules save g) (laws.table-consumes_once save g save-fit) };
+
+    ghost only_adds = { λ _ g. plain.only_adds g (table_rules save g) (laws.table-only_adds save g save-fit) };
+
+    ghost ends_when_read = { λ _ g. plain.ends_when_read g (table_rules save g) (laws.table-ends_when_read save g save-fit) };
+
+    ghost invariant_kept = { λ _ g. plain.invariant_kept g (table_rules save g) (table-keeps_plain save g save-plain) (laws.table-invariant_kept save g save-fit) };
+
+    ghost cost_pays = { λ _ g. plain.cost_pays g (table_rules save g) (table-cost_pays save g save-fit) };
+
+    ghost resolvers_keep = { λ _ g. plain.resolvers_keep g (table_rules save g) };
+}
+
+/// In the first line: each byte is passed, and after the line ending an attempt begins, which goes on with data either way.
+fn text_start<'a>(t: &mut Tokenizer<'a, Save>) -> Result<State, AllocError>
+    requires { IsCallable line_byte text_start t.old }
+    ensures { IfOk result (DoesAll (step_in line_byte text_start t.old) t.old t.new) }
+{
+    match t.current() {
+        None => Ok(State::Ok),
+        Some(b'\n') => {
+            t.consume();
+            t.attempt(State::Next(Name::DataStart), State::Next(Name::DataStart))?;
+            Ok(State::Next(Name::TextBefore))
+        }
+        Some(_) => {
+            t.consume();
+            Ok(State::Next(Name::TextStart))
+        }
+    }
+}
+
+/// In the attempt, which fails whatever waits.
+fn text_before<'a>(t: &mut Tokenizer<'a, Save>) -> Result<State, AllocError>
+    requires { IsCallable line_byte text_before t.old }
+    ensures { IfOk result (DoesAll (step_in line_byte text_before t.old) t.old t.new) }
+{
+    Ok(State::Nok)
+}

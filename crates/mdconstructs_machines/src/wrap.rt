@@ -1,0 +1,199 @@
+//! The machine that wraps: it reads data, and its resolvers put all of it into one paragraph, or refuse the document.
+
+ghost use Rattle.std.specs.Prelude.{◌≡◌, ◌∷◌, [], map, IfOk, OnOk};
+ghost use Rattle.markdown_tokenizer.specs.declared.waiting.Phase.TheVariants.{Resolving};
+ghost use Rattle.markdown_tokenizer.specs.Configuration.{at_configuration};
+ghost use Rattle.markdown_edits.specs.Edits.{added_after, edit_at};
+ghost use Rattle.markdown_tokenizer.specs.Sight.{sight_of};
+ghost use Rattle.mdconstructs_tables.specs.RowInvariant.{DoesAll, IsCallable, step_in};
+ghost use Rattle.mdconstructs_machines.specs.Tables.{line_byte};
+ghost use Rattle.mdconstructs_machines.specs.Wrap.{text_start, renamed, one_definition, begins_paragraph, ends_paragraph};
+
+use crate::begin::begin;
+use crate::message::refusal;
+use crate::reading::{data_inside, data_start};
+use markdown_tokenizer::event::{self, Event, Kind};
+use markdown_tokenizer::owned::{Items, OwnedText};
+use markdown_tokenizer::state::{Machine, MachineTypes, Name, State};
+use markdown_tokenizer::subtokenize::Subresult;
+use markdown_tokenizer::tokenizer::{Fault, Tokenizer};
+use markdown_tokenizer::util::edit_map::EditMap;
+use std::alloc::{AllocError, Global};
+
+/// The resolvers of the machine that wraps.
+#[derive(Clone, Copy, Debug, PartialEq, Eq)]
+pub enum Resolver {
+    /// Has the paragraph end, or refuses the document.
+    A,
+    /// Has the paragraph begin.
+    B,
+    /// Registered by `A`, and never run.
+    C,
+}
+
+/// Reads each line as data, and then puts all of it into one paragraph, as data of a code span; or refuses the document
+/// once all was read.
+///
+/// It takes at most 2 n + 2 calls for n virtual bytes. The message is `1:2: x (markdown:r)`.
+#[derive(Drop)]
+pub struct Wrap {
+    /// Whether the document is refused.
+    pub refuse: bool,
+}
+
+impl MachineTypes for Wrap {
+    type Resolver = Resolver;
+
+    type Document = ();
+}
+
+impl Machine for Wrap {
+    ghost use Rattle.mdconstructs_machines.specs.Wrap.{wrap_rules};
+    ghost use Rattle.mdconstructs_machines.specs.Laws.Wrap as laws;
+
+    ghost rules = { λ m. wrap_rules m.refuse };
+
+    /// Counts the call, and does what the state of this name does.
+    fn call<'a>(
+        &self,
+        alloc: Global,
+        t: &mut Tokenizer<'a, Self>,
+        name: Name,
+    ) -> Result<State, AllocError> {
+        begin(t);
+        match name {
+            Name::TextStart => text_start(t),
+            Name::DataStart => data_start(t),
+            Name::DataInside => data_inside(t),
+            _ => unreachable!(),
+        }
+    }
+
+    /// `B` goes first, and then `A`.
+    fn resolve<'a>(
+        &self,
+        alloc: Global,
+        t: &mut Tokenizer<'a, Self>,
+        name: Resolver,
+    ) -> Result<Option<Subresult>, Fault> {
+        match name {
+            Resolver::A => {
+                if self.refuse {
+                    return Err(Fault::Message(refusal(alloc)?));
+                }
+                Ok(Some(end_paragraph(alloc, t)?))
+            }
+            Resolver::B => {
+                begin_paragraph(alloc, t)?;
+                Ok(None)
+            }
+            Resolver::C => Ok(None),
+        }
+    }
+
+    ghost consumes_once = { λ m g. laws.consumes_once m.refuse g };
+
+    ghost only_adds = { λ m g. laws.only_adds m.refuse g };
+
+    ghost ends_when_read = { λ m g. laws.ends_when_read m.refuse g };
+
+    ghost invariant_kept = { λ m g. laws.invariant_kept m.refuse g };
+
+    ghost cost_pays = { λ m g. laws.cost_pays m.refuse g };
+
+    ghost resolvers_keep = { λ m g. laws.resolvers_keep m.refuse g };
+}
+
+/// Resolvers are registered, and then data is read.
+fn text_start<'a>(t: &mut Tokenizer<'a, Wrap>) -> Result<State, AllocError>
+    requires { IsCallable line_byte text_start t.old }
+    ensures { IfOk result (DoesAll (step_in line_byte text_start t.old) t.old t.new) }
+{
+    t.register_resolver(Resolver::A)?;
+    t.register_resolver_before(Resolver::B)?;
+    t.register_resolver_before(Resolver::A)?;
+    Ok(State::Retry(Name::DataStart))
+}
+
+/// Data is called data of a code span.
+fn rename(event: &mut Event)
+    ensures { event.new ≡ renamed event.old }
+{
+    if event.name == event::Name::Data {
+        event.name = event::Name::CodeTextData;
+    }
+}
+
+/// Each event is renamed.
+fn rename_each(events: &mut [Event])
+    ensures { events.new ≡ map renamed events.old }
+{
+    for event in events.iter_mut() {
+        rename(event);
+    }
+}
+
+/// All events of a list are renamed.
+fn rename_all(events: &mut Vec<Event>)
+    ensures { events.new.items ≡ map renamed events.old.items }
+{
+    rename_each(events.as_mut_slice());
+}
+
+/// Data is renamed, and a paragraph is to begin in front of all events.
+fn begin_paragraph<'a>(alloc: Global, t: &mut Tokenizer<'a, Wrap>) -> Result<(), AllocError>
+    requires resolving { t.old.phase ≡ Resolving }
+    requires alone { t.old.choices ≡ [] }
+    ensures same { t.new ≡ at_configuration t.old t.new.configuration }
+    ensures ok { OnOk result (t.new ≡ at_configuration t.old (begins_paragraph (sight_of t.old) t.old.configuration)) }
+{
+    let point = match t.events().first() {
+        Some(event) => event.point,
+        None => t.point(),
+    };
+    rename_all(t.events_mut());
+    let enter = Event {
+        kind: Kind::Enter,
+        name: event::Name::Paragraph,
+        point,
+        link: None,
+    };
+    add_one(alloc, &mut t.map, 0, enter)
+}
+
+/// A paragraph is to end behind all events, and a definition is found.
+fn end_paragraph<'a>(alloc: Global, t: &mut Tokenizer<'a, Wrap>) -> Result<Subresult, AllocError>
+    requires resolving { t.old.phase ≡ Resolving }
+    ensures same { t.new ≡ at_configuration t.old t.new.configuration }
+    ensures ok { IfOk result (λ sub. (t.new ≡ at_configuration t.old (ends_paragraph (sight_of t.old) t.old.configuration)) × (sub ≡ one_definition)) }
+{
+    t.register_resolver(Resolver::C)?;
+    let exit = Event {
+        kind: Kind::Exit,
+        name: event::Name::Paragraph,
+        point: t.point(),
+        link: None,
+    };
+    let behind = t.events().len();
+    add_one(alloc, &mut t.map, behind, exit)?;
+    one_definition(alloc)
+}
+
+/// One event is to come at an index.
+fn add_one(alloc: Global, map: &mut EditMap, index: usize, event: Event) -> Result<(), AllocError>
+    ensures { OnOk result (map.new ≡ added_after map.old (edit_at index 0 (event ∷ []))) }
+{
+    map.add(index, 0, vec![in alloc; event]?)
+}
+
+/// The definition that is found, of the label `A`.
+fn one_definition(alloc: Global) -> Result<Subresult, AllocError>
+    ensures { IfOk result (λ sub. sub ≡ one_definition) }
+{
+    let label = OwnedText::from_string(String::from_str(alloc, "A")?);
+    Ok(Subresult {
+        done: false,
+        gfm_footnote_definitions: Items::from_vec(Vec::new(alloc)),
+        definitions: Items::from_vec(vec![in alloc; label]?),
+    })
+}

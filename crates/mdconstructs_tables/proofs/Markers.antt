@@ -1,0 +1,62 @@
+-- A byte that waits can be a span of its own.
+use Rattle.std.proofs.Common.{◌≡◌, ℕ, ◌<◌, ◌≤◌, List, [], ◌∷◌, ◌++◌, true, Option, Some, None, length, refl, sym, ap, ◌∙◌, subst, arith, length-append}
+use Rattle.std.specs.Prelude.{All, IfSome}
+use Rattle.std.specs.List.{last_or}
+use Rattle.std.proofs.lemmas.List.Elements.{All-weaker}
+use Rattle.markdown_base.specs.declared.event.Event.{Event}
+use Rattle.markdown_base.specs.declared.event.Kind.TheVariants.{Enter}
+use Rattle.markdown_base.specs.declared.event.Name.{Name}
+use Rattle.markdown_base.specs.Events.{open_events}
+use Rattle.markdown_base.specs.Places.{stands_before}
+use Rattle.markdown_tokenizer.specs.declared.waiting.Waits.TheVariants.{Nothing, Byte}
+use Rattle.markdown_tokenizer.specs.Configuration.{Choice, Saved, TokenizerValue, at_configuration}
+use Rattle.markdown_tokenizer.specs.Sight.{sight_of}
+use Rattle.markdown_tokenizer.specs.Calls.{CanExit, consumed, entered}
+use Rattle.mdconstructs_tables.specs.Rows.{StateRows}
+use Rattle.mdconstructs_tables.specs.RowInvariant.{IsBelow, IsAtState}
+use Rattle.mdconstructs_tables.specs.Markers.{IsMarkable}
+use Rattle.mdconstructs_tables.proofs.GrowingTexts.{open-more, last-more, next-left}
+
+longer : (base more stack : List Name) (saved : Option Saved) → stack ≡ base ++ more → IfSome saved (λ s. length s.stack ≤ length base) → IfSome saved (λ s. length s.stack ≤ length stack)
+longer base more stack None same h = tt
+longer base more stack (Some saved) same h = omega (arith, ap length same, length-append base more, h)
+
+fewer : (name : Name) (stack : List Name) (saved : Option Saved) → IfSome saved (λ s. length s.stack ≤ length stack) → IfSome saved (λ s. length s.stack < length (stack ++ name ∷ []))
+fewer name stack None h = tt
+fewer name stack (Some saved) h = omega (arith, length-append stack (name ∷ []), h)
+
+-- choices that are below some spans saved no more of the stack than there is
+pub stack-below : (base more stack : List Name) (cs : List Choice) → stack ≡ base ++ more → All (IsBelow base) cs → All (IsBelow stack) cs
+stack-below base more stack cs same h = All-weaker (IsBelow base) (IsBelow stack) (λ c. longer base more stack c.saved same) cs h
+
+-- a state is called and a byte waits
+pub markable : {M W R D : Type 0} (class : ℕ → W) (state : StateRows W R D) (t : TokenizerValue M R D) → IsAtState class state t → t.configuration.waiting ≡ Byte → IsMarkable t
+markable class state t can waits =
+    let k = t.configuration in
+    record {
+      waits = waits;
+      inside = rw waits at can.fed;
+      in_order = can.in_order.begins waits;
+      below = stack-below can.base state.spans k.stack t.choices can.spans.stack can.spans.below;
+    }
+
+module _ {M R D : Type 0} (name : Name) (t : TokenizerValue M R D) (can : IsMarkable t) where
+  abbrev read : TokenizerValue M R D
+  read = at_configuration t (consumed (entered name None (sight_of t).enter_place t.configuration))
+
+  left : (sight_of read).exit_place ≡ (sight_of t).next
+  left = let waits = can.waits in rw waits (sym (next-left t.given t.text t.configuration.position Nothing can.inside))
+
+  pub can-mark : CanExit name read
+  can-mark =
+      let k = t.configuration in
+      let x : Event = record { kind = Enter; name = name; point = (sight_of t).enter_place; link = None } in
+      let opened : open_events (k.events ++ x ∷ []) ≡ open_events k.events ++ x ∷ [] = open-more [] k.events x in
+      let is-last : (e : Event) → last_or None (open_events (k.events ++ x ∷ [])) ≡ Some e → x ≡ e = λ e is.
+      let last : Some x ≡ Some e = sym (last-more None (open_events k.events) x) ∙ ap (last_or None) (sym opened) ∙ is in cc in
+      record {
+        top = last-more None k.stack name;
+        read = λ e is. subst (λ e. stands_before e.point (sight_of read).exit_place ≡ true) (is-last e is) (subst (λ q. stands_before (sight_of t).enter_place q ≡ true) (sym left) can.in_order);
+        void = λ v. (x, last-more None k.events x, refl);
+        above = All-weaker (λ c. IfSome c.saved (λ s. length s.stack ≤ length k.stack)) (λ c. IfSome c.saved (λ s. length s.stack < length (k.stack ++ name ∷ []))) (λ c. fewer name k.stack c.saved) t.choices can.below;
+      }

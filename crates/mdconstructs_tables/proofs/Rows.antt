@@ -1,0 +1,4 @@
+-- Rows of a table.
+pub mod Calls
+pub mod Laws
+pub mod Misfits

@@ -1,0 +1,238 @@
+-- What the code of a state may do where it is called, from the test of its acts.
+use Rattle.std.proofs.Common.{◌≡◌, ◌≢◌, ◌==◌, ℕ, ◌<◌, ◌≤◌, ◌&&◌, ◌||◌, not, List, [], ◌∷◌, ◌++◌, Bool, true, false, cond, Option, Some, None, length, map, refl, sym, ap, ◌∙◌, subst, arith, append_assoc, length-append}
+use Rattle.std.specs.Prelude.{All, IfSome, reverse}
+use Rattle.std.specs.List.{last_or}
+use Rattle.std.proofs.lemmas.Bool.Decides.{nat_tests}
+use Rattle.std.proofs.lemmas.List.Elements.{All-head, All-tail, All-weaker}
+use Rattle.std.proofs.lemmas.Bool.{and_parts}
+use Rattle.markdown_base.specs.declared.event.Event.{Event}
+use Rattle.markdown_base.specs.declared.event.Kind.TheVariants.{Enter}
+use Rattle.markdown_base.specs.declared.event.Name.{Name as EventName}
+use Rattle.markdown_base.specs.declared.state.Name.{Name}
+use Rattle.markdown_base.specs.declared.state.State.TheVariants.{Retry}
+use Rattle.markdown_base.specs.Events.{open_events, is_void, unlinked}
+use Rattle.markdown_base.specs.Places.{stands_before}
+use Rattle.markdown_base.proofs.Common.{or-leads}
+use Rattle.markdown_tokenizer.specs.declared.waiting.Waits.{Waits}
+use Rattle.markdown_tokenizer.specs.declared.waiting.Waits.TheVariants.{Nothing, Byte, End}
+use Rattle.markdown_tokenizer.specs.Text.{Text}
+use Rattle.markdown_tokenizer.specs.Configuration.{Configuration, Local, Choice, Saved, TokenizerValue}
+use Rattle.markdown_tokenizer.specs.Sight.{sight, sight_of}
+use Rattle.markdown_tokenizer.specs.Calls.{CanExit}
+use Rattle.markdown_tokenizer.specs.Lawful.{IsAsFar}
+use Rattle.mdconstructs_tables.specs.Rows.{Act, enters, exit, consume, links, write, choose, done, with_choice_of, StateRows, Table, no_cost, class_of, does, chooses, named}
+use Rattle.mdconstructs_tables.specs.RowTest.{Stage, end_waits, byte_waits, byte_read, Shape, is_last, allows_all, after_all, start_shape, is_some}
+use Rattle.mdconstructs_tables.specs.RowInvariant.{EndsWithEnter, since, IsFed, begun, IsBelow, table_holds, IsAtState, once_read, CanEnd, IsCallable}
+use Rattle.mdconstructs_tables.proofs.Rows.Laws.{Waited, reached, sight_at, HasShape, below_all, is-last, last-above, last-long, to-before, open-unlinked, left-at, here-at, has-after-all, does-then, chooses-then, allows-then, allows-front}
+use Rattle.mdconstructs_tables.proofs.GrowingTexts.{next-left}
+use Rattle.mdconstructs_tables.specs.Markers.{IsMarkable}
+use Rattle.mdconstructs_tables.proofs.Markers.{markable, stack-below}
+use Rattle.mdconstructs_tables.proofs.Tables.Holding.{met-at, read-before, ahead-at, start-sight, begins}
+
+-- what holds of the last of the events without their links holds of the last
+last-unlinked : (P : Event → Type 0) (o : Option Event) (es : List Event) (e : Event) → ((x : Event) → o ≡ Some x → P (unlinked x)) → All P (map unlinked es) → last_or o es ≡ Some e → P (unlinked e)
+last-unlinked P o [] e before h is = before e is
+last-unlinked P o (x ∷ es) e before h is =
+    last-unlinked P (Some x) es e (λ y same. let same : x ≡ y = cc in subst (λ y. P (unlinked y)) same (All-head P (unlinked x) (map unlinked es) h)) (All-tail P (unlinked x) (map unlinked es) h) is
+
+-- the last event is an enter, also with its link
+last-linked : (x : Event) (es : List Event) (e : Event) → last_or (Some (unlinked x)) (map unlinked es) ≡ Some e → e.kind ≡ Enter → (d : Event) × (last_or (Some x) es ≡ Some d) × (d.kind ≡ Enter)
+last-linked x [] e is kind = let same : unlinked x ≡ e = cc in (x, refl, ap (λ e. e.kind) same ∙ kind)
+last-linked x (y ∷ es) e is kind = last-linked y es e is kind
+
+ends-linked : (es : List Event) → EndsWithEnter (map unlinked es) → EndsWithEnter es
+ends-linked [] h = absurd (let none = h.1 in cc)
+ends-linked (x ∷ es) h = last-linked x es h.0 h.1 h.2
+
+-- choices that are below some spans began with fewer than those and more
+above-one : (base spans stack : List EventName) (saved : Option Saved) → stack ≡ base ++ spans → 1 ≤ length spans → IfSome saved (λ s. length s.stack ≤ length base) → IfSome saved (λ s. length s.stack < length stack)
+above-one base spans stack None same some h = tt
+above-one base spans stack (Some saved) same some h = omega (arith, ap length same, length-append base spans, some, h)
+
+above-all : (base spans stack : List EventName) (cs : List Choice) → stack ≡ base ++ spans → 1 ≤ length spans → All (IsBelow base) cs → All (λ c. IfSome c.saved (λ s. length s.stack < length stack)) cs
+above-all base spans stack cs same some h = All-weaker (IsBelow base) (λ c. IfSome c.saved (λ s. length s.stack < length stack)) (λ c. above-one base spans stack c.saved same some) cs h
+
+-- where a byte still waits, nothing was read
+still-waiting : {R D : Type 0} (stage : Stage) (k k' : Configuration R D) → IsAsFar k' (reached stage k) → k'.waiting ≡ Byte → (k'.position ≡ k.position) × (k'.waiting ≡ k.waiting)
+still-waiting end_waits k k' far is = (far.0, far.1)
+still-waiting byte_waits k k' far is = (far.0, far.1)
+still-waiting byte_read k k' far is = absurd (let e : Nothing ≡ Byte = sym far.1 ∙ is in cc)
+
+-- the tokenizer after one act
+abbrev pub acted_once : {M R D : Type 0} → Act R D → TokenizerValue M R D → TokenizerValue M R D
+acted_once act t = record {
+  given = t.given;
+  machine = t.machine;
+  text = t.text;
+  configuration = done act (sight_of t) t.configuration;
+  choices = with_choice_of act t.configuration t.choices;
+  calls = t.calls;
+  closed = t.closed;
+  phase = t.phase;
+}
+
+module _ {M W R D : Type 0} (class : ℕ → W) (state : StateRows W R D) (b w : Option W) (t : TokenizerValue M R D) where
+  -- and after acts
+  abbrev pub acted : List (Act R D) → TokenizerValue M R D
+  acted acts = record {
+    given = t.given;
+    machine = t.machine;
+    text = t.text;
+    configuration = does acts (sight_of t) t.configuration;
+    choices = chooses acts (sight_of t) t.configuration t.choices;
+    calls = t.calls;
+    closed = t.closed;
+    phase = t.phase;
+  }
+
+  -- the acts are allowed at the state
+  abbrev pub are_allowed : List (Act R D) → Bool
+  are_allowed acts = allows_all acts (start_shape b w state)
+
+  -- a table of which only the class of bytes matters
+  abbrev classes : Table W R D
+  classes = record { class = class; first = λ local. local; states = []; starts = []; cost = no_cost }
+
+  module _ (can : IsAtState class state t) (is_before : class_of class (sight_of t).previous ≡ b) (is_class : class_of class (sight_of t).current ≡ w) where
+    shaped : (acts : List (Act R D)) → are_allowed acts ≡ true
+        → let p = after_all acts (start_shape b w state) in HasShape p (below_all acts (start_shape b w state) can.base) (sight_at p.stage (sight_of t)) t.given t.text t.configuration (acted acts).configuration (acted acts).choices
+    shaped acts allowed =
+        let k = t.configuration in
+        let met = rw is_class at (met-at classes t.given t.text k k.waiting refl can.fed) in
+        let read = ap is_some (sym is_before) ∙ read-before classes t.given t.text k.position can.inside in
+        has-after-all acts (start_shape b w state) can.base (sight_of t) t.given t.text k k t.choices allowed (ahead-at classes t.given w t.text k met can.in_order) (start-sight classes t.given w (sight_of t))
+        (begins classes t.given b w t.text k k.local can.base t.choices state read met (rw is_class at can.spans))
+
+    -- the span that an allowed act exits may end
+    pub can-exit : (acts : List (Act R D)) (name : EventName) (t' : TokenizerValue M R D) → are_allowed (acts ++ exit name ∷ []) ≡ true → t' ≡ acted acts → CanExit name t'
+    can-exit acts name t' allowed is =
+        let k = t.configuration in
+        let k' = (acted acts).configuration in
+        let p = after_all acts (start_shape b w state) in
+        let base = below_all acts (start_shape b w state) can.base in
+        let s = sight_at p.stage (sight_of t) in
+        let (before, exits) = allows-then acts (exit name) (start_shape b w state) allowed in
+        let (top, rest) = and_parts (is_last name (last_or None p.spans)) (not p.fresh && (not (is_void name) || p.bare)) exits in
+        let (old, void) = and_parts (not p.fresh) (not (is_void name) || p.bare) rest in
+        let last = is-last name (last_or None p.spans) top in
+        let h = shaped acts before in
+        let left = left-at t.given t.text k p.stage k' h.far h.waited in
+        let P : Event → Type 0 = λ e. since p.fresh p.stage s e.point ≡ true in
+        let opened : All P (map unlinked (open_events k'.events)) = subst (All P) (open-unlinked k'.events) h.began in
+        let began : (e : Event) → last_or None (open_events k'.events) ≡ Some e → stands_before e.point s.exit_place ≡ true =
+        λ e is. to-before p.fresh p.stage s e.point old (last-unlinked P None (open_events k'.events) e (λ x none. absurd (cc)) opened is) in
+        subst (CanExit name) (sym is) (record {
+          top = ap (last_or None) h.stack ∙ last-above None base p.spans name last;
+          read = λ e last. subst (λ q. stands_before e.point q ≡ true) (sym left) (began e last);
+          void = λ v. ends-linked k'.events (h.bare (or-leads (is_void name) p.bare void v));
+          above = above-all base p.spans k'.stack (acted acts).choices h.stack (last-long p.spans name last) h.below;
+        })
+
+    done-at : (act : Act R D) (p : Shape) (k' : Configuration R D) → IsAsFar k' (reached p.stage t.configuration) → Waited p.stage t.text t.configuration
+        → done act (sight t.given t.text k') k' ≡ done act (sight_at p.stage (sight_of t)) k'
+    done-at (enters name link) p k' far waited = ap (λ q. done (enters name link) (record (sight_of t) { enter_place = q }) k') (here-at t.given t.text t.configuration p.stage k' far waited)
+    done-at (exit name) p k' far waited = ap (λ q. done (exit name) (record (sight_of t) { exit_place = q }) k') (left-at t.given t.text t.configuration p.stage k' far waited)
+    done-at consume p k' far waited = refl
+    done-at (links previous next) p k' far waited = refl
+    done-at (write f) p k' far waited = refl
+    done-at (choose kind ok nok) p k' far waited = refl
+
+    -- one more act
+    pub then : (acts : List (Act R D)) (act : Act R D) (t' t'' : TokenizerValue M R D) → are_allowed (acts ++ act ∷ []) ≡ true → t' ≡ acted acts → t'' ≡ acted_once act t' → t'' ≡ acted (acts ++ act ∷ [])
+    then acts act t' t'' allowed one two =
+        let (before, last) = allows-then acts act (start_shape b w state) allowed in
+        let p = after_all acts (start_shape b w state) in
+        let h = shaped acts before in
+        let k'' : done act (sight_of (acted acts)) (acted acts).configuration ≡ (acted (acts ++ act ∷ [])).configuration =
+        done-at act p (acted acts).configuration h.far h.waited
+        ∙ sym (does-then acts act (start_shape b w state) (sight_of t) (sight_of t) t.configuration before (start-sight classes t.given w (sight_of t))) in
+        two ∙ ap (acted_once act) one
+        ∙ ap (λ k. record { given = t.given; machine = t.machine; text = t.text; configuration = k; choices = with_choice_of act (acted acts).configuration (acted acts).choices; calls = t.calls; closed = t.closed; phase = t.phase }) k''
+        ∙ ap (λ cs. record { given = t.given; machine = t.machine; text = t.text; configuration = (acted (acts ++ act ∷ [])).configuration; choices = cs; calls = t.calls; closed = t.closed; phase = t.phase })
+        (sym (chooses-then acts act (sight_of t) t.configuration t.choices))
+
+    -- and so may spans that allowed acts exit, one after another
+    pub can-end : (acts : List (Act R D)) (names : List EventName) (t' : TokenizerValue M R D) → are_allowed (acts ++ map exit names) ≡ true → t' ≡ acted acts → CanEnd names t'
+    can-end acts [] t' allowed is = tt
+    can-end acts (name ∷ names) t' allowed is =
+        let whole : are_allowed ((acts ++ exit name ∷ []) ++ map exit names) ≡ true = ap are_allowed (append_assoc acts (exit name ∷ []) (map exit names)) ∙ allowed in
+        let one = allows-front (acts ++ exit name ∷ []) (map exit names) (start_shape b w state) whole in
+        (can-exit acts name t' one is, can-end (acts ++ exit name ∷ []) names (acted_once (exit name) t') whole (then acts (exit name) t' (acted_once (exit name) t') one is refl))
+
+    -- behind allowed acts a byte that still waits can be a span of its own
+    pub can-mark : (acts : List (Act R D)) (t' : TokenizerValue M R D) → are_allowed acts ≡ true → t' ≡ acted acts → t'.configuration.waiting ≡ Byte → IsMarkable t'
+    can-mark acts t' allowed is waits =
+        let k = t.configuration in
+        let p = after_all acts (start_shape b w state) in
+        let base = below_all acts (start_shape b w state) can.base in
+        let h = shaped acts allowed in
+        let same = still-waiting p.stage k (acted acts).configuration h.far (ap (λ t. t.configuration.waiting) (sym is) ∙ waits) in
+        let byte : k.waiting ≡ Byte = sym same.1 ∙ ap (λ t. t.configuration.waiting) (sym is) ∙ waits in
+        subst IsMarkable (sym is) (record {
+          waits = same.1 ∙ byte;
+          inside = rw same.0 (rw byte at can.fed);
+          in_order = rw (same.0, same.1) (can.in_order.begins byte);
+          below = stack-below base p.spans (acted acts).configuration.stack (acted acts).choices h.stack h.below;
+        })
+
+-- where a state is called that is never called at the end, a byte waits
+fed-byte : (w : Waits) (p : ℕ) (ended : Bool) (text : Text) → IsFed w p ended text → p < length text.seats → w ≡ Byte
+fed-byte Nothing p ended text h left = absurd h
+fed-byte Byte p ended text h left = refl
+fed-byte End p ended text h left = absurd (omega (arith, h.1, left))
+
+-- where a byte ends, an exit stands once it is consumed
+stands-past : {M R D : Type 0} (t : TokenizerValue M R D) → IsFed t.configuration.waiting t.configuration.position t.configuration.ended t.text → t.configuration.waiting ≡ Byte
+    → (sight_of (once_read t)).exit_place ≡ (sight_of t).next
+stands-past t fed waits = let inside = rw waits at fed in rw waits (sym (next-left t.given t.text t.configuration.position Nothing inside))
+
+-- what the code of a state may do follows where it is called
+allowed : {M W R D : Type 0} (class : ℕ → W) (state : StateRows W R D) (t : TokenizerValue M R D) → IsAtState class state t → IsCallable class state t
+allowed class state t can =
+    let k = t.configuration in
+    let before = class_of class (sight_of t).previous in
+    let waits = class_of class (sight_of t).current in
+    let names = reverse state.spans in
+    record {
+      called = can;
+      byte = λ needs. fed-byte k.waiting k.position k.ended t.text can.fed (can.spans.needs_byte needs);
+      stands = stands-past t can.fed;
+      marks = markable class state t can;
+      ends = λ fit. can-end class state before waits t can refl refl [] names t fit refl;
+      ends_read = λ fit. can-end class state before waits t can refl refl (consume ∷ []) names (once_read t) fit refl;
+    }
+
+-- what holds where a machine is called is what its state asks for
+pub callable : {M W R D : Type 0} (table : Table W R D) (first : Local R D → Local R D) (name : Name) (state : StateRows W R D) (t t' : TokenizerValue M R D) → name.number ≡ state.name.number
+    → named table.states state.name ≡ Some state → table_holds table t.given t.text t.configuration t.choices (Retry name) → t' ≡ begun first t → IsCallable table.class state t'
+callable table first name state t t' same is h began =
+    let one : named table.states name ≡ Some state = ap (λ n. named table.states (record { number = n })) same ∙ is in
+    let there = rw one at h.1.2 in
+    let o = there.spans in
+    subst (IsCallable table.class state) (sym began) (allowed table.class state (begun first t) (record {
+      inside = h.0;
+      fed = h.1.0;
+      in_order = h.1.1;
+      base = there.base;
+      spans = record { stack = o.stack; began = o.began; void = o.void; below = o.below; needs = o.needs; needs_byte = o.needs_byte };
+    }))
+
+-- a name is none of the states'
+abbrev pub IsNoneOf : {W R D : Type 0} → List (StateRows W R D) → Name → Type 0
+IsNoneOf [] name = Unit {0}
+IsNoneOf (state ∷ states) name = (name.number ≢ state.name.number) × IsNoneOf states name
+
+skipped : {W R D : Type 0} (b : Bool) (state : StateRows W R D) (rest : Option (StateRows W R D)) → b ≡ false → cond b (Some state) rest ≡ rest
+skipped true state rest h = absurd (cc)
+skipped false state rest h = refl
+
+pub not-named : {W R D : Type 0} (states : List (StateRows W R D)) (name : Name) → IsNoneOf states name → named states name ≡ None
+not-named [] name h = refl
+not-named (state ∷ states) name h =
+    let other = h.0 in
+    let not : (name.number == state.name.number) ≡ false = grind (arith, nat_tests) in
+    skipped (name.number == state.name.number) state (named states name) not ∙ not-named states name h.1
+
+-- such a name is never called
+pub never-called : {M W R D : Type 0} (table : Table W R D) (name : Name) (t : TokenizerValue M R D) → IsNoneOf table.states name → table_holds table t.given t.text t.configuration t.choices (Retry name) → ⊥
+never-called table name t none h = rw (not-named table.states name none) at h.1.2

@@ -1,0 +1,343 @@
+-- What a row keeps: lemmas for the laws of tables.
+use Rattle.std.proofs.Common.{◌≡◌, suc, ◌+◌, ◌-◌, ◌<◌, ◌≤◌, not, List, [], ◌∷◌, ◌++◌, Bool, true, false, Option, Some, None, length, map, refl, sym, ap, ◌∙◌, subst, arith, take, append_assoc, length-append}
+use Rattle.std.specs.Prelude.{All, IfSome}
+use Rattle.std.specs.List.{last_or}
+use Rattle.std.proofs.lemmas.Bool.{and_from, and_parts}
+use Rattle.std.proofs.lemmas.List.{append-nil, map-append}
+use Rattle.std.proofs.lemmas.List.Elements.{All-push, All-take, All-weaker, All-cons}
+use Rattle.markdown_base.specs.declared.event.Event.{Event}
+use Rattle.markdown_base.specs.declared.event.Kind.TheVariants.{Enter, Exit}
+use Rattle.markdown_base.specs.declared.event.Name.{Name as EventName}
+use Rattle.markdown_base.specs.declared.event.Point.{Point}
+use Rattle.markdown_base.specs.declared.state.State.{State}
+use Rattle.markdown_base.specs.declared.state.State.TheVariants.{Next, Retry, Ok, Nok, Error}
+use Rattle.markdown_base.specs.Events.{open_events, unlinked}
+use Rattle.markdown_base.specs.Places.{stands_before}
+use Rattle.markdown_base.proofs.OpenEvents.{open_events_from-unlinked}
+use Rattle.markdown_base.proofs.Seats.{stands-self}
+use Rattle.markdown_tokenizer.specs.declared.waiting.Waits.TheVariants.{Nothing, Byte}
+use Rattle.markdown_tokenizer.specs.declared.waiting.AttemptKind.{AttemptKind}
+use Rattle.markdown_tokenizer.specs.declared.waiting.AttemptKind.TheVariants.{Attempt, Check}
+use Rattle.markdown_tokenizer.specs.Text.{Given, Text}
+use Rattle.markdown_tokenizer.specs.Configuration.{Configuration, Choice, Saved}
+use Rattle.markdown_tokenizer.specs.Sight.{Sight, sight}
+use Rattle.markdown_tokenizer.specs.Calls.{consumed}
+use Rattle.markdown_tokenizer.proofs.Inside.Changes.{linked-unlinked}
+use Rattle.markdown_tokenizer.specs.Lawful.{IsAsFar}
+use Rattle.markdown_edits.proofs.Balanced.{same_name-true}
+use Rattle.markdown_tokenizer.proofs.Inside.Made.{before-upto}
+use Rattle.mdconstructs_tables.specs.Rows.{Act, enters, exit, consume, links, write, choose, past, done, seen_after, choice_made_at, with_choice_of, does, chooses}
+use Rattle.mdconstructs_tables.specs.RowTest.{Stage, end_waits, byte_waits, byte_read, Shape, is_byte_waiting, is_end, is_last, allows, after, allows_all, after_all, same_names}
+use Rattle.mdconstructs_tables.specs.RowInvariant.{outline, EndsWithEnter, Began, upto, since, AnyWait, IsBelow}
+use Rattle.mdconstructs_tables.proofs.GrowingTexts.{open-more, last-more, next-left}
+
+-- What the tests of equality say
+pub same_names-true : (xs ys : List EventName) → same_names xs ys ≡ true → xs ≡ ys
+same_names-true [] [] h = refl
+same_names-true [] (y ∷ ys) h = absurd (cc)
+same_names-true (x ∷ xs) [] h = absurd (cc)
+same_names-true (x ∷ xs) (y ∷ ys) h =
+    let (first, rest) = and_parts _ _ h in
+    let one = same_name-true x y first in
+    let more = same_names-true xs ys rest in
+    cc
+
+pub is-last : (name : EventName) (o : Option EventName) → is_last name o ≡ true → o ≡ Some name
+is-last name None h = absurd (cc)
+is-last name (Some last) h = ap Some (same_name-true last name h)
+
+-- Lists, one above another
+last-or-last : (o : Option EventName) (xs : List EventName) (name : EventName) → last_or None xs ≡ Some name → last_or o xs ≡ Some name
+last-or-last o [] name h = absurd (cc)
+last-or-last o (x ∷ xs) name h = h
+
+pub last-above : (o : Option EventName) (base spans : List EventName) (name : EventName) → last_or None spans ≡ Some name → last_or o (base ++ spans) ≡ Some name
+last-above o [] spans name h = last-or-last o spans name h
+last-above o (x ∷ base) spans name h = last-above (Some x) base spans name h
+
+pub last-long : (spans : List EventName) (name : EventName) → last_or None spans ≡ Some name → 1 ≤ length spans
+last-long [] name h = absurd (cc)
+last-long (x ∷ xs) name h = omega arith
+
+take-above : (base spans : List EventName) → 1 ≤ length spans → take (length (base ++ spans) - 1) (base ++ spans) ≡ base ++ take (length spans - 1) spans
+take-above [] spans h = refl
+take-above (x ∷ base) spans h =
+    let n : length (x ∷ base ++ spans) - 1 ≡ suc (length (base ++ spans) - 1) = omega (arith, length-append base spans) in
+    rw n (ap (λ xs. x ∷ xs) (take-above base spans h))
+
+-- Events without their links
+pub open-unlinked : (es : List Event) → open_events (map unlinked es) ≡ map unlinked (open_events es)
+open-unlinked es = open_events_from-unlinked [] es
+
+-- the byte that waits can be read
+abbrev pub CanRead : {R D : Type 0} → Text → Configuration R D → Type 0
+CanRead text k = (k.waiting ≡ Byte) × (k.position < length text.seats)
+
+-- what waited where the call began
+abbrev pub Waited : {R D : Type 0} → Stage → Text → Configuration R D → Type 0
+Waited end_waits text k = (k.ended ≡ true) × (length text.seats ≤ k.position)
+Waited byte_waits text k = CanRead text k
+Waited byte_read text k = CanRead text k
+
+-- how far a call that began at a configuration is
+abbrev pub reached : {R D : Type 0} → Stage → Configuration R D → Configuration R D
+reached byte_read k = consumed k
+reached _ k = k
+
+-- What is known of places in a call: spans may begin where an enter stands, and those that began before are among those that may have
+pub record IsSeenAhead (stage : Stage) (s : Sight) : Type 0 where
+  pub begins : is_end stage ≡ false → since true stage s s.enter_place ≡ true
+  pub later : (q : Point) → since false stage s q ≡ true → since true stage s q ≡ true
+
+-- what is seen at a stage
+abbrev pub sight_at : Stage → Sight → Sight
+sight_at byte_read s = past s
+sight_at _ s = s
+
+-- A configuration has this shape, above these spans and the choices that wait
+pub record HasShape {R D : Type 0} (p : Shape) (base : List EventName) (s : Sight) (g : Given) (text : Text) (old k : Configuration R D) (choices : List Choice) : Type 0 where
+  pub stack : k.stack ≡ base ++ p.spans
+  pub began : Began (since p.fresh p.stage s) (outline k)
+  pub bare : p.bare ≡ true → EndsWithEnter (outline k)
+  pub far : IsAsFar k (reached p.stage old)
+  pub waited : Waited p.stage text old
+  pub below : All (IsBelow base) choices
+  pub within : p.within ≡ true → AnyWait choices
+
+pub waiting-stage : (stage : Stage) → is_byte_waiting stage ≡ true → stage ≡ byte_waits
+waiting-stage end_waits h = absurd (cc)
+waiting-stage byte_waits h = refl
+waiting-stage byte_read h = absurd (cc)
+
+pub not-end : (stage : Stage) → not (is_end stage) ≡ true → is_end stage ≡ false
+not-end end_waits h = absurd (cc)
+not-end byte_waits h = refl
+not-end byte_read h = refl
+
+-- Where spans may have begun
+pub before-is-upto : (place q : Point) → upto false place q ≡ true → upto true place q ≡ true
+before-is-upto place q h = let no = before-upto q place h in rw no refl
+
+pub at-place : (place : Point) → upto true place place ≡ true
+at-place place = let no = stands-self place in rw no refl
+
+to-fresh : (fresh : Bool) (stage : Stage) (s : Sight) (q : Point) → IsSeenAhead stage s → since fresh stage s q ≡ true → since true stage s q ≡ true
+to-fresh true stage s q sees h = h
+to-fresh false stage s q sees h = sees.later q h
+
+pub to-before : (fresh : Bool) (stage : Stage) (s : Sight) (q : Point) → not fresh ≡ true → since fresh stage s q ≡ true → stands_before q s.exit_place ≡ true
+to-before true stage s q fit h = absurd (cc)
+to-before false end_waits s q fit h = h
+to-before false byte_waits s q fit h = h
+to-before false byte_read s q fit h = h
+
+-- where each open span began by one test, it began by another
+pub began-on : (from to : Point → Bool) (events : List Event) → ((q : Point) → from q ≡ true → to q ≡ true) → Began from events → Began to events
+began-on from to events f h = All-weaker (λ e. from e.point ≡ true) (λ e. to e.point ≡ true) (λ e. f e.point) (open_events events) h
+
+-- choices that are below some spans are below those and more
+longer-below : (base more : List EventName) (c : Choice) (saved : Option Saved) → IfSome saved (λ s. length s.stack ≤ length base) → IfSome saved (λ s. length s.stack ≤ length (base ++ more))
+longer-below base more c None h = tt
+longer-below base more c (Some saved) h = omega (arith, h, length-append base more)
+
+pub below-more : (base more : List EventName) (cs : List Choice) → All (IsBelow base) cs → All (IsBelow (base ++ more)) cs
+below-more base more cs h = All-weaker (IsBelow base) (IsBelow (base ++ more)) (λ c. longer-below base more c c.saved) cs h
+
+module _ {R D : Type 0} where
+  -- the spans below after one act, and after all
+  abbrev pub below_after : Act R D → Shape → List EventName → List EventName
+  below_after (choose kind ok nok) p base = base ++ p.spans
+  below_after _ p base = base
+
+  abbrev pub below_all : List (Act R D) → Shape → List EventName → List EventName
+  below_all [] p base = base
+  below_all (act ∷ acts) p base = below_all acts (after act p) (below_after act p base)
+
+past-stage : (stage : Stage) (s : Sight) (q : Point) → stage ≡ byte_waits → since true stage s q ≡ true → stands_before q s.next ≡ true
+past-stage end_waits s q e h = absurd (cc)
+past-stage byte_waits s q e h = h
+past-stage byte_read s q e h = absurd (cc)
+
+still-before : (fresh : Bool) (stage : Stage) (s : Sight) (q : Point) → not fresh ≡ true → since fresh stage s q ≡ true → since false stage s q ≡ true
+still-before true stage s q fit h = absurd (cc)
+still-before false stage s q fit h = h
+
+module _ {R D : Type 0} (g : Given) (text : Text) (old : Configuration R D) where
+  -- where an exit stands, by how far a call is
+  pub left-at : (stage : Stage) (k : Configuration R D) → IsAsFar k (reached stage old) → Waited stage text old → (sight g text k).exit_place ≡ (sight_at stage (sight g text old)).exit_place
+  left-at end_waits k far waited = rw far.0 refl
+  left-at byte_waits k far waited = rw far.0 refl
+  left-at byte_read k far waited = let byte = waited.0 in rw (far.0, byte) (sym (next-left g text old.position k.waiting waited.1))
+
+  -- where an enter stands before the end
+  pub here-at : (stage : Stage) (k : Configuration R D) → IsAsFar k (reached stage old) → Waited stage text old → (sight g text k).enter_place ≡ (sight_at stage (sight g text old)).enter_place
+  here-at end_waits k far waited = rw (far.0, far.1) refl
+  here-at byte_waits k far waited = rw (far.0, far.1) refl
+  here-at byte_read k far waited = let byte = waited.0 in rw (far.0, far.1, byte) (sym (next-left g text old.position Nothing waited.1))
+
+  read-far : (stage : Stage) (k : Configuration R D) → stage ≡ byte_waits → IsAsFar k (reached stage old) → IsAsFar (consumed k) (consumed old)
+  read-far end_waits k e h = absurd (cc)
+  read-far byte_waits k e h = (ap (λ n. n + 1) h.0, refl, refl)
+  read-far byte_read k e h = absurd (cc)
+
+  waited-read : (stage : Stage) → stage ≡ byte_waits → Waited stage text old → CanRead text old
+  waited-read end_waits e h = absurd (cc)
+  waited-read byte_waits e h = h
+  waited-read byte_read e h = h
+
+  chosen-below : (kind : AttemptKind) (ok nok : State) (stack : List EventName) (k : Configuration R D) → k.stack ≡ stack → IsBelow stack (choice_made_at kind ok nok k)
+  chosen-below Check ok nok stack k h = omega (arith, ap length h)
+  chosen-below Attempt ok Nok stack k h = tt
+  chosen-below Attempt ok (Next name) stack k h = omega (arith, ap length h)
+  chosen-below Attempt ok (Retry name) stack k h = omega (arith, ap length h)
+  chosen-below Attempt ok Ok stack k h = omega (arith, ap length h)
+  chosen-below Attempt ok (Error message) stack k h = omega (arith, ap length h)
+
+  -- an act that is allowed leaves the shape after it
+  pub has-after : (act : Act R D) (p : Shape) (base : List EventName) (s : Sight) (k : Configuration R D) (choices : List Choice) → allows act p ≡ true → IsSeenAhead p.stage s
+      → HasShape p base s g text old k choices → HasShape (after act p) (below_after act p base) (seen_after act s) g text old (done act s k) (with_choice_of act k choices)
+  has-after (enters name link) p base s k choices can sees h =
+      let e : Event = record { kind = Enter; name = name; point = s.enter_place; link = link } in
+      let P : Event → Type 0 = λ e. since true p.stage s e.point ≡ true in
+      let grown : map unlinked (k.events ++ e ∷ []) ≡ outline k ++ unlinked e ∷ [] = map-append unlinked k.events (e ∷ []) in
+      let earlier = began-on (since p.fresh p.stage s) (since true p.stage s) (outline k) (λ q. to-fresh p.fresh p.stage s q sees) h.began in
+      record {
+        stack = ap (λ names. names ++ name ∷ []) h.stack ∙ append_assoc base p.spans (name ∷ []);
+        began = subst (Began (since true p.stage s)) (sym grown) (subst (All P) (sym (open-more [] (outline k) (unlinked e))) (All-push P (open_events (outline k)) (unlinked e) earlier (sees.begins (not-end p.stage can))));
+        bare = λ _. subst EndsWithEnter (sym grown) (unlinked e, last-more None (outline k) (unlinked e), refl);
+        far = h.far;
+        waited = h.waited;
+        below = h.below;
+        within = h.within;
+      }
+  has-after (exit name) p base s k choices can sees h =
+      let e : Event = record { kind = Exit; name = name; point = s.exit_place; link = None } in
+      let P : Event → Type 0 = λ e. since p.fresh p.stage s e.point ≡ true in
+      let grown : map unlinked (k.events ++ e ∷ []) ≡ outline k ++ unlinked e ∷ [] = map-append unlinked k.events (e ∷ []) in
+      let top = is-last name (last_or None p.spans) (and_parts _ _ can).0 in
+      record {
+        stack = ap (λ names. take (length names - 1) names) h.stack ∙ take-above base p.spans (last-long p.spans name top);
+        began = subst (Began (since p.fresh p.stage s)) (sym grown) (subst (All P) (sym (open-more [] (outline k) (unlinked e))) (All-take P (length (open_events (outline k)) - 1) (open_events (outline k)) h.began));
+        bare = λ is. absurd (cc);
+        far = h.far;
+        waited = h.waited;
+        below = h.below;
+        within = h.within;
+      }
+  has-after consume p base s k choices can sees h =
+      let waits = waiting-stage p.stage can in
+      record {
+        stack = h.stack;
+        began = began-on (since p.fresh p.stage s) (since false byte_read (past s)) (outline k) (λ q b. past-stage p.stage s q waits (to-fresh p.fresh p.stage s q sees b)) h.began;
+        bare = h.bare;
+        far = read-far p.stage k waits h.far;
+        waited = waited-read p.stage waits h.waited;
+        below = h.below;
+        within = h.within;
+      }
+  has-after (links previous next) p base s k choices can sees h =
+      let same = sym (linked-unlinked (previous k) (next k) k.events) in
+      record {
+        stack = h.stack;
+        began = subst (Began (since p.fresh p.stage s)) same h.began;
+        bare = λ is. subst EndsWithEnter same (h.bare is);
+        far = h.far;
+        waited = h.waited;
+        below = h.below;
+        within = h.within;
+      }
+  has-after (write f) p base s k choices can sees h =
+      record { stack = h.stack; began = h.began; bare = h.bare; far = h.far; waited = h.waited; below = h.below; within = h.within }
+  has-after (choose kind ok nok) p base s k choices can sees h = record {
+    stack = h.stack ∙ sym (append-nil (base ++ p.spans));
+    began = began-on (since p.fresh p.stage s) (since false p.stage s) (outline k) (λ q. still-before p.fresh p.stage s q (and_parts _ _ can).0) h.began;
+    bare = λ is. absurd (cc);
+    far = h.far;
+    waited = h.waited;
+    below = All-cons (IsBelow (base ++ p.spans)) (choice_made_at kind ok nok k) choices (chosen-below kind ok nok (base ++ p.spans) k h.stack) (below-more base p.spans choices h.below);
+    within = λ _. tt;
+  }
+
+module _ {R D : Type 0} where
+  pub sees-after : (act : Act R D) (p : Shape) (s : Sight) → IsSeenAhead p.stage s → IsSeenAhead (after act p).stage (seen_after act s)
+  sees-after (enters name link) p s sees = sees
+  sees-after (exit name) p s sees = sees
+  sees-after consume p s sees = record { begins = λ e. at-place s.next; later = λ q. before-is-upto s.next q }
+  sees-after (links previous next) p s sees = sees
+  sees-after (write f) p s sees = sees
+  sees-after (choose kind ok nok) p s sees = sees
+
+  pub sight-after : (act : Act R D) (p : Shape) (first s : Sight) → allows act p ≡ true → s ≡ sight_at p.stage first → seen_after act s ≡ sight_at (after act p).stage first
+  sight-after (enters name link) p first s can e = e
+  sight-after (exit name) p first s can e = e
+  sight-after consume p first s can e = let waits = waiting-stage p.stage can in ap past (rw waits at e)
+  sight-after (links previous next) p first s can e = e
+  sight-after (write f) p first s can e = e
+  sight-after (choose kind ok nok) p first s can e = e
+
+  -- acts that are allowed leave the shape after them
+  pub has-after-all : (acts : List (Act R D)) (p : Shape) (base : List EventName) (s : Sight) (g : Given) (text : Text) (old k : Configuration R D) (choices : List Choice) → allows_all acts p ≡ true
+      → IsSeenAhead p.stage s → s ≡ sight_at p.stage (sight g text old) → HasShape p base s g text old k choices
+      → HasShape (after_all acts p) (below_all acts p base) (sight_at (after_all acts p).stage (sight g text old)) g text old (does acts s k) (chooses acts s k choices)
+  has-after-all [] p base s g text old k choices can sees e h = subst (λ s. HasShape p base s g text old k choices) e h
+  has-after-all (act ∷ acts) p base s g text old k choices can sees e h =
+      let (one, rest) = and_parts _ _ can in
+      has-after-all acts (after act p) (below_after act p base) (seen_after act s) g text old (done act s k) (with_choice_of act k choices) rest (sees-after act p s sees) (sight-after act p (sight g text old) s one e)
+      (has-after g text old act p base s k choices one sees h)
+
+  -- one more act is done where those before it lead
+  pub does-then : (acts : List (Act R D)) (act : Act R D) (p : Shape) (first s : Sight) (k : Configuration R D) → allows_all acts p ≡ true → s ≡ sight_at p.stage first
+      → does (acts ++ act ∷ []) s k ≡ done act (sight_at (after_all acts p).stage first) (does acts s k)
+  does-then [] act p first s k can e = ap (λ s. done act s k) e
+  does-then (a ∷ acts) act p first s k can e =
+      let (one, rest) = and_parts _ _ can in
+      does-then acts act (after a p) first (seen_after a s) (done a s k) rest (sight-after a p first s one e)
+
+  pub chooses-then : (acts : List (Act R D)) (act : Act R D) (s : Sight) (k : Configuration R D) (choices : List Choice) → chooses (acts ++ act ∷ []) s k choices ≡ with_choice_of act (does acts s k) (chooses acts s k choices)
+  chooses-then [] act s k choices = refl
+  chooses-then (a ∷ acts) act s k choices = chooses-then acts act (seen_after a s) (done a s k) (with_choice_of a k choices)
+
+  pub allows-then : (acts : List (Act R D)) (act : Act R D) (p : Shape) → allows_all (acts ++ act ∷ []) p ≡ true → (allows_all acts p ≡ true) × (allows act (after_all acts p) ≡ true)
+  allows-then [] act p can = (refl, (and_parts _ _ can).0)
+  allows-then (a ∷ acts) act p can =
+      let (one, rest) = and_parts (allows a p) (allows_all (acts ++ act ∷ []) (after a p)) can in
+      let (some, last) = allows-then acts act (after a p) rest in
+      (and_from (allows a p) (allows_all acts (after a p)) one some, last)
+
+  -- of acts that are allowed the first are allowed
+  pub allows-front : (acts more : List (Act R D)) (p : Shape) → allows_all (acts ++ more) p ≡ true → allows_all acts p ≡ true
+  allows-front [] more p can = refl
+  allows-front (a ∷ acts) more p can =
+      let (one, rest) = and_parts (allows a p) (allows_all (acts ++ more) (after a p)) can in and_from (allows a p) (allows_all acts (after a p)) one (allows-front acts more (after a p) rest)
+
+  -- the choices that a row makes wait above the old ones
+  chosen-append : (act : Act R D) (k : Configuration R D) (xs ys : List Choice) → with_choice_of act k xs ++ ys ≡ with_choice_of act k (xs ++ ys)
+  chosen-append (enters name link) k xs ys = refl
+  chosen-append (exit name) k xs ys = refl
+  chosen-append consume k xs ys = refl
+  chosen-append (links previous next) k xs ys = refl
+  chosen-append (write f) k xs ys = refl
+  chosen-append (choose kind ok nok) k xs ys = refl
+
+  pub chooses-append : (acts : List (Act R D)) (s : Sight) (k : Configuration R D) (xs ys : List Choice) → chooses acts s k xs ++ ys ≡ chooses acts s k (xs ++ ys)
+  chooses-append [] s k xs ys = refl
+  chooses-append (act ∷ acts) s k xs ys = chooses-append acts (seen_after act s) (done act s k) (with_choice_of act k xs) ys ∙ ap (chooses acts (seen_after act s) (done act s k)) (chosen-append act k xs ys)
+
+  -- acts only add events, but for links
+  abbrev pub AddsEvents : List Event → Configuration R D → Type 0
+  AddsEvents events k = (more : List Event) × (outline k ≡ events ++ more)
+
+  pub adds-one : (act : Act R D) (s : Sight) (k : Configuration R D) → AddsEvents (outline k) (done act s k)
+  adds-one (enters name link) s k = (_, map-append unlinked k.events (record { kind = Enter; name = name; point = s.enter_place; link = link } ∷ []))
+  adds-one (exit name) s k = (_, map-append unlinked k.events (record { kind = Exit; name = name; point = s.exit_place; link = None } ∷ []))
+  adds-one consume s k = ([], sym (append-nil (outline k)))
+  adds-one (links previous next) s k = ([], linked-unlinked (previous k) (next k) k.events ∙ sym (append-nil (outline k)))
+  adds-one (write f) s k = ([], sym (append-nil (outline k)))
+  adds-one (choose kind ok nok) s k = ([], sym (append-nil (outline k)))
+
+  pub adds-all : (acts : List (Act R D)) (s : Sight) (k : Configuration R D) → AddsEvents (outline k) (does acts s k)
+  adds-all [] s k = ([], sym (append-nil (outline k)))
+  adds-all (act ∷ acts) s k =
+      let (first, one) = adds-one act s k in
+      let (more, rest) = adds-all acts (seen_after act s) (done act s k) in
+      (first ++ more, rest ∙ ap (λ es. es ++ more) one ∙ append_assoc (outline k) first more)

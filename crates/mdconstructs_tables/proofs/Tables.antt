@@ -1,0 +1,12 @@
+-- Laws of machines, from the test of their tables.
+pub mod Costs
+pub mod Holding
+pub mod Joined
+pub mod Knowledge
+pub mod Late
+pub mod Laws
+pub mod Plain
+pub mod PlainWrites
+pub mod Refusals
+pub mod Tests
+pub mod Waiting

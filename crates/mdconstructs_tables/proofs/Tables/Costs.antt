@@ -1,0 +1,438 @@
+-- The calls of a machine whose table passes the test are paid for.
+use Rattle.std.proofs.Common.{◌≡◌, ℕ, ◌+◌, ◌-◌, ◌<◌, ◌≤◌, ◌&&◌, List, [], ◌∷◌, Bool, true, false, cond, Option, Some, None, length, refl, sym, subst, arith, sum_by}
+use Rattle.std.specs.Prelude.{nat_lt, max, not, IfSome}
+use Rattle.std.specs.List.{last_or}
+use Rattle.std.proofs.Math.Nat.{mul-le-mul_left, mul-le-mul_right}
+use Rattle.std.proofs.lemmas.Bool.{leb-true, ltb-true, ltb-false, and_parts}
+use Rattle.std.proofs.lemmas.Option.{slice_get_past}
+use Rattle.std.proofs.lemmas.List.Sums.{sum_by-cons}
+use Rattle.markdown_base.specs.declared.event.Event.{Event}
+use Rattle.markdown_base.specs.declared.event.Name.{Name as EventName}
+use Rattle.markdown_base.specs.declared.state.Name.{Name}
+use Rattle.markdown_base.specs.declared.state.State.{State}
+use Rattle.markdown_base.specs.declared.state.State.TheVariants.{Next, Retry, Ok, Nok, Error}
+use Rattle.markdown_tokenizer.specs.declared.waiting.Waits.{Waits}
+use Rattle.markdown_tokenizer.specs.declared.waiting.Waits.TheVariants.{Nothing, Byte, End}
+use Rattle.markdown_tokenizer.specs.declared.waiting.AttemptKind.{AttemptKind}
+use Rattle.markdown_tokenizer.specs.declared.waiting.AttemptKind.TheVariants.{Attempt, Check}
+use Rattle.markdown_tokenizer.specs.Text.{Given, Text, IsText}
+use Rattle.markdown_tokenizer.specs.Configuration.{Configuration, Choice, Saved}
+use Rattle.markdown_tokenizer.specs.Sight.{Sight, sight, current_of}
+use Rattle.markdown_tokenizer.specs.Calls.{consumed, with_local}
+use Rattle.markdown_tokenizer.specs.Reading.{fed, unfed, restored, settled_at}
+use Rattle.markdown_tokenizer.specs.Lawful.{IsAsFar, CostPays}
+use Rattle.mdconstructs_tables.specs.Rows.{Act, enters, exit, consume, links, write, choose, Rows, row, when, Row, Calls, StateRows, Table, past, class_of, choice_made_at, done, chooses, picked, named, table_step}
+use Rattle.mdconstructs_tables.specs.RowTest.{is_void_last, saves, Stage, end_waits, byte_waits, byte_read, Shape, Frame, may_go_on, fits_choice, fits_answer, fits_calls, is_some, first_stage, plus, larger, at_stage, calls_le, calls_or, fed_calls, next_calls, choice_calls, chosen_calls, answer_calls, calls_at, is_counted, counts_answer, counts_choice, counts_choices, pays_row, feeds, all_rows, is_called, fits_row}
+use Rattle.mdconstructs_tables.specs.RowInvariant.{outline, IsSaved, price_by, at_most, IsStateAt, next_price, retry_price, state_price, choice_price, chosen_price, answer_price, row_price, AreWithin, Stands, is_read, IsFed, behind, class_at, PaysRows, ArePaid, table_holds, table_cost, reserve_of, table_rules, upto, exit_place_at}
+use Rattle.mdconstructs_tables.specs.RowTest.{fresh_fed}
+use Rattle.mdconstructs_tables.specs.Late.{falls_on, CanGoBack}
+use Rattle.mdconstructs_tables.proofs.Rows.Misfits.{named-same}
+use Rattle.mdconstructs_tables.proofs.Rows.Laws.{Waited, reached}
+use Rattle.mdconstructs_tables.proofs.GrowingTexts.{seat-at}
+use Rattle.mdconstructs_tables.proofs.Tables.Holding.{read-before, of_class, before_class, row_of, left_by}
+use Rattle.mdconstructs_tables.proofs.Tables.Laws.{IsFitBy, IsFit, every, picked-passes, each-call, state-fits}
+
+-- Calls
+le-most : (c d : Calls) (n : ℕ) → calls_le c d ≡ true → at_most c n ≤ at_most d n
+le-most c d n h =
+    let (per, more) = and_parts _ _ h in
+    let per_byte = leb-true c.per_byte d.per_byte per in
+    omega (arith, leb-true c.more d.more more, mul-le-mul_right n per_byte)
+
+more-most : (c : Calls) (m n : ℕ) → m ≤ n → at_most c m ≤ at_most c n
+more-most c m n h = omega (arith, mul-le-mul_left c.per_byte h)
+
+plus-most : (c d : Calls) (n : ℕ) → at_most (plus c d) n ≡ at_most c n + at_most d n
+plus-most c d n = omega arith
+
+left-most : (c d : Calls) (n : ℕ) → at_most c n ≤ at_most (larger c d) n
+left-most c d n =
+    let per_byte : c.per_byte ≤ (larger c d).per_byte = omega arith in
+    let more : c.more ≤ (larger c d).more = omega arith in
+    omega (arith, mul-le-mul_right n per_byte, more)
+
+right-most : (c d : Calls) (n : ℕ) → at_most d n ≤ at_most (larger c d) n
+right-most c d n =
+    let per_byte : d.per_byte ≤ (larger c d).per_byte = omega arith in
+    let more : d.more ≤ (larger c d).more = omega arith in
+    omega (arith, mul-le-mul_right n per_byte, more)
+
+max-most : (x y : ℕ) (c d : Calls) (n : ℕ) → x ≤ at_most c n → y ≤ at_most d n → max x y ≤ at_most (larger c d) n
+max-most x y c d n h k = omega (arith, h, k, left-most c d n, right-most c d n)
+
+-- how many bytes are left at a stage, where so many are once what waits was read
+abbrev bound : Stage → ℕ → ℕ
+bound byte_waits n = n + 1
+bound _ n = n
+
+stage-most : (st : Stage) (c : Calls) (m n : ℕ) → m ≤ bound st n → at_most c m ≤ at_most (at_stage st c) n
+stage-most end_waits c m n h = more-most c m n h
+stage-most byte_waits c m n h = omega (arith, mul-le-mul_left c.per_byte h)
+stage-most byte_read c m n h = more-most c m n h
+
+fed-most : (c d : Calls) (n : ℕ) → calls_le c (at_stage byte_waits d) ≡ true → at_most c n ≤ at_most d (n + 1)
+fed-most c d n h = omega (arith, le-most c (at_stage byte_waits d) n h)
+
+read-left : (st : Stage) (n total p : ℕ) → total - p ≤ bound st n → total - (p + 1) ≤ n
+read-left end_waits n total p left = omega arith
+read-left byte_waits n total p left = omega arith
+read-left byte_read n total p left = omega arith
+
+module _ {W R D : Type 0} (table : Table W R D) (g : Given) (late : Bool) where
+  -- where a state says how many calls are left, it costs those
+  counted-next : (o : Option (StateRows W R D)) (text : Text) (p : ℕ) → is_counted table.states o ≡ true → next_price table text p o ≤ at_most (fed_calls table.states o) (length text.seats - p)
+  counted-next None text p h = omega arith
+  counted-next (Some state) text p h =
+      elim state.calls as (λ c. is_some c ≡ true → price_by c (table.cost text p state.name) (λ c. at_most c (length text.seats - p)) ≤ at_most (calls_or table.states c) (length text.seats - p)) [
+        | None ↦ λ e. absurd (cc)
+        | Some c ↦ λ e. omega arith
+      ] h
+
+  counted-retry : (b w : Option W) (o : Option (StateRows W R D)) (text : Text) (p : ℕ) → is_counted table.states o ≡ true
+      → retry_price table b w text p o ≤ at_most (calls_at table.states table.states b w o) (length text.seats - p - 1)
+  counted-retry b w None text p h = omega arith
+  counted-retry b w (Some state) text p h =
+      elim state.calls as (λ c. is_some c ≡ true
+      → price_by c (table.cost text p state.name) (λ c. at_most (calls_at table.states table.states b w (Some state)) (length text.seats - p - 1)) ≤ at_most (calls_at table.states table.states b w (Some state)) (length text.seats - p - 1)) [
+        | None ↦ λ e. absurd (cc)
+        | Some c ↦ λ e. omega arith
+      ] h
+
+  counted-state : (a : State) (text : Text) (p : ℕ) → counts_answer table.states a ≡ true → state_price table text p a ≤ at_most (next_calls table.states a) (length text.seats - p)
+  counted-state (Next name) text p h = counted-next (named table.states name) text p h
+  counted-state (Retry name) text p h = omega arith
+  counted-state Ok text p h = omega arith
+  counted-state Nok text p h = omega arith
+  counted-state (Error message) text p h = omega arith
+
+  counted-answer : (b w : Option W) (a : State) (text : Text) (p : ℕ) → counts_answer table.states a ≡ true
+      → answer_price table b w text p a ≤ at_most (answer_calls table.states (λ name. calls_at table.states table.states b w (named table.states name)) a) (length text.seats - p - 1)
+  counted-answer b w (Next name) text p h = let fewer : length text.seats - (p + 1) ≡ length text.seats - p - 1 = omega arith in subst (λ n. next_price table text (p + 1) (named table.states name) ≤ at_most (fed_calls table.states (named table.states name)) n) fewer (counted-next (named table.states name) text (p + 1) h)
+  counted-answer b w (Retry name) text p h = counted-retry b w (named table.states name) text p h
+  counted-answer b w Ok text p h = omega arith
+  counted-answer b w Nok text p h = omega arith
+  counted-answer b w (Error message) text p h = omega arith
+
+  -- behind a position fewer bytes are left
+  behind-most : (late : Bool) (c : Calls) (total p : ℕ) → at_most c (total - behind late p) ≤ at_most c (total - p)
+  behind-most false c total p = omega arith
+  behind-most true c total p = more-most c (total - (p + 1)) (total - p) (omega arith)
+
+  abbrev IsCountedBehind : Text → ℕ → State → Type 0
+  IsCountedBehind text p a = state_price table text (behind late p) a ≤ at_most (next_calls table.states a) (length text.seats - p)
+
+  counted-saved : (kind : AttemptKind) (ok nok : State) (text : Text) (p : ℕ) → saves kind nok ≡ true → IsCountedBehind text p ok → counts_answer table.states nok ≡ true
+      → choice_price table late text p kind ok nok ≤ at_most (choice_calls table.states kind ok nok) (length text.seats - p)
+  counted-saved kind ok nok text p saved h k =
+      rw saved (max-most (state_price table text (behind late p) ok) (state_price table text p nok) (next_calls table.states ok) (next_calls table.states nok) (length text.seats - p) h (counted-state nok text p k))
+
+  counted-other : (b : Bool) (kind : AttemptKind) (ok nok : State) (text : Text) (p : ℕ) → saves kind nok ≡ b → state_price table text 0 ok ≡ 0 → IsCountedBehind text p ok → counts_answer table.states nok ≡ true
+      → choice_price table late text p kind ok nok ≤ at_most (choice_calls table.states kind ok nok) (length text.seats - p)
+  counted-other true kind ok nok text p is none h k = counted-saved kind ok nok text p is h k
+  counted-other false kind ok nok text p is none h k = rw (is, none) (omega arith)
+
+  counted-choice : (kind : AttemptKind) (ok nok : State) (text : Text) (p : ℕ) → counts_choice table.states kind ok nok ≡ true
+      → choice_price table late text p kind ok nok ≤ at_most (choice_calls table.states kind ok nok) (length text.seats - p)
+  counted-choice kind (Next name) nok text p h =
+      let (saved, rest) = and_parts (saves kind nok) (is_counted table.states (named table.states name) && counts_answer table.states nok) h in
+      let (one, other) = and_parts (is_counted table.states (named table.states name)) (counts_answer table.states nok) rest in
+      let c = fed_calls table.states (named table.states name) in
+      let there = counted-next (named table.states name) text (behind late p) one in
+      counted-saved kind (Next name) nok text p saved (omega (arith, there, behind-most late c (length text.seats) p)) other
+  counted-choice kind (Retry name) nok text p h = counted-other (saves kind nok) kind (Retry name) nok text p refl refl (omega arith) h
+  counted-choice kind Ok nok text p h = counted-other (saves kind nok) kind Ok nok text p refl refl (omega arith) h
+  counted-choice kind Nok nok text p h = counted-other (saves kind nok) kind Nok nok text p refl refl (omega arith) h
+  counted-choice kind (Error message) nok text p h = counted-other (saves kind nok) kind (Error message) nok text p refl refl (omega arith) h
+
+  counted-chosen : (acts : List (Act R D)) (st : Stage) (n : ℕ) (text : Text) (p : ℕ) → length text.seats - p ≤ bound st n → counts_choices table.states acts ≡ true
+      → chosen_price table late text p acts ≤ at_most (chosen_calls table.states st acts) n
+  counted-chosen [] st n text p left h = omega arith
+  counted-chosen (enters name link ∷ acts) st n text p left h = counted-chosen acts st n text p left h
+  counted-chosen (exit name ∷ acts) st n text p left h = counted-chosen acts st n text p left h
+  counted-chosen (links previous next ∷ acts) st n text p left h = counted-chosen acts st n text p left h
+  counted-chosen (write f ∷ acts) st n text p left h = counted-chosen acts st n text p left h
+  counted-chosen (consume ∷ acts) st n text p left h = counted-chosen acts byte_read n text (p + 1) (read-left st n (length text.seats) p left) h
+  counted-chosen (choose kind ok nok ∷ acts) st n text p left h =
+      let (first, more) = and_parts (counts_choice table.states kind ok nok) (counts_choices table.states acts) h in
+      let one = counted-choice kind ok nok text p first in
+      let c = choice_calls table.states kind ok nok in
+      let staged = stage-most st c (length text.seats - p) n left in
+      let rest = counted-chosen acts st n text p left more in
+      omega (arith, one, staged, rest, plus-most (at_stage st c) (chosen_calls table.states st acts) n)
+
+  first-left : (w : Option W) (text : Text) (p : ℕ) → Stands w text p → length text.seats - p ≤ bound (first_stage w) (length text.seats - p - 1)
+  first-left None text p h = omega (arith, h)
+  first-left (Some w) text p h = omega arith
+
+  -- a row that pays is within the calls of its state
+  counted-row : (b w : Option W) (state : StateRows W R D) (r : Row R D) (text : Text) (p : ℕ) → Stands w text p → pays_row table.states b w state r ≡ true
+      → row_price table late b w text p r ≤ at_most (calls_at table.states table.states b w (Some state)) (length text.seats - p - 1)
+  counted-row b w state r text p at h =
+      let n = length text.seats - p - 1 in
+      let (answers, rest) = and_parts (counts_answer table.states r.answer) _ h in
+      let (chosen, paid) = and_parts (counts_choices table.states r.acts) _ rest in
+      let a = answer_calls table.states (λ name. calls_at table.states table.states b w (named table.states name)) r.answer in
+      let c = chosen_calls table.states (first_stage w) r.acts in
+      let one : Calls = record { per_byte = 0; more = 1 } in
+      omega (
+        arith,
+        counted-answer b w r.answer text p answers,
+        counted-chosen r.acts (first_stage w) n text p (first-left w text p at) chosen,
+        le-most (plus one (plus a c)) (calls_at table.states table.states b w (Some state)) n paid,
+        plus-most one (plus a c) n,
+        plus-most a c n,
+      )
+
+  -- the row that is picked is within what all are
+  one-within : (b w : Option W) (text : Text) (p price : ℕ) (test : Bool) (x y : Row R D) → row_price table late b w text p x ≤ price → row_price table late b w text p y ≤ price → row_price table late b w text p (cond test x y) ≤ price
+  one-within b w text p price true x y h k = h
+  one-within b w text p price false x y h k = k
+
+  picked-within : (b w : Option W) (text : Text) (p price : ℕ) (rows : Rows R D) (s : Sight) (k : Configuration R D) → AreWithin table late b w text p price rows → row_price table late b w text p (picked rows g s k) ≤ price
+  picked-within b w text p price (row acts answer) s k h = h
+  picked-within b w text p price (when by one other) s k h =
+      one-within b w text p price (by g s k) (picked one g s k) (picked other g s k) (picked-within b w text p price one s k h.0) (picked-within b w text p price other s k h.1)
+
+  -- the states of a machine's own cost are paid for
+  found : (x state : StateRows W R D) (b : Bool) (rest : Option (StateRows W R D)) → PaysRows table late x x.calls → (rest ≡ Some state → PaysRows table late state state.calls) → cond b (Some x) rest ≡ Some state
+      → PaysRows table late state state.calls
+  found x state true rest one more is = let e : x ≡ state = cc in subst (λ y. PaysRows table late y y.calls) e one
+  found x state false rest one more is = more is
+
+  named-paid : (states : List (StateRows W R D)) (name : Name) (state : StateRows W R D) → ArePaid table late states → named states name ≡ Some state → PaysRows table late state state.calls
+  named-paid [] name state h is = absurd (cc)
+  named-paid (x ∷ xs) name state h is = found x state _ (named xs name) h.0 (λ e. named-paid xs name state h.1 e) is
+
+  -- a row of a state is within what the state costs
+  row-within : (b w : Option W) (state : StateRows W R D) (s : Sight) (k : Configuration R D) (text : Text) (p : ℕ) → is_some b ≡ is_read p → Stands w text p → class_at table text p ≡ w → PaysRows table late state state.calls
+      → fits_calls table.states b w state state.calls ≡ true → row_price table late b w text p (picked (state.rows b w) g s k) ≤ retry_price table b w text p (Some state)
+  row-within b w state s k text p read at seen own fit =
+      elim state.calls as (λ c. PaysRows table late state c → fits_calls table.states b w state c ≡ true
+      → row_price table late b w text p (picked (state.rows b w) g s k) ≤ price_by c (table.cost text p state.name) (λ c. at_most (calls_at table.states table.states b w (Some state)) (length text.seats - p - 1))) [
+        | None ↦ λ own fit. picked-within b w text p (table.cost text p state.name) (state.rows b w) s k (own b w text p read at seen)
+        | Some c ↦ λ own fit.
+            counted-row b w state (picked (state.rows b w) g s k) text p at
+            (picked-passes (pays_row table.states b w state) (state.rows b w) g s k (and_parts (all_rows (pays_row table.states b w state) (state.rows b w)) (feeds table.states b w state c) fit).0)
+      ] own fit
+
+  -- the answer of a call costs what was counted for it
+  answer-costs : (st : Stage) (b w : Option W) (p : Shape) (a : State) (text : Text) (k k' : Configuration R D) → fits_answer table.states st b w p a ≡ true → IsAsFar k' (reached st k)
+      → table_cost table g text k' a ≤ answer_price table (before_class table g text k) (of_class table g text k) text k.position a
+  answer-costs st b w p Ok text k k' fit far = omega arith
+  answer-costs st b w p Nok text k k' fit far = omega arith
+  answer-costs st b w p (Error message) text k k' fit far = omega arith
+  answer-costs byte_read b w p (Next name) text k k' fit far = rw far.0 (omega arith)
+  answer-costs byte_waits b (Some w) p (Retry name) text k k' fit far = rw (far.0, far.1) (omega arith)
+  answer-costs end_waits b None p (Retry name) text k k' fit far = rw (far.0, far.1) (omega arith)
+  answer-costs st b w p a text k k' fit far = absurd (cc)
+
+  -- what a choice goes on with, where it saved this
+  abbrev reserved : Text → Choice → ℕ
+  reserved text c = reserve_of table late text c c.saved
+
+  -- and so do the choices that are made
+  choice-costs : (kind : AttemptKind) (ok nok : State) (text : Text) (k : Configuration R D) → reserved text (choice_made_at kind ok nok k) ≤ choice_price table late text k.position kind ok nok
+  choice-costs Check ok nok text k = omega arith
+  choice-costs Attempt ok Nok text k = omega arith
+  choice-costs Attempt ok (Next name) text k = omega arith
+  choice-costs Attempt ok (Retry name) text k = omega arith
+  choice-costs Attempt ok Ok text k = omega arith
+  choice-costs Attempt ok (Error message) text k = omega arith
+
+  choices-cost : (acts : List (Act R D)) (text : Text) (s : Sight) (k : Configuration R D) (choices : List Choice)
+      → sum_by (reserved text) (chooses acts s k choices) ≤ chosen_price table late text k.position acts + sum_by (reserved text) choices
+  choices-cost [] text s k choices = omega arith
+  choices-cost (enters name link ∷ acts) text s k choices = choices-cost acts text s (done (enters name link) s k) choices
+  choices-cost (exit name ∷ acts) text s k choices = choices-cost acts text s (done (exit name) s k) choices
+  choices-cost (links previous next ∷ acts) text s k choices = choices-cost acts text s (done (links previous next) s k) choices
+  choices-cost (write f ∷ acts) text s k choices = choices-cost acts text s (done (write f) s k) choices
+  choices-cost (consume ∷ acts) text s k choices = choices-cost acts text (past s) (consumed k) choices
+  choices-cost (choose kind ok nok ∷ acts) text s k choices =
+      omega (arith, choice-costs kind ok nok text k, choices-cost acts text s k (choice_made_at kind ok nok k ∷ choices), sum_by-cons (reserved text) (choice_made_at kind ok nok k) choices)
+
+  stands-at : (w : Option W) (text : Text) (k : Configuration R D) → Waited (first_stage w) text k → Stands w text k.position
+  stands-at None text k met = met.1
+  stands-at (Some w) text k met = met.1
+
+  -- where something waits, it is what is seen of the text there
+  waits-at : (w : Waits) (text : Text) (p : ℕ) (ended : Bool) → IsFed w p ended text → class_at table text p ≡ class_of table.class (current_of text p w)
+  waits-at Nothing text p ended h = absurd h
+  waits-at Byte text p ended h = refl
+  waits-at End text p ended h = let none = slice_get_past text.seats p h.1 in rw none refl
+
+  module _ {falling : Name → Bool} (fit : IsFitBy table late falling) where
+    -- what a choice goes on with may cost less the more was read
+    found-falls : (name : Name) (o : Option (StateRows W R D)) (text : Text) (p q : ℕ) → named table.states name ≡ o → falling name ≡ true → p ≤ q → next_price table text q o ≤ next_price table text p o
+    found-falls name None text p q is may h = omega arith
+    found-falls name (Some state) text p q is may h =
+        let same = named-same table.states name state is in
+        let there : falling state.name ≡ true = subst (λ n. falling (record { number = n }) ≡ true) same may in
+        elim state.calls as (λ c. price_by c (table.cost text q state.name) (λ c. at_most c (length text.seats - q)) ≤ price_by c (table.cost text p state.name) (λ c. at_most c (length text.seats - p))) [
+          | None ↦ fit.falls text p q state.name there h
+          | Some c ↦ more-most c (length text.seats - q) (length text.seats - p) (omega (arith, h))
+        ]
+
+    state-falls : (a : State) (text : Text) (p q : ℕ) → falls_on falling a ≡ true → p ≤ q → state_price table text q a ≤ state_price table text p a
+    state-falls (Next name) text p q may h = found-falls name (named table.states name) text p q refl may h
+    state-falls (Retry name) text p q may h = omega arith
+    state-falls Ok text p q may h = omega arith
+    state-falls Nok text p q may h = omega arith
+    state-falls (Error message) text p q may h = omega arith
+
+    -- what goes on where a choice was made costs what its state does
+    go-costs : (f : Frame) (byte : Bool) (a : State) (text : Text) (k : Configuration R D) → may_go_on table.states f byte a ≡ true → table_cost table g text k a ≤ state_price table text k.position a
+    go-costs f byte (Next name) text k h = omega arith
+    go-costs f byte (Retry name) text k h = absurd (cc)
+    go-costs f byte Ok text k h = omega arith
+    go-costs f byte Nok text k h = omega arith
+    go-costs f byte (Error message) text k h = omega arith
+
+    module _ (c : Choice) (f : Frame) (stack : List EventName) (text : Text) (k : Configuration R D) where
+      -- what was saved is far enough behind
+      abbrev IsFarBehind : Option Saved → Type 0
+      IsFarBehind saved = IfSome saved (λ saved. behind late saved.position ≤ k.position)
+
+      -- what a choice goes on with, where it ended well or not, costs at most its reserve
+      well-costs : (kind : AttemptKind) (b : Bool) (saved : Option Saved) → saves kind c.nok ≡ b → fits_choice table.states f kind c.ok c.nok ≡ true → IsSaved g text k.position (outline k) stack f b saved
+          → falls_on falling c.ok ≡ true → IsFarBehind saved → CanGoBack late kind → table_cost table g text (settled_at kind saved Ok k) c.ok ≤ reserve_of table late text c saved
+      well-costs Attempt true (Some saved) is fit h may far back =
+          let goes = (and_parts (may_go_on table.states f false c.ok) _ fit).0 in
+          let cost = go-costs f false c.ok text (unfed k) goes in
+          omega (arith, cost, state-falls c.ok text (behind late saved.position) k.position may far)
+      well-costs Attempt false None is fit h may far back =
+          let goes = (and_parts (may_go_on table.states f false c.ok) _ fit).0 in
+          let cost = go-costs f false c.ok text (unfed k) goes in
+          let least : 0 ≤ k.position = omega arith in
+          omega (arith, cost, state-falls c.ok text 0 k.position may least)
+      well-costs Check true (Some saved) is fit h may far back =
+          let cost = go-costs f f.at_byte c.ok text (restored (Some saved) k) (and_parts (may_go_on table.states f f.at_byte c.ok) (may_go_on table.states f f.at_byte c.nok) fit).0 in
+          rw back (omega (arith, cost))
+      well-costs Check false saved is fit h may far back = absurd (cc)
+      well-costs kind true None is fit h may far back = absurd h
+      well-costs kind false (Some saved) is fit h may far back = absurd h
+
+      unsaved-costs : (a : State) → saves Attempt a ≡ false → table_cost table g text (unfed k) a ≤ 0
+      unsaved-costs Nok is = omega arith
+      unsaved-costs (Next name) is = absurd (cc)
+      unsaved-costs (Retry name) is = absurd (cc)
+      unsaved-costs Ok is = absurd (cc)
+      unsaved-costs (Error message) is = absurd (cc)
+
+      attempt-goes : fits_choice table.states f Attempt c.ok c.nok ≡ true → may_go_on table.states f f.at_byte c.nok ≡ true
+      attempt-goes fit =
+          let rest = (and_parts (may_go_on table.states f false c.ok) (not (is_void_last (last_or None f.spans)) && may_go_on table.states f f.at_byte c.nok) fit).1 in
+          (and_parts (not (is_void_last (last_or None f.spans))) (may_go_on table.states f f.at_byte c.nok) rest).1
+
+      badly-costs : (kind : AttemptKind) (b : Bool) (saved : Option Saved) → saves kind c.nok ≡ b → fits_choice table.states f kind c.ok c.nok ≡ true → IsSaved g text k.position (outline k) stack f b saved
+          → table_cost table g text (settled_at kind saved Nok k) c.nok ≤ reserve_of table late text c saved
+      badly-costs Attempt true (Some saved) is fit h = let cost = go-costs f f.at_byte c.nok text (restored (Some saved) k) (attempt-goes fit) in omega (arith, cost)
+      badly-costs Attempt false None is fit h = let cost = unsaved-costs c.nok is in omega (arith, cost)
+      badly-costs Check true (Some saved) is fit h =
+          let cost = go-costs f f.at_byte c.nok text (restored (Some saved) k) (and_parts (may_go_on table.states f f.at_byte c.ok) (may_go_on table.states f f.at_byte c.nok) fit).1 in
+          omega (arith, cost)
+      badly-costs Check false saved is fit h = absurd (cc)
+      badly-costs kind true None is fit h = absurd h
+      badly-costs kind false (Some saved) is fit h = absurd h
+
+    -- feeding costs nothing
+    fed-byte-costs : (b : Option W) (w : W) (state : StateRows W R D) (text : Text) (p : ℕ) → p < length text.seats → fits_calls table.states b (Some w) state state.calls ≡ true
+        → retry_price table b (Some w) text p (Some state) ≤ next_price table text p (Some state)
+    fed-byte-costs b w state text p inside h =
+        elim state.calls as (λ c. fits_calls table.states b (Some w) state c ≡ true
+        → price_by c (table.cost text p state.name) (λ c. at_most (calls_at table.states table.states b (Some w) (Some state)) (length text.seats - p - 1)) ≤ price_by c (table.cost text p state.name) (λ c. at_most c (length text.seats - p))) [
+          | None ↦ λ h. omega arith
+          | Some c ↦ λ h.
+              let n = length text.seats - p - 1 in
+              let fed = (and_parts (all_rows (pays_row table.states b (Some w) state) (state.rows b (Some w))) (feeds table.states b (Some w) state c) h).1 in
+              let left : length text.seats - p ≡ n + 1 = omega (arith, inside) in
+              let x = calls_at table.states table.states b (Some w) (Some state) in
+              subst (λ m. at_most x n ≤ at_most c m) (sym left) (fed-most x c n fed)
+        ] h
+
+    fed-end-costs : (b : Option W) (state : StateRows W R D) (text : Text) (p : ℕ) → length text.seats ≤ p → fits_calls table.states b None state state.calls ≡ true
+        → retry_price table b None text p (Some state) ≤ next_price table text p (Some state)
+    fed-end-costs b state text p past h =
+        elim state.calls as (λ c. fits_calls table.states b None state c ≡ true
+        → price_by c (table.cost text p state.name) (λ c. at_most (calls_at table.states table.states b None (Some state)) (length text.seats - p - 1)) ≤ price_by c (table.cost text p state.name) (λ c. at_most c (length text.seats - p))) [
+          | None ↦ λ h. omega arith
+          | Some c ↦ λ h.
+              let fed = (and_parts (all_rows (pays_row table.states b None state) (state.rows b None)) (feeds table.states b None state c) h).1 in
+              let none : length text.seats - p ≡ 0 = omega (arith, past) in
+              rw none (omega (arith, leb-true (calls_at table.states table.states b None (Some state)).more c.more fed))
+        ] h
+
+    feeding : (o : Option (StateRows W R D)) (test : Bool) (text : Text) (k : Configuration R D) (choices : List Choice) (name : Name) → named table.states name ≡ o → nat_lt k.position (length text.seats) ≡ test
+        → IsStateAt table g text o (λ state. upto (fresh_fed state.begun) (exit_place_at g text k.position)) k choices
+        → table_cost table g text (fed text k) (Retry name) ≤ table_cost table g text k (Next name)
+    feeding None test text k choices name is e h = absurd h
+    feeding (Some state) true text k choices name is e h =
+        let inside = ltb-true k.position (length text.seats) e in
+        let (s, seat) = seat-at text k.position inside in
+        let b = before_class table g text k in
+        let w = table.class s.byte in
+        rw (e, seat, is) (fed-byte-costs b w state text k.position inside (and_parts (all_rows (fits_row table.states b (Some w) state) (state.rows b (Some w))) (fits_calls table.states b (Some w) state state.calls) (state-fits table g fit b (Some w) name state is refl)).1)
+    feeding (Some state) false text k choices name is e h =
+        let past = ltb-false k.position (length text.seats) e in
+        let b = before_class table g text k in
+        let none : Option W = None in
+        let called : is_called table.states none state ≡ true = elim state.needs_byte as (λ b. (b ≡ true → k.position < length text.seats) → not b ≡ true) [ true ↦ λ n. absurd (omega (arith, n refl, past)) | false ↦ λ n. refl ] h.spans.needs_byte in
+        rw (e, is) (fed-end-costs b state text k.position past (and_parts (all_rows (fits_row table.states b None state) (state.rows b None)) (fits_calls table.states b None state state.calls) (state-fits table g fit b None name state is called)).1)
+
+    -- Calls, feeding and choices are paid for
+    pub calls-pay : (text : Text) (k : Configuration R D) (choices : List Choice) (name : Name) → IsText g text → table_holds table g text k choices (Retry name)
+        → let q = table_step table g (sight g text k) k name in 1 + (table_cost table g text q.configuration q.answer + sum_by (reserved text) q.choices) ≤ table_cost table g text k (Retry name)
+    calls-pay text k choices name is h =
+        each-call table g fit (λ q. 1 + (table_cost table g text q.configuration q.answer + sum_by (reserved text) q.choices) ≤ table_cost table g text k (Retry name)) text k choices name is h
+        (λ c.
+        let w = of_class table g text k in
+        let b = before_class table g text k in
+        let s = sight g text k in
+        let k1 = with_local k (table.first k.local) in
+        let r = row_of table g text k c.state in
+        let answer = answer-costs _ b w _ r.answer text k (left_by table g text k c.state) c.fits_it c.shape.far in
+        let made = choices-cost r.acts text s k1 [] in
+        let seen = waits-at k.waiting text k.position k.ended h.1.0 in
+        let within = row-within b w c.state s k1 text k.position (read-before table g text k.position h.0) (stands-at w text k c.met) seen (named-paid table.states name c.state fit.paid c.is) c.fits_calls_too in
+        rw c.is (omega (arith, answer, made, within)))
+
+    pub feeding-pays : (text : Text) (k : Configuration R D) (choices : List Choice) (name : Name) → table_holds table g text k choices (Next name)
+        → table_cost table g text (fed text k) (Retry name) ≤ table_cost table g text k (Next name)
+    feeding-pays text k choices name h = feeding (named table.states name) (nat_lt k.position (length text.seats)) text k choices name refl refl h.1.1
+
+    pub ok-pays : (text : Text) (k : Configuration R D) (choice : Choice) (choices : List Choice) → table_holds table g text k (choice ∷ choices) Ok
+        → falls_on falling choice.ok ≡ true → IfSome choice.saved (λ saved. behind late saved.position ≤ k.position) → CanGoBack late choice.kind
+        → table_cost table g text (settled_at choice.kind choice.saved Ok k) choice.ok ≤ reserved text choice
+    ok-pays text k choice choices h = let w = h.1.waiting.0 in well-costs choice w.frame h.1.base text k choice.kind (saves choice.kind choice.nok) choice.saved refl w.fits w.saved
+
+    pub nok-pays : (text : Text) (k : Configuration R D) (choice : Choice) (choices : List Choice) → table_holds table g text k (choice ∷ choices) Nok
+        → table_cost table g text (settled_at choice.kind choice.saved Nok k) choice.nok ≤ reserved text choice
+    nok-pays text k choice choices h = let w = h.1.waiting.0 in badly-costs choice w.frame h.1.base text k choice.kind (saves choice.kind choice.nok) choice.saved refl w.fits w.saved
+
+goes-back : (kind : AttemptKind) → CanGoBack false kind
+goes-back Attempt = tt
+goes-back Check = refl
+
+every-falls : (a : State) → falls_on every a ≡ true
+every-falls (Next name) = refl
+every-falls (Retry name) = refl
+every-falls Ok = refl
+every-falls Nok = refl
+every-falls (Error message) = refl
+
+-- what was saved is not behind where one stands
+is-behind : (g : Given) (text : Text) (p : ℕ) (events : List Event) (stack : List EventName) (f : Frame) (b : Bool) (saved : Option Saved) → IsSaved g text p events stack f b saved
+    → IfSome saved (λ saved. behind false saved.position ≤ p)
+is-behind g text p events stack f true (Some saved) h = h.behind
+is-behind g text p events stack f false None h = tt
+is-behind g text p events stack f true None h = absurd h
+is-behind g text p events stack f false (Some saved) h = absurd h
+
+pub table-cost_pays : {W R D : Type 0} (table : Table W R D) (g : Given) → IsFit table → CostPays g (table_rules table g)
+table-cost_pays table g fit = record {
+  for_calls = λ text k choices name is h. calls-pay table g false fit text k choices name is h;
+  for_feeding = λ text k choices name is h. feeding-pays table g false fit text k choices name h;
+  for_ok = λ text k choice choices is h.
+      let w = h.1.waiting.0 in
+      ok-pays table g false fit text k choice choices h (every-falls choice.ok) (is-behind g text k.position (outline k) h.1.base w.frame (saves choice.kind choice.nok) choice.saved w.saved) (goes-back choice.kind);
+  for_nok = λ text k choice choices is h. nok-pays table g false fit text k choice choices h;
+}

@@ -1,0 +1,462 @@
+-- The invariant of a table: if it holds before a call it holds at the answer, once that is fed, when a choice ends, and when the text goes on.
+use Rattle.std.proofs.Common.{◌≡◌, ◌≢◌, ℕ, zero, suc, ◌<◌, ◌≤◌, ◌&&◌, ◌||◌, not, List, [], ◌∷◌, ◌++◌, Bool, true, false, Option, Some, None, length, map, refl, sym, ap, ◌∙◌, subst, arith, ◌⊎◌, inl, inr, take, drop}
+use Rattle.std.specs.Prelude.{All, IfSome, nat_lt}
+use Rattle.std.specs.List.{last_or}
+use Rattle.std.proofs.lemmas.Bool.{ltb-true, ltb-false, and_parts, not-true}
+use Rattle.std.proofs.lemmas.List.{append-nil, take-append-drop, take-map}
+use Rattle.std.proofs.lemmas.List.Elements.{All-nil, All-cons, All-head, All-tail}
+use Rattle.markdown_base.specs.declared.event.Name.{Name as EventName}
+use Rattle.markdown_base.specs.declared.event.Point.{Point}
+use Rattle.markdown_base.specs.declared.state.Name.{Name}
+use Rattle.markdown_base.specs.declared.state.State.{State}
+use Rattle.markdown_base.specs.declared.state.State.TheVariants.{Next, Retry, Ok, Nok, Error}
+use Rattle.markdown_base.specs.Events.{unlinked}
+use Rattle.markdown_base.specs.Places.{stands_before}
+use Rattle.markdown_base.proofs.Common.{or-leads}
+use Rattle.markdown_tokenizer.specs.declared.waiting.Waits.{Waits}
+use Rattle.markdown_tokenizer.specs.declared.waiting.Waits.TheVariants.{Nothing, Byte, End}
+use Rattle.markdown_tokenizer.specs.declared.waiting.AttemptKind.{AttemptKind}
+use Rattle.markdown_tokenizer.specs.declared.waiting.AttemptKind.TheVariants.{Attempt, Check}
+use Rattle.markdown_tokenizer.specs.Text.{Given, Text, IsText, empty_text}
+use Rattle.markdown_tokenizer.specs.Configuration.{Configuration, Local, Choice, Saved, start_configuration}
+use Rattle.markdown_tokenizer.specs.Sight.{Sight, sight, sight_in, current_of, seat_before, byte_of}
+use Rattle.markdown_tokenizer.specs.Calls.{consumed, with_local}
+use Rattle.markdown_tokenizer.specs.Reading.{fed, unfed, restored, settled_at}
+use Rattle.markdown_tokenizer.specs.Lawful.{IsAsFar}
+use Rattle.markdown_tokenizer.proofs.Positions.TextOrder.{begins-before_end, began-before_next, ends-before_next}
+use Rattle.markdown_tokenizer.proofs.Positions.Order.{upto-before}
+use Rattle.mdconstructs_tables.specs.Rows.{Row, Begun, before, at_byte, here, Needs, nothing, a_choice, a_choice_once_read, StateRows, Table, class_of, does, chooses, row_at, named}
+use Rattle.mdconstructs_tables.specs.RowTest.{is_void_last, saves, Stage, end_waits, byte_waits, byte_read, Shape, Frame, after_all, is_at, is_end, is_fresh, is_fresh_fed, fresh_at, fresh_fed, needs_choice, is_some, may_go_on, fits_choice, fits_answer, fits_calls, start_shape, first_stage, is_bare, may_start}
+use Rattle.mdconstructs_tables.specs.RowInvariant.{outline, EndsWithEnter, Began, upto, since, IsOpen, SightIsInOrder, IsFed, exit_place_at, is_read, AnyWait, IsSavedIn, IsSaved, position_of, events_saved, IsBelow, AreWaiting, began_at, IsStateAt, HoldsAt}
+use Rattle.mdconstructs_tables.proofs.Rows.Laws.{same_names-true, Waited, reached, IsSeenAhead, sight_at, HasShape, to-before, before-is-upto, began-on, left-at}
+use Rattle.mdconstructs_tables.proofs.GrowingTexts.{seat-at, Extends, waits-longer}
+use Rattle.mdconstructs_tables.proofs.Tables.Waiting.{more-waiting, all-below, place-kept, longer-text, waiting-longer}
+
+-- Where spans may have begun
+upto-any : (fresh : Bool) (place q : Point) → upto false place q ≡ true → upto fresh place q ≡ true
+upto-any true place q h = before-is-upto place q h
+upto-any false place q h = h
+
+upto-fits : (fresh on : Bool) (place q : Point) → (not fresh || on) ≡ true → upto fresh place q ≡ true → upto on place q ≡ true
+upto-fits true true place q fit h = h
+upto-fits true false place q fit h = absurd (cc)
+upto-fits false on place q fit h = upto-any on place q h
+
+since-fits : (fresh on : Bool) (s : Sight) (q : Point) → (not fresh || on) ≡ true → (stands_before q s.exit_place ≡ true → stands_before q s.next ≡ true)
+    → since fresh byte_waits s q ≡ true → since on byte_waits s q ≡ true
+since-fits true true s q fit later h = h
+since-fits true false s q fit later h = absurd (cc)
+since-fits false true s q fit later h = later h
+since-fits false false s q fit later h = h
+
+-- more is needed once a byte was read
+needs-more : (n : Needs) (read : Bool) → needs_choice n read ≡ true → needs_choice n true ≡ true
+needs-more nothing read h = absurd (cc)
+needs-more a_choice read h = refl
+needs-more a_choice_once_read read h = refl
+
+module _ {W R D : Type 0} (table : Table W R D) (g : Given) where
+  abbrev pub of_class : Text → Configuration R D → Option W
+  of_class text k = class_of table.class (sight g text k).current
+
+  abbrev pub before_class : Text → Configuration R D → Option W
+  before_class text k = class_of table.class (sight g text k).previous
+
+  pub met-at : (text : Text) (k : Configuration R D) (w : Waits) → k.waiting ≡ w → IsFed w k.position k.ended text → Waited (first_stage (class_of table.class (current_of text k.position w))) text k
+  met-at text k Nothing e h = absurd h
+  met-at text k Byte e h = let (s, is) = seat-at text k.position h in rw is (e, h)
+  met-at text k End e h = h
+
+  -- there is a byte before if one was read
+  pub read-before : (text : Text) (p : ℕ) → p ≤ length text.seats → is_some (class_of table.class (byte_of (seat_before text p))) ≡ is_read p
+  read-before text zero h = refl
+  read-before text (suc q) h = let (s, is) = seat-at text q (omega arith) in rw is refl
+
+  -- a call begins with the shape of its state
+  pub begins : (b w : Option W) (text : Text) (k : Configuration R D) (local : Local R D) (base : List EventName) (choices : List Choice) (state : StateRows W R D) → is_some b ≡ is_read k.position
+      → Waited (first_stage w) text k → IsOpen state base (began_at w state (sight g text k)) text k choices → HasShape (start_shape b w state) base (sight g text k) g text k (with_local k local) choices
+  begins b None text k local base choices state read met o =
+      record { stack = o.stack; began = o.began; bare = o.void; far = (refl, refl, refl); waited = met; below = o.below; within = λ is. o.needs (ap (needs_choice state.needs) (sym read) ∙ is) }
+  begins b (Some w) text k local base choices state read met o =
+      record { stack = o.stack; began = o.began; bare = o.void; far = (refl, refl, refl); waited = met; below = o.below; within = λ is. o.needs (ap (needs_choice state.needs) (sym read) ∙ is) }
+
+  pub ahead-at : (w : Option W) (text : Text) (k : Configuration R D) → Waited (first_stage w) text k → SightIsInOrder k.waiting (sight g text k) → IsSeenAhead (first_stage w) (sight g text k)
+  ahead-at None text k met order = record { begins = λ e. absurd (cc); later = λ q h. before-is-upto (sight g text k).exit_place q h }
+  ahead-at (Some w) text k met order = record { begins = λ e. order.begins met.0; later = λ q h. order.later met.0 q h }
+
+  pub start-sight : (w : Option W) (s : Sight) → s ≡ sight_at (first_stage w) s
+  start-sight None s = refl
+  start-sight (Some w) s = refl
+
+  -- if as much was read and the same waits, the same is seen
+  pub stays : (text : Text) (k k' : Configuration R D) → IsAsFar k' k → sight g text k' ≡ sight g text k
+  stays text k k' far = rw (far.0, far.1) refl
+
+  stays-in-order : (text : Text) (k k' : Configuration R D) → IsAsFar k' k → SightIsInOrder k.waiting (sight g text k) → SightIsInOrder k'.waiting (sight g text k')
+  stays-in-order text k k' far order = rw (far.0, far.1) order
+
+  stays-open : (o : Option (StateRows W R D)) (w : Option W) (text : Text) (k k' : Configuration R D) (choices : List Choice) → IsAsFar k' k → of_class text k ≡ w
+      → IsStateAt table g text o (λ state. began_at w state (sight g text k)) k' choices → IsStateAt table g text o (λ state. began_at (of_class text k') state (sight g text k')) k' choices
+  stays-open o w text k k' choices far class h =
+      subst (λ s. IsStateAt table g text o (λ state. began_at (class_of table.class s.current) state s) k' choices) (sym (stays text k k' far))
+      (subst (λ v. IsStateAt table g text o (λ state. began_at v state (sight g text k)) k' choices) (sym class) h)
+
+  -- if the test says that spans, choices and bytes are those of a state, they are
+  at-state : (spans : List EventName) (within byte_at read : Bool) (o : Option (StateRows W R D)) (where_to : StateRows W R D → Point → Bool) (text : Text) (k : Configuration R D) (base : List EventName)
+      (choices : List Choice) → is_at table.states spans within byte_at read o ≡ true → k.stack ≡ base ++ spans → ((state : StateRows W R D) → o ≡ Some state → Began (where_to state) (outline k))
+      → (is_void_last (last_or None spans) ≡ true → EndsWithEnter (outline k)) → AreWaiting table.states g text k.position (outline k) base choices → (within ≡ true → AnyWait choices)
+      → ((n : Needs) → needs_choice n (is_read k.position) ≡ true → needs_choice n read ≡ true) → (byte_at ≡ true → k.position < length text.seats) → IsStateAt table g text o where_to k choices
+  at-state spans within byte_at read None where_to text k base choices is stack began void waiting any reads byte = absurd (cc)
+  at-state spans within byte_at read (Some state) where_to text k base choices is stack began void waiting any reads byte =
+      let (names, rest) = and_parts _ _ is in
+      let (needs, bytes) = and_parts _ _ rest in
+      let same = same_names-true spans state.spans names in
+      record {
+        base = base;
+        spans = record {
+          stack = stack ∙ ap (λ xs. base ++ xs) same;
+          began = began state refl;
+          void = λ v. void (ap (λ xs. is_void_last (last_or None xs)) same ∙ v);
+          below = all-below table.states g text choices base k.position (outline k) waiting;
+          needs = λ n. any (or-leads _ within needs (reads state.needs n));
+          needs_byte = λ n. byte (or-leads state.needs_byte byte_at bytes n);
+        };
+        waiting = waiting;
+      }
+
+  -- the row of a call, what a state leaves, and what is open then
+  abbrev pub row_of : Text → Configuration R D → StateRows W R D → Row R D
+  row_of text k state = row_at table.class state g (sight g text k) (with_local k (table.first k.local))
+
+  abbrev pub left_by : Text → Configuration R D → StateRows W R D → Configuration R D
+  left_by text k state = does (row_of text k state).acts (sight g text k) (with_local k (table.first k.local))
+
+  abbrev pub chosen_by : Text → Configuration R D → List Choice → StateRows W R D → List Choice
+  chosen_by text k choices state = chooses (row_of text k state).acts (sight g text k) (with_local k (table.first k.local)) choices
+
+  abbrev pub shape_of : Text → Configuration R D → StateRows W R D → Shape
+  shape_of text k state = after_all (row_of text k state).acts (start_shape (before_class text k) (of_class text k) state)
+
+  -- A call is that of a state of the table, its row fits, and its acts leave the shape after them
+  pub record IsCall (text : Text) (k : Configuration R D) (choices : List Choice) (name : Name) : Type 0 where
+    pub state : StateRows W R D
+    pub is : named table.states name ≡ Some state
+    pub base : List EventName
+    pub above : List EventName
+    pub stack : k.stack ≡ base ++ state.spans
+    pub waiting : AreWaiting table.states g text k.position (outline k) base choices
+    pub fits_it : let p = shape_of text k state in fits_answer table.states p.stage (before_class text k) (of_class text k) p (row_of text k state).answer ≡ true
+    pub fits_calls_too : fits_calls table.states (before_class text k) (of_class text k) state state.calls ≡ true
+    pub met : Waited (first_stage (of_class text k)) text k
+    pub shape : let p = shape_of text k state in HasShape p above (sight_at p.stage (sight g text k)) g text k (left_by text k state) (chosen_by text k choices state)
+    pub wait_on : AreWaiting table.states g text (left_by text k state).position (outline (left_by text k state)) above (chosen_by text k choices state)
+
+  pub once : (st : Stage) (b w : Option W) (p : Shape) (a : State) (text : Text) (k k' : Configuration R D) → fits_answer table.states st b w p a ≡ true → IsAsFar k' (reached st k) → Waited st text k
+      → (IsAsFar k' k × ((n : Name) → a ≢ Next n)) ⊎ ((k.waiting ≡ Byte) × IsAsFar k' (consumed k) × ((n : Name) → a ≢ Retry n))
+  once byte_read b w p (Next name) text k k' fit far waited = inr (waited.0, far, λ n e. cc)
+  once byte_read b w p Ok text k k' fit far waited = inr (waited.0, far, λ n e. cc)
+  once byte_read b w p Nok text k k' fit far waited = inr (waited.0, far, λ n e. cc)
+  once byte_read b w p (Error message) text k k' fit far waited = inr (waited.0, far, λ n e. cc)
+  once byte_waits b w p Ok text k k' fit far waited = inl (far, λ n e. cc)
+  once byte_waits b w p Nok text k k' fit far waited = inl (far, λ n e. cc)
+  once byte_waits b w p (Error message) text k k' fit far waited = inl (far, λ n e. cc)
+  once end_waits b w p Ok text k k' fit far waited = inl (far, λ n e. cc)
+  once end_waits b w p Nok text k k' fit far waited = inl (far, λ n e. cc)
+  once end_waits b w p (Error message) text k k' fit far waited = inl (far, λ n e. cc)
+  once byte_waits b (Some w) p (Retry name) text k k' fit far waited = inl (far, λ n e. cc)
+  once end_waits b None p (Retry name) text k k' fit far waited = inl (far, λ n e. cc)
+  once st b w p a text k k' fit far waited = absurd (cc)
+
+  pub inside-at : (st : Stage) (text : Text) (k k' : Configuration R D) → IsAsFar k' (reached st k) → Waited st text k → k.position ≤ length text.seats → k'.position ≤ length text.seats
+  inside-at end_waits text k k' far waited inside = omega (arith, far.0)
+  inside-at byte_waits text k k' far waited inside = omega (arith, far.0)
+  inside-at byte_read text k k' far waited inside = omega (arith, far.0, waited.1)
+
+  ended-at : (st : Stage) (text : Text) (k k' : Configuration R D) → IsAsFar k' (reached st k) → Waited st text k → is_end st ≡ true → k'.ended ≡ true
+  ended-at end_waits text k k' far waited e = far.2 ∙ waited.0
+  ended-at byte_waits text k k' far waited e = absurd (cc)
+  ended-at byte_read text k k' far waited e = absurd (cc)
+
+  any-or-ended : (within end : Bool) (choices : List Choice) (ended : Bool) → (within || end) ≡ true → (within ≡ true → AnyWait choices) → (end ≡ true → ended ≡ true) → AnyWait choices ⊎ (ended ≡ true)
+  any-or-ended true end choices ended h any at = inl (any refl)
+  any-or-ended false end choices ended h any at = inr (at h)
+
+  -- the invariant holds of the answer
+  pub answered : (st : Stage) (b w : Option W) (p : Shape) (above : List EventName) (a : State) (text : Text) (k k' : Configuration R D) (choices : List Choice) → is_some b ≡ is_read k.position
+      → IsFed k.waiting k.position k.ended text → SightIsInOrder k.waiting (sight g text k) → of_class text k ≡ w → Waited (first_stage w) text k
+      → fits_answer table.states st b w p a ≡ true → p.stage ≡ st → HasShape p above (sight_at p.stage (sight g text k)) g text k k' choices
+      → AreWaiting table.states g text k'.position (outline k') above choices → HoldsAt table g text k' choices a
+  answered st b w p above Ok text k k' choices read waits order class met fit at h waiting =
+      let (names, rest) = and_parts _ _ fit in
+      let (old, ends) = and_parts (not p.fresh) (p.within || is_end st) rest in
+      let none = same_names-true p.spans [] names in
+      let left = left-at g text k p.stage k' h.far h.waited in
+      let s = sight_at p.stage (sight g text k) in
+      record {
+        base = above;
+        stack = h.stack ∙ ap (λ xs. above ++ xs) none ∙ append-nil above;
+        began = began-on (since p.fresh p.stage s) (upto false (sight g text k').exit_place) (outline k') (λ q b. subst (λ x. stands_before q x ≡ true) (sym left) (to-before p.fresh p.stage s q old b)) h.began;
+        waiting = waiting;
+        ended = any-or-ended p.within (is_end st) choices k'.ended ends h.within (ended-at st text k k' (rw at at h.far) (rw at at h.waited));
+      }
+  answered st b w p above Nok text k k' choices read waits order class met fit at h waiting = record { base = above; waiting = waiting; any = h.within fit }
+  answered st b w p above (Error message) text k k' choices read waits order class met fit at h waiting = tt
+  answered byte_read b w p above (Next name) text k k' choices read waits order class met fit at h waiting =
+      let far = rw at at h.far in
+      let can = rw at at h.waited in
+      let s = sight g text k in
+      let o = named table.states name in
+      let (bare, rest) = and_parts (is_bare p) _ fit in
+      let (shaped, fresh) = and_parts _ _ rest in
+      let left = left-at g text k byte_read k' far can in
+      let began : (state : StateRows W R D) → o ≡ Some state → Began (upto (fresh_fed state.begun) (exit_place_at g text k'.position)) (outline k') = λ state e.
+      let f : (not p.fresh || fresh_fed state.begun) ≡ true = subst (λ o. (not p.fresh || is_fresh_fed table.states o) ≡ true) e fresh in
+      began-on (upto p.fresh s.next) (upto (fresh_fed state.begun) (sight g text k').exit_place) (outline k') (λ q b. subst (λ x. upto (fresh_fed state.begun) x q ≡ true) (sym left) (upto-fits p.fresh (fresh_fed state.begun) s.next q f b)) (rw at at h.began) in
+      let read_on : (n : Needs) → needs_choice n (is_read k'.position) ≡ true → needs_choice n true ≡ true = λ n. needs-more n (is_read k'.position) in
+      (far.1, at-state p.spans p.within false true o (λ state. upto (fresh_fed state.begun) (exit_place_at g text k'.position)) text k' above choices shaped h.stack began (λ v. h.bare (or-leads (is_void_last (last_or None p.spans)) p.bare bare v)) waiting h.within read_on (λ e. absurd (cc)))
+  answered byte_waits b (Some w) p above (Retry name) text k k' choices read waits order class met fit at h waiting =
+      let far = rw at at h.far in
+      let inside : k'.position < length text.seats = omega (arith, far.0, met.1) in
+      let s = sight g text k in
+      let o = named table.states name in
+      let (bare, rest) = and_parts (is_bare p) _ fit in
+      let (shaped, fresh) = and_parts _ _ rest in
+      let began : (state : StateRows W R D) → o ≡ Some state → Began (since (fresh_at state.begun (Some w)) byte_waits s) (outline k') = λ state e.
+      let f : (not p.fresh || fresh_at state.begun (Some w)) ≡ true = subst (λ o. (not p.fresh || is_fresh table.states (Some w) o) ≡ true) e fresh in
+      began-on (since p.fresh byte_waits s) (since (fresh_at state.begun (Some w)) byte_waits s) (outline k') (λ q. since-fits p.fresh (fresh_at state.begun (Some w)) s q f (order.later met.0 q)) (rw at at h.began) in (
+        rw (far.0, far.1, far.2) waits,
+        stays-in-order text k k' far order,
+        stays-open o (Some w) text k k' choices far class
+            (at-state p.spans p.within true (is_some b) o (λ state. began_at (Some w) state s) text k' above choices shaped h.stack began
+            (λ v. h.bare (or-leads (is_void_last (last_or None p.spans)) p.bare bare v)) waiting h.within
+            (λ n e. ap (needs_choice n) (read ∙ ap is_read (sym far.0)) ∙ e) (λ e. inside)),
+      )
+  answered end_waits b None p above (Retry name) text k k' choices read waits order class met fit at h waiting =
+      let far = rw at at h.far in
+      let s = sight g text k in
+      let o = named table.states name in
+      let (bare, rest) = and_parts (is_bare p) _ fit in
+      let (shaped, fresh) = and_parts _ _ rest in
+      let began : (state : StateRows W R D) → o ≡ Some state → Began (upto (fresh_at state.begun None) s.exit_place) (outline k') = λ state e.
+      let f : (not p.fresh || fresh_at state.begun None) ≡ true = subst (λ o. (not p.fresh || is_fresh table.states None o) ≡ true) e fresh in
+      began-on (upto p.fresh s.exit_place) (upto (fresh_at state.begun None) s.exit_place) (outline k') (λ q. upto-fits p.fresh (fresh_at state.begun None) s.exit_place q f) (rw at at h.began) in (
+        rw (far.0, far.1, far.2) waits,
+        stays-in-order text k k' far order,
+        stays-open o None text k k' choices far class
+            (at-state p.spans p.within false (is_some b) o (λ state. began_at None state s) text k' above choices shaped h.stack began
+            (λ v. h.bare (or-leads (is_void_last (last_or None p.spans)) p.bare bare v)) waiting h.within
+            (λ n e. ap (needs_choice n) (read ∙ ap is_read (sym far.0)) ∙ e) (λ e. absurd (cc))),
+      )
+  answered byte_read b w p above (Retry name) text k k' choices read waits order class met fit at h waiting = absurd (cc)
+  answered byte_waits b w p above a text k k' choices read waits order class met fit at h waiting = absurd (cc)
+  answered end_waits b w p above a text k k' choices read waits order class met fit at h waiting = absurd (cc)
+
+  -- if the text goes on the invariant at an answer still holds
+  state-longer : (o : Option (StateRows W R D)) (where_to : StateRows W R D → Point → Bool) (text more : Text) (k : Configuration R D) (choices : List Choice) → Extends text more → k.position ≤ length text.seats
+      → IsStateAt table g text o where_to k choices → IsStateAt table g more o where_to k choices
+  state-longer None where_to text more k choices e inside h = h
+  state-longer (Some state) where_to text more k choices e inside h =
+      let o = h.spans in
+      record {
+        base = h.base;
+        spans = record { stack = o.stack; began = o.began; void = o.void; below = o.below; needs = o.needs; needs_byte = λ n. omega (arith, o.needs_byte n, longer-text table.states g text more e) };
+        waiting = waiting-longer table.states g text more e choices h.base k.position (outline k) inside h.waiting;
+      }
+
+  pub longer : (a : State) (text more : Text) (k : Configuration R D) (choices : List Choice) → Extends text more → k.ended ≡ false → k.position ≤ length text.seats → HoldsAt table g text k choices a → HoldsAt table g more k choices a
+  longer (Next name) text more k choices e fresh inside h = (
+    h.0,
+    subst (λ q. IsStateAt table g more (named table.states name) (λ state. upto (fresh_fed state.begun) q) k choices) (sym (place-kept table.states g text more e k.position inside))
+        (state-longer (named table.states name) (λ state. upto (fresh_fed state.begun) (exit_place_at g text k.position)) text more k choices e inside h.1),
+  )
+  longer (Retry name) text more k choices e fresh inside h =
+      let (fed, seen) = waits-longer g text more k.position k.ended k.waiting e fresh h.0 in
+      let o = named table.states name in (
+        fed,
+        subst (SightIsInOrder k.waiting) (sym seen) h.1,
+        subst (λ s. IsStateAt table g more o (λ state. began_at (class_of table.class s.current) state s) k choices) (sym seen)
+            (state-longer o (λ state. began_at (of_class text k) state (sight g text k)) text more k choices e inside h.2),
+      )
+  longer Ok text more k choices e fresh inside h = record {
+    base = h.base;
+    stack = h.stack;
+    began = subst (λ q. Began (upto false q) (outline k)) (sym (place-kept table.states g text more e k.position inside)) h.began;
+    waiting = waiting-longer table.states g text more e choices h.base k.position (outline k) inside h.waiting;
+    ended = h.ended;
+  }
+  longer Nok text more k choices e fresh inside h =
+      record { base = h.base; waiting = waiting-longer table.states g text more e choices h.base k.position (outline k) inside h.waiting; any = h.any }
+  longer (Error message) text more k choices e fresh inside h = h
+
+  -- the same spans are open once the next byte, or the end, was fed
+  moved : (o : Option (StateRows W R D)) (from to : StateRows W R D → Point → Bool) (text : Text) (k : Configuration R D) (choices : List Choice) (waits : Waits) (ended : Bool)
+      → ((state : StateRows W R D) (q : Point) → from state q ≡ true → to state q ≡ true) → IsStateAt table g text o from k choices
+      → IsStateAt table g text o to (record { position = k.position; waiting = waits; ended = ended; events = k.events; stack = k.stack; local = k.local }) choices
+  moved None from to text k choices waits ended f h = h
+  moved (Some state) from to text k choices waits ended f h =
+      let o = h.spans in
+      record {
+        base = h.base;
+        spans = record { stack = o.stack; began = began-on (from state) (to state) (outline k) (f state) o.began; void = o.void; below = o.below; needs = o.needs; needs_byte = o.needs_byte };
+        waiting = h.waiting;
+      }
+
+  -- what may have begun when nothing waits may have when a byte does, or the end
+  fed-byte : (begun : Begun W) (w : W) (s : Sight) (q : Point) → (stands_before q s.exit_place ≡ true → stands_before q s.next ≡ true) → (stands_before s.exit_place q ≡ false → stands_before q s.next ≡ true)
+      → upto (fresh_fed begun) s.exit_place q ≡ true → since (fresh_at begun (Some w)) byte_waits s q ≡ true
+  fed-byte before w s q later soon h = h
+  fed-byte (at_byte test) w s q later soon h = since-fits false (test w) s q refl later h
+  fed-byte here w s q later soon h = soon (not-true (stands_before s.exit_place q) h)
+
+  fed-end : (begun : Begun W) (s : Sight) (q : Point) → upto (fresh_fed begun) s.exit_place q ≡ true → since (fresh_at begun None) end_waits s q ≡ true
+  fed-end before s q h = h
+  fed-end (at_byte test) s q h = h
+  fed-end here s q h = h
+
+  pub fed-at : (b : Bool) (text : Text) (k : Configuration R D) (choices : List Choice) (name : Name) → IsText g text → nat_lt k.position (length text.seats) ≡ b → HoldsAt table g text k choices (Next name)
+      → HoldsAt table g text (fed text k) choices (Retry name)
+  fed-at true text k choices name is e h =
+      let inside = ltb-true k.position (length text.seats) e in
+      let s = sight_in g text k.position Byte in
+      let (seat, at) = seat-at text k.position inside in
+      let w = class_of table.class s.current in
+      let is_byte : w ≡ Some (table.class seat.byte) = rw at refl in
+      let later : (q : Point) → stands_before q s.exit_place ≡ true → stands_before q s.next ≡ true = λ q. began-before_next g text k.position q is inside in
+      let soon : (q : Point) → stands_before s.exit_place q ≡ false → stands_before q s.next ≡ true = λ q h. upto-before q.index q.vs s.exit_place.index s.exit_place.vs s.next.index s.next.vs h (ends-before_next g text k.position is inside) in
+      let open_at = moved (named table.states name) (λ state. upto (fresh_fed state.begun) s.exit_place) (λ state. began_at (Some (table.class seat.byte)) state s) text k choices Byte k.ended
+      (λ state q. fed-byte state.begun (table.class seat.byte) s q (later q) (soon q)) h.1 in
+      rw e (
+        inside,
+        record { begins = λ waits. begins-before_end g text k.position is inside; later = λ waits. later },
+        subst (λ v. IsStateAt table g text (named table.states name) (λ state. began_at v state s) (record { position = k.position; waiting = Byte; ended = k.ended; events = k.events; stack = k.stack; local = k.local }) choices) (sym is_byte) open_at,
+      )
+  fed-at false text k choices name is e h =
+      let s = sight_in g text k.position End in
+      let past = ltb-false k.position (length text.seats) e in
+      rw e (
+        (refl, past),
+        record { begins = λ waits. absurd (cc); later = λ waits. absurd (cc) },
+        moved (named table.states name) (λ state. upto (fresh_fed state.begun) s.exit_place) (λ state. began_at None state s) text k choices End true (λ state q. fed-end state.begun s q) h.1,
+      )
+
+  pub starts-at : (o : Option (StateRows W R D)) (p : Point) (where_to : StateRows W R D → Point → Bool) (flag : Bool) → may_start table.states o ≡ true
+      → IsStateAt table g (empty_text p) o where_to (start_configuration {R = R} {D = D} flag) []
+  starts-at None p where_to flag h = absurd (cc)
+  starts-at (Some state) p where_to flag h =
+      let (spans, rest) = and_parts _ _ h in
+      let (needs, byte) = and_parts (not (needs_choice state.needs false)) (not state.needs_byte) rest in
+      let empty = same_names-true state.spans [] spans in
+      record {
+        base = [];
+        spans = record {
+          stack = sym empty;
+          began = All-nil (λ e. where_to state e.point ≡ true);
+          void = λ v. absurd (let e : false ≡ true = (rw empty at v) in cc);
+          below = All-nil (IsBelow []);
+          needs = λ n. absurd (let none = not-true (needs_choice state.needs false) needs in let e : true ≡ false = sym n ∙ none in cc);
+          needs_byte = λ n. absurd (let none = not-true state.needs_byte byte in let e : true ≡ false = sym n ∙ none in cc);
+        };
+        waiting = refl;
+      }
+
+  -- what goes on at the place a choice was made at holds there
+  goes-on-at : (f : Frame) (below : List EventName) (byte : Bool) (a : State) (text : Text) (k : Configuration R D) (choices : List Choice) → may_go_on table.states f byte a ≡ true → k.waiting ≡ Nothing
+      → k.stack ≡ below ++ f.spans → Began (upto false (exit_place_at g text k.position)) (outline k) → (is_void_last (last_or None f.spans) ≡ true → EndsWithEnter (outline k))
+      → AreWaiting table.states g text k.position (outline k) below choices → (f.within ≡ true → AnyWait choices) → (byte ≡ true → k.position < length text.seats) → HoldsAt table g text k choices a
+  goes-on-at f below byte (Next name) text k choices fit waits stack began void waiting any inside = (
+    waits,
+    at-state f.spans f.within byte true (named table.states name) (λ state. upto (fresh_fed state.begun) (exit_place_at g text k.position)) text k below choices fit stack
+        (λ state e. began-on (upto false (exit_place_at g text k.position)) (upto (fresh_fed state.begun) (exit_place_at g text k.position)) (outline k) (upto-any (fresh_fed state.begun) (exit_place_at g text k.position)) began)
+        void waiting any (λ n. needs-more n (is_read k.position)) inside,
+  )
+  goes-on-at f below byte Ok text k choices fit waits stack began void waiting any inside =
+      let (names, within) = and_parts _ _ fit in
+      record { base = below; stack = stack ∙ ap (λ xs. below ++ xs) (same_names-true f.spans [] names) ∙ append-nil below; began = began; waiting = waiting; ended = inl (any within) }
+  goes-on-at f below byte Nok text k choices fit waits stack began void waiting any inside = record { base = below; waiting = waiting; any = any fit }
+  goes-on-at f below byte (Retry name) text k choices fit waits stack began void waiting any inside = absurd (cc)
+  goes-on-at f below byte (Error message) text k choices fit waits stack began void waiting any inside = absurd (cc)
+
+  module _ (text : Text) (k : Configuration R D) (choices : List Choice) (f : Frame) (base below : List EventName) (is_base : base ≡ below ++ f.spans) (any : f.within ≡ true → AnyWait choices) where
+    -- what goes on from what was saved
+    back : (saved : Saved) (a : State) → may_go_on table.states f f.at_byte a ≡ true → IsSavedIn g text k.position (outline k) base f saved
+        → AreWaiting table.states g text saved.position (take saved.events (outline k)) below choices → HoldsAt table g text (restored (Some saved) k) choices a
+    back saved a fit h waiting =
+        let front : take saved.events (outline k) ≡ map unlinked (take saved.events k.events) = take-map unlinked saved.events k.events in
+        goes-on-at f below f.at_byte a text (restored (Some saved) k) choices fit refl (h.stack_is ∙ is_base)
+        (subst (Began (upto false (exit_place_at g text saved.position))) front h.began) (λ v. subst EndsWithEnter front (h.void v))
+        (subst (λ es. AreWaiting table.states g text saved.position es below choices) front waiting) any h.at_byte
+
+    -- what goes on from where it is
+    on : (b : Bool) (saved : Option Saved) → IsSaved g text k.position (outline k) base f b saved → AreWaiting table.states g text (position_of saved k.position) (events_saved saved (outline k)) below choices
+        → AreWaiting table.states g text k.position (outline k) below choices
+    on true (Some saved) h waiting =
+        more-waiting table.states g text choices below saved.position k.position (take saved.events (outline k)) (outline k) (drop saved.events (outline k)) h.behind (sym (take-append-drop saved.events (outline k))) waiting
+    on false None h waiting = waiting
+    on true None h waiting = absurd h
+    on false (Some saved) h waiting = absurd h
+
+    pub well : (kind : AttemptKind) (a nok : State) (b : Bool) (saved : Option Saved) → saves kind nok ≡ b → fits_choice table.states f kind a nok ≡ true → IsSaved g text k.position (outline k) base f b saved
+        → AreWaiting table.states g text (position_of saved k.position) (events_saved saved (outline k)) below choices → k.stack ≡ base → Began (upto false (exit_place_at g text k.position)) (outline k)
+        → HoldsAt table g text (settled_at kind saved Ok k) choices a
+    well Attempt a nok b saved is fit h waiting stack began =
+        let (goes, rest) = and_parts (may_go_on table.states f false a) (not (is_void_last (last_or None f.spans)) && may_go_on table.states f f.at_byte nok) fit in
+        let (no_void, other) = and_parts (not (is_void_last (last_or None f.spans))) (may_go_on table.states f f.at_byte nok) rest in
+        goes-on-at f below false a text (unfed k) choices goes refl (stack ∙ is_base) began (λ v. absurd (let none = not-true (is_void_last (last_or None f.spans)) no_void in let e : true ≡ false = sym v ∙ none in cc))
+        (on b saved h waiting) any (λ e. absurd (cc))
+    well Check a nok true (Some saved) is fit h waiting stack began = back saved a (and_parts (may_go_on table.states f f.at_byte a) (may_go_on table.states f f.at_byte nok) fit).0 h waiting
+    well Check a nok false saved is fit h waiting stack began = absurd (cc)
+    well Check a nok true None is fit h waiting stack began = absurd h
+
+    -- an attempt that saves nothing goes on with Nok
+    badly-unsaved : (a : State) → saves Attempt a ≡ false → may_go_on table.states f f.at_byte a ≡ true → AreWaiting table.states g text k.position (outline k) below choices → HoldsAt table g text (unfed k) choices a
+    badly-unsaved Nok is fit waiting = record { base = below; waiting = waiting; any = any fit }
+    badly-unsaved (Next name) is fit waiting = absurd (cc)
+    badly-unsaved (Retry name) is fit waiting = absurd (cc)
+    badly-unsaved Ok is fit waiting = absurd (cc)
+    badly-unsaved (Error message) is fit waiting = absurd (cc)
+
+    pub badly : (kind : AttemptKind) (ok a : State) (b : Bool) (saved : Option Saved) → saves kind a ≡ b → fits_choice table.states f kind ok a ≡ true → IsSaved g text k.position (outline k) base f b saved
+        → AreWaiting table.states g text (position_of saved k.position) (events_saved saved (outline k)) below choices → HoldsAt table g text (settled_at kind saved Nok k) choices a
+    badly Check ok a true (Some saved) is fit h waiting = back saved a (and_parts (may_go_on table.states f f.at_byte ok) (may_go_on table.states f f.at_byte a) fit).1 h waiting
+    badly Check ok a false saved is fit h waiting = absurd (cc)
+    badly Attempt ok a true (Some saved) is fit h waiting =
+        back saved a (and_parts (not (is_void_last (last_or None f.spans))) (may_go_on table.states f f.at_byte a) (and_parts (may_go_on table.states f false ok) (not (is_void_last (last_or None f.spans)) && may_go_on table.states f f.at_byte a) fit).1).1 h waiting
+    badly Attempt ok a false None is fit h waiting =
+        badly-unsaved a is (and_parts (not (is_void_last (last_or None f.spans))) (may_go_on table.states f f.at_byte a) (and_parts (may_go_on table.states f false ok) (not (is_void_last (last_or None f.spans)) && may_go_on table.states f f.at_byte a) fit).1).1 waiting
+    badly kind ok a true None is fit h waiting = absurd h
+    badly kind ok a false (Some saved) is fit h waiting = absurd h
+
+  -- no more was read than there is when a choice is settled
+  restored-inside : (b : Bool) (saved : Option Saved) (text : Text) (k : Configuration R D) (base : List EventName) (f : Frame) → k.position ≤ length text.seats → IsSaved g text k.position (outline k) base f b saved
+      → (restored saved k).position ≤ length text.seats
+  restored-inside true (Some saved) text k base f inside h = omega (arith, h.behind)
+  restored-inside false None text k base f inside h = inside
+  restored-inside true None text k base f inside h = absurd h
+  restored-inside false (Some saved) text k base f inside h = absurd h
+
+  pub inside-after : (kind : AttemptKind) (saved : Option Saved) (a : State) (b : Bool) (text : Text) (k : Configuration R D) (base : List EventName) (f : Frame) → k.position ≤ length text.seats
+      → IsSaved g text k.position (outline k) base f b saved → (settled_at kind saved a k).position ≤ length text.seats
+  inside-after Check saved a b text k base f inside h = restored-inside b saved text k base f inside h
+  inside-after Attempt saved Nok b text k base f inside h = restored-inside b saved text k base f inside h
+  inside-after Attempt saved (Next name) b text k base f inside h = inside
+  inside-after Attempt saved (Retry name) b text k base f inside h = inside
+  inside-after Attempt saved Ok b text k base f inside h = inside
+  inside-after Attempt saved (Error message) b text k base f inside h = inside
+
+  -- as far as a choice saved it, the stack is kept
+  keeps-one : (old new : List EventName) (saved : Option Saved) → IfSome saved (λ s. take (length s.stack) new ≡ s.stack) → IfSome saved (λ s. take (length s.stack) old ≡ s.stack)
+      → IfSome saved (λ s. take (length s.stack) new ≡ take (length s.stack) old)
+  keeps-one old new None a b = tt
+  keeps-one old new (Some saved) a b = a ∙ sym b
+
+  abbrev pub KeepsStack : (old new : List EventName) → Choice → Type 0
+  KeepsStack old new c = IfSome c.saved (λ s. take (length s.stack) new ≡ take (length s.stack) old)
+
+  pub keeps-all : (old new : List EventName) (made cs : List Choice) → All (λ c. IfSome c.saved (λ s. take (length s.stack) new ≡ s.stack)) (made ++ cs)
+      → All (λ c. IfSome c.saved (λ s. take (length s.stack) old ≡ s.stack)) cs → All (KeepsStack old new) cs
+  keeps-all old new (c ∷ made) cs a b = keeps-all old new made cs (All-tail (λ c. IfSome c.saved (λ s. take (length s.stack) new ≡ s.stack)) c (made ++ cs) a) b
+  keeps-all old new [] [] a b = All-nil (KeepsStack old new)
+  keeps-all old new [] (c ∷ cs) a b =
+      let P = λ (c : Choice). IfSome c.saved (λ s. take (length s.stack) new ≡ s.stack) in
+      let Q = λ (c : Choice). IfSome c.saved (λ s. take (length s.stack) old ≡ s.stack) in
+      All-cons (KeepsStack old new) c cs (keeps-one old new c.saved (All-head P c cs a) (All-head Q c cs b)) (keeps-all old new [] cs (All-tail P c cs a) (All-tail Q c cs b))

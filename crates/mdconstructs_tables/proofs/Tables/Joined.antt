@@ -1,0 +1,196 @@
+-- The laws of two machines in one, from those of each.
+use Rattle.std.proofs.Common.{◌≡◌, ◌+◌, ◌≤◌, inl, inr, List, [], ◌∷◌, ◌++◌, Bool, true, false, cond, Option, Some, None, refl, sym, ap, ◌∙◌, subst, arith, ◌==◌}
+use Rattle.std.specs.Prelude.{sum_by}
+use Rattle.std.proofs.lemmas.Bool.Decides.{nat_tests}
+use Rattle.std.proofs.lemmas.List.Elements.{Contains-append_cases}
+use Rattle.std.proofs.lemmas.Bool.{false_from_ne_true}
+use Rattle.markdown_base.specs.declared.event.Point.{Point}
+use Rattle.markdown_base.specs.declared.state.Name.{Name}
+use Rattle.markdown_base.specs.declared.state.State.{State}
+use Rattle.markdown_base.specs.declared.state.State.TheVariants.{Next, Retry, Ok, Nok, Error}
+use Rattle.markdown_tokenizer.specs.Text.{Given, Text, IsText}
+use Rattle.markdown_tokenizer.specs.Configuration.{Configuration, Choice, Step}
+use Rattle.markdown_tokenizer.specs.Sight.{sight}
+use Rattle.markdown_tokenizer.specs.Rules.{Rules}
+use Rattle.markdown_tokenizer.specs.Lawful.{ForEachCall, ConsumesOnce, OnlyAdds, EndsWhenRead, KeepsInvariant, CostPays, ResolversKeep}
+use Rattle.mdconstructs_tables.specs.Rows.{StateRows, Table, named}
+use Rattle.mdconstructs_tables.specs.RowTest.{is_some}
+use Rattle.mdconstructs_tables.specs.RowInvariant.{IsStateAt, table_holds}
+use Rattle.mdconstructs_tables.specs.Joined.{has_state, joined_cost, joined_rules}
+
+-- Two machines can be one: the names at which they hold are each its own, the first makes no choice, and they share their resolvers
+pub record AreApart {R D : Type 0} (is_first : Name → Bool) (first second : Rules R D) : Type 0 where
+  pub first_fed : (text : Text) (k : Configuration R D) (choices : List Choice) (name : Name) → first.holds text k choices (Next name) → is_first name ≡ true
+  pub first_called : (text : Text) (k : Configuration R D) (choices : List Choice) (name : Name) → first.holds text k choices (Retry name) → is_first name ≡ true
+  pub second_fed : (text : Text) (k : Configuration R D) (choices : List Choice) (name : Name) → second.holds text k choices (Next name) → is_first name ≡ false
+  pub second_called : (text : Text) (k : Configuration R D) (choices : List Choice) (name : Name) → second.holds text k choices (Retry name) → is_first name ≡ false
+  pub no_choice : (text : Text) (k : Configuration R D) (choices : List Choice) (state : State) → first.holds text k choices state → choices ≡ []
+  pub one_resolver : second.resolver ≡ first.resolver
+
+either : (b : Bool) → b ≡ true → b ≡ false → ⊥
+either true e f = cc
+either false e f = cc
+
+none-in-front : (xs ys : List Choice) → xs ++ ys ≡ [] → xs ≡ []
+none-in-front [] ys h = refl
+none-in-front (x ∷ xs) ys h = absurd (cc)
+
+module _ {R D : Type 0} (is_first : Name → Bool) (g : Given) (first second : Rules R D) (apart : AreApart is_first first second) where
+  abbrev both : Rules R D
+  both = joined_rules is_first first second
+
+  -- what holds where a state is called, by the machine of its name
+  pub of-first : (text : Text) (k : Configuration R D) (choices : List Choice) (name : Name) → is_first name ≡ true → both.holds text k choices (Retry name) → first.holds text k choices (Retry name)
+  of-first text k choices name e (inl h) = h
+  of-first text k choices name e (inr h) = absurd (either (is_first name) e (apart.second_called text k choices name h))
+
+  pub of-second : (text : Text) (k : Configuration R D) (choices : List Choice) (name : Name) → is_first name ≡ false → both.holds text k choices (Retry name) → second.holds text k choices (Retry name)
+  of-second text k choices name e (inl h) = absurd (either (is_first name) (apart.first_called text k choices name h) e)
+  of-second text k choices name e (inr h) = h
+
+  -- a law of each call of either is one of both
+  each-call : (P : Text → Configuration R D → List Choice → Name → Step R D → Type 0)
+      → ((text : Text) (k : Configuration R D) (choices : List Choice) (name : Name) → IsText g text → first.holds text k choices (Retry name) → P text k choices name (first.step (sight g text k) k name))
+      → ((text : Text) (k : Configuration R D) (choices : List Choice) (name : Name) → IsText g text → second.holds text k choices (Retry name) → P text k choices name (second.step (sight g text k) k name))
+      → ForEachCall g both P
+  each-call P one other text k choices name is (inl h) =
+      subst (λ b. P text k choices name (cond b (first.step (sight g text k) k name) (second.step (sight g text k) k name))) (sym (apart.first_called text k choices name h)) (one text k choices name is h)
+  each-call P one other text k choices name is (inr h) =
+      subst (λ b. P text k choices name (cond b (first.step (sight g text k) k name) (second.step (sight g text k) k name))) (sym (apart.second_called text k choices name h)) (other text k choices name is h)
+
+  pub joined-consumes_once : ConsumesOnce g first → ConsumesOnce g second → ConsumesOnce g both
+  joined-consumes_once one other text k choices name is (inl h) = let e = apart.first_called text k choices name h in rw e (one text k choices name is h)
+  joined-consumes_once one other text k choices name is (inr h) = let e = apart.second_called text k choices name h in rw e (other text k choices name is h)
+
+  pub joined-only_adds : OnlyAdds g first → OnlyAdds g second → OnlyAdds g both
+  joined-only_adds one other = record {
+    events = λ text k choices name is h. elim h [
+      | inl h ↦ let e = apart.first_called text k choices name h in rw e (one.events text k choices name is h)
+      | inr h ↦ let e = apart.second_called text k choices name h in rw e (other.events text k choices name is h)
+    ];
+    stack = λ text k choices name is h. elim h [
+      | inl h ↦ let e = apart.first_called text k choices name h in rw e (one.stack text k choices name is h)
+      | inr h ↦ let e = apart.second_called text k choices name h in rw e (other.stack text k choices name is h)
+    ];
+  }
+
+  pub joined-ends_when_read : EndsWhenRead g first → EndsWhenRead g second → EndsWhenRead g both
+  joined-ends_when_read one other = record {
+    nok = λ text k is h. elim h [ inl h ↦ one.nok text k is h | inr h ↦ other.nok text k is h ];
+    ok = λ text k is h. elim h [ inl h ↦ one.ok text k is h | inr h ↦ other.ok text k is h ];
+  }
+
+  pub joined-invariant_kept : KeepsInvariant g first → KeepsInvariant g second → KeepsInvariant g both
+  joined-invariant_kept one other = record {
+    at_starts = λ p flag name is start. elim (Contains-append_cases first.starts second.starts name start) [
+      | inl start ↦ inl (one.at_starts p flag name is start)
+      | inr start ↦ inr (other.at_starts p flag name is start)
+    ];
+    unfed = λ text k choices name is h. elim h [ inl h ↦ one.unfed text k choices name is h | inr h ↦ other.unfed text k choices name is h ];
+    waits = λ text k choices name is h. elim h [ inl h ↦ one.waits text k choices name is h | inr h ↦ other.waits text k choices name is h ];
+    by_feeding = λ text k choices name is h. elim h [ inl h ↦ inl (one.by_feeding text k choices name is h) | inr h ↦ inr (other.by_feeding text k choices name is h) ];
+    by_calls = each-call (λ text k choices name s. both.holds text s.configuration (s.choices ++ choices) s.answer)
+        (λ text k choices name is h. inl (one.by_calls text k choices name is h)) (λ text k choices name is h. inr (other.by_calls text k choices name is h));
+    by_ok = λ text k choice choices is h. elim h [ inl h ↦ inl (one.by_ok text k choice choices is h) | inr h ↦ inr (other.by_ok text k choice choices is h) ];
+    by_nok = λ text k choice choices is h. elim h [ inl h ↦ inl (one.by_nok text k choice choices is h) | inr h ↦ inr (other.by_nok text k choice choices is h) ];
+    by_pieces = λ text piece k choices state is fits fresh h. elim h [
+      | inl h ↦ inl (one.by_pieces text piece k choices state is fits fresh h)
+      | inr h ↦ inr (other.by_pieces text piece k choices state is fits fresh h)
+    ];
+  }
+
+  -- what goes on costs no more than in its own machine
+  first-costs : (text : Text) (k : Configuration R D) (choices : List Choice) (state : State) → first.holds text k choices state → joined_cost is_first first second text k state ≤ first.cost text k state
+  first-costs text k choices (Next name) h = let e = apart.first_fed text k choices name h in rw e (omega arith)
+  first-costs text k choices (Retry name) h = let e = apart.first_called text k choices name h in rw e (omega arith)
+  first-costs text k choices Ok h = omega arith
+  first-costs text k choices Nok h = omega arith
+  first-costs text k choices (Error message) h = omega arith
+
+  second-costs : (text : Text) (k : Configuration R D) (choices : List Choice) (state : State) → second.holds text k choices state → joined_cost is_first first second text k state ≤ second.cost text k state
+  second-costs text k choices (Next name) h = let e = apart.second_fed text k choices name h in rw e (omega arith)
+  second-costs text k choices (Retry name) h = let e = apart.second_called text k choices name h in rw e (omega arith)
+  second-costs text k choices Ok h = omega arith
+  second-costs text k choices Nok h = omega arith
+  second-costs text k choices (Error message) h = omega arith
+
+  first-price : (text : Text) (k : Configuration R D) (choices : List Choice) (name : Name) → first.holds text k choices (Retry name) → first.cost text k (Retry name) ≡ joined_cost is_first first second text k (Retry name)
+  first-price text k choices name h = ap (λ b. cond b (first.cost text k (Retry name)) (second.cost text k (Retry name))) (sym (apart.first_called text k choices name h))
+
+  second-price : (text : Text) (k : Configuration R D) (choices : List Choice) (name : Name) → second.holds text k choices (Retry name) → second.cost text k (Retry name) ≡ joined_cost is_first first second text k (Retry name)
+  second-price text k choices name h = ap (λ b. cond b (first.cost text k (Retry name)) (second.cost text k (Retry name))) (sym (apart.second_called text k choices name h))
+
+  no-reserve : (text : Text) (choices : List Choice) → choices ≡ [] → sum_by (second.reserve text) choices ≡ 0
+  no-reserve text choices h = ap (sum_by (second.reserve text)) h
+
+  module _ (one : KeepsInvariant g first) (other : KeepsInvariant g second) where
+    pub joined-cost_pays : CostPays g first → CostPays g second → CostPays g both
+    joined-cost_pays pays others = record {
+      for_calls = each-call (λ text k choices name s. 1 + (both.cost text s.configuration s.answer + sum_by (both.reserve text) s.choices) ≤ both.cost text k (Retry name))
+          (λ text k choices name is h.
+          let s = first.step (sight g text k) k name in
+          let after = one.by_calls text k choices name is h in
+          let none = none-in-front s.choices choices (apart.no_choice text s.configuration (s.choices ++ choices) s.answer after) in
+          omega (arith, pays.for_calls text k choices name is h, first-costs text s.configuration (s.choices ++ choices) s.answer after, first-price text k choices name h, no-reserve text s.choices none))
+          (λ text k choices name is h.
+          let s = second.step (sight g text k) k name in
+          let after = other.by_calls text k choices name is h in
+          omega (arith, others.for_calls text k choices name is h, second-costs text s.configuration (s.choices ++ choices) s.answer after, second-price text k choices name h));
+      for_feeding = λ text k choices name is h. elim h [
+        | inl h ↦ let e = apart.first_fed text k choices name h in rw e (pays.for_feeding text k choices name is h)
+        | inr h ↦ let e = apart.second_fed text k choices name h in rw e (others.for_feeding text k choices name is h)
+      ];
+      for_ok = λ text k choice choices is h. elim h [
+        | inl h ↦ let none = apart.no_choice text k (choice ∷ choices) Ok h in absurd (cc)
+        | inr h ↦ omega (arith, others.for_ok text k choice choices is h, second-costs text _ choices choice.ok (other.by_ok text k choice choices is h))
+      ];
+      for_nok = λ text k choice choices is h. elim h [
+        | inl h ↦ let none = apart.no_choice text k (choice ∷ choices) Nok h in absurd (cc)
+        | inr h ↦ omega (arith, others.for_nok text k choice choices is h, second-costs text _ choices choice.nok (other.by_nok text k choice choices is h))
+      ];
+    }
+
+  pub joined-resolvers_keep : ResolversKeep g first → ResolversKeep g second → ResolversKeep g both
+  joined-resolvers_keep one other = record {
+    at_end = λ text k is formed h. elim h [ inl h ↦ inl (one.at_end text k is formed h) | inr h ↦ inr (other.at_end text k is formed h) ];
+    by_resolvers = λ text r rs k new more is h e. elim h [
+      | inl h ↦ let kept = one.by_resolvers text r rs k new more is h e in (inl kept.0, kept.1, kept.2)
+      | inr h ↦
+          let kept = other.by_resolvers text r rs k new more is h (ap (λ f. f (sight g text k) k r) apart.one_resolver ∙ e) in
+          (inr kept.0, kept.1, kept.2)
+    ];
+    at_last = λ text k is h. elim h [ inl h ↦ one.at_last text k is h | inr h ↦ other.at_last text k is h ];
+  }
+
+-- No state of the first list has a name of the second's
+abbrev pub HaveOtherNames : {V W R D : Type 0} → List (StateRows V R D) → List (StateRows W R D) → Type 0
+HaveOtherNames [] others = Unit {0}
+HaveOtherNames (state ∷ states) others = (named others state.name ≡ None) × HaveOtherNames states others
+
+module _ {V W R D : Type 0} where
+  other-or : (b : Bool) (name : Name) (state : StateRows V R D) (rest : Option (StateRows V R D)) (others : List (StateRows W R D)) → (b ≡ true → name.number ≡ state.name.number)
+      → named others state.name ≡ None → (is_some rest ≡ true → named others name ≡ None) → is_some (cond b (Some state) rest) ≡ true → named others name ≡ None
+  other-or true name state rest others same none later h = ap (λ n. named others (record { number = n })) (same refl) ∙ none
+  other-or false name state rest others same none later h = later h
+
+  pub other-name : (states : List (StateRows V R D)) (others : List (StateRows W R D)) (name : Name) → HaveOtherNames states others → has_state states name ≡ true → named others name ≡ None
+  other-name [] others name apart h = absurd (cc)
+  other-name (state ∷ states) others name apart h =
+      other-or (name.number == state.name.number) name state (named states name) others (λ e. grind (arith, nat_tests)) apart.0 (other-name states others name apart.1) h
+
+module _ {W R D : Type 0} (table : Table W R D) (g : Given) (text : Text) (k : Configuration R D) (choices : List Choice) where
+  -- where a table holds, the name is one of its states'
+  at-state : (o : Option (StateRows W R D)) (where_to : StateRows W R D → Point → Bool) → IsStateAt table g text o where_to k choices → is_some o ≡ true
+  at-state None where_to h = absurd h
+  at-state (Some state) where_to h = refl
+
+  pub fed-state : (name : Name) → table_holds table g text k choices (Next name) → has_state table.states name ≡ true
+  fed-state name h = at-state (named table.states name) _ h.1.1
+
+  pub called-state : (name : Name) → table_holds table g text k choices (Retry name) → has_state table.states name ≡ true
+  called-state name h = at-state (named table.states name) _ h.1.2
+
+-- a name of the second list is none of the first's
+pub is-other : {V W R D : Type 0} (states : List (StateRows V R D)) (others : List (StateRows W R D)) (name : Name) → HaveOtherNames states others → has_state others name ≡ true → has_state states name ≡ false
+is-other states others name apart h =
+    false_from_ne_true (has_state states name) (λ e. let none = other-name states others name apart e in let off : true ≡ false = sym h ∙ ap is_some none in cc)

@@ -1,0 +1,139 @@
+-- The laws of a machine that knows more than its table says, from those of the table and from what each row keeps of it.
+use Rattle.std.proofs.Common.{◌≡◌, List, [], ◌∷◌, ◌++◌, Bool, true, false, cond, Option, Some, refl, sym, subst, ◌==◌, arith}
+use Rattle.std.specs.Prelude.{All, nat_lt, length}
+use Rattle.std.proofs.lemmas.List.Elements.{All-contains}
+use Rattle.std.proofs.lemmas.Bool.Decides.{nat_tests}
+use Rattle.markdown_base.specs.declared.event.Event.{Event}
+use Rattle.markdown_base.specs.declared.state.Name.{Name}
+use Rattle.markdown_base.specs.declared.state.State.{State}
+use Rattle.markdown_base.specs.declared.state.State.TheVariants.{Next, Retry, Ok, Nok}
+use Rattle.markdown_tokenizer.specs.declared.waiting.Waits.TheVariants.{Byte, End}
+use Rattle.markdown_tokenizer.specs.Text.{Given}
+use Rattle.markdown_tokenizer.specs.Configuration.{Configuration, Local, Choice, Step, start_configuration}
+use Rattle.markdown_tokenizer.specs.Sight.{Sight, sight}
+use Rattle.markdown_tokenizer.specs.Calls.{with_local}
+use Rattle.markdown_tokenizer.specs.Reading.{settled_at}
+use Rattle.markdown_tokenizer.specs.Lawful.{IsAsFar, ConsumesOnce, OnlyAdds, EndsWhenRead, KeepsInvariant, CostPays, ResolversKeep}
+use Rattle.markdown_edits.specs.Edited.{edited}
+use Rattle.markdown_tokenizer.specs.Resolving.{CanBeEdited, IsInShape}
+use Rattle.markdown_base.specs.Events.{IsBalanced}
+use Rattle.mdconstructs_tables.specs.Rows.{Rows, row, when, Row, StateRows, Table, class_of, picked, step_of, named, step_at, table_step}
+use Rattle.mdconstructs_tables.specs.Knowledge.{LeavesShape, knowing_rules}
+use Rattle.mdconstructs_tables.proofs.Tables.Laws.{IsFit, is-call, table-consumes_once, table-only_adds, table-ends_when_read, table-invariant_kept}
+use Rattle.mdconstructs_tables.proofs.Tables.Costs.{table-cost_pays}
+
+-- what holds of each of the rows, by the tests that pick it, holds of the one that is picked
+module _ {R D : Type 0} (P : Row R D → Type 0) (g : Given) (s : Sight) (k : Configuration R D) where
+  abbrev pub EachRow : Rows R D → Type 0
+  EachRow (row acts answer) = P (record { acts = acts; answer = answer })
+  EachRow (when test one other) = (test g s k ≡ true → EachRow one) × (test g s k ≡ false → EachRow other)
+
+  one-of : (b : Bool) (x y : Row R D) → (b ≡ true → P x) → (b ≡ false → P y) → P (cond b x y)
+  one-of true x y p q = p refl
+  one-of false x y p q = q refl
+
+  pub picked-row : (rows : Rows R D) → EachRow rows → P (picked rows g s k)
+  picked-row (row acts answer) h = h
+  picked-row (when test one other) h =
+      one-of (test g s k) (picked one g s k) (picked other g s k) (λ e. picked-row one (h.0 e)) (λ e. picked-row other (h.1 e))
+
+module _ {W R D : Type 0} (table : Table W R D) (knows : List Event → Local R D → List Choice → State → Type 0) where
+  -- what is known after a step
+  abbrev pub KnownAfter : Step R D → List Choice → Type 0
+  KnownAfter q choices = knows q.configuration.events q.configuration.local (q.choices ++ choices) q.answer
+
+  -- each row of a state leaves what is known at its answer
+  abbrev pub KeepsKnowing : StateRows W R D → Type 0
+  KeepsKnowing state = (g : Given) (s : Sight) (k : Configuration R D) (choices : List Choice) (previous current : Option W) → knows k.events k.local choices (Retry state.name)
+      → let k1 = with_local k (table.first k.local) in EachRow (λ r. KnownAfter (step_of r s k1) choices) g s k1 (state.rows previous current)
+
+  abbrev pub AllKeepKnowing : List (StateRows W R D) → Type 0
+  AllKeepKnowing [] = Unit {0}
+  AllKeepKnowing (state ∷ states) = KeepsKnowing state × AllKeepKnowing states
+
+  -- What a machine knows is known at each start, and is kept by feeding, by the rows of each state, and where a choice ends. Where all was read it
+  -- knows that no resolver is registered, and that its edits can be made and leave the events in shape.
+  pub record IsKnown : Type 0 where
+    pub at_starts : (flag : Bool) → let k : Configuration R D = start_configuration flag in All (λ name. knows k.events k.local [] (Next name)) table.starts
+    pub by_feeding : (events : List Event) (local : Local R D) (choices : List Choice) (name : Name) → knows events local choices (Next name) → knows events local choices (Retry name)
+    pub by_rows : AllKeepKnowing table.states
+    pub by_ok : (k : Configuration R D) (choice : Choice) (choices : List Choice) → knows k.events k.local (choice ∷ choices) Ok
+        → let k' = settled_at choice.kind choice.saved Ok k in knows k'.events k'.local choices choice.ok
+    pub by_nok : (k : Configuration R D) (choice : Choice) (choices : List Choice) → knows k.events k.local (choice ∷ choices) Nok
+        → let k' = settled_at choice.kind choice.saved Nok k in knows k'.events k'.local choices choice.nok
+    pub at_end : (k : Configuration R D) → IsBalanced k.events → knows k.events k.local [] Ok
+        → (k.local.resolvers ≡ []) × CanBeEdited k × IsInShape (edited k.local.map k.events)
+
+  fed-known : (b : Bool) (k : Configuration R D) (choices : List Choice) (state : State) → knows k.events k.local choices state
+      → let k' = cond b (record k { waiting = Byte }) (record k { waiting = End; ended = true }) in knows k'.events k'.local choices state
+  fed-known true k choices state h = h
+  fed-known false k choices state h = h
+
+  module _ (g : Given) (s : Sight) (k : Configuration R D) (choices : List Choice) where
+    this-or : (b : Bool) (name : Name) (x state : StateRows W R D) (rest : Option (StateRows W R D)) → (b ≡ true → name.number ≡ x.name.number) → KeepsKnowing x
+        → (rest ≡ Some state → KeepsKnowing state × (name.number ≡ state.name.number)) → cond b (Some x) rest ≡ Some state → KeepsKnowing state × (name.number ≡ state.name.number)
+    this-or true name x state rest same keeps later is = let e : x ≡ state = cc in subst (λ y. KeepsKnowing y × (name.number ≡ y.name.number)) e (keeps, same refl)
+    this-or false name x state rest same keeps later is = later is
+
+    named-keeps : (states : List (StateRows W R D)) (name : Name) (state : StateRows W R D) → AllKeepKnowing states → named states name ≡ Some state → KeepsKnowing state × (name.number ≡ state.name.number)
+    named-keeps [] name state h is = absurd (cc)
+    named-keeps (x ∷ xs) name state h is =
+        this-or (name.number == x.name.number) name x state (named xs name) (λ e. grind (arith, nat_tests)) h.0 (λ e. named-keeps xs name state h.1 e) is
+
+    step-known : (name : Name) (state : StateRows W R D) → AllKeepKnowing table.states → named table.states name ≡ Some state → knows k.events k.local choices (Retry name)
+        → KnownAfter (table_step table g s k name) choices
+    step-known name state keeps is h =
+        let (one, same) = named-keeps table.states name state keeps is in
+        let there = subst (λ n. knows k.events k.local choices (Retry (record { number = n }))) same h in
+        let k1 = with_local k (table.first k.local) in
+        let b = class_of table.class s.previous in
+        let w = class_of table.class s.current in
+        subst (λ o. KnownAfter (step_at table g o s k1) choices) (sym is) (picked-row (λ r. KnownAfter (step_of r s k1) choices) g s k1 (state.rows b w) (one g s k choices b w there))
+
+  module _ (g : Given) (fit : IsFit table) (known : IsKnown) where
+    pub knowing-consumes_once : ConsumesOnce g (knowing_rules table knows g)
+    knowing-consumes_once text k choices name is h = table-consumes_once table g fit text k choices name is h.holds
+
+    pub knowing-only_adds : OnlyAdds g (knowing_rules table knows g)
+    knowing-only_adds = let law = table-only_adds table g fit in record {
+      events = λ text k choices name is h. law.events text k choices name is h.holds;
+      stack = λ text k choices name is h. law.stack text k choices name is h.holds;
+    }
+
+    pub knowing-ends_when_read : EndsWhenRead g (knowing_rules table knows g)
+    knowing-ends_when_read = let law = table-ends_when_read table g fit in record {
+      nok = λ text k is h. law.nok text k is h.holds;
+      ok = λ text k is h. law.ok text k is h.holds;
+    }
+
+    pub knowing-invariant_kept : KeepsInvariant g (knowing_rules table knows g)
+    knowing-invariant_kept = let law = table-invariant_kept table g fit in record {
+      at_starts = λ p flag name is start. record { holds = law.at_starts p flag name is start; known = let k : Configuration R D = start_configuration flag in All-contains (λ name. knows k.events k.local [] (Next name)) table.starts name (known.at_starts flag) start };
+      unfed = λ text k choices name is h. law.unfed text k choices name is h.holds;
+      waits = λ text k choices name is h. law.waits text k choices name is h.holds;
+      by_feeding = λ text k choices name is h.
+          record { holds = law.by_feeding text k choices name is h.holds; known = fed-known (nat_lt k.position (length text.seats)) k choices (Retry name) (known.by_feeding k.events k.local choices name h.known) };
+      by_calls = λ text k choices name is h.
+          let c = is-call table g fit text k choices name is h.holds in
+          record { holds = law.by_calls text k choices name is h.holds; known = step-known g (sight g text k) k choices name c.state known.by_rows c.is h.known };
+      by_ok = λ text k choice choices is h. record { holds = law.by_ok text k choice choices is h.holds; known = known.by_ok k choice choices h.known };
+      by_nok = λ text k choice choices is h. record { holds = law.by_nok text k choice choices is h.holds; known = known.by_nok k choice choices h.known };
+      by_pieces = λ text piece k choices state is fits fresh h. record { holds = law.by_pieces text piece k choices state is fits fresh h.holds; known = h.known };
+    }
+
+    pub knowing-cost_pays : CostPays g (knowing_rules table knows g)
+    knowing-cost_pays = let law = table-cost_pays table g fit in record {
+      for_calls = λ text k choices name is h. law.for_calls text k choices name is h.holds;
+      for_feeding = λ text k choices name is h. law.for_feeding text k choices name is h.holds;
+      for_ok = λ text k choice choices is h. law.for_ok text k choice choices is h.holds;
+      for_nok = λ text k choice choices is h. law.for_nok text k choice choices is h.holds;
+    }
+
+    pub knowing-resolvers_keep : ResolversKeep g (knowing_rules table knows g)
+    knowing-resolvers_keep = record {
+      at_end = λ text k is formed h. let there = known.at_end k formed.balanced h.known in (there.1, there.2);
+      by_resolvers = λ text r rs k new more is h e.
+          let same : k ≡ new = cc in
+          subst (λ (q : Configuration R D). LeavesShape text rs q × IsAsFar q k × (q.stack ≡ k.stack)) same (h, (refl, refl, refl), refl);
+      at_last = λ text k is h. h;
+    }

@@ -1,0 +1,185 @@
+-- The laws of a machine whose table passes the test.
+use Rattle.std.proofs.Common.{◌≡◌, ◌≢◌, ℕ, ◌<◌, ◌≤◌, ◌&&◌, not, List, [], ◌++◌, Bool, true, false, cond, Option, Some, None, length, map, refl, sym, ap, ◌∙◌, subst, arith, ◌⊎◌, inl, inr, take, length-append}
+use Rattle.std.specs.Prelude.{All, IfSome, Contains, nat_lt, filter}
+use Rattle.std.proofs.Math.Seq.{take-append_seam}
+use Rattle.std.proofs.lemmas.Bool.{and_parts, not-false}
+use Rattle.std.proofs.lemmas.List.{take-map, length-map}
+use Rattle.std.proofs.lemmas.List.Elements.{All-contains}
+use Rattle.markdown_base.specs.declared.event.Event.{Event}
+use Rattle.markdown_base.specs.declared.event.Name.{Name as EventName}
+use Rattle.markdown_base.specs.declared.state.Name.{Name}
+use Rattle.markdown_base.specs.declared.state.State.TheVariants.{Next, Retry, Ok, Nok}
+use Rattle.markdown_base.specs.Events.{unlinked}
+use Rattle.markdown_base.proofs.Common.{none-mapped}
+use Rattle.markdown_tokenizer.specs.declared.waiting.Waits.TheVariants.{Byte}
+use Rattle.markdown_tokenizer.specs.Text.{Given, Text, IsText, followed_by}
+use Rattle.markdown_tokenizer.specs.Configuration.{Configuration, Choice, Step}
+use Rattle.markdown_tokenizer.specs.Sight.{Sight, sight}
+use Rattle.markdown_tokenizer.specs.Calls.{consumed, with_local}
+use Rattle.markdown_tokenizer.specs.Lawful.{IsAsFar, ConsumesOnce, OnlyAdds, EndsWhenRead, KeepsInvariant}
+use Rattle.mdconstructs_tables.specs.Rows.{Rows, row, when, Row, StateRows, Table, no_cost, with_choice_of, chooses, picked, step_of, row_at, named, step_at, table_step}
+use Rattle.mdconstructs_tables.specs.RowTest.{saves, allows_all, is_called, fits_choices, fits_row, fits_calls, fits_state, start_shape, first_stage, all_rows, may_start, misfits}
+use Rattle.mdconstructs_tables.specs.RowInvariant.{outline, SightIsInOrder, IsFed, began_at, IsStateAt, HoldsAt, table_holds, ArePaid, table_rules}
+use Rattle.mdconstructs_tables.proofs.Rows.Misfits.{none-left, named-out, all-out, fit-or}
+use Rattle.mdconstructs_tables.proofs.Rows.Laws.{Waited, below_all, has-after-all, chooses-append, adds-all}
+use Rattle.mdconstructs_tables.proofs.GrowingTexts.{fed-position, extends}
+use Rattle.mdconstructs_tables.proofs.Tables.Waiting.{all-front, waits-after-all}
+use Rattle.mdconstructs_tables.proofs.Tables.Holding.{of_class, before_class, met-at, read-before, begins, ahead-at, start-sight, row_of, left_by, chosen_by, shape_of, IsCall, once, inside-at, answered, longer, fed-at, starts-at, well, badly, inside-after, KeepsStack, keeps-all}
+
+-- A table fits: the test names no state that does not, and the machine's own costs are paid for, where choices end well late or not. The more was
+-- read, the less these states cost.
+pub record IsFitBy {W R D : Type 0} (table : Table W R D) (late : Bool) (falling : Name → Bool) : Type 0 where
+  pub fits : (previous current : Option W) → misfits table previous current ≡ []
+  pub paid : ArePaid table late table.states
+  pub falls : (text : Text) (p q : ℕ) (name : Name) → falling name ≡ true → p ≤ q → table.cost text q name ≤ table.cost text p name
+
+abbrev pub every : Name → Bool
+every name = true
+
+-- choices may end well at the place they were made at, and all states cost less later
+abbrev pub IsFit : {W R D : Type 0} → Table W R D → Type 0
+IsFit table = IsFitBy table false every
+
+-- a machine whose states all say how many calls are left brings no cost
+pub no-falls : (text : Text) (p q : ℕ) (name : Name) → every name ≡ true → p ≤ q → no_cost text q name ≤ no_cost text p name
+no-falls text p q name all h = omega arith
+
+-- a test that all rows pass is passed by the one that is picked
+module _ {R D : Type 0} where
+  one-passes : (test : Row R D → Bool) (b : Bool) (x y : Row R D) → test x ≡ true → test y ≡ true → test (cond b x y) ≡ true
+  one-passes test true x y h k = h
+  one-passes test false x y h k = k
+
+  pub picked-passes : (test : Row R D → Bool) (rows : Rows R D) (g : Given) (s : Sight) (k : Configuration R D) → all_rows test rows ≡ true → test (picked rows g s k) ≡ true
+  picked-passes test (row acts answer) g s k h = h
+  picked-passes test (when by one other) g s k h =
+      let (first, second) = and_parts _ _ h in one-passes test (by g s k) (picked one g s k) (picked other g s k) (picked-passes test one g s k first) (picked-passes test other g s k second)
+
+module _ {W R D : Type 0} (table : Table W R D) (g : Given) {late : Bool} {falling : Name → Bool} (fit : IsFitBy table late falling) where
+  -- a state that is called fits
+  pub state-fits : (b w : Option W) (name : Name) (state : StateRows W R D) → named table.states name ≡ Some state → is_called table.states w state ≡ true → fits_state table.states b w state ≡ true
+  state-fits b w name state is called =
+      let test = λ (state : StateRows W R D). is_called table.states w state && not (fits_state table.states b w state) in
+      let none = none-mapped (λ (state : StateRows W R D). state.name) (filter test table.states) (none-left (map (λ (state : StateRows W R D). state.name) (filter test table.states)) _ (fit.fits b w)).0 in
+      fit-or (is_called table.states w state) (fits_state table.states b w state) (named-out test table.states name state none is) called
+
+  pub called-at : (w : Option W) (text : Text) (k : Configuration R D) (state : StateRows W R D) → Waited (first_stage w) text k → (state.needs_byte ≡ true → k.position < length text.seats) → is_called table.states w state ≡ true
+  called-at (Some w) text k state met needs = refl
+  called-at None text k state met needs =
+      elim state.needs_byte as (λ b. (b ≡ true → k.position < length text.seats) → not b ≡ true) [ true ↦ λ n. absurd (omega (arith, n refl, met.1)) | false ↦ λ n. refl ] needs
+
+  module _ (text : Text) (k : Configuration R D) (choices : List Choice) (name : Name) (inside : k.position ≤ length text.seats) (waits : IsFed k.waiting k.position k.ended text)
+      (order : SightIsInOrder k.waiting (sight g text k)) where
+    called : (o : Option (StateRows W R D)) → named table.states name ≡ o → IsStateAt table g text o (λ state. began_at (of_class table g text k) state (sight g text k)) k choices → IsCall table g text k choices name
+    called None is h = absurd h
+    called (Some state) is h =
+        let s = sight g text k in
+        let w = of_class table g text k in
+        let b = before_class table g text k in
+        let k1 = with_local k (table.first k.local) in
+        let r = row_at table.class state g s k1 in
+        let met = met-at table g text k k.waiting refl waits in
+        let read = read-before table g text k.position inside in
+        let (rows_fit, paid) = and_parts (all_rows (fits_row table.states b w state) (state.rows b w)) (fits_calls table.states b w state state.calls) (state-fits b w name state is (called-at w text k state met h.spans.needs_byte)) in
+        let (allowed, more) = and_parts (allows_all r.acts (start_shape b w state)) _ (picked-passes (fits_row table.states b w state) (state.rows b w) g s k1 rows_fit) in
+        let (with_choice_of, answers) = and_parts (fits_choices table.states r.acts (start_shape b w state)) _ more in
+        let first = begins table g b w text k (table.first k.local) h.base choices state read met h.spans in
+        let sees = ahead-at table g w text k met order in
+        record {
+          state = state;
+          is = is;
+          base = h.base;
+          above = below_all r.acts (start_shape b w state) h.base;
+          stack = h.spans.stack;
+          waiting = h.waiting;
+          fits_it = answers;
+          fits_calls_too = paid;
+          met = met;
+          shape = has-after-all r.acts (start_shape b w state) h.base s g text k k1 choices allowed sees (start-sight table g w s) first;
+          wait_on = waits-after-all table.states g text r.acts k (start_shape b w state) h.base s k1 choices allowed with_choice_of sees first (start-sight table g w s) h.waiting;
+        }
+
+  -- a call for which the invariant holds
+  pub is-call : (text : Text) (k : Configuration R D) (choices : List Choice) (name : Name) → IsText g text → table_holds table g text k choices (Retry name) → IsCall table g text k choices name
+  is-call text k choices name is h = called text k choices name h.0 h.1.0 h.1.1 (named table.states name) refl h.1.2
+
+  -- what holds of the rows' steps holds of the step of a name that is called
+  pub each-call : (P : Step R D → Type 0) (text : Text) (k : Configuration R D) (choices : List Choice) (name : Name) → IsText g text → table_holds table g text k choices (Retry name)
+      → ((c : IsCall table g text k choices name) → P (step_of (row_of table g text k c.state) (sight g text k) (with_local k (table.first k.local)))) → P (table_step table g (sight g text k) k name)
+  each-call P text k choices name is h f =
+      let c = is-call text k choices name is h in
+      subst (λ o. P (step_at table g o (sight g text k) (with_local k (table.first k.local)))) (sym c.is) (f c)
+
+  pub table-consumes_once : ConsumesOnce g (table_rules table g)
+  table-consumes_once text k choices name is h =
+      each-call
+      (λ q. (IsAsFar q.configuration k × ((n : Name) → q.answer ≢ Next n)) ⊎ ((k.waiting ≡ Byte) × IsAsFar q.configuration (consumed k) × ((n : Name) → q.answer ≢ Retry n)))
+      text k choices name is h
+      (λ c. once table g _ (before_class table g text k) (of_class table g text k) _ (row_of table g text k c.state).answer text k (left_by table g text k c.state) c.fits_it c.shape.far c.shape.waited)
+
+  front-kept : (old new : Configuration R D) (more : List Event) → outline new ≡ outline old ++ more → map unlinked (take (length old.events) new.events) ≡ map unlinked old.events
+  front-kept old new more grown =
+      sym (take-map unlinked (length old.events) new.events) ∙ ap (take (length old.events)) grown
+      ∙ ap (λ n. take n (outline old ++ more)) (sym (length-map old.events unlinked)) ∙ take-append_seam (outline old) more
+
+  stack-kept : (text : Text) (k : Configuration R D) (choices : List Choice) (name : Name) (c : IsCall table g text k choices name) → All (KeepsStack table g k.stack (left_by table g text k c.state).stack) choices
+  stack-kept text k choices name c =
+      let new = left_by table g text k c.state in
+      let s = sight g text k in
+      let made = chooses (row_of table g text k c.state).acts s (with_local k (table.first k.local)) [] in
+      let wait : made ++ choices ≡ chosen_by table g text k choices c.state = chooses-append (row_of table g text k c.state).acts s (with_local k (table.first k.local)) [] choices in
+      let P = λ (stack : List EventName) (c : Choice). IfSome c.saved (λ s. take (length s.stack) stack ≡ s.stack) in
+      let p = shape_of table g text k c.state in
+      let after_it = subst (λ stack. All (P stack) (chosen_by table g text k choices c.state)) (sym c.shape.stack) (all-front table.states g text (chosen_by table g text k choices c.state) c.above p.spans new.position (outline new) c.wait_on) in
+      let before_it = subst (λ stack. All (P stack) choices) (sym c.stack) (all-front table.states g text choices c.base c.state.spans k.position (outline k) c.waiting) in
+      keeps-all table g k.stack new.stack made choices (subst (All (P new.stack)) (sym wait) after_it) before_it
+
+  pub table-only_adds : OnlyAdds g (table_rules table g)
+  table-only_adds = record {
+    events = λ text k choices name is h.
+        each-call (λ q. map unlinked (take (length k.events) q.configuration.events) ≡ map unlinked k.events) text k choices name is h
+        (λ c. let (more, grown) = adds-all (row_of table g text k c.state).acts (sight g text k) (with_local k (table.first k.local)) in front-kept k (left_by table g text k c.state) more grown);
+    stack = λ text k choices name is h. each-call (λ q. All (KeepsStack table g k.stack q.configuration.stack) choices) text k choices name is h (stack-kept text k choices name);
+  }
+
+  pub table-ends_when_read : EndsWhenRead g (table_rules table g)
+  table-ends_when_read = record {
+    nok = λ text k is h. h.1.any;
+    ok = λ text k is h. (elim h.1.ended [ inl any ↦ absurd any | inr ended ↦ ended ], h.1.stack ∙ h.1.waiting);
+  }
+
+  may-start-at : (name : Name) → Contains table.starts name → may_start table.states (named table.states name) ≡ true
+  may-start-at name is =
+      let test = λ (n : Name). not (may_start table.states (named table.states n)) in
+      let none = (none-left (map (λ (state : StateRows W R D). state.name) (filter (λ (state : StateRows W R D). is_called table.states None state && not (fits_state table.states None None state)) table.states)) (filter test table.starts) (fit.fits None None)).1 in
+      not-false (may_start table.states (named table.states name)) (All-contains (λ n. test n ≡ false) table.starts name (all-out test table.starts none) is)
+
+  pub table-invariant_kept : KeepsInvariant g (table_rules table g)
+  table-invariant_kept = record {
+    at_starts = λ p flag name is start. (omega arith, (refl, starts-at table g (named table.states name) p _ flag (may-start-at name start)));
+    unfed = λ text k choices name is h. h.1.0;
+    waits = λ text k choices name is h. λ e. rw e at h.1.0;
+    by_feeding = λ text k choices name is h. (omega (arith, fed-position text k, h.0), fed-at table g (nat_lt k.position (length text.seats)) text k choices name is refl h.1);
+    by_calls = λ text k choices name is h.
+        each-call (λ q. table_holds table g text q.configuration (q.choices ++ choices) q.answer) text k choices name is h
+        (λ c.
+        let w = of_class table g text k in
+        let b = before_class table g text k in
+        let r = row_of table g text k c.state in
+        let inside = inside-at table g _ text k (left_by table g text k c.state) c.shape.far c.shape.waited h.0 in
+        let holds = answered table g _ b w _ c.above r.answer text k (left_by table g text k c.state) (chosen_by table g text k choices c.state) (read-before table g text k.position h.0) h.1.0 h.1.1 refl c.met c.fits_it refl c.shape c.wait_on in
+        (inside, subst (λ cs. HoldsAt table g text (left_by table g text k c.state) cs r.answer) (sym (chooses-append r.acts (sight g text k) (with_local k (table.first k.local)) [] choices)) holds));
+    by_ok = λ text k choice choices is h.
+        let w = h.1.waiting.0 in (
+          inside-after table g choice.kind choice.saved Ok (saves choice.kind choice.nok) text k h.1.base w.frame h.0 w.saved,
+          well table g text k choices w.frame h.1.base w.below w.stack_is w.within choice.kind choice.ok choice.nok (saves choice.kind choice.nok) choice.saved refl w.fits w.saved h.1.waiting.1 h.1.stack h.1.began,
+        );
+    by_nok = λ text k choice choices is h.
+        let w = h.1.waiting.0 in (
+          inside-after table g choice.kind choice.saved Nok (saves choice.kind choice.nok) text k h.1.base w.frame h.0 w.saved,
+          badly table g text k choices w.frame h.1.base w.below w.stack_is w.within choice.kind choice.ok choice.nok (saves choice.kind choice.nok) choice.saved refl w.fits w.saved h.1.waiting.1,
+        );
+    by_pieces = λ text piece k choices state is fits fresh h.
+        let e = extends g text piece in
+        (omega (arith, h.0, ap length e.seats, length-append text.seats e.more), longer table g state text (followed_by g text piece) k choices e fresh h.0 h.1);
+  }

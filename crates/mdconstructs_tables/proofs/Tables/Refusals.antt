@@ -1,0 +1,137 @@
+-- A machine whose table refuses nothing refuses no document.
+use Rattle.std.proofs.Common.{◌≡◌, ◌≢◌, ℕ, List, [], ◌∷◌, ◌++◌, Bool, true, false, cond, Option, Some, None, ◌⊎◌, ⊎_elim, refl}
+use Rattle.std.specs.Prelude.{filter}
+use Rattle.std.specs.List.{list_any}
+use Rattle.std.proofs.lemmas.Bool.{or_parts}
+use Rattle.markdown_base.specs.declared.message.Message.{Message}
+use Rattle.markdown_base.specs.declared.state.Name.{Name}
+use Rattle.markdown_base.specs.declared.state.State.{State}
+use Rattle.markdown_base.specs.declared.state.State.TheVariants.{Next, Ok, Error}
+use Rattle.markdown_base.proofs.Common.{none-mapped}
+use Rattle.markdown_tokenizer.specs.declared.subtokenize.Subresult.{Subresult}
+use Rattle.markdown_tokenizer.specs.declared.waiting.AttemptKind.TheVariants.{Attempt, Check}
+use Rattle.markdown_tokenizer.specs.Text.{Given, Text}
+use Rattle.markdown_tokenizer.specs.Configuration.{Configuration, Choice, Step, start_configuration}
+use Rattle.markdown_tokenizer.specs.Calls.{with_local, with_resolvers}
+use Rattle.markdown_tokenizer.specs.Engine.{whole_text, IsRunRefused}
+use Rattle.markdown_tokenizer.specs.Reading.{Reading, EndsIn}
+use Rattle.markdown_tokenizer.specs.Resolving.{Resolved, done, refused, resolved_by, with_more, taken, found, IsResolvingRefused}
+use Rattle.markdown_tokenizer.specs.Rules.{Rules}
+use Rattle.markdown_tokenizer.specs.Sight.{Sight, sight}
+use Rattle.mdconstructs_tables.specs.Rows.{Act, enters, exit, consume, links, write, choose, Rows, row, when, Row, StateRows, Table, class_of, seen_after, done as act_done, with_choice_of, chooses, picked, named, step_of, step_at, table_step}
+use Rattle.mdconstructs_tables.specs.Refusals.{is_message, act_refuses, rows_refuse, refusing, RulesRefuseNothing}
+use Rattle.mdconstructs_tables.proofs.KeptByReading.{IsKept, kept-refused}
+use Rattle.mdconstructs_tables.proofs.Rows.Misfits.{named-out}
+
+-- no choice goes on with a message
+abbrev pub AreTaken : List Choice → Type 0
+AreTaken [] = Unit {0}
+AreTaken (c ∷ cs) = (is_message c.ok ≡ false) × (is_message c.nok ≡ false) × AreTaken cs
+
+-- a step returns no message, and makes no such choice
+pub record StepRefusesNothing {R D : Type 0} (s : Step R D) : Type 0 where
+  pub answer : is_message s.answer ≡ false
+  pub choices : AreTaken s.choices
+
+taken-append : (cs ds : List Choice) → AreTaken cs → AreTaken ds → AreTaken (cs ++ ds)
+taken-append [] ds h k = k
+taken-append (c ∷ cs) ds h k = (h.0, h.1, taken-append cs ds h.2 k)
+
+-- if no step refuses, no reading ends in a message
+module _ {R D : Type 0} (g : Given) (step : Sight → Configuration R D → Name → Step R D) (text : Text) (steps : (s : Sight) (k : Configuration R D) (name : Name) → StepRefusesNothing (step s k name)) where
+  abbrev Taken : Configuration R D → List Choice → State → Type 0
+  Taken k cs s = (is_message s ≡ false) × AreTaken cs
+
+  taken-kept : IsKept g step text Taken
+  taken-kept = record {
+    by_feeding = λ k cs name h. (refl, h.1);
+    by_calls = λ k cs name h. let s = steps (sight g text k) k name in (s.answer, taken-append _ cs s.choices h.1);
+    by_ok = λ k c cs h. (h.1.0, h.1.2);
+    by_nok = λ k c cs h. (h.1.1, h.1.2);
+  }
+
+  pub never-ends-in-a-message : (calls : ℕ) (k : Configuration R D) (name : Name) (r : Reading R D) (m : Message) → EndsIn g step text calls k [] (Next name) r → r.answer ≢ Error m
+  never-ends-in-a-message calls k name r m ends is =
+      let there = kept-refused g step text Taken taken-kept calls k (Next name) r (refl, tt) ends m is in
+      let e : true ≡ false = there.1.0 in absurd (cc)
+
+module _ {R D : Type 0} where
+  chosen-taken : (act : Act R D) (k : Configuration R D) (cs : List Choice) → act_refuses act ≡ false → AreTaken cs → AreTaken (with_choice_of act k cs)
+  chosen-taken (enters name link) k cs e h = h
+  chosen-taken (exit name) k cs e h = h
+  chosen-taken consume k cs e h = h
+  chosen-taken (links previous next) k cs e h = h
+  chosen-taken (write f) k cs e h = h
+  chosen-taken (choose Attempt ok nok) k cs e h = let parts = or_parts (is_message ok) (is_message nok) e in (parts.0, parts.1, h)
+  chosen-taken (choose Check ok nok) k cs e h = let parts = or_parts (is_message ok) (is_message nok) e in (parts.0, parts.1, h)
+
+  chooses-taken : (acts : List (Act R D)) (s : Sight) (k : Configuration R D) (cs : List Choice) → list_any act_refuses acts ≡ false → AreTaken cs → AreTaken (chooses acts s k cs)
+  chooses-taken [] s k cs e h = h
+  chooses-taken (act ∷ acts) s k cs e h =
+      let parts = or_parts (act_refuses act) (list_any act_refuses acts) e in
+      chooses-taken acts (seen_after act s) (act_done act s k) (with_choice_of act k cs) parts.1 (chosen-taken act k cs parts.0 h)
+
+  one-of : (b : Bool) (x y : Row R D) (s : Sight) (k : Configuration R D) → StepRefusesNothing (step_of x s k) → StepRefusesNothing (step_of y s k) → StepRefusesNothing (step_of (cond b x y) s k)
+  one-of true x y s k h l = h
+  one-of false x y s k h l = l
+
+  picked-taken : (rows : Rows R D) (g : Given) (s : Sight) (at k : Configuration R D) → rows_refuse rows ≡ false → StepRefusesNothing (step_of (picked rows g s at) s k)
+  picked-taken (row acts answer) g s at k e =
+      let parts = or_parts (is_message answer) (list_any act_refuses acts) e in record { answer = parts.0; choices = chooses-taken acts s k [] parts.1 tt }
+  picked-taken (when test one other) g s at k e =
+      let parts = or_parts (rows_refuse one) (rows_refuse other) e in
+      one-of (test g s at) (picked one g s at) (picked other g s at) s k (picked-taken one g s at k parts.0) (picked-taken other g s at k parts.1)
+
+module _ {W R D : Type 0} (table : Table W R D) (none : (previous current : Option W) → refusing table previous current ≡ []) where
+  of-state : (g : Given) (s : Sight) (k : Configuration R D) (name : Name) (o : Option (StateRows W R D)) → named table.states name ≡ o → StepRefusesNothing (step_at table g o s k)
+  of-state g s k name None is = record { answer = refl; choices = tt }
+  of-state g s k name (Some state) is =
+      let b = class_of table.class s.previous in
+      let w = class_of table.class s.current in
+      let out = named-out (λ state. rows_refuse (state.rows b w)) table.states name state (none-mapped (λ (state : StateRows W R D). state.name) (filter (λ state. rows_refuse (state.rows b w)) table.states) (none b w)) is in
+      picked-taken (state.rows b w) g s k k out
+
+  pub table-steps : (g : Given) (s : Sight) (k : Configuration R D) (name : Name) → StepRefusesNothing (table_step table g s k name)
+  table-steps g s k name = of-state g s (with_local k (table.first k.local)) name (named table.states name) refl
+
+module _ {R D : Type 0} (rules : Given → Rules R D) (nothing : RulesRefuseNothing rules) (g : Given) (text : Text) where
+  -- a resolver, and then those after it
+  after-one : (one : Resolved R D) (rs : List R) (k : Configuration R D) (r : R) (sub : Subresult) (m : Message) → (rules g).resolver (sight g text k) k r ≡ one
+      → ((new : Configuration R D) (more : Subresult) → resolved_by (rules g).resolver g text rs new more ≢ refused m) → resolved_by (rules g).resolver g text (r ∷ rs) k sub ≢ refused m
+  after-one (done new more) rs k r sub m e behind is = behind new (with_more sub more) (rw (e, resolved_by) at is)
+  after-one (refused message) rs k r sub m e behind is = nothing.resolvers g (sight g text k) k r message e
+
+  resolvers-refuse-nothing : (rs : List R) (k : Configuration R D) (sub : Subresult) (m : Message) → resolved_by (rules g).resolver g text rs k sub ≢ refused m
+  resolvers-refuse-nothing [] k sub m is = absurd (cc)
+  resolvers-refuse-nothing (r ∷ rs) k sub m is =
+      after-one ((rules g).resolver (sight g text k) k r) rs k r sub m refl (λ new more e. resolvers-refuse-nothing rs new more m e) is
+
+  -- no reading is refused, nor what resolvers make of it
+  pub none-refused : (resolve : Bool) (calls : ℕ) (k : Configuration R D) (name : Name) (r : Reading R D) (m : Message) → EndsIn g (rules g).step text calls k [] (Next name) r
+      → ¬ ((r.answer ≡ Error m) ⊎ ((r.answer ≡ Ok) × IsResolvingRefused (rules g).resolver g text resolve r.configuration m))
+  none-refused false calls k name r m ends h = ⊎_elim (λ e. nothing.readings g text calls k name r m ends e) (λ e. e.1) h
+  none-refused true calls k name r m ends h =
+      ⊎_elim (λ e. nothing.readings g text calls k name r m ends e)
+      (λ e. resolvers-refuse-nothing r.configuration.local.resolvers (with_resolvers (taken r.configuration) []) (found r.configuration) m e.1) h
+
+-- rules whose steps and resolvers refuse nothing
+module _ {R D : Type 0} where
+  pub refuse-nothing : (rules : Given → Rules R D) → ((g : Given) (s : Sight) (k : Configuration R D) (name : Name) → StepRefusesNothing ((rules g).step s k name))
+      → ((g : Given) (s : Sight) (k : Configuration R D) (r : R) (m : Message) → (rules g).resolver s k r ≢ refused m) → RulesRefuseNothing rules
+  refuse-nothing rules steps resolvers = record {
+    readings = λ g text calls k name r m ends. never-ends-in-a-message g (rules g).step text (steps g) calls k name r m ends;
+    resolvers = resolvers;
+  }
+
+  -- of two steps, whichever it is
+  pub either-step : (b : Bool) (s u : Step R D) → StepRefusesNothing s → StepRefusesNothing u → StepRefusesNothing (cond b s u)
+  either-step true s u h l = h
+  either-step false s u h l = l
+
+  -- what finds nothing refuses nothing
+  pub nothing-found : (k : Configuration R D) (m : Message) → done k None ≢ refused m
+  nothing-found k m is = absurd (cc)
+
+-- no run is refused
+pub no-run-refused : {R D : Type 0} (rules : Given → Rules R D) → RulesRefuseNothing rules → (g : Given) (resolve : Bool) (start : Name) (m : Message) → ¬ IsRunRefused g rules resolve start m
+no-run-refused rules nothing g resolve start m h = none-refused rules nothing g (whole_text g) resolve 0 (start_configuration false) start h.result m h.ends h.message

@@ -1,0 +1,33 @@
+-- Two machines in one. A name says to which of them its state belongs, and neither goes on with a state of the other.
+use Rattle.std.specs.Prelude.{ℕ, ◌⊎◌, ◌++◌, List, Bool, cond}
+use Rattle.markdown_base.specs.declared.state.Name.{Name}
+use Rattle.markdown_base.specs.declared.state.State.{State}
+use Rattle.markdown_base.specs.declared.state.State.TheVariants.{Next, Retry}
+use Rattle.markdown_tokenizer.specs.Text.{Text}
+use Rattle.markdown_tokenizer.specs.Configuration.{Configuration}
+use Rattle.markdown_tokenizer.specs.Rules.{Rules}
+use Rattle.mdconstructs_tables.specs.Rows.{StateRows, named}
+use Rattle.mdconstructs_tables.specs.RowTest.{is_some}
+
+-- one of these states has this name
+abbrev pub has_state : {W R D : Type 0} → List (StateRows W R D) → Name → Bool
+has_state states name = is_some (named states name)
+
+module _ {R D : Type 0} (is_first : Name → Bool) (first second : Rules R D) where
+  -- a state costs what it costs in its machine, and an answer that goes on with no state nothing
+  abbrev pub joined_cost : Text → Configuration R D → State → ℕ
+  joined_cost text k (Next name) = cond (is_first name) (first.cost text k (Next name)) (second.cost text k (Next name))
+  joined_cost text k (Retry name) = cond (is_first name) (first.cost text k (Retry name)) (second.cost text k (Retry name))
+  joined_cost text k _ = 0
+
+  -- The rules of both. The first makes no choice, so that what choices may still take is the second's; and the resolvers are those of both.
+  abbrev pub joined_rules : Rules R D
+  joined_rules = record {
+    step = λ s k name. cond (is_first name) (first.step s k name) (second.step s k name);
+    holds = λ text k choices state. first.holds text k choices state ⊎ second.holds text k choices state;
+    cost = joined_cost;
+    reserve = second.reserve;
+    starts = first.starts ++ second.starts;
+    resolver = first.resolver;
+    resolves = λ text rs k. first.resolves text rs k ⊎ second.resolves text rs k;
+  }

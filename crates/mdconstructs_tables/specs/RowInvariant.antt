@@ -1,0 +1,302 @@
+-- What holds at the states of a table, and what their calls cost.
+use Rattle.std.specs.Prelude.{◌≡◌, ℕ, zero, suc, ◌+◌, ◌-◌, ◌*◌, ◌<◌, ◌≤◌, ◌⊎◌, List, [], ◌∷◌, ◌++◌, Bool, not, true, false, cond, Option, Some, None, IfSome, All, map, max, take, length, reverse, slice_get}
+use Rattle.std.specs.List.{last_or}
+use Rattle.markdown_base.specs.declared.event.Event.{Event}
+use Rattle.markdown_base.specs.declared.event.Kind.TheVariants.{Enter}
+use Rattle.markdown_base.specs.declared.event.Name.{Name as EventName}
+use Rattle.markdown_base.specs.declared.event.Point.{Point}
+use Rattle.markdown_base.specs.declared.state.State.{State}
+use Rattle.markdown_base.specs.declared.state.State.TheVariants.{Next, Retry, Ok, Nok, Error}
+use Rattle.markdown_base.specs.Events.{open_events, unlinked}
+use Rattle.markdown_base.specs.Places.{stands_before, shown}
+use Rattle.markdown_tokenizer.specs.declared.waiting.AttemptKind.{AttemptKind}
+use Rattle.markdown_tokenizer.specs.declared.waiting.Waits.{Waits}
+use Rattle.markdown_tokenizer.specs.declared.waiting.Waits.TheVariants.{Nothing, Byte, End}
+use Rattle.markdown_tokenizer.specs.Text.{Given, Text}
+use Rattle.markdown_tokenizer.specs.Configuration.{Configuration, Local, Choice, Saved, Step, TokenizerValue, at_configuration}
+use Rattle.markdown_tokenizer.specs.Sight.{Sight, sight, sight_of, end_place, byte_of}
+use Rattle.markdown_tokenizer.specs.Calls.{with_local, consumed, exited, CanExit}
+use Rattle.markdown_tokenizer.specs.Rules.{Rules}
+use Rattle.markdown_tokenizer.specs.Plain.{finds_nothing, NothingResolves}
+use Rattle.mdconstructs_tables.specs.Rows.{Act, exit, consume, choose, Rows, row, when, Row, Calls, StateRows, Table, class_of, step_of, row_at, named, table_step}
+use Rattle.mdconstructs_tables.specs.RowTest.{is_void_last, Stage, byte_waits, Frame, allows_all, first_stage, start_shape, saves, fresh_at, fresh_fed, needs_choice, is_some, fits_choice, calls_at}
+use Rattle.mdconstructs_tables.specs.Markers.{IsMarkable}
+
+-- the events of a configuration, without the ends of their links
+abbrev pub outline : {R D : Type 0} → Configuration R D → List Event
+outline k = map unlinked k.events
+
+-- the last event is an enter
+abbrev pub EndsWithEnter : List Event → Type 0
+EndsWithEnter events = (e : Event) × (last_or None events ≡ Some e) × (e.kind ≡ Enter)
+
+-- each open span began at a place that passes this test
+abbrev pub Began : (Point → Bool) → List Event → Type 0
+Began where_to events = All (λ e. where_to e.point ≡ true) (open_events events)
+
+-- before a place, or up to it
+abbrev pub upto : Bool → Point → Point → Bool
+upto false place q = stands_before q place
+upto true place q = not (stands_before place q)
+
+-- where spans may have begun in a call: before the place where one stands; or, where they are fresh, before the byte that waits ends, or up to
+-- that place
+abbrev pub since : Bool → Stage → Sight → Point → Bool
+since fresh byte_waits s q = stands_before q (cond fresh s.next s.exit_place)
+since fresh _ s q = upto fresh s.exit_place q
+
+-- A byte that waits begins before it ends, and what began before it began before its end
+pub record SightIsInOrder (waits : Waits) (s : Sight) : Type 0 where
+  pub begins : waits ≡ Byte → stands_before s.enter_place s.next ≡ true
+  pub later : waits ≡ Byte → (q : Point) → stands_before q s.exit_place ≡ true → stands_before q s.next ≡ true
+
+-- what waits is a byte of the text, or the end once it was fed, if no byte is left
+abbrev pub IsFed : Waits → ℕ → Bool → Text → Type 0
+IsFed Nothing position ended text = ⊥
+IsFed Byte position ended text = position < length text.seats
+IsFed End position ended text = (ended ≡ true) × (length text.seats ≤ position)
+
+-- the place of an exit after so many bytes
+abbrev pub exit_place_at : Given → Text → ℕ → Point
+exit_place_at g text position = shown g.bytes (end_place text position)
+
+-- a byte was read
+abbrev pub is_read : ℕ → Bool
+is_read zero = false
+is_read (suc before) = true
+
+-- a choice waits
+abbrev pub AnyWait : List Choice → Type 0
+AnyWait [] = ⊥
+AnyWait (c ∷ cs) = Unit {0}
+
+-- What a choice saved: the stack that was there, a position up to this one, events within these, with the spans as they were then
+pub record IsSavedIn (g : Given) (text : Text) (position : ℕ) (events : List Event) (stack : List EventName) (f : Frame) (saved : Saved) : Type 0 where
+  pub stack_is : saved.stack ≡ stack
+  pub behind : saved.position ≤ position
+  pub within : saved.events ≤ length events
+  pub began : Began (upto false (exit_place_at g text saved.position)) (take saved.events events)
+  pub void : is_void_last (last_or None f.spans) ≡ true → EndsWithEnter (take saved.events events)
+  pub at_byte : f.at_byte ≡ true → saved.position < length text.seats
+
+abbrev pub IsSaved : Given → Text → ℕ → List Event → List EventName → Frame → Bool → Option Saved → Type 0
+IsSaved g text position events stack f true (Some saved) = IsSavedIn g text position events stack f saved
+IsSaved g text position events stack f false None = Unit {0}
+IsSaved g text position events stack f _ _ = ⊥
+
+abbrev pub position_of : Option Saved → ℕ → ℕ
+position_of None position = position
+position_of (Some saved) position = saved.position
+
+abbrev pub events_saved : Option Saved → List Event → List Event
+events_saved None events = events
+events_saved (Some saved) events = take saved.events events
+
+-- what a choice saved of the stack is no longer than this
+abbrev pub IsBelow : List EventName → Choice → Type 0
+IsBelow stack c = IfSome c.saved (λ saved. length saved.stack ≤ length stack)
+
+module _ {W R D : Type 0} (states : List (StateRows W R D)) where
+  -- A choice that waits fits at the place it was made at, above these spans
+  pub record IsWaiting (g : Given) (text : Text) (position : ℕ) (events : List Event) (stack : List EventName) (c : Choice) (cs : List Choice) : Type 0 where
+    pub frame : Frame
+    pub below : List EventName
+    pub stack_is : stack ≡ below ++ frame.spans
+    pub fits : fits_choice states frame c.kind c.ok c.nok ≡ true
+    pub saved : IsSaved g text position events stack frame (saves c.kind c.nok) c.saved
+    pub within : frame.within ≡ true → AnyWait cs
+
+  -- Choices wait above these spans, each within what the one made after it saved
+  abbrev pub AreWaiting : Given → Text → ℕ → List Event → List EventName → List Choice → Type 0
+  AreWaiting g text position events stack [] = stack ≡ []
+  AreWaiting g text position events stack (c ∷ cs) =
+      (w : IsWaiting g text position events stack c cs) × AreWaiting g text (position_of c.saved position) (events_saved c.saved events) w.below cs
+
+-- what waits at a position: a byte, or the end
+abbrev pub Stands : {W : Type 0} → Option W → Text → ℕ → Type 0
+Stands None text p = length text.seats ≤ p
+Stands (Some w) text p = p < length text.seats
+
+-- what a state costs, by the calls that it says are left, or else by the machine's own cost
+abbrev pub price_by : Option Calls → ℕ → (Calls → ℕ) → ℕ
+price_by None own counted = own
+price_by (Some c) own counted = counted c
+
+-- where what is late stands: behind a position
+abbrev pub behind : (late : Bool) → ℕ → ℕ
+behind false p = p
+behind true p = p + 1
+
+-- the calls with so many bytes left
+abbrev pub at_most : Calls → ℕ → ℕ
+at_most c n = c.per_byte * n + c.more
+
+-- where the spans of a state may have begun, by what waits, or if nothing does
+abbrev pub began_at : {W R D : Type 0} → Option W → StateRows W R D → Sight → Point → Bool
+began_at w state s = since (fresh_at state.begun w) (first_stage w) s
+
+-- Spans of a state are open above others: each began at a place that passes this test, and if the innermost is void nothing came since it began
+pub record IsOpen {W R D : Type 0} (state : StateRows W R D) (base : List EventName) (where_to : Point → Bool) (text : Text) (k : Configuration R D) (choices : List Choice) : Type 0 where
+  pub stack : k.stack ≡ base ++ state.spans
+  pub began : Began where_to (outline k)
+  pub void : is_void_last (last_or None state.spans) ≡ true → EndsWithEnter (outline k)
+  pub below : All (IsBelow base) choices
+  pub needs : needs_choice state.needs (is_read k.position) ≡ true → AnyWait choices
+  pub needs_byte : state.needs_byte ≡ true → k.position < length text.seats
+
+-- A call began: it is counted, and the machine's own fields are others
+abbrev pub begun : {M R D : Type 0} → (Local R D → Local R D) → TokenizerValue M R D → TokenizerValue M R D
+begun first t = record t { configuration = with_local t.configuration (first t.configuration.local); calls = t.calls + 1 }
+
+-- A state did a step: this is its answer, the step's choices wait above the old ones, and the configuration is the step's
+pub record DoesAll {M R D : Type 0} (s : Step R D) (old new : TokenizerValue M R D) (answer : State) : Type 0 where
+  pub answered : answer ≡ s.answer
+  pub became : new ≡ record old { configuration = s.configuration; choices = s.choices ++ old.choices }
+
+-- A state is called: something waits, and open spans and choices are those of the state
+pub record IsAtState {M W R D : Type 0} (class : ℕ → W) (state : StateRows W R D) (t : TokenizerValue M R D) : Type 0 where
+  pub inside : t.configuration.position ≤ length t.text.seats
+  pub fed : IsFed t.configuration.waiting t.configuration.position t.configuration.ended t.text
+  pub in_order : SightIsInOrder t.configuration.waiting (sight_of t)
+  pub base : List EventName
+  pub spans : IsOpen state base (began_at (class_of class (sight_of t).current) state (sight_of t)) t.text t.configuration t.choices
+
+-- once the byte that waits is consumed
+abbrev pub once_read : {M R D : Type 0} → TokenizerValue M R D → TokenizerValue M R D
+once_read t = at_configuration t (consumed t.configuration)
+
+-- the innermost spans may end under these names, one after another
+abbrev pub CanEnd : {M R D : Type 0} → List EventName → TokenizerValue M R D → Type 0
+CanEnd [] t = Unit {0}
+CanEnd (name ∷ names) t = CanExit name t × CanEnd names (at_configuration t (exited name (sight_of t).exit_place t.configuration))
+
+-- what a state that is called begins with passes the test of acts
+abbrev pub are_allowed : {M W R D : Type 0} → (ℕ → W) → StateRows W R D → TokenizerValue M R D → List (Act R D) → Bool
+are_allowed class state t acts = allows_all acts (start_shape (class_of class (sight_of t).previous) (class_of class (sight_of t).current) state)
+
+-- A state can be called. What follows for its code from the spans that are open is said as code asks for it: a byte waits where the state
+-- needs one; once that is consumed, an exit stands where its end was seen; it can be a span of its own; and all spans of the state may end,
+-- before it or behind it, where the test allows that.
+pub record IsCallable {M W R D : Type 0} (class : ℕ → W) (state : StateRows W R D) (t : TokenizerValue M R D) : Type 0 where
+  pub called : IsAtState class state t
+  pub byte : state.needs_byte ≡ true → t.configuration.waiting ≡ Byte
+  pub stands : t.configuration.waiting ≡ Byte → (sight_of (once_read t)).exit_place ≡ (sight_of t).next
+  pub marks : t.configuration.waiting ≡ Byte → IsMarkable t
+  pub ends : are_allowed class state t (map exit (reverse state.spans)) ≡ true → CanEnd (reverse state.spans) t
+  pub ends_read : are_allowed class state t (consume ∷ map exit (reverse state.spans)) ≡ true → CanEnd (reverse state.spans) (once_read t)
+
+-- what a state does in a tokenizer
+abbrev pub step_in : {M W R D : Type 0} → (class : ℕ → W) → StateRows W R D → TokenizerValue M R D → Step R D
+step_in class state t = step_of (row_at class state t.given (sight_of t) t.configuration) (sight_of t) t.configuration
+
+module _ {W R D : Type 0} (table : Table W R D) where
+  -- Open spans and choices are those of a state
+  pub record IsAt (g : Given) (text : Text) (state : StateRows W R D) (where_to : Point → Bool) (k : Configuration R D) (choices : List Choice) : Type 0 where
+    pub base : List EventName
+    pub spans : IsOpen state base where_to text k choices
+    pub waiting : AreWaiting table.states g text k.position (outline k) base choices
+
+  abbrev pub IsStateAt : Given → Text → Option (StateRows W R D) → (StateRows W R D → Point → Bool) → Configuration R D → List Choice → Type 0
+  IsStateAt g text None where_to k choices = ⊥
+  IsStateAt g text (Some state) where_to k choices = IsAt g text state (where_to state) k choices
+
+  -- What ends well: no span is open since the last choice, and one waits, or the end was fed
+  pub record IsDone (g : Given) (text : Text) (k : Configuration R D) (choices : List Choice) : Type 0 where
+    pub base : List EventName
+    pub stack : k.stack ≡ base
+    pub began : Began (upto false (exit_place_at g text k.position)) (outline k)
+    pub waiting : AreWaiting table.states g text k.position (outline k) base choices
+    pub ended : AnyWait choices ⊎ (k.ended ≡ true)
+
+  -- What ends not: a choice waits
+  pub record IsFailing (g : Given) (text : Text) (k : Configuration R D) (choices : List Choice) : Type 0 where
+    pub base : List EventName
+    pub waiting : AreWaiting table.states g text k.position (outline k) base choices
+    pub any : AnyWait choices
+
+  -- the invariant at an answer
+  abbrev pub HoldsAt : Given → Text → Configuration R D → List Choice → State → Type 0
+  HoldsAt g text k choices (Next name) = (k.waiting ≡ Nothing) × IsStateAt g text (named table.states name) (λ state. upto (fresh_fed state.begun) (exit_place_at g text k.position)) k choices
+  HoldsAt g text k choices (Retry name) =
+      IsFed k.waiting k.position k.ended text × SightIsInOrder k.waiting (sight g text k)
+      × IsStateAt g text (named table.states name) (λ state. began_at (class_of table.class (sight g text k).current) state (sight g text k)) k choices
+  HoldsAt g text k choices Ok = IsDone g text k choices
+  HoldsAt g text k choices Nok = IsFailing g text k choices
+  HoldsAt g text k choices (Error message) = Unit {0}
+
+  -- the invariant: no more was read than there is, and spans and choices are those of the answer
+  abbrev pub table_holds : Given → Text → Configuration R D → List Choice → State → Type 0
+  table_holds g text k choices state = (k.position ≤ length text.seats) × HoldsAt g text k choices state
+
+  -- how many calls a state may take that is fed first, if so many bytes were read
+  abbrev pub next_price : Text → ℕ → Option (StateRows W R D) → ℕ
+  next_price text p None = 0
+  next_price text p (Some state) = price_by state.calls (table.cost text p state.name) (λ c. at_most c (length text.seats - p))
+
+  -- and one that is called when this waits
+  abbrev pub retry_price : (previous current : Option W) → Text → ℕ → Option (StateRows W R D) → ℕ
+  retry_price b w text p None = 0
+  retry_price b w text p (Some state) =
+      price_by state.calls (table.cost text p state.name) (λ c. at_most (calls_at table.states table.states b w (Some state)) (length text.seats - p - 1))
+
+  -- what a choice goes on with
+  abbrev pub state_price : Text → ℕ → State → ℕ
+  state_price text p (Next name) = next_price text p (named table.states name)
+  state_price text p _ = 0
+
+  -- A choice goes on from what it saved, or later; and where choices end well late, behind that. One that saved nothing goes on from anywhere.
+  abbrev pub choice_price : (late : Bool) → Text → ℕ → AttemptKind → State → State → ℕ
+  choice_price late text p kind ok nok = cond (saves kind nok) (max (state_price text (behind late p) ok) (state_price text p nok)) (state_price text 0 ok)
+
+  abbrev pub chosen_price : (late : Bool) → Text → ℕ → List (Act R D) → ℕ
+  chosen_price late text p [] = 0
+  chosen_price late text p (choose kind ok nok ∷ acts) = choice_price late text p kind ok nok + chosen_price late text p acts
+  chosen_price late text p (consume ∷ acts) = chosen_price late text (p + 1) acts
+  chosen_price late text p (act ∷ acts) = chosen_price late text p acts
+
+  -- what an answer goes on with, if so many bytes were read at the beginning of the call
+  abbrev pub answer_price : (previous current : Option W) → Text → ℕ → State → ℕ
+  answer_price b w text p (Next name) = next_price text (p + 1) (named table.states name)
+  answer_price b w text p (Retry name) = retry_price b w text p (named table.states name)
+  answer_price b w text p _ = 0
+
+  -- a call, with what its answer and its choices go on with
+  abbrev pub row_price : (late : Bool) → (previous current : Option W) → Text → ℕ → Row R D → ℕ
+  row_price late b w text p r = 1 + (answer_price b w text p r.answer + chosen_price late text p r.acts)
+
+  -- each of the rows is within a price
+  abbrev pub AreWithin : (late : Bool) → (previous current : Option W) → Text → ℕ → ℕ → Rows R D → Type 0
+  AreWithin late b w text p price (row acts answer) = row_price late b w text p (record { acts = acts; answer = answer }) ≤ price
+  AreWithin late b w text p price (when test one other) = AreWithin late b w text p price one × AreWithin late b w text p price other
+
+  -- the class of the byte at a position
+  abbrev pub class_at : Text → ℕ → Option W
+  class_at text p = class_of table.class (byte_of (slice_get text.seats p))
+
+  -- a state of the machine's own cost is paid for by it, if this waits
+  abbrev pub PaysRows : (late : Bool) → StateRows W R D → Option Calls → Type 0
+  PaysRows late state (Some c) = Unit {0}
+  PaysRows late state None =
+      (b w : Option W) (text : Text) (p : ℕ) → is_some b ≡ is_read p → Stands w text p → class_at text p ≡ w → AreWithin late b w text p (table.cost text p state.name) (state.rows b w)
+
+  abbrev pub ArePaid : (late : Bool) → List (StateRows W R D) → Type 0
+  ArePaid late [] = Unit {0}
+  ArePaid late (state ∷ states) = PaysRows late state state.calls × ArePaid late states
+
+  -- how many calls are left; a byte that waits is counted with the state that is called there
+  abbrev pub table_cost : Given → Text → Configuration R D → State → ℕ
+  table_cost g text k (Next name) = next_price text k.position (named table.states name)
+  table_cost g text k (Retry name) =
+      let s = sight g text k in retry_price (class_of table.class s.previous) (class_of table.class s.current) text k.position (named table.states name)
+  table_cost g text k _ = 0
+
+  abbrev pub reserve_of : (late : Bool) → Text → Choice → Option Saved → ℕ
+  reserve_of late text c None = state_price text 0 c.ok
+  reserve_of late text c (Some saved) = max (state_price text (behind late saved.position) c.ok) (state_price text saved.position c.nok)
+
+  abbrev pub table_reserve : Given → Text → Choice → ℕ
+  table_reserve g text c = reserve_of false text c c.saved
+
+-- the rules of a table
+abbrev pub table_rules : {W R D : Type 0} → Table W R D → Given → Rules R D
+table_rules table g = record { step = table_step table g; holds = table_holds table g; cost = table_cost table g; reserve = table_reserve table g; starts = table.starts; resolver = finds_nothing; resolves = NothingResolves }

@@ -1,0 +1,302 @@
+-- The test of a table: its acts are allowed in their order, its answers and choices fit the states that they name, and its calls are paid for.
+use Rattle.std.specs.Prelude.{◌+◌, ◌-◌, ◌&&◌, ◌||◌, not, List, [], ◌∷◌, ◌++◌, Bool, true, false, cond, Option, Some, None, nat_le, max, take, length, filter, map}
+use Rattle.std.specs.List.{last_or}
+use Rattle.markdown_base.specs.declared.event.Name.{Name as EventName}
+use Rattle.markdown_base.specs.declared.state.Name.{Name}
+use Rattle.markdown_base.specs.declared.state.State.{State}
+use Rattle.markdown_base.specs.declared.state.State.TheVariants.{Next, Retry, Ok, Nok, Error}
+use Rattle.markdown_base.specs.Events.{is_void, same_name}
+use Rattle.markdown_tokenizer.specs.declared.waiting.AttemptKind.{AttemptKind}
+use Rattle.markdown_tokenizer.specs.declared.waiting.AttemptKind.TheVariants.{Attempt, Check}
+use Rattle.mdconstructs_tables.specs.Rows.{Act, enters, exit, consume, links, write, choose, Rows, row, when, Row, Calls, Begun, before, at_byte, here, Needs, nothing, a_choice, a_choice_once_read, StateRows, Table, named}
+
+-- the innermost span is of a void name
+abbrev pub is_void_last : Option EventName → Bool
+is_void_last None = false
+is_void_last (Some name) = is_void name
+
+-- How far a call is: the end waits, a byte waits, or that byte was consumed
+pub data Stage : Type 0 where
+  end_waits : Stage
+  byte_waits : Stage
+  byte_read : Stage
+
+-- What is open in a call: the spans since the last choice was made, whether one of them may have begun at the byte that waits or where one
+-- stands, whether the last event is the innermost's enter, and whether a choice waits
+pub record Shape : Type 0 where
+  pub stage : Stage
+  pub spans : List EventName
+  pub fresh : Bool
+  pub bare : Bool
+  pub within : Bool
+
+abbrev pub is_byte_waiting : Stage → Bool
+is_byte_waiting byte_waits = true
+is_byte_waiting _ = false
+
+abbrev pub is_end : Stage → Bool
+is_end end_waits = true
+is_end _ = false
+
+abbrev pub is_last : EventName → Option EventName → Bool
+is_last name None = false
+is_last name (Some last) = same_name last name
+
+-- whether a choice saves what it may put back
+abbrev pub saves : AttemptKind → State → Bool
+saves Attempt Nok = false
+saves _ _ = true
+
+-- whether a span may have begun at the place of the call, by what waits, or if nothing does
+abbrev pub fresh_at : {W : Type 0} → Begun W → Option W → Bool
+fresh_at before w = false
+fresh_at (at_byte test) None = false
+fresh_at (at_byte test) (Some w) = test w
+fresh_at here w = true
+
+abbrev pub fresh_fed : {W : Type 0} → Begun W → Bool
+fresh_fed here = true
+fresh_fed _ = false
+
+-- whether a choice must wait, by whether a byte was read
+abbrev pub needs_choice : Needs → (read : Bool) → Bool
+needs_choice nothing read = false
+needs_choice a_choice read = true
+needs_choice a_choice_once_read read = read
+
+-- nothing came since a void span began
+abbrev pub is_bare : Shape → Bool
+is_bare p = not (is_void_last (last_or None p.spans)) || p.bare
+
+-- whether an act is allowed: an enter before the end, a consume where a byte waits; an exit of the innermost span, if it began before the
+-- place of the exit, and, where it is void, nothing came since; and a choice where nothing began at the place where one stands
+abbrev pub allows : {R D : Type 0} → Act R D → Shape → Bool
+allows (enters name link) p = not (is_end p.stage)
+allows (exit name) p = is_last name (last_or None p.spans) && (not p.fresh && (not (is_void name) || p.bare))
+allows consume p = is_byte_waiting p.stage
+allows (links previous next) p = true
+allows (write f) p = true
+allows (choose kind ok nok) p = not p.fresh && is_bare p
+
+abbrev pub after : {R D : Type 0} → Act R D → Shape → Shape
+after (enters name link) p = record { stage = p.stage; spans = p.spans ++ name ∷ []; fresh = true; bare = true; within = p.within }
+after (exit name) p = record { stage = p.stage; spans = take (length p.spans - 1) p.spans; fresh = p.fresh; bare = false; within = p.within }
+after consume p = record { stage = byte_read; spans = p.spans; fresh = false; bare = p.bare; within = p.within }
+after (links previous next) p = p
+after (write f) p = p
+after (choose kind ok nok) p = record { stage = p.stage; spans = []; fresh = false; bare = false; within = true }
+
+abbrev pub allows_all : {R D : Type 0} → List (Act R D) → Shape → Bool
+allows_all [] p = true
+allows_all (act ∷ acts) p = allows act p && allows_all acts (after act p)
+
+abbrev pub after_all : {R D : Type 0} → List (Act R D) → Shape → Shape
+after_all [] p = p
+after_all (act ∷ acts) p = after_all acts (after act p)
+
+abbrev pub same_names : List EventName → List EventName → Bool
+same_names [] [] = true
+same_names (x ∷ xs) (y ∷ ys) = same_name x y && same_names xs ys
+same_names _ _ = false
+
+abbrev pub first_stage : {W : Type 0} → Option W → Stage
+first_stage None = end_waits
+first_stage (Some w) = byte_waits
+
+abbrev pub is_some : {W : Type 0} → Option W → Bool
+is_some None = false
+is_some (Some w) = true
+
+-- what is open when a state is called
+abbrev pub start_shape : {W R D : Type 0} → (previous current : Option W) → StateRows W R D → Shape
+start_shape b w state = record {
+  stage = first_stage w;
+  spans = state.spans;
+  fresh = fresh_at state.begun w;
+  bare = is_void_last (last_or None state.spans);
+  within = needs_choice state.needs (is_some b);
+}
+
+-- Where a choice is made: the spans since the one before it, whether a byte waits there, and whether a choice waits
+pub record Frame : Type 0 where
+  pub spans : List EventName
+  pub at_byte : Bool
+  pub within : Bool
+
+abbrev pub frame_of : Shape → Frame
+frame_of p = record { spans = p.spans; at_byte = is_byte_waiting p.stage; within = p.within }
+
+-- no calls, the sum, and the larger of two
+abbrev pub no_calls : Calls
+no_calls = record { per_byte = 0; more = 0 }
+
+abbrev pub plus : Calls → Calls → Calls
+plus a b = record { per_byte = a.per_byte + b.per_byte; more = a.more + b.more }
+
+abbrev pub larger : Calls → Calls → Calls
+larger a b = record { per_byte = max a.per_byte b.per_byte; more = max a.more b.more }
+
+-- a byte that waits is one more that is left
+abbrev pub at_stage : Stage → Calls → Calls
+at_stage byte_waits c = record { per_byte = c.per_byte; more = c.per_byte + c.more }
+at_stage _ c = c
+
+-- some calls are at most others
+abbrev pub calls_le : Calls → Calls → Bool
+calls_le a b = nat_le a.per_byte b.per_byte && nat_le a.more b.more
+
+-- each of the rows passes a test
+abbrev pub all_rows : {R D : Type 0} → (Row R D → Bool) → Rows R D → Bool
+all_rows test (row acts answer) = test (record { acts = acts; answer = answer })
+all_rows test (when by one other) = all_rows test one && all_rows test other
+
+-- the most calls of any of the rows
+abbrev pub most_calls : {R D : Type 0} → (Row R D → Calls) → Rows R D → Calls
+most_calls count (row acts answer) = count (record { acts = acts; answer = answer })
+most_calls count (when by one other) = larger (most_calls count one) (most_calls count other)
+
+module _ {W R D : Type 0} (states : List (StateRows W R D)) where
+  -- the spans, and what is known of choices and bytes, are those of a state
+  abbrev pub is_at : List EventName → (within byte : Bool) → (read : Bool) → Option (StateRows W R D) → Bool
+  is_at spans within byte read None = false
+  is_at spans within byte read (Some state) =
+      same_names spans state.spans && ((not (needs_choice state.needs read) || within) && (not state.needs_byte || byte))
+
+  -- what a choice goes on with fits at the place it was made at
+  abbrev pub may_go_on : Frame → (byte : Bool) → State → Bool
+  may_go_on f byte (Next name) = is_at f.spans f.within byte true (named states name)
+  may_go_on f byte Ok = same_names f.spans [] && f.within
+  may_go_on f byte Nok = f.within
+  may_go_on f byte _ = false
+
+  -- a choice fits: it goes on at its place, or, if it ended well, with the same spans open later on
+  abbrev pub fits_choice : Frame → AttemptKind → (ok nok : State) → Bool
+  fits_choice f Check ok nok = may_go_on f f.at_byte ok && may_go_on f f.at_byte nok
+  fits_choice f Attempt ok nok = may_go_on f false ok && (not (is_void_last (last_or None f.spans)) && may_go_on f f.at_byte nok)
+
+  abbrev pub fits_choices : List (Act R D) → Shape → Bool
+  fits_choices [] p = true
+  fits_choices (choose kind ok nok ∷ acts) p = let act : Act R D = choose kind ok nok in fits_choice (frame_of p) kind ok nok && fits_choices acts (after act p)
+  fits_choices (act ∷ acts) p = fits_choices acts (after act p)
+
+  abbrev pub is_fresh : Option W → Option (StateRows W R D) → Bool
+  is_fresh w None = false
+  is_fresh w (Some state) = fresh_at state.begun w
+
+  abbrev pub is_fresh_fed : Option (StateRows W R D) → Bool
+  is_fresh_fed None = false
+  is_fresh_fed (Some state) = fresh_fed state.begun
+
+  -- The answer fits how far the call is, and what is open. Spans may have begun at the place of the call only if the next state says so.
+  -- It ends well only if no span is open, and a choice waits or the end; and it ends badly only if a choice waits.
+  abbrev pub fits_answer : Stage → (previous current : Option W) → Shape → State → Bool
+  fits_answer stage b w p Ok = same_names p.spans [] && (not p.fresh && (p.within || is_end stage))
+  fits_answer stage b w p Nok = p.within
+  fits_answer byte_read b w p (Next name) = is_bare p && (is_at p.spans p.within false true (named states name) && (not p.fresh || is_fresh_fed (named states name)))
+  fits_answer byte_waits b (Some w) p (Retry name) =
+      is_bare p && (is_at p.spans p.within true (is_some b) (named states name) && (not p.fresh || is_fresh (Some w) (named states name)))
+  fits_answer end_waits b None p (Retry name) =
+      is_bare p && (is_at p.spans p.within false (is_some b) (named states name) && (not p.fresh || is_fresh None (named states name)))
+  fits_answer _ b w p (Error message) = true
+  fits_answer _ _ _ _ _ = false
+
+  -- a row fits
+  abbrev pub fits_row : (previous current : Option W) → StateRows W R D → Row R D → Bool
+  fits_row b w state r =
+      let p = after_all r.acts (start_shape b w state) in
+      allows_all r.acts (start_shape b w state) && (fits_choices r.acts (start_shape b w state) && fits_answer p.stage b w p r.answer)
+
+  -- how many calls a state says that are left, if it does
+  abbrev pub calls_or : Option Calls → Calls
+  calls_or None = no_calls
+  calls_or (Some c) = c
+
+  abbrev pub fed_calls : Option (StateRows W R D) → Calls
+  fed_calls None = no_calls
+  fed_calls (Some state) = calls_or state.calls
+
+  -- what a choice may go on with
+  abbrev pub next_calls : State → Calls
+  next_calls (Next name) = fed_calls (named states name)
+  next_calls _ = no_calls
+
+  abbrev pub choice_calls : AttemptKind → State → State → Calls
+  choice_calls kind ok nok = cond (saves kind nok) (larger (next_calls ok) (next_calls nok)) no_calls
+
+  -- what the choices that are made go on with
+  abbrev pub chosen_calls : Stage → List (Act R D) → Calls
+  chosen_calls stage [] = no_calls
+  chosen_calls stage (choose kind ok nok ∷ acts) = plus (at_stage stage (choice_calls kind ok nok)) (chosen_calls stage acts)
+  chosen_calls stage (consume ∷ acts) = chosen_calls byte_read acts
+  chosen_calls stage (_ ∷ acts) = chosen_calls stage acts
+
+  -- how many calls an answer goes on with; `retried` counts those of a state that is called at once
+  abbrev pub answer_calls : (retried : Name → Calls) → State → Calls
+  answer_calls retried (Retry name) = retried name
+  answer_calls retried a = next_calls a
+
+  -- a call, with those of its answer and its choices
+  abbrev pub row_calls : (retried : Name → Calls) → Option W → Row R D → Calls
+  row_calls retried w r = plus (record { per_byte = 0; more = 1 }) (plus (answer_calls retried r.answer) (chosen_calls (first_stage w) r.acts))
+
+  -- how many calls a state takes at most if this waits; the first list bounds the retries
+  abbrev pub calls_at : List (StateRows W R D) → (previous current : Option W) → Option (StateRows W R D) → Calls
+  calls_at [] b w state = no_calls
+  calls_at (x ∷ bound) b w None = no_calls
+  calls_at (x ∷ bound) b w (Some state) = most_calls (row_calls (λ name. calls_at bound b w (named states name)) w) (state.rows b w)
+
+  -- a state says how many calls are left
+  abbrev pub is_counted : Option (StateRows W R D) → Bool
+  is_counted None = true
+  is_counted (Some state) = is_some state.calls
+
+  -- and so do those of an answer, and of the choices
+  abbrev pub counts_answer : State → Bool
+  counts_answer (Next name) = is_counted (named states name)
+  counts_answer (Retry name) = is_counted (named states name)
+  counts_answer _ = true
+
+  -- what an attempt that saves nothing goes on with is not known to cost less than at the start
+  abbrev pub counts_choice : AttemptKind → State → State → Bool
+  counts_choice kind (Next name) nok = saves kind nok && (is_counted (named states name) && counts_answer nok)
+  counts_choice kind _ nok = counts_answer nok
+
+  abbrev pub counts_choices : List (Act R D) → Bool
+  counts_choices [] = true
+  counts_choices (choose kind ok nok ∷ acts) = counts_choice kind ok nok && counts_choices acts
+  counts_choices (act ∷ acts) = counts_choices acts
+
+  -- a call is paid for
+  abbrev pub pays_row : (previous current : Option W) → StateRows W R D → Row R D → Bool
+  pays_row b w state r =
+      counts_answer r.answer && (counts_choices r.acts && calls_le (row_calls (λ name. calls_at states b w (named states name)) w r) (calls_at states b w (Some state)))
+
+  -- feeding costs nothing: a byte that waits is one that was left
+  abbrev pub feeds : (previous current : Option W) → StateRows W R D → Calls → Bool
+  feeds b None state c = nat_le (calls_at states b None (Some state)).more c.more
+  feeds b (Some w) state c = calls_le (calls_at states b (Some w) (Some state)) (at_stage byte_waits c)
+
+  -- if a state says how many calls are left, it is right
+  abbrev pub fits_calls : (previous current : Option W) → StateRows W R D → Option Calls → Bool
+  fits_calls b w state None = true
+  fits_calls b w state (Some c) = all_rows (pays_row b w state) (state.rows b w) && feeds b w state c
+
+  -- a state is never called if it needs a byte and none waits
+  abbrev pub is_called : Option W → StateRows W R D → Bool
+  is_called None state = not state.needs_byte
+  is_called (Some w) state = true
+
+  -- a state fits
+  abbrev pub fits_state : (previous current : Option W) → StateRows W R D → Bool
+  fits_state b w state = all_rows (fits_row b w state) (state.rows b w) && fits_calls b w state state.calls
+
+  -- a machine starts with no open span, no choice and no byte
+  abbrev pub may_start : Option (StateRows W R D) → Bool
+  may_start None = false
+  may_start (Some state) = same_names state.spans [] && (not (needs_choice state.needs false) && not state.needs_byte)
+
+-- the names of the states that do not fit if this was read and this waits, and of the starts that may be none
+abbrev pub misfits : {W R D : Type 0} → Table W R D → (previous current : Option W) → List Name
+misfits {W} {R} {D} table b w =
+    map (λ (state : StateRows W R D). state.name) (filter (λ state. is_called table.states w state && not (fits_state table.states b w state)) table.states)
+    ++ filter (λ name. not (may_start table.states (named table.states name))) table.starts

@@ -1,0 +1,22 @@
+//! Machines as tables: rows of data say what each state does, and the laws of a machine follow from a test of its rows.
+#![tactic(auto)]
+
+ghost use Rattle.std.specs.Prelude.{◌≡◌, OnOk};
+ghost use Rattle.mdconstructs_tables.specs.Markers.{IsMarkable, marked};
+
+use markdown_tokenizer::event::Name;
+use markdown_tokenizer::state::MachineTypes;
+use markdown_tokenizer::tokenizer::Tokenizer;
+use std::alloc::AllocError;
+
+/// Reads the byte that waits as a span of its own: enters it, consumes the byte and exits it.
+///
+/// If memory runs out, the span may have begun, and the byte may be consumed.
+pub fn marker<'a, M: MachineTypes>(t: &mut Tokenizer<'a, M>, name: Name) -> Result<(), AllocError>
+    requires { IsMarkable t.old }
+    ensures { OnOk result (t.new ≡ marked name t.old) }
+{
+    t.enter(name)?;
+    t.consume();
+    t.exit(name)
+}

@@ -1,0 +1,90 @@
+-- The events that the machine of texts makes of an autolink are those of the item.
+use Rattle.std.proofs.Common.{◌≡◌, ℕ, zero, suc, ◌+◌, ◌<◌, ◌∷◌, ◌++◌, [], List, false, refl, sym, ◌∙◌, ap, Option, Some, None, arith, length, take, drop, slice_get, ◌==◌}
+use Rattle.std.proofs.lemmas.List.{take_at, drop_at, length-take-le}
+use Rattle.std.proofs.lemmas.Option.{slice_get_within}
+use Rattle.std.proofs.lemmas.Slice.{between_is}
+use Rattle.std.specs.List.{between}
+use Rattle.markdown_base.proofs.Common.{drop-next}
+use Rattle.markdown_base.proofs.Seats.{end-after-one}
+use Rattle.markdown_base.specs.declared.event.Event.{Event}
+use Rattle.markdown_base.specs.declared.event.Kind.TheVariants.{Enter, Exit}
+use Rattle.markdown_base.specs.declared.event.Name.TheVariants.{Autolink, AutolinkMarker, AutolinkProtocol}
+use Rattle.markdown_base.specs.declared.event.Point.{Point}
+use Rattle.markdown_base.specs.Places.{shown}
+use Rattle.markdown_base.specs.Virtual.{Seat, end_after}
+use Rattle.markdown_tokenizer.specs.Text.{Given, Text}
+use Rattle.markdown_tokenizer.specs.Sight.{point_or, end_or, end_place}
+use Rattle.mdconstructs_text.specs.Items.{autolink}
+use Rattle.mdconstructs_text.specs.TextEvents.{event, leaf, item_events}
+use Rattle.mdconstructs_text.proofs.Texts.LineEndings.{at-front}
+use Rattle.mdconstructs_text.proofs.Plain.Stretches.{get-drop, leaf-read}
+use Rattle.mdconstructs_text.proofs.Autolinks.Steps.{begun_link, ended_link}
+
+-- A virtual byte that is no line ending ends where the next is shown: gaps are only at the starts of lines
+abbrev pub IsJoined : Given → Text → Type 0
+IsJoined g text = (p : ℕ) (s r : Seat) → slice_get text.seats p ≡ Some s → slice_get text.seats (p + 1) ≡ Some r → (s.byte == 10) ≡ false → shown g.bytes s.end ≡ shown g.bytes r.point
+
+-- eight events, one after another
+eight : (es : List Event) (a b c d e f g h : Event)
+    → (((((((es ++ a ∷ []) ++ b ∷ []) ++ c ∷ []) ++ d ∷ []) ++ e ∷ []) ++ f ∷ []) ++ g ∷ []) ++ h ∷ [] ≡ es ++ a ∷ b ∷ c ∷ d ∷ e ∷ f ∷ g ∷ h ∷ []
+eight [] a b c d e f g h = refl
+eight (x ∷ es) a b c d e f g h = ap (λ l. x ∷ l) (eight es a b c d e f g h)
+
+-- one more is taken
+take-last : (n : ℕ) (xs : List Seat) (x : Seat) → slice_get xs n ≡ Some x → take (suc n) xs ≡ take n xs ++ x ∷ []
+take-last n [] x h = absurd (cc)
+take-last zero (y ∷ ys) x h = let same : y ≡ x = cc in ap (λ z. z ∷ []) same
+take-last (suc n) (y ∷ ys) x h = ap (λ l. y ∷ l) (take-last n ys x h)
+
+-- the events of an autolink, by its first virtual byte, its last, and those between them
+spelled : (bytes : List ℕ) (n : ℕ) (s x : Seat) (xs : List Seat) → length xs ≡ n
+    → item_events bytes (autolink n, s ∷ (xs ++ x ∷ []))
+    ≡ event bytes Enter Autolink s.point ∷ ((leaf bytes AutolinkMarker (s ∷ []) ++ (leaf bytes AutolinkProtocol xs ++ leaf bytes AutolinkMarker (x ∷ []))) ++ event bytes Exit Autolink x.end ∷ [])
+spelled bytes n s x xs size =
+    let all = s ∷ (xs ++ x ∷ []) in
+    let more : 1 + n ≡ suc n = omega arith in
+    let inside : between 1 (1 + n) all ≡ xs = between_is all 1 (1 + n) ∙ ap (λ k. drop 1 (take k all)) more ∙ take_at xs (x ∷ []) n size in
+    let last : drop (1 + n) all ≡ x ∷ [] = ap (λ k. drop k all) more ∙ drop_at xs (x ∷ []) n size in
+    ap (λ l. event bytes Enter Autolink s.point
+    ∷ ((leaf bytes AutolinkMarker (s ∷ []) ++ (leaf bytes AutolinkProtocol l ++ leaf bytes AutolinkMarker (drop (1 + n) all))) ++ event bytes Exit Autolink (end_after s.end (xs ++ x ∷ [])) ∷ [])) inside
+    ∙ ap (λ l. event bytes Enter Autolink s.point
+    ∷ ((leaf bytes AutolinkMarker (s ∷ []) ++ (leaf bytes AutolinkProtocol xs ++ leaf bytes AutolinkMarker l)) ++ event bytes Exit Autolink (end_after s.end (xs ++ x ∷ [])) ∷ [])) last
+    ∙ ap (λ e. event bytes Enter Autolink s.point
+    ∷ ((leaf bytes AutolinkMarker (s ∷ []) ++ (leaf bytes AutolinkProtocol xs ++ leaf bytes AutolinkMarker (x ∷ []))) ++ event bytes Exit Autolink e ∷ [])) (end-after-one s.end xs x)
+
+module _ (g : Given) (text : Text) where
+  -- the event at the start of a span
+  abbrev entered_at : Point → Event
+  entered_at place = record { kind = Enter; name = AutolinkProtocol; point = place; link = None }
+
+  -- the events, as they are made
+  abbrev made : List Event → Option Seat → Event → Event → Option Seat → List Event
+  made events o enters exits o' = events
+      ++ event g.bytes Enter Autolink (point_or text.end o) ∷ event g.bytes Enter AutolinkMarker (point_or text.end o) ∷ event g.bytes Exit AutolinkMarker (end_or text.end o)
+      ∷ enters ∷ exits
+      ∷ event g.bytes Enter AutolinkMarker (point_or text.end o') ∷ event g.bytes Exit AutolinkMarker (end_or text.end o') ∷ event g.bytes Exit Autolink (end_or text.end o') ∷ []
+
+  -- The events that an autolink leaves are those of the item
+  pub link-events : IsJoined g text → (events : List Event) (p n : ℕ) (s r x : Seat) (rs : List Seat) → drop p text.seats ≡ s ∷ r ∷ rs → (s.byte == 10) ≡ false → 0 < n
+      → slice_get text.seats (p + 1 + n) ≡ Some x → ended_link g text (begun_link g text events p) (p + 1 + n) ≡ events ++ item_events g.bytes (autolink n, take (n + 2) (s ∷ r ∷ rs))
+  link-events joined events p n s r x rs here plain some at_x =
+      let ss = r ∷ rs in
+      let q = p + 1 + n in
+      let at = at-front text.seats p s ss here in
+      let behind = drop-next text.seats p s ss here in
+      let at_r = at-front text.seats (p + 1) r rs behind in
+      let last : slice_get ss n ≡ Some x = ap (λ l. slice_get l n) (sym behind) ∙ get-drop text.seats (p + 1) n ∙ at_x in
+      let within = slice_get_within ss n x last in
+      let exits = event g.bytes Exit AutolinkProtocol (end_place text q) in
+      let protocol : event g.bytes Enter AutolinkProtocol r.point ∷ exits ∷ [] ≡ leaf g.bytes AutolinkProtocol (take n ss) =
+      ap (λ o. event g.bytes Enter AutolinkProtocol (point_or text.end o) ∷ exits ∷ []) (sym at_r) ∙ leaf-read text g.bytes AutolinkProtocol n (p + 1) r rs behind some (omega (arith, within)) in
+      let size : length (take n ss) ≡ n = length-take-le n ss (omega (arith, within)) in
+      let two_more : n + 2 ≡ suc (suc n) = omega arith in
+      let all : take (n + 2) (s ∷ ss) ≡ s ∷ (take n ss ++ x ∷ []) = ap (λ k. take k (s ∷ ss)) two_more ∙ ap (λ l. s ∷ l) (take-last n ss x last) in
+      let item = ap (λ l. item_events g.bytes (autolink n, l)) all ∙ spelled g.bytes n s x (take n ss) size in
+      eight events _ _ _ _ _ _ _ _
+      ∙ ap (λ o. made events o (event g.bytes Enter AutolinkProtocol (end_or text.end o)) exits (slice_get text.seats q)) at
+      ∙ ap (λ o. made events (Some s) (event g.bytes Enter AutolinkProtocol s.end) exits o) at_x
+      ∙ ap (λ e. made events (Some s) (entered_at e) exits (Some x)) (joined p s r at at_r plain)
+      ∙ ap (λ l. events ++ event g.bytes Enter Autolink s.point ∷ ((leaf g.bytes AutolinkMarker (s ∷ []) ++ (l ++ leaf g.bytes AutolinkMarker (x ∷ []))) ++ event g.bytes Exit Autolink x.end ∷ [])) protocol
+      ∙ ap (λ es. events ++ es) (sym item)

@@ -1,0 +1,137 @@
+-- The virtual bytes of a text can be counted, and so can the runs of backticks among them.
+use Rattle.std.proofs.Common.{◌≡◌, ℕ, zero, suc, ◌+◌, ◌-◌, ◌*◌, ◌%◌, ◌^◌, ◌<◌, ◌≤◌, ◌∷◌, ◌++◌, [], List, Bool, true, false, cond, not, ◌&&◌, ◌||◌, ◌==◌, refl, sym, ◌∙◌, ap, subst, inl, inr, arith, length, length-append}
+use Rattle.std.proofs.Math.Nat.{mul-suc}
+use Rattle.std.proofs.lemmas.Bool.{and_parts}
+use Rattle.std.specs.Prelude.{filter}
+use Rattle.std.specs.List.{list_all, AllByRecursion}
+use Rattle.markdown_base.proofs.Common.{or-leads}
+use Rattle.markdown_base.specs.declared.event.Point.{Point}
+use Rattle.markdown_base.specs.Virtual.{Seat, tab_width, in_tab, begins_with_lf, virtual_from, virtual}
+use Rattle.markdown_base.specs.Places.{stands_before, is_upto, denotes_same, in_range}
+use Rattle.markdown_tokenizer.specs.Text.{Given, Text, Piece, pushed, passed, IsText, empty_text, followed_by, followed_by_all, FitsAfter, CanFollow}
+use Rattle.markdown_tokenizer.proofs.Positions.Order.{after-before, before-upto, every-all, filter-same}
+use Rattle.markdown_tokenizer.proofs.Positions.Cursors.{same-before}
+use Rattle.mdconstructs_text.proofs.CodeSpans.Walks.{RunsAreShort}
+use Rattle.mdconstructs_text.proofs.CodeSpans.Items.{runs-are-short}
+
+-- if all that passes the first test passes the second, then what passes the first, and what passes only the second, is what passes the second
+add-step : (a b : Bool) (x : Seat) (f r h : List Seat) → (a ≡ true → b ≡ true) → length f + length r ≡ length h → length (cond a (x ∷ f) f) + length (cond (not a && b) (x ∷ r) r) ≡ length (cond b (x ∷ h) h)
+add-step true true x f r h i e = omega (arith, e)
+add-step true false x f r h i e = absurd (let c : false ≡ true = i refl in cc)
+add-step false true x f r h i e = omega (arith, e)
+add-step false false x f r h i e = e
+
+-- over a whole list
+counts-add : (f h : Seat → Bool) (xs : List Seat) → AllByRecursion (λ s. f s ≡ true → h s ≡ true) xs → length (filter f xs) + length (filter (λ s. not (f s) && h s) xs) ≡ length (filter h xs)
+counts-add f h [] k = omega arith
+counts-add f h (x ∷ xs) k = add-step (f x) (h x) x (filter f xs) (filter (λ s. not (f s) && h s) xs) (filter h xs) k.0 (counts-add f h xs k.1)
+
+-- what passes a test is no more than there is
+filter-le : (f : Seat → Bool) (xs : List Seat) → length (filter f xs) ≤ length xs
+filter-le f [] = omega arith
+filter-le f (x ∷ xs) = let e : length (filter f xs) ≤ length xs = filter-le f xs in elim (f x) as (λ t. length (cond t (x ∷ filter f xs) (filter f xs)) ≤ suc (length xs)) [
+  | true ↦ omega (arith, e)
+  | false ↦ omega (arith, e)
+]
+
+-- if each seat passes an implication of two tests, the first test implies the second
+all-implied : (f h : Seat → Bool) (xs : List Seat) → list_all (λ s. not (f s) || h s) xs ≡ true → AllByRecursion (λ s. f s ≡ true → h s ≡ true) xs
+all-implied f h [] e = tt
+all-implied f h (x ∷ xs) e =
+    let parts = and_parts (not (f x) || h x) (list_all (λ s. not (f s) || h s) xs) e in
+    (or-leads (f x) (h x) parts.0, all-implied f h xs parts.1)
+
+module _ (g : Given) where
+  -- how many virtual bytes of the document begin before a place
+  abbrev before : Point → ℕ
+  before p = length (filter (λ s. stands_before s.point p) (virtual g.tab g.bytes))
+
+  -- a text has no more
+  abbrev IsCounted : Text → Type 0
+  IsCounted text = length text.seats ≤ before text.end
+
+  -- a range is pushed
+  pushed-counted : (text : Text) (from to : Point) → IsCounted text → denotes_same g.tab g.bytes from text.end ≡ true → is_upto g.tab g.bytes from to ≡ true → IsCounted (followed_by g text (pushed from to))
+  pushed-counted text from to h same upto =
+      let all = virtual g.tab g.bytes in
+      let at_end : before from ≡ before text.end =
+      ap length (filter-same (λ (s : Seat). stands_before s.point from) (λ (s : Seat). stands_before s.point text.end) all (same-before g.tab g.bytes from text.end same)) in
+      let sum : before from + length (filter (in_range from to) all) ≡ before to =
+      counts-add (λ s. stands_before s.point from) (λ s. stands_before s.point to) all (all-implied (λ s. stands_before s.point from) (λ s. stands_before s.point to) all upto) in
+      let whole : length (text.seats ++ filter (in_range from to) all) ≡ length text.seats + length (filter (in_range from to) all) = length-append text.seats (filter (in_range from to) all) in
+      omega (arith, h, at_end, sum, whole)
+
+  -- a gap is passed
+  further-counted : (text : Text) (p : Point) → IsCounted text → stands_before text.end p ≡ true → IsCounted (record text { end = p })
+  further-counted text p h later =
+      let all = virtual g.tab g.bytes in
+      let end = text.end in
+      let sum : before end + length (filter (λ s. not (stands_before s.point end) && stands_before s.point p) all) ≡ before p =
+      counts-add (λ s. stands_before s.point end) (λ s. stands_before s.point p) all
+      (every-all (λ s. stands_before s.point end ≡ true → stands_before s.point p ≡ true)
+      (λ s e. before-upto s.point.index s.point.vs end.index end.vs p.index p.vs e (after-before end.index end.vs p.index p.vs later)) all) in
+      omega (arith, h, sum)
+
+  passed-counted : (b : Bool) (text : Text) (p : Point) → IsCounted text → (b ≡ false → stands_before text.end p ≡ true) → IsCounted (cond b text (record text { end = p }))
+  passed-counted true text p h later = h
+  passed-counted false text p h later = further-counted text p h (later refl)
+
+  -- either is
+  piece-counted : (text : Text) (piece : Piece) → IsCounted text → FitsAfter g text piece → IsCounted (followed_by g text piece)
+  piece-counted text (pushed from to) h fits = pushed-counted text from to h fits.2 fits.3
+  piece-counted text (passed p) h fits =
+      passed-counted (denotes_same g.tab g.bytes p text.end) text p h
+      (elim fits.1 [ inl same ↦ λ not_same. absurd (let e : true ≡ false = sym same ∙ not_same in cc) | inr later ↦ λ not_same. later.2 ])
+
+  -- one after another
+  pieces-counted : (text : Text) (pieces : List Piece) → IsCounted text → CanFollow g text pieces → IsCounted (followed_by_all g text pieces)
+  pieces-counted text [] h fits = h
+  pieces-counted text (piece ∷ rest) h fits = pieces-counted (followed_by g text piece) rest (piece-counted text piece h fits.0) fits.1
+
+-- a document has at most so many virtual bytes for each byte as tab stops have columns
+cond-le : (b : Bool) (x y : List Seat) (n : ℕ) → length x ≤ n → length y ≤ n → length (cond b x y) ≤ n
+cond-le true x y n h i = h
+cond-le false x y n h i = i
+
+-- a tab has as many virtual bytes as it has columns
+tab-length : (b n l c i v : ℕ) → length (in_tab b n l c i v) ≡ n
+tab-length b zero l c i v = refl
+tab-length b (suc n) l c i v = ap suc (tab-length 32 n l (suc c) i (suc v))
+
+-- which is at most as many as tab stops stand apart
+narrow : (t n : ℕ) → t - n ≤ t
+narrow t n = omega arith
+
+-- and each other byte has at most one
+virtual-length : (t : ℕ) → 1 ≤ t → (bs : List ℕ) (l c i : ℕ) → length (virtual_from t l c i bs) ≤ t * length bs
+virtual-length t some [] l c i = omega arith
+virtual-length t some (b ∷ bs) l c i =
+    let m = t * length bs in
+    let all : t * suc (length bs) ≡ m + t = mul-suc t (length bs) in
+    let line : length (virtual_from t (suc l) 1 (suc i) bs) ≤ m = virtual-length t some bs (suc l) 1 (suc i) in
+    let pair : length (virtual_from t l c (suc i) bs) ≤ m = virtual-length t some bs l c (suc i) in
+    let other : length (virtual_from t l (suc c) (suc i) bs) ≤ m = virtual-length t some bs l (suc c) (suc i) in
+    let w = tab_width t c in
+    let stop : length (virtual_from t l (c + w) (suc i) bs) ≤ m = virtual-length t some bs l (c + w) (suc i) in
+    let width : w ≤ t = narrow t ((c - 1) % t) in
+    let tab : length (in_tab 9 w l c i 0 ++ virtual_from t l (c + w) (suc i) bs) ≡ length (in_tab 9 w l c i 0) + length (virtual_from t l (c + w) (suc i) bs) =
+    length-append (in_tab 9 w l c i 0) (virtual_from t l (c + w) (suc i) bs) in
+    let cells : length (in_tab 9 w l c i 0) ≡ w = tab-length 9 w l c i 0 in
+    subst (λ n. length (virtual_from t l c i (b ∷ bs)) ≤ n) (sym all)
+    (cond-le (b == 10) _ _ (m + t) (omega (arith, some, line))
+    (cond-le (b == 13) _ _ (m + t) (cond-le (begins_with_lf bs) _ _ (m + t) (omega (arith, some, pair)) (omega (arith, some, line)))
+    (cond-le (b == 9) _ _ (m + t) (omega (arith, stop, width, tab, cells)) (omega (arith, some, other)))))
+
+-- So the text of a tokenizer can be counted
+pub text-is-short : (g : Given) (text : Text) → IsText g text → length text.seats < 2 ^ 64
+text-is-short g text is =
+    let counted : length text.seats ≤ before g text.end =
+    subst (IsCounted g) (sym is.is) (pieces-counted g (empty_text text.start) is.pieces (omega arith) is.follow) in
+    let some : before g text.end ≤ length (virtual g.tab g.bytes) = filter-le (λ s. stands_before s.point text.end) (virtual g.tab g.bytes) in
+    let all : length (virtual g.tab g.bytes) ≤ g.tab * length g.bytes = virtual-length g.tab is.document.tab.0 g.bytes 1 1 0 in
+    let limit : g.tab * length g.bytes + 1 < 2 ^ 64 = is.document.limit in
+    omega (arith, counted, some, all, limit)
+
+-- and so can its runs of backticks
+pub runs-of-text : (g : Given) (text : Text) → IsText g text → RunsAreShort text
+runs-of-text g text is = runs-are-short text (text-is-short g text is)

@@ -1,0 +1,111 @@
+-- The inside of a code span, as the machine of texts reads it: up to the backtick string that closes it, or to the end.
+use Rattle.std.proofs.Common.{◌≡◌, ℕ, zero, suc, ◌+◌, ◌^◌, ◌<◌, ◌≤◌, ◌∷◌, ◌++◌, [], List, true, false, ◌==◌, refl, sym, ◌∙◌, ap, subst, Option, Some, None, arith, length, take, drop}
+use Rattle.std.proofs.lemmas.List.{append-nil, append_assoc, drop-drop}
+use Rattle.std.specs.List.{flat_map}
+use Rattle.markdown_base.specs.declared.event.Event.{Event}
+use Rattle.markdown_base.specs.declared.event.Name.TheVariants.{CodeTextData}
+use Rattle.markdown_base.specs.declared.state.State.TheVariants.{Retry, Nok}
+use Rattle.markdown_base.specs.declared.state.TheConstants.Name.{RawTextBetween}
+use Rattle.markdown_base.specs.Virtual.{Seat}
+use Rattle.markdown_tokenizer.specs.Text.{Given, Text}
+use Rattle.markdown_tokenizer.specs.Configuration.{Local, Choice}
+use Rattle.mdconstructs_machines.specs.Tables.{counts}
+use Rattle.mdconstructs_text.specs.Items.{is_backtick_or_line_feed, backticks, part_length}
+use Rattle.mdconstructs_text.specs.TextEvents.{bytes_of, part_events}
+use Rattle.mdconstructs_text.proofs.Texts.Cutting.{drop-less}
+use Rattle.mdconstructs_text.proofs.Texts.Steps.{EndsWith, Leads}
+use Rattle.mdconstructs_text.proofs.CodeSpans.Found.{first_run, further, passes-piece, first-here}
+use Rattle.mdconstructs_text.proofs.CodeSpans.FoundParts.{piece-positive}
+use Rattle.mdconstructs_text.proofs.CodeSpans.Steps.{shows}
+use Rattle.mdconstructs_text.proofs.CodeSpans.Calls.{in_code, size_b, between-end}
+use Rattle.mdconstructs_text.proofs.CodeSpans.Cuts.{cut_pieces, piece_of, cut-front}
+use Rattle.mdconstructs_text.proofs.CodeSpans.Parts.{drop-bytes, reads-piece}
+
+-- Runs of backticks can be counted: the sizes that the machine compares stop growing at the greatest number there is
+abbrev pub RunsAreShort : Text → Type 0
+RunsAreShort text = (q : ℕ) → backticks (bytes_of (drop q text.seats)) < 2 ^ 64
+
+module _ (g : Given) (text : Text) (k : ℕ) (cs : List Choice) where
+  -- From between two pieces: if a backtick string is found that closes the code span, the machine comes to it, with the events of the pieces before
+  -- it; if there is none, it comes to the end, and nothing that was there before is lost
+  abbrev pub Walks : (bound q : ℕ) (l : List Seat) (events : List Event) (local : Local Unit Unit) → Option ℕ → Type 0
+  Walks bound q l events local None =
+      (end : ℕ) × (added : List Event) × (after : Local Unit Unit)
+      × Leads g text (shows l in_code q events local) cs (Retry RawTextBetween) (shows [] in_code end (events ++ added) after) cs Nok
+  Walks bound q l events local (Some m) =
+      (after : Local Unit Unit) × (size_b after ≡ k)
+      × Leads g text (shows l in_code q events local) cs (Retry RawTextBetween)
+      (shows (drop m l) in_code (q + m) (events ++ flat_map (part_events g.bytes CodeTextData) (cut_pieces bound (take m l))) after) cs (Retry RawTextBetween)
+
+  -- at the end there is none
+  at-end : (bound q : ℕ) (events : List Event) (local : Local Unit Unit) → Walks bound q [] events local None
+  at-end bound q events local = (
+    q,
+    [],
+    counts local,
+    λ es h. between-end g text q events local cs es (subst (λ l. EndsWith g text (shows [] in_code q l (counts local)) cs Nok es) (append-nil events) h),
+  )
+
+  -- the backtick string is at the front
+  stays : (bound q : ℕ) (s : Seat) (ss : List Seat) (events : List Event) (local : Local Unit Unit) → size_b local ≡ k → Walks (suc bound) q (s ∷ ss) events local (Some 0)
+  stays bound q s ss events local size =
+      let here : q + 0 ≡ q = omega arith in (
+        local,
+        size,
+        λ es h.
+            subst (λ l. EndsWith g text (shows (s ∷ ss) in_code q l local) cs (Retry RawTextBetween) es) (append-nil events)
+            (subst (λ n. EndsWith g text (shows (s ∷ ss) in_code n (events ++ []) local) cs (Retry RawTextBetween) es) here h),
+      )
+
+  -- over a piece
+  goes-on : (bound q : ℕ) (s : Seat) (ss : List Seat) (events : List Event) (local mid : Local Unit Unit)
+      → let a = piece_of (s ∷ ss) in let n = part_length a in let passed = events ++ part_events g.bytes CodeTextData (a, take n (s ∷ ss)) in
+      Leads g text (shows (s ∷ ss) in_code q events local) cs (Retry RawTextBetween) (shows (drop n (s ∷ ss)) in_code (q + n) passed mid) cs (Retry RawTextBetween)
+      → (o : Option ℕ) → Walks bound (q + n) (drop n (s ∷ ss)) passed mid o → Walks (suc bound) q (s ∷ ss) events local (further n o)
+  goes-on bound q s ss events local mid piece None rest =
+      let made = part_events g.bytes CodeTextData (piece_of (s ∷ ss), take (part_length (piece_of (s ∷ ss))) (s ∷ ss)) in (
+        rest.0,
+        made ++ rest.1,
+        rest.2,
+        λ es h. piece es (rest.3 es (subst (λ l. EndsWith g text (shows [] in_code rest.0 l rest.2) cs Nok es) (sym (append_assoc events made rest.1)) h)),
+      )
+  goes-on bound q s ss events local mid piece (Some m) rest =
+      let l = s ∷ ss in
+      let n = part_length (piece_of l) in
+      let made = part_events g.bytes CodeTextData (piece_of l, take n l) in
+      let others = flat_map (part_events g.bytes CodeTextData) (cut_pieces bound (take m (drop n l))) in
+      let place : q + n + m ≡ q + (n + m) = omega arith in
+      let same : (events ++ made) ++ others ≡ events ++ flat_map (part_events g.bytes CodeTextData) (cut_pieces (suc bound) (take (n + m) l)) =
+      append_assoc events made others ∙ ap (λ c. events ++ flat_map (part_events g.bytes CodeTextData) c) (sym (cut-front bound m (n + m) s ss refl)) in (
+        rest.0,
+        rest.1,
+        λ es h.
+            piece es
+            (rest.2 es
+            (subst (λ c. EndsWith g text (shows c in_code (q + n + m) ((events ++ made) ++ others) rest.0) cs (Retry RawTextBetween) es) (sym (drop-drop m n l))
+            (subst (λ c. EndsWith g text (shows (drop (n + m) l) in_code c ((events ++ made) ++ others) rest.0) cs (Retry RawTextBetween) es) (sym place)
+            (subst (λ c. EndsWith g text (shows (drop (n + m) l) in_code (q + (n + m)) c rest.0) cs (Retry RawTextBetween) es) (sym same) h)))),
+      )
+
+  -- The walk, by the number of bytes that are left
+  pub walks : RunsAreShort text → 0 < k → (bound q : ℕ) (l : List Seat) (events : List Event) (local : Local Unit Unit) → size_b local ≡ k → length l ≤ bound → drop q text.seats ≡ l
+      → Walks bound q l events local (first_run k false (bytes_of l))
+  walks short some zero q [] events local size within at = at-end zero q events local
+  walks short some zero q (s ∷ ss) events local size within at = absurd (omega (arith, within))
+  walks short some (suc bound) q [] events local size within at = at-end (suc bound) q events local
+  walks short some (suc bound) q (s ∷ ss) events local size within at =
+      let l = s ∷ ss in
+      let n = part_length (piece_of l) in
+      elim (backticks (bytes_of l) == k) as (λ t. (backticks (bytes_of l) == k) ≡ t → Walks (suc bound) q l events local (first_run k false (bytes_of l))) [
+        | true ↦ λ e. subst (Walks (suc bound) q l events local) (sym (first-here k s.byte (bytes_of ss) e)) (stays bound q s ss events local size)
+        | false ↦ λ e.
+            let other : (backticks (bytes_of l) == size_b local) ≡ false = ap (λ b. backticks (bytes_of l) == b) size ∙ e in
+            let small : backticks (bytes_of l) < 2 ^ 64 = subst (λ c. backticks (bytes_of c) < 2 ^ 64) at (short q) in
+            let it = reads-piece g text q s ss events local cs at other small in
+            let passed = events ++ part_events g.bytes CodeTextData (piece_of l, take n l) in
+            let less : length (drop n l) ≤ length ss = drop-less n s ss (piece-positive is_backtick_or_line_feed s.byte (bytes_of ss)) in
+            let behind : drop (q + n) text.seats ≡ drop n l = sym (drop-drop n q text.seats) ∙ ap (drop n) at in
+            let rest = walks short some bound (q + n) (drop n l) passed it.0 (it.1 ∙ size) (omega (arith, less, within)) behind in
+            let found = passes-piece k some s.byte (bytes_of ss) e ∙ ap (λ b. further n (first_run k false b)) (drop-bytes n l) in
+            subst (Walks (suc bound) q l events local) (sym found) (goes-on bound q s ss events local it.0 it.2 (first_run k false (bytes_of (drop n l))) rest)
+      ] refl

@@ -1,0 +1,37 @@
+-- The table of texts and that of paragraphs refuse nothing, by the test of their rows.
+use Rattle.std.proofs.Common.{◌≡◌, [], Option, Some, None, refl}
+use Rattle.mdconstructs_tables.specs.Joined.{has_state}
+use Rattle.mdconstructs_tables.specs.Refusals.{refusing, RulesRefuseNothing}
+use Rattle.mdconstructs_tables.specs.Rows.{table_step}
+use Rattle.mdconstructs_tables.proofs.Tables.Refusals.{table-steps, refuse-nothing, either-step, nothing-found}
+use Rattle.mdconstructs_machines.specs.Tables.{LineByte}
+use Rattle.mdconstructs_machines.specs.Tables as lines
+use Rattle.mdconstructs_text.specs.TextCosts.{TextByte, line_feed, backtick, less, greater, backslash, colon, letter, digit, mark, punctuation, blank, other}
+use Rattle.mdconstructs_text.specs.TextTable.{texts}
+use Rattle.mdconstructs_text.specs.TextRules.{flow, text_rules}
+
+flow-none : (previous current : Option LineByte) → refusing flow previous current ≡ []
+flow-none previous None = refl
+flow-none previous (Some lines.line_ending) = refl
+flow-none previous (Some lines.other) = refl
+
+texts-none : (previous current : Option TextByte) → refusing texts previous current ≡ []
+texts-none previous None = refl
+texts-none previous (Some line_feed) = refl
+texts-none previous (Some backtick) = refl
+texts-none previous (Some less) = refl
+texts-none previous (Some greater) = refl
+texts-none previous (Some backslash) = refl
+texts-none previous (Some colon) = refl
+texts-none previous (Some letter) = refl
+texts-none previous (Some digit) = refl
+texts-none previous (Some mark) = refl
+texts-none previous (Some punctuation) = refl
+texts-none previous (Some blank) = refl
+texts-none previous (Some other) = refl
+
+pub text-refuses-nothing : RulesRefuseNothing text_rules
+text-refuses-nothing =
+    refuse-nothing text_rules
+    (λ g s k name. either-step (has_state flow.states name) (table_step flow g s k name) (table_step texts g s k name) (table-steps flow flow-none g s k name) (table-steps texts texts-none g s k name))
+    (λ g s k r m. nothing-found k m)

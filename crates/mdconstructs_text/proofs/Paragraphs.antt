@@ -1,0 +1,6 @@
+-- Paragraphs, and the chains of text in them.
+pub mod ChainEvents
+pub mod ChunkPairs
+pub mod ChunksReady
+pub mod Ready
+pub mod Steps

@@ -1,0 +1,90 @@
+-- The machine of texts reads each chain of text of a ready list as the items of its text.
+use Rattle.std.proofs.Common.{◌≡◌, ℕ, List, [], ◌∷◌, true, false, Option, Some, None, refl, sym, ◌∙◌, ap, subst}
+use Rattle.std.specs.Prelude.{filter, length, map, option_and_then}
+use Rattle.std.specs.List.{AllByRecursion, range_with_len}
+use Rattle.markdown_base.specs.declared.event.Content.{Content}
+use Rattle.markdown_base.specs.declared.event.Content.TheVariants.{Flow, String, Text as TextContent}
+use Rattle.markdown_base.specs.declared.event.Content.TheVariants as content
+use Rattle.markdown_base.specs.declared.event.Event.{Event}
+use Rattle.markdown_base.specs.declared.state.Name.{Name}
+use Rattle.markdown_base.specs.declared.state.State.TheVariants.{Next}
+use Rattle.markdown_base.specs.declared.state.TheConstants.Name.{TextStart}
+use Rattle.markdown_tokenizer.specs.declared.subtokenize.Subresult.{Subresult}
+use Rattle.markdown_tokenizer.specs.Text.{Given, Text, CanFollow, IsDocument, IsText, empty_text}
+use Rattle.markdown_tokenizer.specs.Configuration.{start_configuration}
+use Rattle.markdown_tokenizer.specs.Reading.{Reading, EndsIn}
+use Rattle.markdown_tokenizer.proofs.Runs.Working.{text-on}
+use Rattle.markdown_children.specs.Chains.{content_at, some_fits, chain_of, begins, fitting_starts}
+use Rattle.markdown_children.specs.Children.{with_children}
+use Rattle.markdown_children.specs.Ready.{IsReady, place_at}
+use Rattle.markdown_children.specs.Reads.{start_name, pieces_of, text_of_chain, Child, lists, IsRead, IsChild, AreChildren, IsSubtokenized}
+use Rattle.markdown_children.proofs.ChainOrder.Following.{filter-yes, filter-no, whole-from}
+use Rattle.markdown_children.proofs.ChainOrder.Forward.{begins-fits}
+use Rattle.markdown_children.proofs.ChildReads.Pieces.{chunks_can_be_read}
+use Rattle.mdconstructs_text.specs.ChainTexts.{chain_events, with_texts}
+use Rattle.mdconstructs_text.specs.TextRules.{text_rules}
+use Rattle.mdconstructs_text.proofs.Texts.Steps.{text_step}
+use Rattle.mdconstructs_text.proofs.Texts.Ends.{resolved-events, reading-events, reading-plain}
+
+-- what passes the filter of text is text
+pub is-text-content : (o : Option Content) → some_fits (Some TextContent) o ≡ true → o ≡ Some TextContent
+is-text-content None h = absurd (cc)
+is-text-content (Some Flow) h = absurd (cc)
+is-text-content (Some content.Content) h = absurd (cc)
+is-text-content (Some String) h = absurd (cc)
+is-text-content (Some TextContent) h = refl
+
+module _ (g : Given) (events : List Event) (document : IsDocument g) (ready : IsReady g.tab g.bytes (Some TextContent) events) where
+  abbrev wanted : Option Content
+  wanted = Some TextContent
+
+  abbrev text : ℕ → Text
+  text c = text_of_chain g events (chain_of events c)
+
+  abbrev Begins : ℕ → Type 0
+  Begins c = begins wanted events c ≡ true
+
+  -- the text of a chain is one
+  is-text : (c : ℕ) → Begins c → IsText g (text c)
+  is-text c b =
+      let fit = begins-fits g.tab g.bytes wanted events ready c b in
+      let whole = whole-from g.tab g.bytes wanted events ready c fit in
+      let place : IsText g (empty_text (place_at events c)) = record { document = document; starts = (ready.readable c fit).from.0; pieces = []; follow = tt; is = refl } in
+      let can = subst (λ ks. CanFollow g (empty_text (place_at events c)) (pieces_of events ks)) whole.1 (chunks_can_be_read g.tab g.bytes g.options wanted events ready c b) in
+      subst (λ ks. IsText g (text_of_chain g events ks)) (sym whole.1) (text-on g (empty_text (place_at events c)) (pieces_of events (c ∷ whole.0)) place can)
+
+  -- and it is read from the start of texts
+  starts-text : (c : ℕ) → Begins c → (start : Name) → option_and_then start_name (content_at events c) ≡ Some start → start ≡ TextStart
+  starts-text c b start e =
+      let fit = begins-fits g.tab g.bytes wanted events ready c b in
+      let at : content_at events c ≡ Some TextContent = is-text-content (content_at events c) fit in
+      let same : Some TextStart ≡ Some start = sym (ap (option_and_then start_name) at) ∙ e in cc
+
+  read-so : (c : ℕ) → Begins c → (r : Reading Unit Unit) → (read : IsRead g text_rules events c r) → EndsIn g (text_step g) (text c) 0 (start_configuration read.flag) [] (Next TextStart) r
+  read-so c b r read = subst (λ (name : Name). EndsIn g (text_step g) (text c) 0 (start_configuration read.flag) [] (Next name) r) (starts-text c b read.start read.starts) read.ends
+
+  child-events : (c : ℕ) (child : Child) → Begins c → IsChild g text_rules events c child → child.events ≡ chain_events g events c
+  child-events c child b h =
+      let is = is-text c b in
+      let ends = read-so c b h.result h.read in
+      let plain = reading-plain g (text c) is h.read.flag h.result ends in
+      h.left ∙ resolved-events g (text c) h.result.configuration plain h.final child.found h.resolved ∙ reading-events g (text c) is h.read.flag h.result ends
+
+  -- all of them
+  all-begin : (ks : List ℕ) → AllByRecursion Begins (filter (begins wanted events) ks)
+  all-begin [] = tt
+  all-begin (k ∷ ks) =
+      elim (begins wanted events k) as (λ b. begins wanted events k ≡ b → AllByRecursion Begins (filter (begins wanted events) (k ∷ ks))) [
+        | true ↦ λ e. subst (AllByRecursion Begins) (sym (filter-yes (begins wanted events) k ks e)) (e, all-begin ks)
+        | false ↦ λ e. subst (AllByRecursion Begins) (sym (filter-no (begins wanted events) k ks e)) (all-begin ks)
+      ] refl
+
+  children-events : (cs : List ℕ) (children : List Child) → AllByRecursion Begins cs → AreChildren g text_rules events cs children → lists children ≡ map (chain_events g events) cs
+  children-events [] [] begin h = refl
+  children-events [] (child ∷ children) begin h = absurd h
+  children-events (c ∷ cs) [] begin h = absurd h
+  children-events (c ∷ cs) (child ∷ children) begin h = λ j. child-events c child begin.0 h.0 j ∷ children-events cs children begin.1 h.1 j
+
+  pub texts-of-chains : (new : List Event) (sub : Subresult) → IsSubtokenized g text_rules wanted events new sub → new ≡ with_texts g events
+  texts-of-chains new sub h =
+      h.events ∙ ap (with_children wanted events) (children-events (fitting_starts wanted events) h.children (all-begin (range_with_len 0 (length events))) h.read)

@@ -1,0 +1,224 @@
+-- Lists of events in which chunks of text are linked one after another: what is between two that are linked, and that this is kept if
+-- events are added and chunks are linked.
+use Rattle.std.specs.List.{AllByRecursion}
+use Rattle.std.proofs.Common.{◌≡◌, ℕ, zero, suc, ◌+◌, ◌<◌, ◌==◌, List, [], ◌∷◌, ◌++◌, true, false, Option, Some, None, length, ◌⊎◌, inl, inr, refl, sym, ap, ◌∙◌, subst, arith, length-append}
+use Rattle.std.specs.Prelude.{is_some, slice_get, option_map, option_and_then, unwrap_or}
+use Rattle.std.proofs.lemmas.Bool.Decides.{nat_tests}
+use Rattle.std.proofs.lemmas.Option.{slice_get_within}
+use Rattle.markdown_base.specs.declared.event.Content.TheVariants.{Text}
+use Rattle.markdown_base.specs.declared.event.Event.{Event}
+use Rattle.markdown_base.specs.declared.event.Kind.TheVariants.{Enter, Exit}
+use Rattle.markdown_base.specs.declared.event.Link.{Link}
+use Rattle.markdown_base.specs.declared.event.Point.{Point}
+use Rattle.markdown_base.specs.Places.{IsPointOf}
+use Rattle.markdown_base.specs.Virtual.{point}
+use Rattle.markdown_edits.specs.Links.{IsLinkedEnter, content_of, updated_at, next_set, previous_set, with_next, with_previous, linked_to, next_of}
+use Rattle.markdown_edits.proofs.LinkEnds.{updated-length}
+use Rattle.markdown_children.specs.Ready.{place_at}
+use Rattle.mdconstructs_tables.specs.LinkShapes.{next_end}
+use Rattle.mdconstructs_tables.proofs.LinkShapes.{next-more, next-other, next-kept}
+
+-- Lists with one more event
+pub front-get : (xs : List Event) (e : Event) (i : ℕ) → i < length xs → slice_get (xs ++ e ∷ []) i ≡ slice_get xs i
+front-get [] e i h = absurd (omega (arith, h))
+front-get (x ∷ xs) e zero h = refl
+front-get (x ∷ xs) e (suc i) h = front-get xs e i (omega (arith, h))
+
+pub last-get : (xs : List Event) (e : Event) (i : ℕ) → i ≡ length xs → slice_get (xs ++ e ∷ []) i ≡ Some e
+last-get [] e zero h = refl
+last-get [] e (suc i) h = absurd (omega (arith, h))
+last-get (x ∷ xs) e zero h = absurd (omega (arith, h))
+last-get (x ∷ xs) e (suc i) h = last-get xs e i (omega (arith, h))
+
+abbrev point_or_first : Option Event → Point
+point_or_first o = unwrap_or (option_map (λ (e : Event). e.point) o) (point 1 1 0 0)
+
+pub place-at-event : (xs : List Event) (i : ℕ) (e : Event) → slice_get xs i ≡ Some e → place_at xs i ≡ e.point
+place-at-event xs i e is = ap point_or_first is
+
+pub front-place : (xs : List Event) (e : Event) (i : ℕ) → i < length xs → place_at (xs ++ e ∷ []) i ≡ place_at xs i
+front-place xs e i h = ap point_or_first (front-get xs e i h)
+
+pub last-place : (xs : List Event) (e : Event) (i : ℕ) → i ≡ length xs → place_at (xs ++ e ∷ []) i ≡ e.point
+last-place xs e i h = ap point_or_first (last-get xs e i h)
+
+pub one-longer : (xs : List Event) (e : Event) → length (xs ++ e ∷ []) ≡ length xs + 1
+one-longer xs e = length-append xs (e ∷ [])
+
+all-more : (P : Event → Type 0) (xs : List Event) (e : Event) → AllByRecursion P xs → P e → AllByRecursion P (xs ++ e ∷ [])
+all-more P [] e h p = (p, tt)
+all-more P (x ∷ xs) e h p = (h.0, all-more P xs e h.1 p)
+
+-- Lists with one event changed
+updated-place : (i : ℕ) (f : Event → Event) (xs : List Event) (j : ℕ) → ((x : Event) → (f x).point ≡ x.point) → place_at (updated_at i f xs) j ≡ place_at xs j
+updated-place i f [] j same = refl
+updated-place zero f (x ∷ xs) zero same = same x
+updated-place zero f (x ∷ xs) (suc j) same = refl
+updated-place (suc i) f (x ∷ xs) zero same = refl
+updated-place (suc i) f (x ∷ xs) (suc j) same = updated-place i f xs j same
+
+updated-same : (p : ℕ) (f : Event → Event) (xs : List Event) (i : ℕ) (m : Event) → slice_get xs i ≡ Some m → f m ≡ m → slice_get (updated_at p f xs) i ≡ Some m
+updated-same p f [] i m is same = is
+updated-same zero f (x ∷ xs) zero m is same = let e : x ≡ m = cc in ap (λ (y : Event). Some (f y)) e ∙ ap (λ (y : Event). Some y) same
+updated-same zero f (x ∷ xs) (suc i) m is same = is
+updated-same (suc p) f (x ∷ xs) zero m is same = is
+updated-same (suc p) f (x ∷ xs) (suc i) m is same = updated-same p f xs i m is same
+
+all-updated : (P : Event → Type 0) (p : ℕ) (f : Event → Event) (xs : List Event) → ((x : Event) → P x → P (f x)) → AllByRecursion P xs → AllByRecursion P (updated_at p f xs)
+all-updated P p f [] keeps h = h
+all-updated P zero f (x ∷ xs) keeps h = (keeps x h.0, h.1)
+all-updated P (suc p) f (x ∷ xs) keeps h = (h.0, all-updated P p f xs keeps h.1)
+
+-- an event that was linked leads on to where it was linked
+set-next : (n d : ℕ) (o : Option Link) → option_and_then (λ (l : Link). l.next) (option_map (next_set n) o) ≡ Some d → d ≡ n
+set-next n d None is = absurd (cc)
+set-next n d (Some l) is = cc
+
+next-is : (p n d : ℕ) (xs : List Event) → next_of (updated_at p (with_next n) xs) p ≡ Some d → d ≡ n
+next-is p n d [] is = absurd (cc)
+next-is zero n d (x ∷ xs) is = set-next n d x.link is
+next-is (suc p) n d (x ∷ xs) is = next-is p n d xs is
+
+-- The event begins a chunk of text
+pub record IsChunkStart (e : Event) : Type 0 where
+  pub linked : IsLinkedEnter e
+  pub text : content_of e ≡ Some Text
+
+-- A span that is in no chain stands at an index, with nothing in it
+pub record IsMark (es : List Event) (i : ℕ) : Type 0 where
+  pub enter : Event
+  pub exit : Event
+  pub enter_at : slice_get es i ≡ Some enter
+  pub exit_at : slice_get es (i + 1) ≡ Some exit
+  pub enters : enter.kind ≡ Enter
+  pub exits : exit.kind ≡ Exit
+  pub same : exit.name ≡ enter.name
+  pub enter_alone : enter.link ≡ None
+  pub exit_alone : exit.link ≡ None
+
+-- the event at d follows the chunk at k: directly, where that ends; or behind a mark that begins a line and does not end it
+abbrev pub FollowsChunk : List Event → (k d : ℕ) → Type 0
+FollowsChunk es k d = ((d ≡ k + 2) × (place_at es d ≡ place_at es (k + 1)))
+    ⊎ ((d ≡ k + 4) × IsMark es (k + 2) × ((place_at es (k + 1)).column ≡ 1) × ((place_at es d).line ≡ (place_at es (k + 1)).line))
+
+-- The chunk at k leads on to the one at d
+pub record IsPair (es : List Event) (k d : ℕ) : Type 0 where
+  pub within : d < length es
+  pub follows : FollowsChunk es k d
+
+-- where its two events stand there too, it stands in another list
+mark-kept : (es fs : List Event) (i : ℕ) (h : IsMark es i) → slice_get fs i ≡ Some h.enter → slice_get fs (i + 1) ≡ Some h.exit → IsMark fs i
+mark-kept es fs i h enter exit = record {
+  enter = h.enter;
+  exit = h.exit;
+  enter_at = enter;
+  exit_at = exit;
+  enters = h.enters;
+  exits = h.exits;
+  same = h.same;
+  enter_alone = h.enter_alone;
+  exit_alone = h.exit_alone;
+}
+
+pub mark-more : (es : List Event) (e : Event) (i : ℕ) → IsMark es i → IsMark (es ++ e ∷ []) i
+mark-more es e i h =
+    let last = slice_get_within es (i + 1) h.exit h.exit_at in
+    mark-kept es (es ++ e ∷ []) i h (front-get es e i (omega (arith, last)) ∙ h.enter_at) (front-get es e (i + 1) last ∙ h.exit_at)
+
+mark-updated : (p : ℕ) (f : Event → Event) (es : List Event) (i : ℕ) → ((x : Event) → x.link ≡ None → f x ≡ x) → IsMark es i → IsMark (updated_at p f es) i
+mark-updated p f es i alone h =
+    mark-kept es (updated_at p f es) i h (updated-same p f es i h.enter h.enter_at (alone h.enter h.enter_alone)) (updated-same p f es (i + 1) h.exit h.exit_at (alone h.exit h.exit_alone))
+
+-- of an event in no chain no link end is set
+alone-next : (n : ℕ) (x : Event) → x.link ≡ None → with_next n x ≡ x
+alone-next n x h = ap (λ (o : Option Link). record x { link = option_map (next_set n) o }) h ∙ ap (λ (o : Option Link). record x { link = o }) (sym h)
+
+alone-previous : (n : ℕ) (x : Event) → x.link ≡ None → with_previous n x ≡ x
+alone-previous n x h = ap (λ (o : Option Link). record x { link = option_map (previous_set n) o }) h ∙ ap (λ (o : Option Link). record x { link = o }) (sym h)
+
+pair-more : (es : List Event) (e : Event) (k d : ℕ) → IsPair es k d → IsPair (es ++ e ∷ []) k d
+pair-more es e k d h =
+    let within = h.within in
+    let longer = one-longer es e in
+    record {
+      within = omega (arith, within, longer);
+      follows = elim h.follows [
+        | inl next ↦ let at = next.0 in inl (at, front-place es e d within ∙ next.1 ∙ sym (front-place es e (k + 1) (omega (arith, at, within))))
+        | inr behind ↦
+            let at = behind.0 in
+            let exit = front-place es e (k + 1) (omega (arith, at, within)) in
+            inr (at, mark-more es e (k + 2) behind.1, ap (λ (q : Point). q.column) exit ∙ behind.2, ap (λ (q : Point). q.line) (front-place es e d within) ∙ behind.3 ∙ ap (λ (q : Point). q.line) (sym exit))
+      ];
+    }
+
+module _ (b n : ℕ) (es : List Event) where
+  linked-place : (j : ℕ) → place_at (linked_to b n es) j ≡ place_at es j
+  linked-place j = updated-place n (with_previous b) (updated_at b (with_next n) es) j (λ x. refl) ∙ updated-place b (with_next n) es j (λ x. refl)
+
+  pub linked-length : length (linked_to b n es) ≡ length es
+  linked-length = updated-length n (with_previous b) (updated_at b (with_next n) es) ∙ updated-length b (with_next n) es
+
+  linked-mark : (i : ℕ) → IsMark es i → IsMark (linked_to b n es) i
+  linked-mark i h = mark-updated n (with_previous b) (updated_at b (with_next n) es) i (alone-previous b) (mark-updated b (with_next n) es i (alone-next n) h)
+
+  pair-linked : (k d : ℕ) → IsPair es k d → IsPair (linked_to b n es) k d
+  pair-linked k d h = record {
+    within = subst (λ m. d < m) (sym linked-length) h.within;
+    follows = elim h.follows [
+      | inl next ↦ inl (next.0, linked-place d ∙ next.1 ∙ sym (linked-place (k + 1)))
+      | inr behind ↦ inr (
+        behind.0,
+        linked-mark (k + 2) behind.1,
+        ap (λ (q : Point). q.column) (linked-place (k + 1)) ∙ behind.2,
+        ap (λ (q : Point). q.line) (linked-place d) ∙ behind.3 ∙ ap (λ (q : Point). q.line) (sym (linked-place (k + 1))),
+      )
+    ];
+  }
+
+module _ (t : ℕ) (bytes : List ℕ) where
+  -- an event is in no chain, or begins a chunk of text; and it stands at a place of the document
+  abbrev pub IsPlaced : Event → Type 0
+  IsPlaced e = ((e.link ≡ None) ⊎ IsChunkStart e) × IsPointOf t bytes e.point
+
+  -- Each event is so, and of two chunks that are linked the one follows the other
+  pub record AreChunks (es : List Event) : Type 0 where
+    pub each : AllByRecursion IsPlaced es
+    pub pairs : (k d : ℕ) → next_of es k ≡ Some d → IsPair es k d
+
+  pub no-chunks : AreChunks []
+  no-chunks = record { each = tt; pairs = λ k d is. absurd (cc) }
+
+  pub chunks-more : (es : List Event) (e : Event) → IsPlaced e → next_end e ≡ None → AreChunks es → AreChunks (es ++ e ∷ [])
+  chunks-more es e placed ends h = record {
+    each = all-more IsPlaced es e h.each placed;
+    pairs = λ k d is. pair-more es e k d (h.pairs k d (sym (next-more es e k ends) ∙ is));
+  }
+
+  begins-still : (f : Link → Link) (x : Event) (o : Option Link) → ((l : Link) → (f l).content ≡ l.content) → x.link ≡ o → IsChunkStart x → IsChunkStart (record x { link = option_map f x.link })
+  begins-still f x None same e chunk = let none : is_some {T = Link} None ≡ true = ap is_some (sym e) ∙ chunk.linked.linked in absurd (cc)
+  begins-still f x (Some l) same e chunk = record {
+    linked = record { enter = chunk.linked.enter; void = chunk.linked.void; linked = rw e refl };
+    text = ap (λ (o : Option Link). option_map (λ (l : Link). l.content) (option_map f o)) e ∙ ap Some (same l) ∙ ap (option_map (λ (l : Link). l.content)) (sym e) ∙ chunk.text;
+  }
+
+  -- so it is where a link end is set
+  linked-placed : (f : Link → Link) → ((l : Link) → (f l).content ≡ l.content) → (x : Event) → IsPlaced x → IsPlaced (record x { link = option_map f x.link })
+  linked-placed f same x h = (elim h.0 [ inl alone ↦ inl (ap (option_map f) alone) | inr chunk ↦ inr (begins-still f x x.link same refl chunk) ], h.1)
+
+  -- two chunks are linked of which the one follows the other
+  pub chunks-linked : (es : List Event) (b n : ℕ) → IsPair es b n → AreChunks es → AreChunks (linked_to b n es)
+  chunks-linked es b n pair h = record {
+    each = all-updated IsPlaced n (with_previous b) (updated_at b (with_next n) es) (linked-placed (previous_set b) (λ l. refl)) (all-updated IsPlaced b (with_next n) es (linked-placed (next_set n) (λ l. refl)) h.each);
+    pairs = λ k d is.
+        let first : next_of (updated_at b (with_next n) es) k ≡ Some d = sym (next-kept n b k (updated_at b (with_next n) es)) ∙ is in
+        pair-linked b n es k d
+        (elim (k == b) as (λ c. (k == b) ≡ c → IsPair es k d) [
+          | true ↦ λ e.
+              let same : k ≡ b = grind (arith, nat_tests) in
+              let there : d ≡ n = next-is b n d es (subst (λ i. next_of (updated_at b (with_next n) es) i ≡ Some d) same first) in
+              subst (λ i. IsPair es i d) (sym same) (subst (IsPair es b) (sym there) pair)
+          | false ↦ λ e.
+              let apart : k ≡ b → ⊥ = λ f. let yes : (k == b) ≡ true = grind (arith, nat_tests) in let no : true ≡ false = sym yes ∙ e in absurd (cc) in
+              h.pairs k d (sym (next-other b k (with_next n) es apart) ∙ first)
+        ] refl);
+  }

@@ -1,0 +1,67 @@
+-- A backslash: a backslash escape is read if one is there, and data if not.
+use Rattle.std.proofs.Common.{◌≡◌, ℕ, ◌+◌, ◌∷◌, ◌++◌, [], List, Bool, true, false, cond, refl, sym, ◌∙◌, ap, subst, Some, None, arith, drop, slice_get, ◌&&◌, ◌==◌}
+use Rattle.std.proofs.lemmas.Option.{slice_get_within}
+use Rattle.std.specs.Char.{is_ascii_punctuation}
+use Rattle.markdown_base.proofs.Common.{drop-next}
+use Rattle.markdown_base.specs.declared.event.Event.{Event}
+use Rattle.markdown_base.specs.declared.state.State.TheVariants.{Next}
+use Rattle.markdown_base.specs.declared.state.TheConstants.Name.{TextBefore}
+use Rattle.markdown_base.specs.Virtual.{Seat}
+use Rattle.markdown_tokenizer.specs.declared.waiting.Waits.TheVariants.{Nothing}
+use Rattle.markdown_tokenizer.specs.Text.{Given, Text}
+use Rattle.markdown_tokenizer.specs.Configuration.{Local}
+use Rattle.mdconstructs_text.specs.Items.{escape, has_byte_at, item_at, escape_at, if_on, or_else, is_backslash}
+use Rattle.mdconstructs_text.specs.TextEvents.{bytes_of, item_events}
+use Rattle.mdconstructs_text.proofs.Texts.Steps.{EndsWith, between_items}
+use Rattle.mdconstructs_text.proofs.Texts.LineEndings.{Adds, at-front}
+use Rattle.mdconstructs_text.proofs.Escapes.Readings.{NoneEscaped, tries-escape}
+use Rattle.mdconstructs_text.proofs.Plain.Stretches.{get-drop}
+use Rattle.mdconstructs_text.proofs.Plain.Items.{plain_of, Tried, backslash-at, from-tried, from-untried-escape}
+
+-- nothing is at a position if nothing is left
+nothing-at : (xs : List Seat) (p : ℕ) → drop p xs ≡ [] → slice_get xs p ≡ None
+nothing-at xs p h = let same : p ≡ p + 0 = omega arith in ap (slice_get xs) same ∙ sym (get-drop xs p 0) ∙ ap (λ l. slice_get l 0) h
+
+module _ (g : Given) (text : Text) where
+  -- no byte that may be escaped is at the end
+  none-at-end : (p : ℕ) → slice_get text.seats p ≡ None → NoneEscaped g text p
+  none-at-end p h value at = absurd (cc)
+
+  -- nor is one there if another byte is
+  none-at : (p : ℕ) (v : Seat) → slice_get text.seats p ≡ Some v → is_ascii_punctuation v.byte ≡ false → NoneEscaped g text p
+  none-at p v h other value at = let same : v ≡ value = cc in subst (λ (s : Seat). is_ascii_punctuation s.byte ≡ false) same other
+
+  -- At a backslash, with the construct on, an escape is read, or what was tried leaves nothing
+  pub tries-backslash : (p : ℕ) (ended : Bool) (events : List Event) (local : Local Unit Unit) (s : Seat) (ss : List Seat) → drop p text.seats ≡ s ∷ ss → s.byte ≡ 92
+      → g.options.constructs.character_escape ≡ true → Tried g text p ended events local (s ∷ ss) (escape_at (bytes_of (s ∷ ss)))
+  tries-backslash p ended events local s [] here is on =
+      let backslash : has_byte_at (bytes_of (s ∷ [])) 0 is_backslash ≡ true = ap (λ b. b == 92) is in
+      subst (λ b. Tried g text p ended events local (s ∷ []) (cond (b && false) (Some escape) None)) (sym backslash)
+      ((tries-escape g text p ended events local s (at-front text.seats p s [] here) is on).1 (none-at-end (p + 1) (nothing-at text.seats (p + 1) (drop-next text.seats p s [] here))))
+  tries-backslash p ended events local s (v ∷ vs) here is on =
+      let backslash : has_byte_at (bytes_of (s ∷ v ∷ vs)) 0 is_backslash ≡ true = ap (λ b. b == 92) is in
+      let at = at-front text.seats (p + 1) v vs (drop-next text.seats p s (v ∷ vs) here) in
+      let tried = tries-escape g text p ended events local s (at-front text.seats p s (v ∷ vs) here) is on in
+      subst (λ b. Tried g text p ended events local (s ∷ v ∷ vs) (cond (b && is_ascii_punctuation v.byte) (Some escape) None)) (sym backslash)
+      (elim (is_ascii_punctuation v.byte) as (λ b. is_ascii_punctuation v.byte ≡ b → Tried g text p ended events local (s ∷ v ∷ vs) (cond b (Some escape) None)) [
+        | true ↦ λ punctuation.
+            let taken = tried.0 v at (slice_get_within text.seats (p + 1) v at) punctuation in
+            let further : p + 1 + 1 ≡ p + 2 = omega arith in (
+              false,
+              taken.0,
+              λ es h. taken.1 es (subst (λ n. EndsWith g text (between_items n Nothing false (events ++ item_events g.bytes (escape, s ∷ v ∷ [])) taken.0) [] (Next TextBefore) es) (sym further) h),
+            )
+        | false ↦ λ other. tried.1 (none-at (p + 1) v at other)
+      ] refl)
+
+  -- a backslash is read, with the events of its item
+  pub adds-backslash : (p : ℕ) (ended : Bool) (events : List Event) (local : Local Unit Unit) (s : Seat) (ss : List Seat) → drop p text.seats ≡ s ∷ ss → s.byte ≡ 92
+      → Adds g text p ended events local (s ∷ ss) (item_at g.options.constructs (bytes_of (s ∷ ss)))
+  adds-backslash p ended events local s ss here is =
+      let on = g.options.constructs.character_escape in
+      let o = escape_at (bytes_of (s ∷ ss)) in
+      subst (Adds g text p ended events local (s ∷ ss)) (sym (backslash-at g.options.constructs s.byte (bytes_of ss) is))
+      (elim on as (λ t. on ≡ t → Adds g text p ended events local (s ∷ ss) (or_else (if_on t o) (plain_of (s ∷ ss)))) [
+        | true ↦ λ h. from-tried g text p ended events local s ss here o (tries-backslash p ended events local s ss here is h)
+        | false ↦ λ h. from-untried-escape g text p ended events local s ss here is h
+      ] refl)

@@ -1,0 +1,194 @@
+-- Plain data, as the machine of texts reads it: a backtick string or one byte, and all up to the next byte at which another item may begin.
+use Rattle.std.proofs.Common.{◌≡◌, ℕ, suc, ◌+◌, ◌<◌, ◌≤◌, ◌∷◌, ◌++◌, [], List, Bool, true, false, cond, refl, sym, ◌∙◌, ap, subst, Some, arith, length, take, drop, max, nat_lt, slice_get, not, ◌-◌, add_assoc}
+use Rattle.std.proofs.lemmas.Bool.{not-true}
+use Rattle.std.proofs.lemmas.List.{append_assoc, drop-drop, drop-map, length-drop, length-map}
+use Rattle.std.proofs.lemmas.List.Sums.{prefix_len-le-length}
+use Rattle.std.proofs.lemmas.Option.{slice_get_within}
+use Rattle.std.specs.List.{prefix_len}
+use Rattle.markdown_base.specs.declared.event.Event.{Event}
+use Rattle.markdown_base.specs.declared.event.Kind.TheVariants.{Enter, Exit}
+use Rattle.markdown_base.specs.declared.event.Name.TheVariants.{Data}
+use Rattle.markdown_base.specs.declared.state.State.TheVariants.{Next, Retry}
+use Rattle.markdown_base.specs.declared.state.TheConstants.Name.{TextBefore, TextBeforeData, DataAtBreak, DataInside}
+use Rattle.markdown_base.specs.Virtual.{Seat}
+use Rattle.markdown_tokenizer.specs.declared.waiting.Waits.TheVariants.{Nothing, Byte}
+use Rattle.markdown_tokenizer.specs.Text.{Given, Text}
+use Rattle.markdown_tokenizer.specs.Configuration.{Configuration, Local, Choice}
+use Rattle.markdown_tokenizer.specs.Sight.{byte_of, point_or, end_place}
+use Rattle.mdconstructs_tables.specs.Rows.{row, enter, consume, class_of}
+use Rattle.mdconstructs_machines.specs.Tables.{counts}
+use Rattle.mdconstructs_text.specs.Items.{is_special, is_backtick, backticks, passes, plain_length}
+use Rattle.mdconstructs_text.specs.TextCosts.{text_byte}
+use Rattle.mdconstructs_text.specs.TextEvents.{bytes_of, event, leaf}
+use Rattle.mdconstructs_text.specs.TextTable.{text_before_data_rows, data_at_break_rows, data_inside_rows}
+use Rattle.mdconstructs_text.proofs.Texts.Steps.{EndsWith, Leads, between_items, leads-called, leads-fed, fed-is, before_class, waiting_class, WithRows}
+use Rattle.mdconstructs_text.proofs.Texts.LineEndings.{at-front}
+use Rattle.mdconstructs_text.proofs.Plain.Classes.{begins-class, tick-begins, tick-class, tick-ends, inside-class, data-ends}
+use Rattle.mdconstructs_text.proofs.Plain.Stretches.{run-ends, leaf-read, in_spans, at_byte, seen, leads-unfed, ReadsByte, reads-run}
+
+-- a byte at which no other item may begin
+abbrev pub is_plain : ℕ → Bool
+is_plain b = not (is_special b)
+
+module _ (g : Given) (text : Text) where
+  -- in data
+  abbrev in_data : ℕ → Bool → List Event → Local Unit Unit → Configuration Unit Unit
+  in_data p ended events local = in_spans (Data ∷ []) p ended events local
+
+  -- a backtick of the backtick string that begins data
+  reads-tick : ReadsByte g text (Data ∷ []) DataAtBreak is_backtick
+  reads-tick p ended events local cs s at is es h =
+      let rows : data_at_break_rows (before_class g text p) (waiting_class g text p) ≡ row (consume ∷ []) (Next DataAtBreak) =
+      ap (λ o. data_at_break_rows (before_class g text p) (class_of text_byte (byte_of o))) at ∙ tick-class (before_class g text p) s.byte is in
+      leads-called g text (at_byte (Data ∷ []) p ended events local) cs DataAtBreak es
+      (subst (WithRows g text (at_byte (Data ∷ []) p ended events (counts local)) cs es) (sym rows) h)
+
+  -- a byte of data
+  reads-plain : ReadsByte g text (Data ∷ []) DataInside is_plain
+  reads-plain p ended events local cs s at is es h =
+      let rows : data_inside_rows (before_class g text p) (waiting_class g text p) ≡ row (consume ∷ []) (Next DataInside) =
+      ap (λ o. data_inside_rows (before_class g text p) (class_of text_byte (byte_of o))) at ∙ inside-class (before_class g text p) s.byte (not-true (is_special s.byte) is) in
+      leads-called g text (at_byte (Data ∷ []) p ended events local) cs DataInside es
+      (subst (WithRows g text (at_byte (Data ∷ []) p ended events (counts local)) cs es) (sym rows) h)
+
+  -- behind the backtick string one goes on in data
+  break-seen : (b : Bool) (p : ℕ) (ended : Bool) (events : List Event) (local : Local Unit Unit) (cs : List Choice) → passes is_backtick (byte_of (slice_get text.seats p)) ≡ false
+      → Leads g text (seen b (in_data p ended events local)) cs (Retry DataAtBreak) (seen b (in_data p ended events (counts local))) cs (Retry DataInside)
+  break-seen true p ended events local cs none es h =
+      leads-called g text (at_byte (Data ∷ []) p ended events local) cs DataAtBreak es
+      (subst (WithRows g text (at_byte (Data ∷ []) p ended events (counts local)) cs es) (sym (tick-ends (before_class g text p) (byte_of (slice_get text.seats p)) none)) h)
+  break-seen false p ended events local cs none es h = leads-called g text (seen false (in_data p ended events local)) cs DataAtBreak es h
+
+  -- as one comes to it
+  break-ends : (p : ℕ) (ended : Bool) (events : List Event) (local : Local Unit Unit) (cs : List Choice) → passes is_backtick (byte_of (slice_get text.seats p)) ≡ false
+      → Leads g text (in_data p ended events local) cs (Next DataAtBreak) (in_data p ended events (counts local)) cs (Next DataInside)
+  break-ends p ended events local cs none es h =
+      leads-fed g text (in_data p ended events local) cs DataAtBreak es
+      (break-seen (nat_lt p (length text.seats)) p ended events local cs none es (leads-unfed g text (in_data p ended events (counts local)) cs DataInside es h))
+
+  -- data ends at the end of the byte before
+  abbrev exited_data : List Event → ℕ → List Event
+  exited_data events p = events ++ event g.bytes Exit Data (end_place text p) ∷ []
+
+  -- once the byte, or the end, waits
+  data-seen : (b : Bool) (p : ℕ) (ended : Bool) (events : List Event) (local : Local Unit Unit) → passes is_plain (byte_of (slice_get text.seats p)) ≡ false
+      → Leads g text (seen b (in_data p ended events local)) [] (Retry DataInside) (seen b (between_items p Nothing ended (exited_data events p) (counts local))) [] (Retry TextBefore)
+  data-seen true p ended events local none es h =
+      leads-called g text (at_byte (Data ∷ []) p ended events local) [] DataInside es
+      (subst (WithRows g text (at_byte (Data ∷ []) p ended events (counts local)) [] es) (sym (data-ends (before_class g text p) (byte_of (slice_get text.seats p)) none)) h)
+  data-seen false p ended events local none es h = leads-called g text (seen false (in_data p ended events local)) [] DataInside es h
+
+  -- as one comes to it
+  data-left : (p : ℕ) (ended : Bool) (events : List Event) (local : Local Unit Unit) → passes is_plain (byte_of (slice_get text.seats p)) ≡ false
+      → Leads g text (in_data p ended events local) [] (Next DataInside) (between_items p Nothing ended (exited_data events p) (counts local)) [] (Next TextBefore)
+  data-left p ended events local none es h =
+      leads-fed g text (in_data p ended events local) [] DataInside es
+      (data-seen (nat_lt p (length text.seats)) p ended events local none es (leads-unfed g text (between_items p Nothing ended (exited_data events p) (counts local)) [] TextBefore es h))
+
+  -- All of it, from the first byte that is not special
+  data-read : (l : List Seat) (p : ℕ) (ended : Bool) (events : List Event) (local : Local Unit Unit) → drop p text.seats ≡ l
+      → (ended_after : Bool) × (after : Local Unit Unit)
+      × Leads g text (in_data p ended events local) [] (Next DataInside)
+      (between_items (p + prefix_len is_plain (bytes_of l)) Nothing ended_after (exited_data events (p + prefix_len is_plain (bytes_of l))) after) [] (Next TextBefore)
+  data-read l p ended events local here =
+      let n = prefix_len is_plain (bytes_of l) in
+      let ran = reads-run g text (Data ∷ []) DataInside is_plain reads-plain l p ended events local [] here in
+      (ran.0, counts ran.1, λ es h. ran.2 es (data-left (p + n) ran.0 events ran.1 (run-ends is_plain text.seats l p here) es h))
+
+  -- data begins at the byte that waits
+  abbrev entered_data : List Event → ℕ → List Event
+  entered_data events p = events ++ event g.bytes Enter Data (point_or text.end (slice_get text.seats p)) ∷ []
+
+  -- how much that is
+  abbrev first_of_data : List Seat → ℕ
+  first_of_data seats = max 1 (backticks (bytes_of seats))
+
+  -- its backtick string, or its first byte, was read
+  abbrev HasBegun : (p : ℕ) → Bool → List Event → Local Unit Unit → (n : ℕ) → Type 0
+  HasBegun p ended events local n =
+      (ended_after : Bool) × (after : Local Unit Unit)
+      × Leads g text (between_items p Byte ended events local) [] (Retry TextBeforeData) (in_data (p + n) ended_after (entered_data events p) after) [] (Next DataInside)
+
+  -- at another byte
+  begins-other : (p : ℕ) (ended : Bool) (events : List Event) (local : Local Unit Unit) (s : Seat) → slice_get text.seats p ≡ Some s → is_backtick s.byte ≡ false
+      → HasBegun p ended events local 1
+  begins-other p ended events local s at other =
+      let rows : text_before_data_rows (before_class g text p) (waiting_class g text p) ≡ row (enter Data ∷ consume ∷ []) (Next DataInside) =
+      ap (λ o. text_before_data_rows (before_class g text p) (class_of text_byte (byte_of o))) at ∙ begins-class (before_class g text p) s.byte other in (
+        false,
+        counts local,
+        λ es h.
+            leads-called g text (between_items p Byte ended events local) [] TextBeforeData es
+            (subst (WithRows g text (between_items p Byte ended events (counts local)) [] es) (sym rows) h),
+      )
+
+  -- at a backtick
+  begins-ticks : (p : ℕ) (ended : Bool) (events : List Event) (local : Local Unit Unit) (s : Seat) (ss : List Seat) → drop p text.seats ≡ s ∷ ss → is_backtick s.byte ≡ true
+      → HasBegun p ended events local (backticks (bytes_of (s ∷ ss)))
+  begins-ticks p ended events local s ss here is =
+      let at = at-front text.seats p s ss here in
+      let rows : text_before_data_rows (before_class g text p) (waiting_class g text p) ≡ row (enter Data ∷ []) (Retry DataAtBreak) =
+      ap (λ o. text_before_data_rows (before_class g text p) (class_of text_byte (byte_of o))) at ∙ tick-begins (before_class g text p) s.byte is in
+      let ran = reads-run g text (Data ∷ []) DataAtBreak is_backtick reads-tick (s ∷ ss) p ended (entered_data events p) (counts local) [] here in (
+        ran.0,
+        counts ran.1,
+        λ es h.
+            leads-called g text (between_items p Byte ended events local) [] TextBeforeData es
+            (subst (WithRows g text (between_items p Byte ended events (counts local)) [] es) (sym rows)
+            (subst (λ k. EndsWith g text k [] (Retry DataAtBreak) es) (fed-is g text p ended (entered_data events p) (Data ∷ []) (counts local) (slice_get_within text.seats p s at))
+            (leads-unfed g text (in_data p ended (entered_data events p) (counts local)) [] DataAtBreak es
+            (ran.2 es (break-ends (p + backticks (bytes_of (s ∷ ss))) ran.0 (entered_data events p) ran.1 [] (run-ends is_backtick text.seats (s ∷ ss) p here) es h))))),
+      )
+
+  -- how much of it that is
+  first-is : (s : Seat) (ss : List Seat) (b : Bool) → is_backtick s.byte ≡ b → first_of_data (s ∷ ss) ≡ cond b (backticks (bytes_of (s ∷ ss))) 1
+  first-is s ss true is =
+      let r = backticks (bytes_of ss) in
+      let one : max 1 (1 + r) ≡ 1 + r = omega arith in
+      ap (λ t. max 1 (cond t (1 + r) 0)) is ∙ one ∙ sym (ap (λ t. cond t (1 + r) 0) is)
+  first-is s ss false other = ap (λ t. max 1 (cond t (1 + backticks (bytes_of ss)) 0)) other
+
+  -- at either
+  data-begun : (p : ℕ) (ended : Bool) (events : List Event) (local : Local Unit Unit) (s : Seat) (ss : List Seat) → drop p text.seats ≡ s ∷ ss → HasBegun p ended events local (first_of_data (s ∷ ss))
+  data-begun p ended events local s ss here = elim (is_backtick s.byte) as (λ b. is_backtick s.byte ≡ b → HasBegun p ended events local (first_of_data (s ∷ ss))) [
+    | true ↦ λ is. subst (HasBegun p ended events local) (sym (first-is s ss true is)) (begins-ticks p ended events local s ss here is)
+    | false ↦ λ other. subst (HasBegun p ended events local) (sym (first-is s ss false other)) (begins-other p ended events local s (at-front text.seats p s ss here) other)
+  ] refl
+
+  -- as much as there is
+  data-within : (s : Seat) (ss : List Seat) → (0 < plain_length is_special (bytes_of (s ∷ ss))) × (plain_length is_special (bytes_of (s ∷ ss)) ≤ suc (length ss))
+  data-within s ss =
+      let bytes = bytes_of (s ∷ ss) in
+      let n = first_of_data (s ∷ ss) in
+      let ticks : backticks bytes ≤ length bytes = prefix_len-le-length is_backtick bytes in
+      let rest : prefix_len is_plain (drop n bytes) ≤ length (drop n bytes) = prefix_len-le-length is_plain (drop n bytes) in
+      let left : length (drop n bytes) ≡ length bytes - n = length-drop n bytes in
+      let size : length bytes ≡ suc (length ss) = length-map (s ∷ ss) (λ x. x.byte) in
+      let first : (1 ≤ n) × (n ≤ length bytes) = ((omega arith), (omega (arith, ticks, size))) in
+      ((omega (arith, first.0)), (omega (arith, first.0, first.1, rest, left, size)))
+
+  -- Plain data is read, with its events, and one goes on behind it
+  pub adds-plain : (p : ℕ) (ended : Bool) (events : List Event) (local : Local Unit Unit) (s : Seat) (ss : List Seat) → drop p text.seats ≡ s ∷ ss
+      → let n = plain_length is_special (bytes_of (s ∷ ss)) in
+      (ended_after : Bool) × (after : Local Unit Unit)
+      × Leads g text (between_items p Byte ended events local) [] (Retry TextBeforeData)
+      (between_items (p + n) Nothing ended_after (events ++ leaf g.bytes Data (take n (s ∷ ss))) after) [] (Next TextBefore)
+  adds-plain p ended events local s ss here =
+      let n = first_of_data (s ∷ ss) in
+      let whole = plain_length is_special (bytes_of (s ∷ ss)) in
+      let l = drop n (s ∷ ss) in
+      let behind : drop (p + n) text.seats ≡ l = sym (drop-drop n p text.seats) ∙ ap (drop n) here in
+      let begun = data-begun p ended events local s ss here in
+      let rest = data-read l (p + n) begun.0 (entered_data events p) begun.1 behind in
+      let total : p + n + prefix_len is_plain (bytes_of l) ≡ p + whole = add_assoc p n (prefix_len is_plain (bytes_of l)) ∙ ap (λ xs. p + (n + prefix_len is_plain xs)) (sym (drop-map (λ (x : Seat). x.byte) n (s ∷ ss))) in
+      let within = data-within s ss in
+      let same : exited_data (entered_data events p) (p + whole) ≡ events ++ leaf g.bytes Data (take whole (s ∷ ss)) =
+      append_assoc events _ _ ∙ ap (λ es. events ++ es) (leaf-read text g.bytes Data whole p s ss here within.0 within.1) in (
+        rest.0,
+        rest.1,
+        λ es h.
+            begun.2 es
+            (rest.2 es
+            (subst (λ q. EndsWith g text (between_items q Nothing rest.0 (exited_data (entered_data events p) q) rest.1) [] (Next TextBefore) es) (sym total)
+            (subst (λ l. EndsWith g text (between_items (p + whole) Nothing rest.0 l rest.1) [] (Next TextBefore) es) (sym same) h))),
+      )

@@ -1,0 +1,188 @@
+-- Plain data as an item: if no construct is there, data is read with its events.
+use Rattle.std.proofs.Common.{◌≡◌, ℕ, ◌+◌, ◌∷◌, ◌++◌, [], List, Bool, true, false, cond, refl, sym, ◌∙◌, ap, subst, Option, Some, None, length, take, drop, slice_get, option_map, ◌-◌, ◌==◌, ◌&&◌, ◌||◌}
+use Rattle.std.specs.Char.{is_ascii_punctuation}
+use Rattle.std.proofs.lemmas.Option.{slice_get_within}
+use Rattle.markdown_base.specs.declared.configuration.Constructs.{Constructs}
+use Rattle.markdown_base.specs.declared.event.Event.{Event}
+use Rattle.markdown_base.specs.declared.state.Name.{Name}
+use Rattle.markdown_base.specs.declared.state.State.TheVariants.{Next, Retry}
+use Rattle.markdown_base.specs.declared.state.TheConstants.Name.{TextBefore, TextBeforeData, RawTextStart, AutolinkStart, CharacterEscapeStart}
+use Rattle.markdown_base.specs.Virtual.{Seat}
+use Rattle.markdown_tokenizer.specs.declared.waiting.Waits.TheVariants.{Nothing, Byte}
+use Rattle.markdown_tokenizer.specs.declared.waiting.AttemptKind.TheVariants.{Attempt}
+use Rattle.markdown_tokenizer.specs.Text.{Given, Text}
+use Rattle.markdown_tokenizer.specs.Configuration.{Configuration, Local, Choice}
+use Rattle.markdown_tokenizer.specs.Sight.{Sight, sight, byte_of}
+use Rattle.mdconstructs_tables.specs.Rows.{Row, row, choose, class_of, step_of}
+use Rattle.mdconstructs_machines.specs.Tables.{counts}
+use Rattle.mdconstructs_text.specs.Items.{Item, line_ending, plain_run, code_span, escape, part, item_length, item_at, passes, is_special, backticks, closing, plain_length, uri, autolink_to, code_span_at, autolink_at, escape_at, if_on, or_else}
+use Rattle.mdconstructs_text.specs.TextCosts.{text_byte}
+use Rattle.mdconstructs_text.specs.TextEvents.{bytes_of, item_events}
+use Rattle.mdconstructs_text.specs.TextTable.{text_before_rows, tries, spans_code, links_by_itself, escapes}
+use Rattle.mdconstructs_text.proofs.Texts.Steps.{EndsWith, Leads, between_items, leads-called, leads-fed, fed-is, before_class, waiting_class, WithRows}
+use Rattle.mdconstructs_text.proofs.Texts.LineEndings.{Adds, at-front, nowhere}
+use Rattle.mdconstructs_text.proofs.Plain.Classes.{plain-class}
+use Rattle.mdconstructs_text.proofs.Plain.Data.{adds-plain}
+
+-- plain data, as much as there is
+abbrev pub plain_of : List Seat → Item
+plain_of seats = part (plain_run (plain_length is_special (bytes_of seats)))
+
+-- the row that tries a construct
+abbrev pub trying : Name → Row Unit Unit
+trying name = record { acts = choose Attempt (Next TextBefore) (Next TextBeforeData) ∷ []; answer = Retry name }
+
+-- the row if the construct is off
+abbrev pub untried : Row Unit Unit
+untried = record { acts = []; answer = Retry TextBeforeData }
+
+-- the choice that is made then: if the construct is not there, all is put back
+abbrev pub outer : ℕ → Bool → List Event → Choice
+outer p ended events = record { kind = Attempt; ok = Next TextBefore; nok = Next TextBeforeData; saved = Some (record { position = p; ended = ended; events = length events; stack = [] }) }
+
+-- the item at a byte that may begin one construct
+pub tick-at : (on : Constructs) (b : ℕ) (bs : List ℕ) → b ≡ 96 → item_at on (b ∷ bs) ≡ or_else (if_on on.code_text (code_span_at (b ∷ bs))) (part (plain_run (plain_length is_special (b ∷ bs))))
+tick-at on b bs is =
+    subst (λ c. item_at on (c ∷ bs) ≡ or_else (if_on on.code_text (code_span_at (c ∷ bs))) (part (plain_run (plain_length is_special (c ∷ bs))))) (sym is)
+    (ap (or_else (if_on on.code_text (code_span_at (96 ∷ bs)))) (nowhere on.autolink _ ∙ nowhere on.character_escape _))
+
+-- at `<`
+pub less-at : (on : Constructs) (b : ℕ) (bs : List ℕ) → b ≡ 60 → item_at on (b ∷ bs) ≡ or_else (if_on on.autolink (autolink_at (b ∷ bs))) (part (plain_run (plain_length is_special (b ∷ bs))))
+less-at on b bs is =
+    subst (λ c. item_at on (c ∷ bs) ≡ or_else (if_on on.autolink (autolink_at (c ∷ bs))) (part (plain_run (plain_length is_special (c ∷ bs))))) (sym is)
+    (nowhere on.code_text _ ∙ ap (or_else (if_on on.autolink (autolink_at (60 ∷ bs)))) (nowhere on.character_escape _))
+
+-- at a backslash
+pub backslash-at : (on : Constructs) (b : ℕ) (bs : List ℕ) → b ≡ 92 → item_at on (b ∷ bs) ≡ or_else (if_on on.character_escape (escape_at (b ∷ bs))) (part (plain_run (plain_length is_special (b ∷ bs))))
+backslash-at on b bs is =
+    subst (λ c. item_at on (c ∷ bs) ≡ or_else (if_on on.character_escape (escape_at (c ∷ bs))) (part (plain_run (plain_length is_special (c ∷ bs))))) (sym is)
+    (nowhere on.code_text _ ∙ nowhere on.autolink _)
+
+-- and at the others
+four : (a b c d : Bool) → ((a || b) || (c || d)) ≡ false → (a ≡ false) × (b ≡ false) × (c ≡ false) × (d ≡ false)
+four true b c d h = absurd (cc)
+four false true c d h = absurd (cc)
+four false false true d h = absurd (cc)
+four false false false true h = absurd (cc)
+four false false false false h = (refl, refl, refl, refl)
+
+-- it is plain data
+pub plain-at : (on : Constructs) (b : ℕ) (bs : List ℕ) → is_special b ≡ false → item_at on (b ∷ bs) ≡ part (plain_run (plain_length is_special (b ∷ bs)))
+plain-at on b bs h =
+    let none = four (b == 10) (b == 96) (b == 60) (b == 92) h in
+    let code = λ (t : Bool). cond t (option_map (λ p. code_span (backticks (b ∷ bs)) (p - backticks (b ∷ bs))) (closing (b ∷ bs) (backticks (b ∷ bs)))) None in
+    let link = λ (t : Bool). cond t (autolink_to (b ∷ bs) (uri bs)) None in
+    let escaped = λ (t : Bool). cond (t && passes is_ascii_punctuation (slice_get (b ∷ bs) 1)) (Some escape) None in
+    let end = λ (t : Bool). part (cond t line_ending (plain_run (plain_length is_special (b ∷ bs)))) in
+    ap (λ t. or_else (if_on on.code_text (code t)) (or_else (if_on on.autolink (link (b == 60))) (or_else (if_on on.character_escape (escaped (b == 92))) (end (b == 10))))) none.1
+    ∙ nowhere on.code_text _
+    ∙ ap (λ t. or_else (if_on on.autolink (link t)) (or_else (if_on on.character_escape (escaped (b == 92))) (end (b == 10)))) none.2
+    ∙ nowhere on.autolink _
+    ∙ ap (λ t. or_else (if_on on.character_escape (escaped t)) (end (b == 10))) none.3
+    ∙ nowhere on.character_escape _
+    ∙ ap end none.0
+
+module _ (g : Given) (text : Text) where
+  -- what is read with this row
+  abbrev pub WithRow : Configuration Unit Unit → List Choice → List Event → Row Unit Unit → Type 0
+  WithRow k cs es r = let q = step_of r (sight g text k) k in EndsWith g text q.configuration (q.choices ++ cs) q.answer es
+
+  -- A construct was tried at a byte: if it is there, it was read, with its events; if not, data comes at the byte,
+  -- and what was tried left nothing
+  abbrev pub Tried : (p : ℕ) (ended : Bool) (events : List Event) (local : Local Unit Unit) → List Seat → Option Item → Type 0
+  Tried p ended events local seats None =
+      (after : Local Unit Unit) × Leads g text (between_items p Byte ended events local) [] (Retry TextBefore) (between_items p Nothing ended events after) [] (Next TextBeforeData)
+  Tried p ended events local seats (Some item) =
+      (ended_after : Bool) × (after : Local Unit Unit)
+      × Leads g text (between_items p Byte ended events local) [] (Retry TextBefore)
+      (between_items (p + item_length item) Nothing ended_after (events ++ item_events g.bytes (item, take (item_length item) seats)) after) [] (Next TextBefore)
+
+  -- an item that was read from the byte that waits on
+  from-byte : (p : ℕ) (ended : Bool) (events : List Event) (local : Local Unit Unit) (s : Seat) (seats : List Seat) (item : Item) → slice_get text.seats p ≡ Some s
+      → (ended_after : Bool) → (after : Local Unit Unit)
+      → Leads g text (between_items p Byte ended events local) [] (Retry TextBefore)
+      (between_items (p + item_length item) Nothing ended_after (events ++ item_events g.bytes (item, take (item_length item) seats)) after) [] (Next TextBefore)
+      → Adds g text p ended events local seats item
+  from-byte p ended events local s seats item at ended_after after leads = (
+    ended_after,
+    after,
+    λ es h.
+        leads-fed g text (between_items p Nothing ended events local) [] TextBefore es
+        (subst (λ k. EndsWith g text k [] (Retry TextBefore) es) (sym (fed-is g text p ended events [] local (slice_get_within text.seats p s at))) (leads es h)),
+  )
+
+  -- data that one comes to
+  from-data : (p : ℕ) (ended : Bool) (events : List Event) (local : Local Unit Unit) (s : Seat) (ss : List Seat) → drop p text.seats ≡ s ∷ ss → (between : Local Unit Unit)
+      → Leads g text (between_items p Byte ended events local) [] (Retry TextBefore) (between_items p Byte ended events between) [] (Retry TextBeforeData)
+      → Adds g text p ended events local (s ∷ ss) (plain_of (s ∷ ss))
+  from-data p ended events local s ss here between comes =
+      let read = adds-plain g text p ended events between s ss here in
+      from-byte p ended events local s (s ∷ ss) (plain_of (s ∷ ss)) (at-front text.seats p s ss here) read.0 read.1 (λ es h. comes es (read.2 es h))
+
+  -- a construct that was tried is read, or data is
+  pub from-tried : (p : ℕ) (ended : Bool) (events : List Event) (local : Local Unit Unit) (s : Seat) (ss : List Seat) → drop p text.seats ≡ s ∷ ss → (o : Option Item)
+      → Tried p ended events local (s ∷ ss) o → Adds g text p ended events local (s ∷ ss) (or_else o (plain_of (s ∷ ss)))
+  from-tried p ended events local s ss here (Some item) taken = from-byte p ended events local s (s ∷ ss) item (at-front text.seats p s ss here) taken.0 taken.1 taken.2
+  from-tried p ended events local s ss here None refused =
+      let below = slice_get_within text.seats p s (at-front text.seats p s ss here) in
+      from-data p ended events local s ss here refused.0
+      (λ es h.
+      refused.1 es
+      (leads-fed g text (between_items p Nothing ended events refused.0) [] TextBeforeData es
+      (subst (λ k. EndsWith g text k [] (Retry TextBeforeData) es) (sym (fed-is g text p ended events [] refused.0 below)) h)))
+
+  -- a byte at which no other item may begin
+  pub from-plain : (p : ℕ) (ended : Bool) (events : List Event) (local : Local Unit Unit) (s : Seat) (ss : List Seat) → drop p text.seats ≡ s ∷ ss → is_special s.byte ≡ false
+      → Adds g text p ended events local (s ∷ ss) (plain_of (s ∷ ss))
+  from-plain p ended events local s ss here ordinary =
+      let rows : text_before_rows (before_class g text p) (waiting_class g text p) ≡ row [] (Retry TextBeforeData) =
+      ap (λ o. text_before_rows (before_class g text p) (class_of text_byte (byte_of o))) (at-front text.seats p s ss here) ∙ plain-class (before_class g text p) s.byte ordinary in
+      from-data p ended events local s ss here (counts local)
+      (λ es h.
+      leads-called g text (between_items p Byte ended events local) [] TextBefore es
+      (subst (WithRows g text (between_items p Byte ended events (counts local)) [] es) (sym rows) h))
+
+  -- the rows at a byte that may begin a construct
+  pub byte-rows : (p b : ℕ) (s : Seat) → slice_get text.seats p ≡ Some s → s.byte ≡ b → text_before_rows (before_class g text p) (waiting_class g text p) ≡ text_before_rows (before_class g text p) (Some (text_byte b))
+  byte-rows p b s at is =
+      ap (λ o. text_before_rows (before_class g text p) (class_of text_byte (byte_of o))) at ∙ ap (λ c. text_before_rows (before_class g text p) (Some (text_byte c))) is
+
+  -- if that construct is on, it is tried
+  pub leads-tried : (test : Given → Sight → Configuration Unit Unit → Bool) (name : Name) (p : ℕ) (ended : Bool) (events : List Event) (local : Local Unit Unit)
+      → text_before_rows (before_class g text p) (waiting_class g text p) ≡ tries test name
+      → (let k = between_items p Byte ended events (counts local) in test g (sight g text k) k ≡ true)
+      → Leads g text (between_items p Byte ended events local) [] (Retry TextBefore) (between_items p Byte ended events (counts local)) (outer p ended events ∷ []) (Retry name)
+  leads-tried test name p ended events local rows on es h =
+      leads-called g text (between_items p Byte ended events local) [] TextBefore es
+      (subst (WithRows g text (between_items p Byte ended events (counts local)) [] es) (sym rows)
+      (subst (λ b. WithRow (between_items p Byte ended events (counts local)) [] es (cond b (trying name) untried)) (sym on) h))
+
+  -- if that construct is off, data is read
+  untried-data : (test : Given → Sight → Configuration Unit Unit → Bool) (name : Name) (p : ℕ) (ended : Bool) (events : List Event) (local : Local Unit Unit) (s : Seat) (ss : List Seat)
+      → drop p text.seats ≡ s ∷ ss → text_before_rows (before_class g text p) (waiting_class g text p) ≡ tries test name
+      → (let k = between_items p Byte ended events (counts local) in test g (sight g text k) k ≡ false)
+      → Adds g text p ended events local (s ∷ ss) (plain_of (s ∷ ss))
+  untried-data test name p ended events local s ss here rows off =
+      from-data p ended events local s ss here (counts local)
+      (λ es h.
+      leads-called g text (between_items p Byte ended events local) [] TextBefore es
+      (subst (WithRows g text (between_items p Byte ended events (counts local)) [] es) (sym rows)
+      (subst (λ b. WithRow (between_items p Byte ended events (counts local)) [] es (cond b (trying name) untried)) (sym off) h)))
+
+  -- code spans
+  pub from-untried-code : (p : ℕ) (ended : Bool) (events : List Event) (local : Local Unit Unit) (s : Seat) (ss : List Seat) → drop p text.seats ≡ s ∷ ss → s.byte ≡ 96
+      → g.options.constructs.code_text ≡ false → Adds g text p ended events local (s ∷ ss) (plain_of (s ∷ ss))
+  from-untried-code p ended events local s ss here is off =
+      untried-data spans_code RawTextStart p ended events local s ss here (byte-rows p 96 s (at-front text.seats p s ss here) is) off
+
+  -- autolinks
+  pub from-untried-link : (p : ℕ) (ended : Bool) (events : List Event) (local : Local Unit Unit) (s : Seat) (ss : List Seat) → drop p text.seats ≡ s ∷ ss → s.byte ≡ 60
+      → g.options.constructs.autolink ≡ false → Adds g text p ended events local (s ∷ ss) (plain_of (s ∷ ss))
+  from-untried-link p ended events local s ss here is off =
+      untried-data links_by_itself AutolinkStart p ended events local s ss here (byte-rows p 60 s (at-front text.seats p s ss here) is) off
+
+  -- escapes
+  pub from-untried-escape : (p : ℕ) (ended : Bool) (events : List Event) (local : Local Unit Unit) (s : Seat) (ss : List Seat) → drop p text.seats ≡ s ∷ ss → s.byte ≡ 92
+      → g.options.constructs.character_escape ≡ false → Adds g text p ended events local (s ∷ ss) (plain_of (s ∷ ss))
+  from-untried-escape p ended events local s ss here is off =
+      untried-data escapes CharacterEscapeStart p ended events local s ss here (byte-rows p 92 s (at-front text.seats p s ss here) is) off

@@ -1,0 +1,31 @@
+-- Cutting a text into items: the bound of the cut does not matter.
+use Rattle.std.proofs.Common.{◌≡◌, ℕ, zero, suc, ◌<◌, ◌≤◌, ◌∷◌, [], List, refl, ap, arith, length, take, drop}
+use Rattle.markdown_base.specs.Virtual.{Seat}
+use Rattle.mdconstructs_text.specs.TextEvents.{bytes_of, cut}
+
+-- each part is at least a byte
+abbrev IsPositive : {A : Type 0} → (List ℕ → A) → (A → ℕ) → Type 0
+IsPositive front size = (b : ℕ) (bs : List ℕ) → 0 < size (front (b ∷ bs))
+
+pub drop-shorter : {X : Type 0} (n : ℕ) (xs : List X) → length (drop n xs) ≤ length xs
+drop-shorter zero xs = omega arith
+drop-shorter (suc n) [] = omega arith
+drop-shorter (suc n) (x ∷ xs) = let h : length (drop n xs) ≤ length xs = drop-shorter n xs in omega (arith, h)
+
+pub drop-less : {X : Type 0} (n : ℕ) (x : X) (xs : List X) → 0 < n → length (drop n (x ∷ xs)) ≤ length xs
+drop-less zero x xs h = absurd (omega (arith, h))
+drop-less (suc n) x xs h = drop-shorter n xs
+
+-- a larger bound cuts alike
+pub cut-enough : {A : Type 0} (front : List ℕ → A) (size : A → ℕ) → IsPositive front size → (b c : ℕ) (seats : List Seat) → length seats ≤ b → length seats ≤ c
+    → cut front size b seats ≡ cut front size c seats
+cut-enough front size positive zero zero seats h i = refl
+cut-enough front size positive zero (suc c) [] h i = refl
+cut-enough front size positive zero (suc c) (s ∷ ss) h i = absurd (omega (arith, h))
+cut-enough front size positive (suc b) zero [] h i = refl
+cut-enough front size positive (suc b) zero (s ∷ ss) h i = absurd (omega (arith, i))
+cut-enough front size positive (suc b) (suc c) [] h i = refl
+cut-enough front size positive (suc b) (suc c) (s ∷ ss) h i =
+    let n = size (front (bytes_of (s ∷ ss))) in
+    let less : length (drop n (s ∷ ss)) ≤ length ss = drop-less n s ss (positive s.byte (bytes_of ss)) in
+    ap (λ l. (front (bytes_of (s ∷ ss)), take n (s ∷ ss)) ∷ l) (cut-enough front size positive b c (drop n (s ∷ ss)) (omega (arith, less, h)) (omega (arith, less, i)))

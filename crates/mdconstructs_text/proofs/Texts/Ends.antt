@@ -1,0 +1,71 @@
+-- What reading a text ends in: the events of its items, with nothing left to resolve.
+use Rattle.std.proofs.Common.{◌≡◌, List, [], Bool, true, Some, sym, ◌∙◌, ap, arith}
+use Rattle.std.specs.Prelude.{Contains}
+use Rattle.markdown_base.specs.declared.state.State.{State}
+use Rattle.markdown_base.specs.declared.state.State.TheVariants.{Next, Ok}
+use Rattle.markdown_base.specs.declared.state.TheConstants.Name.{TextStart}
+use Rattle.markdown_tokenizer.specs.declared.subtokenize.Subresult.{Subresult}
+use Rattle.markdown_tokenizer.specs.Text.{Given, Text, IsText}
+use Rattle.markdown_tokenizer.specs.Configuration.{Configuration, Choice, start_configuration}
+use Rattle.markdown_tokenizer.specs.Plain.{IsPlain}
+use Rattle.markdown_tokenizer.specs.Reading.{Reading, EndsIn}
+use Rattle.markdown_tokenizer.specs.Resolving.{done, resolved_by, taken, found, edits_made, resolving, IsResolved}
+use Rattle.markdown_tokenizer.specs.Calls.{with_resolvers}
+use Rattle.markdown_edits.specs.Edited.{edited}
+use Rattle.markdown_tokenizer.proofs.Readings.Plain.{edited-same}
+use Rattle.markdown_tokenizer.proofs.Readings.Bounds.{one-end}
+use Rattle.mdconstructs_tables.proofs.KeptByReading.{IsKept, kept-well, holds-at-start}
+use Rattle.mdconstructs_text.specs.TextEvents.{text_events}
+use Rattle.mdconstructs_text.specs.TextRules.{inline_rules, text_rules}
+use Rattle.mdconstructs_text.specs.Laws.Rules.{texts-apart, inline-kept}
+use Rattle.mdconstructs_text.proofs.Texts.FromStart.{from-start}
+use Rattle.mdconstructs_text.proofs.CodeSpans.Short.{runs-of-text}
+use Rattle.mdconstructs_text.proofs.Texts.Steps.{text_step}
+use Rattle.mdconstructs_text.proofs.Texts.Items.{adds-each-item}
+
+-- from a state of texts the machine keeps what texts keep, as none of their states goes on with one of paragraphs
+module _ (g : Given) (text : Text) (is : IsText g text) where
+  abbrev InTexts : Configuration Unit Unit → List Choice → State → Type 0
+  InTexts k cs s = (inline_rules g).holds text k cs s
+
+  in-texts-kept : IsKept g (text_step g) text InTexts
+  in-texts-kept =
+      let law = inline-kept g in
+      record {
+        by_feeding = λ k cs name h. law.by_feeding text k cs name is h;
+        by_calls = λ k cs name h. let e = (texts-apart g).second_called text k cs name h in rw e (law.by_calls text k cs name is h);
+        by_ok = λ k c cs h. law.by_ok text k c cs is h;
+        by_nok = λ k c cs h. law.by_nok text k c cs is h;
+      }
+
+-- a configuration with nothing to resolve
+module _ (g : Given) (text : Text) (k : Configuration Unit Unit) (plain : IsPlain k) where
+  resolving-is : resolving (text_rules g).resolver g text k ≡ done (edits_made (with_resolvers (taken k) [])) (Some (found k))
+  resolving-is = ap (λ (rs : List Unit). resolved_by (text_rules g).resolver g text rs (with_resolvers (taken k) []) (found k)) plain.0
+
+  pub resolved-events : (new : Configuration Unit Unit) (sub : Subresult) → IsResolved (text_rules g).resolver g text true k new sub → new.events ≡ k.events
+  resolved-events new sub is =
+      let e : done (edits_made (with_resolvers (taken k) [])) (Some (found k)) ≡ done new (Some sub) = sym resolving-is ∙ is in
+      let same : edits_made (with_resolvers (taken k) []) ≡ new = cc in
+      sym (ap (λ (q : Configuration Unit Unit). q.events) same) ∙ ap (λ es. edited es k.events) plain.1 ∙ edited-same k.events plain.2
+
+module _ (g : Given) (text : Text) (is : IsText g text) (flag : Bool) where
+  starts-so : Contains (inline_rules g).starts TextStart
+  starts-so = (0, omega arith, (cc))
+
+  module _ (r : Reading Unit Unit) (ends : EndsIn g (text_step g) text 0 (start_configuration flag) [] (Next TextStart) r) where
+    there-same : let there = from-start g text flag (adds-each-item g text is (runs-of-text g text is)) 0 in r ≡ there.0
+    there-same =
+        let there = from-start g text flag (adds-each-item g text is (runs-of-text g text is)) 0 in one-end g (text_step g) text 0 (start_configuration flag) [] (Next TextStart) r there.0 ends there.1.0
+
+    -- it ends well
+    pub reading-well : r.answer ≡ Ok
+    reading-well = let there = from-start g text flag (adds-each-item g text is (runs-of-text g text is)) 0 in ap (λ (q : Reading Unit Unit). q.answer) there-same ∙ there.1.1
+
+    -- with these events
+    pub reading-events : r.configuration.events ≡ text_events g text
+    reading-events =
+        let there = from-start g text flag (adds-each-item g text is (runs-of-text g text is)) 0 in ap (λ (q : Reading Unit Unit). q.configuration.events) there-same ∙ there.1.2
+
+    pub reading-plain : IsPlain r.configuration
+    reading-plain = (kept-well g (text_step g) text (InTexts g text is) (in-texts-kept g text is) 0 (start_configuration flag) (Next TextStart) r (holds-at-start g (inline_rules g) (inline-kept g) text is flag TextStart starts-so) ends reading-well).0

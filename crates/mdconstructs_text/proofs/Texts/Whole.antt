@@ -1,0 +1,77 @@
+-- The main induction: if each item is read with its events, the whole text is.
+use Rattle.std.proofs.Common.{◌≡◌, ℕ, zero, suc, ◌+◌, ◌-◌, ◌<◌, ◌≤◌, ◌∷◌, ◌++◌, [], List, Bool, true, cond, refl, sym, ◌∙◌, ap, subst, arith, length, take, drop}
+use Rattle.std.proofs.lemmas.List.{append-nil, append_assoc, length-drop, drop-drop}
+use Rattle.std.proofs.lemmas.Bool.{le-ltb}
+use Rattle.std.specs.List.{flat_map}
+use Rattle.markdown_base.specs.declared.configuration.Constructs.{Constructs}
+use Rattle.markdown_base.specs.declared.event.Event.{Event}
+use Rattle.markdown_base.specs.declared.state.State.TheVariants.{Next, Retry, Ok}
+use Rattle.markdown_base.specs.declared.state.TheConstants.Name.{TextBefore}
+use Rattle.markdown_base.specs.Virtual.{Seat}
+use Rattle.markdown_tokenizer.specs.declared.waiting.Waits.TheVariants.{Nothing, Byte, End}
+use Rattle.markdown_tokenizer.specs.Text.{Given, Text}
+use Rattle.markdown_tokenizer.specs.Configuration.{Configuration, Local}
+use Rattle.markdown_tokenizer.specs.Reading.{fed}
+use Rattle.mdconstructs_machines.specs.Tables.{counts}
+use Rattle.mdconstructs_text.specs.Items.{item_length, item_at}
+use Rattle.mdconstructs_text.specs.TextEvents.{bytes_of, cut, item_events, seat_events}
+use Rattle.mdconstructs_text.proofs.Texts.Cutting.{drop-less}
+use Rattle.mdconstructs_text.proofs.Texts.Steps.{EndsWith, Leads, between_items, leads-called, leads-fed}
+
+-- each item is at least a byte
+abbrev pub ItemsArePositive : Constructs → Type 0
+ItemsArePositive on = (b : ℕ) (bs : List ℕ) → 0 < item_length (item_at on (b ∷ bs))
+
+module _ (g : Given) (text : Text) where
+  -- One item: from before it, with nothing waiting, to behind it, with its events
+  abbrev pub AddsItem : Type 0
+  AddsItem = (p : ℕ) (ended : Bool) (events : List Event) (local : Local Unit Unit) (s : Seat) (ss : List Seat) → drop p text.seats ≡ s ∷ ss
+      → let item = item_at g.options.constructs (bytes_of (s ∷ ss)) in
+      (ended_after : Bool) × (after : Local Unit Unit)
+      × Leads g text (between_items p Nothing ended events local) [] (Next TextBefore)
+      (between_items (p + item_length item) Nothing ended_after (events ++ item_events g.bytes (item, take (item_length item) (s ∷ ss))) after) [] (Next TextBefore)
+
+  -- The main law: from any place between items with nothing waiting, the machine adds the events of what is left
+  abbrev pub ReadsText : Type 0
+  ReadsText = (p : ℕ) (ended : Bool) (events : List Event) (local : Local Unit Unit) → p ≤ length text.seats
+      → EndsWith g text (between_items p Nothing ended events local) [] (Next TextBefore) (events ++ seat_events g.options.constructs g.bytes (drop p text.seats))
+
+  ended-well : (k : Configuration Unit Unit) → EndsWith g text k [] Ok k.events
+  ended-well k calls = (record { configuration = k; answer = Ok; calls = calls + 0 }, (record { bound = 0; is = refl }, refl, refl))
+
+  at-the-end : (p : ℕ) (ended : Bool) (events : List Event) (local : Local Unit Unit) → length text.seats ≤ p
+      → EndsWith g text (between_items p Nothing ended events local) [] (Next TextBefore) events
+  at-the-end p ended events local h =
+      let at_end = between_items p End true events local in
+      let fed-end : fed text (between_items p Nothing ended events local) ≡ at_end =
+      ap (λ b. cond b (between_items p Byte ended events local) at_end) (le-ltb p (length text.seats) h) in
+      leads-fed g text (between_items p Nothing ended events local) [] TextBefore events
+      (subst (λ k. EndsWith g text k [] (Retry TextBefore) events) (sym fed-end)
+      (leads-called g text at_end [] TextBefore events (ended-well (between_items p End true events (counts local)))))
+
+  from-items : AddsItem → ItemsArePositive g.options.constructs → (n p : ℕ) (ended : Bool) (events : List Event) (local : Local Unit Unit) (l : List Seat)
+      → drop p text.seats ≡ l → length l ≤ n
+      → EndsWith g text (between_items p Nothing ended events local) [] (Next TextBefore) (events ++ flat_map (item_events g.bytes) (cut (item_at g.options.constructs) item_length n l))
+  from-items adds positive zero p ended events local [] at h =
+      let past : length text.seats - p ≡ 0 = sym (length-drop p text.seats) ∙ ap length at in
+      subst (λ es. EndsWith g text (between_items p Nothing ended events local) [] (Next TextBefore) es) (sym (append-nil events))
+      (at-the-end p ended events local (omega (arith, past)))
+  from-items adds positive zero p ended events local (s ∷ ss) at h = absurd (omega (arith, h))
+  from-items adds positive (suc n) p ended events local [] at h =
+      let past : length text.seats - p ≡ 0 = sym (length-drop p text.seats) ∙ ap length at in
+      subst (λ es. EndsWith g text (between_items p Nothing ended events local) [] (Next TextBefore) es) (sym (append-nil events))
+      (at-the-end p ended events local (omega (arith, past)))
+  from-items adds positive (suc n) p ended events local (s ∷ ss) at h =
+      let item = item_at g.options.constructs (bytes_of (s ∷ ss)) in
+      let size = item_length item in
+      let one = item_events g.bytes (item, take size (s ∷ ss)) in
+      let others = flat_map (item_events g.bytes) (cut (item_at g.options.constructs) item_length n (drop size (s ∷ ss))) in
+      let less : length (drop size (s ∷ ss)) ≤ length ss = drop-less size s ss (positive s.byte (bytes_of ss)) in
+      let added = adds p ended events local s ss at in
+      let behind : drop (p + size) text.seats ≡ drop size (s ∷ ss) = sym (drop-drop size p text.seats) ∙ ap (drop size) at in
+      added.2 (events ++ (one ++ others))
+      (subst (λ es. EndsWith g text (between_items (p + size) Nothing added.0 (events ++ one) added.1) [] (Next TextBefore) es) (append_assoc events one others)
+      (from-items adds positive n (p + size) added.0 (events ++ one) added.1 (drop size (s ∷ ss)) behind (omega (arith, less, h))))
+
+  pub reads-text : AddsItem → ItemsArePositive g.options.constructs → ReadsText
+  reads-text adds positive p ended events local h = from-items adds positive (length (drop p text.seats)) p ended events local (drop p text.seats) refl (omega arith)

@@ -1,0 +1,46 @@
+use Rattle.std.proofs.Common.{◌≡◌, [], ◌∷◌, Some, refl, sym, subst, ap, ◌∙◌, true, false}
+use Rattle.std.specs.Char.{is_ascii_punctuation}
+use Rattle.markdown_base.specs.declared.event.Name.TheVariants.{CharacterEscape, CharacterEscapeValue}
+use Rattle.markdown_base.specs.declared.state.State.TheVariants.{Ok, Nok}
+use Rattle.markdown_tokenizer.specs.Sight.{sight_of}
+use Rattle.mdconstructs_tables.specs.Rows.{enter, exit, consume, class_of, picked, step_of}
+use Rattle.mdconstructs_tables.specs.RowInvariant.{DoesAll}
+use Rattle.mdconstructs_tables.proofs.Rows.Calls.{can-exit, then}
+use Rattle.mdconstructs_text.specs.TextCosts.{text_byte}
+use Rattle.mdconstructs_text.specs.TextTable.{escape_inside, escape_inside_rows}
+use Rattle.mdconstructs_text.proofs.Escapes.Classes.{escaped-class, refused-class}
+use Rattle.mdconstructs_text.proofs.text.escape_inside.Goals as goal
+
+pub exit-requires : goal.exit-requires
+exit-requires c =
+    let t = c.args.t.now in
+    can-exit text_byte escape_inside _ (Some (text_byte c.in-Some.byte)) t c.requires.called refl (ap (class_of text_byte) (sym c.current.ensures ∙ c.in-Some.is))
+    (enter CharacterEscapeValue ∷ consume ∷ exit CharacterEscapeValue ∷ []) CharacterEscape c.marker.new.t refl c.in_ok-marker-in-Some.ensures
+
+pub returns-in_ok-exit-in-Some : goal.returns-in_ok-exit-in-Some
+returns-in_ok-exit-in-Some c =
+    let t = c.args.t.now in
+    let s = sight_of t in
+    let k = t.configuration in
+    let b = class_of text_byte s.previous in
+    let byte = c.in-Some.byte in
+    let is = sym c.current.ensures ∙ c.in-Some.is in
+    let punctuation : is_ascii_punctuation byte ≡ true = sym c.is_ascii_punctuation.ensures.value ∙ c.if-is_ascii_punctuation.true in
+    subst (λ rows. DoesAll (step_of (picked rows t.given s k) s k) t c.exit.new.self Ok) (sym (ap (λ o. escape_inside_rows b (class_of text_byte o)) is ∙ escaped-class byte punctuation b))
+    (record {
+      answered = refl;
+      became = then text_byte escape_inside _ (Some (text_byte byte)) t c.requires.called refl (ap (class_of text_byte) is) (enter CharacterEscapeValue ∷ consume ∷ exit CharacterEscapeValue ∷ [])
+          (exit CharacterEscape) c.marker.new.t c.exit.new.self refl c.in_ok-marker-in-Some.ensures c.in_ok-exit-in-Some.ensures.ok;
+    })
+
+pub returns-else-is_ascii_punctuation : goal.returns-else-is_ascii_punctuation
+returns-else-is_ascii_punctuation c =
+    let t = c.args.t.now in
+    let s = sight_of t in
+    let k = t.configuration in
+    let b = class_of text_byte s.previous in
+    let byte = c.in-Some.byte in
+    let is = sym c.current.ensures ∙ c.in-Some.is in
+    let none : is_ascii_punctuation byte ≡ false = sym c.is_ascii_punctuation.ensures.value ∙ c.if-is_ascii_punctuation.false in
+    subst (λ rows. DoesAll (step_of (picked rows t.given s k) s k) t t Nok) (sym (ap (λ o. escape_inside_rows b (class_of text_byte o)) is ∙ refused-class byte none b))
+    (record { answered = refl; became = refl })

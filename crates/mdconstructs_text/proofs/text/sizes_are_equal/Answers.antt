@@ -1,0 +1,7 @@
+use Rattle.std.proofs.Common.{ap}
+use Rattle.markdown_tokenizer.specs.Sight.{sight_of}
+use Rattle.mdconstructs_text.specs.TextTable.{sizes_are_equal}
+use Rattle.mdconstructs_text.proofs.text.sizes_are_equal.Goals as goal
+
+pub returns : goal.returns
+returns c = ap (λ v. sizes_are_equal v.given (sight_of v) v.configuration) c.t.view_is

@@ -1,0 +1,153 @@
+-- The constructs of CommonMark that are read here, each by the bytes it is made of at the front of a text.
+--
+-- A text is cut into items from the front. A construct is there if its bytes are: nothing is said of states.
+use Rattle.std.specs.Prelude.{ℕ, ◌+◌, ◌-◌, ◌==◌, ◌&&◌, ◌||◌, not, max, nat_le, Bool, false, cond, List, drop, length, Option, Some, None, find, slice_get, option_map}
+use Rattle.std.specs.List.{prefix_len, position_or_len, range_with_len}
+use Rattle.std.specs.Char.{is_ascii_alphabetic, is_ascii_alphanumeric, is_ascii_punctuation}
+use Rattle.markdown_base.specs.declared.configuration.Constructs.{Constructs}
+
+-- A part of a text, or of a code span, that is no construct: a line ending, or a run of so many other bytes
+pub data Part : Type 0 where
+  line_ending : Part
+  plain_run : ℕ → Part
+
+-- An item: a code span, with how many backticks each of its two backtick strings has and how many bytes are between them; an autolink,
+-- with how many bytes are between `<` and `>`; a backslash escape; or a part
+pub data Item : Type 0 where
+  code_span : (backticks inside : ℕ) → Item
+  autolink : (inside : ℕ) → Item
+  escape : Item
+  part : Part → Item
+
+-- how many bytes a part has
+abbrev pub part_length : Part → ℕ
+part_length line_ending = 1
+part_length (plain_run n) = n
+
+-- how many bytes an item has
+abbrev pub item_length : Item → ℕ
+item_length (code_span backticks inside) = backticks + inside + backticks
+item_length (autolink inside) = inside + 2
+item_length escape = 2
+item_length (part p) = part_length p
+
+-- there is a byte, and it passes the test
+abbrev pub passes : (ℕ → Bool) → Option ℕ → Bool
+passes test None = false
+passes test (Some byte) = test byte
+
+-- the text has a byte at p, and it passes the test
+abbrev pub has_byte_at : (text : List ℕ) → (p : ℕ) → (test : ℕ → Bool) → Bool
+has_byte_at text p test = passes test (slice_get text p)
+
+-- a line feed
+abbrev pub is_line_feed : ℕ → Bool
+is_line_feed byte = byte == 10
+
+-- a backtick
+abbrev pub is_backtick : ℕ → Bool
+is_backtick byte = byte == 96
+
+-- `<`
+abbrev pub is_less_than : ℕ → Bool
+is_less_than byte = byte == 60
+
+-- `>`
+abbrev pub is_greater_than : ℕ → Bool
+is_greater_than byte = byte == 62
+
+-- a backslash
+abbrev pub is_backslash : ℕ → Bool
+is_backslash byte = byte == 92
+
+-- a colon
+abbrev pub is_colon : ℕ → Bool
+is_colon byte = byte == 58
+
+-- `+`, `.` or `-`: schemes may have these, letters and digits
+abbrev pub is_scheme_mark : ℕ → Bool
+is_scheme_mark byte = (byte == 43) || ((byte == 46) || (byte == 45))
+
+-- DEL, the ASCII control character above the others
+abbrev pub is_delete : ℕ → Bool
+is_delete byte = byte == 127
+
+-- the bytes that end data in a code span
+abbrev pub is_backtick_or_line_feed : ℕ → Bool
+is_backtick_or_line_feed byte = is_line_feed byte || is_backtick byte
+
+-- the bytes that a line ending or a construct may begin with
+abbrev pub is_special : ℕ → Bool
+is_special byte = is_backtick_or_line_feed byte || (is_less_than byte || is_backslash byte)
+
+-- how many backticks the text begins with
+abbrev pub backticks : List ℕ → ℕ
+backticks text = prefix_len is_backtick text
+
+-- Backtick string: at p there are exactly k backticks, neither preceded nor followed by a backtick
+abbrev pub is_backtick_string : (text : List ℕ) → (k p : ℕ) → Bool
+is_backtick_string text k p = not (has_byte_at text (p - 1) is_backtick) && (backticks (drop p text) == k)
+
+-- where the first backtick string of k backticks is, behind the front
+abbrev pub closing : (text : List ℕ) → (k : ℕ) → Option ℕ
+closing text k = find (is_backtick_string text k) (range_with_len 1 (length text))
+
+-- Code span: it begins with a backtick string and ends with the next backtick string of equal length. Backslash escapes do not work in it.
+abbrev pub code_span_at : List ℕ → Option Item
+code_span_at text = cond (has_byte_at text 0 is_backtick) (option_map (λ p. code_span (backticks text) (p - backticks text)) (closing text (backticks text))) None
+
+-- the characters of a scheme: ASCII letters, digits, `+`, `.` and `-`
+abbrev pub is_scheme_byte : ℕ → Bool
+is_scheme_byte byte = is_ascii_alphanumeric byte || is_scheme_mark byte
+
+-- Scheme: 2 to 32 of these characters, the first of which is an ASCII letter
+abbrev pub is_scheme : List ℕ → ℕ → Bool
+is_scheme text n = nat_le 2 n && (nat_le n 32 && has_byte_at text 0 is_ascii_alphabetic)
+
+-- the characters of an absolute URI after its scheme and colon: all but ASCII control characters, space, `<` and `>`
+abbrev pub is_allowed : ℕ → Bool
+is_allowed byte = nat_le 33 byte && not (is_delete byte || (is_less_than byte || is_greater_than byte))
+
+-- Absolute URI: a scheme, a colon, and zero or more such characters; how many bytes it has
+abbrev pub uri : List ℕ → Option ℕ
+uri text =
+    let n = prefix_len is_scheme_byte text in
+    cond (is_scheme text n && has_byte_at text n is_colon) (Some (n + 1 + prefix_len is_allowed (drop (n + 1) text))) None
+
+-- an autolink around an absolute URI of so many bytes: `>` follows it
+abbrev pub autolink_to : List ℕ → Option ℕ → Option Item
+autolink_to text None = None
+autolink_to text (Some n) = cond (has_byte_at text (n + 1) is_greater_than) (Some (autolink n)) None
+
+-- URI autolink: `<`, an absolute URI, and `>`
+abbrev pub autolink_at : List ℕ → Option Item
+autolink_at text = cond (has_byte_at text 0 is_less_than) (autolink_to text (uri (drop 1 text))) None
+
+-- Backslash escape: a backslash before an ASCII punctuation character
+abbrev pub escape_at : List ℕ → Option Item
+escape_at text = cond (has_byte_at text 0 is_backslash && has_byte_at text 1 is_ascii_punctuation) (Some escape) None
+
+-- how long plain text is: a whole backtick string or one byte, and all up to the next byte that ends it
+abbrev pub plain_length : (ends : ℕ → Bool) → List ℕ → ℕ
+plain_length ends text = let n = max 1 (backticks text) in n + position_or_len ends (drop n text)
+
+-- a line feed, or plain text
+abbrev pub part_at : (ends : ℕ → Bool) → List ℕ → Part
+part_at ends text = cond (has_byte_at text 0 is_line_feed) line_ending (plain_run (plain_length ends text))
+
+-- a construct that the options turn off is nowhere
+abbrev pub if_on : Bool → Option Item → Option Item
+if_on on item = cond on item None
+
+-- what is there, or else another item
+abbrev pub or_else : Option Item → Item → Item
+or_else None other = other
+or_else (Some item) other = item
+
+-- The item at the front of a text. Each construct begins with a byte of its own, so at most one of them is there.
+abbrev pub item_at : Constructs → List ℕ → Item
+item_at on text =
+    or_else (if_on on.code_text (code_span_at text))
+    (or_else (if_on on.autolink (autolink_at text))
+    (or_else (if_on on.character_escape (escape_at text))
+    (part (part_at is_special text))))

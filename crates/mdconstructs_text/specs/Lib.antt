@@ -1,0 +1,7 @@
+pub mod ChainTexts
+pub mod Items
+pub mod TextCosts
+pub mod TextEvents
+pub mod TextRules
+pub mod TextTable
+pub mod Laws

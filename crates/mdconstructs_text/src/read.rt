@@ -1,0 +1,45 @@
+//! A whole document, read as text.
+
+ghost use Rattle.std.specs.Prelude.{◌≡◌, ◌+◌, ◌*◌, ◌^◌, ◌<◌, IfOk, IfErr, length};
+ghost use Rattle.markdown_tokenizer.specs.Engine.{AreCuts, given_by, whole_text};
+ghost use Rattle.mdconstructs_text.specs.TextEvents.{text_events};
+
+use crate::text::Text;
+use markdown_tokenizer::configuration::ParseOptions;
+use markdown_tokenizer::event::Event;
+use markdown_tokenizer::parser::ParseState;
+use markdown_tokenizer::state::Name;
+use markdown_tokenizer::tokenizer::{Fault, run};
+use std::alloc::Global;
+
+/// Reads a whole document as text, cut at these places: code spans, autolinks and backslash escapes if the options have them on,
+/// line endings, and all else as data. The definition of these events has no states, and the events have no trace of the cuts.
+///
+/// The cuts are places, each an index and a number in a tab, in an order that never decreases. The only fault is that memory
+/// runs out.
+pub fn read_text(
+    alloc: Global,
+    bytes: &[u8],
+    options: &ParseOptions,
+    cuts: &[(usize, usize)],
+) -> Result<Vec<Event>, Fault>
+    requires limit { options.now.tab_size * length bytes.now + 1 < 2 ^ 64 }
+    requires cuts { AreCuts options.now.tab_size bytes.now cuts.now }
+    ensures ok { IfOk result (λ events. let g = given_by bytes.now options.now in events.items ≡ text_events g (whole_text g)) }
+    ensures err { IfErr result (λ fault. fault ≡ Fault.Memory) }
+{
+    // Tab stops are apart, as the type of their size tells: that makes the document one that can be read.
+    let _ = options.tab_size.get();
+    let machine = Text {};
+    let parse_state = ParseState {
+        bytes,
+        options,
+        machine: &machine,
+    };
+    match run(alloc, &parse_state, Name::TextStart, cuts, false) {
+        Ok((events, _)) => Ok(events),
+        Err(Fault::Memory) => Err(Fault::Memory),
+        Err(Fault::Message(_message)) => unreachable!(),
+        Err(Fault::Failed) => unreachable!(),
+    }
+}

@@ -1,6 +1,0 @@
-use Rattle.std.specs.Prelude.{drop}
-use Rattle.markdown.proofs.Ranges.{HasRanges}
-use Rattle.mdevents.proofs.driven.push_all.Given as goal
-
-abbrev pub invariant-loop-gap : goal.invariant-loop-gap
-invariant-loop-gap g l = HasRanges g.M.Machine.rules l.fn.parse_state.bytes.now l.fn.parse_state.options.now (drop l.gap-index l.ranges) l.tokenizer l.state

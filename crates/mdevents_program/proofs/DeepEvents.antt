@@ -1,0 +1,37 @@
+-- What is read with the children of chains of text: it is refused nowhere where rules refuse nothing, its chains can be read, and by the
+-- machine of texts the children are the texts.
+use Rattle.std.proofs.Common.{ℕ, List, ⊎_elim, false, true}
+use Rattle.markdown.specs.declared.event.Event.{Event}
+use Rattle.markdown.specs.declared.message.Message.{Message}
+use Rattle.markdown.specs.declared.state.Name.{Name}
+use Rattle.markdown.specs.Configuration.{start_configuration}
+use Rattle.markdown.specs.Engine.{IsRunRefused}
+use Rattle.markdown.specs.Rules.{Rules}
+use Rattle.markdown.specs.Text.{Given, IsDocument}
+use Rattle.markdown.specs.StateConstants.Name.{FlowStart}
+use Rattle.markdown.specs.Chains.{chain_of}
+use Rattle.markdown.specs.Reads.{text_of_chain, IsChildRefused}
+use Rattle.mdconstructs.specs.Refusals.{RulesRefuseNothing}
+use Rattle.mdconstructs.proofs.Tables.Refusals.{none-refused, no-run-refused}
+use Rattle.mdevents_program.specs.Program.{document, Gives, GivesDeep, GivesTexts, GivesUnready, HasRefusedChild, IsRefusedDeep}
+use Rattle.mdconstructs.specs.ChainTexts.{HasReadableChains}
+use Rattle.mdconstructs.specs.TextRules.{text_rules}
+use Rattle.mdconstructs.proofs.TextParagraphs.ChainEvents.{texts-of-chains}
+
+module _ {R D : Type 0} (rules : Given → Rules R D) (nothing : RulesRefuseNothing rules) where
+  no-child-refused : (g : Given) (events : List Event) (c : ℕ) (m : Message) → ¬ IsChildRefused g rules events c m
+  no-child-refused g events c m h =
+      none-refused rules nothing g (text_of_chain g events (chain_of events c)) true 0 (start_configuration h.read.flag) h.read.start h.result m h.read.ends h.message
+
+  pub none-refused-deep : (start : Name) (t : ℕ) (bytes : List ℕ) (m : Message) → ¬ IsRefusedDeep rules start t bytes m
+  none-refused-deep start t bytes m h =
+      ⊎_elim (λ (run : IsRunRefused (document t bytes) rules false start m). no-run-refused rules nothing (document t bytes) false start m run)
+      (λ (child : (flat : List Event) × Gives rules start t bytes flat × HasRefusedChild rules t bytes flat m). no-child-refused (document t bytes) child.0 child.2.1.chain m child.2.1.refused) h
+
+-- a run from the start of paragraphs has chains that can be read
+pub all-ready : (rules : Given → Rules Unit Unit) → HasReadableChains rules FlowStart → (t : ℕ) (bytes : List ℕ) → IsDocument (document t bytes) → ¬ GivesUnready rules FlowStart t bytes
+all-ready rules readable t bytes is h = h.2 (readable (document t bytes) h.0 h.1.0 is h.1.1)
+
+-- the children that the machine of texts read are the texts
+pub with-texts : (t : ℕ) (bytes : List ℕ) → IsDocument (document t bytes) → (events : List Event) → GivesDeep text_rules FlowStart t bytes events → GivesTexts t bytes events
+with-texts t bytes is events h = (h.0, h.1, h.2, texts-of-chains (document t bytes) h.0 is h.2.0 events h.2.1.0 h.2.1.1)

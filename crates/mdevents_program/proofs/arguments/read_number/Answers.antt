@@ -1,0 +1,47 @@
+use Rattle.std.proofs.Common.{rules, ◌≡◌, ℕ, ◌<◌, ◌^◌, ◌&&◌, ◌∷◌, [], Bool, true, false, List, None, Some, Err, Ok, cond, arith, sym, refl, ◌∙◌, length, nat_lt}
+use Rattle.std.specs.Bool.{then_some}
+use Rattle.std.specs.Char.{is_ascii_digit}
+use Rattle.std.specs.List.{list_all}
+use Rattle.std.specs.Str.Parse.{digits_value}
+use Rattle.std.proofs.lemmas.Bool.Decides.{nat_tests}
+use Rattle.std.proofs.lemmas.Str.Parse.{IsNumeralModel, numerals_by_value, parse_digits}
+use Rattle.mdevents_program.specs.Arguments.{decimal_of}
+use Rattle.mdevents_program.proofs.arguments.read_number.Goals as goal
+
+digits : IsNumeralModel (λ ds. list_all is_ascii_digit ds ≡ true) (digits_value 10)
+digits = numerals_by_value _ (search rules)
+
+at-least : (b : Bool) (n : ℕ) → then_some b n ≡ cond (b && true) (Some n) None
+at-least true n = refl
+at-least false n = refl
+
+found : (word : List ℕ) (n : ℕ) → list_all is_ascii_digit word ≡ true → n ≡ digits_value 10 word → n < 2 ^ 64 → then_some (nat_lt 0 n) n ≡ decimal_of word
+found word n decimal is fits =
+    let high : nat_lt n (2 ^ 64) ≡ true = grind (arith, nat_tests) in
+    rw (decimal, ← is, high) (at-least (nat_lt 0 n) n)
+
+not-empty : (word : List ℕ) → 0 < digits_value 10 word → 0 < length word
+not-empty [] h = absurd (omega (arith, h))
+not-empty (c ∷ cs) h = omega arith
+
+tested : (n : ℕ) (b : Bool) → nat_lt 0 n && nat_lt n (2 ^ 64) ≡ b → (0 < n → n < 2 ^ 64 → false ≡ b) → cond b (Some n) None ≡ None
+tested n true e never = grind (arith, nat_tests)
+tested n false e never = refl
+
+refused : (word : List ℕ) → list_all is_ascii_digit word ≡ true → (0 < length word × digits_value 10 word < 2 ^ 64 → ⊥) → None ≡ decimal_of word
+refused word decimal never =
+    let v = digits_value 10 word in
+    rw decimal (sym (tested v (nat_lt 0 v && nat_lt v (2 ^ 64)) refl (λ above fits. absurd (never (not-empty word above, fits)))))
+
+pub returns-in-Ok-clause-number : goal.returns-in-Ok-clause-number
+returns-in-Ok-clause-number c =
+    let word = c.args.word.now in
+    let decimal = sym c.is_decimal.ensures ∙ c.if-not-is_decimal.false in
+    let (fits, is) = parse_digits digits {E = ℕ} 64 word (Ok c.in-Ok.number) c.in-Ok.ensures.value.0 decimal in
+    c.then_some.ensures ∙ found word c.in-Ok.number decimal is (omega (arith, fits.1, is))
+
+pub returns-in-Err-clause-number : goal.returns-in-Err-clause-number
+returns-in-Err-clause-number c =
+    let word = c.args.word.now in
+    let decimal = sym c.is_decimal.ensures ∙ c.if-not-is_decimal.false in
+    refused word decimal (parse_digits digits 64 word (Err c.in-Err.field-0) c.in-Err.ensures.value.0 decimal)

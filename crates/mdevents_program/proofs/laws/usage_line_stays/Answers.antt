@@ -1,0 +1,5 @@
+use Rattle.std.proofs.Common.{refl}
+use Rattle.mdevents_program.proofs.laws.usage_line_stays.Goals as goal
+
+pub returns : goal.returns
+returns c = refl

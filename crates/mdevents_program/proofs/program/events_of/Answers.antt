@@ -1,0 +1,78 @@
+use Rattle.std.proofs.Common.{false}
+use Rattle.std.proofs.lemmas.Result.{IfOk-weaker}
+use Rattle.mdconstructs.proofs.Tables.Refusals.{no-run-refused}
+use Rattle.mdconstructs.specs.Lines.{lines_rules}
+use Rattle.mdconstructs.specs.Paragraphs.{paragraphs_rules}
+use Rattle.mdconstructs.specs.Peek.{peek_rules}
+use Rattle.mdconstructs.specs.Deep.{deep_rules}
+use Rattle.mdconstructs.specs.Back.{back_rules}
+use Rattle.mdconstructs.specs.Save.{save_rules}
+use Rattle.mdconstructs.proofs.NoRefusals.{lines-refuse-nothing, paragraphs-refuse-nothing, peek-refuses-nothing, deep-refuses-nothing, back-refuses-nothing, save-refuses-nothing}
+use Rattle.mdconstructs.specs.TextRules.{text_rules}
+use Rattle.mdconstructs.proofs.TextNoRefusals.{text-refuses-nothing}
+use Rattle.mdconstructs.proofs.TextParagraphs.Ready.{paragraphs-readable, text-readable}
+use Rattle.mdevents_program.proofs.DeepEvents.{none-refused-deep, all-ready, with-texts}
+use Rattle.mdevents_program.proofs.program.events_of.Goals as goal
+
+pub returns-in-Lines-clause-events : goal.returns-in-Lines-clause-events
+returns-in-Lines-clause-events c = let e = c.in-Lines.is in rw e c.read_by.ensures.events
+
+pub returns-in-Paragraphs-clause-events : goal.returns-in-Paragraphs-clause-events
+returns-in-Paragraphs-clause-events c = let e = c.in-Paragraphs.is in let d = c.if-choice.true in rw (e, d) c.read_deep_by.ensures.events
+
+pub returns-in-Paragraphs-2-clause-events : goal.returns-in-Paragraphs-2-clause-events
+returns-in-Paragraphs-2-clause-events c = let e = c.in-Paragraphs-2.is in let d = c.if-choice.false in rw (e, d) c.read_by-in-Paragraphs-2.ensures.events
+
+pub returns-in-Peek-clause-events : goal.returns-in-Peek-clause-events
+returns-in-Peek-clause-events c = let e = c.in-Peek.is in rw e c.read_by-in-Peek.ensures.events
+
+pub returns-in-Deep-clause-events : goal.returns-in-Deep-clause-events
+returns-in-Deep-clause-events c = let e = c.in-Deep.is in rw e c.read_by-in-Deep.ensures.events
+
+pub returns-in-Back-clause-events : goal.returns-in-Back-clause-events
+returns-in-Back-clause-events c = let e = c.in-Back.is in rw e c.read_by-in-Back.ensures.events
+
+pub returns-in-Save-clause-events : goal.returns-in-Save-clause-events
+returns-in-Save-clause-events c = let e = c.in-Save.is in rw e c.read_by-in-Save.ensures.events
+
+pub returns-in-Text-clause-events : goal.returns-in-Text-clause-events
+returns-in-Text-clause-events c =
+    let e = c.in-Text.is in
+    let d = c.if-choice-2.true in
+    rw (e, d) (IfOk-weaker c.read_deep_by-in-Text.result _ _ (λ events h. with-texts c.args.choice.now.tab c.args.bytes.now c.read_deep_by-in-Text.ensures.document events.items h) c.read_deep_by-in-Text.ensures.events)
+
+pub returns-clause-events : goal.returns-clause-events
+returns-clause-events c = let e = c.in-Text-2.is in let d = c.if-choice-2.false in rw (e, d) c.read_by-in-Text-2.ensures.events
+
+pub returns-in-Lines-clause-never_refused : goal.returns-in-Lines-clause-never_refused
+returns-in-Lines-clause-never_refused c = λ m e. no-run-refused lines_rules lines-refuse-nothing _ false _ m (c.read_by.ensures.message m e)
+
+pub returns-in-Paragraphs-clause-never_refused : goal.returns-in-Paragraphs-clause-never_refused
+returns-in-Paragraphs-clause-never_refused c = λ m e. none-refused-deep paragraphs_rules paragraphs-refuse-nothing _ _ _ m (c.read_deep_by.ensures.message m e)
+
+pub returns-in-Paragraphs-2-clause-never_refused : goal.returns-in-Paragraphs-2-clause-never_refused
+returns-in-Paragraphs-2-clause-never_refused c = λ m e. no-run-refused paragraphs_rules paragraphs-refuse-nothing _ false _ m (c.read_by-in-Paragraphs-2.ensures.message m e)
+
+pub returns-in-Peek-clause-never_refused : goal.returns-in-Peek-clause-never_refused
+returns-in-Peek-clause-never_refused c = λ m e. no-run-refused peek_rules peek-refuses-nothing _ false _ m (c.read_by-in-Peek.ensures.message m e)
+
+pub returns-in-Deep-clause-never_refused : goal.returns-in-Deep-clause-never_refused
+returns-in-Deep-clause-never_refused c = λ m e. no-run-refused deep_rules deep-refuses-nothing _ false _ m (c.read_by-in-Deep.ensures.message m e)
+
+pub returns-in-Back-clause-never_refused : goal.returns-in-Back-clause-never_refused
+returns-in-Back-clause-never_refused c = λ m e. no-run-refused back_rules back-refuses-nothing _ false _ m (c.read_by-in-Back.ensures.message m e)
+
+pub returns-in-Save-clause-never_refused : goal.returns-in-Save-clause-never_refused
+returns-in-Save-clause-never_refused c = λ m e. no-run-refused save_rules save-refuses-nothing _ false _ m (c.read_by-in-Save.ensures.message m e)
+
+pub returns-in-Text-clause-never_refused : goal.returns-in-Text-clause-never_refused
+returns-in-Text-clause-never_refused c = λ m e. none-refused-deep text_rules text-refuses-nothing _ _ _ m (c.read_deep_by-in-Text.ensures.message m e)
+
+pub returns-clause-never_refused : goal.returns-clause-never_refused
+returns-clause-never_refused c = λ m e. no-run-refused text_rules text-refuses-nothing _ false _ m (c.read_by-in-Text-2.ensures.message m e)
+
+pub returns-in-Paragraphs-clause-ready : goal.returns-in-Paragraphs-clause-ready
+returns-in-Paragraphs-clause-ready c = λ e. all-ready paragraphs_rules paragraphs-readable _ _ c.read_deep_by.ensures.document (c.read_deep_by.ensures.unready e)
+
+pub returns-in-Text-clause-ready : goal.returns-in-Text-clause-ready
+returns-in-Text-clause-ready c = λ e. all-ready text_rules text-readable _ _ c.read_deep_by-in-Text.ensures.document (c.read_deep_by-in-Text.ensures.unready e)

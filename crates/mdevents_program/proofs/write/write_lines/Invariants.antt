@@ -1,0 +1,9 @@
+use Rattle.std.proofs.Common.{◌≡◌, ◌++◌, ℕ, List, take}
+use Rattle.std.specs.Io.KnownBytes.{Appends}
+use Rattle.mdevents_program.specs.Printed.{printed_events}
+use Rattle.mdevents_program.proofs.write.write_lines.Given as goal
+
+-- what was written, and then what waits, are the lines of the events so far
+abbrev pub invariant-loop-event : goal.invariant-loop-event
+invariant-loop-event g l =
+    (text : List ℕ) × Appends (g.W.Write.contents l.initial.writer) (g.W.Write.contents l.writer) text × (text ++ l.lines ≡ printed_events (take l.event-index l.events))

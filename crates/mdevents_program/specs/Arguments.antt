@@ -1,0 +1,112 @@
+-- The words that the program is called with.
+use Rattle.std.specs.Prelude.{ℕ, ◌≤◌, IfSome, ◌^◌, ◌&&◌, not, Bool, true, false, List, [], ◌∷◌, Option, Some, None, unwrap_or, codes, nat_lt, cond, filter_map}
+use Rattle.std.specs.Char.{is_ascii_digit}
+use Rattle.std.specs.List.{list_all}
+use Rattle.std.specs.Option.{option_and_then, option_map}
+use Rattle.std.specs.Str.{bytes_eq}
+use Rattle.std.specs.Str.Parse.{digits_value}
+use Rattle.mdevents_program.specs.declared.arguments.Choice.{Choice}
+use Rattle.mdevents_program.specs.declared.arguments.Which.{Which}
+use Rattle.mdevents_program.specs.declared.arguments.Which.TheVariants.{Lines, Paragraphs, Peek, Deep, Back, Save, Text}
+
+-- the number of a word of decimal digits, if it is above 0 and fits `usize`
+abbrev pub decimal_of : List ℕ → Option ℕ
+decimal_of word = cond (list_all is_ascii_digit word && (nat_lt 0 (digits_value 10 word) && nat_lt (digits_value 10 word) (2 ^ 64))) (Some (digits_value 10 word)) None
+
+-- the machine of a name
+abbrev pub which_of : List ℕ → Option Which
+which_of name =
+    cond (bytes_eq name (codes "lines")) (Some Lines)
+    (cond (bytes_eq name (codes "paragraphs")) (Some Paragraphs)
+    (cond (bytes_eq name (codes "peek")) (Some Peek)
+    (cond (bytes_eq name (codes "deep")) (Some Deep) (cond (bytes_eq name (codes "back")) (Some Back) (cond (bytes_eq name (codes "save")) (Some Save)
+    (cond (bytes_eq name (codes "text")) (Some Text) None))))))
+
+-- the size of tabs that a word has: its number, if that is at most 16
+abbrev pub tab_size_of : List ℕ → Option ℕ
+tab_size_of word = option_and_then (λ n. cond (nat_lt 16 n) None (Some n)) (decimal_of word)
+
+-- An option, with its value if it has one
+pub data Spelled : Type 0 where
+  cut : ℕ → Spelled
+  deep : Spelled
+  machine : Which → Spelled
+  tab : ℕ → Spelled
+
+-- the option that two words spell, if they spell one: `--cut` and a number, `--machine` and a name, or `--tab` and a size of tabs
+abbrev pub option_of : List ℕ → List ℕ → Option Spelled
+option_of name value =
+    cond (bytes_eq name (codes "--cut")) (option_map cut (decimal_of value))
+    (cond (bytes_eq name (codes "--machine")) (option_map machine (which_of value)) (cond (bytes_eq name (codes "--tab")) (option_map tab (tab_size_of value)) None))
+
+-- the options that words spell, in order, if they spell options: a word is `--deep`, or two words are an option with its value
+abbrev pub options_of : List (List ℕ) → Option (List Spelled)
+options_of [] = Some []
+options_of (word ∷ []) = cond (bytes_eq word (codes "--deep")) (Some (deep ∷ [])) None
+options_of (word ∷ value ∷ words) =
+    cond (bytes_eq word (codes "--deep")) (option_map (λ options. deep ∷ options) (options_of (value ∷ words)))
+    (option_and_then (λ option. option_map (λ options. option ∷ options) (options_of words)) (option_of word value))
+
+-- the number of an option to cut
+abbrev pub cut_in : Spelled → Option ℕ
+cut_in (cut n) = Some n
+cut_in deep = None
+cut_in (machine which) = None
+cut_in (tab n) = None
+
+-- that an option is `--deep`
+abbrev pub deep_in : Spelled → Option Bool
+deep_in (cut n) = None
+deep_in deep = Some true
+deep_in (machine which) = None
+deep_in (tab n) = None
+
+-- the machine of an option that names one
+abbrev pub machine_in : Spelled → Option Which
+machine_in (cut n) = None
+machine_in deep = None
+machine_in (machine which) = Some which
+machine_in (tab n) = None
+
+-- the size of tabs of an option that gives one
+abbrev pub tab_in : Spelled → Option ℕ
+tab_in (cut n) = None
+tab_in deep = None
+tab_in (machine which) = None
+tab_in (tab n) = Some n
+
+-- what a list of at most one has, if it has it; nothing for a longer list
+abbrev pub at_most_one : {A : Type 0} → List A → Option (Option A)
+at_most_one [] = Some None
+at_most_one (x ∷ []) = Some (Some x)
+at_most_one (x ∷ y ∷ xs) = None
+
+-- whether a machine links chunks of text
+abbrev pub links_text : Which → Bool
+links_text Lines = false
+links_text Paragraphs = true
+links_text Peek = false
+links_text Deep = false
+links_text Back = false
+links_text Save = false
+links_text Text = true
+
+-- the choice of a cut, of `--deep`, of a machine and of a size of tabs, if they are taken together: `--deep` goes only with a machine that
+-- links
+abbrev pub choice_together : Option ℕ → Bool → Which → ℕ → Option Choice
+choice_together n is_deep which t = cond (is_deep && not (links_text which)) None (Some (record { cut = n; deep = is_deep; machine = which; tab = t }))
+
+-- what options choose, if there is at most one of each: without a machine's name, that of lines, and without a size of tabs, 4
+abbrev pub chosen_by : List Spelled → Option Choice
+chosen_by options =
+    option_and_then (λ n. option_and_then (λ is_deep. option_and_then (λ which. option_and_then (λ t. choice_together n (unwrap_or is_deep false) (unwrap_or which Lines) (unwrap_or t 4))
+    (at_most_one (filter_map tab_in options))) (at_most_one (filter_map machine_in options))) (at_most_one (filter_map deep_in options)))
+    (at_most_one (filter_map cut_in options))
+
+-- what words choose, if they choose anything: what the options that they spell choose
+abbrev pub choice_of_words : List (List ℕ) → Option Choice
+choice_of_words words = option_and_then chosen_by (options_of words)
+
+-- a cut is at least 1
+abbrev pub CanCut : Choice → Type 0
+CanCut choice = IfSome choice.cut (λ n. 1 ≤ n)

@@ -1,0 +1,219 @@
+//! The words that the program is called with.
+
+ghost use Rattle.std.specs.Prelude.{◌≡◌, ◌≤◌, IfSome, map, string_bytes};
+ghost use Rattle.std.specs.Char.{is_ascii_digit};
+ghost use Rattle.std.specs.List.{list_all};
+
+use markdown::configuration::TabSize;
+
+/// The line that is shown if the words choose nothing.
+pub const USAGE: &str = "usage: mdevents [--cut n] [--deep] [--machine name] [--tab n]";
+
+/// A machine, by the name that the program has for it.
+#[derive(Clone, Copy, Debug, PartialEq, Eq)]
+pub enum Which {
+    /// `lines`: each line is a paragraph of data.
+    Lines,
+    /// `paragraphs`: lines that follow one another are a paragraph, in which each line is a chunk of text, linked to the one before.
+    Paragraphs,
+    /// `peek`: looks at the whole text first, and then reads each line as data.
+    Peek,
+    /// `deep`: tries something at each byte, which fails, and then reads each line as data.
+    Deep,
+    /// `back`: reads the first line as data, looks over the next line, goes back, and reads the rest as one more data.
+    Back,
+    /// `save`: passes the first line, tries something after it, which fails, and reads each line of the rest as data.
+    Save,
+    /// `text`: as `paragraphs`, but in the text of its chunks are code spans, autolinks and escapes.
+    Text,
+}
+
+/// What the words choose.
+#[derive(Clone, Copy, Debug, PartialEq, Eq)]
+pub struct Choice {
+    /// After how many virtual bytes the text is cut each time, if it is; at least 1.
+    pub cut: Option<usize>,
+    /// Whether the chunks of text that the machine links are read too, and their events put in their place. The machines of
+    /// paragraphs and of texts are the only ones that link any.
+    pub deep: bool,
+    /// The machine that reads.
+    pub machine: Which,
+    /// How many columns tab stops are apart.
+    pub tab: TabSize,
+}
+
+ghost use Rattle.mdevents_program.specs.Arguments.{choice_of_words, links_text, which_of, decimal_of, tab_size_of, CanCut};
+ghost use Rattle.mdevents_program.specs.ArgumentsInner.{once, with_value, taken_of, chosen_after};
+
+/// What the words after the program's name choose: `--cut` with a number, `--deep`, `--machine` with a name, and `--tab` with a
+/// number from 1 to 16, in any order, each at most once. If no machine is named it is that of lines, and if no size is given tab
+/// stops are at every 4 columns. `--deep` is taken only with the machines of paragraphs and of texts. `None` asks for [`USAGE`].
+pub fn read_words(words: &[String]) -> Option<Choice>
+    ensures chosen { result ≡ choice_of_words (map string_bytes words.now) }
+    ensures cut { IfSome result CanCut }
+{
+    let nothing = SoFar {
+        cut: None,
+        deep: false,
+        machine: None,
+        tab: None,
+    };
+    read_options(words, nothing)
+}
+
+/// The options that came so far, with their values.
+#[derive(Clone, Copy)]
+struct SoFar {
+    cut: Option<usize>,
+    deep: bool,
+    machine: Option<Which>,
+    tab: Option<TabSize>,
+}
+
+/// What is chosen by the rest of the words, if these options came before.
+fn read_options(words: &[String], so_far: SoFar) -> Option<Choice>
+    requires cut { IfSome so_far.cut (λ n. 1 ≤ n) }
+    ensures chosen { result ≡ chosen_after so_far (map string_bytes words.now) }
+    ensures cut { IfSome result CanCut }
+{
+    let Some((option, rest)) = words.split_first() else {
+        return taken(so_far);
+    };
+    let option = option.as_str();
+    if option == "--deep" {
+        if so_far.deep {
+            return None;
+        }
+        let deeply = SoFar {
+            deep: true,
+            ..so_far
+        };
+        return read_options(rest, deeply);
+    }
+    let (value, rest) = rest.split_first()?;
+    let so_far = with_value(so_far, option, value.as_str())?;
+    read_options(rest, so_far)
+}
+
+/// What came so far and an option with its value, if there is such an option and it did not come before.
+fn with_value(so_far: SoFar, option: &str, value: &str) -> Option<SoFar>
+    requires cut { IfSome so_far.cut (λ n. 1 ≤ n) }
+    ensures value { result ≡ with_value so_far option.now value.now }
+    ensures cut { IfSome result (λ new. IfSome new.cut (λ n. 1 ≤ n)) }
+{
+    if option == "--cut" {
+        let cut = once(so_far.cut, read_number(value))?;
+        Some(SoFar {
+            cut: Some(cut),
+            ..so_far
+        })
+    } else if option == "--machine" {
+        let machine = once(so_far.machine, read_which(value))?;
+        Some(SoFar {
+            machine: Some(machine),
+            ..so_far
+        })
+    } else if option == "--tab" {
+        let tab = once(so_far.tab, read_tab(value))?;
+        Some(SoFar {
+            tab: Some(tab),
+            ..so_far
+        })
+    } else {
+        None
+    }
+}
+
+/// A value, if there was none before.
+fn once<T: Copy>(before: Option<T>, value: Option<T>) -> Option<T>
+    ensures { result ≡ once before value }
+{
+    match before {
+        Some(_) => None,
+        None => value,
+    }
+}
+
+/// The choice of these options, if they are taken together.
+fn taken(so_far: SoFar) -> Option<Choice>
+    requires cut { IfSome so_far.cut (λ n. 1 ≤ n) }
+    ensures taken { result ≡ taken_of so_far }
+    ensures cut { IfSome result CanCut }
+{
+    let machine = so_far.machine.unwrap_or(Which::Lines);
+    if so_far.deep && !links_text(machine) {
+        return None;
+    }
+    let tab = match so_far.tab {
+        Some(size) => size,
+        None => TabSize::default(),
+    };
+    Some(Choice {
+        cut: so_far.cut,
+        deep: so_far.deep,
+        machine,
+        tab,
+    })
+}
+
+/// Whether a machine links chunks of text.
+fn links_text(machine: Which) -> bool
+    ensures { result ≡ links_text machine }
+{
+    match machine {
+        Which::Paragraphs | Which::Text => true,
+        Which::Lines | Which::Peek | Which::Deep | Which::Back | Which::Save => false,
+    }
+}
+
+/// The machine of a name.
+fn read_which(name: &str) -> Option<Which>
+    ensures { result ≡ which_of name.now }
+{
+    if name == "lines" {
+        Some(Which::Lines)
+    } else if name == "paragraphs" {
+        Some(Which::Paragraphs)
+    } else if name == "peek" {
+        Some(Which::Peek)
+    } else if name == "deep" {
+        Some(Which::Deep)
+    } else if name == "back" {
+        Some(Which::Back)
+    } else if name == "save" {
+        Some(Which::Save)
+    } else if name == "text" {
+        Some(Which::Text)
+    } else {
+        None
+    }
+}
+
+/// The number of a word of decimal digits, if it is at least 1 and fits.
+fn read_number(word: &str) -> Option<usize>
+    ensures number { result ≡ decimal_of word.now }
+    ensures some { IfSome result (λ n. 1 ≤ n) }
+{
+    if !is_decimal(word) {
+        return None;
+    }
+    match word.parse::<usize>() {
+        Ok(number) => (number > 0).then_some(number),
+        Err(_) => None,
+    }
+}
+
+/// The size of tabs that a word of decimal digits has, if its number is from 1 to 16.
+fn read_tab(word: &str) -> Option<TabSize>
+    ensures { result ≡ tab_size_of word.now }
+{
+    let number = read_number(word)?;
+    TabSize::new(number)
+}
+
+/// Whether a word has no bytes but decimal digits.
+fn is_decimal(word: &str) -> bool
+    ensures { result ≡ list_all is_ascii_digit word.now }
+{
+    word.bytes().all(|byte| byte.is_ascii_digit())
+}

@@ -1,0 +1,78 @@
+//! Bytes on their way to a writer.
+
+ghost use Rattle.std.specs.Prelude.{◌≡◌, ◌+◌, ◌∷◌, ◌++◌, ◌<◌, ◌≤◌, ℕ, List, [], length, take};
+
+use std::marker::Model;
+
+/// The most bytes that wait.
+pub(crate) const SIZE: usize = 4096;
+
+/// Bytes that wait to be written, in order: at most [`SIZE`], which take no memory but their own.
+#[derive(Drop)]
+pub(crate) struct Buffer {
+    bytes: [u8; SIZE],
+    count: usize,
+}
+
+impl Model for Buffer {
+    ghost Value = { List ℕ };
+
+    ghost view = { λ buffer. take buffer.count buffer.bytes };
+
+    ghost invariant = { λ buffer. buffer.count ≤ 4096 };
+}
+
+impl Buffer {
+    /// Nothing waits.
+    pub(crate) fn new() -> Buffer
+        ensures { result ≡ [] }
+    {
+        Buffer {
+            bytes: [0; SIZE],
+            count: 0,
+        }
+    }
+
+    /// How many bytes wait.
+    pub(crate) fn len(&self) -> usize
+        ensures len { result ≡ length self.now }
+        ensures most { result ≤ SIZE }
+    {
+        self.bytes[..self.count].len()
+    }
+
+    /// The bytes that wait.
+    pub(crate) fn as_slice(&self) -> &[u8]
+        ensures { result.now ≡ self.now }
+    {
+        &self.bytes[..self.count]
+    }
+
+    /// Nothing waits any more.
+    pub(crate) fn clear(&mut self)
+        ensures { self.new ≡ [] }
+    {
+        self.count = 0;
+    }
+
+    /// A byte comes behind those that wait.
+    pub(crate) fn push(&mut self, byte: u8)
+        requires { length self.old < SIZE }
+        ensures bytes { self.new ≡ self.old ++ byte ∷ [] }
+        ensures len { length self.new ≡ length self.old + 1 }
+    {
+        self.bytes[self.count] = byte;
+        self.count += 1;
+    }
+
+    /// A text comes behind the bytes that wait.
+    pub(crate) fn push_text(&mut self, text: &[u8])
+        requires { length self.old + length text.now ≤ SIZE }
+        ensures bytes { self.new ≡ self.old ++ text.now }
+        ensures len { length self.new ≡ length self.old + length text.now }
+    {
+        let end = self.count + text.len();
+        self.bytes[self.count..end].copy_from_slice(text);
+        self.count = end;
+    }
+}

@@ -1,0 +1,49 @@
+//! Why the program fails.
+
+ghost use Rattle.std.specs.Prelude.{◌≡◌, Some};
+ghost use Rattle.mdevents_program.specs.Failure.{failure_text};
+ghost use Rattle.mdevents_program.specs.declared.failure.Failure.TheVariants.{Memory};
+
+use markdown::message::Message;
+use std::alloc::AllocError;
+use std::fmt;
+
+/// Why nothing, or not all, was written. Each is shown as one line.
+#[derive(Debug, PartialEq, Eq, Drop)]
+pub enum Failure {
+    /// There was no memory.
+    Memory,
+    /// The reader failed.
+    Read,
+    /// The writer failed, or took nothing.
+    Write,
+    /// The size of tabs times the length of the input, and one more, do not fit `usize`.
+    TooLong,
+    /// The events have chains of text that cannot be read. Those of a machine that the program offers all can.
+    NotReady,
+    /// The document is refused, by a state or a resolver. No machine that the program offers does that.
+    Message(Message),
+}
+
+impl fmt::Display for Failure {
+    ghost output = { λ failure. Some (failure_text failure) };
+
+    fn fmt<W: fmt::Write>(&self, f: &mut fmt::Formatter<W>) -> fmt::Result {
+        match self {
+            Failure::Memory => write!(f, "out of memory"),
+            Failure::Read => write!(f, "cannot read input"),
+            Failure::Write => write!(f, "cannot write output"),
+            Failure::TooLong => write!(f, "input too long"),
+            Failure::NotReady => write!(f, "events are not ready"),
+            Failure::Message(message) => write!(f, "{message}"),
+        }
+    }
+}
+
+impl From<AllocError> for Failure {
+    ghost from_gives = { λ _ failure. failure ≡ Memory };
+
+    fn from(_error: AllocError) -> Failure {
+        Failure::Memory
+    }
+}

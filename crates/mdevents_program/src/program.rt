@@ -1,0 +1,194 @@
+//! What the program does, over any reader and writer.
+
+ghost use Rattle.std.specs.Prelude.{◌≡◌, ◌≢◌, Contains, IfOk, IfErr, OnOk, IsErrOf, Some, false};
+ghost use Rattle.std.specs.Io.KnownBytes.{Keeps};
+ghost use Rattle.markdown.specs.Engine.{AreCuts};
+ghost use Rattle.mdevents_program.specs.Failure.{IsOfMaking};
+ghost use Rattle.markdown.specs.Engine.{IsRunRefused};
+ghost use Rattle.markdown.specs.Text.{IsDocument};
+ghost use Rattle.mdevents_program.specs.Program.{options_with, document, cut_places, Gives, GivesDeep, IsRefusedDeep, GivesUnready, HasChildren, HasRefusedChild, AreEventsOf, Prints, PrintsFront};
+ghost use Rattle.markdown.specs.Ready.{IsReady};
+ghost use Rattle.mdevents_program.specs.Reading.{IsWithinLimit, ReadsWithinLimit, ReadsPastLimit};
+ghost use Rattle.mdevents_program.specs.Arguments.{CanCut};
+
+use crate::arguments::{Choice, Which};
+use crate::failure::Failure;
+use crate::read::read_to_end;
+use crate::write::write_lines;
+use markdown::configuration::{ParseOptions, TabSize};
+use markdown::event::{Content, Event};
+use markdown::parser::ParseState;
+use markdown::state::{Machine, Name};
+use markdown::subtokenize::{ready, subtokenize};
+use markdown::tokenizer::{Fault, cuts_every, run};
+use mdconstructs::{Back, Deep, Lines, Paragraphs, Peek, Save, Text};
+use std::alloc::{AllocError, Global};
+use std::io::{Read, Write};
+
+/// Reads a document to its end and writes its events, a line for each, once all are there. The lines go through a buffer of
+/// fixed size, so no memory is taken but for the document and the events.
+///
+/// Tab stops are at the columns that the choice says. A cut in it is at least 1. It returns the first failure, in the order of
+/// reading, length, making the events, and writing. If that is not the writer's, nothing was written; if it is, a beginning of the
+/// lines. But for `TooLong`, what was read is within the limit. Two failures never come: `Message`, as no machine that can be
+/// chosen refuses a document, and `NotReady`, as the chains of text in what such a machine reads can be read.
+pub fn write_events<R: Read, W: Write>(
+    alloc: Global,
+    reader: &mut R,
+    writer: &mut W,
+    choice: &Choice,
+) -> Result<(), Failure>
+    requires { CanCut choice.now }
+    ensures written { OnOk result (Prints choice.now R.remaining reader.old reader.new W.contents writer.old writer.new) }
+    ensures too_long { IsErrOf result Failure.TooLong → ReadsPastLimit choice.now.tab (R.remaining reader.old) (R.remaining reader.new) }
+    ensures within_else { IfErr result (λ failure. failure ≢ Failure.TooLong → ReadsWithinLimit choice.now.tab (R.remaining reader.old) (R.remaining reader.new)) }
+    ensures never_refused { (m : _) → ¬ IsErrOf result (Failure.Message m) }
+    ensures ready { ¬ IsErrOf result Failure.NotReady }
+    ensures cut_short { IsErrOf result Failure.Write → PrintsFront choice.now R.remaining reader.old reader.new W.contents writer.old writer.new }
+    ensures nothing { IfErr result (λ failure. failure ≢ Failure.Write → Keeps (W.contents writer.old) (W.contents writer.new)) }
+{
+    let bytes = read_to_end(alloc, reader, choice.tab)?;
+    let events = events_of(alloc, bytes.as_slice(), choice)?;
+    write_lines(writer, events.as_slice())
+}
+
+/// The events of a document, which have no trace of the cuts.
+fn events_of(alloc: Global, bytes: &[u8], choice: &Choice) -> Result<Vec<Event>, Failure>
+    requires limit { IsWithinLimit choice.now.tab bytes.now }
+    requires cut { CanCut choice.now }
+    ensures events { IfOk result (λ events. AreEventsOf choice.now.deep choice.now.machine choice.now.tab bytes.now events.items) }
+    ensures never_refused { (m : _) → ¬ IsErrOf result (Failure.Message m) }
+    ensures ready { ¬ IsErrOf result Failure.NotReady }
+    ensures cause { IfErr result IsOfMaking }
+{
+    let cuts = cuts_of(alloc, bytes, choice)?;
+    let cuts = cuts.as_slice();
+    let tab = choice.tab;
+    match choice.machine {
+        Which::Lines => read_by(alloc, &Lines {}, Name::FlowStart, bytes, tab, cuts),
+        Which::Paragraphs if choice.deep => {
+            read_deep_by(alloc, &Paragraphs {}, Name::FlowStart, bytes, tab, cuts)
+        }
+        Which::Paragraphs => read_by(alloc, &Paragraphs {}, Name::FlowStart, bytes, tab, cuts),
+        Which::Peek => read_by(alloc, &Peek {}, Name::TextStart, bytes, tab, cuts),
+        Which::Deep => read_by(alloc, &Deep {}, Name::StringStart, bytes, tab, cuts),
+        Which::Back => read_by(alloc, &Back {}, Name::TextStart, bytes, tab, cuts),
+        Which::Save => read_by(alloc, &Save {}, Name::TextStart, bytes, tab, cuts),
+        Which::Text if choice.deep => {
+            read_deep_by(alloc, &Text {}, Name::FlowStart, bytes, tab, cuts)
+        }
+        Which::Text => read_by(alloc, &Text {}, Name::FlowStart, bytes, tab, cuts),
+    }
+}
+
+/// The default options, with tab stops at every so many columns.
+fn options_with(tab: TabSize) -> ParseOptions
+    ensures { result ≡ options_with tab }
+{
+    ParseOptions {
+        tab_size: tab,
+        ..ParseOptions::default()
+    }
+}
+
+/// The events of a document, as a machine reads it from this start, with the default options but for the size of tabs.
+fn read_by<M: Machine>(
+    alloc: Global,
+    machine: &M,
+    start: Name,
+    bytes: &[u8],
+    tab: TabSize,
+    cuts: &[(usize, usize)],
+) -> Result<Vec<Event>, Failure>
+    requires limit { IsWithinLimit tab bytes.now }
+    requires start { Contains (M.rules machine.now (document tab bytes.now)).starts start }
+    requires cuts { AreCuts tab bytes.now cuts.now }
+    ensures events { IfOk result (λ events. Gives (M.rules machine.now) start tab bytes.now events.items) }
+    ensures message { (m : _) → IsErrOf result (Failure.Message m) → IsRunRefused (document tab bytes.now) (M.rules machine.now) false start m }
+    ensures ready { ¬ IsErrOf result Failure.NotReady }
+    ensures cause { IfErr result IsOfMaking }
+{
+    let options = options_with(tab);
+    let parse_state = ParseState {
+        bytes,
+        options: &options,
+        machine,
+    };
+    match run(alloc, &parse_state, start, cuts, false) {
+        Ok((events, _)) => Ok(events),
+        Err(Fault::Memory) => Err(Failure::Memory),
+        Err(Fault::Message(message)) => Err(Failure::Message(message)),
+        Err(Fault::Failed) => unreachable!(),
+    }
+}
+
+/// The events of a document, as a machine reads it from this start, with the children of their chains of text.
+fn read_deep_by<M: Machine>(
+    alloc: Global,
+    machine: &M,
+    start: Name,
+    bytes: &[u8],
+    tab: TabSize,
+    cuts: &[(usize, usize)],
+) -> Result<Vec<Event>, Failure>
+    requires limit { IsWithinLimit tab bytes.now }
+    requires start { Contains (M.rules machine.now (document tab bytes.now)).starts start }
+    requires text { Contains (M.rules machine.now (document tab bytes.now)).starts Name.TextStart }
+    requires cuts { AreCuts tab bytes.now cuts.now }
+    ensures events { IfOk result (λ events. GivesDeep (M.rules machine.now) start tab bytes.now events.items) }
+    ensures message { (m : _) → IsErrOf result (Failure.Message m) → IsRefusedDeep (M.rules machine.now) start tab bytes.now m }
+    ensures unready { IsErrOf result Failure.NotReady → GivesUnready (M.rules machine.now) start tab bytes.now }
+    ensures cause { IfErr result IsOfMaking }
+    ensures document { IsDocument (document tab bytes.now) }
+{
+    // Tab stops are apart, as the type of their size tells: that makes the document one that can be read.
+    let _ = tab.get();
+    let events = read_by(alloc, machine, start, bytes, tab, cuts)?;
+    with_children(alloc, machine, bytes, tab, events)
+}
+
+/// The events with the children of their chains of text in place of the chunks, each read from its start by the same machine.
+fn with_children<M: Machine>(
+    alloc: Global,
+    machine: &M,
+    bytes: &[u8],
+    tab: TabSize,
+    mut events: Vec<Event>,
+) -> Result<Vec<Event>, Failure>
+    requires limit { IsWithinLimit tab bytes.now }
+    requires start { Contains (M.rules machine.now (document tab bytes.now)).starts Name.TextStart }
+    ensures events { IfOk result (λ new. HasChildren (M.rules machine.now) tab bytes.now events.items new.items) }
+    ensures message { (m : _) → IsErrOf result (Failure.Message m) → HasRefusedChild (M.rules machine.now) tab bytes.now events.items m }
+    ensures unready { IsErrOf result Failure.NotReady → ¬ IsReady tab bytes.now (Some Content.Text) events.items }
+    ensures cause { IfErr result IsOfMaking }
+{
+    if !ready(alloc, events.as_slice(), bytes, tab, Some(&Content::Text))? {
+        return Err(Failure::NotReady);
+    }
+    let options = options_with(tab);
+    let parse_state = ParseState {
+        bytes,
+        options: &options,
+        machine,
+    };
+    match subtokenize(alloc, &mut events, &parse_state, Some(&Content::Text)) {
+        Ok(_) => Ok(events),
+        Err(Fault::Memory) => Err(Failure::Memory),
+        Err(Fault::Message(message)) => Err(Failure::Message(message)),
+        Err(Fault::Failed) => unreachable!(),
+    }
+}
+
+/// The places at which a document is cut.
+fn cuts_of(alloc: Global, bytes: &[u8], choice: &Choice) -> Result<Vec<(usize, usize)>, AllocError>
+    requires limit { IsWithinLimit choice.now.tab bytes.now }
+    requires cut { CanCut choice.now }
+    ensures places { IfOk result (λ cuts. cuts.items ≡ cut_places choice.now bytes.now) }
+    ensures cuts { IfOk result (λ cuts. AreCuts choice.now.tab bytes.now cuts.items) }
+{
+    let _ = choice.tab.get();
+    match choice.cut {
+        Some(n) => cuts_every(alloc, bytes, choice.tab, n),
+        None => Ok(Vec::new(alloc)),
+    }
+}

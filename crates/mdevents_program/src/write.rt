@@ -1,0 +1,61 @@
+//! Writing the lines of events.
+
+ghost use Rattle.std.specs.Prelude.{◌≡◌, ◌+◌, ◌++◌, ◌<◌, ◌≤◌, ℕ, List, take, length, IsOkUnless, OnOk, OnErr};
+ghost use Rattle.std.specs.Io.KnownBytes.{Appends, Keeps};
+ghost use Rattle.mdevents_program.specs.Printed.{printed_events};
+
+use crate::buffer::{Buffer, SIZE};
+use crate::failure::Failure;
+use crate::print::{LONGEST, LastPoint, push_line};
+use markdown::event::Event;
+use std::io::Write;
+
+/// Writes a line for each event and nothing else, through a buffer of [`SIZE`] bytes, and takes no memory. Any error of
+/// the writer, and a write that takes nothing, is `Failure::Write`; what was written is then a beginning of the lines.
+pub fn write_lines<W: Write>(writer: &mut W, events: &[Event]) -> Result<(), Failure>
+    ensures all { OnOk result (Appends (W.contents writer.old) (W.contents writer.new) (printed_events events.now)) }
+    ensures failed { OnErr result ((count : ℕ) × Appends (W.contents writer.old) (W.contents writer.new) (take count (printed_events events.now))) }
+    ensures cause { IsOkUnless result Failure.Write }
+{
+    let mut lines = Buffer::new();
+    let mut last = LastPoint::new();
+    for event in events {
+        make_room(&mut lines, writer)?;
+        push_line(&mut lines, &mut last, event);
+    }
+    write_all(writer, lines.as_slice())
+}
+
+/// Makes room for a line: if there is none, writes what the buffer has, and else nothing.
+fn make_room<W: Write>(buffer: &mut Buffer, writer: &mut W) -> Result<(), Failure>
+    ensures room { OnOk result (length buffer.new + LONGEST ≤ SIZE) }
+    ensures passed { OnOk result ((text : List ℕ) × Appends (W.contents writer.old) (W.contents writer.new) text × (text ++ buffer.new ≡ buffer.old)) }
+    ensures failed { OnErr result ((count : ℕ) × Appends (W.contents writer.old) (W.contents writer.new) (take count buffer.old)) }
+    ensures cause { IsOkUnless result Failure.Write }
+    ensures asked { OnErr result (SIZE < length buffer.old + LONGEST) }
+    ensures kept { length buffer.old + LONGEST ≤ SIZE → (buffer.new ≡ buffer.old) × Keeps (W.contents writer.old) (W.contents writer.new) }
+{
+    if buffer.len() > SIZE - LONGEST {
+        write_all(writer, buffer.as_slice())?;
+        buffer.clear();
+    }
+    Ok(())
+}
+
+/// Writes all of a text and nothing else. Any error of the writer, and a write that takes nothing, is
+/// `Failure::Write`; what was written is then a beginning of the text. An empty one is written whole.
+fn write_all<W: Write>(writer: &mut W, text: &[u8]) -> Result<(), Failure>
+    ensures all { OnOk result (Appends (W.contents writer.old) (W.contents writer.new) text.now) }
+    ensures failed { OnErr result ((count : ℕ) × Appends (W.contents writer.old) (W.contents writer.new) (take count text.now)) }
+    ensures cause { IsOkUnless result Failure.Write }
+    ensures asked { OnErr result (0 < length text.now) }
+{
+    let mut written = 0;
+    'writing: while written < text.len() {
+        match writer.write(&text[written..]) {
+            Ok(0) | Err(_) => return Err(Failure::Write),
+            Ok(count) => written += count,
+        }
+    }
+    Ok(())
+}

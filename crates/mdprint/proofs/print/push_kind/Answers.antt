@@ -1,8 +1,0 @@
-use Rattle.std.proofs.Common.{codes, sym, ◌∙◌, append_assoc}
-use Rattle.mdprint.proofs.print.push_kind.Goals as goal
-
-pub returns-in-Enter-clause-bytes : goal.returns-in-Enter-clause-bytes
-returns-in-Enter-clause-bytes c = let e = c.in-Enter.is in rw e (c.push_text.ensures.bytes ∙ sym (append_assoc c.args.waiting.now (codes "enter") (codes " ")))
-
-pub returns-in-Exit-clause-bytes : goal.returns-in-Exit-clause-bytes
-returns-in-Exit-clause-bytes c = let e = c.in-Exit.is in rw e (c.push_text-in-Exit.ensures.bytes ∙ sym (append_assoc c.args.waiting.now (codes "exit") (codes " ")))

@@ -1,5 +1,0 @@
-use Rattle.std.proofs.Common.{length}
-use Rattle.mdprint.proofs.words.+read_options.Given as goal
-
-abbrev pub decreases-read_options : goal.decreases-read_options
-decreases-read_options l = length l.words.now

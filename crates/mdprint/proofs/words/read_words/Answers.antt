@@ -1,7 +1,0 @@
-use Rattle.std.proofs.Common.{◌∙◌}
-use Rattle.std.specs.Prelude.{map, string_bytes}
-use Rattle.mdprint.proofs.OptionWords.{chosen_after-chosen}
-use Rattle.mdprint.proofs.words.read_words.Goals as goal
-
-pub returns-clause-chosen : goal.returns-clause-chosen
-returns-clause-chosen c = c.read_options.ensures.chosen ∙ chosen_after-chosen (map string_bytes c.args.words.now)

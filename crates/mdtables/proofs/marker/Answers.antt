@@ -1,5 +1,0 @@
-use Rattle.mdtables.proofs.Markers.{can-mark}
-use Rattle.mdtables.proofs.marker.Goals as goal
-
-pub exit-requires : goal.exit-requires
-exit-requires g c = rw (c.consume.ensures, c.in_ok-enter.ensures.ok) (can-mark c.args.name c.args.t.now c.requires)

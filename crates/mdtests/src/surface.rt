@@ -1,0 +1,40 @@
+//! The surface: each item that the libraries offer, by the path under which a caller finds it. A path that is gone is an error here.
+//! The program's own items are at the root of `mdevents`, and no crate can import from a program.
+//!
+//! Each call that takes memory and returns something is made with ample memory, and what it returns is compared, by these tests:
+//!
+//! - `Message::try_clone`: `messages`. `CompileOptions::try_clone`: `options`. `State::try_clone`: `states`.
+//! - `format`, `format_opt`, `format_byte`, `format_byte_opt`: `chars`.
+//! - `Location::new`: `locations`. `Slice::serialize`: `slices`. `cuts_every`: `places`.
+//! - `EditMap::add`, `EditMap::add_before`, `EditMap::consume`: `edit_map`.
+//! - `Tokenizer::push`, `Tokenizer::flush`: `driven`. `Tokenizer::define_skip`: `ranges`.
+//! - `Tokenizer::enter`, `enter_link`, `exit`, `attempt`, `check`, `register_resolver`, `register_resolver_before`: `tokenizer`.
+//! - `run`: `machines`. `ready`: `ready`. `divide_events`: `division`. `subtokenize`: `subtokenize`. `read_text`: `texts`.
+
+use markdown::configuration::{CompileOptions, Constructs, Options, ParseOptions, TabSize};
+use markdown::event::{Content, Event, Kind, Link, Name, Point, VOID_EVENTS};
+use markdown::message::{Message, Place};
+use markdown::parser::ParseState;
+use markdown::state::{Machine, MachineTypes, Name as StateName, State};
+use markdown::subtokenize::{
+    Subresult, at_first_paragraph_of_list_item, divide_events, link, link_to, ready, subtokenize,
+};
+use markdown::tokenizer::{
+    Container, ContainerState, Fault, Label, LabelKind, LabelStart, TokenizeState, Tokenizer,
+    cuts_every, point_at, run,
+};
+use markdown::unist::{Point as PlainPoint, Position};
+use markdown::util::char::{
+    Kind as CharKind, after_index, before_index, classify, classify_opt, format, format_byte,
+    format_byte_opt, format_opt, kind_after_index,
+};
+use markdown::util::edit_map::EditMap;
+use markdown::util::line_ending::LineEnding;
+use markdown::util::location::{Location, Stop};
+use markdown::util::skip::{opt, opt_back, to, to_back};
+use markdown::util::slice::{Position as SlicePosition, Slice};
+use markdown::{
+    CompileOptions as RootCompileOptions, Constructs as RootConstructs, Options as RootOptions,
+    ParseOptions as RootParseOptions,
+};
+use mdconstructs::{Back, Deep, Fail, Lines, Paragraphs, Peek, Save, Text, Wrap, read_text};

@@ -1,8 +1,0 @@
-use Rattle.mdtext.proofs.ParagraphsReady.{paragraphs-readable, text-readable}
-use Rattle.mdtext.proofs.chains.chains_of_paragraphs_can_be_read.Goals as goal
-
-pub returns-clause-paragraphs : goal.returns-clause-paragraphs
-returns-clause-paragraphs c = paragraphs-readable
-
-pub returns-clause-text : goal.returns-clause-text
-returns-clause-text c = text-readable

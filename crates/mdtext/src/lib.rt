@@ -1,6 +1,0 @@
-//! The machine of texts, and what a text is read as: code spans, autolinks, escapes, line endings and plain data.
-#![tactic(auto)]
-
-pub mod chains;
-pub mod read;
-pub mod text;

@@ -1,0 +1,70 @@
+#!/usr/bin/env python3
+"""Writes specs/Lib.antt and proofs/Lib.antt of the two facades, `markdown` and `mdconstructs`, from those of their parts.
+
+usage: tools/facades.py [--check]        with --check it writes nothing, and ends with 1 if a file is not as it would be written
+
+A facade passes on each file of its parts under the file's own name. If two files have one name, or a file has the name of an item at
+the facade's root (the machine Paragraphs), it gets a name of its own here.
+"""
+
+import os
+import re
+import sys
+
+TOP = os.path.dirname(os.path.dirname(os.path.realpath(__file__)))
+PARTS = {
+    "markdown": ["markdown_base", "markdown_edits", "markdown_tokenizer", "markdown_children"],
+    "mdconstructs": ["mdconstructs_tables", "mdconstructs_machines", "mdconstructs_text"],
+}
+NAMED = {
+    ("markdown_children", "specs", "Laws"): "ChildrenLaws",
+    ("mdconstructs_text", "specs", "Laws"): "TextLaws",
+    ("mdconstructs_text", "proofs", "NoRefusals"): "TextNoRefusals",
+    ("mdconstructs_text", "proofs", "Paragraphs"): "TextParagraphs",
+}
+# generated files that no `pub use` of an item brings along: the constants of a type that a part re-exports
+ALSO = {
+    ("markdown", "specs"): ["pub use Rattle.markdown_base.specs.declared.state.TheConstants as StateConstants"],
+}
+
+
+def files(part, room):
+    """Yields the public files of a part's folder."""
+    path = f"{TOP}/crates/{part}/{room}/Lib.antt"
+    if os.path.exists(path):
+        with open(path, encoding="utf-8") as it:
+            yield from re.findall(r"^pub mod (\w+)$", it.read(), flags=re.M)
+
+
+def lib(facade, room):
+    """Returns the text of a facade's Lib.antt."""
+    lines, names = [], set()
+    for part in PARTS[facade]:
+        for name in files(part, room):
+            given = NAMED.get((part, room, name))
+            if (given or name) in names:
+                sys.exit(f"facades: {facade} has two files {given or name} in {room}: name one of them in NAMED")
+            names.add(given or name)
+            lines.append(f"pub use Rattle.{part}.{room}.{name}" + (f" as {given}" if given else ""))
+    return "\n".join(lines + ALSO.get((facade, room), [])) + "\n"
+
+
+def main():
+    other = []
+    for facade in PARTS:
+        for room in ("specs", "proofs"):
+            path, text = f"{TOP}/crates/{facade}/{room}/Lib.antt", lib(facade, room)
+            with open(path, encoding="utf-8") as it:
+                if it.read() == text:
+                    continue
+            other.append(path)
+            if "--check" not in sys.argv[1:]:
+                with open(path, "w", encoding="utf-8") as it:
+                    it.write(text)
+    for path in other:
+        print(os.path.relpath(path, TOP))
+    sys.exit(1 if other and "--check" in sys.argv[1:] else 0)
+
+
+if __name__ == "__main__":
+    main()
