@@ -1,0 +1,172 @@
+#!/usr/bin/env python3
+"""Holds README.md and docs/ against the files that they speak of. Prints what fails, and ends with 1 if something does.
+
+usage: tools/docs.py [--take]        with --take each code block is first written anew from the items that it names
+
+A fence names its file behind the language, and the items that it shows: ```rust crates/C/src/f.rt item item. `*` is the whole
+file. With no item each stretch between blank lines is text of the file. Shown with items are the `use` lines that they need.
+"""
+
+import os
+import re
+import subprocess
+import sys
+
+TOP = os.path.dirname(os.path.dirname(os.path.realpath(__file__)))
+FILES = subprocess.run(["git", "-C", TOP, "ls-files", "-co", "--exclude-standard"], capture_output=True, text=True).stdout.split("\n")
+FILES = [f for f in FILES if f and os.path.exists(f"{TOP}/{f}")]
+PATHS = set(FILES) | {f[:i] for f in FILES for i in range(len(f)) if f[i] == "/"}
+PAGES = ["README.md"] + [f for f in FILES if f.startswith("docs/") and f.endswith(".md")]
+MAP = "docs/maintaining/MAP.md"
+# Words in backticks that are of Rust, of the system or of the prover
+FOREIGN = set("unsafe debug_assert unwrap respects_eq allocate cap ptr grep steal Lts rattle-kit-13f _rows NAME_in".split())
+FENCE = re.compile(r"^```(\w+) (\S+)((?: \S+)*)\n(.*?)^```$", flags=re.S | re.M)
+FILE = re.compile(r"[\w./+-]+\.(?:rt|antt|md|py|sh|edit|txt)|(?:crates|docs|tools|bench|wrong-bodies|specs|proofs|src)/[\w./+-]*")
+PATH = re.compile(r"(?:\w+::)+\{?\w+\}?")  # markdown::tokenizer
+LEMMAS = re.compile(r"[A-Z]\w+\.[A-Z]\w+")  # Runs.Whole
+CITED = re.compile(r"Rattle\.(\w+)\.(specs|proofs)((?:\.\w+)*)")
+NAME = re.compile(r"[A-Za-z_][\w-]{2,}")
+failed = []
+
+
+def read(path):
+    with open(f"{TOP}/{path}", encoding="utf-8") as it:
+        return it.read()
+
+
+def item(lines, name, rust):
+    """Returns the text of an item: its comment, its head, and all up to its end."""
+    head = re.compile(rf"(?:pub(?:\(crate\))? )?(?:abbrev |record |data |fn |struct |enum |trait |type |const |impl .*)*(?:pub )?{re.escape(name)}(?![\w-])")
+    starts = [i for i, line in enumerate(lines) if head.match(line) and not line.startswith(("use ", "ghost use "))]
+    if not starts:
+        return None
+    start = end = starts[0]
+    while start and lines[start - 1].startswith(("///", "#[", "--")):
+        start -= 1
+    while end + 1 < len(lines) and not (lines[end] in ("}", "{}") or lines[end].endswith(";") and lines[end][0] != " " if rust else lines[end + 1] == ""):
+        end += 1
+    return "\n".join(lines[start : end + 1])
+
+
+def taken(path, names):
+    """Returns the text that a block with these items should have."""
+    text = read(path)
+    if names == ["*"]:
+        return text
+    lines = text.split("\n")
+    items = [item(lines, name, path.endswith(".rt")) for name in names]
+    if None in items:
+        return None
+    words = set(re.findall(r"[^\s(),.;:{}\[\]&<>]+|◌\S+◌", "\n\n".join(items)))
+    uses = {"ghost use ": [], "use ": []}
+    for line in lines:
+        for kind, found in uses.items():
+            if line.startswith(kind):
+                if words & set(re.findall(r"[^\s(),.;:{}]+", re.split(r"::|\.", line, 1)[1])) - {"std", "self", "specs"}:
+                    found.append(line)
+                break
+    return "\n\n".join(["\n".join(found) for found in uses.values() if found] + items) + "\n"
+
+
+def blocks(page, text, take):
+    """Holds each block against its file; with `take` it is written anew."""
+    for block in reversed(list(FENCE.finditer(text))):
+        path, names, shown = block[2], block[3].split(), block[4]
+        at = f"{page}:{text.count(chr(10), 0, block.start()) + 1}"
+        if path not in FILES:
+            failed.append(f"{at}: no file {path}")
+        elif not names:
+            whole = "\n" + read(path)
+            failed.extend(f"{at}: not in {path}: {part.split(chr(10))[0]}" for part in shown.strip("\n").split("\n\n") if "\n" + part + "\n" not in whole)
+        elif (wanted := taken(path, names)) is None:
+            failed.append(f"{at}: {path} has not all of {' '.join(names)}")
+        elif wanted != shown:
+            if take:
+                text = text[: block.start(4)] + wanted + text[block.end(4) :]
+            else:
+                failed.append(f"{at}: not the text of {path}, {' '.join(names)}")
+    return text
+
+
+def there(path):
+    """Returns whether a file or folder of the repository is called so, by its whole path or the end of it."""
+    return any(p == path or p.endswith("/" + path) for p in PATHS)
+
+
+def is_found(word, page, source):
+    """Returns whether what a word in backticks names is found; words that look like no name are."""
+    if FILE.fullmatch(word):
+        is_room = page == MAP and re.match(r"(src|specs|proofs)/", word)
+        return is_room or bool(re.search(r"NAME|CRATE|/out/", word)) or there(word.rstrip("/"))
+    if PATH.fullmatch(word):
+        return set(re.findall(r"\w+", word)) <= source
+    if LEMMAS.fullmatch(word):
+        return there(word.replace(".", "/") + ".antt")
+    if cited := CITED.fullmatch(word):
+        return cited[1] == "std" or cited[3] in ("", ".X") or there((cited[2] + cited[3]).replace(".", "/") + ".antt")
+    return not NAME.fullmatch(word) or bool({word, word.rsplit("-", 1)[0]} & (source | FOREIGN))
+
+
+def names(page, text, source):
+    """Holds what looks like a file, a folder, a name or a path of the code, and links."""
+    prose = re.sub(r"^```.*?^```$", "", text, flags=re.S | re.M)
+    failed.extend(f"{page}: no {word}" for word in re.findall(r"`([^`\s]+)`", prose) if not is_found(word, page, source))
+    for link in re.findall(r"\]\(([^)#]+)", text):
+        if "://" not in link and not os.path.exists(os.path.join(TOP, os.path.dirname(page), link)):
+            failed.append(f"{page}: dead link {link}")
+
+
+def rooms():
+    """Holds the map: each name is there, and each file of src, specs and proofs is in a room."""
+    covered, crate = set(), None
+    for line in read(MAP).split("\n"):
+        crate = m[1] if (m := re.fullmatch(r"## `(\w+)`.*", line)) else crate if not line.startswith("## ") else None
+        if crate and line.startswith("- "):
+            for word in re.findall(r"`(src|specs|proofs)/([\w/]+)`", line.split(": ")[0]):
+                room = f"crates/{crate}/{word[0]}/{word[1]}"
+                covered.add(room)
+                if not {room, room + ".rt", room + ".antt"} & PATHS:
+                    failed.append(f"{MAP}: no {room}")
+    for file in FILES:
+        if m := re.fullmatch(r"crates/(\w+)/(src|specs|proofs)/([\w/+]+)\.(rt|antt)", file):
+            room, folder = file.rsplit(".", 1)[0], m[3].split("/")[0]
+            of_code = m[2] == "proofs" and (folder[0].islower() or folder[0] == "+")
+            if m[3] not in ("lib", "main", "Lib", "util") and not of_code and not any(room == c or room.startswith(c + "/") for c in covered):
+                failed.append(f"{MAP}: no room for {file}")
+
+
+def definitions():
+    """Holds the list of definitions: each name is in the file of its row."""
+    crate = file = None
+    for line in read("docs/DEFINITIONS.md").split("\n"):
+        crate = m[1] if (m := re.fullmatch(r"## `(\w+)`", line)) else crate
+        if crate and re.match(r"\| (`|\|)", line):
+            cells = [cell.strip() for cell in line.split("|")]
+            file = cells[1].strip("`") or file
+            path = f"crates/{crate}/specs/{file}.antt"
+            if path not in FILES:
+                failed.append(f"docs/DEFINITIONS.md: no {path}")
+                continue
+            here = set(re.findall(r"[^\s(){},.:]+", read(path)))
+            failed.extend(f"docs/DEFINITIONS.md: no {name} in {path}" for name in re.findall(r"`([^`]+)`", cells[2]) if name not in here)
+
+
+def main():
+    code = "\n".join(read(f) for f in FILES if re.match(r"(crates|bench|tools|wrong-bodies)/.*\.(rt|antt|py|sh)$", f) and f != "tools/docs.py")
+    source = {"std", "core"} | set(re.findall(r"\w+", code)) | set(re.findall(r"[\w'-]+", code))
+    source |= {part for p in PATHS for part in re.findall(r"[\w-]+", os.path.basename(p))} | set(re.findall(r"\w+", " ".join(PATHS)))
+    for page in PAGES:
+        text = read(page)
+        new = blocks(page, text, "--take" in sys.argv[1:])
+        if new != text:
+            with open(f"{TOP}/{page}", "w", encoding="utf-8") as it:
+                it.write(new)
+        names(page, new, source)
+    definitions()
+    rooms()
+    print("\n".join(failed), end="\n" if failed else "")
+    sys.exit(1 if failed else 0)
+
+
+if __name__ == "__main__":
+    main()
