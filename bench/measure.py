@@ -1,9 +1,14 @@
-"""Prints what a run of mdevents needs, for each machine and several documents, as the rows of a table, and then how edits and
-gaps grow.
+"""Prints what a run of mdevents needs, for each machine and several documents, as the rows of a table, and then how it grows with
+the document, its chunks, its gaps and the edits. Where a third program is given, a table compares mdevents with it.
 
 Instructions are callgrind's counts, the same in each run, less those of a run over nothing; the engine's are those of the
 functions of the crates markdown_tokenizer and markdown_edits. Peak memory is the most that stood on the heap at once (massif), the
-same in each run too. The bytes per second are those of the fastest of five runs.
+same in each run too. Page faults are those for which nothing is read, so a page of memory each that a run touches, less those of a
+run over nothing: the greatest resident set of a process that this one starts would be this one's. The bytes per second are those of
+the fastest of five runs.
+
+usage: measure.py MDEVENTS MDBENCH [OTHER]. OTHER reads a document from standard input and writes the events of the machine of
+lines, as mdevents does without options.
 """
 
 import os
@@ -19,6 +24,8 @@ COLUMNS = "name\tvalue\tother\tlast\n"
 SHORT = "ab\n"
 QUOTED = ">" + PLAIN
 MARKUP = "Some `code` and <https://example.com/a?b=c> with \\* and \\_ escapes, and ``two ` ticks`` here.\n"
+
+SPANS = "a `b` <cd:e>\n"
 
 # options, name of the document, its line, its sizes
 RUNS = [
@@ -40,22 +47,36 @@ RUNS = [
 
 # what grows: the program, its options, what is made in it, its line, which is repeated
 GROWING = [
+    ("mdevents", "", "lines `ab`", SHORT),
+    ("mdevents", "--machine text --deep", "lines of text with spans", SPANS),
+    ("mdevents", "--machine paragraphs --deep", "chunks of one paragraph", SHORT),
+    ("mdevents", "--machine paragraphs --deep", "paragraphs of one chunk", SHORT + "\n"),
+    ("mdevents", "--machine paragraphs --deep", "lines that begin with a gap", ">ab\n"),
     ("mdbench", "", "edits at ascending indices", "a"),
     ("mdbench", "", "edits at descending indices", "d"),
-    ("mdevents", "--machine paragraphs --deep", "lines that begin with a gap", ">ab\n"),
 ]
 
+# the documents on which mdevents is compared with another program
+COMPARED = [("plain", PLAIN), ("columns", COLUMNS), ("tabs", TABS), ("short", SHORT)]
 
-def seconds(program, options, document):
-    """The seconds that the fastest of five runs takes."""
-    best = None
-    for _ in range(5):
-        with open(document) as text:
-            start = time.perf_counter()
-            subprocess.run([program, *options], stdin=text, stdout=subprocess.DEVNULL, check=True)
-            took = time.perf_counter() - start
-        best = took if best is None else min(best, took)
-    return best
+
+def once(program, options, document):
+    """The seconds that a run takes, and its page faults."""
+    with open(document) as text:
+        start = time.perf_counter()
+        run = subprocess.Popen([program, *options], stdin=text, stdout=subprocess.DEVNULL)
+        _, status, used = os.wait4(run.pid, 0)
+        took = time.perf_counter() - start
+    run.returncode = os.waitstatus_to_exitcode(status)
+    if run.returncode != 0:
+        raise subprocess.CalledProcessError(run.returncode, run.args)
+    return took, used.ru_minflt
+
+
+def fastest(program, options, document):
+    """The seconds that the fastest of five runs takes, and the fewest page faults of one."""
+    runs = [once(program, options, document) for _ in range(5)]
+    return min(took for took, _ in runs), min(faults for _, faults in runs)
 
 
 def valgrind(tool, settings, program, options, document):
@@ -110,8 +131,9 @@ def main(program, folder):
     document = os.path.join(folder, "document")
     open(document, "w").close()
     base, _ = instructions(program, [], document, counts)
-    print("| Options | Document | Bytes | Whole run, instructions/byte | Engine, instructions/byte | Peak heap, KiB | Million bytes/second |")
-    print("|---|---|---|---|---|---|---|")
+    least = fastest(program, [], document)[1]
+    print("| Options | Document | Bytes | Whole run, instructions/byte | Engine, instructions/byte | Peak heap, KiB | Page faults | Million bytes/second |")
+    print("|---|---|---|---|---|---|---|---|")
     for options, name, line, sizes in RUNS:
         for size in sizes:
             with open(document, "w") as text:
@@ -119,8 +141,29 @@ def main(program, folder):
             words = options.split()
             whole, engine = instructions(program, words, document, counts)
             heap = peak(program, words, document, counts) // 1024
-            speed = size / seconds(program, words, document) / 1e6
-            print(f"| {options or 'none'} | {name} | {size:,} | {(whole - base) / size:.0f} | {engine / size:.0f} | {heap:,} | {speed:.1f} |", flush=True)
+            took, faults = fastest(program, words, document)
+            print(f"| {options or 'none'} | {name} | {size:,} | {(whole - base) / size:.0f} | {engine / size:.0f} | {heap:,} | {faults - least:,} | {size / took / 1e6:.1f} |", flush=True)
+
+
+def compare(program, other, folder):
+    """Prints the table of mdevents beside another program, on documents of 100,000 bytes."""
+    counts = os.path.join(folder, "counts")
+    document = os.path.join(folder, "document")
+    size = 100000
+    open(document, "w").close()
+    bases = [instructions(each, [], document, counts)[0] for each in (program, other)]
+    least = [fastest(each, [], document)[1] for each in (program, other)]
+    print("| Document | Whole run, instructions/byte | The other | Peak heap, KiB | The other | Page faults | The other |")
+    print("|---|---|---|---|---|---|---|")
+    for name, line in COMPARED:
+        with open(document, "w") as text:
+            text.write((line * (size // len(line) + 1))[:size])
+        row = [name]
+        wholes = [instructions(each, [], document, counts)[0] for each in (program, other)]
+        row += [f"{(whole - base) / size:.0f}" for whole, base in zip(wholes, bases)]
+        row += [f"{peak(each, [], document, counts) // 1024:,}" for each in (program, other)]
+        row += [f"{fastest(each, [], document)[1] - few:,}" for each, few in zip((program, other), least)]
+        print("| " + " | ".join(row) + " |", flush=True)
 
 
 if __name__ == "__main__":
@@ -128,3 +171,6 @@ if __name__ == "__main__":
         main(sys.argv[1], scratch)
         print()
         grow({"mdevents": sys.argv[1], "mdbench": sys.argv[2]}, scratch)
+        if len(sys.argv) > 3:
+            print()
+            compare(sys.argv[1], sys.argv[3], scratch)

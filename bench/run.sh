@@ -1,5 +1,6 @@
 #!/usr/bin/env bash
-# Builds the programs and prints two tables of what they need: see measure.py. Needs rt, valgrind and python3.
+# Builds the programs and prints tables of what they need: see measure.py. Needs rt, valgrind and python3.
+# usage: bench/run.sh [OTHER]. OTHER is a program that is compared with mdevents, as one made from the Rust crate.
 set -eu
 for tool in rt valgrind callgrind_annotate python3; do
     if ! command -v "$tool" >/dev/null; then
@@ -23,4 +24,4 @@ trap 'rm -f "$log"' EXIT
 # a further program is built so, and measured by a script beside measure.py that prints a table of its own
 build mdevents
 build mdbench
-python3 "$here/measure.py" "$here/../crates/mdevents/out/mdevents" "$here/../crates/mdbench/out/mdbench"
+python3 "$here/measure.py" "$here/../crates/mdevents/out/mdevents" "$here/../crates/mdbench/out/mdbench" "$@"
