@@ -4,7 +4,7 @@
 usage: tools/docs.py [--take]        with --take each code block is first written anew from the items that it names
 
 A fence names its file behind the language, and the items that it shows: ```rust crates/C/src/f.rt item item. `*` is the whole
-file. With no item each stretch between blank lines is text of the file. Shown with items are the `use` lines that they need.
+file. With no item each stretch between blank lines is text of the file. A block of code that names no file fails. Shown with items are the `use` lines that they need.
 """
 
 import os
@@ -43,9 +43,16 @@ def item(lines, name, rust):
     start = end = starts[0]
     while start and lines[start - 1].startswith(("///", "#[", "--")):
         start -= 1
-    while end + 1 < len(lines) and not (lines[end] in ("}", "{}") or lines[end].endswith(";") and lines[end][0] != " " if rust else lines[end + 1] == ""):
+    while end + 1 < len(lines) and not (lines[end] in ("}", "{}") or lines[end][:1] != " " and lines[end].endswith(" {}") or lines[end].endswith(";") and lines[end][0] != " " if rust else lines[end + 1] == ""):
         end += 1
     return "\n".join(lines[start : end + 1])
+
+
+def imported(line):
+    """Returns the names that a `use` line imports."""
+    module, _, last = line.rstrip(";").replace("::", ".").rpartition(".")
+    names = set(re.findall(r"[^\s,{}]+", last))
+    return names | {module.rpartition(".")[2]} if "self" in names else names
 
 
 def taken(path, names):
@@ -57,12 +64,12 @@ def taken(path, names):
     items = [item(lines, name, path.endswith(".rt")) for name in names]
     if None in items:
         return None
-    words = set(re.findall(r"[^\s(),.;:{}\[\]&<>]+|◌\S+◌", "\n\n".join(items)))
+    words = set(re.findall(r"[^\s(),.;:{}\[\]&<>]+|◌\S+◌", re.sub(r"^ *(?://|--).*", "", "\n\n".join(items), flags=re.M)))
     uses = {"ghost use ": [], "use ": []}
     for line in lines:
         for kind, found in uses.items():
             if line.startswith(kind):
-                if words & set(re.findall(r"[^\s(),.;:{}]+", re.split(r"::|\.", line, 1)[1])) - {"std", "self", "specs"}:
+                if words & imported(line):
                     found.append(line)
                 break
     return "\n\n".join(["\n".join(found) for found in uses.values() if found] + items) + "\n"
@@ -70,6 +77,8 @@ def taken(path, names):
 
 def blocks(page, text, take):
     """Holds each block against its file; with `take` it is written anew."""
+    for bare in re.finditer(r"^```(?:rust|antt)$", text, flags=re.M):
+        failed.append(f"{page}:{text.count(chr(10), 0, bare.start()) + 1}: a block of code that names no file")
     for block in reversed(list(FENCE.finditer(text))):
         path, names, shown = block[2], block[3].split(), block[4]
         at = f"{page}:{text.count(chr(10), 0, block.start()) + 1}"
@@ -97,7 +106,7 @@ def is_found(word, page, source):
     """Returns whether what a word in backticks names is found; words that look like no name are."""
     if FILE.fullmatch(word):
         is_room = page == MAP and re.match(r"(src|specs|proofs)/", word)
-        return is_room or bool(re.search(r"NAME|CRATE|/out/", word)) or there(word.rstrip("/"))
+        return is_room or bool(re.search(r"NAME|CRATE|FUNCTION|/out/", word)) or there(word.rstrip("/"))
     if PATH.fullmatch(word):
         return set(re.findall(r"\w+", word)) <= source
     if LEMMAS.fullmatch(word):

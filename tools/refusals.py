@@ -1,9 +1,10 @@
 #!/usr/bin/env python3
-"""Refuses a growth in each test of mdtests: the first one, then the second, and so on, up to the number that is given (20
-where none is). Prints a row for each: how many tests passed, and how many ended for want of memory.
+"""Refuses a growth in each test of mdtests and mdevents: the first one, then the second, and so on, up to the number that is given
+(20 where none is). Prints a row for each: how many tests passed, and how many ended for want of memory.
 
-A test of the module no_memory has to pass whichever growth is refused. Another one passes, ends in AllocError, or shows
-"out of memory" in what it compares. The status is 1 where anything else is seen. Needs rt.
+Some tests have to pass whichever growth is refused: in mdtests those of the module no_memory, and in mdevents the one that shows
+that want of memory is no fault of the reader. Another test of mdtests passes, ends in AllocError, or shows "out of memory" in what it
+compares. Another one of mdevents may fail, as it compares without showing. The status is 1 where anything else is seen. Needs rt.
 """
 
 import os
@@ -11,7 +12,12 @@ import re
 import subprocess
 import sys
 
-TESTS = os.path.join(os.path.dirname(os.path.abspath(__file__)), "../crates/mdtests")
+CRATES = os.path.join(os.path.dirname(os.path.abspath(__file__)), "../crates")
+# A crate, what the names of the tests begin with that have to pass, and whether the others show why they fail.
+TESTS = (
+    ("mdtests", "no_memory::", True),
+    ("mdevents", "tests::memory_is_no_fault_of_the_reader", False),
+)
 REFUSED = re.compile(r"Error: AllocError|left: .*out of memory|\bmemory\b")
 
 
@@ -23,33 +29,35 @@ def blocks(said):
         yield name, word == "ok", rest
 
 
-def refuse(number):
-    """Refuses the growth of this number in each test: the row, and what is seen and may not be."""
-    words = ["rt", "try", "--test", "--fail-alloc", str(number)]
-    ran = subprocess.run(words, cwd=TESTS, capture_output=True, text=True, errors="replace")
+def refuse(number, crate, passes, shows):
+    """Refuses the growth of this number in each test of a crate: the row, and what is seen and may not be."""
+    words = ["rt", "try", "--test", "--seconds", "400", "--fail-alloc", str(number)]
+    folder = os.path.join(CRATES, crate)
+    ran = subprocess.run(words, cwd=folder, capture_output=True, text=True, errors="replace")
     tests = list(blocks(ran.stdout + ran.stderr))
     failed = [(name, rest) for name, passed, rest in tests if not passed]
     other = [
         name
         for name, rest in failed
-        if name.startswith("no_memory::") or not REFUSED.search(rest)
+        if name.startswith(passes) or shows and not REFUSED.search(rest)
     ]
-    if not any(name.startswith("no_memory::") for name, _, _ in tests):
-        other.append("no test of no_memory ran")
+    if not any(name.startswith(passes) for name, _, _ in tests):
+        other.append(f"no test {passes} ran")
     return len(tests) - len(failed), len(failed), other
 
 
 def main():
     most = int(sys.argv[1]) if len(sys.argv) > 1 else 20
     bad = False
-    print("| Growth | Passed | Refused |")
-    print("|---|---|---|")
-    for number in range(1, most + 1):
-        passed, refused, other = refuse(number)
-        print(f"| {number} | {passed} | {refused} |", flush=True)
-        for name in other:
-            print(f"bench: growth {number}: {name}", file=sys.stderr, flush=True)
-        bad = bad or bool(other)
+    print("| Crate | Growth | Passed | Refused |")
+    print("|---|---|---|---|")
+    for crate, passes, shows in TESTS:
+        for number in range(1, most + 1):
+            passed, refused, other = refuse(number, crate, passes, shows)
+            print(f"| {crate} | {number} | {passed} | {refused} |", flush=True)
+            for name in other:
+                print(f"refusals: {crate}, growth {number}: {name}", file=sys.stderr, flush=True)
+            bad = bad or bool(other)
     return 1 if bad else 0
 
 

@@ -55,6 +55,7 @@ pub use Rattle.markdown_children.specs.Children
 pub use Rattle.markdown_children.specs.Reads
 pub use Rattle.markdown_children.specs.Tables
 pub use Rattle.markdown_children.specs.SoFar
+pub use Rattle.markdown_children.specs.StartTests
 pub use Rattle.markdown_children.specs.ByteStarts
 pub use Rattle.markdown_children.specs.ReadyTests
 pub use Rattle.markdown_base.specs.declared.state.TheConstants as StateConstants

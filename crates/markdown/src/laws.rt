@@ -1,14 +1,16 @@
 //! Laws of all four parts. Each is a function that does nothing; its contract is the law.
 
 pub use markdown_base::laws::{
-    equal_events_are_one, equal_names_are_one, equal_places_are_one,
+    characters_have_one_class, equal_events_are_one, equal_names_are_one, equal_places_are_one,
     equal_points_and_links_are_one, equal_states_are_one, equal_tab_sizes_are_one,
     lists_are_stated, names_differ, numbers_are_stated, start_is_stated, tabs_reach_stops,
     void_events_are_stated,
 };
 pub use markdown_children::laws::{
-    a_ready_list_has_ordered_chains, children_are_read_in_one_way, children_fit,
-    chunks_can_be_read, edits_give_children, parts_are_by_chunk,
+    a_ready_list_has_ordered_chains, child_events_are_placed_well, children_are_read_in_one_way,
+    children_fit, chunks_can_be_read, edits_give_children, parts_are_by_chunk,
 };
 pub use markdown_edits::laws::{additions_are_new, survivors_keep_links, survivors_keep_order};
-pub use markdown_tokenizer::laws::{choices_put_back, cuts_leave_no_trace, reads_in_one_way};
+pub use markdown_tokenizer::laws::{
+    choices_put_back, cuts_leave_no_trace, pushes_are_one, reads_in_one_way,
+};

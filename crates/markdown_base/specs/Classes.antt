@@ -24,3 +24,7 @@ pub record IsClassOf (answers : ℕ → Bool → Type 0) (c : ℕ) (kind : Kind)
 abbrev pub IsClassOfOpt : (ℕ → Bool → Type 0) → Option ℕ → Kind → Type 0
 IsClassOfOpt answers None kind = kind ≡ Whitespace
 IsClassOfOpt answers (Some c) kind = IsClassOf answers c kind
+
+-- a predicate is a function: it has one answer, at most, for each character
+abbrev pub IsFunction : (ℕ → Bool → Type 0) → Type 0
+IsFunction answers = (c : ℕ) (one other : Bool) → answers c one → answers c other → one ≡ other

@@ -3,7 +3,7 @@
 -- CommonMark, "Characters and lines": a line ending is LF, CR LF, or a CR that no LF follows; each is one virtual LF.
 -- CommonMark, "Tabs": a tab reaches the next tab stop, and is as many virtual bytes as it has columns.
 -- Tab stops stand at every t columns; t is above 0.
-use Rattle.std.specs.Prelude.{ℕ, zero, suc, ◌+◌, ◌-◌, ◌%◌, ◌==◌, Bool, false, cond, List, [], ◌∷◌, ◌++◌}
+use Rattle.std.specs.Prelude.{ℕ, zero, suc, ◌+◌, ◌-◌, ◌*◌, ◌^◌, ◌<◌, ◌≤◌, ◌%◌, ◌==◌, Bool, false, cond, List, [], ◌∷◌, ◌++◌, length}
 use Rattle.markdown_base.specs.declared.event.Point.{Point}
 
 -- A virtual byte, its place, and the place after it
@@ -14,6 +14,14 @@ pub record Seat : Type 0 where
 
 abbrev pub point : (line column index vs : ℕ) → Point
 point line column index vs = record { line = line; column = column; index = index; vs = vs }
+
+-- tab stops can stand at every t columns
+abbrev pub IsTabSize : (t : ℕ) → Type 0
+IsTabSize t = (1 ≤ t) × (t ≤ 16)
+
+-- the limit on a document with tab stops at every t columns: t times its length, and one more, fit `usize`
+abbrev pub IsWithinLimit : (t : ℕ) → List ℕ → Type 0
+IsWithinLimit t bytes = t * length bytes + 1 < 2 ^ 64
 
 -- how many virtual bytes a tab at this column is
 abbrev pub tab_width : (t column : ℕ) → ℕ

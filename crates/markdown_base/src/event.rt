@@ -4,11 +4,12 @@
 //! and spans nest. Events of one kind of content are joined by links, so that a later pass reads them as
 //! one text.
 
-ghost use Rattle.std.specs.Prelude.{◌≡◌, ◌<◌, ◌≤◌, ◌+◌, ◌*◌, ◌^◌, length, Some};
+ghost use Rattle.std.specs.Prelude.{◌≡◌, ◌<◌, ◌≤◌, length, Some};
 ghost use Rattle.markdown_base.specs.EventNames.{text_of};
 ghost use Rattle.markdown_base.specs.Events.{is_void};
 ghost use Rattle.markdown_base.specs.Lines.{HasNoLineEnding};
 ghost use Rattle.markdown_base.specs.Places.{IsPointOf, point_at};
+ghost use Rattle.markdown_base.specs.Virtual.{IsWithinLimit};
 
 use crate::configuration::TabSize;
 use crate::unist;
@@ -663,7 +664,7 @@ impl Point {
     /// The point at a higher byte index of the same line, with tab stops at every `tab_size` columns. The index may be
     /// the document's length.
     pub fn shift_to(&self, bytes: &[u8], tab_size: TabSize, index: usize) -> Point
-        requires fits { tab_size * length bytes.now + 1 < 2 ^ 64 }
+        requires fits { IsWithinLimit tab_size bytes.now }
         requires place { IsPointOf tab_size bytes.now self.now }
         requires whole { self.now.vs ≡ 0 }
         requires forward { self.now.index < index }

@@ -4,6 +4,7 @@
 
 ghost use Rattle.std.specs.Prelude.{◌≡◌, ◌≢◌, ◌<◌, ◌≤◌, ◌+◌, ◌-◌, ◌%◌, ◌↔◌, ℕ, AllPairs, codes, map, true};
 ghost use Rattle.std.specs.List.{range_with_len};
+ghost use Rattle.markdown_base.specs.Classes.{IsClassOfOpt, IsFunction};
 ghost use Rattle.markdown_base.specs.StateNames.{state_names};
 ghost use Rattle.markdown_base.specs.Texts.{tagfilter_names, html_block_names, html_raw_names};
 ghost use Rattle.markdown_base.specs.Texts.{safe_protocols_of_links, safe_protocols_of_images};
@@ -39,6 +40,15 @@ pub fn tabs_reach_stops()
     ensures stop { (t column : ℕ) → 0 < t → 1 ≤ column → (column + tab_width t column - 1) % t ≡ 0 }
     ensures some { (t column : ℕ) → 0 < t → 1 ≤ column → 1 ≤ tab_width t column }
     ensures most { (t column : ℕ) → 0 < t → 1 ≤ column → tab_width t column ≤ t }
+{}
+
+/// Where a predicate of punctuation is a function, a character, or the end of a text, has one class.
+///
+/// So [`kind_after_index`](crate::util::char::kind_after_index) then returns the class that
+/// [`classify_opt`](crate::util::char::classify_opt) returns for the character at the index: each returns one by `IsClassOfOpt`.
+pub fn characters_have_one_class<P: Fn(char) -> bool>(punctuation: &P)
+    ensures { let answers = P.post punctuation.now in
+        IsFunction answers → (c : _) (one other : _) → IsClassOfOpt answers c one → IsClassOfOpt answers c other → one ≡ other }
 {}
 
 /// [`event::Point::START`] is the place of a document's first byte: line 1, column 1, byte index 0.

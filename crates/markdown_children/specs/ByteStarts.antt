@@ -42,7 +42,8 @@ byte_starts t bytes = byte_starts_upto t bytes (length bytes + 1)
 
 -- a point is one of the places of a byte
 abbrev pub is_of_byte : Point → ByteStart → Bool
-is_of_byte p start = ((start.line == p.line) && nat_le start.column p.column) && ((p.column - start.column == p.vs) && nat_lt p.vs start.width)
+is_of_byte p start = ((start.line == p.line) && nat_le start.column p.column)
+    && ((p.column - start.column == p.vs) && nat_lt p.vs start.width)
 
 -- the same, for an index that may lie behind the end
 abbrev pub is_of_some_byte : Point → Option ByteStart → Bool

@@ -8,11 +8,8 @@ use denote.Enum.Bare.{sameb}
 use Rattle.markdown_base.specs.contracts.event.Content.{the_type}
 use Rattle.markdown_base.specs.declared.event.Content.{Content}
 use Rattle.markdown_base.specs.declared.event.Event.{Event}
-use Rattle.markdown_edits.specs.Links.{content_of, next_of, previous_of}
-
--- what the event's chain at an index is read as, if the event is in one
-abbrev pub content_at : List Event → ℕ → Option Content
-content_at events i = option_and_then content_of (slice_get events i)
+pub use Rattle.markdown_edits.specs.Links.{content_at}
+use Rattle.markdown_edits.specs.Links.{next_of, previous_of}
 
 -- no filter lets each content through, and a filter its own
 abbrev pub lets_through : Option Content → Content → Bool

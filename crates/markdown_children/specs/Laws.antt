@@ -1,24 +1,26 @@
 -- What is true of the chains of a list that is ready.
-use Rattle.std.specs.Prelude.{◌≡◌, ℕ, ◌+◌, ◌<◌, ◌≤◌, List, [], ◌∷◌, ◌++◌, length, flat_map, drop, replicate, suc, if◌then◌else◌, All, Contains, true, Option, Some, None}
+use Rattle.std.specs.Prelude.{◌≡◌, ℕ, ◌+◌, ◌<◌, ◌≤◌, List, [], ◌∷◌, ◌++◌, length, flat_map, drop, replicate, slice_get, suc, if◌then◌else◌, All, Contains, true, Option, Some, None, option_map}
 use Rattle.std.specs.List.{AllByRecursion}
 use Rattle.markdown_base.specs.declared.event.Content.{Content}
 use Rattle.markdown_base.specs.declared.event.Event.{Event}
 use Rattle.markdown_base.specs.declared.event.Point.{Point}
 use Rattle.markdown_base.specs.Places.{stands_before}
-use Rattle.markdown_base.specs.Events.{IsBalanced, EndsBelow}
-use Rattle.markdown_edits.specs.Links.{next_of}
+use Rattle.markdown_base.specs.declared.event.Kind.TheVariants.{Enter}
+use Rattle.markdown_base.specs.Events.{is_void, relinked, IsBalanced, IsVoidTight, EndsBelow}
+use Rattle.markdown_edits.specs.Links.{next_of, AreMutual}
 use Rattle.markdown_edits.specs.Survivors.{AreNew, StaysUnlessRemoved, KeepsLinks}
 use Rattle.markdown_edits.specs.Woven.{AreApart}
-use Rattle.markdown_edits.specs.Edits.{Edit, AreDisjoint}
+use Rattle.markdown_edits.specs.Edits.{Edit, AreDisjoint, removed_by, added_by}
 use Rattle.markdown_edits.specs.Edited.{edited}
 use Rattle.markdown_children.specs.Children.{child_changes, with_children}
-use Rattle.markdown_children.specs.Parts.{parts, divided_over, all_edits}
+use Rattle.markdown_children.specs.Parts.{Divided, parts, divided, child_place, edits_of_chain, divided_over, all_edits}
 use Rattle.markdown_children.specs.Chains.{chain_of, begins, fits, fitting_chunks, fitting_starts}
 use Rattle.markdown_children.specs.Ready.{IsReady}
 
 -- what holds of each list that is ready for a filter, over a document and with tab stops
 abbrev pub ForReadyLists : (ℕ → List ℕ → Option Content → List Event → Type 0) → Type 0
-ForReadyLists P = (tab : ℕ) (bytes : List ℕ) (wanted : Option Content) (events : List Event) → IsReady tab bytes wanted events → P tab bytes wanted events
+ForReadyLists P = (tab : ℕ) (bytes : List ℕ) (wanted : Option Content) (events : List Event) → IsReady tab bytes wanted events
+    → P tab bytes wanted events
 
 -- the chunks after the one at k lead on by links, and the last one's leads nowhere
 abbrev pub LeadOnFrom : List Event → ℕ → List ℕ → Type 0
@@ -45,15 +47,45 @@ pub record ChangesAreApart (wanted : Option Content) (events : List Event) (chil
   pub apart : AreApart 0 (child_changes wanted events children) (length events)
   pub fresh : AreNew (child_changes wanted events children)
 
--- Children keep a list balanced, and other links by both ends: two events that are not in replaced chunks are linked exactly as before
-pub record ChildrenFit (wanted : Option Content) (events : List Event) (children : List (List Event)) : Type 0 where
-  pub balanced : AllByRecursion IsBalanced children → IsBalanced (with_children wanted events children)
-  pub stays : StaysUnlessRemoved (child_changes wanted events children) events
-  pub links : KeepsLinks (child_changes wanted events children) events
-
 -- link ends of a child's events lie inside the child
 abbrev pub HasEndsWithin : List Event → Type 0
 HasEndsWithin child = All (EndsBelow (length child)) child
+
+-- a void span is entered, and not exited, by the last of these events
+abbrev pub EndsInVoidEnter : List Event → Type 0
+EndsInVoidEnter [] = ⊥
+EndsInVoidEnter (e ∷ []) = (e.kind ≡ Enter) × (is_void e.name ≡ true)
+EndsInVoidEnter (e ∷ f ∷ es) = EndsInVoidEnter (f ∷ es)
+
+-- nothing stands between the chunk at k and the chunks behind it, up to the first of these whose part has events
+abbrev pub StandSideBySide : ℕ → List ℕ → List (List Event) → Type 0
+StandSideBySide k [] ps = Unit {0}
+StandSideBySide k (d ∷ ks) [] = Unit {0}
+StandSideBySide k (d ∷ ks) ([] ∷ ps) = (d ≡ k + 2) × StandSideBySide d ks ps
+StandSideBySide k (d ∷ ks) ((e ∷ p) ∷ ps) = d ≡ k + 2
+
+-- where a part ends inside a void span, which a later part goes on with, nothing stands between their chunks
+abbrev pub IsTornNowhere : List ℕ → List (List Event) → Type 0
+IsTornNowhere [] ps = Unit {0}
+IsTornNowhere (k ∷ ks) [] = Unit {0}
+IsTornNowhere (k ∷ ks) (p ∷ ps) = (EndsInVoidEnter p → StandSideBySide k ks ps) × IsTornNowhere ks ps
+
+-- no chunks of the chains that fit tear a void span of their child
+abbrev pub NoneTorn : Option Content → List Event → List (List Event) → Type 0
+NoneTorn wanted events children =
+    AllByRecursion (λ (d : Divided). IsTornNowhere d.chunks d.parts) (divided_over events (fitting_starts wanted events) children)
+
+-- Children keep a list balanced and its chains mutual, where they are so themselves, and other links by both ends: two events that are
+-- not in replaced chunks are linked exactly as before. No link leads out of the list. Void spans stay empty, where no chunks tear one of
+-- a child
+pub record ChildrenFit (wanted : Option Content) (events : List Event) (children : List (List Event)) : Type 0 where
+  pub balanced : AllByRecursion IsBalanced children → IsBalanced (with_children wanted events children)
+  pub inside : HasEndsWithin (with_children wanted events children)
+  pub chained : AllByRecursion AreMutual children → AreMutual (with_children wanted events children)
+  pub tight : IsVoidTight events → AllByRecursion IsVoidTight children → NoneTorn wanted events children
+      → IsVoidTight (with_children wanted events children)
+  pub stays : StaysUnlessRemoved (child_changes wanted events children) events
+  pub links : KeepsLinks (child_changes wanted events children) events
 
 -- The edits of the chains that fit, one after another, each with its link ends at their final places
 abbrev pub child_edits : Option Content → List Event → List (List Event) → List Edit
@@ -62,7 +94,19 @@ child_edits wanted events children = all_edits 0 0 (divided_over events (fitting
 -- they are disjoint and inside the list, and give the list with children
 pub record EditsGiveChildren (wanted : Option Content) (events : List Event) (children : List (List Event)) : Type 0 where
   pub disjoint : AreDisjoint 0 (child_edits wanted events children) (length events)
-  pub give : AllByRecursion HasEndsWithin children → edited (child_edits wanted events children) events ≡ with_children wanted events children
+  pub give : AllByRecursion HasEndsWithin children
+      → edited (child_edits wanted events children) events ≡ with_children wanted events children
+
+-- Where the edits of a chain say that event n of its child comes to be, it is after all edits, with its link ends there too, whatever
+-- edits come
+-- before the chain and behind it
+abbrev pub IsPlacedWell : (before behind : List Edit) → List Event → ℕ → (child : List Event) → Type 0
+IsPlacedWell before behind events c child =
+    let d = divided events c child in
+    let place = child_place d.chunks d.parts (removed_by before) (added_by before) in
+    let all = before ++ (edits_of_chain (removed_by before, added_by before) events c child ++ behind) in
+    AreDisjoint 0 all (length events) → (n p : ℕ) → place n ≡ Some p
+    → slice_get (edited all events) p ≡ option_map (relinked place) (slice_get child n)
 
 -- the chunk is one of the chain that begins at an index
 abbrev pub IsInChain : List Event → ℕ → ℕ → Type 0

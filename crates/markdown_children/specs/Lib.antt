@@ -6,5 +6,6 @@ pub mod Children
 pub mod Reads
 pub mod Tables
 pub mod SoFar
+pub mod StartTests
 pub mod ByteStarts
 pub mod ReadyTests

@@ -14,7 +14,8 @@ use Rattle.markdown_children.specs.Ready.{place_at}
 abbrev pub front_until : Point → List Event → List Event
 front_until end es = take_while (λ e. not (stands_before end e.point)) es
 
--- the parts of a child over chunks with these ends: each takes the events in front that stand at or before its end, and the last all that are left
+-- the parts of a child over chunks with these ends: each takes the events in front that stand at or before its end, and the last all that
+-- are left
 abbrev pub parts : List Point → List Event → List (List Event)
 parts [] es = []
 parts (end ∷ []) es = es ∷ []
@@ -52,6 +53,14 @@ part_edits f (k ∷ ks) (p ∷ ps) = record { index = k; remove = 2; additions =
 -- the edits of one chain, before which `removed` events go and `added` events come: link ends are final places
 abbrev pub chain_edits : ℕ → ℕ → Divided → List Edit
 chain_edits removed added d = part_edits (child_place d.chunks d.parts removed added) d.chunks d.parts
+
+-- the edits of the chain that begins at an index, for a child of these events: its edits, behind those that remove and add so many
+abbrev pub edits_of_chain : (before : ℕ × ℕ) → List Event → ℕ → List Event → List Edit
+edits_of_chain before events c child = chain_edits before.0 before.1 (divided events c child)
+
+-- what the edits of that chain remove and add is counted on: two events for each chunk, and the child's
+abbrev pub CountsOn : (before after : ℕ × ℕ) → List Event → ℕ → List Event → Type 0
+CountsOn before after events c child = (after.0 ≡ before.0 + 2 * length (chain_of events c)) × (after.1 ≡ before.1 + length child)
 
 -- how many events the parts have
 abbrev pub total : List (List Event) → ℕ

@@ -1,7 +1,8 @@
 -- What the chains of a list are read as.
-use Rattle.std.specs.Prelude.{◌≡◌, ℕ, ◌+◌, ◌-◌, ◌<◌, ◌↔◌, ◌⊎◌, Bool, true, List, [], ◌∷◌, ◌++◌, map, flat_map, Option, Some, None, option_and_then, IsSomeAnd, slice_get, Contains}
-use Rattle.std.specs.List.{AllZip}
+use Rattle.std.specs.Prelude.{◌≡◌, ℕ, ◌+◌, ◌-◌, ◌<◌, ◌≤◌, ◌↔◌, ◌⊎◌, Bool, true, List, [], ◌∷◌, ◌++◌, map, flat_map, Option, Some, None, option_and_then, IsSomeAnd, slice_get, Contains}
+use Rattle.std.specs.List.{AllByRecursion, AllZip}
 use Rattle.markdown_base.specs.declared.configuration.Constructs.{Constructs}
+use Rattle.markdown_base.specs.declared.configuration.ParseOptions.{ParseOptions}
 use Rattle.markdown_base.specs.declared.event.Content.{Content}
 use Rattle.markdown_base.specs.declared.event.Content.TheVariants.{Flow, String, Text}
 use Rattle.markdown_base.specs.declared.event.Content.TheVariants as content
@@ -12,7 +13,7 @@ use Rattle.markdown_base.specs.declared.message.Message.{Message}
 use Rattle.markdown_base.specs.declared.state.Name.{Name}
 use Rattle.markdown_base.specs.declared.state.TheConstants.Name.{ContentDefinitionBefore, StringStart, TextStart}
 use Rattle.markdown_base.specs.declared.state.State.TheVariants.{Next, Ok, Error}
-use Rattle.markdown_base.specs.Events.{IsBalanced}
+use Rattle.markdown_base.specs.Events.{IsVoidTight}
 use Rattle.markdown_tokenizer.specs.declared.subtokenize.Subresult.{Subresult}
 use Rattle.markdown_tokenizer.specs.declared.tokenizer.fault.Fault.{Fault}
 use Rattle.markdown_tokenizer.specs.declared.tokenizer.fault.Fault.TheVariants.{Memory, Failed}
@@ -21,11 +22,14 @@ use Rattle.markdown_tokenizer.specs.Text.{Given, Text as TextOf, Piece, pushed, 
 use Rattle.markdown_tokenizer.specs.Configuration.{Configuration, start_configuration}
 use Rattle.markdown_tokenizer.specs.Rules.{Rules}
 use Rattle.markdown_tokenizer.specs.Reading.{Reading, EndsIn}
-use Rattle.markdown_tokenizer.specs.Resolving.{IsResolved, IsResolvingRefused}
+use Rattle.markdown_tokenizer.specs.Resolving.{IsResolved, IsResolvingRefused, IsInShape}
+use Rattle.markdown_tokenizer.specs.Engine.{IsWellFormed, given_of}
+use Rattle.markdown_tokenizer.specs.declared.parser.ParseState.{ParseState}
 use Rattle.markdown_edits.specs.SpanWalks.{IsLongestRunTo}
 use Rattle.markdown_edits.specs.Survivors.{StaysUnlessRemoved, KeepsLinks}
 use Rattle.markdown_children.specs.Chains.{content_at, chain_of, begins, fitting_starts}
 use Rattle.markdown_children.specs.Ready.{place_at}
+use Rattle.markdown_children.specs.Laws.{NoneTorn}
 use Rattle.markdown_children.specs.Children.{first_chunk, child_changes, with_children}
 
 -- the event at an index is the first paragraph of a list item: task list items are on, the paragraph is entered directly before, and what
@@ -61,9 +65,19 @@ pieces_of events (k ∷ ks) = pushed (place_at events k) (place_at events (k + 1
 abbrev pub text_of_chain : Given → List Event → List ℕ → TextOf
 text_of_chain g events ks = followed_by_all g (empty_text (place_at events (first_chunk ks))) (pieces_of events ks)
 
+-- the text of the chain that begins at an index
+abbrev pub text_from : Given → List Event → ℕ → TextOf
+text_from g events c = text_of_chain g events (chain_of events c)
+
 -- the pieces of the chain that begins at an index can be read one after another
 abbrev pub CanReadChain : Given → List Event → ℕ → Type 0
 CanReadChain g events c = CanFollow g (empty_text (place_at events c)) (pieces_of events (chain_of events c))
+
+-- and so can those of each chain that fits, whatever the options
+abbrev pub CanReadChains : (tab : ℕ) → List ℕ → Option Content → List Event → Type 0
+CanReadChains tab bytes wanted events =
+    (options : ParseOptions) (c : ℕ) → begins wanted events c ≡ true
+    → CanReadChain (record { bytes = bytes; options = options; tab = tab }) events c
 
 -- What reading a chain gave
 pub record Child : Type 0 where
@@ -75,29 +89,33 @@ abbrev pub lists : List Child → List (List Event)
 lists children = map (λ (c : Child). c.events) children
 
 module _ {R D : Type 0} (g : Given) (rules : Given → Rules R D) where
-  -- The chain that begins at c is read, from the start of its content, to this end
+  -- The chain that begins at c is read, from the start of its content, to this end, with no more calls than its cost
   pub record IsRead (events : List Event) (c : ℕ) (r : Reading R D) : Type 0 where
     pub flag : Bool
     pub flagged : (flag ≡ true) ↔ IsAtFirstParagraph events c g.options.constructs
     pub start : Name
     pub starts : start_at events c ≡ Some start
-    pub ends : EndsIn g (rules g).step (text_of_chain g events (chain_of events c)) 0 (start_configuration flag) [] (Next start) r
+    pub ends : EndsIn g (rules g).step (text_from g events c) 0 (start_configuration flag) [] (Next start) r
+    pub within : r.calls ≤ (rules g).cost (text_from g events c) (start_configuration flag) (Next start)
 
-  -- The child of the chain that begins at c: what resolvers make of its reading
+  -- The child of the chain that begins at c: what resolvers make of its reading. The events are well formed before resolvers, and
+  -- balanced with their links in shape after them
   pub record IsChild (events : List Event) (c : ℕ) (child : Child) : Type 0 where
     pub result : Reading R D
     pub read : IsRead events c result
     pub well : result.answer ≡ Ok
     pub final : Configuration R D
-    pub resolved : IsResolved (rules g).resolver g (text_of_chain g events (chain_of events c)) true result.configuration final child.found
+    pub resolved : IsResolved (rules g).resolver g (text_from g events c) true result.configuration final child.found
     pub left : child.events ≡ final.events
+    pub well_formed : IsWellFormed g.bytes result.configuration
+    pub in_shape : IsInShape child.events
 
   -- The chain that begins at c is refused with a message, in which its reading ends, or a resolver after it
   pub record IsChildRefused (events : List Event) (c : ℕ) (m : Message) : Type 0 where
     pub result : Reading R D
     pub read : IsRead events c result
     pub message : (result.answer ≡ Error m)
-        ⊎ ((result.answer ≡ Ok) × IsResolvingRefused (rules g).resolver g (text_of_chain g events (chain_of events c)) true result.configuration m)
+        ⊎ ((result.answer ≡ Ok) × IsResolvingRefused (rules g).resolver g (text_from g events c) true result.configuration m)
 
   -- why there is no child of the chain that begins at c: memory was refused, or the chain with a message
   abbrev pub IsChildFault : List Event → ℕ → Fault → Type 0
@@ -109,12 +127,14 @@ module _ {R D : Type 0} (g : Given) (rules : Given → Rules R D) where
   abbrev pub AreChildren : List Event → List ℕ → List Child → Type 0
   AreChildren events cs children = AllZip (IsChild events) cs children
 
-  -- What `subtokenize` leaves: the list with the children of all chains that fit
+  -- What `subtokenize` leaves: the list with the children of all chains that fit. It is balanced, its links are in shape, and its void
+  -- spans are empty, where those of the old list and of the children are, and no chunks tear one
   pub record IsSubtokenized (wanted : Option Content) (old new : List Event) (sub : Subresult) : Type 0 where
     pub children : List Child
     pub read : AreChildren old (fitting_starts wanted old) children
     pub events : new ≡ with_children wanted old (lists children)
-    pub balanced : IsBalanced new
+    pub in_shape : IsInShape new
+    pub tight : IsVoidTight old → AllByRecursion IsVoidTight (lists children) → NoneTorn wanted old (lists children) → IsVoidTight new
     pub stays : StaysUnlessRemoved (child_changes wanted old (lists children)) old
     pub links : KeepsLinks (child_changes wanted old (lists children)) old
     pub done : (sub.done ≡ true) ↔ (fitting_starts wanted old ≡ [])
@@ -137,12 +157,38 @@ module _ {R D : Type 0} (g : Given) (rules : Given → Rules R D) where
   IsSubtokenizeFault wanted events Failed = ⊥
   IsSubtokenizeFault wanted events (fault.Message m) = IsSubtokenizeRefused wanted events m
 
-  -- A list is given its children in one way: what is left of it, and what was found, is one; it is not refused too; and one message refuses it
+  -- A list is given its children in one way: what is left of it, and what was found, is one; it is not refused too; and one message
+  -- refuses it
   pub record HasOneAnswer (wanted : Option Content) (events : List Event) : Type 0 where
-    pub list : (new other : List Event) (sub more : Subresult) → IsSubtokenized wanted events new sub → IsSubtokenized wanted events other more → (new ≡ other) × (sub ≡ more)
-    pub well : (new : List Event) (sub : Subresult) (m : Message) → IsSubtokenized wanted events new sub → IsSubtokenizeRefused wanted events m → ⊥
+    pub list : (new other : List Event) (sub more : Subresult) → IsSubtokenized wanted events new sub
+        → IsSubtokenized wanted events other more → (new ≡ other) × (sub ≡ more)
+    pub well : (new : List Event) (sub : Subresult) (m : Message) → IsSubtokenized wanted events new sub
+        → IsSubtokenizeRefused wanted events m → ⊥
     pub message : (m n : Message) → IsSubtokenizeRefused wanted events m → IsSubtokenizeRefused wanted events n → m ≡ n
 
 -- the chains that fit are read from start names among these
 abbrev pub StartAmong : List Name → Option Content → List Event → Type 0
-StartAmong starts wanted events = (c : ℕ) (name : Name) → begins wanted events c ≡ true → start_at events c ≡ Some name → Contains starts name
+StartAmong starts wanted events = (c : ℕ) (name : Name) → begins wanted events c ≡ true → start_at events c ≡ Some name
+    → Contains starts name
+
+-- The machine of a parse state reads its document; `rules` are those of the machines of its kind
+module _ {M R D : Type 0} (rules : M → Given → Rules R D) (p : ParseState M) where
+  -- the chains that fit are read from start names of the machine
+  abbrev pub MayStart : Option Content → List Event → Type 0
+  MayStart wanted events = StartAmong (rules p.machine.now (given_of p)).starts wanted events
+
+  -- these events, with what was found, are the child of the chain that begins at an index
+  abbrev pub GivesChild : List Event → ℕ → List Event → Subresult → Type 0
+  GivesChild events c child found = IsChild (given_of p) (rules p.machine.now) events c (record { events = child; found = found })
+
+  -- why that chain has no child
+  abbrev pub GivesNoChild : List Event → ℕ → Fault → Type 0
+  GivesNoChild = IsChildFault (given_of p) (rules p.machine.now)
+
+  -- one list is another one with its children
+  abbrev pub GivesChildren : Option Content → (old new : List Event) → Subresult → Type 0
+  GivesChildren = IsSubtokenized (given_of p) (rules p.machine.now)
+
+  -- why a list is not given its children
+  abbrev pub GivesNoChildren : Option Content → List Event → Fault → Type 0
+  GivesNoChildren = IsSubtokenizeFault (given_of p) (rules p.machine.now)

@@ -8,21 +8,13 @@ use Rattle.markdown_base.specs.declared.event.Point.{Point}
 use Rattle.markdown_base.specs.Virtual.{point}
 use Rattle.markdown_base.specs.Places.{stands_before, IsPointOf, IsShown}
 use Rattle.markdown_base.specs.Events.{IsBalanced}
-use Rattle.markdown_edits.specs.Links.{IsLinkedEnter, IsEndedBy, next_of, AreMutual}
+pub use Rattle.markdown_edits.specs.Links.{IsChunk}
+use Rattle.markdown_edits.specs.Links.{next_of, AreMutual}
 use Rattle.markdown_children.specs.Chains.{content_at, fits}
 
 -- where the event at an index stands
 abbrev pub place_at : List Event → ℕ → Point
 place_at events i = unwrap_or (option_map (λ (e : Event). e.point) (slice_get events i)) (point 1 1 0 0)
-
--- a void enter with a link stands at an index, directly followed by its exit
-pub record IsChunk (events : List Event) (k : ℕ) : Type 0 where
-  pub enter : Event
-  pub exit : Event
-  pub enter_at : slice_get events k ≡ Some enter
-  pub exit_at : slice_get events (k + 1) ≡ Some exit
-  pub linked : IsLinkedEnter enter
-  pub ended : IsEndedBy enter exit
 
 -- a place of the document, and not between a CR and its LF
 abbrev pub IsShownPlace : (t : ℕ) → List ℕ → Point → Type 0

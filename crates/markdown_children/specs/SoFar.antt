@@ -1,16 +1,14 @@
 -- Inner: what the loop of `subtokenize` knows before it looks at the event at an index. No public contract speaks of it.
 use Rattle.std.specs.Prelude.{◌≡◌, ◌↔◌, ℕ, Bool, true, List, [], length, filter, flat_map, Option}
-use Rattle.std.specs.List.{AllByRecursion, range_with_len}
+use Rattle.std.specs.List.{range_with_len}
 use Rattle.markdown_base.specs.declared.event.Content.{Content}
 use Rattle.markdown_base.specs.declared.event.Event.{Event}
-use Rattle.markdown_base.specs.Events.{IsBalanced}
 use Rattle.markdown_tokenizer.specs.declared.subtokenize.Subresult.{Subresult}
 use Rattle.markdown_tokenizer.specs.Text.{Given}
 use Rattle.markdown_tokenizer.specs.Configuration.{TokenizerValue}
 use Rattle.markdown_tokenizer.specs.Rules.{Rules}
 use Rattle.markdown_edits.specs.Edits.{Edit, removed_by, added_by}
 use Rattle.markdown_children.specs.Chains.{begins}
-use Rattle.markdown_children.specs.Laws.{HasEndsWithin}
 use Rattle.markdown_children.specs.Parts.{divided_over, all_edits}
 use Rattle.markdown_children.specs.Reads.{Child, lists, AreChildren}
 
@@ -23,8 +21,6 @@ module _ {R D : Type 0} (g : Given) (rules : Given → Rules R D) (wanted : Opti
   pub record SoFar (i : ℕ) (es : List Edit) (sums : ℕ × ℕ) (sub : Subresult) : Type 0 where
     pub children : List Child
     pub read : AreChildren g rules events (starts_below wanted events i) children
-    pub balanced : AllByRecursion IsBalanced (lists children)
-    pub ends : AllByRecursion HasEndsWithin (lists children)
     pub edits : es ≡ all_edits 0 0 (divided_over events (starts_below wanted events i) (lists children))
     pub removed : sums.0 ≡ removed_by es
     pub added : sums.1 ≡ added_by es
@@ -39,4 +35,6 @@ module _ {R D : Type 0} (g : Given) (rules : Given → Rules R D) (wanted : Opti
 -- a tokenizer that is told whether its text is in the first paragraph of a list item
 abbrev pub with_flag : {M R D : Type 0} → Bool → TokenizerValue M R D → TokenizerValue M R D
 with_flag flag t =
-    record t { configuration = record t.configuration { local = record t.configuration.local { tokenize_state = record t.configuration.local.tokenize_state { document_at_first_paragraph_of_list_item = flag } } } }
+    let local = t.configuration.local in
+    let state = record local.tokenize_state { document_at_first_paragraph_of_list_item = flag } in
+    record t { configuration = record t.configuration { local = record local { tokenize_state = state } } }

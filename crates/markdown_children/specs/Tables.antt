@@ -16,7 +16,8 @@ table (k ∷ ks) (p ∷ ps) j = record { index = k; start = j; end = j + length 
 
 -- the table of the chain from i on, of the child from its j-th event on
 abbrev pub rest_table : List Event → List Event → ℕ → ℕ → ℕ → List Chunk
-rest_table events es f i j = table (chain_from f events i) (parts (map (λ k. place_at events (k + 1)) (chain_from f events i)) (drop j es)) j
+rest_table events es f i j =
+    table (chain_from f events i) (parts (map (λ k. place_at events (k + 1)) (chain_from f events i)) (drop j es)) j
 
 -- where event n of a child comes to stand, by the table
 abbrev pub table_place : List Chunk → ℕ → ℕ → ℕ → Option ℕ

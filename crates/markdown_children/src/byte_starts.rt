@@ -1,6 +1,7 @@
 //! Where each byte of a document begins, to tell its places.
 
 ghost use Rattle.std.specs.Prelude.{◌≡◌, ◌+◌, ◌*◌, ◌^◌, ◌<◌, ◌≤◌, length, slice_get, IfOk};
+ghost use Rattle.markdown_base.specs.Virtual.{IsWithinLimit};
 ghost use Rattle.markdown_children.specs.ByteStarts.{width_at, column_after, byte_starts, is_of_some_byte};
 
 use markdown_base::event::Point;
@@ -22,7 +23,7 @@ pub(crate) fn byte_starts(
     t: usize,
 ) -> Result<Vec<ByteStart>, AllocError>
     requires some { 0 < t }
-    requires limit { t * length bytes.now + 1 < 2 ^ 64 }
+    requires limit { IsWithinLimit t bytes.now }
     ensures { IfOk result (λ v. v.items ≡ byte_starts t bytes.now) }
 {
     let mut starts = Vec::new(alloc);

@@ -2,16 +2,15 @@
 
 ghost use Rattle.std.specs.Prelude.{◌≡◌, ◌+◌, ◌*◌, ◌^◌, ◌<◌, ◌++◌, [], true, length, Some, All, IfOk, IfErr, OnOk};
 ghost use Rattle.std.specs.List.{AllByRecursion};
-ghost use Rattle.markdown_base.specs.Events.{IsBalanced};
 ghost use Rattle.markdown_edits.specs.Edits.{removed_by, added_by};
-ghost use Rattle.markdown_tokenizer.specs.Text.{empty_text};
+ghost use Rattle.markdown_tokenizer.specs.Text.{IsDocument, empty_text};
 ghost use Rattle.markdown_tokenizer.specs.Configuration.{start_seen};
 ghost use Rattle.markdown_tokenizer.specs.Engine.{given_of};
 ghost use Rattle.markdown_children.specs.Chains.{chain_of, begins};
 ghost use Rattle.markdown_children.specs.Ready.{IsReady, place_at};
 ghost use Rattle.markdown_children.specs.Laws.{HasEndsWithin};
-ghost use Rattle.markdown_children.specs.Parts.{divided, chain_edits, IsForward, StandBefore};
-ghost use Rattle.markdown_children.specs.Reads.{start_at, StartAmong, IsChild, IsChildFault, IsSubtokenizeFault};
+ghost use Rattle.markdown_children.specs.Parts.{edits_of_chain, CountsOn, IsForward, StandBefore};
+ghost use Rattle.markdown_children.specs.Reads.{start_at, MayStart, GivesChild, GivesNoChild, GivesNoChildren};
 ghost use Rattle.markdown_children.specs.SoFar.{HasGathered, with_flag};
 
 use crate::chains::{begins_at, next_of, place_at};
@@ -35,11 +34,10 @@ pub(crate) fn gather<M: Machine>(
     filter: Option<Content>,
 ) -> Result<Subresult, Fault>
     requires empty { map.old ≡ [] }
-    requires limit { parse_state.now.options.now.tab_size * length parse_state.now.bytes.now + 1 < 2 ^ 64 }
     requires ready { IsReady parse_state.now.options.now.tab_size parse_state.now.bytes.now filter events.now }
-    requires starts { let p = parse_state.now in StartAmong (M.rules p.machine.now (given_of p)).starts filter events.now }
+    requires starts { MayStart M.rules parse_state.now filter events.now }
     ensures ok { let p = parse_state.now in IfOk result (HasGathered (given_of p) (M.rules p.machine.now) filter events.now map.new) }
-    ensures err { let p = parse_state.now in IfErr result (IsSubtokenizeFault (given_of p) (M.rules p.machine.now) filter events.now) }
+    ensures err { IfErr result (GivesNoChildren M.rules parse_state.now filter events.now) }
 {
     let mut acc = (0, 0);
     let mut found = Subresult {
@@ -82,14 +80,11 @@ fn read_child<M: Machine>(
     parse_state: &ParseState<M>,
     filter: Option<Content>,
 ) -> Result<(Vec<Event>, Subresult), Fault>
-    requires limit { parse_state.now.options.now.tab_size * length parse_state.now.bytes.now + 1 < 2 ^ 64 }
     requires ready { IsReady parse_state.now.options.now.tab_size parse_state.now.bytes.now filter events.now }
     requires begins { begins filter events.now index ≡ true }
-    requires starts { let p = parse_state.now in StartAmong (M.rules p.machine.now (given_of p)).starts filter events.now }
-    ensures ok { let p = parse_state.now in IfOk result (λ r. IsChild (given_of p) (M.rules p.machine.now) events.now index (record { events = r.0.items; found = r.1 })) }
-    ensures balanced { IfOk result (λ r. IsBalanced r.0.items) }
-    ensures ends { IfOk result (λ r. HasEndsWithin r.0.items) }
-    ensures err { let p = parse_state.now in IfErr result (IsChildFault (given_of p) (M.rules p.machine.now) events.now index) }
+    requires starts { MayStart M.rules parse_state.now filter events.now }
+    ensures ok { IfOk result (λ r. GivesChild M.rules parse_state.now events.now index r.0.items r.1) }
+    ensures err { IfErr result (GivesNoChild M.rules parse_state.now events.now index) }
 {
     let Some(start) = start_at(events, index) else {
         unreachable!();
@@ -115,18 +110,14 @@ fn read_chunks<M: Machine>(
     start: Name,
 ) -> Result<Subresult, Fault>
     requires new { let p = parse_state.now in tokenizer.old ≡ start_seen (given_of p) p.machine.now (empty_text (place_at events.now index)) }
-    requires bytes { All (λ b. b < 256) parse_state.now.bytes.now }
-    requires limit { parse_state.now.options.now.tab_size * length parse_state.now.bytes.now + 1 < 2 ^ 64 }
+    requires document { IsDocument (given_of parse_state.now) }
     requires ready { IsReady parse_state.now.options.now.tab_size parse_state.now.bytes.now filter events.now }
     requires begins { begins filter events.now index ≡ true }
     requires start { start_at events.now index ≡ Some start }
-    requires starts { let p = parse_state.now in StartAmong (M.rules p.machine.now (given_of p)).starts filter events.now }
-    ensures ok { let p = parse_state.now in IfOk result (λ sub. IsChild (given_of p) (M.rules p.machine.now) events.now index (record { events = tokenizer.new.configuration.events; found = sub })) }
-    ensures balanced { OnOk result (IsBalanced tokenizer.new.configuration.events) }
-    ensures ends { OnOk result (HasEndsWithin tokenizer.new.configuration.events) }
-    ensures err { let p = parse_state.now in IfErr result (IsChildFault (given_of p) (M.rules p.machine.now) events.now index) }
+    requires starts { MayStart M.rules parse_state.now filter events.now }
+    ensures ok { IfOk result (GivesChild M.rules parse_state.now events.now index tokenizer.new.configuration.events) }
+    ensures err { IfErr result (GivesNoChild M.rules parse_state.now events.now index) }
 {
-    let _ = parse_state.options.tab_size.get();
     let first = at_first_paragraph_of_list_item(events, index, &parse_state.options.constructs);
     set_first_paragraph(tokenizer, first);
     let mut at = index;
@@ -152,7 +143,8 @@ fn set_first_paragraph<'a, M: Machine>(t: &mut Tokenizer<'a, M>, first: bool)
 /// The range of a chunk, by its places.
 fn range_of(events: &[Event], index: usize) -> ((usize, usize), (usize, usize))
     requires inside { index + 1 < length events.now }
-    ensures { result ≡ (((place_at events.now index).index, (place_at events.now index).vs), ((place_at events.now (index + 1)).index, (place_at events.now (index + 1)).vs)) }
+    ensures { let from = place_at events.now index in let to = place_at events.now (index + 1) in
+        result ≡ ((from.index, from.vs), (to.index, to.vs)) }
 {
     let from = events[index].point;
     let to = events[index + 1].point;
@@ -173,8 +165,8 @@ fn divide(
     requires before { StandBefore map.old index }
     requires sums { (acc.0 ≡ removed_by map.old) × (acc.1 ≡ added_by map.old) }
     requires ends { HasEndsWithin child.old.items }
-    ensures ok { OnOk result (map.new ≡ map.old ++ chain_edits acc.0 acc.1 (divided events.now index child.old.items)) }
-    ensures sums { IfOk result (λ r. (r.0 ≡ acc.0 + 2 * length (chain_of events.now index)) × (r.1 ≡ acc.1 + length child.old.items)) }
+    ensures ok { OnOk result (map.new ≡ map.old ++ edits_of_chain acc events.now index child.old.items) }
+    ensures sums { IfOk result (λ sums. CountsOn acc sums events.now index child.old.items) }
     ensures err { IfErr result (λ fault. fault ≡ Fault.Memory) }
 {
     let Some(most) = events.len().checked_add(acc.1) else {

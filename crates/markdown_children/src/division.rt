@@ -7,7 +7,7 @@ ghost use Rattle.markdown_base.specs.Events.{EachEnd, relinked};
 ghost use Rattle.markdown_edits.specs.Edits.{removed_by, added_by};
 ghost use Rattle.markdown_children.specs.Chains.{chain_of};
 ghost use Rattle.markdown_children.specs.Laws.{HasEndsWithin};
-ghost use Rattle.markdown_children.specs.Parts.{front_until, divided, chain_edits, IsForward, StandBefore};
+ghost use Rattle.markdown_children.specs.Parts.{front_until, divided, chain_edits, edits_of_chain, CountsOn, IsForward, StandBefore};
 ghost use Rattle.markdown_children.specs.Tables.{rest_table, table_place, AreAbove, AreRising, chunk_edit};
 
 use crate::chains::{next_of, place_at, stands_before};
@@ -36,8 +36,8 @@ pub fn divide_events(
     requires sums { (acc_before.0 ≡ removed_by map.old) × (acc_before.1 ≡ added_by map.old) }
     requires ends { HasEndsWithin child_events.old.items }
     requires fits { length events.now + acc_before.1 + length child_events.old.items < 2 ^ 64 }
-    ensures ok { OnOk result (map.new ≡ map.old ++ chain_edits acc_before.0 acc_before.1 (divided events.now link_index child_events.old.items)) }
-    ensures sums { IfOk result (λ acc. (acc.0 ≡ acc_before.0 + 2 * length (chain_of events.now link_index)) × (acc.1 ≡ acc_before.1 + length child_events.old.items)) }
+    ensures ok { OnOk result (map.new ≡ map.old ++ edits_of_chain acc_before events.now link_index child_events.old.items) }
+    ensures sums { IfOk result (λ acc. CountsOn acc_before acc events.now link_index child_events.old.items) }
     ensures left { OnOk result (length child_events.new.items ≡ 0) }
     ensures err { OnErr result ((map.new ≡ map.old) × (child_events.new.items ≡ child_events.old.items)) }
 {

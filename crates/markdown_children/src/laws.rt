@@ -2,11 +2,11 @@
 //!
 //! Each is a function that does nothing, whose contract is the law.
 
-ghost use Rattle.std.specs.Prelude.{◌≡◌, ◌∷◌, true, List, ℕ};
+ghost use Rattle.std.specs.Prelude.{◌∷◌, List, ℕ};
 ghost use Rattle.markdown_base.specs.declared.event.Event.{Event};
-ghost use Rattle.markdown_children.specs.Chains.{begins};
-ghost use Rattle.markdown_children.specs.Reads.{CanReadChain, HasOneAnswer};
-ghost use Rattle.markdown_children.specs.Laws.{ForReadyLists, HasOrderedChains, ChildrenFit, EditsGiveChildren, AreByChunk};
+ghost use Rattle.markdown_edits.specs.Edits.{Edit};
+ghost use Rattle.markdown_children.specs.Reads.{CanReadChains, HasOneAnswer};
+ghost use Rattle.markdown_children.specs.Laws.{ForReadyLists, HasOrderedChains, ChildrenFit, EditsGiveChildren, IsPlacedWell, AreByChunk};
 ghost use Rattle.markdown_base.specs.declared.event.Point.{Point};
 
 use markdown_tokenizer::state::Machine;
@@ -19,7 +19,7 @@ pub fn a_ready_list_has_ordered_chains()
 
 /// The chunks of a chain that fits can be pushed one after another, with the gaps between them passed.
 pub fn chunks_can_be_read()
-    ensures { ForReadyLists (λ tab bytes wanted events. (options : _) (c : ℕ) → begins wanted events c ≡ true → CanReadChain (record { bytes = bytes; options = options; tab = tab }) events c) }
+    ensures { ForReadyLists CanReadChains }
 {}
 
 /// Balanced children keep such a list balanced, and each link between events that stay.
@@ -30,6 +30,12 @@ pub fn children_fit()
 /// Edits made chain by chain, each with sums of what the chains in front remove and add, give the list with children.
 pub fn edits_give_children()
     ensures { ForReadyLists (λ tab bytes wanted events. (children : List (List Event)) → EditsGiveChildren wanted events children) }
+{}
+
+/// Each event of a child that is divided over its chain is, after all edits of the map, where the links to it lead, with its own
+/// link ends at their final places: whatever edits are before the chain, and behind it.
+pub fn child_events_are_placed_well()
+    ensures { (before behind : List Edit) (events : List Event) (c : ℕ) (child : List Event) → IsPlacedWell before behind events c child }
 {}
 
 /// Child events are assigned to chunks in order: each goes to the first chunk that ends at or after it, from the chunk of the event

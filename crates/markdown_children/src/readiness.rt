@@ -1,12 +1,13 @@
 //! Whether the chains of a list can be read.
 
-ghost use Rattle.std.specs.Prelude.{◌≡◌, ◌+◌, ◌*◌, ◌^◌, ◌<◌, ◌↔◌, false, true, cond, length, reverse, slice_get, Some, None, IfOk};
+ghost use Rattle.std.specs.Prelude.{◌≡◌, ◌+◌, ◌*◌, ◌^◌, ◌<◌, ◌↔◌, false, true, cond, length, reverse, Some, None, IfOk};
 ghost use Rattle.std.specs.Option.{option_copied};
+ghost use Rattle.markdown_base.specs.Virtual.{IsWithinLimit};
 ghost use Rattle.markdown_base.specs.declared.event.Kind.TheVariants.{Exit};
 ghost use Rattle.markdown_edits.specs.OpenNames.{names_after};
 ghost use Rattle.markdown_children.specs.Ready.{IsReady};
-ghost use Rattle.markdown_children.specs.ReadyTests.{closes, link_at, is_number, is_chunk, leads_back_to, is_joined_on, is_joined_back, is_sound_at, is_same_point, is_in_line, has_no_link, is_gap, is_readable, can_be_read_at, AllBelow, FailsSomewhere};
-ghost use Rattle.markdown_children.specs.ByteStarts.{is_of_some_byte};
+ghost use Rattle.markdown_children.specs.ReadyTests.{closes, link_at, is_number, is_chunk, leads_back_to, is_joined_on, is_joined_back, is_sound_at, is_same_point, is_in_line, has_no_link, is_gap, is_readable, AllBelow, FailsSomewhere};
+ghost use Rattle.markdown_children.specs.StartTests.{is_place_of, can_be_read_from};
 
 use crate::byte_starts::{ByteStart, byte_starts, is_place};
 use crate::chains::{lets_through, place_at, stands_before};
@@ -28,7 +29,7 @@ pub fn ready(
     tab_size: TabSize,
     filter: Option<&Content>,
 ) -> Result<bool, AllocError>
-    requires limit { tab_size * length bytes.now + 1 < 2 ^ 64 }
+    requires limit { IsWithinLimit tab_size bytes.now }
     ensures { IfOk result (λ b. (b ≡ true) ↔ IsReady tab_size bytes.now (option_copied filter.entry) events.now) }
 {
     let t = tab_size.get();
@@ -209,7 +210,7 @@ fn is_gap(alloc: Global, events: &[Event], index: usize, next: usize) -> Result<
 /// Whether the text of a chunk can be read: it begins and ends at places of the document, and does not run backwards.
 fn is_readable(events: &[Event], starts: &[ByteStart], index: usize, content: Content) -> bool
     requires inside { index + 1 < length events.now }
-    ensures { result ≡ is_readable (λ p. is_of_some_byte p (slice_get starts.now p.index)) events.now index content }
+    ensures { result ≡ is_readable (is_place_of starts.now) events.now index content }
 {
     let from = place_at(events, index);
     let to = place_at(events, index + 1);
@@ -227,7 +228,7 @@ fn can_be_read_at(
 ) -> Result<bool, AllocError>
     requires inside { index < length events.now }
     requires sound { is_sound_at events.now index ≡ true }
-    ensures { IfOk result (λ b. b ≡ can_be_read_at (λ p. is_of_some_byte p (slice_get starts.now p.index)) filter events.now index) }
+    ensures { IfOk result (λ b. b ≡ can_be_read_from starts.now filter events.now index) }
 {
     let Some(link) = link_at(events, index) else {
         return Ok(true);
@@ -252,8 +253,8 @@ fn can_be_read(
     filter: Option<Content>,
 ) -> Result<bool, AllocError>
     requires sound { AllBelow (length events.now) (is_sound_at events.now) }
-    ensures all { IfOk result (λ b. b ≡ true → AllBelow (length events.now) (can_be_read_at (λ p. is_of_some_byte p (slice_get starts.now p.index)) filter events.now)) }
-    ensures some { IfOk result (λ b. b ≡ false → FailsSomewhere (length events.now) (can_be_read_at (λ p. is_of_some_byte p (slice_get starts.now p.index)) filter events.now)) }
+    ensures all { IfOk result (λ b. b ≡ true → AllBelow (length events.now) (can_be_read_from starts.now filter events.now)) }
+    ensures some { IfOk result (λ b. b ≡ false → FailsSomewhere (length events.now) (can_be_read_from starts.now filter events.now)) }
 {
     for index in 0..events.len() {
         if !can_be_read_at(alloc, events, starts, filter, index)? {

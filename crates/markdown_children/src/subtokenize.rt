@@ -1,10 +1,9 @@
 //! Content in content: a child's events are put in the place of the chunks that it was read from.
 
-ghost use Rattle.std.specs.Prelude.{◌≡◌, ◌+◌, ◌*◌, ◌^◌, ◌<◌, length, IfOk, IfErr, OnErr};
+ghost use Rattle.std.specs.Prelude.{◌≡◌, IfOk, IfErr, OnErr};
 ghost use Rattle.std.specs.Option.{option_copied};
-ghost use Rattle.markdown_tokenizer.specs.Engine.{given_of};
 ghost use Rattle.markdown_children.specs.Ready.{IsReady};
-ghost use Rattle.markdown_children.specs.Reads.{StartAmong, IsSubtokenized, IsSubtokenizeFault};
+ghost use Rattle.markdown_children.specs.Reads.{MayStart, GivesChildren, GivesNoChildren};
 
 use crate::children::gather;
 pub use crate::division::divide_events;
@@ -32,11 +31,10 @@ pub fn subtokenize<M: Machine>(
     parse_state: &ParseState<M>,
     filter: Option<&Content>,
 ) -> Result<Subresult, Fault>
-    requires limit { parse_state.now.options.now.tab_size * length parse_state.now.bytes.now + 1 < 2 ^ 64 }
     requires ready { IsReady parse_state.now.options.now.tab_size parse_state.now.bytes.now (option_copied filter) events.old.items }
-    requires starts { let p = parse_state.now in StartAmong (M.rules p.machine.now (given_of p)).starts (option_copied filter) events.old.items }
-    ensures ok { let p = parse_state.now in IfOk result (IsSubtokenized (given_of p) (M.rules p.machine.now) (option_copied filter.entry) events.old.items events.new.items) }
-    ensures err { let p = parse_state.now in IfErr result (IsSubtokenizeFault (given_of p) (M.rules p.machine.now) (option_copied filter.entry) events.old.items) }
+    requires starts { MayStart M.rules parse_state.now (option_copied filter) events.old.items }
+    ensures ok { IfOk result (GivesChildren M.rules parse_state.now (option_copied filter.entry) events.old.items events.new.items) }
+    ensures err { IfErr result (GivesNoChildren M.rules parse_state.now (option_copied filter.entry) events.old.items) }
     ensures left { OnErr result (events.new.items ≡ events.old.items) }
 {
     let mut map = EditMap::new(alloc);

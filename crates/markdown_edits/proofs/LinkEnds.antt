@@ -1,5 +1,6 @@
 -- Lists with one event changed.
 use Rattle.std.proofs.Common.{◌≡◌, ℕ, zero, suc, ◌<◌, List, [], ◌∷◌, length, get_or, set, length-set, refl, ap, ◌∙◌, arith}
+use Rattle.std.specs.Prelude.{IsSomeAnd, slice_get}
 use Rattle.markdown_base.specs.declared.event.Event.{Event}
 use Rattle.markdown_edits.specs.Links.{with_next, with_previous, updated_at, linked_to}
 
@@ -14,6 +15,12 @@ pub set-updated_at : (i : ℕ) (f : Event → Event) (es : List Event) (d : Even
 set-updated_at i f [] d l = absurd (omega arith)
 set-updated_at zero f (e ∷ es) d l = refl
 set-updated_at (suc i) f (e ∷ es) d l = ap (λ r. e ∷ r) (set-updated_at i f es d (omega arith))
+
+-- an index at which there is an event is inside
+pub some-within : (P : Event → Type 0) (i : ℕ) (es : List Event) → IsSomeAnd (slice_get es i) P → i < length es
+some-within P i [] h = absurd h
+some-within P zero (e ∷ es) h = omega arith
+some-within P (suc i) (e ∷ es) h = let l = some-within P i es h in omega (arith, l)
 
 -- two writes, where the events read are told with any default
 pub set-linked_to : (previous next : ℕ) (es : List Event) (d : Event) (a b : Event) → previous < length es → next < length es

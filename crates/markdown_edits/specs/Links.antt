@@ -1,5 +1,5 @@
 -- Links between the events of a list.
-use Rattle.std.specs.Prelude.{◌≡◌, ℕ, zero, suc, ◌+◌, ◌<◌, ◌↔◌, true, List, [], ◌∷◌, length, Option, Some, IsSome, option_map, option_and_then, slice_get, slice_index_or}
+use Rattle.std.specs.Prelude.{◌≡◌, ℕ, zero, suc, ◌+◌, ◌<◌, ◌↔◌, true, List, [], ◌∷◌, Option, Some, IsSome, IsSomeAnd, option_map, option_and_then, slice_get}
 use Rattle.markdown_base.specs.declared.event.Event.{Event}
 use Rattle.markdown_base.specs.declared.event.Link.{Link}
 use Rattle.markdown_base.specs.declared.event.Content.{Content}
@@ -21,15 +21,26 @@ pub record IsEndedBy (enter exit : Event) : Type 0 where
 abbrev pub content_of : Event → Option Content
 content_of e = option_map (λ (l : Link). l.content) e.link
 
--- the event at `next` can follow the one at `previous` in a chain: both are linked enters of void spans, of one content,
--- and the first one's span ends directly behind it (what the crate asserts in `link_to`, and that chains lead forward)
+-- what the event's chain at an index is read as, if the event is in one
+abbrev pub content_at : List Event → ℕ → Option Content
+content_at events i = option_and_then content_of (slice_get events i)
+
+-- A linked enter of a void span is at an index, directly followed by its exit
+pub record IsChunk (events : List Event) (k : ℕ) : Type 0 where
+  pub enter : Event
+  pub exit : Event
+  pub enter_at : slice_get events k ≡ Some enter
+  pub exit_at : slice_get events (k + 1) ≡ Some exit
+  pub linked : IsLinkedEnter enter
+  pub ended : IsEndedBy enter exit
+
+-- The event at `next` can follow the one at `previous` in a chain: that one begins a chunk, both are linked enters of void spans, and
+-- they have one content (what the crate asserts in `link_to`, and that chains lead forward)
 pub record CanLink (events : List Event) (previous next : ℕ) : Type 0 where
   pub order : previous < next
-  pub within : next < length events
-  pub first : (d : Event) → IsLinkedEnter (slice_index_or events previous d)
-  pub ended : (d : Event) → IsEndedBy (slice_index_or events previous d) (slice_index_or events (previous + 1) d)
-  pub second : (d : Event) → IsLinkedEnter (slice_index_or events next d)
-  pub one_content : (d : Event) → content_of (slice_index_or events previous d) ≡ content_of (slice_index_or events next d)
+  pub first : IsChunk events previous
+  pub second : IsSomeAnd (slice_get events next) IsLinkedEnter
+  pub one_content : content_at events previous ≡ content_at events next
 
 -- the link with its next end set
 abbrev pub next_set : ℕ → Link → Link

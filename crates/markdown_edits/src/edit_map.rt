@@ -16,6 +16,7 @@ use markdown_base::event::Event;
 use std::alloc::{AllocError, Global};
 use std::collections::BTreeMap;
 use std::marker::Model;
+use std::mem::swap;
 
 /// Edits of a list of events, to be made at once: at an index, how many events go, and which come in their place.
 #[derive(Drop)]
@@ -110,6 +111,11 @@ impl EditMap {
         ensures ok { OnOk result ((self.new ≡ self.old ++ more.old) × (more.new ≡ [])) }
         ensures err { OnErr result ((self.new ≡ self.old) × (more.new ≡ more.old)) }
     {
+        // As for the first chain of each list: nothing is copied.
+        if self.edits.is_empty() {
+            swap(&mut self.edits, &mut more.edits);
+            return Ok(());
+        }
         push_copies(&mut self.edits, &more.edits)?;
         more.edits.clear();
         Ok(())

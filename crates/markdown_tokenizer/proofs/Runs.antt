@@ -4,3 +4,5 @@ pub mod Resolvers
 pub mod TakingUp
 pub mod Whole
 pub mod Working
+pub mod Later
+pub mod Pushes

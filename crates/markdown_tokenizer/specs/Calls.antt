@@ -12,8 +12,8 @@ use Rattle.markdown_base.specs.Places.{stands_before}
 use Rattle.markdown_base.specs.Events.{is_void, open_events}
 use Rattle.markdown_tokenizer.specs.declared.waiting.Waits.TheVariants.{Nothing}
 use Rattle.markdown_tokenizer.specs.declared.waiting.AttemptKind.TheVariants.{Attempt, Check}
-use Rattle.markdown_tokenizer.specs.Configuration.{Configuration, Local, Saved, Choice, TokenizerValue}
-use Rattle.markdown_tokenizer.specs.Sight.{sight}
+use Rattle.markdown_tokenizer.specs.Configuration.{Configuration, Local, Saved, Choice, TokenizerValue, at_configuration}
+use Rattle.markdown_tokenizer.specs.Sight.{sight_of}
 use Rattle.markdown_edits.specs.Links.{linked_to}
 
 -- one byte is consumed
@@ -58,11 +58,24 @@ registered same r rs = if list_any (λ q. same q r) rs then rs else rs ++ r ∷ 
 abbrev pub registered_before : {R : Type 0} → (R → R → Bool) → R → List R → List R
 registered_before same r rs = if list_any (λ q. same q r) rs then rs else r ∷ rs
 
+-- where the innermost open span begins
+abbrev pub innermost : List Event → Option Event
+innermost events = last_or None (open_events events)
+
+-- a span begins here, in a tokenizer
+abbrev pub with_enter : {M R D : Type 0} → Name → Option Link → TokenizerValue M R D → TokenizerValue M R D
+with_enter name link t = at_configuration t (entered name link (sight_of t).enter_place t.configuration)
+
+-- the innermost span ends here, in a tokenizer
+abbrev pub with_exit : {M R D : Type 0} → Name → TokenizerValue M R D → TokenizerValue M R D
+with_exit name t = at_configuration t (exited name (sight_of t).exit_place t.configuration)
+
 -- The innermost span may end under this name: it is its name, a byte was consumed since it began, a void span holds no other
 -- event, and the span began after the last waiting choice that would put the stack back
 pub record CanExit {M R D : Type 0} (name : Name) (t : TokenizerValue M R D) : Type 0 where
   pub top : last_or None t.configuration.stack ≡ Some name
-  pub read : (e : Event) → last_or None (open_events t.configuration.events) ≡ Some e → stands_before e.point (sight t.given t.text t.configuration).exit_place ≡ true
+  pub read : (enter : Event) → innermost t.configuration.events ≡ Some enter
+      → stands_before enter.point (sight_of t).exit_place ≡ true
   pub void : is_void name ≡ true → (e : Event) × (last_or None t.configuration.events ≡ Some e) × (e.kind ≡ Enter)
   pub above : All (λ c. IfSome c.saved (λ s. length s.stack < length t.configuration.stack)) t.choices
 

@@ -52,7 +52,8 @@ is_after_pair p place = nat_lt place.0 p.index || ((place.0 == p.index) && nat_l
 
 -- what the search for the next virtual byte before an end tells
 abbrev pub IsNextByte : (t : ℕ) → List ℕ → Point → ℕ × ℕ → Option ℕ → Type 0
-IsNextByte t bytes p end None = (rest_at t bytes p ≡ []) ⊎ ((seat : Seat) × IsSeatAt t bytes p seat × (is_before_pair seat.point end ≡ false))
+IsNextByte t bytes p end None = (rest_at t bytes p ≡ [])
+    ⊎ ((seat : Seat) × IsSeatAt t bytes p seat × (is_before_pair seat.point end ≡ false))
 IsNextByte t bytes p end (Some byte) = (seat : Seat) × IsSeatAt t bytes p seat × (is_before_pair seat.point end ≡ true) × (seat.byte ≡ byte)
 
 -- a CR LF begins at an index

@@ -1,5 +1,5 @@
 -- What pushing and flushing mean.
-use Rattle.std.specs.Prelude.{◌≡◌, ◌+◌, ◌≤◌, ◌⊎◌, ℕ, List, [], ◌∷◌, Some, Bool, true, false, length, sum_by, ◌↔◌}
+use Rattle.std.specs.Prelude.{◌≡◌, ◌+◌, ◌≤◌, ◌⊎◌, ℕ, List, [], ◌∷◌, Some, Bool, true, false, cond, length, sum_by, ◌↔◌}
 use Rattle.markdown_base.specs.declared.configuration.ParseOptions.{ParseOptions}
 use Rattle.markdown_base.specs.declared.event.Event.{Event}
 use Rattle.markdown_base.specs.declared.event.Point.{Point}
@@ -12,6 +12,7 @@ use Rattle.markdown_base.specs.Places.{is_upto, point_at}
 use Rattle.markdown_base.specs.Events.{IsBalanced, IsVoidTight, IsInOrder}
 use Rattle.markdown_tokenizer.specs.declared.subtokenize.Subresult.{Subresult}
 use Rattle.markdown_tokenizer.specs.declared.waiting.Waits.TheVariants.{Nothing}
+use Rattle.markdown_tokenizer.specs.declared.waiting.Phase.TheVariants as phase
 use Rattle.markdown_tokenizer.specs.declared.parser.ParseState.{ParseState}
 use Rattle.markdown_tokenizer.specs.Text.{Given, Text, Piece, IsText, pushed, FitsAfter, CanFollow, followed_by, followed_by_all}
 use Rattle.markdown_tokenizer.specs.Configuration.{Configuration, Choice, TokenizerValue, start_configuration}
@@ -29,17 +30,22 @@ module _ {M R D : Type 0} (rules : Rules R D) where
   HoldsOf t state = rules.holds t.text t.configuration t.choices state
 
 module _ {M R D : Type 0} (g : Given) (rules : Rules R D) where
+  -- read on from this tokenizer and state, the text ends in r; the calls of r are those made and those to come
+  abbrev pub ReadsTo : Text → TokenizerValue M R D → State → Reading R D → Type 0
+  ReadsTo text t state r = EndsIn g rules.step text t.calls t.configuration t.choices state r
+
   -- On a text, the one tokenizer with its state comes to the same end as the other with its own, calls included; the invariant
   -- holds, and the calls made and still to come are no more than before
   pub record LeadsOn (text : Text) (old : TokenizerValue M R D) (state : State) (new : TokenizerValue M R D) (answer : State) : Type 0 where
     pub kept : rules.holds text new.configuration new.choices answer
-    pub same : (r : Reading R D) → EndsIn g rules.step text new.calls new.configuration new.choices answer r ↔ EndsIn g rules.step text old.calls old.configuration old.choices state r
+    pub same : (r : Reading R D) → ReadsTo text new answer r ↔ ReadsTo text old state r
     pub paid : budget rules text new answer ≤ budget rules text old state
 
   -- For every rest that can follow the new text, reading on from the new tokenizer and its answer comes to the same end as
   -- reading on from the old one and its state
   abbrev pub KeepsOutcome : TokenizerValue M R D → State → TokenizerValue M R D → State → Type 0
-  KeepsOutcome old state new answer = (rest : List Piece) → CanFollow g new.text rest → LeadsOn (followed_by_all g new.text rest) old state new answer
+  KeepsOutcome old state new answer =
+      (rest : List Piece) → CanFollow g new.text rest → LeadsOn (followed_by_all g new.text rest) old state new answer
 
 -- The events are balanced, each void span is empty, and their places are in order
 pub record IsWellFormed (bytes : List ℕ) {R D : Type 0} (k : Configuration R D) : Type 0 where
@@ -49,22 +55,26 @@ pub record IsWellFormed (bytes : List ℕ) {R D : Type 0} (k : Configuration R D
 
 -- a range of the document, given by the places of its ends, each an index and a number in a tab, can be put at the end of a text
 abbrev pub CanPush : Given → Text → (from to : ℕ × ℕ) → Type 0
-CanPush g text from to = (f : Point) × (t : Point) × (point_at g.tab g.bytes from ≡ Some f) × (point_at g.tab g.bytes to ≡ Some t) × FitsAfter g text (pushed f t)
+CanPush g text from to = (f : Point) × (t : Point)
+    × (point_at g.tab g.bytes from ≡ Some f) × (point_at g.tab g.bytes to ≡ Some t) × FitsAfter g text (pushed f t)
 
 -- what holds of the points of two places
 abbrev pub ForPoints : Given → (from to : ℕ × ℕ) → (Point → Point → Type 0) → Type 0
 ForPoints g from to P = (f t : Point) → point_at g.tab g.bytes from ≡ Some f → point_at g.tab g.bytes to ≡ Some t → P f t
 
 module _ {M R D : Type 0} (rules : Rules R D) where
-  -- What a push of a range leaves, where it succeeds: the range, given by the places of its ends, stands at the end of the text, the outcome is the same for every rest, and all
-  -- was read, or a message ended it
-  pub record IsPushed (old : TokenizerValue M R D) (from to : ℕ × ℕ) (state : State) (new : TokenizerValue M R D) (answer : State) : Type 0 where
+  -- What a push of a range leaves if it succeeds: the range, given by the places of its ends, is at the end of the text, the outcome is
+  -- the same for every rest, and all was read, or a message ended it
+  pub record IsPushed (old : TokenizerValue M R D) (from to : ℕ × ℕ) (state : State)
+      (new : TokenizerValue M R D) (answer : State) : Type 0 where
     pub given : new.given ≡ old.given
     pub machine : new.machine ≡ old.machine
     pub open_still : new.closed ≡ false
+    pub phase : new.phase ≡ phase.Reading
     pub text : ForPoints old.given from to (λ f t. new.text ≡ followed_by old.given old.text (pushed f t))
     pub outcome : KeepsOutcome old.given rules old state new answer
-    pub read : (name : Name) → answer ≡ Next name → (new.configuration.position ≡ length new.text.seats) × (new.configuration.waiting ≡ Nothing)
+    pub read : (name : Name) → answer ≡ Next name → (new.configuration.position ≡ length new.text.seats)
+        × (new.configuration.waiting ≡ Nothing)
     pub answers : ((name : Name) × (answer ≡ Next name)) ⊎ ((m : Message) × (answer ≡ Error m))
     pub counted : old.calls ≤ new.calls
     -- a message is answered again, and nothing is read
@@ -73,37 +83,43 @@ module _ {M R D : Type 0} (rules : Rules R D) where
   -- What a flush leaves, where it succeeds: what resolving makes of the configuration in which the reading ends, and its answer.
   -- Without resolving that is the configuration without the definitions, which are answered. The events are well formed before
   -- resolvers, and balanced with their links in shape after them.
-  pub record IsFlushed (resolve : Bool) (old : TokenizerValue M R D) (state : State) (new : TokenizerValue M R D) (sub : Subresult) : Type 0 where
+  pub record IsFlushed (resolve : Bool) (old : TokenizerValue M R D) (state : State)
+      (new : TokenizerValue M R D) (sub : Subresult) : Type 0 where
     pub given : new.given ≡ old.given
     pub machine : new.machine ≡ old.machine
     pub text : new.text ≡ old.text
     pub result : Reading R D
-    pub ends : EndsIn old.given rules.step old.text old.calls old.configuration old.choices state result
+    pub ends : ReadsTo old.given rules old.text old state result
     pub well : result.answer ≡ Ok
     pub calls : new.calls ≡ result.calls
     pub within : new.calls ≤ budget rules old.text old state
     pub resolved : IsResolved rules.resolver old.given old.text resolve result.configuration new.configuration sub
+    pub phase : new.phase ≡ cond resolve phase.Resolved phase.Reading
     pub settled : new.choices ≡ []
     pub before : IsWellFormed old.given.bytes result.configuration
     pub well_formed : resolve ≡ false → IsWellFormed old.given.bytes new.configuration
     pub in_shape : resolve ≡ true → IsInShape new.configuration.events
 
   -- A flush was refused with this message, in which the reading ends, or a resolver after it
-  pub record IsRefused (resolve : Bool) (old : TokenizerValue M R D) (state : State) (new : TokenizerValue M R D) (m : Message) : Type 0 where
+  pub record IsRefused (resolve : Bool) (old : TokenizerValue M R D) (state : State) (new : TokenizerValue M R D)
+      (m : Message) : Type 0 where
     pub given : new.given ≡ old.given
     pub machine : new.machine ≡ old.machine
     pub text : new.text ≡ old.text
     pub result : Reading R D
-    pub ends : EndsIn old.given rules.step old.text old.calls old.configuration old.choices state result
-    pub message : (result.answer ≡ Error m) ⊎ ((result.answer ≡ Ok) × IsResolvingRefused rules.resolver old.given old.text resolve result.configuration m)
+    pub ends : ReadsTo old.given rules old.text old state result
+    pub message : (result.answer ≡ Error m)
+        ⊎ ((result.answer ≡ Ok) × IsResolvingRefused rules.resolver old.given old.text resolve result.configuration m)
     pub calls : new.calls ≡ result.calls
     pub within : new.calls ≤ budget rules old.text old state
 
 module _ {R D : Type 0} (g : Given) (rules : Rules R D) where
   -- On every text at which the invariant holds, a reading comes to one end, with no more calls than its cost
   abbrev pub HasOneEnd : Type 0
-  HasOneEnd = (text : Text) (calls : ℕ) (k : Configuration R D) (choices : List Choice) (state : State) → IsText g text → rules.holds text k choices state
-      → (r : Reading R D) × EndsIn g rules.step text calls k choices state r × ((q : Reading R D) → EndsIn g rules.step text calls k choices state q → q ≡ r)
+  HasOneEnd = (text : Text) (calls : ℕ) (k : Configuration R D) (choices : List Choice) (state : State)
+      → IsText g text → rules.holds text k choices state
+      → (r : Reading R D) × EndsIn g rules.step text calls k choices state r
+      × ((q : Reading R D) → EndsIn g rules.step text calls k choices state q → q ≡ r)
       × (r.calls ≤ calls + (rules.cost text k state + sum_by (rules.reserve text) choices))
 
 -- what a machine may read of a document: tab stops stand where the options say
@@ -111,7 +127,7 @@ abbrev pub given_by : List ℕ → ParseOptions → Given
 given_by bytes options = record { bytes = bytes; options = options; tab = options.tab_size }
 
 -- and of the document of a parse state
-abbrev pub given_of : {M R D : Type 0} → ParseState M R D → Given
+abbrev pub given_of : {M : Type 0} → ParseState M → Given
 given_of p = given_by p.bytes.now p.options.now
 
 -- the whole virtual text of the document
@@ -121,7 +137,8 @@ whole_text g = record { start = point 1 1 0 0; seats = virtual g.tab g.bytes; en
 -- places of the document, given by index and number in a tab, none before the one in front of it, and the first not before this place
 abbrev pub FollowInOrder : (t : ℕ) → List ℕ → Point → List (ℕ × ℕ) → Type 0
 FollowInOrder t bytes p [] = Unit {0}
-FollowInOrder t bytes p (place ∷ places) = (q : Point) × (point_at t bytes place ≡ Some q) × (is_upto t bytes p q ≡ true) × FollowInOrder t bytes q places
+FollowInOrder t bytes p (place ∷ places) =
+    (q : Point) × (point_at t bytes place ≡ Some q) × (is_upto t bytes p q ≡ true) × FollowInOrder t bytes q places
 
 -- places at which a document can be cut, in order
 abbrev pub AreCuts : (t : ℕ) → List ℕ → List (ℕ × ℕ) → Type 0
@@ -145,9 +162,14 @@ module _ {R D : Type 0} (g : Given) (rules : Given → Rules R D) where
     pub in_shape : resolve ≡ true → IsInShape list
     pub within : result.calls ≤ (rules g).cost (whole_text g) (start_configuration false) (Next start)
 
+  -- the events of a tokenizer are what a run answers
+  abbrev pub IsRunOf : {M : Type 0} → Bool → Name → TokenizerValue M R D → Subresult → Type 0
+  IsRunOf resolve start t sub = IsRun resolve start t.configuration.events sub
+
   -- A run was refused with this message, in which the reading of the whole text ends, within its cost, or a resolver after it
   pub record IsRunRefused (resolve : Bool) (start : Name) (m : Message) : Type 0 where
     pub result : Reading R D
     pub ends : StartEndsIn start result
-    pub message : (result.answer ≡ Error m) ⊎ ((result.answer ≡ Ok) × IsResolvingRefused (rules g).resolver g (whole_text g) resolve result.configuration m)
+    pub message : (result.answer ≡ Error m)
+        ⊎ ((result.answer ≡ Ok) × IsResolvingRefused (rules g).resolver g (whole_text g) resolve result.configuration m)
     pub within : result.calls ≤ (rules g).cost (whole_text g) (start_configuration false) (Next start)

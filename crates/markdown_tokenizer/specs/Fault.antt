@@ -1,5 +1,6 @@
 -- Why a push or a flush fails.
-use Rattle.std.specs.Prelude.{ℕ, List, codes}
+use Rattle.std.specs.Prelude.{ℕ, List, codes, Result, IsErrOf}
+use Rattle.markdown_base.specs.declared.message.Message.{Message as MessageOf}
 use Rattle.markdown_base.specs.Shown.{message_text}
 use Rattle.markdown_tokenizer.specs.declared.tokenizer.fault.Fault.{Fault}
 use Rattle.markdown_tokenizer.specs.declared.tokenizer.fault.Fault.TheVariants.{Memory, Failed, Message}
@@ -9,3 +10,7 @@ abbrev pub fault_text : Fault → List ℕ
 fault_text Memory = codes "out of memory"
 fault_text Failed = codes "tokenizer has failed"
 fault_text (Message m) = message_text m
+
+-- what holds of the message with which a call refuses the document, if it does
+abbrev pub IfMessage : {T : Type 0} → Result T Fault → (MessageOf → Type 0) → Type 0
+IfMessage result P = (m : MessageOf) → IsErrOf result (Message m) → P m

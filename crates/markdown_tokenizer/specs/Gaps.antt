@@ -40,4 +40,5 @@ pub record IsSkip (t : ℕ) (bytes : List ℕ) (end : Point) (p : Point) : Type 
 
 -- a place is in no gap
 abbrev pub IsOutside : List Point → Point → Type 0
-IsOutside skips after_previous = (p : Point) → skip_of skips after_previous.line ≡ Some p → (after_previous.column ≡ 1) ⊎ (stands_before after_previous p ≡ false)
+IsOutside skips after_previous =
+    (p : Point) → skip_of skips after_previous.line ≡ Some p → (after_previous.column ≡ 1) ⊎ (stands_before after_previous p ≡ false)

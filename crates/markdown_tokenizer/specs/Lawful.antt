@@ -8,13 +8,13 @@ use Rattle.markdown_base.specs.Events.{HasFrontUpToLinkEnds}
 use Rattle.markdown_tokenizer.specs.declared.waiting.Waits.TheVariants.{Nothing, Byte}
 use Rattle.markdown_tokenizer.specs.Text.{Given, Text, Piece, IsText, FitsAfter, followed_by, empty_text}
 use Rattle.markdown_tokenizer.specs.Configuration.{Configuration, Choice, Step, TokenizerValue, start_configuration}
-use Rattle.markdown_tokenizer.specs.Sight.{sight}
+use Rattle.markdown_tokenizer.specs.Sight.{sight, sight_of}
 use Rattle.markdown_tokenizer.specs.Reading.{fed, settled_at}
 use Rattle.markdown_tokenizer.specs.Rules.{Rules}
 use Rattle.markdown_tokenizer.specs.declared.subtokenize.Subresult.{Subresult}
 use Rattle.markdown_tokenizer.specs.Calls.{consumed, with_resolvers}
 use Rattle.markdown_edits.specs.Edited.{edited}
-use Rattle.markdown_tokenizer.specs.Resolving.{done, taken, CanBeEdited, IsInShape}
+use Rattle.markdown_tokenizer.specs.Resolving.{Resolved, done, taken, CanBeEdited, IsInShape}
 use Rattle.markdown_tokenizer.specs.Engine.{IsWellFormed}
 
 -- the tokenizer after a call: the step's configuration, its choices above the old ones, and one call more
@@ -30,6 +30,19 @@ pub record DidStep {M R D : Type 0} (old new : TokenizerValue M R D) (s : Step R
 abbrev pub IsAsFar : {R D : Type 0} → Configuration R D → Configuration R D → Type 0
 IsAsFar a b = (a.position ≡ b.position) × (a.waiting ≡ b.waiting) × (a.ended ≡ b.ended)
 
+module _ {M R D : Type 0} (rules : Given → Rules R D) (t : TokenizerValue M R D) where
+  -- what a tokenizer's call of the state of this name gives
+  abbrev pub step_of : Name → Step R D
+  step_of name = (rules t.given).step (sight_of t) t.configuration name
+
+  -- the invariant of resolvers holds before this one, and some after it, go over a tokenizer's events
+  abbrev pub CanResolve : R → Type 0
+  CanResolve r = (rest : List R) × (rules t.given).resolves t.text (r ∷ rest) t.configuration
+
+  -- what this resolver makes of a tokenizer's events
+  abbrev pub resolver_of : R → Resolved R D
+  resolver_of r = (rules t.given).resolver (sight_of t) t.configuration r
+
 module _ {R D : Type 0} (g : Given) (rules : Rules R D) where
   -- the step of a state where the invariant holds
   abbrev pub ForEachCall : (Text → Configuration R D → List Choice → Name → Step R D → Type 0) → Type 0
@@ -42,7 +55,8 @@ module _ {R D : Type 0} (g : Given) (rules : Rules R D) where
       (IsAsFar s.configuration k × ((n : Name) → s.answer ≢ Next n))
       ⊎ ((k.waiting ≡ Byte) × IsAsFar s.configuration (consumed k) × ((n : Name) → s.answer ≢ Retry n)))
 
-  -- a call keeps the events, but for the ends of their links, and adds its own after them; it keeps the stack as far as a waiting choice saved it
+  -- a call keeps the events, but for the ends of their links, and adds its own after them; it keeps the stack as far as a waiting
+  -- choice saved it
   pub record OnlyAdds : Type 0 where
     pub events : ForEachCall (λ text k choices name s. HasFrontUpToLinkEnds s.configuration.events k.events)
     pub stack : ForEachCall (λ text k choices name s.
@@ -59,8 +73,10 @@ module _ {R D : Type 0} (g : Given) (rules : Rules R D) where
     pub at_starts : (p : Point) (flag : Bool) (name : Name) → IsText g (empty_text p) → Contains rules.starts name
         → rules.holds (empty_text p) (start_configuration flag) [] (Next name)
     -- a byte, or the end, is fed where nothing waits, and a state is called where something does
-    pub unfed : (text : Text) (k : Configuration R D) (choices : List Choice) (name : Name) → IsText g text → rules.holds text k choices (Next name) → k.waiting ≡ Nothing
-    pub waits : (text : Text) (k : Configuration R D) (choices : List Choice) (name : Name) → IsText g text → rules.holds text k choices (Retry name) → k.waiting ≢ Nothing
+    pub unfed : (text : Text) (k : Configuration R D) (choices : List Choice) (name : Name) → IsText g text
+        → rules.holds text k choices (Next name) → k.waiting ≡ Nothing
+    pub waits : (text : Text) (k : Configuration R D) (choices : List Choice) (name : Name) → IsText g text
+        → rules.holds text k choices (Retry name) → k.waiting ≢ Nothing
     pub by_feeding : (text : Text) (k : Configuration R D) (choices : List Choice) (name : Name) → IsText g text
         → rules.holds text k choices (Next name) → rules.holds text (fed text k) choices (Retry name)
     pub by_calls : ForEachCall (λ text k choices name s. rules.holds text s.configuration (s.choices ++ choices) s.answer)
@@ -70,7 +86,8 @@ module _ {R D : Type 0} (g : Given) (rules : Rules R D) where
         → rules.holds text k (choice ∷ choices) Nok → rules.holds text (settled_at choice.kind choice.saved Nok k) choices choice.nok
     -- more of the document is pushed, or passed, before the end is fed
     pub by_pieces : (text : Text) (piece : Piece) (k : Configuration R D) (choices : List Choice) (state : State) → IsText g text
-        → FitsAfter g text piece → k.ended ≡ false → rules.holds text k choices state → rules.holds (followed_by g text piece) k choices state
+        → FitsAfter g text piece → k.ended ≡ false → rules.holds text k choices state
+        → rules.holds (followed_by g text piece) k choices state
 
   -- A call is paid for, with the cost of its answer and the reserves of the choices that it pushes; feeding costs nothing; and
   -- what a choice goes on with costs at most its reserve
@@ -80,9 +97,11 @@ module _ {R D : Type 0} (g : Given) (rules : Rules R D) where
     pub for_feeding : (text : Text) (k : Configuration R D) (choices : List Choice) (name : Name) → IsText g text
         → rules.holds text k choices (Next name) → rules.cost text (fed text k) (Retry name) ≤ rules.cost text k (Next name)
     pub for_ok : (text : Text) (k : Configuration R D) (choice : Choice) (choices : List Choice) → IsText g text
-        → rules.holds text k (choice ∷ choices) Ok → rules.cost text (settled_at choice.kind choice.saved Ok k) choice.ok ≤ rules.reserve text choice
+        → rules.holds text k (choice ∷ choices) Ok
+        → rules.cost text (settled_at choice.kind choice.saved Ok k) choice.ok ≤ rules.reserve text choice
     pub for_nok : (text : Text) (k : Configuration R D) (choice : Choice) (choices : List Choice) → IsText g text
-        → rules.holds text k (choice ∷ choices) Nok → rules.cost text (settled_at choice.kind choice.saved Nok k) choice.nok ≤ rules.reserve text choice
+        → rules.holds text k (choice ∷ choices) Nok
+        → rules.cost text (settled_at choice.kind choice.saved Nok k) choice.nok ≤ rules.reserve text choice
 
   -- The invariant of resolvers holds of those that are registered once all was read, with the definitions and the list taken out.
   -- Each resolver keeps it for those that are left, and keeps how far was read and the stack. When none is left the edits can be
@@ -95,3 +114,12 @@ module _ {R D : Type 0} (g : Given) (rules : Rules R D) where
         → rules.resolves text rs new × IsAsFar new k × (new.stack ≡ k.stack)
     pub at_last : (text : Text) (k : Configuration R D) → IsText g text → rules.resolves text [] k
         → CanBeEdited k × IsInShape (edited k.local.map k.events)
+
+  -- A lawful machine: what its rules keep on a document, law by law
+  pub record IsLawful : Type 0 where
+    pub consumes_once : ConsumesOnce
+    pub only_adds : OnlyAdds
+    pub ends_when_read : EndsWhenRead
+    pub invariant_kept : KeepsInvariant
+    pub cost_pays : CostPays
+    pub resolvers_keep : ResolversKeep

@@ -1,31 +1,59 @@
--- Laws of texts and of choices.
-use Rattle.std.specs.Prelude.{◌≡◌, Some, map}
+-- Laws of texts, of choices and of readings.
+use Rattle.std.specs.Prelude.{◌≡◌, ℕ, Some, map}
 use Rattle.markdown_base.specs.declared.event.Point.{Point}
 use Rattle.markdown_base.specs.declared.state.State.{State}
+use Rattle.markdown_base.specs.declared.state.State.TheVariants.{Nok}
 use Rattle.markdown_base.specs.Events.{unlinked, HasFrontUpToLinkEnds}
-use Rattle.markdown_tokenizer.specs.declared.waiting.AttemptKind.TheVariants.{Check}
+use Rattle.markdown_tokenizer.specs.declared.waiting.AttemptKind.TheVariants.{Attempt, Check}
 use Rattle.markdown_tokenizer.specs.Text.{Given, Text, IsText, FitsAfter, pushed, followed_by}
-use Rattle.markdown_tokenizer.specs.Configuration.{Configuration}
+use Rattle.markdown_tokenizer.specs.Configuration.{Configuration, TokenizerValue}
 use Rattle.markdown_tokenizer.specs.Sight.{sight}
 use Rattle.markdown_tokenizer.specs.Calls.{saved_at}
-use Rattle.markdown_tokenizer.specs.Reading.{unfed, settled_at}
+use Rattle.markdown_tokenizer.specs.Reading.{unfed, restored, settled_at}
+use Rattle.markdown_tokenizer.specs.Rules.{Rules}
+use Rattle.markdown_tokenizer.specs.Engine.{CanPush, IsPushed}
 
--- a range that is pushed in two parts is the range pushed at once: the second part begins where the first one ends, or at a place
+-- A range can be pushed at once, and makes the text that its two parts make
+pub record IsOneRange (g : Given) (text : Text) (a b c d : Point) : Type 0 where
+  pub allowed : FitsAfter g text (pushed a d)
+  pub same : followed_by g (followed_by g text (pushed a b)) (pushed c d) ≡ followed_by g text (pushed a d)
+
+-- A range that is pushed in two parts is the range pushed at once: the second part begins where the first one ends, or at a place
 -- that denotes the same
 abbrev pub CutsLeaveNoTrace : Type 0
 CutsLeaveNoTrace = (g : Given) (text : Text) (a b c d : Point) → IsText g text → FitsAfter g text (pushed a b)
-    → FitsAfter g (followed_by g text (pushed a b)) (pushed c d)
-    → followed_by g (followed_by g text (pushed a b)) (pushed c d) ≡ followed_by g text (pushed a d)
+    → FitsAfter g (followed_by g text (pushed a b)) (pushed c d) → IsOneRange g text a b c d
 
--- A choice that goes back puts back what was there when it was made, while what states share stays
-pub record IsPutBack {R D : Type 0} (g : Given) (text : Text) (made now back : Configuration R D) : Type 0 where
-  pub events : map unlinked back.events ≡ map unlinked made.events
-  pub stack : back.stack ≡ made.stack
-  pub ended : back.ended ≡ made.ended
-  pub seen : sight g text back ≡ sight g text (unfed made)
-  pub local : back.local ≡ now.local
+-- Two pushes, of the parts of a range, leave what one push of the range leaves, and that one is allowed
+abbrev pub PushesAreOne : {M R D : Type 0} → (M → Given → Rules R D) → Type 0
+PushesAreOne {M} {R} {D} rules = (old mid new : TokenizerValue M R D) (a b c d : ℕ × ℕ) (first second third : State)
+    → IsText old.given old.text
+    → CanPush old.given old.text a b → IsPushed (rules old.machine old.given) old a b first mid second
+    → CanPush mid.given mid.text c d → IsPushed (rules mid.machine mid.given) mid c d second new third
+    → CanPush old.given old.text a d × IsPushed (rules old.machine old.given) old a d first new third
 
--- where no more than links was changed of the events that there were, a check that ends, well or not, puts back
-abbrev pub ChoicesPutBack : Type 0 → Type 0 → Type 0
-ChoicesPutBack R D = (g : Given) (text : Text) (made now : Configuration R D) (answer : State) → HasFrontUpToLinkEnds now.events made.events
-    → IsPutBack g text made now (settled_at Check (Some (saved_at made)) answer now)
+module _ {R D : Type 0} where
+  -- What reading on makes of a configuration: parts of calls, each of which keeps the events, but for the ends of their links, and adds its
+  -- own after them (`only_adds`); feeding, and choices that end and go on from there, which change no event; and choices made meanwhile
+  -- that go back to what there was then
+  pub data Later : (made now : Configuration R D) → Type 0 where
+    here : {made : Configuration R D} → Later made made
+    added : {made k now : Configuration R D} → Later made k → HasFrontUpToLinkEnds now.events k.events → Later made now
+    went_back : {made chosen k : Configuration R D} → Later made chosen → Later chosen k → Later made (restored (Some (saved_at chosen)) k)
+
+  -- A choice that goes back puts back what was there when it was made, while what states share stays
+  pub record IsPutBack (g : Given) (text : Text) (made now back : Configuration R D) : Type 0 where
+    pub events : map unlinked back.events ≡ map unlinked made.events
+    pub stack : back.stack ≡ made.stack
+    pub ended : back.ended ≡ made.ended
+    pub seen : sight g text back ≡ sight g text (unfed made)
+    pub local : back.local ≡ now.local
+
+-- Whatever was read meanwhile, the events that there were are still there, up to the ends of their links; so a check that ends, well or
+-- not, and an attempt that fails, put back what was there when they were made
+pub record ChoicesPutBack (R D : Type 0) : Type 0 where
+  pub kept : (made now : Configuration R D) → Later made now → HasFrontUpToLinkEnds now.events made.events
+  pub check : (g : Given) (text : Text) (made now : Configuration R D) (answer : State) → Later made now
+      → IsPutBack g text made now (settled_at Check (Some (saved_at made)) answer now)
+  pub attempt : (g : Given) (text : Text) (made now : Configuration R D) → Later made now
+      → IsPutBack g text made now (settled_at Attempt (Some (saved_at made)) Nok now)

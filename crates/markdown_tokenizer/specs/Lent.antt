@@ -17,6 +17,8 @@ use Rattle.markdown_tokenizer.specs.Calls.{with_events}
 abbrev pub events_row : RattleType
 events_row = vec.the_row event.the_row global.the_row ghosts
 
--- once the borrow r ends, the tokenizer has the events last written through r, and is else as it was. Its lifetime is the second of the signature
-abbrev pub LendsEvents : (M R D : RattleType) (same : Ghosts R.Denot) → MutBor (TokenizerValue M.Denot R.Denot D.Denot) → MutBor (Vec Event) → Fml
+-- once the borrow r ends, the tokenizer has the events last written through r, and is else as it was. Its lifetime is the second of the
+-- signature
+abbrev pub LendsEvents : (M R D : RattleType) (same : Ghosts R.Denot) → MutBor (TokenizerValue M.Denot R.Denot D.Denot)
+    → MutBor (Vec Event) → Fml
 LendsEvents M R D same t r = Lends (the_row (record { mir = named 1; lft = [] }) M R D same) events_row t r (λ w. at_configuration t.now (with_events t.now.configuration w.items))

@@ -1,5 +1,4 @@
--- Ranges of a document that a caller pushes one after another, each after its gap, if it passes one. Lemmas for callers speak of these words; no
--- contract of the engine does.
+-- Ranges of a document that a caller pushes one after another, each after its gap, if it passes one.
 use Rattle.std.specs.Prelude.{◌≡◌, ◌⊎◌, ℕ, List, [], ◌∷◌, Option, Some, None, true, cond}
 use Rattle.markdown_base.specs.declared.event.Point.{Point}
 use Rattle.markdown_base.specs.Places.{point_at, is_upto, denotes_same, stands_before}
@@ -39,4 +38,5 @@ pub record IsRangeFrom (t : ℕ) (bytes : List ℕ) (p : Point) (from to : ℕ �
 -- ranges that are pushed one after another, each after its gap, if it has one, onto a text that ends at this place
 abbrev pub FollowOn : (t : ℕ) → List ℕ → Point → List AfterGap → Type 0
 FollowOn t bytes p [] = Unit {0}
-FollowOn t bytes p ((gap, from, to) ∷ ranges) = LeadsFrom t bytes p gap × (r : IsRangeFrom t bytes (after_any t bytes p gap) from to) × FollowOn t bytes r.last ranges
+FollowOn t bytes p ((gap, from, to) ∷ ranges) =
+    LeadsFrom t bytes p gap × (r : IsRangeFrom t bytes (after_any t bytes p gap) from to) × FollowOn t bytes r.last ranges

@@ -29,11 +29,15 @@ with_more sub (Some more) = record {
 module _ {R D : Type 0} where
   -- the definitions that states found are taken out
   abbrev pub taken : Configuration R D → Configuration R D
-  taken k = record k { local = record k.local { tokenize_state = record k.local.tokenize_state { definitions = []; gfm_footnote_definitions = [] } } }
+  taken k =
+      let state = record k.local.tokenize_state { definitions = []; gfm_footnote_definitions = [] } in
+      record k { local = record k.local { tokenize_state = state } }
 
   -- the definitions that states found
   abbrev pub found : Configuration R D → Subresult
-  found k = record { done = false; gfm_footnote_definitions = k.local.tokenize_state.gfm_footnote_definitions; definitions = k.local.tokenize_state.definitions }
+  found k =
+      let state = k.local.tokenize_state in
+      record { done = false; gfm_footnote_definitions = state.gfm_footnote_definitions; definitions = state.definitions }
 
   -- the edits that wait are made, all at once
   abbrev pub edits_made : Configuration R D → Configuration R D

@@ -1,8 +1,8 @@
 -- The text of a tokenizer: the virtual bytes of the ranges that were pushed, in order.
-use Rattle.std.specs.Prelude.{◌≡◌, ℕ, ◌+◌, ◌*◌, ◌^◌, ◌<◌, ◌≤◌, true, cond, List, [], ◌∷◌, ◌++◌, ◌⊎◌, filter, length, All}
+use Rattle.std.specs.Prelude.{◌≡◌, ℕ, ◌<◌, true, cond, List, [], ◌∷◌, ◌++◌, ◌⊎◌, filter, All}
 use Rattle.markdown_base.specs.declared.event.Point.{Point}
 use Rattle.markdown_base.specs.declared.configuration.ParseOptions.{ParseOptions}
-use Rattle.markdown_base.specs.Virtual.{Seat, virtual}
+use Rattle.markdown_base.specs.Virtual.{Seat, virtual, IsTabSize, IsWithinLimit}
 pub use Rattle.markdown_base.specs.Places.{in_range}
 use Rattle.markdown_base.specs.Places.{stands_before, is_upto, denotes_same, IsPointOf}
 
@@ -40,22 +40,25 @@ followed_by_all g text (piece ∷ rest) = followed_by_all g (followed_by g text 
 -- beginning of a line to a later place of that line.
 abbrev pub FitsAfter : Given → Text → Piece → Type 0
 FitsAfter g text (pushed from to) =
-    IsPointOf g.tab g.bytes from × IsPointOf g.tab g.bytes to × (denotes_same g.tab g.bytes from text.end ≡ true) × (is_upto g.tab g.bytes from to ≡ true)
+    IsPointOf g.tab g.bytes from × IsPointOf g.tab g.bytes to
+    × (denotes_same g.tab g.bytes from text.end ≡ true) × (is_upto g.tab g.bytes from to ≡ true)
 FitsAfter g text (passed p) =
     IsPointOf g.tab g.bytes p
-    × ((denotes_same g.tab g.bytes p text.end ≡ true) ⊎ ((text.end.column ≡ 1) × (p.line ≡ text.end.line) × (stands_before text.end p ≡ true)))
+    × ((denotes_same g.tab g.bytes p text.end ≡ true)
+    ⊎ ((text.end.column ≡ 1) × (p.line ≡ text.end.line) × (stands_before text.end p ≡ true)))
 
 -- the pieces can follow the text, one after another
 abbrev pub CanFollow : Given → Text → List Piece → Type 0
 CanFollow g text [] = Unit {0}
 CanFollow g text (piece ∷ rest) = FitsAfter g text piece × CanFollow g (followed_by g text piece) rest
 
--- A document that there can be: its bytes are below 256, tab stops stand at every 1 to 16 columns, and its virtual columns can be
--- counted
+-- A document that there can be: its bytes are below 256, tab stops are 1 to 16 columns apart, as the options say, and it is within
+-- the limit
 pub record IsDocument (g : Given) : Type 0 where
   pub bytes : All (λ b. b < 256) g.bytes
-  pub tab : (1 ≤ g.tab) × (g.tab ≤ 16)
-  pub limit : g.tab * length g.bytes + 1 < 2 ^ 64
+  pub tab : IsTabSize g.tab
+  pub limit : IsWithinLimit g.tab g.bytes
+  pub one_size : g.tab ≡ g.options.tab_size
 
 -- a text is what some pieces make, from a place of a document on
 pub record IsText (g : Given) (text : Text) : Type 0 where

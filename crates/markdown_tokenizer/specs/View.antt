@@ -1,6 +1,6 @@
 -- What the fields of a tokenizer mean. An inner file: no public clause names what stands here.
-use Rattle.std.specs.List.{AllByRecursion}
-use Rattle.std.specs.Prelude.{◌≡◌, ℕ, ◌+◌, ◌*◌, ◌<◌, ◌≤◌, ◌^◌, List, [], ◌∷◌, Bool, true, false, cond, nat_lt, ◌||◌, Option, None, Some, length, map, take, reverse, unwrap_or, IfSome, Result}
+use Rattle.std.specs.List.{AllByRecursion, IsDistinct}
+use Rattle.std.specs.Prelude.{◌≡◌, ℕ, ◌≤◌, List, [], ◌∷◌, Bool, true, false, cond, nat_lt, ◌||◌, Option, None, Some, length, map, take, reverse, unwrap_or, IfSome, Result}
 use Rattle.std.specs.declared.result.Result.TheVariants as result
 use Rattle.markdown_base.specs.declared.event.Event.{Event}
 use Rattle.markdown_base.specs.declared.event.Name.{Name}
@@ -21,7 +21,7 @@ use Rattle.markdown_tokenizer.specs.declared.waiting.Progress.{Progress}
 use Rattle.markdown_tokenizer.specs.declared.waiting.AttemptKind.{AttemptKind}
 use Rattle.markdown_tokenizer.specs.declared.parser.ParseState.{ParseState}
 use Rattle.markdown_tokenizer.specs.declared.tokenizer.Tokenizer.TheInside.{Inside}
-use Rattle.markdown_tokenizer.specs.Text.{Text, IsText}
+use Rattle.markdown_tokenizer.specs.Text.{Given, Text, IsText}
 use Rattle.markdown_tokenizer.specs.Configuration.{Configuration, Choice, Saved, TokenizerValue}
 use Rattle.markdown_tokenizer.specs.Calls.{saved_at}
 use Rattle.markdown_tokenizer.specs.Sight.{seat_before, byte_of, end_place}
@@ -44,7 +44,7 @@ abbrev pub choice_at : {R D : Type 0} → AttemptKind → (ok nok : State) → (
 choice_at kind ok nok saves k = record { kind = kind; ok = ok; nok = nok; saved = cond saves (Some (saved_at k)) None }
 
 -- at how many columns tab stops stand: what the options say
-abbrev pub tab_of : {M R D : Type 0} → ParseState M R D → ℕ
+abbrev pub tab_of : {M : Type 0} → ParseState M → ℕ
 tab_of p = p.options.now.tab_size
 
 -- the point of a place, given by index and number in a tab
@@ -61,14 +61,16 @@ position_from tab bytes skips start p = length (seats_between tab bytes skips st
 
 -- what the code saved of a choice, with `position` as the number of bytes before a place, and the stack
 abbrev pub saved_at_place : (Point → ℕ) → List Name → Progress → Saved
-saved_at_place position stack p = record { position = position p.after_previous; ended = p.ended; events = p.events_len; stack = take p.stack_len stack }
+saved_at_place position stack p =
+    record { position = position p.after_previous; ended = p.ended; events = p.events_len; stack = take p.stack_len stack }
 
 abbrev pub saved_of : (Point → ℕ) → List Name → Option Progress → Option Saved
 saved_of position stack None = None
 saved_of position stack (Some p) = Some (saved_at_place position stack p)
 
 abbrev pub choice_of : (Point → ℕ) → List Name → KeptChoice → Choice
-choice_of position stack choice = record { kind = choice.kind; ok = state_of choice.ok; nok = state_of choice.nok; saved = saved_of position stack choice.saved }
+choice_of position stack choice =
+    record { kind = choice.kind; ok = state_of choice.ok; nok = state_of choice.nok; saved = saved_of position stack choice.saved }
 
 abbrev pub seen : {M R D : Type 0} → Inside M R D → TokenizerValue M R D
 seen t =
@@ -77,7 +79,11 @@ seen t =
     let position = position_from tab bytes t.skips t.start in record {
       given = record { bytes = bytes; options = t.parse_state.now.options.now; tab = tab };
       machine = t.parse_state.now.machine.now;
-      text = record { start = t.start; seats = seats_between tab bytes t.skips t.start (end_point tab bytes t.end); end = end_point tab bytes t.end };
+      text = record {
+        start = t.start;
+        seats = seats_between tab bytes t.skips t.start (end_point tab bytes t.end);
+        end = end_point tab bytes t.end;
+      };
       configuration = record {
         position = position t.after_previous;
         waiting = t.waits;
@@ -105,7 +111,8 @@ abbrev pub text_within : {M R D : Type 0} → Inside M R D → Text
 text_within t = (seen t).text
 
 -- A text was read up to a place: it is where the byte before ends, or the start, and that byte is known
-pub record IsReadTo (tab : ℕ) (bytes : List ℕ) (skips : List Point) (text : Text) (after_previous : Point) (previous : Option ℕ) : Type 0 where
+pub record IsReadTo (tab : ℕ) (bytes : List ℕ) (skips : List Point) (text : Text) (after_previous : Point)
+    (previous : Option ℕ) : Type 0 where
   pub place : IsPlace tab bytes after_previous
   pub from : is_upto tab bytes text.start after_previous ≡ true
   pub upto : is_upto tab bytes after_previous text.end ≡ true
@@ -130,7 +137,8 @@ pub record EndWaits (current : Option ℕ) (closed : Bool) (position size : ℕ)
 abbrev pub IsWhatWaits : (tab : ℕ) → List ℕ → List Point → Text → Point → Option ℕ → Bool → Waits → Type 0
 IsWhatWaits tab bytes skips text after_previous current closed Nothing = current ≡ None
 IsWhatWaits tab bytes skips text after_previous current closed Byte = ByteWaits tab bytes skips after_previous text.end current
-IsWhatWaits tab bytes skips text after_previous current closed End = EndWaits current closed (position_from tab bytes skips text.start after_previous) (length text.seats)
+IsWhatWaits tab bytes skips text after_previous current closed End =
+    EndWaits current closed (position_from tab bytes skips text.start after_previous) (length text.seats)
 
 -- where an enter stands: after what is passed of a line, once something waits there
 abbrev pub standing : List Point → Point → Waits → Point
@@ -147,7 +155,8 @@ abbrev pub can_feed : (position size : ℕ) → (closed : Bool) → Bool
 can_feed position size closed = nat_lt position size || closed
 
 -- What a choice saved: a place up to which the text was read, with the events and the stack that were there, until a flush resolves
-pub record IsProgress (phase : Phase) (tab : ℕ) (bytes : List ℕ) (skips : List Point) (text : Text) (events : List Event) (stack : List Name) (closed : Bool) (p : Progress) : Type 0 where
+pub record IsProgress (phase : Phase) (tab : ℕ) (bytes : List ℕ) (skips : List Point) (text : Text) (events : List Event)
+    (stack : List Name) (closed : Bool) (p : Progress) : Type 0 where
   pub read : IsReadTo tab bytes skips text p.after_previous p.previous
   pub ended : p.ended ≡ true → closed ≡ true
   pub made : phase ≡ Reading → IsMade bytes (take p.events_len events) (take p.stack_len stack) (shown bytes p.after_previous)
@@ -165,18 +174,33 @@ stack_of n (Some p) = p.stack_len
 abbrev pub AreNested : (Progress → Type 0) → (events stack : ℕ) → List KeptChoice → Type 0
 AreNested P events stack [] = Unit {0}
 AreNested P events stack (choice ∷ kept_choices) =
-    IfSome choice.saved (λ p. (p.events_len ≤ events) × (p.stack_len ≤ stack) × P p) × AreNested P (events_of events choice.saved) (stack_of stack choice.saved) kept_choices
+    IfSome choice.saved (λ p. (p.events_len ≤ events) × (p.stack_len ≤ stack) × P p)
+    × AreNested P (events_of events choice.saved) (stack_of stack choice.saved) kept_choices
 
--- what holds of the fields. Of the events it holds until a flush resolves, as resolvers may change them freely.
-pub record IsSound {M R D : Type 0} (t : Inside M R D) : Type 0 where
-  pub limit : tab_of t.parse_state.now * length t.parse_state.now.bytes.now + 1 < 2 ^ 64
-  pub tab : t.tab_size ≡ tab_of t.parse_state.now
-  pub end_at : point_at (tab_of t.parse_state.now) t.parse_state.now.bytes.now t.end ≡ Some (text_within t).end
-  pub text : IsText (seen t).given (text_within t)
-  pub skips : AllByRecursion (IsSkip (tab_of t.parse_state.now) t.parse_state.now.bytes.now (text_within t).end) t.skips
-  pub read : IsReadTo (tab_of t.parse_state.now) t.parse_state.now.bytes.now t.skips (text_within t) t.after_previous t.previous
-  pub waiting : IsWhatWaits (tab_of t.parse_state.now) t.parse_state.now.bytes.now t.skips (text_within t) t.after_previous t.current t.closed t.waits
-  pub ended : t.ended ≡ true → t.closed ≡ true
-  pub reads : t.closed ≡ false → t.phase ≡ Reading
-  pub made : t.phase ≡ Reading → IsMade t.parse_state.now.bytes.now t.events.items t.stack.items (shown t.parse_state.now.bytes.now t.after_previous) (shown t.parse_state.now.bytes.now (standing t.skips t.after_previous t.waits))
-  pub kept_choices : AreNested (IsProgress t.phase (tab_of t.parse_state.now) t.parse_state.now.bytes.now t.skips (text_within t) t.events.items t.stack.items t.closed) (length t.events.items) (length t.stack.items) (reverse t.kept_choices.items)
+-- Where a tokenizer is in its text: up to where lines are passed, how far it has read, and what waits. The end is fed to a closed one
+-- only, and an open one reads.
+pub record IsPlaced (g : Given) (size : ℕ) (passes : List Point) (within : Text) (last : ℕ × ℕ) (after_previous : Point)
+    (previous current : Option ℕ) (waits : Waits) (end_fed closed : Bool) (phase : Phase) : Type 0 where
+  pub tab : size ≡ g.tab
+  pub end_at : point_at g.tab g.bytes last ≡ Some within.end
+  pub text : IsText g within
+  pub skips : AllByRecursion (IsSkip g.tab g.bytes within.end) passes
+  pub read : IsReadTo g.tab g.bytes passes within after_previous previous
+  pub waiting : IsWhatWaits g.tab g.bytes passes within after_previous current closed waits
+  pub ended : end_fed ≡ true → closed ≡ true
+  pub reads : closed ≡ false → phase ≡ Reading
+
+-- What holds of the fields: where it is, what it made, what its choices saved, and that no resolver is there twice. Of the events it
+-- holds until a flush resolves, as resolvers may change them freely.
+pub record IsSound {M R D : Type 0} (same : R → R → Bool) (t : Inside M R D) : Type 0 where
+  pub placed : IsPlaced (seen t).given t.tab_size t.skips (text_within t) t.end
+      t.after_previous t.previous t.current t.waits t.ended t.closed t.phase
+  pub made : t.phase ≡ Reading
+      → IsMade t.parse_state.now.bytes.now t.events.items t.stack.items
+      (shown t.parse_state.now.bytes.now t.after_previous)
+      (shown t.parse_state.now.bytes.now (standing t.skips t.after_previous t.waits))
+  pub kept_choices : AreNested
+      (IsProgress t.phase (tab_of t.parse_state.now) t.parse_state.now.bytes.now t.skips (text_within t)
+      t.events.items t.stack.items t.closed)
+      (length t.events.items) (length t.stack.items) (reverse t.kept_choices.items)
+  pub once : IsDistinct same t.resolvers.items

@@ -12,7 +12,10 @@ use Rattle.markdown_tokenizer.specs.Reading.{fed, settled_at}
 use Rattle.markdown_tokenizer.specs.Rules.{Rules}
 use Rattle.markdown_tokenizer.specs.Engine.{LeadsOn}
 use Rattle.markdown_tokenizer.specs.declared.subtokenize.Subresult.{Subresult}
-use Rattle.markdown_tokenizer.specs.Resolving.{Resolved, done, resolved_by, IsInShape}
+use Rattle.markdown_tokenizer.specs.Resolving.{Resolved, done, refused, resolved_by, with_more, IsInShape}
+use Rattle.markdown_tokenizer.specs.Calls.{with_resolvers}
+use Rattle.markdown_tokenizer.specs.Lawful.{resolver_of}
+use Rattle.markdown_base.specs.declared.message.Message.{Message}
 
 -- the text is another one
 abbrev pub extended : {M R D : Type 0} → TokenizerValue M R D → Text → TokenizerValue M R D
@@ -55,12 +58,14 @@ Stops flush t (Error message) = Unit {0}
 
 -- what is fed to which state, or where the work ends
 abbrev pub TakesUp : {M R D : Type 0} → Bool → TokenizerValue M R D → TokenizerValue M R D → State → Result Name State → Type 0
-TakesUp flush old new (Next name) (result.Ok n) = (n ≡ name) × (new ≡ at_configuration old (fed old.text old.configuration)) × (flush ≡ false → old.configuration.position < length old.text.seats)
+TakesUp flush old new (Next name) (result.Ok n) = (n ≡ name) × (new ≡ at_configuration old (fed old.text old.configuration))
+    × (flush ≡ false → old.configuration.position < length old.text.seats)
 TakesUp flush old new (Retry name) (result.Ok n) = (n ≡ name) × (new ≡ old)
 TakesUp flush old new Ok (result.Ok n) = ⊥
 TakesUp flush old new Nok (result.Ok n) = ⊥
 TakesUp flush old new (Error message) (result.Ok n) = ⊥
-TakesUp flush old new (Next name) (result.Err answer) = (new ≡ old) × (answer ≡ Next name) × (flush ≡ false) × (length old.text.seats ≤ old.configuration.position)
+TakesUp flush old new (Next name) (result.Err answer) = (new ≡ old) × (answer ≡ Next name) × (flush ≡ false)
+    × (length old.text.seats ≤ old.configuration.position)
 TakesUp flush old new (Retry name) (result.Err answer) = ⊥
 TakesUp flush old new Ok (result.Err answer) = (new ≡ old) × (answer ≡ Ok)
 TakesUp flush old new Nok (result.Err answer) = (new ≡ old) × (answer ≡ Nok)
@@ -80,6 +85,11 @@ settled_all k (c ∷ cs) Nok = settled_all (settled_at c.kind c.saved Nok k) cs 
 abbrev pub settled_to : {M R D : Type 0} → TokenizerValue M R D → Step R D → TokenizerValue M R D
 settled_to t s = record t { configuration = s.configuration; choices = s.choices }
 
+-- choices end where a state's answer ends them, and what then goes on is fed, or the work ends
+abbrev pub GoesOnTo : {M R D : Type 0} → Bool → TokenizerValue M R D → State → TokenizerValue M R D → Result Name State → Type 0
+GoesOnTo flush old state new taken =
+    let s = settled_all old.configuration old.choices state in TakesUp flush (settled_to old s) new s.answer taken
+
 -- where the reading ends, no span is open
 abbrev pub EndsClosed : {R D : Type 0} → Step R D → Type 0
 EndsClosed s = IsSome (answer_in s.answer) → s.configuration.stack ≡ []
@@ -88,6 +98,11 @@ EndsClosed s = IsSome (answer_in s.answer) → s.configuration.stack ≡ []
 abbrev pub taken_up : Option Name → State → Result Name State
 taken_up (Some name) answer = result.Ok name
 taken_up None answer = result.Err answer
+
+-- the same of a state that is answered to be fed: its name where it was, else that answer
+abbrev pub taken_by_next : Bool → Name → Result Name State
+taken_by_next true name = result.Ok name
+taken_by_next false name = result.Err (Next name)
 
 -- the invariant holds on every text that continues the tokenizer's, or on this alone where the end is fed
 abbrev pub HoldsAll : {M R D : Type 0} → Rules R D → Bool → TokenizerValue M R D → State → Type 0
@@ -106,6 +121,33 @@ module _ {M R D : Type 0} (rules : Rules R D) where
   resolved_in t rs k sub = resolved_by rules.resolver t.given t.text rs k sub
 
   -- resolvers have gone over the events, and the edits were made
-  pub record GoneOver (old : TokenizerValue M R D) (rs : List R) (k : Configuration R D) (sub : Subresult) (new : TokenizerValue M R D) (all : Subresult) : Type 0 where
+  pub record GoneOver (old : TokenizerValue M R D) (rs : List R) (k : Configuration R D) (sub : Subresult)
+      (new : TokenizerValue M R D) (all : Subresult) : Type 0 where
     pub is : resolved_in old rs k sub ≡ done new.configuration (Some all)
     pub in_shape : IsInShape new.configuration.events
+
+-- what the registered resolvers of a tokenizer go over: they are taken out
+abbrev pub registered_out : {M R D : Type 0} → TokenizerValue M R D → Configuration R D
+registered_out t = with_resolvers t.configuration []
+
+module _ {M R D : Type 0} (rules : M → Given → Rules R D) (t : TokenizerValue M R D) where
+  -- one resolver has gone over the events of a tokenizer; what it found comes behind what was found
+  abbrev pub HasResolved : R → Subresult → TokenizerValue M R D → Subresult → Type 0
+  HasResolved r sub new all =
+      (more : Option Subresult) × (resolver_of (rules t.machine) t r ≡ done new.configuration more) × (all ≡ with_more sub more)
+
+  -- the invariant of resolvers holds before these go over the events of a configuration
+  abbrev pub CanGoOver : List R → Configuration R D → Type 0
+  CanGoOver rs k = (rules t.machine t.given).resolves t.text rs k
+
+  -- these resolvers have gone over the events of a configuration, and the edits were made
+  abbrev pub HasGoneOver : List R → Configuration R D → Subresult → TokenizerValue M R D → Subresult → Type 0
+  HasGoneOver = GoneOver (rules t.machine t.given) t
+
+  -- these resolvers, or the edits after them, refuse with a message
+  abbrev pub RefusesOver : List R → Configuration R D → Subresult → Message → Type 0
+  RefusesOver rs k sub m = resolved_in (rules t.machine t.given) t rs k sub ≡ refused m
+
+  -- all of them have, and the edits were made
+  abbrev pub AllGoneOver : Subresult → TokenizerValue M R D → Subresult → Type 0
+  AllGoneOver = HasGoneOver t.configuration.local.resolvers (registered_out t)

@@ -3,8 +3,9 @@
 ghost use Rattle.markdown_tokenizer.specs.Cursor.{goes_on, begins_pair, IsPlace, IsSeatAt, IsNextSeat, IsNextByte, is_before_pair, is_after_pair};
 ghost use Rattle.markdown_tokenizer.specs.Gaps.{skip_of, resumed};
 ghost use Rattle.markdown_base.specs.Places;
-ghost use Rattle.markdown_base.specs.Virtual.{Seat};
-ghost use Rattle.std.specs.Prelude.{◌≡◌, ◌==◌, ◌&&◌, ◌||◌, nat_lt, ◌+◌, ◌*◌, ◌%◌, ◌^◌, ◌<◌, ℕ, length, not, unwrap_or};
+ghost use Rattle.markdown_base.specs.Virtual.{IsWithinLimit, Seat};
+ghost use Rattle.std.specs.Bool.{OnTrue};
+ghost use Rattle.std.specs.Prelude.{◌≡◌, ◌==◌, ◌&&◌, ◌||◌, nat_lt, ◌+◌, ◌%◌, ◌^◌, ◌<◌, ℕ, length, not, unwrap_or};
 
 use crate::skips::Skips;
 use markdown_base::event::Point;
@@ -76,6 +77,14 @@ pub(crate) fn resumed<'a>(skips: &'a Skips, place: &'a Point) -> &'a Point
     }
 }
 
+/// Whether the next byte is looked for at a place itself: it is in mid-line, or no line is passed.
+#[inline(always)]
+pub(crate) fn is_where_more_is(skips: &Skips, place: &Point) -> bool
+    ensures { OnTrue result (resumed skips.now place.now ≡ place.now) }
+{
+    skips.is_empty() || place.column != 1
+}
+
 /// Moves a place at the beginning of a line to after what is passed of it.
 ///
 /// It is apart from `resume`, and cold: nearly every byte is in mid-line, or of a document without gaps. `resume` is then a test in
@@ -131,7 +140,7 @@ fn goes_on_by(t: usize, column: usize) -> bool
 #[inline(always)]
 pub(crate) fn pass(bytes: &[u8], t: &usize, point: &mut Point, byte: u8)
     requires some { 0 < t.now }
-    requires limit { t.now * length bytes.now + 1 < 2 ^ 64 }
+    requires limit { IsWithinLimit t.now bytes.now }
     requires place { IsPlace t.now bytes.now point.old }
     requires next { (seat : Seat) × IsSeatAt t.now bytes.now point.old seat × (seat.byte ≡ byte) }
     ensures { (seat : Seat) → IsSeatAt t.now bytes.now point.old seat → point.new ≡ seat.end }
@@ -156,6 +165,7 @@ pub(crate) fn pass(bytes: &[u8], t: &usize, point: &mut Point, byte: u8)
 }
 
 /// Where a place is shown: at itself, but the LF of a CR LF at its CR.
+#[inline(always)]
 pub(crate) fn shown(bytes: &[u8], point: Point) -> Point
     ensures { result ≡ Places.shown bytes.now point }
 {

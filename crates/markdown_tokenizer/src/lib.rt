@@ -6,6 +6,7 @@ mod cursor;
 pub mod laws;
 pub mod parser;
 mod places;
+mod ranges;
 mod skips;
 pub mod state;
 pub mod subtokenize;

@@ -1,8 +1,10 @@
 //! Places of a document, as callers name them: byte index and number in a tab.
 
 ghost use Rattle.markdown_tokenizer.specs.Cuts;
+ghost use Rattle.markdown_tokenizer.specs.Engine.{AreCuts};
 ghost use Rattle.markdown_base.specs.Places;
-ghost use Rattle.std.specs.Prelude.{◌==◌, ◌≡◌, ◌&&◌, ◌+◌, ◌*◌, ◌^◌, ◌<◌, All, IfOk, length};
+ghost use Rattle.markdown_base.specs.Virtual.{IsWithinLimit};
+ghost use Rattle.std.specs.Prelude.{◌==◌, ◌≡◌, ◌&&◌, ◌^◌, ◌<◌, All, IfOk};
 
 use crate::cursor::{pass, seat_at, shown};
 use markdown_base::configuration::TabSize;
@@ -26,7 +28,7 @@ fn is_at(point: Point, place: (usize, usize)) -> bool
 /// `None` where there is no such place. Line and virtual column are counted from the document's start, with tab stops
 /// at every `tab_size` columns.
 pub fn point_at(bytes: &[u8], tab_size: TabSize, place: (usize, usize)) -> Option<Point>
-    requires fits { tab_size * length bytes.now + 1 < 2 ^ 64 }
+    requires fits { IsWithinLimit tab_size bytes.now }
     ensures { result ≡ Places.point_at tab_size bytes.now place }
 {
     let t = tab_size.get();
@@ -49,7 +51,7 @@ pub fn point_at(bytes: &[u8], tab_size: TabSize, place: (usize, usize)) -> Optio
 }
 
 /// The places (byte index, number in a tab) of the virtual bytes number `n`, `2n`, `3n`, .., numbered from 0:
-/// a document can be handed over in parts there. Tab stops stand at every `tab_size` columns.
+/// a document can be cut there (`run`). Tab stops stand at every `tab_size` columns.
 pub fn cuts_every(
     alloc: Global,
     bytes: &[u8],
@@ -57,8 +59,9 @@ pub fn cuts_every(
     n: usize,
 ) -> Result<Vec<(usize, usize)>, AllocError>
     requires some { 0 < n }
-    requires fits { tab_size * length bytes.now + 1 < 2 ^ 64 }
-    ensures { IfOk result (λ cuts. cuts.items ≡ Cuts.cuts_every tab_size bytes.now n) }
+    requires fits { IsWithinLimit tab_size bytes.now }
+    ensures places { IfOk result (λ cuts. cuts.items ≡ Cuts.cuts_every tab_size bytes.now n) }
+    ensures cuts { IfOk result (λ cuts. AreCuts tab_size bytes.now cuts.items) }
 {
     let t = tab_size.get();
     let mut cuts = Vec::new(alloc);

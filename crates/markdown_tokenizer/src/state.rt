@@ -20,17 +20,17 @@ pub trait MachineTypes {
 /// take (`cost`, `reserve`) and with which states it may start (`starts`); what a resolver gives (`resolver`), and what holds before
 /// those of a list resolve (`resolves`). It proves six laws of them.
 pub trait Machine: MachineTypes + Sized {
-    ghost use Rattle.std.specs.Prelude.{◌≡◌, ◌≢◌, ◌∷◌, [], List, IfOk, IfErr, IsErrOf};
+    ghost use Rattle.std.specs.Prelude.{◌≡◌, ◌≢◌, [], IfOk, IfErr};
     ghost use Rattle.markdown_base.specs.declared.state.State.TheVariants.{Retry};
     ghost use Rattle.markdown_tokenizer.specs.declared.waiting.Waits.TheVariants.{Nothing};
-    ghost use Rattle.markdown_tokenizer.specs.declared.waiting.Phase.TheVariants.{Resolving};
+    ghost use Rattle.markdown_tokenizer.specs.declared.waiting.Phase.TheVariants.{Reading, Resolving};
     ghost use Rattle.markdown_tokenizer.specs.Configuration.{at_configuration};
     ghost use Rattle.markdown_tokenizer.specs.Resolving.{done, refused};
     ghost use Rattle.markdown_tokenizer.specs.Text.{Given};
-    ghost use Rattle.markdown_tokenizer.specs.Sight.{sight_of};
+    ghost use Rattle.markdown_tokenizer.specs.Fault.{IfMessage};
     ghost use Rattle.markdown_tokenizer.specs.Rules.{Rules};
     ghost use Rattle.markdown_tokenizer.specs.Engine.{HoldsOf};
-    ghost use Rattle.markdown_tokenizer.specs.Lawful.{DidStep, ConsumesOnce, OnlyAdds, EndsWhenRead, KeepsInvariant, CostPays, ResolversKeep};
+    ghost use Rattle.markdown_tokenizer.specs.Lawful.{DidStep, IsLawful, step_of, CanResolve, resolver_of};
 
     /// Its rules on a document.
     ghost rules: { Self → Given → Rules Self.Resolver Self.Document };
@@ -49,9 +49,10 @@ pub trait Machine: MachineTypes + Sized {
         name: Name,
     ) -> Result<State, AllocError>
         requires machine { t.old.machine ≡ self.now }
+        requires reading { t.old.phase ≡ Reading }
         requires waits { t.old.configuration.waiting ≢ Nothing }
         requires invariant { HoldsOf (rules self.now t.old.given) t.old (Retry name) }
-        ensures call_is_step { IfOk result (DidStep t.old t.new ((rules self.now t.old.given).step (sight_of t.old) t.old.configuration name)) };
+        ensures call_is_step { IfOk result (DidStep t.old t.new (step_of (rules self.now) t.old name)) };
 
     /// Goes over the events as the resolver of this name, once all was read, while a flush resolves.
     ///
@@ -67,28 +68,15 @@ pub trait Machine: MachineTypes + Sized {
         requires machine { t.old.machine ≡ self.now }
         requires resolving { t.old.phase ≡ Resolving }
         requires alone { t.old.choices ≡ [] }
-        requires invariant { (rest : List Self.Resolver) × (rules self.now t.old.given).resolves t.old.text (name ∷ rest) t.old.configuration }
+        requires invariant { CanResolve (rules self.now) t.old name }
         ensures same { t.new ≡ at_configuration t.old t.new.configuration }
-        ensures resolves { IfOk result (λ more. (rules self.now t.old.given).resolver (sight_of t.old) t.old.configuration name ≡ done t.new.configuration more) }
-        ensures message { (m : _) → IsErrOf result (Fault.Message m) → (rules self.now t.old.given).resolver (sight_of t.old) t.old.configuration name ≡ refused m }
+        ensures resolves { IfOk result (λ more. resolver_of (rules self.now) t.old name ≡ done t.new.configuration more) }
+        ensures message { IfMessage result (λ m. resolver_of (rules self.now) t.old name ≡ refused m) }
         ensures err { IfErr result (λ fault. fault ≢ Fault.Failed) };
 
-    /// A call consumes at most one byte, and never the end.
-    ghost consumes_once: { (m : Self) (g : Given) → ConsumesOnce g (rules m g) };
-
-    /// A call keeps the events, but for the ends of their links, and the spans that waiting choices saved; it adds its own after them.
-    ghost only_adds: { (m : Self) (g : Given) → OnlyAdds g (rules m g) };
-
-    /// With no choice waiting, `Nok` is never answered, and `Ok` only once the end was fed, with each span ended.
-    ghost ends_when_read: { (m : Self) (g : Given) → EndsWhenRead g (rules m g) };
-
-    /// The invariant holds at each start, and is kept by feeding, by a call, where a choice ends, and where a piece is added.
-    ghost invariant_kept: { (m : Self) (g : Given) → KeepsInvariant g (rules m g) };
-
-    /// A call is paid for, feeding costs nothing, and what a choice goes on with costs at most its reserve.
-    ghost cost_pays: { (m : Self) (g : Given) → CostPays g (rules m g) };
-
-    /// The invariant of resolvers holds once all was read, and is kept by each; when none is left the edits can be made, and the
-    /// events are balanced then, with their links in shape.
-    ghost resolvers_keep: { (m : Self) (g : Given) → ResolversKeep g (rules m g) };
+    /// It is lawful on every document: a call consumes at most one byte, and never the end (`consumes_once`); it keeps the events, but
+    /// for the ends of their links, and the spans that waiting choices saved (`only_adds`); if no choice waits, `Nok` is never
+    /// returned, and `Ok` only once the end was fed, with each span ended (`ends_when_read`); the invariant holds at each start and is
+    /// kept (`invariant_kept`); calls are paid for (`cost_pays`); and resolvers leave a balanced list (`resolvers_keep`).
+    ghost lawful: { (m : Self) (g : Given) → IsLawful g (rules m g) };
 }

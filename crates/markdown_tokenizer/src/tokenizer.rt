@@ -10,10 +10,11 @@ mod running;
 mod state;
 
 use crate::count::Calls;
-use crate::cursor::{is_after, pass, resume, shown};
+use crate::cursor::{is_after, is_where_more_is, pass, resume, shown};
 use crate::parser::ParseState;
 use crate::places::bytes_are_below_256;
 pub use crate::places::{cuts_every, point_at};
+pub use crate::ranges::{AfterGap, follow_on};
 use crate::skips::Skips;
 use crate::state::{MachineTypes, State};
 use crate::subtokenize;
@@ -93,16 +94,15 @@ impl<'a, M: MachineTypes> Model for Tokenizer<'a, M> {
 
     ghost view = { seen };
 
-    ghost invariant = { IsSound };
+    ghost invariant = { IsSound M.Resolver.eq };
 }
 
-ghost use Rattle.std.specs.Prelude.{◌≡◌, ◌+◌, ◌-◌, ◌*◌, ◌^◌, ◌<◌, ◌≤◌, All, length, OnOk, OnErr, None, Some};
+ghost use Rattle.std.specs.Prelude.{◌≡◌, ◌+◌, ◌-◌, ◌<◌, ◌≤◌, ◌∷◌, ◌++◌, [], length, take, OnOk, OnErr, None, Some, vec_capacity, vec_len};
 ghost use Rattle.markdown_base.specs.Places.{IsPointOf};
-ghost use Rattle.markdown_tokenizer.specs.Text.{FitsAfter, followed_by, passed, empty_text};
+ghost use Rattle.markdown_tokenizer.specs.Text.{FitsAfter, followed_by, passed, empty_text, IsDocument};
 ghost use Rattle.markdown_tokenizer.specs.Configuration.{at_configuration, start_seen};
-ghost use Rattle.markdown_tokenizer.specs.Sight.{sight_of};
 ghost use Rattle.markdown_edits.specs.Links.{CanLink, linked_to};
-ghost use Rattle.markdown_tokenizer.specs.Calls.{consumed, entered, exited, linked, attempt_at, check_at, with_choice, CanExit, CanGoOn};
+ghost use Rattle.markdown_tokenizer.specs.Calls.{consumed, linked, with_enter, with_exit, attempt_at, check_at, with_choice, CanExit, CanGoOn};
 ghost use Rattle.markdown_tokenizer.specs.Engine.{given_of};
 ghost use Rattle.markdown_tokenizer.specs.View.{state_of, choice_at};
 
@@ -114,16 +114,73 @@ fn link_items(events: &mut Vec<Event>, previous: usize, next: usize)
     subtokenize::link_to(events.as_mut_slice(), previous, next);
 }
 
+/// Makes room for an event. Events grow by a quarter, so that little of their memory waits unused; if so much is refused, by one event.
+/// If memory runs out, nothing changes.
+#[cold]
+#[inline(never)]
+fn make_room(events: &mut Vec<Event>) -> Result<(), AllocError>
+    ensures items { events.new.items ≡ events.old.items }
+    ensures len { vec_len events.new ≡ vec_len events.old }
+    ensures room { OnOk result (vec_len events.new < vec_capacity events.new) }
+{
+    let more = if events.len() < 32 {
+        8
+    } else {
+        events.len() / 4
+    };
+    match events.reserve_exact(more) {
+        Ok(()) => Ok(()),
+        Err(_) => events.reserve_exact(1),
+    }
+}
+
+/// Puts an enter behind the events, and its name on the stack: there is room for both.
+#[inline(always)]
+fn put_enter(
+    events: &mut Vec<Event>,
+    stack: &mut Vec<Name>,
+    name: Name,
+    point: Point,
+    link: Option<Link>,
+)
+    requires event { vec_len events.old < vec_capacity events.old }
+    requires name { vec_len stack.old < vec_capacity stack.old }
+    ensures events { events.new.items ≡ events.old.items ++ record { kind = Kind.Enter; name = name; point = point; link = link } ∷ [] }
+    ensures stack { stack.new.items ≡ stack.old.items ++ name ∷ [] }
+{
+    stack.push_reserved(name);
+    events.push_reserved(Event {
+        kind: Kind::Enter,
+        name,
+        point,
+        link,
+    });
+}
+
+/// Puts an exit behind the events, for which there is room, and takes the last name from the stack.
+#[inline(always)]
+fn put_exit(events: &mut Vec<Event>, stack: &mut Vec<Name>, name: Name, point: Point)
+    requires { vec_len events.old < vec_capacity events.old }
+    ensures events { events.new.items ≡ events.old.items ++ record { kind = Kind.Exit; name = name; point = point; link = None } ∷ [] }
+    ensures stack { stack.new.items ≡ take (length stack.old.items - 1) stack.old.items }
+{
+    events.push_reserved(Event {
+        kind: Kind::Exit,
+        name,
+        point,
+        link: None,
+    });
+    let _ = stack.pop();
+}
+
 impl<'a, M: MachineTypes> Tokenizer<'a, M> {
     /// A tokenizer that has read nothing, from this place of the document on. Takes no memory.
     ///
-    /// The point is that of a place; the size of tabs times the document's length, and one more, fits `usize`. That the document's
-    /// bytes are below 256 is said for callers: what they read is a document that there can be.
+    /// The point is that of a place. What is read is a document that there can be; the type of the bytes and the parse state say so.
     pub fn new(alloc: Global, point: Point, parse_state: &'a ParseState<'a, M>) -> Self
         requires place { IsPointOf parse_state.now.options.now.tab_size parse_state.now.bytes.now point }
-        requires limit { parse_state.now.options.now.tab_size * length parse_state.now.bytes.now + 1 < 2 ^ 64 }
         ensures start { result ≡ start_seen (given_of parse_state.now) parse_state.now.machine.now (empty_text point) }
-        ensures bytes { All (λ b. b < 256) parse_state.now.bytes.now }
+        ensures document { IsDocument (given_of parse_state.now) }
     {
         bytes_are_below_256(parse_state.bytes);
         let tab_size = parse_state.options.tab_size.get();
@@ -197,7 +254,7 @@ impl<'a, M: MachineTypes> Tokenizer<'a, M> {
 
     /// Begins a span: an enter at the place where one stands. Where memory is refused, events and stack stay as they were.
     pub fn enter(&mut self, name: Name) -> Result<(), AllocError>
-        ensures ok { OnOk result (self.new ≡ at_configuration self.old (entered name None (sight_of self.old).enter_place self.old.configuration)) }
+        ensures ok { OnOk result (self.new ≡ with_enter name None self.old) }
         ensures err { OnErr result (self.new ≡ self.old) }
     {
         self.enter_with(name, None)
@@ -205,34 +262,43 @@ impl<'a, M: MachineTypes> Tokenizer<'a, M> {
 
     /// As `enter`, with a link. Where memory is refused, events and stack stay as they were.
     pub fn enter_link(&mut self, name: Name, link: Link) -> Result<(), AllocError>
-        ensures ok { OnOk result (self.new ≡ at_configuration self.old (entered name (Some link) (sight_of self.old).enter_place self.old.configuration)) }
+        ensures ok { OnOk result (self.new ≡ with_enter name (Some link) self.old) }
         ensures err { OnErr result (self.new ≡ self.old) }
     {
         self.enter_with(name, Some(link))
     }
 
     /// Begins a span, with a link if one is given: what `enter` and `enter_link` do. If memory runs out, events and stack are as before.
+    ///
+    /// Nearly always there is room, and no gap to look for. What else may come is apart, and is left to as a whole.
     fn enter_with(&mut self, name: Name, link: Option<Link>) -> Result<(), AllocError>
-        ensures ok { OnOk result (self.new ≡ at_configuration self.old (entered name link (sight_of self.old).enter_place self.old.configuration)) }
+        ensures ok { OnOk result (self.new ≡ with_enter name link self.old) }
         ensures err { OnErr result (self.new ≡ self.old) }
     {
+        if self.events.len() < self.events.capacity()
+            && self.stack.len() < self.stack.capacity()
+            && is_where_more_is(&self.skips, &self.after_previous)
+        {
+            let point = shown(self.parse_state.bytes, self.after_previous);
+            put_enter(&mut self.events, &mut self.stack, name, point, link);
+            return Ok(());
+        }
+        self.enter_apart(name, link)
+    }
+
+    /// As `enter_with`, where there may be no room, or a gap.
+    #[cold]
+    #[inline(never)]
+    fn enter_apart(&mut self, name: Name, link: Option<Link>) -> Result<(), AllocError>
+        ensures ok { OnOk result (self.new ≡ with_enter name link self.old) }
+        ensures err { OnErr result (self.new ≡ self.old) }
+    {
+        make_room(&mut self.events)?;
+        self.stack.reserve(1)?;
         let place = standing(&self.skips, self.after_previous, self.waits);
         let point = shown(self.parse_state.bytes, place);
-        let open_len = self.stack.len();
-        self.stack.push(name)?;
-        let event = Event {
-            kind: Kind::Enter,
-            name,
-            point,
-            link,
-        };
-        match self.events.push(event) {
-            Ok(()) => Ok(()),
-            Err(_) => {
-                self.stack.truncate(open_len);
-                Err(AllocError)
-            }
-        }
+        put_enter(&mut self.events, &mut self.stack, name, point, link);
+        Ok(())
     }
 
     /// Ends the innermost span: an exit at the place after the byte before.
@@ -241,17 +307,28 @@ impl<'a, M: MachineTypes> Tokenizer<'a, M> {
     /// memory is refused, events and stack stay as they were.
     pub fn exit(&mut self, name: Name) -> Result<(), AllocError>
         requires { CanExit name self.old }
-        ensures ok { OnOk result (self.new ≡ at_configuration self.old (exited name (sight_of self.old).exit_place self.old.configuration)) }
+        ensures ok { OnOk result (self.new ≡ with_exit name self.old) }
         ensures err { OnErr result (self.new ≡ self.old) }
     {
+        if self.events.len() == self.events.capacity() {
+            return self.exit_apart(name);
+        }
         let point = shown(self.parse_state.bytes, self.after_previous);
-        self.events.push(Event {
-            kind: Kind::Exit,
-            name,
-            point,
-            link: None,
-        })?;
-        let _ = self.stack.pop();
+        put_exit(&mut self.events, &mut self.stack, name, point);
+        Ok(())
+    }
+
+    /// As `exit`, where there may be no room.
+    #[cold]
+    #[inline(never)]
+    fn exit_apart(&mut self, name: Name) -> Result<(), AllocError>
+        requires { CanExit name self.old }
+        ensures ok { OnOk result (self.new ≡ with_exit name self.old) }
+        ensures err { OnErr result (self.new ≡ self.old) }
+    {
+        make_room(&mut self.events)?;
+        let point = shown(self.parse_state.bytes, self.after_previous);
+        put_exit(&mut self.events, &mut self.stack, name, point);
         Ok(())
     }
 

@@ -7,6 +7,7 @@ pub use Rattle.mdconstructs_tables.proofs.Tables
 pub use Rattle.mdconstructs_machines.proofs.Mapped
 pub use Rattle.mdconstructs_machines.proofs.RowSteps
 pub use Rattle.mdconstructs_machines.proofs.NoRefusals
+pub use Rattle.mdconstructs_machines.proofs.Unfit
 pub use Rattle.mdconstructs_text.proofs.Examples
 pub use Rattle.mdconstructs_text.proofs.NoRefusals as TextNoRefusals
 pub use Rattle.mdconstructs_text.proofs.Autolinks

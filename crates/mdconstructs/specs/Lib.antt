@@ -1,8 +1,10 @@
+pub use Rattle.mdconstructs_tables.specs.Fitting
 pub use Rattle.mdconstructs_tables.specs.Joined
 pub use Rattle.mdconstructs_tables.specs.Knowledge
 pub use Rattle.mdconstructs_tables.specs.Late
 pub use Rattle.mdconstructs_tables.specs.LinkShapes
 pub use Rattle.mdconstructs_tables.specs.Markers
+pub use Rattle.mdconstructs_tables.specs.Misfits
 pub use Rattle.mdconstructs_tables.specs.RowInvariant
 pub use Rattle.mdconstructs_tables.specs.RowTest
 pub use Rattle.mdconstructs_tables.specs.Rows
@@ -15,12 +17,12 @@ pub use Rattle.mdconstructs_machines.specs.Deep
 pub use Rattle.mdconstructs_machines.specs.Fail
 pub use Rattle.mdconstructs_machines.specs.Lines
 pub use Rattle.mdconstructs_machines.specs.Messages
-pub use Rattle.mdconstructs_machines.specs.Misfits
 pub use Rattle.mdconstructs_machines.specs.Paragraphs
 pub use Rattle.mdconstructs_machines.specs.Peek
 pub use Rattle.mdconstructs_machines.specs.Reading
 pub use Rattle.mdconstructs_machines.specs.Save
 pub use Rattle.mdconstructs_machines.specs.Tables
+pub use Rattle.mdconstructs_machines.specs.Unfit
 pub use Rattle.mdconstructs_machines.specs.Words
 pub use Rattle.mdconstructs_machines.specs.Wrap
 pub use Rattle.mdconstructs_machines.specs.Laws

@@ -1,7 +1,10 @@
 //! Laws of the machines. Each is a function that does nothing; its contract is the law.
 
 pub use mdconstructs_machines::laws::{
-    costs_at_the_start, no_document_is_refused, unpaid_calls_are_refused,
+    costs_at_the_start, misfits_are_not_all, misfits_have_reasons, no_document_is_refused,
+};
+pub use mdconstructs_tables::laws::{
+    Knowledge, fitting_tables_are_lawful, knowing_tables_are_lawful,
 };
 pub use mdconstructs_text::laws::{
     chains_are_read_as_texts, chains_of_paragraphs_can_be_read, cost_at_the_start,

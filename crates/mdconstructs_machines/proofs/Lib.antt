@@ -2,3 +2,4 @@
 pub mod Mapped
 pub mod RowSteps
 pub mod NoRefusals
+pub mod Unfit

@@ -7,7 +7,7 @@ use Rattle.markdown_tokenizer.specs.declared.waiting.AttemptKind.TheVariants.{Ch
 use Rattle.markdown_tokenizer.specs.Text.{Given}
 use Rattle.markdown_tokenizer.specs.Rules.{Rules}
 use Rattle.markdown_tokenizer.specs.Plain.{plain}
-use Rattle.mdconstructs_tables.specs.Rows.{enter, exit, consume, choose, Rows, row, at_byte, a_choice, StateRows, calls, no_cost, state, Table}
+use Rattle.mdconstructs_tables.specs.Rows.{enter, exit, consume, choose, Rows, row, at_byte, at_a_byte, a_choice, StateRows, calls, state, Table}
 use Rattle.mdconstructs_tables.specs.RowInvariant.{table_rules}
 use Rattle.mdconstructs_machines.specs.Tables.{LineByte, line_ending, other, line_byte, is_any, counts}
 
@@ -57,7 +57,7 @@ abbrev pub data_at_break_rows : (previous current : Option LineByte) → Rows Un
 data_at_break_rows _ _ = row (exit Data ∷ enter Data ∷ []) (Retry StringBefore)
 
 abbrev pub data_at_break : StateRows LineByte Unit Unit
-data_at_break = record (state DataAtBreak data_at_break_rows (Data ∷ []) (calls 1 2)) { needs_byte = true }
+data_at_break = record (state DataAtBreak data_at_break_rows (Data ∷ []) (calls 1 2)) { called = at_a_byte }
 
 -- in the rest, which ends with the text
 abbrev pub string_before_rows : (previous current : Option LineByte) → Rows Unit Unit
@@ -68,7 +68,7 @@ abbrev pub string_before : StateRows LineByte Unit Unit
 string_before = record (state StringBefore string_before_rows (Data ∷ []) (calls 1 1)) { begun = at_byte is_any }
 
 abbrev pub back : Table LineByte Unit Unit
-back = record { class = line_byte; first = counts; states = text_start ∷ text_before ∷ data_start ∷ data_inside ∷ string_start ∷ data_at_break ∷ string_before ∷ []; starts = TextStart ∷ []; cost = no_cost }
+back = record { class = line_byte; first = counts; states = text_start ∷ text_before ∷ data_start ∷ data_inside ∷ string_start ∷ data_at_break ∷ string_before ∷ []; starts = TextStart ∷ [] }
 
 -- its rules: it registers no resolver, makes no edit, and links nothing
 abbrev pub back_rules : Given → Rules Unit Unit

@@ -2,12 +2,11 @@
 use Rattle.std.specs.Prelude.{◌∷◌, [], Option, Some, None, ℕ, zero, suc, ◌+◌, ◌*◌, ◌-◌, length}
 use Rattle.markdown_base.specs.declared.state.TheConstants.Name.{StringStart, StringBefore, DataStart}
 use Rattle.markdown_base.specs.declared.state.State.TheVariants.{Next, Ok, Nok}
-use Rattle.markdown_base.specs.declared.state.Name.{Name}
 use Rattle.markdown_tokenizer.specs.declared.waiting.AttemptKind.TheVariants.{Attempt}
 use Rattle.markdown_tokenizer.specs.Text.{Given, Text}
 use Rattle.markdown_tokenizer.specs.Rules.{Rules}
 use Rattle.markdown_tokenizer.specs.Plain.{plain}
-use Rattle.mdconstructs_tables.specs.Rows.{consume, choose, Rows, row, a_choice, a_choice_once_read, StateRows, calls, state, Table}
+use Rattle.mdconstructs_tables.specs.Rows.{consume, choose, Rows, row, a_choice, a_choice_once_read, StateRows, calls, costs, state, Table}
 use Rattle.mdconstructs_tables.specs.RowInvariant.{table_rules}
 use Rattle.mdconstructs_machines.specs.Tables.{LineByte, line_byte, counts}
 use Rattle.mdconstructs_machines.specs.Reading.{data_start, data_inside}
@@ -18,9 +17,6 @@ string_start_rows None None = row [] Ok
 string_start_rows (Some _) None = row [] Nok
 string_start_rows None (Some _) = row (choose Attempt (Next DataStart) (Next DataStart) ∷ consume ∷ []) (Next StringStart)
 string_start_rows (Some _) (Some _) = row (choose Attempt (Next StringBefore) (Next StringBefore) ∷ consume ∷ []) (Next StringStart)
-
-abbrev pub string_start : StateRows LineByte Unit Unit
-string_start = record (state StringStart string_start_rows [] None) { needs = a_choice_once_read }
 
 -- the rest is read once more, in an attempt, and fails at the end too
 abbrev pub string_before_rows : (previous current : Option LineByte) → Rows Unit Unit
@@ -40,11 +36,15 @@ abbrev pub tries_cost : ℕ → ℕ → ℕ
 tries_cost zero n = triangle n + 4 * n + 1
 tries_cost (suc before_it) n = triangle n + 3 * n + 1
 
-abbrev pub deep_cost : Text → ℕ → Name → ℕ
-deep_cost text position name = tries_cost position (length text.seats - position)
+-- by the text
+abbrev pub deep_cost : Text → ℕ → ℕ
+deep_cost text position = tries_cost position (length text.seats - position)
+
+abbrev pub string_start : StateRows LineByte Unit Unit
+string_start = costs deep_cost (record (state StringStart string_start_rows [] None) { needs = a_choice_once_read })
 
 abbrev pub deep : Table LineByte Unit Unit
-deep = record { class = line_byte; first = counts; states = string_start ∷ string_before ∷ data_start ∷ data_inside ∷ []; starts = StringStart ∷ []; cost = deep_cost }
+deep = record { class = line_byte; first = counts; states = string_start ∷ string_before ∷ data_start ∷ data_inside ∷ []; starts = StringStart ∷ [] }
 
 -- its rules: it registers no resolver, makes no edit, and links nothing
 abbrev pub deep_rules : Given → Rules Unit Unit

@@ -6,7 +6,7 @@ use Rattle.markdown_tokenizer.specs.Text.{Given}
 use Rattle.markdown_tokenizer.specs.Configuration.{Configuration, Local}
 use Rattle.markdown_tokenizer.specs.Rules.{Rules}
 use Rattle.markdown_tokenizer.specs.Plain.{plain}
-use Rattle.mdconstructs_tables.specs.Rows.{consume, write, Rows, row, when, StateRows, calls, no_cost, state, Table}
+use Rattle.mdconstructs_tables.specs.Rows.{consume, write, Rows, row, when, StateRows, calls, state, Table}
 use Rattle.mdconstructs_tables.specs.RowInvariant.{table_rules}
 use Rattle.mdconstructs_machines.specs.Tables.{LineByte, line_byte, counts}
 use Rattle.mdconstructs_machines.specs.Messages.{refusal}
@@ -32,7 +32,7 @@ abbrev pub as_it_was : Local Unit Unit → Local Unit Unit
 as_it_was local = local
 
 abbrev pub fail : ℕ → Table LineByte Unit Unit
-fail at = record { class = line_byte; first = as_it_was; states = text_start at ∷ []; starts = TextStart ∷ []; cost = no_cost }
+fail at = record { class = line_byte; first = as_it_was; states = text_start at ∷ []; starts = TextStart ∷ [] }
 
 -- its rules: it registers no resolver, makes no edit, and links nothing
 abbrev pub fail_rules : ℕ → Given → Rules Unit Unit

@@ -4,12 +4,12 @@ pub mod Deep
 pub mod Fail
 pub mod Lines
 pub mod Messages
-pub mod Misfits
 pub mod Paragraphs
 pub mod Peek
 pub mod Reading
 pub mod Save
 pub mod Tables
+pub mod Unfit
 pub mod Words
 pub mod Wrap
 pub mod Laws

@@ -6,7 +6,7 @@ use Rattle.markdown_base.specs.declared.state.State.TheVariants.{Next, Retry, Ok
 use Rattle.markdown_tokenizer.specs.Text.{Given}
 use Rattle.markdown_tokenizer.specs.Rules.{Rules}
 use Rattle.markdown_tokenizer.specs.Plain.{plain}
-use Rattle.mdconstructs_tables.specs.Rows.{enter, exit, consume, Rows, row, at_byte, StateRows, calls, no_cost, state, Table}
+use Rattle.mdconstructs_tables.specs.Rows.{enter, exit, consume, Rows, row, at_byte, StateRows, calls, state, Table}
 use Rattle.mdconstructs_tables.specs.RowInvariant.{table_rules}
 use Rattle.mdconstructs_machines.specs.Tables.{LineByte, line_ending, other, line_byte, is_other, counts}
 
@@ -29,7 +29,7 @@ abbrev pub paragraph_inside : StateRows LineByte Unit Unit
 paragraph_inside = record (state ParagraphInside paragraph_inside_rows (Paragraph ∷ Data ∷ []) (calls 2 1)) { begun = at_byte is_other }
 
 abbrev pub lines : Table LineByte Unit Unit
-lines = record { class = line_byte; first = counts; states = flow_start ∷ paragraph_inside ∷ []; starts = FlowStart ∷ []; cost = no_cost }
+lines = record { class = line_byte; first = counts; states = flow_start ∷ paragraph_inside ∷ []; starts = FlowStart ∷ [] }
 
 -- its rules: it registers no resolver, makes no edit, and links nothing
 abbrev pub lines_rules : Given → Rules Unit Unit

@@ -14,7 +14,7 @@ use Rattle.markdown_tokenizer.specs.Sight.{Sight, sight_of}
 use Rattle.markdown_tokenizer.specs.Calls.{entered, linked}
 use Rattle.markdown_edits.specs.Links.{CanLink, IsLinkedEnter, IsEndedBy, content_of}
 use Rattle.markdown_tokenizer.specs.Rules.{Rules}
-use Rattle.mdconstructs_tables.specs.Rows.{enter, enter_link, exit, consume, links, write, Rows, row, when, at_byte, StateRows, calls, no_cost, state, Table}
+use Rattle.mdconstructs_tables.specs.Rows.{enter, enter_link, exit, consume, links, write, Rows, row, when, at_byte, StateRows, calls, state, Table}
 use Rattle.mdconstructs_tables.specs.Knowledge.{knowing_rules}
 use Rattle.mdconstructs_tables.specs.LinkShapes.{next_end, AreInShape}
 use Rattle.mdconstructs_machines.specs.Tables.{LineByte, line_ending, other, line_byte, is_other, is_any, counts}
@@ -112,7 +112,6 @@ paragraphs = record {
   first = counts;
   states = flow_start ∷ paragraph_line_start ∷ paragraph_start ∷ paragraph_inside ∷ text_start ∷ data_start ∷ data_inside ∷ [];
   starts = FlowStart ∷ TextStart ∷ [];
-  cost = no_cost;
 }
 
 -- An event begins a chunk, which none follows yet

@@ -6,7 +6,7 @@ use Rattle.markdown_tokenizer.specs.declared.waiting.AttemptKind.TheVariants.{Ch
 use Rattle.markdown_tokenizer.specs.Text.{Given}
 use Rattle.markdown_tokenizer.specs.Rules.{Rules}
 use Rattle.markdown_tokenizer.specs.Plain.{plain}
-use Rattle.mdconstructs_tables.specs.Rows.{consume, choose, Rows, row, a_choice, StateRows, calls, no_cost, state, Table}
+use Rattle.mdconstructs_tables.specs.Rows.{consume, choose, Rows, row, a_choice, StateRows, calls, state, Table}
 use Rattle.mdconstructs_tables.specs.RowInvariant.{table_rules}
 use Rattle.mdconstructs_machines.specs.Tables.{LineByte, line_byte, counts}
 use Rattle.mdconstructs_machines.specs.Reading.{data_start, data_inside}
@@ -27,7 +27,7 @@ abbrev pub text_before : StateRows LineByte Unit Unit
 text_before = record (state TextBefore text_before_rows [] (calls 1 1)) { needs = a_choice }
 
 abbrev pub peek : Table LineByte Unit Unit
-peek = record { class = line_byte; first = counts; states = text_start ∷ text_before ∷ data_start ∷ data_inside ∷ []; starts = TextStart ∷ []; cost = no_cost }
+peek = record { class = line_byte; first = counts; states = text_start ∷ text_before ∷ data_start ∷ data_inside ∷ []; starts = TextStart ∷ [] }
 
 -- its rules: it registers no resolver, makes no edit, and links nothing
 abbrev pub peek_rules : Given → Rules Unit Unit

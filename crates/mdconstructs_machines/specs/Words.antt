@@ -14,7 +14,7 @@ use Rattle.markdown_edits.specs.Edits.{Edit, edit_at, added_after}
 use Rattle.markdown_tokenizer.specs.Plain.{HaveNoLinks}
 use Rattle.markdown_tokenizer.specs.Sight.{Sight}
 use Rattle.markdown_tokenizer.specs.Rules.{Rules}
-use Rattle.mdconstructs_tables.specs.Rows.{enter, exit, consume, write, Rows, row, when, here, StateRows, calls, no_cost, state, Table}
+use Rattle.mdconstructs_tables.specs.Rows.{enter, exit, consume, write, Rows, row, when, here, at_a_byte, StateRows, calls, state, Table}
 use Rattle.mdconstructs_tables.specs.Knowledge.{knowing_rules}
 use Rattle.mdconstructs_machines.specs.Tables.{counts}
 
@@ -76,7 +76,7 @@ word_start_rows _ _ =
     when at_sign (row (enter HeadingAtxSequence ∷ consume ∷ exit HeadingAtxSequence ∷ enter Data ∷ []) (Next DataAtBreak)) (row (enter Data ∷ consume ∷ []) (Next DataInside))
 
 abbrev pub word_start : StateRows WordByte Unit Unit
-word_start = record (state DataStart word_start_rows [] (calls 2 1)) { needs_byte = true }
+word_start = record (state DataStart word_start_rows [] (calls 2 1)) { called = at_a_byte }
 
 -- behind a sign: the word of a tag begins
 abbrev pub tag_rows : (previous current : Option WordByte) → Rows Unit Unit
@@ -97,7 +97,7 @@ abbrev pub word : StateRows WordByte Unit Unit
 word = state DataInside word_rows (Data ∷ []) (calls 2 1)
 
 abbrev pub words : Table WordByte Unit Unit
-words = record { class = word_byte; first = counts; states = text_start ∷ blanks ∷ word_start ∷ tag ∷ word ∷ []; starts = TextStart ∷ []; cost = no_cost }
+words = record { class = word_byte; first = counts; states = text_start ∷ blanks ∷ word_start ∷ tag ∷ word ∷ []; starts = TextStart ∷ [] }
 
 -- the text was not begun
 abbrev pub is_start : State → Bool

@@ -18,7 +18,7 @@ use Rattle.markdown_edits.specs.Edits.{Edit, edit_at, added_after}
 use Rattle.markdown_tokenizer.specs.Resolving.{Resolved, done, refused}
 use Rattle.markdown_tokenizer.specs.Rules.{Rules}
 use Rattle.markdown_tokenizer.specs.Plain.{HaveNoLinks}
-use Rattle.mdconstructs_tables.specs.Rows.{write, Rows, row, StateRows, calls, no_cost, state, Table}
+use Rattle.mdconstructs_tables.specs.Rows.{write, Rows, row, StateRows, calls, state, Table}
 use Rattle.mdconstructs_tables.specs.RowInvariant.{table_rules}
 use Rattle.mdconstructs_machines.specs.contracts.wrap.Resolver.{the_type}
 use Rattle.mdconstructs_machines.specs.declared.wrap.Resolver.{Resolver}
@@ -45,7 +45,7 @@ abbrev pub text_start : StateRows LineByte Resolver Unit
 text_start = state TextStart text_start_rows [] (calls 2 2)
 
 abbrev pub wrap : Table LineByte Resolver Unit
-wrap = record { class = line_byte; first = counts; states = text_start ∷ data_start ∷ data_inside ∷ []; starts = TextStart ∷ []; cost = no_cost }
+wrap = record { class = line_byte; first = counts; states = text_start ∷ data_start ∷ data_inside ∷ []; starts = TextStart ∷ [] }
 
 -- data is called data of a code span
 abbrev pub renamed : Event → Event

@@ -26,13 +26,9 @@ impl MachineTypes for Back {
 }
 
 impl Machine for Back {
-    ghost use Rattle.mdconstructs_tables.proofs.Tables.Laws as laws;
-    ghost use Rattle.mdconstructs_tables.proofs.Tables.Costs.{table-cost_pays};
+    ghost use Rattle.mdconstructs_tables.proofs.Tables.Lawful.{plain-lawful};
     ghost use Rattle.mdconstructs_machines.specs.Back.{back, back_rules};
     ghost use Rattle.mdconstructs_machines.specs.Laws.Back.{back-fit, back-plain};
-    ghost use Rattle.mdconstructs_tables.specs.RowInvariant.{table_rules};
-    ghost use Rattle.mdconstructs_tables.proofs.Tables.Plain.{table-keeps_plain};
-    ghost use Rattle.markdown_tokenizer.proofs.Readings.Plain as plain;
 
     ghost rules = { λ _. back_rules };
 
@@ -67,17 +63,7 @@ impl Machine for Back {
         Ok(None)
     }
 
-    ghost consumes_once = { λ _ g. plain.consumes_once g (table_rules back g) (laws.table-consumes_once back g back-fit) };
-
-    ghost only_adds = { λ _ g. plain.only_adds g (table_rules back g) (laws.table-only_adds back g back-fit) };
-
-    ghost ends_when_read = { λ _ g. plain.ends_when_read g (table_rules back g) (laws.table-ends_when_read back g back-fit) };
-
-    ghost invariant_kept = { λ _ g. plain.invariant_kept g (table_rules back g) (table-keeps_plain back g back-plain) (laws.table-invariant_kept back g back-fit) };
-
-    ghost cost_pays = { λ _ g. plain.cost_pays g (table_rules back g) (table-cost_pays back g back-fit) };
-
-    ghost resolvers_keep = { λ _ g. plain.resolvers_keep g (table_rules back g) };
+    ghost lawful = { λ _ g. plain-lawful back g back-fit back-plain };
 }
 
 /// Before the text: data begins at its first byte.

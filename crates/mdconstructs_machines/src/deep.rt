@@ -26,13 +26,9 @@ impl MachineTypes for Deep {
 }
 
 impl Machine for Deep {
-    ghost use Rattle.mdconstructs_tables.proofs.Tables.Laws as laws;
-    ghost use Rattle.mdconstructs_tables.proofs.Tables.Costs.{table-cost_pays};
+    ghost use Rattle.mdconstructs_tables.proofs.Tables.Lawful.{plain-lawful};
     ghost use Rattle.mdconstructs_machines.specs.Deep.{deep, deep_rules};
     ghost use Rattle.mdconstructs_machines.specs.Laws.Deep.{deep-fit, deep-plain};
-    ghost use Rattle.mdconstructs_tables.specs.RowInvariant.{table_rules};
-    ghost use Rattle.mdconstructs_tables.proofs.Tables.Plain.{table-keeps_plain};
-    ghost use Rattle.markdown_tokenizer.proofs.Readings.Plain as plain;
 
     ghost rules = { λ _. deep_rules };
 
@@ -63,17 +59,7 @@ impl Machine for Deep {
         Ok(None)
     }
 
-    ghost consumes_once = { λ _ g. plain.consumes_once g (table_rules deep g) (laws.table-consumes_once deep g deep-fit) };
-
-    ghost only_adds = { λ _ g. plain.only_adds g (table_rules deep g) (laws.table-only_adds deep g deep-fit) };
-
-    ghost ends_when_read = { λ _ g. plain.ends_when_read g (table_rules deep g) (laws.table-ends_when_read deep g deep-fit) };
-
-    ghost invariant_kept = { λ _ g. plain.invariant_kept g (table_rules deep g) (table-keeps_plain deep g deep-plain) (laws.table-invariant_kept deep g deep-fit) };
-
-    ghost cost_pays = { λ _ g. plain.cost_pays g (table_rules deep g) (table-cost_pays deep g deep-fit) };
-
-    ghost resolvers_keep = { λ _ g. plain.resolvers_keep g (table_rules deep g) };
+    ghost lawful = { λ _ g. plain-lawful deep g deep-fit deep-plain };
 }
 
 /// At a byte to try something at, or at the end, where each attempt fails.

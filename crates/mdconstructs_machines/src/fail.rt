@@ -29,12 +29,9 @@ impl MachineTypes for Fail {
 }
 
 impl Machine for Fail {
-    ghost use Rattle.mdconstructs_tables.proofs.Tables.Laws as laws;
-    ghost use Rattle.mdconstructs_tables.proofs.Tables.Costs.{table-cost_pays};
+    ghost use Rattle.mdconstructs_tables.proofs.Tables.Lawful.{writing-lawful};
     ghost use Rattle.mdconstructs_machines.specs.Fail.{fail, fail_rules};
     ghost use Rattle.mdconstructs_machines.specs.Laws.Fail.{fail-fit, fail-plain};
-    ghost use Rattle.mdconstructs_tables.specs.RowInvariant.{table_rules};
-    ghost use Rattle.markdown_tokenizer.proofs.Readings.Plain as plain;
 
     ghost rules = { λ m. fail_rules m.at };
 
@@ -62,17 +59,7 @@ impl Machine for Fail {
         Ok(None)
     }
 
-    ghost consumes_once = { λ m g. plain.consumes_once g (table_rules (fail m.at) g) (laws.table-consumes_once (fail m.at) g (fail-fit m.at)) };
-
-    ghost only_adds = { λ m g. plain.only_adds g (table_rules (fail m.at) g) (laws.table-only_adds (fail m.at) g (fail-fit m.at)) };
-
-    ghost ends_when_read = { λ m g. plain.ends_when_read g (table_rules (fail m.at) g) (laws.table-ends_when_read (fail m.at) g (fail-fit m.at)) };
-
-    ghost invariant_kept = { λ m g. plain.invariant_kept g (table_rules (fail m.at) g) (fail-plain m.at g) (laws.table-invariant_kept (fail m.at) g (fail-fit m.at)) };
-
-    ghost cost_pays = { λ m g. plain.cost_pays g (table_rules (fail m.at) g) (table-cost_pays (fail m.at) g (fail-fit m.at)) };
-
-    ghost resolvers_keep = { λ m g. plain.resolvers_keep g (table_rules (fail m.at) g) };
+    ghost lawful = { λ m g. writing-lawful (fail m.at) g (fail-fit m.at) (fail-plain m.at) };
 }
 
 /// A byte is passed, and at the end all is well, unless this is the call that refuses.

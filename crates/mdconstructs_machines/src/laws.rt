@@ -1,12 +1,15 @@
 //! Laws of the machines. Each is a function that does nothing; its contract is the law.
 
 ghost use Rattle.std.specs.Prelude.{◌≡◌, ◌+◌, ◌-◌, ◌*◌, ◌/◌, [], ◌∷◌, Some, None};
-ghost use Rattle.markdown_base.specs.declared.state.TheConstants.Name.{FlowStart, TextStart, StringStart};
+ghost use Rattle.markdown_base.specs.declared.state.TheConstants.Name.{FlowStart, ParagraphInside, TextStart, StringStart};
+ghost use Rattle.mdconstructs_tables.specs.Fitting.{IsFit};
+ghost use Rattle.mdconstructs_tables.specs.Misfits.{act, spans, choice, answer, unpaid, start, misfits};
+ghost use Rattle.mdconstructs_tables.specs.PlainTables.{IsPlainTable};
+ghost use Rattle.mdconstructs_tables.specs.PlainWrites.{WritesPlain};
 ghost use Rattle.mdconstructs_tables.specs.Refusals.{RulesRefuseNothing};
-ghost use Rattle.mdconstructs_tables.specs.RowTest.{misfits};
 ghost use Rattle.mdconstructs_machines.specs.Costs.{StartsAt, StartsAmong};
-ghost use Rattle.mdconstructs_machines.specs.Misfits.{unpaid_lines};
-ghost use Rattle.mdconstructs_machines.specs.Tables.{other};
+ghost use Rattle.mdconstructs_machines.specs.Tables.{line_ending, other};
+ghost use Rattle.mdconstructs_machines.specs.Unfit.{lines_with, consumes_twice, enters_no_data, gives_up, consumes_nothing, unpaid_lines, starts_inside, uncounted_lines, editing};
 ghost use Rattle.mdconstructs_machines.specs.Lines.{lines_rules};
 ghost use Rattle.mdconstructs_machines.specs.Paragraphs.{paragraphs_rules};
 ghost use Rattle.mdconstructs_machines.specs.Peek.{peek_rules};
@@ -43,8 +46,22 @@ pub fn no_document_is_refused()
     ensures save { RulesRefuseNothing save_rules }
 {}
 
-/// The test of a table names a state that says too few calls: here the state before a line, which says one call for each byte
-/// and one more.
-pub fn unpaid_calls_are_refused()
-    ensures { misfits unpaid_lines None (Some other) ≡ FlowStart ∷ [] }
+/// The test of a table names each state that does not fit, with the reason: here tables of lines with one thing changed.
+pub fn misfits_have_reasons()
+    ensures act { misfits (lines_with consumes_twice) None (Some line_ending) ≡ (FlowStart, act) ∷ [] }
+    ensures spans { misfits (lines_with enters_no_data) None (Some other) ≡ (FlowStart, spans) ∷ [] }
+    ensures choice { misfits (lines_with gives_up) None (Some line_ending) ≡ (FlowStart, choice) ∷ [] }
+    ensures answer { misfits (lines_with consumes_nothing) None (Some line_ending) ≡ (FlowStart, answer) ∷ [] }
+    ensures unpaid { misfits unpaid_lines None (Some other) ≡ (FlowStart, unpaid) ∷ [] }
+    ensures start { misfits starts_inside None (Some other) ≡ (ParagraphInside, start) ∷ [] }
+{}
+
+/// A table without misfits may be unlawful: one whose states say nothing of their calls, where the machine's own cost does not
+/// pay, and one that writes an edit of an event that is not there. Neither is what `fitting_tables_are_lawful` asks for.
+pub fn misfits_are_not_all()
+    ensures uncounted { (previous current : _) → misfits uncounted_lines previous current ≡ [] }
+    ensures unpaid { ¬ IsFit uncounted_lines }
+    ensures editing { (previous current : _) → misfits editing previous current ≡ [] }
+    ensures not_plain { ¬ IsPlainTable editing }
+    ensures writes { ¬ WritesPlain editing }
 {}

@@ -26,13 +26,9 @@ impl MachineTypes for Lines {
 }
 
 impl Machine for Lines {
-    ghost use Rattle.mdconstructs_tables.proofs.Tables.Laws as laws;
-    ghost use Rattle.mdconstructs_tables.proofs.Tables.Costs.{table-cost_pays};
+    ghost use Rattle.mdconstructs_tables.proofs.Tables.Lawful.{plain-lawful};
     ghost use Rattle.mdconstructs_machines.specs.Lines.{lines, lines_rules};
     ghost use Rattle.mdconstructs_machines.specs.Laws.Lines.{lines-fit, lines-plain};
-    ghost use Rattle.mdconstructs_tables.specs.RowInvariant.{table_rules};
-    ghost use Rattle.mdconstructs_tables.proofs.Tables.Plain.{table-keeps_plain};
-    ghost use Rattle.markdown_tokenizer.proofs.Readings.Plain as plain;
 
     ghost rules = { λ _. lines_rules };
 
@@ -61,17 +57,7 @@ impl Machine for Lines {
         Ok(None)
     }
 
-    ghost consumes_once = { λ _ g. plain.consumes_once g (table_rules lines g) (laws.table-consumes_once lines g lines-fit) };
-
-    ghost only_adds = { λ _ g. plain.only_adds g (table_rules lines g) (laws.table-only_adds lines g lines-fit) };
-
-    ghost ends_when_read = { λ _ g. plain.ends_when_read g (table_rules lines g) (laws.table-ends_when_read lines g lines-fit) };
-
-    ghost invariant_kept = { λ _ g. plain.invariant_kept g (table_rules lines g) (table-keeps_plain lines g lines-plain) (laws.table-invariant_kept lines g lines-fit) };
-
-    ghost cost_pays = { λ _ g. plain.cost_pays g (table_rules lines g) (table-cost_pays lines g lines-fit) };
-
-    ghost resolvers_keep = { λ _ g. plain.resolvers_keep g (table_rules lines g) };
+    ghost lawful = { λ _ g. plain-lawful lines g lines-fit lines-plain };
 }
 
 /// A line begins.

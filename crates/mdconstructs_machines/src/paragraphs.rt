@@ -40,7 +40,7 @@ impl MachineTypes for Paragraphs {
 }
 
 impl Machine for Paragraphs {
-    ghost use Rattle.mdconstructs_tables.proofs.Tables.Knowledge as laws;
+    ghost use Rattle.mdconstructs_tables.proofs.Tables.Lawful.{knowing-lawful};
     ghost use Rattle.mdconstructs_machines.specs.Paragraphs.{paragraphs, knows_chunk, paragraphs_rules};
     ghost use Rattle.mdconstructs_machines.specs.Laws.Paragraphs.{paragraphs-fit, paragraphs-known};
 
@@ -76,17 +76,7 @@ impl Machine for Paragraphs {
         Ok(None)
     }
 
-    ghost consumes_once = { λ _ g. laws.knowing-consumes_once paragraphs knows_chunk g paragraphs-fit paragraphs-known };
-
-    ghost only_adds = { λ _ g. laws.knowing-only_adds paragraphs knows_chunk g paragraphs-fit paragraphs-known };
-
-    ghost ends_when_read = { λ _ g. laws.knowing-ends_when_read paragraphs knows_chunk g paragraphs-fit paragraphs-known };
-
-    ghost invariant_kept = { λ _ g. laws.knowing-invariant_kept paragraphs knows_chunk g paragraphs-fit paragraphs-known };
-
-    ghost cost_pays = { λ _ g. laws.knowing-cost_pays paragraphs knows_chunk g paragraphs-fit paragraphs-known };
-
-    ghost resolvers_keep = { λ _ g. laws.knowing-resolvers_keep paragraphs knows_chunk g paragraphs-fit paragraphs-known };
+    ghost lawful = { λ _ g. knowing-lawful paragraphs knows_chunk g paragraphs-fit paragraphs-known };
 }
 
 /// Before a paragraph: a blank line is passed, and at another one the paragraph begins.

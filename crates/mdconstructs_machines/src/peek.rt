@@ -25,13 +25,9 @@ impl MachineTypes for Peek {
 }
 
 impl Machine for Peek {
-    ghost use Rattle.mdconstructs_tables.proofs.Tables.Laws as laws;
-    ghost use Rattle.mdconstructs_tables.proofs.Tables.Costs.{table-cost_pays};
+    ghost use Rattle.mdconstructs_tables.proofs.Tables.Lawful.{plain-lawful};
     ghost use Rattle.mdconstructs_machines.specs.Peek.{peek, peek_rules};
     ghost use Rattle.mdconstructs_machines.specs.Laws.Peek.{peek-fit, peek-plain};
-    ghost use Rattle.mdconstructs_tables.specs.RowInvariant.{table_rules};
-    ghost use Rattle.mdconstructs_tables.proofs.Tables.Plain.{table-keeps_plain};
-    ghost use Rattle.markdown_tokenizer.proofs.Readings.Plain as plain;
 
     ghost rules = { λ _. peek_rules };
 
@@ -62,17 +58,7 @@ impl Machine for Peek {
         Ok(None)
     }
 
-    ghost consumes_once = { λ _ g. plain.consumes_once g (table_rules peek g) (laws.table-consumes_once peek g peek-fit) };
-
-    ghost only_adds = { λ _ g. plain.only_adds g (table_rules peek g) (laws.table-only_adds peek g peek-fit) };
-
-    ghost ends_when_read = { λ _ g. plain.ends_when_read g (table_rules peek g) (laws.table-ends_when_read peek g peek-fit) };
-
-    ghost invariant_kept = { λ _ g. plain.invariant_kept g (table_rules peek g) (table-keeps_plain peek g peek-plain) (laws.table-invariant_kept peek g peek-fit) };
-
-    ghost cost_pays = { λ _ g. plain.cost_pays g (table_rules peek g) (table-cost_pays peek g peek-fit) };
-
-    ghost resolvers_keep = { λ _ g. plain.resolvers_keep g (table_rules peek g) };
+    ghost lawful = { λ _ g. plain-lawful peek g peek-fit peek-plain };
 }
 
 /// Before the look: a check begins, which goes on with data either way.

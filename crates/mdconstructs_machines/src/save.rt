@@ -27,13 +27,9 @@ impl MachineTypes for Save {
 }
 
 impl Machine for Save {
-    ghost use Rattle.mdconstructs_tables.proofs.Tables.Laws as laws;
-    ghost use Rattle.mdconstructs_tables.proofs.Tables.Costs.{table-cost_pays};
+    ghost use Rattle.mdconstructs_tables.proofs.Tables.Lawful.{plain-lawful};
     ghost use Rattle.mdconstructs_machines.specs.Save.{save, save_rules};
     ghost use Rattle.mdconstructs_machines.specs.Laws.Save.{save-fit, save-plain};
-    ghost use Rattle.mdconstructs_tables.specs.RowInvariant.{table_rules};
-    ghost use Rattle.mdconstructs_tables.proofs.Tables.Plain.{table-keeps_plain};
-    ghost use Rattle.markdown_tokenizer.proofs.Readings.Plain as plain;
 
     ghost rules = { λ _. save_rules };
 
@@ -64,17 +60,7 @@ impl Machine for Save {
         Ok(None)
     }
 
-    ghost consumes_once = { λ _ g. plain.consumes_once g (table_rules save g) (laws.table-consumes_once save g save-fit) };
-
-    ghost only_adds = { λ _ g. plain.only_adds g (table_rules save g) (laws.table-only_adds save g save-fit) };
-
-    ghost ends_when_read = { λ _ g. plain.ends_when_read g (table_rules save g) (laws.table-ends_when_read save g save-fit) };
-
-    ghost invariant_kept = { λ _ g. plain.invariant_kept g (table_rules save g) (table-keeps_plain save g save-plain) (laws.table-invariant_kept save g save-fit) };
-
-    ghost cost_pays = { λ _ g. plain.cost_pays g (table_rules save g) (table-cost_pays save g save-fit) };
-
-    ghost resolvers_keep = { λ _ g. plain.resolvers_keep g (table_rules save g) };
+    ghost lawful = { λ _ g. plain-lawful save g save-fit save-plain };
 }
 
 /// In the first line: each byte is passed, and after the line ending an attempt begins, which goes on with data either way.

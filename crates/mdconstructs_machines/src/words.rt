@@ -38,7 +38,7 @@ impl MachineTypes for Words {
 }
 
 impl Machine for Words {
-    ghost use Rattle.mdconstructs_tables.proofs.Tables.Knowledge as laws;
+    ghost use Rattle.mdconstructs_tables.proofs.Tables.Lawful.{knowing-lawful};
     ghost use Rattle.mdconstructs_machines.specs.Words.{words, knows_edits, words_rules};
     ghost use Rattle.mdconstructs_machines.specs.Laws.Words.{words-fit, words-known};
 
@@ -72,17 +72,7 @@ impl Machine for Words {
         Ok(None)
     }
 
-    ghost consumes_once = { λ _ g. laws.knowing-consumes_once words knows_edits g words-fit words-known };
-
-    ghost only_adds = { λ _ g. laws.knowing-only_adds words knows_edits g words-fit words-known };
-
-    ghost ends_when_read = { λ _ g. laws.knowing-ends_when_read words knows_edits g words-fit words-known };
-
-    ghost invariant_kept = { λ _ g. laws.knowing-invariant_kept words knows_edits g words-fit words-known };
-
-    ghost cost_pays = { λ _ g. laws.knowing-cost_pays words knows_edits g words-fit words-known };
-
-    ghost resolvers_keep = { λ _ g. laws.knowing-resolvers_keep words knows_edits g words-fit words-known };
+    ghost lawful = { λ _ g. knowing-lawful words knows_edits g words-fit words-known };
 }
 
 /// Before the text: blanks there are to be dropped.

@@ -49,7 +49,7 @@ impl MachineTypes for Wrap {
 
 impl Machine for Wrap {
     ghost use Rattle.mdconstructs_machines.specs.Wrap.{wrap_rules};
-    ghost use Rattle.mdconstructs_machines.specs.Laws.Wrap as laws;
+    ghost use Rattle.mdconstructs_machines.specs.Laws.Wrap.{wrap-lawful};
 
     ghost rules = { λ m. wrap_rules m.refuse };
 
@@ -91,17 +91,7 @@ impl Machine for Wrap {
         }
     }
 
-    ghost consumes_once = { λ m g. laws.consumes_once m.refuse g };
-
-    ghost only_adds = { λ m g. laws.only_adds m.refuse g };
-
-    ghost ends_when_read = { λ m g. laws.ends_when_read m.refuse g };
-
-    ghost invariant_kept = { λ m g. laws.invariant_kept m.refuse g };
-
-    ghost cost_pays = { λ m g. laws.cost_pays m.refuse g };
-
-    ghost resolvers_keep = { λ m g. laws.resolvers_keep m.refuse g };
+    ghost lawful = { λ m. wrap-lawful m.refuse };
 }
 
 /// Resolvers are registered, and then data is read.

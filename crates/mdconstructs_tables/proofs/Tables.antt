@@ -5,6 +5,7 @@ pub mod Joined
 pub mod Knowledge
 pub mod Late
 pub mod Laws
+pub mod Lawful
 pub mod Plain
 pub mod PlainWrites
 pub mod Refusals

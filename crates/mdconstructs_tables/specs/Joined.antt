@@ -1,10 +1,10 @@
 -- Two machines in one. A name says to which of them its state belongs, and neither goes on with a state of the other.
-use Rattle.std.specs.Prelude.{ℕ, ◌⊎◌, ◌++◌, List, Bool, cond}
+use Rattle.std.specs.Prelude.{◌≡◌, ℕ, ◌⊎◌, ◌++◌, List, [], Bool, true, false, cond}
 use Rattle.markdown_base.specs.declared.state.Name.{Name}
 use Rattle.markdown_base.specs.declared.state.State.{State}
 use Rattle.markdown_base.specs.declared.state.State.TheVariants.{Next, Retry}
 use Rattle.markdown_tokenizer.specs.Text.{Text}
-use Rattle.markdown_tokenizer.specs.Configuration.{Configuration}
+use Rattle.markdown_tokenizer.specs.Configuration.{Configuration, Choice}
 use Rattle.markdown_tokenizer.specs.Rules.{Rules}
 use Rattle.mdconstructs_tables.specs.Rows.{StateRows, named}
 use Rattle.mdconstructs_tables.specs.RowTest.{is_some}
@@ -31,3 +31,12 @@ module _ {R D : Type 0} (is_first : Name → Bool) (first second : Rules R D) wh
     resolver = first.resolver;
     resolves = λ text rs k. first.resolves text rs k ⊎ second.resolves text rs k;
   }
+
+-- Two machines can be one: the names at which they hold are each its own, the first makes no choice, and they share their resolvers
+pub record AreApart {R D : Type 0} (is_first : Name → Bool) (first second : Rules R D) : Type 0 where
+  pub first_fed : (text : Text) (k : Configuration R D) (choices : List Choice) (name : Name) → first.holds text k choices (Next name) → is_first name ≡ true
+  pub first_called : (text : Text) (k : Configuration R D) (choices : List Choice) (name : Name) → first.holds text k choices (Retry name) → is_first name ≡ true
+  pub second_fed : (text : Text) (k : Configuration R D) (choices : List Choice) (name : Name) → second.holds text k choices (Next name) → is_first name ≡ false
+  pub second_called : (text : Text) (k : Configuration R D) (choices : List Choice) (name : Name) → second.holds text k choices (Retry name) → is_first name ≡ false
+  pub no_choice : (text : Text) (k : Configuration R D) (choices : List Choice) (state : State) → first.holds text k choices state → choices ≡ []
+  pub one_resolver : second.resolver ≡ first.resolver

@@ -1,18 +1,30 @@
 -- What a machine knows besides what its table says: of its events, of what states share, and of the choices that wait.
-use Rattle.std.specs.Prelude.{List}
+use Rattle.std.specs.Prelude.{◌≡◌, List, [], ◌∷◌, ◌++◌, Bool, true, false, Option, All}
 use Rattle.markdown_base.specs.declared.event.Event.{Event}
+use Rattle.markdown_base.specs.declared.state.Name.{Name}
 use Rattle.markdown_base.specs.declared.state.State.{State}
+use Rattle.markdown_base.specs.declared.state.State.TheVariants.{Next, Retry, Ok, Nok}
+use Rattle.markdown_base.specs.Events.{IsBalanced}
 use Rattle.markdown_tokenizer.specs.Text.{Given, Text}
-use Rattle.markdown_tokenizer.specs.Configuration.{Configuration, Local, Choice}
+use Rattle.markdown_tokenizer.specs.Configuration.{Configuration, Local, Choice, Step, start_configuration}
+use Rattle.markdown_tokenizer.specs.Calls.{with_local}
+use Rattle.markdown_tokenizer.specs.Reading.{settled_at}
+use Rattle.markdown_tokenizer.specs.Sight.{Sight}
 use Rattle.markdown_edits.specs.Edited.{edited}
 use Rattle.markdown_tokenizer.specs.Resolving.{CanBeEdited, IsInShape}
 use Rattle.markdown_tokenizer.specs.Rules.{Rules}
-use Rattle.mdconstructs_tables.specs.Rows.{Table}
+use Rattle.mdconstructs_tables.specs.Rows.{Rows, row, when, Row, StateRows, Table, step_of}
 use Rattle.mdconstructs_tables.specs.RowInvariant.{table_holds, table_rules}
 
 -- the edits that wait can be made, and then the events are in shape
 abbrev pub LeavesShape : {R D : Type 0} → Text → List R → Configuration R D → Type 0
 LeavesShape text rs k = CanBeEdited k × IsInShape (edited k.local.map k.events)
+
+-- what holds of each of the rows, by the tests that pick it
+module _ {R D : Type 0} (P : Row R D → Type 0) (g : Given) (s : Sight) (k : Configuration R D) where
+  abbrev pub EachRow : Rows R D → Type 0
+  EachRow (row acts answer) = P (record { acts = acts; answer = answer })
+  EachRow (when test one other) = (test g s k ≡ true → EachRow one) × (test g s k ≡ false → EachRow other)
 
 module _ {W R D : Type 0} (table : Table W R D) (knows : List Event → Local R D → List Choice → State → Type 0) where
   -- The invariant of the table holds, and what the machine knows at this answer
@@ -23,3 +35,29 @@ module _ {W R D : Type 0} (table : Table W R D) (knows : List Event → Local R 
   -- the rules of a table, with what the machine knows in the invariant. It registers no resolver.
   abbrev pub knowing_rules : Given → Rules R D
   knowing_rules g = record (table_rules table g) { holds = HoldsKnowing g; resolves = LeavesShape }
+
+  -- what is known after a step
+  abbrev pub KnownAfter : Step R D → List Choice → Type 0
+  KnownAfter q choices = knows q.configuration.events q.configuration.local (q.choices ++ choices) q.answer
+
+  -- each row of a state leaves what is known at its answer
+  abbrev pub KeepsKnowing : StateRows W R D → Type 0
+  KeepsKnowing state = (g : Given) (s : Sight) (k : Configuration R D) (choices : List Choice) (previous current : Option W) → knows k.events k.local choices (Retry state.name)
+      → let k1 = with_local k (table.first k.local) in EachRow (λ r. KnownAfter (step_of r s k1) choices) g s k1 (state.rows previous current)
+
+  abbrev pub AllKeepKnowing : List (StateRows W R D) → Type 0
+  AllKeepKnowing [] = Unit {0}
+  AllKeepKnowing (state ∷ states) = KeepsKnowing state × AllKeepKnowing states
+
+  -- What a machine knows is known at each start, and is kept by feeding, by the rows of each state, and where a choice ends. Where all was read it
+  -- knows that no resolver is registered, and that its edits can be made and leave the events in shape.
+  pub record IsKnown : Type 0 where
+    pub at_starts : (flag : Bool) → let k : Configuration R D = start_configuration flag in All (λ name. knows k.events k.local [] (Next name)) table.starts
+    pub by_feeding : (events : List Event) (local : Local R D) (choices : List Choice) (name : Name) → knows events local choices (Next name) → knows events local choices (Retry name)
+    pub by_rows : AllKeepKnowing table.states
+    pub by_ok : (k : Configuration R D) (choice : Choice) (choices : List Choice) → knows k.events k.local (choice ∷ choices) Ok
+        → let k' = settled_at choice.kind choice.saved Ok k in knows k'.events k'.local choices choice.ok
+    pub by_nok : (k : Configuration R D) (choice : Choice) (choices : List Choice) → knows k.events k.local (choice ∷ choices) Nok
+        → let k' = settled_at choice.kind choice.saved Nok k in knows k'.events k'.local choices choice.nok
+    pub at_end : (k : Configuration R D) → IsBalanced k.events → knows k.events k.local [] Ok
+        → (k.local.resolvers ≡ []) × CanBeEdited k × IsInShape (edited k.local.map k.events)

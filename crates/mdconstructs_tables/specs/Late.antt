@@ -10,6 +10,7 @@ use Rattle.markdown_tokenizer.specs.Configuration.{Configuration, Choice, Saved}
 use Rattle.markdown_tokenizer.specs.Sight.{sight}
 use Rattle.markdown_tokenizer.specs.Rules.{Rules}
 use Rattle.mdconstructs_tables.specs.Rows.{Act, consume, choose, Row, StateRows, Table, class_of}
+use Rattle.mdconstructs_tables.specs.Fitting.{IsFitBy}
 use Rattle.mdconstructs_tables.specs.RowTest.{saves, all_rows}
 use Rattle.mdconstructs_tables.specs.RowInvariant.{table_holds, reserve_of, table_rules}
 
@@ -80,3 +81,8 @@ module _ {W R D : Type 0} (table : Table W R D) (early : Name → Option W → B
 
   abbrev pub late_rules : Given → Rules R D
   late_rules g = record (table_rules table g) { holds = late_holds g; reserve = λ text c. reserve_of table true text c c.saved }
+
+-- A table fits, and its choices end well late
+pub record IsLate {W R D : Type 0} (table : Table W R D) (early : Name → Option W → Bool) (falling : Name → Bool) : Type 0 where
+  pub fit : IsFitBy table true falling
+  pub late : (previous current : Option W) → hasty table early falling previous current ≡ []

@@ -1,8 +1,10 @@
+pub mod Fitting
 pub mod Joined
 pub mod Knowledge
 pub mod Late
 pub mod LinkShapes
 pub mod Markers
+pub mod Misfits
 pub mod RowInvariant
 pub mod RowTest
 pub mod Rows

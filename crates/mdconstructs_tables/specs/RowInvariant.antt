@@ -19,7 +19,7 @@ use Rattle.markdown_tokenizer.specs.Calls.{with_local, consumed, exited, CanExit
 use Rattle.markdown_tokenizer.specs.Rules.{Rules}
 use Rattle.markdown_tokenizer.specs.Plain.{finds_nothing, NothingResolves}
 use Rattle.mdconstructs_tables.specs.Rows.{Act, exit, consume, choose, Rows, row, when, Row, Calls, StateRows, Table, class_of, step_of, row_at, named, table_step}
-use Rattle.mdconstructs_tables.specs.RowTest.{is_void_last, Stage, byte_waits, Frame, allows_all, first_stage, start_shape, saves, fresh_at, fresh_fed, needs_choice, is_some, fits_choice, calls_at}
+use Rattle.mdconstructs_tables.specs.RowTest.{is_void_last, Stage, byte_waits, Frame, allows_all, first_stage, start_shape, saves, fresh_at, fresh_fed, needs_choice, is_called_at, is_some, fits_choice, calls_at}
 use Rattle.mdconstructs_tables.specs.Markers.{IsMarkable}
 
 -- the events of a configuration, without the ends of their links
@@ -60,6 +60,10 @@ IsFed End position ended text = (ended ≡ true) × (length text.seats ≤ posit
 abbrev pub exit_place_at : Given → Text → ℕ → Point
 exit_place_at g text position = shown g.bytes (end_place text position)
 
+-- the class of the byte at a position, if one is there
+abbrev pub class_in : {W : Type 0} → (ℕ → W) → Text → ℕ → Option W
+class_in class text p = class_of class (byte_of (slice_get text.seats p))
+
 -- a byte was read
 abbrev pub is_read : ℕ → Bool
 is_read zero = false
@@ -70,19 +74,20 @@ abbrev pub AnyWait : List Choice → Type 0
 AnyWait [] = ⊥
 AnyWait (c ∷ cs) = Unit {0}
 
--- What a choice saved: the stack that was there, a position up to this one, events within these, with the spans as they were then
-pub record IsSavedIn (g : Given) (text : Text) (position : ℕ) (events : List Event) (stack : List EventName) (f : Frame) (saved : Saved) : Type 0 where
+-- What a choice saved: the stack that was there, a position up to this one, events within these, with the spans as they were then, and the
+-- byte that waited
+pub record IsSavedIn {W : Type 0} (class : ℕ → W) (g : Given) (text : Text) (position : ℕ) (events : List Event) (stack : List EventName) (f : Frame W) (saved : Saved) : Type 0 where
   pub stack_is : saved.stack ≡ stack
   pub behind : saved.position ≤ position
   pub within : saved.events ≤ length events
   pub began : Began (upto false (exit_place_at g text saved.position)) (take saved.events events)
   pub void : is_void_last (last_or None f.spans) ≡ true → EndsWithEnter (take saved.events events)
-  pub at_byte : f.at_byte ≡ true → saved.position < length text.seats
+  pub waits : (w : W) → f.waits ≡ Some w → class_in class text saved.position ≡ Some w
 
-abbrev pub IsSaved : Given → Text → ℕ → List Event → List EventName → Frame → Bool → Option Saved → Type 0
-IsSaved g text position events stack f true (Some saved) = IsSavedIn g text position events stack f saved
-IsSaved g text position events stack f false None = Unit {0}
-IsSaved g text position events stack f _ _ = ⊥
+abbrev pub IsSaved : {W : Type 0} → (ℕ → W) → Given → Text → ℕ → List Event → List EventName → Frame W → Bool → Option Saved → Type 0
+IsSaved class g text position events stack f true (Some saved) = IsSavedIn class g text position events stack f saved
+IsSaved class g text position events stack f false None = Unit {0}
+IsSaved class g text position events stack f _ _ = ⊥
 
 abbrev pub position_of : Option Saved → ℕ → ℕ
 position_of None position = position
@@ -96,14 +101,14 @@ events_saved (Some saved) events = take saved.events events
 abbrev pub IsBelow : List EventName → Choice → Type 0
 IsBelow stack c = IfSome c.saved (λ saved. length saved.stack ≤ length stack)
 
-module _ {W R D : Type 0} (states : List (StateRows W R D)) where
+module _ {W R D : Type 0} (class : ℕ → W) (states : List (StateRows W R D)) where
   -- A choice that waits fits at the place it was made at, above these spans
   pub record IsWaiting (g : Given) (text : Text) (position : ℕ) (events : List Event) (stack : List EventName) (c : Choice) (cs : List Choice) : Type 0 where
-    pub frame : Frame
+    pub frame : Frame W
     pub below : List EventName
     pub stack_is : stack ≡ below ++ frame.spans
     pub fits : fits_choice states frame c.kind c.ok c.nok ≡ true
-    pub saved : IsSaved g text position events stack frame (saves c.kind c.nok) c.saved
+    pub saved : IsSaved class g text position events stack frame (saves c.kind c.nok) c.saved
     pub within : frame.within ≡ true → AnyWait cs
 
   -- Choices wait above these spans, each within what the one made after it saved
@@ -135,14 +140,15 @@ at_most c n = c.per_byte * n + c.more
 abbrev pub began_at : {W R D : Type 0} → Option W → StateRows W R D → Sight → Point → Bool
 began_at w state s = since (fresh_at state.begun w) (first_stage w) s
 
--- Spans of a state are open above others: each began at a place that passes this test, and if the innermost is void nothing came since it began
-pub record IsOpen {W R D : Type 0} (state : StateRows W R D) (base : List EventName) (where_to : Point → Bool) (text : Text) (k : Configuration R D) (choices : List Choice) : Type 0 where
+-- Spans of a state are open above others: each began at a place that passes this test, and if the innermost is void nothing came since it
+-- began. What must wait for the state is next.
+pub record IsOpen {W R D : Type 0} (class : ℕ → W) (state : StateRows W R D) (base : List EventName) (where_to : Point → Bool) (text : Text) (k : Configuration R D) (choices : List Choice) : Type 0 where
   pub stack : k.stack ≡ base ++ state.spans
   pub began : Began where_to (outline k)
   pub void : is_void_last (last_or None state.spans) ≡ true → EndsWithEnter (outline k)
   pub below : All (IsBelow base) choices
   pub needs : needs_choice state.needs (is_read k.position) ≡ true → AnyWait choices
-  pub needs_byte : state.needs_byte ≡ true → k.position < length text.seats
+  pub called : is_called_at state.called (class_in class text k.position) ≡ true
 
 -- A call began: it is counted, and the machine's own fields are others
 abbrev pub begun : {M R D : Type 0} → (Local R D → Local R D) → TokenizerValue M R D → TokenizerValue M R D
@@ -159,7 +165,7 @@ pub record IsAtState {M W R D : Type 0} (class : ℕ → W) (state : StateRows W
   pub fed : IsFed t.configuration.waiting t.configuration.position t.configuration.ended t.text
   pub in_order : SightIsInOrder t.configuration.waiting (sight_of t)
   pub base : List EventName
-  pub spans : IsOpen state base (began_at (class_of class (sight_of t).current) state (sight_of t)) t.text t.configuration t.choices
+  pub spans : IsOpen class state base (began_at (class_of class (sight_of t).current) state (sight_of t)) t.text t.configuration t.choices
 
 -- once the byte that waits is consumed
 abbrev pub once_read : {M R D : Type 0} → TokenizerValue M R D → TokenizerValue M R D
@@ -175,11 +181,11 @@ abbrev pub are_allowed : {M W R D : Type 0} → (ℕ → W) → StateRows W R D 
 are_allowed class state t acts = allows_all acts (start_shape (class_of class (sight_of t).previous) (class_of class (sight_of t).current) state)
 
 -- A state can be called. What follows for its code from the spans that are open is said as code asks for it: a byte waits where the state
--- needs one; once that is consumed, an exit stands where its end was seen; it can be a span of its own; and all spans of the state may end,
+-- is never called at the end; once that is consumed, an exit stands where its end was seen; it can be a span of its own; and all spans of the state may end,
 -- before it or behind it, where the test allows that.
 pub record IsCallable {M W R D : Type 0} (class : ℕ → W) (state : StateRows W R D) (t : TokenizerValue M R D) : Type 0 where
   pub called : IsAtState class state t
-  pub byte : state.needs_byte ≡ true → t.configuration.waiting ≡ Byte
+  pub byte : is_called_at state.called None ≡ false → t.configuration.waiting ≡ Byte
   pub stands : t.configuration.waiting ≡ Byte → (sight_of (once_read t)).exit_place ≡ (sight_of t).next
   pub marks : t.configuration.waiting ≡ Byte → IsMarkable t
   pub ends : are_allowed class state t (map exit (reverse state.spans)) ≡ true → CanEnd (reverse state.spans) t
@@ -193,8 +199,8 @@ module _ {W R D : Type 0} (table : Table W R D) where
   -- Open spans and choices are those of a state
   pub record IsAt (g : Given) (text : Text) (state : StateRows W R D) (where_to : Point → Bool) (k : Configuration R D) (choices : List Choice) : Type 0 where
     pub base : List EventName
-    pub spans : IsOpen state base where_to text k choices
-    pub waiting : AreWaiting table.states g text k.position (outline k) base choices
+    pub spans : IsOpen table.class state base where_to text k choices
+    pub waiting : AreWaiting table.class table.states g text k.position (outline k) base choices
 
   abbrev pub IsStateAt : Given → Text → Option (StateRows W R D) → (StateRows W R D → Point → Bool) → Configuration R D → List Choice → Type 0
   IsStateAt g text None where_to k choices = ⊥
@@ -205,13 +211,13 @@ module _ {W R D : Type 0} (table : Table W R D) where
     pub base : List EventName
     pub stack : k.stack ≡ base
     pub began : Began (upto false (exit_place_at g text k.position)) (outline k)
-    pub waiting : AreWaiting table.states g text k.position (outline k) base choices
+    pub waiting : AreWaiting table.class table.states g text k.position (outline k) base choices
     pub ended : AnyWait choices ⊎ (k.ended ≡ true)
 
   -- What ends not: a choice waits
   pub record IsFailing (g : Given) (text : Text) (k : Configuration R D) (choices : List Choice) : Type 0 where
     pub base : List EventName
-    pub waiting : AreWaiting table.states g text k.position (outline k) base choices
+    pub waiting : AreWaiting table.class table.states g text k.position (outline k) base choices
     pub any : AnyWait choices
 
   -- the invariant at an answer
@@ -231,13 +237,13 @@ module _ {W R D : Type 0} (table : Table W R D) where
   -- how many calls a state may take that is fed first, if so many bytes were read
   abbrev pub next_price : Text → ℕ → Option (StateRows W R D) → ℕ
   next_price text p None = 0
-  next_price text p (Some state) = price_by state.calls (table.cost text p state.name) (λ c. at_most c (length text.seats - p))
+  next_price text p (Some state) = price_by state.calls (state.own text p) (λ c. at_most c (length text.seats - p))
 
   -- and one that is called when this waits
   abbrev pub retry_price : (previous current : Option W) → Text → ℕ → Option (StateRows W R D) → ℕ
   retry_price b w text p None = 0
   retry_price b w text p (Some state) =
-      price_by state.calls (table.cost text p state.name) (λ c. at_most (calls_at table.states table.states b w (Some state)) (length text.seats - p - 1))
+      price_by state.calls (state.own text p) (λ c. at_most (calls_at table.states table.states b w (Some state)) (length text.seats - p - 1))
 
   -- what a choice goes on with
   abbrev pub state_price : Text → ℕ → State → ℕ
@@ -271,13 +277,14 @@ module _ {W R D : Type 0} (table : Table W R D) where
 
   -- the class of the byte at a position
   abbrev pub class_at : Text → ℕ → Option W
-  class_at text p = class_of table.class (byte_of (slice_get text.seats p))
+  class_at text p = class_in table.class text p
 
   -- a state of the machine's own cost is paid for by it, if this waits
   abbrev pub PaysRows : (late : Bool) → StateRows W R D → Option Calls → Type 0
   PaysRows late state (Some c) = Unit {0}
   PaysRows late state None =
-      (b w : Option W) (text : Text) (p : ℕ) → is_some b ≡ is_read p → Stands w text p → class_at text p ≡ w → AreWithin late b w text p (table.cost text p state.name) (state.rows b w)
+      (b w : Option W) (text : Text) (p : ℕ) → is_some b ≡ is_read p → Stands w text p → class_at text p ≡ w → is_called_at state.called w ≡ true
+      → AreWithin late b w text p (state.own text p) (state.rows b w)
 
   abbrev pub ArePaid : (late : Bool) → List (StateRows W R D) → Type 0
   ArePaid late [] = Unit {0}

@@ -1,5 +1,5 @@
 -- The test of a table: its acts are allowed in their order, its answers and choices fit the states that they name, and its calls are paid for.
-use Rattle.std.specs.Prelude.{◌+◌, ◌-◌, ◌&&◌, ◌||◌, not, List, [], ◌∷◌, ◌++◌, Bool, true, false, cond, Option, Some, None, nat_le, max, take, length, filter, map}
+use Rattle.std.specs.Prelude.{◌+◌, ◌-◌, ◌&&◌, ◌||◌, not, List, [], ◌∷◌, ◌++◌, Bool, true, false, cond, Option, Some, None, nat_le, max, take, length}
 use Rattle.std.specs.List.{last_or}
 use Rattle.markdown_base.specs.declared.event.Name.{Name as EventName}
 use Rattle.markdown_base.specs.declared.state.Name.{Name}
@@ -8,7 +8,7 @@ use Rattle.markdown_base.specs.declared.state.State.TheVariants.{Next, Retry, Ok
 use Rattle.markdown_base.specs.Events.{is_void, same_name}
 use Rattle.markdown_tokenizer.specs.declared.waiting.AttemptKind.{AttemptKind}
 use Rattle.markdown_tokenizer.specs.declared.waiting.AttemptKind.TheVariants.{Attempt, Check}
-use Rattle.mdconstructs_tables.specs.Rows.{Act, enters, exit, consume, links, write, choose, Rows, row, when, Row, Calls, Begun, before, at_byte, here, Needs, nothing, a_choice, a_choice_once_read, StateRows, Table, named}
+use Rattle.mdconstructs_tables.specs.Rows.{Act, enters, exit, consume, links, write, choose, Rows, row, when, Row, Calls, Begun, before, at_byte, here, Called, anywhere, at_a_byte, at_bytes, Needs, nothing, a_choice, a_choice_once_read, StateRows, named}
 
 -- the innermost span is of a void name
 abbrev pub is_void_last : Option EventName → Bool
@@ -57,6 +57,14 @@ fresh_at here w = true
 abbrev pub fresh_fed : {W : Type 0} → Begun W → Bool
 fresh_fed here = true
 fresh_fed _ = false
+
+-- whether a state may be called where this waits; None is the end, and also what is not known
+abbrev pub is_called_at : {W : Type 0} → Called W → Option W → Bool
+is_called_at anywhere w = true
+is_called_at at_a_byte None = false
+is_called_at at_a_byte (Some w) = true
+is_called_at (at_bytes test) None = false
+is_called_at (at_bytes test) (Some w) = test w
 
 -- whether a choice must wait, by whether a byte was read
 abbrev pub needs_choice : Needs → (read : Bool) → Bool
@@ -117,14 +125,19 @@ start_shape b w state = record {
   within = needs_choice state.needs (is_some b);
 }
 
--- Where a choice is made: the spans since the one before it, whether a byte waits there, and whether a choice waits
-pub record Frame : Type 0 where
+-- Where a choice is made: the spans since the one before it, the byte that waits there, if that is known, and whether a choice waits
+pub record Frame (W : Type 0) : Type 0 where
   pub spans : List EventName
-  pub at_byte : Bool
+  pub waits : Option W
   pub within : Bool
 
-abbrev pub frame_of : Shape → Frame
-frame_of p = record { spans = p.spans; at_byte = is_byte_waiting p.stage; within = p.within }
+-- a byte that waited still waits, if it was not consumed
+abbrev pub waits_in : {W : Type 0} → Stage → Option W → Option W
+waits_in byte_waits w = w
+waits_in _ w = None
+
+abbrev pub frame_of : {W : Type 0} → Option W → Shape → Frame W
+frame_of w p = record { spans = p.spans; waits = waits_in p.stage w; within = p.within }
 
 -- no calls, the sum, and the larger of two
 abbrev pub no_calls : Calls
@@ -156,28 +169,28 @@ most_calls count (row acts answer) = count (record { acts = acts; answer = answe
 most_calls count (when by one other) = larger (most_calls count one) (most_calls count other)
 
 module _ {W R D : Type 0} (states : List (StateRows W R D)) where
-  -- the spans, and what is known of choices and bytes, are those of a state
-  abbrev pub is_at : List EventName → (within byte : Bool) → (read : Bool) → Option (StateRows W R D) → Bool
-  is_at spans within byte read None = false
-  is_at spans within byte read (Some state) =
-      same_names spans state.spans && ((not (needs_choice state.needs read) || within) && (not state.needs_byte || byte))
+  -- the spans, and what is known of choices and of what waits, are those of a state
+  abbrev pub is_at : List EventName → (within : Bool) → (waits : Option W) → (read : Bool) → Option (StateRows W R D) → Bool
+  is_at spans within waits read None = false
+  is_at spans within waits read (Some state) =
+      same_names spans state.spans && ((not (needs_choice state.needs read) || within) && is_called_at state.called waits)
 
   -- what a choice goes on with fits at the place it was made at
-  abbrev pub may_go_on : Frame → (byte : Bool) → State → Bool
-  may_go_on f byte (Next name) = is_at f.spans f.within byte true (named states name)
-  may_go_on f byte Ok = same_names f.spans [] && f.within
-  may_go_on f byte Nok = f.within
-  may_go_on f byte _ = false
+  abbrev pub may_go_on : Frame W → (waits : Option W) → State → Bool
+  may_go_on f waits (Next name) = is_at f.spans f.within waits true (named states name)
+  may_go_on f waits Ok = same_names f.spans [] && f.within
+  may_go_on f waits Nok = f.within
+  may_go_on f waits _ = false
 
   -- a choice fits: it goes on at its place, or, if it ended well, with the same spans open later on
-  abbrev pub fits_choice : Frame → AttemptKind → (ok nok : State) → Bool
-  fits_choice f Check ok nok = may_go_on f f.at_byte ok && may_go_on f f.at_byte nok
-  fits_choice f Attempt ok nok = may_go_on f false ok && (not (is_void_last (last_or None f.spans)) && may_go_on f f.at_byte nok)
+  abbrev pub fits_choice : Frame W → AttemptKind → (ok nok : State) → Bool
+  fits_choice f Check ok nok = may_go_on f f.waits ok && may_go_on f f.waits nok
+  fits_choice f Attempt ok nok = may_go_on f None ok && (not (is_void_last (last_or None f.spans)) && may_go_on f f.waits nok)
 
-  abbrev pub fits_choices : List (Act R D) → Shape → Bool
-  fits_choices [] p = true
-  fits_choices (choose kind ok nok ∷ acts) p = let act : Act R D = choose kind ok nok in fits_choice (frame_of p) kind ok nok && fits_choices acts (after act p)
-  fits_choices (act ∷ acts) p = fits_choices acts (after act p)
+  abbrev pub fits_choices : (current : Option W) → List (Act R D) → Shape → Bool
+  fits_choices w [] p = true
+  fits_choices w (choose kind ok nok ∷ acts) p = let act : Act R D = choose kind ok nok in fits_choice (frame_of w p) kind ok nok && fits_choices w acts (after act p)
+  fits_choices w (act ∷ acts) p = fits_choices w acts (after act p)
 
   abbrev pub is_fresh : Option W → Option (StateRows W R D) → Bool
   is_fresh w None = false
@@ -192,11 +205,11 @@ module _ {W R D : Type 0} (states : List (StateRows W R D)) where
   abbrev pub fits_answer : Stage → (previous current : Option W) → Shape → State → Bool
   fits_answer stage b w p Ok = same_names p.spans [] && (not p.fresh && (p.within || is_end stage))
   fits_answer stage b w p Nok = p.within
-  fits_answer byte_read b w p (Next name) = is_bare p && (is_at p.spans p.within false true (named states name) && (not p.fresh || is_fresh_fed (named states name)))
+  fits_answer byte_read b w p (Next name) = is_bare p && (is_at p.spans p.within None true (named states name) && (not p.fresh || is_fresh_fed (named states name)))
   fits_answer byte_waits b (Some w) p (Retry name) =
-      is_bare p && (is_at p.spans p.within true (is_some b) (named states name) && (not p.fresh || is_fresh (Some w) (named states name)))
+      is_bare p && (is_at p.spans p.within (Some w) (is_some b) (named states name) && (not p.fresh || is_fresh (Some w) (named states name)))
   fits_answer end_waits b None p (Retry name) =
-      is_bare p && (is_at p.spans p.within false (is_some b) (named states name) && (not p.fresh || is_fresh None (named states name)))
+      is_bare p && (is_at p.spans p.within None (is_some b) (named states name) && (not p.fresh || is_fresh None (named states name)))
   fits_answer _ b w p (Error message) = true
   fits_answer _ _ _ _ _ = false
 
@@ -204,7 +217,7 @@ module _ {W R D : Type 0} (states : List (StateRows W R D)) where
   abbrev pub fits_row : (previous current : Option W) → StateRows W R D → Row R D → Bool
   fits_row b w state r =
       let p = after_all r.acts (start_shape b w state) in
-      allows_all r.acts (start_shape b w state) && (fits_choices r.acts (start_shape b w state) && fits_answer p.stage b w p r.answer)
+      allows_all r.acts (start_shape b w state) && (fits_choices w r.acts (start_shape b w state) && fits_answer p.stage b w p r.answer)
 
   -- how many calls a state says that are left, if it does
   abbrev pub calls_or : Option Calls → Calls
@@ -281,22 +294,11 @@ module _ {W R D : Type 0} (states : List (StateRows W R D)) where
   fits_calls b w state None = true
   fits_calls b w state (Some c) = all_rows (pays_row b w state) (state.rows b w) && feeds b w state c
 
-  -- a state is never called if it needs a byte and none waits
+  -- a state is called where this waits
   abbrev pub is_called : Option W → StateRows W R D → Bool
-  is_called None state = not state.needs_byte
-  is_called (Some w) state = true
-
-  -- a state fits
-  abbrev pub fits_state : (previous current : Option W) → StateRows W R D → Bool
-  fits_state b w state = all_rows (fits_row b w state) (state.rows b w) && fits_calls b w state state.calls
+  is_called w state = is_called_at state.called w
 
   -- a machine starts with no open span, no choice and no byte
   abbrev pub may_start : Option (StateRows W R D) → Bool
   may_start None = false
-  may_start (Some state) = same_names state.spans [] && (not (needs_choice state.needs false) && not state.needs_byte)
-
--- the names of the states that do not fit if this was read and this waits, and of the starts that may be none
-abbrev pub misfits : {W R D : Type 0} → Table W R D → (previous current : Option W) → List Name
-misfits {W} {R} {D} table b w =
-    map (λ (state : StateRows W R D). state.name) (filter (λ state. is_called table.states w state && not (fits_state table.states b w state)) table.states)
-    ++ filter (λ name. not (may_start table.states (named table.states name))) table.starts
+  may_start (Some state) = same_names state.spans [] && (not (needs_choice state.needs false) && is_called_at state.called None)

@@ -56,31 +56,41 @@ pub data Needs : Type 0 where
   a_choice : Needs
   a_choice_once_read : Needs
 
+-- What must wait where a state is called: anything, the end too; a byte; or one of these bytes
+pub data Called (W : Type 0) : Type 0 where
+  anywhere : Called W
+  at_a_byte : Called W
+  at_bytes : (W → Bool) → Called W
+
 -- A state: its name, and its rows by the class of the byte before and of what waits; None is the start and the end. What else is said of
 -- it is tested: the spans that are open when it is called, the outermost first, since the last choice was made; where they may
--- have begun; which choices it needs; whether a byte must wait; and how many calls are left before what waits is fed, if its machine
--- brings no cost of its own for it.
+-- have begun; which choices it needs; what must wait; and how many calls are left before what waits is fed, or
+-- else a cost of its own, by the text and the number of bytes read.
 pub record StateRows (W R D : Type 0) : Type 0 where
   pub name : Name
   pub rows : (previous current : Option W) → Rows R D
   pub spans : List EventName
   pub begun : Begun W
   pub needs : Needs
-  pub needs_byte : Bool
+  pub called : Called W
   pub calls : Option Calls
+  pub own : Text → ℕ → ℕ
 
--- A machine: the class of a byte, what each call writes first, its states, those with which it may start, and the cost of the states that
--- bring none, by the text and the number of bytes read
+-- A machine: the class of a byte, what each call writes first, its states, and those with which it may start
 pub record Table (W R D : Type 0) : Type 0 where
   pub class : ℕ → W
   pub first : Local R D → Local R D
   pub states : List (StateRows W R D)
   pub starts : List Name
-  pub cost : Text → ℕ → Name → ℕ
 
--- a machine whose states all say how many calls are left
-abbrev pub no_cost : Text → ℕ → Name → ℕ
-no_cost text position name = 0
+-- a state that says how many calls are left has no cost of its own
+abbrev pub no_cost : Text → ℕ → ℕ
+no_cost text position = 0
+
+-- How many calls come from a state, if they are not so many for each byte: by the text, and how many of its bytes were read. It is found from
+-- the end: where a state ends, it costs one call; else one more than what it goes on with, and than what its choices go on with.
+abbrev pub costs : {W R D : Type 0} → (Text → ℕ → ℕ) → StateRows W R D → StateRows W R D
+costs own state = record state { calls = None; own = own }
 
 -- at most so many calls for each byte, and so many more
 abbrev pub calls : (per_byte more : ℕ) → Option Calls
@@ -88,7 +98,7 @@ calls per_byte more = Some (record { per_byte = per_byte; more = more })
 
 -- a state that needs nothing, and whose spans began before
 abbrev pub state : {W R D : Type 0} → Name → ((previous current : Option W) → Rows R D) → List EventName → Option Calls → StateRows W R D
-state name rows spans calls = record { name = name; rows = rows; spans = spans; begun = before; needs = nothing; needs_byte = false; calls = calls }
+state name rows spans calls = record { name = name; rows = rows; spans = spans; begun = before; needs = nothing; called = anywhere; calls = calls; own = no_cost }
 
 -- what is seen once the byte that waited is consumed: enters and exits come after it
 abbrev pub past : Sight → Sight

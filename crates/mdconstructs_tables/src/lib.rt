@@ -4,6 +4,8 @@
 ghost use Rattle.std.specs.Prelude.{◌≡◌, OnOk};
 ghost use Rattle.mdconstructs_tables.specs.Markers.{IsMarkable, marked};
 
+pub mod laws;
+
 use markdown_tokenizer::event::Name;
 use markdown_tokenizer::state::MachineTypes;
 use markdown_tokenizer::tokenizer::Tokenizer;

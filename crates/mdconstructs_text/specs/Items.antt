@@ -1,9 +1,9 @@
 -- The constructs of CommonMark that are read here, each by the bytes it is made of at the front of a text.
 --
 -- A text is cut into items from the front. A construct is there if its bytes are: nothing is said of states.
-use Rattle.std.specs.Prelude.{ℕ, ◌+◌, ◌-◌, ◌==◌, ◌&&◌, ◌||◌, not, max, nat_le, Bool, false, cond, List, drop, length, Option, Some, None, find, slice_get, option_map}
-use Rattle.std.specs.List.{prefix_len, position_or_len, range_with_len}
-use Rattle.std.specs.Char.{is_ascii_alphabetic, is_ascii_alphanumeric, is_ascii_punctuation}
+use Rattle.std.specs.Prelude.{ℕ, ◌+◌, ◌==◌, ◌&&◌, ◌||◌, not, max, nat_le, Bool, false, cond, List, take, drop, length, Option, Some, None, find, slice_get, option_map}
+use Rattle.std.specs.List.{last_or, list_all, prefix_len, position_or_len, range_with_len}
+use Rattle.std.specs.Char.{is_ascii_alphabetic, is_ascii_alphanumeric, is_ascii_control, is_ascii_punctuation}
 use Rattle.markdown_base.specs.declared.configuration.Constructs.{Constructs}
 
 -- A part of a text, or of a code span, that is no construct: a line ending, or a run of so many other bytes
@@ -68,9 +68,9 @@ is_colon byte = byte == 58
 abbrev pub is_scheme_mark : ℕ → Bool
 is_scheme_mark byte = (byte == 43) || ((byte == 46) || (byte == 45))
 
--- DEL, the ASCII control character above the others
-abbrev pub is_delete : ℕ → Bool
-is_delete byte = byte == 127
+-- a space
+abbrev pub is_space : ℕ → Bool
+is_space byte = byte == 32
 
 -- the bytes that end data in a code span
 abbrev pub is_backtick_or_line_feed : ℕ → Bool
@@ -84,35 +84,46 @@ is_special byte = is_backtick_or_line_feed byte || (is_less_than byte || is_back
 abbrev pub backticks : List ℕ → ℕ
 backticks text = prefix_len is_backtick text
 
+-- the last byte of a text passes the test
+abbrev pub ends_with : (text : List ℕ) → (test : ℕ → Bool) → Bool
+ends_with text test = passes test (last_or None text)
+
 -- Backtick string: at p there are exactly k backticks, neither preceded nor followed by a backtick
 abbrev pub is_backtick_string : (text : List ℕ) → (k p : ℕ) → Bool
-is_backtick_string text k p = not (has_byte_at text (p - 1) is_backtick) && (backticks (drop p text) == k)
+is_backtick_string text k p = not (ends_with (take p text) is_backtick) && (backticks (drop p text) == k)
 
--- where the first backtick string of k backticks is, behind the front
-abbrev pub closing : (text : List ℕ) → (k : ℕ) → Option ℕ
-closing text k = find (is_backtick_string text k) (range_with_len 1 (length text))
+-- how many bytes are in front of the first backtick string of k backticks
+abbrev pub before_backtick_string : (k : ℕ) → List ℕ → Option ℕ
+before_backtick_string k text = find (is_backtick_string text k) (range_with_len 0 (length text))
 
 -- Code span: it begins with a backtick string and ends with the next backtick string of equal length. Backslash escapes do not work in it.
 abbrev pub code_span_at : List ℕ → Option Item
-code_span_at text = cond (has_byte_at text 0 is_backtick) (option_map (λ p. code_span (backticks text) (p - backticks text)) (closing text (backticks text))) None
+code_span_at text =
+    let opening = backticks text in
+    cond (has_byte_at text 0 is_backtick) (option_map (code_span opening) (before_backtick_string opening (drop opening text))) None
 
 -- the characters of a scheme: ASCII letters, digits, `+`, `.` and `-`
 abbrev pub is_scheme_byte : ℕ → Bool
 is_scheme_byte byte = is_ascii_alphanumeric byte || is_scheme_mark byte
 
--- Scheme: 2 to 32 of these characters, the first of which is an ASCII letter
-abbrev pub is_scheme : List ℕ → ℕ → Bool
-is_scheme text n = nat_le 2 n && (nat_le n 32 && has_byte_at text 0 is_ascii_alphabetic)
+-- the most characters that a scheme has: the constant AUTOLINK_SCHEME_SIZE_MAX
+abbrev pub scheme_size_max : ℕ
+scheme_size_max = 32
 
--- the characters of an absolute URI after its scheme and colon: all but ASCII control characters, space, `<` and `>`
+-- Scheme: 2 to 32 of these characters, the first of which is an ASCII letter
+abbrev pub is_scheme : List ℕ → Bool
+is_scheme name = nat_le 2 (length name) && (nat_le (length name) scheme_size_max && (has_byte_at name 0 is_ascii_alphabetic && list_all is_scheme_byte name))
+
+-- the characters of an absolute URI after its scheme and colon: all but ASCII control characters, space, `<` and `>`. Bytes from 128 on are
+-- no control characters, so each character beyond ASCII is allowed.
 abbrev pub is_allowed : ℕ → Bool
-is_allowed byte = nat_le 33 byte && not (is_delete byte || (is_less_than byte || is_greater_than byte))
+is_allowed byte = not (is_ascii_control byte || (is_space byte || (is_less_than byte || is_greater_than byte)))
 
 -- Absolute URI: a scheme, a colon, and zero or more such characters; how many bytes it has
 abbrev pub uri : List ℕ → Option ℕ
 uri text =
     let n = prefix_len is_scheme_byte text in
-    cond (is_scheme text n && has_byte_at text n is_colon) (Some (n + 1 + prefix_len is_allowed (drop (n + 1) text))) None
+    cond (is_scheme (take n text) && has_byte_at text n is_colon) (Some (n + 1 + prefix_len is_allowed (drop (n + 1) text))) None
 
 -- an autolink around an absolute URI of so many bytes: `>` follows it
 abbrev pub autolink_to : List ℕ → Option ℕ → Option Item
@@ -127,9 +138,13 @@ autolink_at text = cond (has_byte_at text 0 is_less_than) (autolink_to text (uri
 abbrev pub escape_at : List ℕ → Option Item
 escape_at text = cond (has_byte_at text 0 is_backslash && has_byte_at text 1 is_ascii_punctuation) (Some escape) None
 
--- how long plain text is: a whole backtick string or one byte, and all up to the next byte that ends it
+-- how many bytes are plain whatever they are: a whole backtick string, or else one byte
+abbrev pub first_plain : List ℕ → ℕ
+first_plain text = max 1 (backticks text)
+
+-- how long plain text is: these, and all up to the next byte that ends it
 abbrev pub plain_length : (ends : ℕ → Bool) → List ℕ → ℕ
-plain_length ends text = let n = max 1 (backticks text) in n + position_or_len ends (drop n text)
+plain_length ends text = first_plain text + position_or_len ends (drop (first_plain text) text)
 
 -- a line feed, or plain text
 abbrev pub part_at : (ends : ℕ → Bool) → List ℕ → Part

@@ -1,5 +1,5 @@
 -- The table of the machine of texts: code spans, autolinks, backslash escapes, line endings and plain data.
-use Rattle.std.specs.Prelude.{ℕ, ◌+◌, ◌-◌, ◌^◌, ◌==◌, ◌||◌, ◌&&◌, not, nat_le, nat_lt, min, Bool, true, List, [], ◌∷◌, Option, Some, None}
+use Rattle.std.specs.Prelude.{ℕ, ◌+◌, ◌-◌, ◌*◌, ◌^◌, ◌==◌, ◌||◌, ◌&&◌, not, nat_le, nat_lt, min, Bool, cond, true, false, List, [], ◌∷◌, Option, Some, None}
 use Rattle.markdown_base.specs.declared.event.Name.TheVariants.{Data, LineEnding, CodeText, CodeTextSequence, CodeTextData, Autolink, AutolinkMarker, AutolinkProtocol, CharacterEscape, CharacterEscapeMarker, CharacterEscapeValue}
 use Rattle.markdown_base.specs.declared.state.Name.{Name}
 use Rattle.markdown_base.specs.declared.state.State.TheVariants.{Next, Retry, Ok, Nok}
@@ -8,9 +8,10 @@ use Rattle.markdown_tokenizer.specs.declared.waiting.AttemptKind.TheVariants.{At
 use Rattle.markdown_tokenizer.specs.Text.{Given}
 use Rattle.markdown_tokenizer.specs.Configuration.{Configuration, Local}
 use Rattle.markdown_tokenizer.specs.Sight.{Sight}
-use Rattle.mdconstructs_tables.specs.Rows.{enter, exit, consume, write, choose, Rows, row, when, at_byte, here, a_choice, StateRows, state, Table}
+use Rattle.mdconstructs_tables.specs.Rows.{enter, exit, consume, write, choose, Rows, row, when, at_byte, here, at_a_byte, at_bytes, a_choice, StateRows, costs, state, Table}
 use Rattle.mdconstructs_machines.specs.Tables.{counts}
-use Rattle.mdconstructs_text.specs.TextCosts.{TextByte, line_feed, backtick, less, greater, backslash, colon, letter, digit, mark, punctuation, blank, text_byte, is_tick, ends_code_data, text_cost}
+use Rattle.mdconstructs_text.specs.Items.{scheme_size_max}
+use Rattle.mdconstructs_text.specs.TextCosts.{TextByte, line_feed, backtick, less, greater, backslash, colon, letter, digit, mark, punctuation, blank, text_byte, is_tick, ends_code_data, outside, left, ticks, waits_at, by_left, at_tick, before_data}
 
 -- one more, up to the greatest number that a size can have
 abbrev pub more_than : ℕ → ℕ
@@ -40,9 +41,9 @@ sizes_are_equal g s k = k.local.tokenize_state.size_c == k.local.tokenize_state.
 abbrev pub has_scheme : Given → Sight → Configuration Unit Unit → Bool
 has_scheme g s k = nat_le 2 k.local.tokenize_state.size_b
 
--- a scheme has fewer than 32 characters
+-- a scheme has room for one more character
 abbrev pub has_room : Given → Sight → Configuration Unit Unit → Bool
-has_room g s k = nat_lt k.local.tokenize_state.size_b 32
+has_room g s k = nat_lt k.local.tokenize_state.size_b scheme_size_max
 
 -- the options have code spans on
 abbrev pub spans_code : Given → Sight → Configuration Unit Unit → Bool
@@ -70,7 +71,9 @@ text_start_rows _ _ = row [] (Retry TextBefore)
 
 -- its state: no span is open
 abbrev pub text_start : StateRows TextByte Unit Unit
-text_start = state TextStart text_start_rows [] None
+text_start =
+    costs (by_left (λ n. outside n + 1))
+    (state TextStart text_start_rows [] None)
 
 -- Between constructs: one is tried, or data is read
 abbrev pub text_before_rows : (previous current : Option TextByte) → Rows Unit Unit
@@ -83,17 +86,20 @@ text_before_rows _ (Some _) = row [] (Retry TextBeforeData)
 
 -- their state: no span is open
 abbrev pub text_before : StateRows TextByte Unit Unit
-text_before = state TextBefore text_before_rows [] None
+text_before =
+    costs (by_left outside)
+    (state TextBefore text_before_rows [] None)
 
 -- Data begins
 abbrev pub text_before_data_rows : (previous current : Option TextByte) → Rows Unit Unit
-text_before_data_rows _ None = row [] Nok
 text_before_data_rows _ (Some backtick) = row (enter Data ∷ []) (Retry DataAtBreak)
-text_before_data_rows _ (Some _) = row (enter Data ∷ consume ∷ []) (Next DataInside)
+text_before_data_rows _ _ = row (enter Data ∷ consume ∷ []) (Next DataInside)
 
 -- its state: no span is open, and a byte is there
 abbrev pub text_before_data : StateRows TextByte Unit Unit
-text_before_data = record (state TextBeforeData text_before_data_rows [] None) { needs_byte = true }
+text_before_data =
+    costs (by_left before_data)
+    (record (state TextBeforeData text_before_data_rows [] None) { called = at_a_byte })
 
 -- A backtick string that begins data is read whole
 abbrev pub data_at_break_rows : (previous current : Option TextByte) → Rows Unit Unit
@@ -106,7 +112,9 @@ is_backtick_class w = is_tick (Some w)
 
 -- its state: a data span is open
 abbrev pub data_at_break : StateRows TextByte Unit Unit
-data_at_break = record (state DataAtBreak data_at_break_rows (Data ∷ []) None) { begun = at_byte is_backtick_class }
+data_at_break =
+    costs (at_tick (λ n. 4 * (n * n) + n - 1) (λ n. outside n + 2))
+    (record (state DataAtBreak data_at_break_rows (Data ∷ []) None) { begun = at_byte is_backtick_class })
 
 -- In data, which ends at a byte that a line ending or a construct may begin with
 abbrev pub data_inside_rows : (previous current : Option TextByte) → Rows Unit Unit
@@ -119,7 +127,9 @@ data_inside_rows _ (Some _) = row (consume ∷ []) (Next DataInside)
 
 -- its state: a data span is open
 abbrev pub data_inside : StateRows TextByte Unit Unit
-data_inside = state DataInside data_inside_rows (Data ∷ []) None
+data_inside =
+    costs (by_left (λ n. outside n + 1))
+    (state DataInside data_inside_rows (Data ∷ []) None)
 
 -- a state of a construct: it is called if the construct is tried, and so a choice waits
 abbrev pub tried : StateRows TextByte Unit Unit → StateRows TextByte Unit Unit
@@ -127,12 +137,13 @@ tried state = record state { needs = a_choice }
 
 -- Code span: it begins at a backtick
 abbrev pub raw_text_start_rows : (previous current : Option TextByte) → Rows Unit Unit
-raw_text_start_rows _ (Some backtick) = row (enter CodeText ∷ enter CodeTextSequence ∷ write (size_b_is 0) ∷ []) (Retry RawTextSequenceOpen)
-raw_text_start_rows _ _ = row [] Nok
+raw_text_start_rows _ _ = row (enter CodeText ∷ enter CodeTextSequence ∷ write (size_b_is 0) ∷ []) (Retry RawTextSequenceOpen)
 
--- its state: no span is open yet
+-- its state: it is called at a backtick only, and no span is open yet
 abbrev pub raw_text_start : StateRows TextByte Unit Unit
-raw_text_start = tried (state RawTextStart raw_text_start_rows [] None)
+raw_text_start =
+    costs (by_left (λ n. 7 * n - 3))
+    (tried (record (state RawTextStart raw_text_start_rows [] None) { called = at_bytes is_backtick_class }))
 
 -- its opening backtick string is read
 abbrev pub raw_text_sequence_open_rows : (previous current : Option TextByte) → Rows Unit Unit
@@ -141,7 +152,9 @@ raw_text_sequence_open_rows _ _ = row (exit CodeTextSequence ∷ []) (Retry RawT
 
 -- its state: a code span and its sequence are open
 abbrev pub raw_text_sequence_open : StateRows TextByte Unit Unit
-raw_text_sequence_open = tried (record (state RawTextSequenceOpen raw_text_sequence_open_rows (CodeText ∷ CodeTextSequence ∷ []) None) { begun = at_byte is_backtick_class })
+raw_text_sequence_open =
+    costs (at_tick (λ n. 7 * n - 4) (λ n. 7 * n + 2))
+    (tried (record (state RawTextSequenceOpen raw_text_sequence_open_rows (CodeText ∷ CodeTextSequence ∷ []) None) { begun = at_byte is_backtick_class }))
 
 -- in it a line ending, data, or a backtick string that may close it is read
 abbrev pub raw_text_between_rows : (previous current : Option TextByte) → Rows Unit Unit
@@ -153,7 +166,9 @@ raw_text_between_rows _ (Some _) = row (enter CodeTextData ∷ []) (Retry RawTex
 
 -- its state: a code span is open
 abbrev pub raw_text_between : StateRows TextByte Unit Unit
-raw_text_between = tried (state RawTextBetween raw_text_between_rows (CodeText ∷ []) None)
+raw_text_between =
+    costs (by_left (λ n. 7 * n + 1))
+    (tried (state RawTextBetween raw_text_between_rows (CodeText ∷ []) None))
 
 -- data in it ends at a line ending, at a backtick, or at the end
 abbrev pub raw_text_data_rows : (previous current : Option TextByte) → Rows Unit Unit
@@ -168,7 +183,9 @@ is_code_data w = not (ends_code_data (Some w))
 
 -- its state: a code span and its data are open
 abbrev pub raw_text_data : StateRows TextByte Unit Unit
-raw_text_data = tried (record (state RawTextData raw_text_data_rows (CodeText ∷ CodeTextData ∷ []) None) { begun = at_byte is_code_data })
+raw_text_data =
+    costs (λ text p. cond (ends_code_data (waits_at text p)) (7 * left text p + 2) (7 * left text p - 4))
+    (tried (record (state RawTextData raw_text_data_rows (CodeText ∷ CodeTextData ∷ []) None) { begun = at_byte is_code_data }))
 
 -- a backtick string closes it if it is as long as the opening one
 abbrev pub raw_text_sequence_close_rows : (previous current : Option TextByte) → Rows Unit Unit
@@ -177,7 +194,9 @@ raw_text_sequence_close_rows _ _ = when sizes_are_equal (row (exit CodeTextSeque
 
 -- its state: a sequence is open
 abbrev pub raw_text_sequence_close : StateRows TextByte Unit Unit
-raw_text_sequence_close = tried (record (state RawTextSequenceClose raw_text_sequence_close_rows (CodeTextSequence ∷ []) None) { begun = at_byte is_backtick_class })
+raw_text_sequence_close =
+    costs (λ text p. ticks text p + 1)
+    (tried (record (state RawTextSequenceClose raw_text_sequence_close_rows (CodeTextSequence ∷ []) None) { begun = at_byte is_backtick_class }))
 
 -- behind that backtick string the code span ends
 abbrev pub raw_flow_after_rows : (previous current : Option TextByte) → Rows Unit Unit
@@ -185,16 +204,19 @@ raw_flow_after_rows _ _ = row (exit CodeText ∷ []) Ok
 
 -- its state: a code span is open
 abbrev pub raw_flow_after : StateRows TextByte Unit Unit
-raw_flow_after = tried (state RawFlowAfter raw_flow_after_rows (CodeText ∷ []) None)
+raw_flow_after =
+    costs (by_left (λ n. 1))
+    (tried (state RawFlowAfter raw_flow_after_rows (CodeText ∷ []) None))
 
 -- a backtick string of another length is data
 abbrev pub raw_flow_before_content_chunk_rows : (previous current : Option TextByte) → Rows Unit Unit
-raw_flow_before_content_chunk_rows _ (Some backtick) = row (enter CodeTextData ∷ []) (Retry RawFlowContentChunk)
-raw_flow_before_content_chunk_rows _ _ = row [] Nok
+raw_flow_before_content_chunk_rows _ _ = row (enter CodeTextData ∷ []) (Retry RawFlowContentChunk)
 
--- its state: a code span is open
+-- its state: it is called at a backtick only, and a code span is open
 abbrev pub raw_flow_before_content_chunk : StateRows TextByte Unit Unit
-raw_flow_before_content_chunk = tried (state RawFlowBeforeContentChunk raw_flow_before_content_chunk_rows (CodeText ∷ []) None)
+raw_flow_before_content_chunk =
+    costs (λ text p. 7 * left text p - 6 * ticks text p + 4)
+    (tried (record (state RawFlowBeforeContentChunk raw_flow_before_content_chunk_rows (CodeText ∷ []) None) { called = at_bytes is_backtick_class }))
 
 -- that backtick string is read whole
 abbrev pub raw_flow_content_chunk_rows : (previous current : Option TextByte) → Rows Unit Unit
@@ -203,16 +225,24 @@ raw_flow_content_chunk_rows _ _ = row [] (Retry RawTextData)
 
 -- its state: a code span and its data are open
 abbrev pub raw_flow_content_chunk : StateRows TextByte Unit Unit
-raw_flow_content_chunk = tried (record (state RawFlowContentChunk raw_flow_content_chunk_rows (CodeText ∷ CodeTextData ∷ []) None) { begun = at_byte is_backtick_class })
+raw_flow_content_chunk =
+    costs (λ text p. 7 * left text p - 6 * ticks text p + 3)
+    (tried (record (state RawFlowContentChunk raw_flow_content_chunk_rows (CodeText ∷ CodeTextData ∷ []) None) { begun = at_byte is_backtick_class }))
 
 -- Autolink: it begins with `<`
 abbrev pub autolink_start_rows : (previous current : Option TextByte) → Rows Unit Unit
-autolink_start_rows _ None = row [] Nok
-autolink_start_rows _ (Some _) = row (enter Autolink ∷ enter AutolinkMarker ∷ consume ∷ exit AutolinkMarker ∷ enter AutolinkProtocol ∷ []) (Next AutolinkOpen)
+autolink_start_rows _ _ = row (enter Autolink ∷ enter AutolinkMarker ∷ consume ∷ exit AutolinkMarker ∷ enter AutolinkProtocol ∷ []) (Next AutolinkOpen)
 
--- its state: no span is open yet
+-- the class of `<`
+abbrev pub is_less_class : TextByte → Bool
+is_less_class less = true
+is_less_class _ = false
+
+-- its state: it is called at `<` only, and no span is open yet
 abbrev pub autolink_start : StateRows TextByte Unit Unit
-autolink_start = tried (state AutolinkStart autolink_start_rows [] None)
+autolink_start =
+    costs (by_left (λ n. n + 1))
+    (tried (record (state AutolinkStart autolink_start_rows [] None) { called = at_bytes is_less_class }))
 
 -- its scheme begins with an ASCII letter
 abbrev pub autolink_open_rows : (previous current : Option TextByte) → Rows Unit Unit
@@ -221,7 +251,9 @@ autolink_open_rows _ _ = row [] Nok
 
 -- its state: an autolink and its URI are open
 abbrev pub autolink_open : StateRows TextByte Unit Unit
-autolink_open = tried (record (state AutolinkOpen autolink_open_rows (Autolink ∷ AutolinkProtocol ∷ []) None) { begun = here })
+autolink_open =
+    costs (by_left (λ n. n + 1))
+    (tried (record (state AutolinkOpen autolink_open_rows (Autolink ∷ AutolinkProtocol ∷ []) None) { begun = here }))
 
 -- a scheme of fewer than 32 characters may have one more
 abbrev pub scheme_goes_on : Rows Unit Unit
@@ -237,7 +269,9 @@ autolink_scheme_rows _ _ = row [] Nok
 
 -- its state: an autolink and its URI are open
 abbrev pub autolink_scheme : StateRows TextByte Unit Unit
-autolink_scheme = tried (state AutolinkSchemeInsideOrEmailAtext autolink_scheme_rows (Autolink ∷ AutolinkProtocol ∷ []) None)
+autolink_scheme =
+    costs (by_left (λ n. n + 1))
+    (tried (state AutolinkSchemeInsideOrEmailAtext autolink_scheme_rows (Autolink ∷ AutolinkProtocol ∷ []) None))
 
 -- the rest of its URI is read, up to `>`
 abbrev pub autolink_url_rows : (previous current : Option TextByte) → Rows Unit Unit
@@ -250,16 +284,24 @@ autolink_url_rows _ (Some _) = row (consume ∷ []) (Next AutolinkUrlInside)
 
 -- its state: an autolink and its URI are open
 abbrev pub autolink_url : StateRows TextByte Unit Unit
-autolink_url = tried (state AutolinkUrlInside autolink_url_rows (Autolink ∷ AutolinkProtocol ∷ []) None)
+autolink_url =
+    costs (by_left (λ n. n + 1))
+    (tried (state AutolinkUrlInside autolink_url_rows (Autolink ∷ AutolinkProtocol ∷ []) None))
 
 -- Backslash escape: a backslash
 abbrev pub escape_start_rows : (previous current : Option TextByte) → Rows Unit Unit
-escape_start_rows _ None = row [] Nok
-escape_start_rows _ (Some _) = row (enter CharacterEscape ∷ enter CharacterEscapeMarker ∷ consume ∷ exit CharacterEscapeMarker ∷ []) (Next CharacterEscapeInside)
+escape_start_rows _ _ = row (enter CharacterEscape ∷ enter CharacterEscapeMarker ∷ consume ∷ exit CharacterEscapeMarker ∷ []) (Next CharacterEscapeInside)
 
--- its state: no span is open yet
+-- the class of a backslash
+abbrev pub is_backslash_class : TextByte → Bool
+is_backslash_class backslash = true
+is_backslash_class _ = false
+
+-- its state: it is called at a backslash only, and no span is open yet
 abbrev pub escape_start : StateRows TextByte Unit Unit
-escape_start = tried (state CharacterEscapeStart escape_start_rows [] None)
+escape_start =
+    costs (by_left (λ n. n + 1))
+    (tried (record (state CharacterEscapeStart escape_start_rows [] None) { called = at_bytes is_backslash_class }))
 
 -- the character that is escaped
 abbrev pub escaped : Rows Unit Unit
@@ -278,7 +320,9 @@ escape_inside_rows _ _ = row [] Nok
 
 -- its state: a backslash escape is open
 abbrev pub escape_inside : StateRows TextByte Unit Unit
-escape_inside = tried (state CharacterEscapeInside escape_inside_rows (CharacterEscape ∷ []) None)
+escape_inside =
+    costs (by_left (λ n. n + 1))
+    (tried (state CharacterEscapeInside escape_inside_rows (CharacterEscape ∷ []) None))
 
 -- all states of texts
 abbrev pub text_states : List (StateRows TextByte Unit Unit)
@@ -289,7 +333,7 @@ text_states =
 
 -- their table: each call is counted, and a reading starts between constructs
 abbrev pub texts : Table TextByte Unit Unit
-texts = record { class = text_byte; first = counts; states = text_states; starts = TextStart ∷ []; cost = text_cost }
+texts = record { class = text_byte; first = counts; states = text_states; starts = TextStart ∷ [] }
 
 -- the states that begin a construct: they are called only if it was chosen to try the construct
 abbrev pub begins_construct : Name → Option TextByte → Bool

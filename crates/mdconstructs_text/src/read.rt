@@ -1,6 +1,7 @@
 //! A whole document, read as text.
 
-ghost use Rattle.std.specs.Prelude.{◌≡◌, ◌+◌, ◌*◌, ◌^◌, ◌<◌, IfOk, IfErr, length};
+ghost use Rattle.std.specs.Prelude.{◌≡◌, IfOk, IfErr};
+ghost use Rattle.markdown_base.specs.Virtual.{IsWithinLimit};
 ghost use Rattle.markdown_tokenizer.specs.Engine.{AreCuts, given_by, whole_text};
 ghost use Rattle.mdconstructs_text.specs.TextEvents.{text_events};
 
@@ -23,18 +24,14 @@ pub fn read_text(
     options: &ParseOptions,
     cuts: &[(usize, usize)],
 ) -> Result<Vec<Event>, Fault>
-    requires limit { options.now.tab_size * length bytes.now + 1 < 2 ^ 64 }
+    requires limit { IsWithinLimit options.now.tab_size bytes.now }
     requires cuts { AreCuts options.now.tab_size bytes.now cuts.now }
     ensures ok { IfOk result (λ events. let g = given_by bytes.now options.now in events.items ≡ text_events g (whole_text g)) }
     ensures err { IfErr result (λ fault. fault ≡ Fault.Memory) }
 {
-    // Tab stops are apart, as the type of their size tells: that makes the document one that can be read.
-    let _ = options.tab_size.get();
     let machine = Text {};
-    let parse_state = ParseState {
-        bytes,
-        options,
-        machine: &machine,
+    let Some(parse_state) = ParseState::new(bytes, options, &machine) else {
+        unreachable!();
     };
     match run(alloc, &parse_state, Name::TextStart, cuts, false) {
         Ok((events, _)) => Ok(events),

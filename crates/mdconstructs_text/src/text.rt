@@ -38,7 +38,7 @@ impl MachineTypes for Text {
 }
 
 impl Machine for Text {
-    ghost use Rattle.mdconstructs_text.specs.Laws.Rules as laws;
+    ghost use Rattle.mdconstructs_text.specs.Laws.Rules.{text-lawful};
 
     ghost rules = { λ _. text_rules };
 
@@ -90,17 +90,7 @@ impl Machine for Text {
         Ok(None)
     }
 
-    ghost consumes_once = { λ _. laws.text-consumes_once };
-
-    ghost only_adds = { λ _. laws.text-only_adds };
-
-    ghost ends_when_read = { λ _. laws.text-ends_when_read };
-
-    ghost invariant_kept = { λ _. laws.text-invariant_kept };
-
-    ghost cost_pays = { λ _. laws.text-cost_pays };
-
-    ghost resolvers_keep = { λ _. laws.text-resolvers_keep };
+    ghost lawful = { λ _. text-lawful };
 }
 
 /// In front of a text.
@@ -210,15 +200,10 @@ fn raw_text_start<'a>(t: &mut Tokenizer<'a, Text>) -> Result<State, AllocError>
     requires { IsCallable text_byte raw_text_start t.old }
     ensures { IfOk result (DoesAll (step_in text_byte raw_text_start t.old) t.old t.new) }
 {
-    match t.current() {
-        Some(b'`') => {
-            t.enter(event::Name::CodeText)?;
-            t.enter(event::Name::CodeTextSequence)?;
-            set_size_b(t, 0);
-            Ok(State::Retry(Name::RawTextSequenceOpen))
-        }
-        _ => Ok(State::Nok),
-    }
+    t.enter(event::Name::CodeText)?;
+    t.enter(event::Name::CodeTextSequence)?;
+    set_size_b(t, 0);
+    Ok(State::Retry(Name::RawTextSequenceOpen))
 }
 
 /// In the backtick string that opens a code span.
@@ -309,13 +294,8 @@ fn raw_flow_before_content_chunk<'a>(t: &mut Tokenizer<'a, Text>) -> Result<Stat
     requires { IsCallable text_byte raw_flow_before_content_chunk t.old }
     ensures { IfOk result (DoesAll (step_in text_byte raw_flow_before_content_chunk t.old) t.old t.new) }
 {
-    match t.current() {
-        Some(b'`') => {
-            t.enter(event::Name::CodeTextData)?;
-            Ok(State::Retry(Name::RawFlowContentChunk))
-        }
-        _ => Ok(State::Nok),
-    }
+    t.enter(event::Name::CodeTextData)?;
+    Ok(State::Retry(Name::RawFlowContentChunk))
 }
 
 /// In a backtick string that begins data of a code span.
@@ -337,15 +317,10 @@ fn autolink_start<'a>(t: &mut Tokenizer<'a, Text>) -> Result<State, AllocError>
     requires { IsCallable text_byte autolink_start t.old }
     ensures { IfOk result (DoesAll (step_in text_byte autolink_start t.old) t.old t.new) }
 {
-    match t.current() {
-        None => Ok(State::Nok),
-        Some(_) => {
-            t.enter(event::Name::Autolink)?;
-            marker(t, event::Name::AutolinkMarker)?;
-            t.enter(event::Name::AutolinkProtocol)?;
-            Ok(State::Next(Name::AutolinkOpen))
-        }
-    }
+    t.enter(event::Name::Autolink)?;
+    marker(t, event::Name::AutolinkMarker)?;
+    t.enter(event::Name::AutolinkProtocol)?;
+    Ok(State::Next(Name::AutolinkOpen))
 }
 
 /// At the start of the scheme of an autolink.
@@ -408,14 +383,9 @@ fn escape_start<'a>(t: &mut Tokenizer<'a, Text>) -> Result<State, AllocError>
     requires { IsCallable text_byte escape_start t.old }
     ensures { IfOk result (DoesAll (step_in text_byte escape_start t.old) t.old t.new) }
 {
-    match t.current() {
-        None => Ok(State::Nok),
-        Some(_) => {
-            t.enter(event::Name::CharacterEscape)?;
-            marker(t, event::Name::CharacterEscapeMarker)?;
-            Ok(State::Next(Name::CharacterEscapeInside))
-        }
-    }
+    t.enter(event::Name::CharacterEscape)?;
+    marker(t, event::Name::CharacterEscapeMarker)?;
+    Ok(State::Next(Name::CharacterEscapeInside))
 }
 
 /// Behind the backslash of a backslash escape.

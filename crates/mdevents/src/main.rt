@@ -115,37 +115,25 @@ mod tests {
     use super::*;
     use crate::expected::{PARAGRAPH, SHORT_DATA, TWO_LINES};
     use crate::fakes::{CalledWith, FailingReader, FailingWriter, Fault, Line, message};
+    use crate::written::choice;
     use markdown::configuration::TabSize;
     use std::alloc::{AllocError, Global};
 
     const USAGE_SHOWN: &[u8] = b"usage: mdevents [--cut n] [--deep] [--machine name] [--tab n]\n";
 
     /// Whether the words that the program is called with choose this, and nothing fails.
-    fn chooses(alloc: Global, words: &[u8], want: Option<Choice>) -> bool {
+    fn chooses(alloc: Global, words: &[u8], cut: usize, deep: bool, machine: Which) -> bool {
         let system = (CalledWith::new(words), alloc);
         let chosen = choice_of(&system);
-        chosen == Ok(want)
+        chosen == Ok(Some(choice(cut, deep, machine, TabSize::default())))
     }
 
-    const CHOSEN: &[(&[u8], Option<usize>, bool, Which)] = &[
-        (b"mdevents", None, false, Which::Lines),
-        (b"--cut", None, false, Which::Lines),
-        (b"mdevents --cut 016", Some(16), false, Which::Lines),
+    /// Words, and what they choose: where to cut, whether to go deep, and the machine. The first word is the program's name.
+    const CHOSEN: &[(&[u8], usize, bool, Which)] = &[
+        (b"--cut", 0, false, Which::Lines),
         (
-            b"mdevents --machine peek --cut 2",
-            Some(2),
-            false,
-            Which::Peek,
-        ),
-        (
-            b"mdevents --cut 2 --machine save",
-            Some(2),
-            false,
-            Which::Save,
-        ),
-        (
-            b"mdevents --deep --machine paragraphs",
-            None,
+            b"mdevents --machine paragraphs --tab 4 --deep --cut 1",
+            1,
             true,
             Which::Paragraphs,
         ),
@@ -154,28 +142,7 @@ mod tests {
     #[test]
     fn takes_the_words_after_the_name(rt: HostRuntime) {
         for &(words, cut, deep, machine) in CHOSEN {
-            let want = Some(Choice {
-                cut,
-                deep,
-                machine,
-                tab: TabSize::default(),
-            });
-            assert!(rt; chooses(rt.alloc(), words, want));
-        }
-    }
-
-    const REFUSED: &[&[u8]] = &[
-        b"--cut 2",
-        b"mdevents --cut",
-        b"mdevents --cut 2 --cut 2",
-        b"mdevents --cut \xff",
-        b"mdevents --machine lines --deep",
-    ];
-
-    #[test]
-    fn takes_no_other_words(rt: HostRuntime) {
-        for &words in REFUSED {
-            assert!(rt; chooses(rt.alloc(), words, None));
+            assert!(rt; chooses(rt.alloc(), words, cut, deep, machine));
         }
     }
 
@@ -184,13 +151,7 @@ mod tests {
         let mut long = [b'0'; 1000];
         long[..15].copy_from_slice(b"mdevents --cut ");
         long[999] = b'7';
-        let want = Choice {
-            cut: Some(7),
-            deep: false,
-            machine: Which::Lines,
-            tab: TabSize::default(),
-        };
-        assert!(rt; chooses(rt.alloc(), &long, Some(want)));
+        assert!(rt; chooses(rt.alloc(), &long, 7, false, Which::Lines));
     }
 
     /// How a call of the program should end: its status, what it wrote and what it showed on standard error.
@@ -258,6 +219,8 @@ mod tests {
         (b"mdevents --machine deep", 0, SHORT_DATA, b""),
         (b"mdevents --machine deep --cut 1", 0, SHORT_DATA, b""),
         (b"mdevents --cut 1 --machine save", 0, b"", b""),
+        (b"--cut 2", 2, b"", USAGE_SHOWN),
+        (b"mdevents --cut 2 --cut 2", 2, b"", USAGE_SHOWN),
         (b"mdevents --machine paragraphs --deep", 0, PARAGRAPH, b""),
         (b"mdevents --machine forth", 2, b"", USAGE_SHOWN),
         (b"mdevents --cut 0", 2, b"", USAGE_SHOWN),

@@ -1,11 +1,10 @@
 //! Reads and writes that fail, each in its turn. A body that tries again after one that failed ends well too early.
 
-ghost use Rattle.std.specs.Prelude.{◌≡◌, None};
-
 use crate::expected::{PEEKED, TWO_LINES};
 use crate::fakes::{FailingReader, FailingWriter, Fault, Line};
+use crate::written::choice;
 use markdown::configuration::TabSize;
-use mdevents_program::arguments::{Choice, Which};
+use mdevents_program::arguments::Which;
 use mdevents_program::failure::Failure;
 use mdevents_program::program::write_events;
 use mdevents_program::read::read_to_end;
@@ -13,18 +12,6 @@ use std::alloc::Global;
 use std::io::{Read, Write};
 
 const DOCUMENT: &[u8] = b"a\r\nb";
-
-/// The choice of no words.
-fn uncut() -> Choice
-    ensures { result.cut ≡ None }
-{
-    Choice {
-        cut: None,
-        deep: false,
-        machine: Which::Lines,
-        tab: TabSize::default(),
-    }
-}
 
 /// How a run ended.
 #[derive(Clone, Copy, PartialEq, Eq)]
@@ -47,8 +34,8 @@ fn ending(answer: Result<(), Failure>) -> Ended {
 
 /// Writes the events of what a reader gives.
 fn run<R: Read, W: Write>(alloc: Global, reader: &mut R, writer: &mut W) -> Ended {
-    let uncut = uncut();
-    ending(write_events(alloc, reader, writer, &uncut))
+    let choice = choice(0, false, Which::Lines, TabSize::default());
+    ending(write_events(alloc, reader, writer, &choice))
 }
 
 /// Runs over the document, whose read after so many good ones fails: how it ended, and what it wrote.
@@ -94,15 +81,8 @@ fn read_all(alloc: Global, good_reads: usize) -> Ended {
 #[test]
 fn reads_to_the_end(rt: HostRuntime) {
     for good_reads in 0..6 {
-        let want = if good_reads < 5 {
-            Ended::NotRead
-        } else {
-            Ended::Well
-        };
-        assert!(rt;
-            read_all(rt.alloc(), good_reads) == want,
-            "after {good_reads}"
-        );
+        let is_good = read_all(rt.alloc(), good_reads) == Ended::Well;
+        assert!(rt; is_good == (good_reads == 5), "after {good_reads}");
     }
 }
 
@@ -151,12 +131,7 @@ fn each_write_fails_in_turn(rt: HostRuntime) {
 
 /// Whether a document, cut after each so many virtual bytes and looked at as a whole first, is written as these lines.
 fn peeks(alloc: Global, cut: usize) -> bool {
-    let choice = Choice {
-        cut: Some(cut.max(1)),
-        deep: false,
-        machine: Which::Peek,
-        tab: TabSize::default(),
-    };
+    let choice = choice(cut, false, Which::Peek, TabSize::default());
     let mut reader = b"a\tb\r\n\tc".as_slice();
     let mut written = Line::new();
     write_events(alloc, &mut reader, &mut written, &choice).is_ok() && written.text() == PEEKED

@@ -3,12 +3,7 @@
 ghost use Rattle.mdevents_program.specs.Arguments.{CanCut};
 
 use crate::expected::{ONE_DATA, SHORT_DATA, THREE_DATA, TWO_LINES};
-use crate::printed::lines_of;
-use markdown::configuration::{ParseOptions, TabSize};
-use markdown::parser::ParseState;
-use markdown::state::Name;
-use markdown::tokenizer::{cuts_every, run};
-use mdconstructs::Lines;
+use markdown::configuration::TabSize;
 use mdevents_program::arguments::{Choice, Which};
 use mdevents_program::program::write_events;
 use std::alloc::{AllocError, Global};
@@ -38,7 +33,7 @@ const FIRST_AND_REST: &[u8] =
     b"enter Data 1:1 (0+0)\nexit Data 2:1 (2+0)\nenter Data 2:1 (2+0)\nexit Data 3:2 (5+0)\n";
 
 const LONG_PARAGRAPH: &[u8] =
-    b"enter Paragraph 1:1 (0+0)\nenter Data 1:1 (0+0)\nexit Data 1:100001 (100000+0)\nexit Paragraph 1:100001 (100000+0)\n";
+    b"enter Paragraph 1:1 (0+0)\nenter Data 1:1 (0+0)\nexit Data 1:100002 (100001+0)\nexit Paragraph 1:100002 (100001+0)\n";
 
 const LONG_DATA: &[u8] = b"enter Data 1:1 (0+0)\nexit Data 1:100001 (100000+0)\n";
 
@@ -46,7 +41,36 @@ const DEEP_DATA: &[u8] = b"enter Data 1:1 (0+0)\nexit Data 1:2001 (2000+0)\n";
 
 const LONG_SECOND_LINE: &[u8] = b"enter Data 2:1 (1+0)\nexit Data 2:100000 (100000+0)\n";
 
+/// With tabs of three columns, of which the tab behind a quote mark has two.
+const TWO_LINES_OF_TABS: &[u8] =
+    b"enter Paragraph 1:1 (0+0)\nenter BlockQuoteMarker 1:1 (0+0)\nexit BlockQuoteMarker 1:2 (1+0)\nenter Data 1:2 (1+0)\nexit Data 1:5 (3+0)\nenter LineEnding 1:5 (3+0)\nexit LineEnding 2:1 (4+0)\nenter BlockQuoteMarker 2:1 (4+0)\nexit BlockQuoteMarker 2:2 (5+0)\nenter Data 2:2 (5+0)\nexit Data 2:5 (7+0)\nexit Paragraph 2:5 (7+0)\n";
+
+/// Of a letter, a letter of two bytes, and a byte that is no letter.
+const FOUR_BYTES: &[u8] =
+    b"enter Paragraph 1:1 (0+0)\nenter Data 1:1 (0+0)\nexit Data 1:5 (4+0)\nexit Paragraph 1:5 (4+0)\n";
+
 const SECOND_LINE: &[u8] = b"enter Data 2:1 (2+0)\nexit Data 2:4 (5+0)\n";
+
+const AFTER_TAB_OF_TWO: &[u8] =
+    b"enter Paragraph 1:1 (0+0)\nenter Data 1:1 (0+0)\nexit Data 1:4 (2+0)\nexit Paragraph 1:4 (2+0)\n";
+
+const AFTER_TAB_OF_ONE: &[u8] =
+    b"enter Paragraph 1:1 (0+0)\nenter Data 1:1 (0+0)\nexit Data 1:3 (2+0)\nexit Paragraph 1:3 (2+0)\n";
+
+const AFTER_TAB_OF_SIXTEEN: &[u8] =
+    b"enter Paragraph 1:1 (0+0)\nenter Data 1:1 (0+0)\nexit Data 1:18 (2+0)\nexit Paragraph 1:18 (2+0)\n";
+
+/// The choice of these: a cut after each so many virtual bytes, or none where there are none.
+pub fn choice(cut: usize, deep: bool, machine: Which, tab: TabSize) -> Choice
+    ensures { CanCut result }
+{
+    Choice {
+        cut: if cut > 0 { Some(cut) } else { None },
+        deep,
+        machine,
+        tab,
+    }
+}
 
 /// Whether this is written for a document.
 fn writes_as(alloc: Global, document: &[u8], choice: &Choice, want: &[u8]) -> bool
@@ -59,97 +83,65 @@ fn writes_as(alloc: Global, document: &[u8], choice: &Choice, want: &[u8]) -> bo
 }
 
 /// Whether this is written for a document, uncut and cut after each virtual byte or two.
-fn writes(alloc: Global, document: &[u8], machine: Which, deep: bool, want: &[u8]) -> bool {
-    let uncut = Choice {
-        cut: None,
-        deep,
-        machine,
-        tab: TabSize::default(),
+fn writes(
+    alloc: Global,
+    document: &[u8],
+    machine: Which,
+    deep: bool,
+    tab: usize,
+    want: &[u8],
+) -> bool {
+    let Some(tab) = TabSize::new(tab) else {
+        return false;
     };
-    let by_one = Choice {
-        cut: Some(1),
-        ..uncut
-    };
-    let by_two = Choice {
-        cut: Some(2),
-        ..uncut
-    };
-    writes_as(alloc, document, &uncut, want)
-        && writes_as(alloc, document, &by_one, want)
-        && writes_as(alloc, document, &by_two, want)
+    for cut in 0..3 {
+        if !writes_as(alloc, document, &choice(cut, deep, machine, tab), want) {
+            return false;
+        }
+    }
+    true
 }
 
-/// A document, the machine that reads it, whether its chunks are read too, and what is written.
-const WRITTEN: &[(&[u8], Which, bool, &[u8])] = &[
-    (b"a\r\nb", Which::Lines, false, TWO_LINES),
-    (b"", Which::Lines, false, b""),
-    (b"\ta", Which::Lines, false, AFTER_TAB),
-    (b"a\nb\nc", Which::Peek, false, THREE_DATA),
-    (b"ab", Which::Peek, false, SHORT_DATA),
-    (b"", Which::Peek, false, b""),
-    (b"abc", Which::Deep, false, ONE_DATA),
-    (b"ab", Which::Deep, false, SHORT_DATA),
-    (b"", Which::Deep, false, b""),
-    (b"a\nb\nc", Which::Back, false, FIRST_AND_REST),
-    (b"ab", Which::Back, false, SHORT_DATA),
-    (b"", Which::Back, false, b""),
-    (b"a\n> b", Which::Save, false, SECOND_LINE),
-    (b"a\n", Which::Save, false, b""),
-    (b"ab", Which::Save, false, b""),
-    (b"", Which::Save, false, b""),
-    (b">a\n>b", Which::Paragraphs, false, TWO_CHUNKS),
-    (b">a\n>b", Which::Paragraphs, true, TWO_LINES_OF_TEXT),
-    (b">a\r\n>b", Which::Paragraphs, true, TWO_LINES_WITH_CRLF),
-    (b"\na\n\nb", Which::Paragraphs, false, TWO_PARAGRAPHS),
-    (b"\na\n\nb", Which::Paragraphs, true, TWO_PARAGRAPHS_OF_TEXT),
-    (b"", Which::Paragraphs, true, b""),
-    (b">a\n>b", Which::Text, false, TWO_CHUNKS),
-    (b"`a\n>b`", Which::Text, true, CODE_OVER_TWO_LINES),
+/// A document, the machine that reads it, whether its chunks are read too, how far apart tab stops stand, and what is written.
+const WRITTEN: &[(&[u8], Which, bool, usize, &[u8])] = &[
+    (b"a\r\nb", Which::Lines, false, 4, TWO_LINES),
+    (b"", Which::Lines, false, 4, b""),
+    (b"\ta", Which::Lines, false, 4, AFTER_TAB),
+    (b"\ta", Which::Lines, false, 1, AFTER_TAB_OF_ONE),
+    (b"\ta", Which::Lines, false, 2, AFTER_TAB_OF_TWO),
+    (b"\ta", Which::Lines, false, 16, AFTER_TAB_OF_SIXTEEN),
+    (b"a\xc3\xa9\xff", Which::Lines, false, 4, FOUR_BYTES),
+    (b"a\nb\nc", Which::Peek, false, 4, THREE_DATA),
+    (b"", Which::Peek, false, 4, b""),
+    (b"abc", Which::Deep, false, 4, ONE_DATA),
+    (b"ab", Which::Deep, false, 4, SHORT_DATA),
+    (b"", Which::Deep, false, 4, b""),
+    (b"a\nb\nc", Which::Back, false, 4, FIRST_AND_REST),
+    (b"", Which::Back, false, 4, b""),
+    (b"a\n> b", Which::Save, false, 4, SECOND_LINE),
+    (b"a\n", Which::Save, false, 4, b""),
+    (b"", Which::Save, false, 4, b""),
+    (b">a\n>b", Which::Paragraphs, false, 4, TWO_CHUNKS),
+    (b">a\n>b", Which::Paragraphs, true, 4, TWO_LINES_OF_TEXT),
+    (b">a\r\n>b", Which::Paragraphs, true, 4, TWO_LINES_WITH_CRLF),
+    (b">\ta\n>\tb", Which::Paragraphs, true, 3, TWO_LINES_OF_TABS),
+    (b"\na\n\nb", Which::Paragraphs, false, 4, TWO_PARAGRAPHS),
+    (
+        b"\na\n\nb",
+        Which::Paragraphs,
+        true,
+        4,
+        TWO_PARAGRAPHS_OF_TEXT,
+    ),
+    (b"", Which::Paragraphs, true, 4, b""),
+    (b">a\n>b", Which::Text, false, 4, TWO_CHUNKS),
+    (b"`a\n>b`", Which::Text, true, 4, CODE_OVER_TWO_LINES),
 ];
 
 #[test]
 fn writes_the_events(rt: HostRuntime) {
-    for &(document, machine, deep, want) in WRITTEN {
-        assert!(rt; writes(rt.alloc(), document, machine, deep, want));
-    }
-}
-
-const AFTER_TAB_OF_TWO: &[u8] =
-    b"enter Paragraph 1:1 (0+0)\nenter Data 1:1 (0+0)\nexit Data 1:4 (2+0)\nexit Paragraph 1:4 (2+0)\n";
-
-const AFTER_TAB_OF_ONE: &[u8] =
-    b"enter Paragraph 1:1 (0+0)\nenter Data 1:1 (0+0)\nexit Data 1:3 (2+0)\nexit Paragraph 1:3 (2+0)\n";
-
-const AFTER_TAB_OF_SIXTEEN: &[u8] =
-    b"enter Paragraph 1:1 (0+0)\nenter Data 1:1 (0+0)\nexit Data 1:18 (2+0)\nexit Paragraph 1:18 (2+0)\n";
-
-/// Whether this is written for a tab and a byte, with tabs of this size, uncut and cut after each virtual byte.
-fn writes_with_tabs(alloc: Global, size: usize, want: &[u8]) -> bool {
-    let Some(tab) = TabSize::new(size) else {
-        return false;
-    };
-    let uncut = Choice {
-        cut: None,
-        deep: false,
-        machine: Which::Lines,
-        tab,
-    };
-    let by_one = Choice {
-        cut: Some(1),
-        ..uncut
-    };
-    writes_as(alloc, b"\ta", &uncut, want) && writes_as(alloc, b"\ta", &by_one, want)
-}
-
-#[test]
-fn tabs_have_the_chosen_size(rt: HostRuntime) {
-    for &(size, want) in &[
-        (1, AFTER_TAB_OF_ONE),
-        (2, AFTER_TAB_OF_TWO),
-        (4, AFTER_TAB),
-        (16, AFTER_TAB_OF_SIXTEEN),
-    ] {
-        assert!(rt; writes_with_tabs(rt.alloc(), size, want), "of size {size}");
+    for &(document, machine, deep, tab, want) in WRITTEN {
+        assert!(rt; writes(rt.alloc(), document, machine, deep, tab, want));
     }
 }
 
@@ -164,12 +156,12 @@ fn writes_long(
     let mut bytes = Vec::new(alloc);
     bytes.push(first)?;
     bytes.resize(count, b'a')?;
-    Ok(writes(alloc, bytes.as_slice(), machine, false, want))
+    Ok(writes(alloc, bytes.as_slice(), machine, false, 4, want))
 }
 
 /// The first byte of a document, how many bytes it has, the machine that reads it, and what is written.
 const LONG: &[(u8, usize, Which, &[u8])] = &[
-    (b'a', 100_000, Which::Lines, LONG_PARAGRAPH),
+    (b'a', 100_001, Which::Lines, LONG_PARAGRAPH),
     (b'a', 100_000, Which::Peek, LONG_DATA),
     (b'a', 2000, Which::Deep, DEEP_DATA),
     (b'a', 100_000, Which::Back, LONG_DATA),
@@ -185,72 +177,61 @@ fn writes_the_events_of_long_documents(rt: HostRuntime) -> Result<(), AllocError
     Ok(())
 }
 
-/// What is written for so many line endings.
-fn of_line_endings(alloc: Global, count: usize) -> Result<Vec<u8>, AllocError> {
+/// What is written for a line, so many times.
+fn of_lines(
+    alloc: Global,
+    line: &[u8],
+    count: usize,
+    choice: &Choice,
+) -> Result<Vec<u8>, AllocError>
+    requires { CanCut choice.now }
+{
     let mut document = Vec::new(alloc);
-    document.resize(count, b'\n')?;
+    for _ in 0..count {
+        document.extend_from_slice(line)?;
+    }
     let mut reader = document.as_slice();
     let mut written = Vec::new(alloc);
-    let uncut = Choice {
-        cut: None,
-        deep: false,
-        machine: Which::Lines,
-        tab: TabSize::default(),
-    };
-    match write_events(alloc, &mut reader, &mut written, &uncut) {
+    match write_events(alloc, &mut reader, &mut written, choice) {
         Ok(()) => Ok(written),
         Err(_) => Err(AllocError),
     }
 }
 
+/// A line, how many of it a document has, the machine that reads it, whether its chunks are read too, how many lines are written, and
+/// the first and the last of these.
+const MANY: &[(&[u8], usize, Which, bool, usize, &[u8], &[u8])] = &[
+    (
+        b"\n",
+        50_000,
+        Which::Lines,
+        false,
+        100_000,
+        b"enter LineEnding 1:1 (0+0)\n",
+        b"\nexit LineEnding 50001:1 (50000+0)\n",
+    ),
+    (
+        b">a\n",
+        3000,
+        Which::Paragraphs,
+        true,
+        18_002,
+        b"enter Paragraph 1:1 (0+0)\nenter BlockQuoteMarker 1:1 (0+0)\n",
+        b"\nexit LineEnding 3001:1 (9000+0)\nexit Paragraph 3001:1 (9000+0)\n",
+    ),
+];
+
 #[test]
 fn writes_the_events_of_many_lines(rt: HostRuntime) -> Result<(), AllocError> {
-    let written = of_line_endings(rt.alloc(), 50_000)?;
-    let written = written.as_slice();
-    let lines = written.iter().filter(|byte| **byte == b'\n').count();
-    assert_eq!(rt; lines, 100_000);
-    assert!(rt; written.starts_with(b"enter LineEnding 1:1 (0+0)\n"));
-    assert!(rt; written.ends_with(b"\nexit LineEnding 50001:1 (50000+0)\n"));
-    Ok(())
-}
-
-/// How many cuts there are if a text of so many bytes is cut after each, and the last one.
-fn cuts_by_one(alloc: Global, count: usize) -> Result<(usize, (usize, usize)), AllocError> {
-    let mut bytes = Vec::new(alloc);
-    bytes.resize(count, b'a')?;
-    if bytes.len() > 100_000 {
-        return Err(AllocError);
+    for &(line, count, machine, deep, lines, first, last) in MANY {
+        let choice = choice(0, deep, machine, TabSize::default());
+        let written = of_lines(rt.alloc(), line, count, &choice)?;
+        let written = written.as_slice();
+        assert_eq!(rt;
+            written.iter().filter(|byte| **byte == b'\n').count(),
+            lines
+        );
+        assert!(rt; written.starts_with(first) && written.ends_with(last));
     }
-    let cuts = cuts_every(alloc, bytes.as_slice(), TabSize::default(), 1)?;
-    Ok((cuts.len(), cuts.last().copied().unwrap_or((0, 0))))
-}
-
-#[test]
-fn many_cuts(rt: HostRuntime) -> Result<(), AllocError> {
-    let (count, last) = cuts_by_one(rt.alloc(), 100_000)?;
-    assert_eq!(rt; count, 99_999);
-    assert_eq!(rt; last, (99_999, 0));
-    Ok(())
-}
-
-/// The lines of a text that is cut before and behind the carriage return of a CR LF.
-fn cut_around_a_carriage_return(alloc: Global) -> Result<Vec<u8>, AllocError> {
-    let options = ParseOptions::default();
-    let parse_state = ParseState {
-        bytes: b"a\r\nb",
-        options: &options,
-        machine: &Lines {},
-    };
-    let cuts = [(1, 0), (2, 0)];
-    match run(alloc, &parse_state, Name::FlowStart, &cuts, false) {
-        Ok((events, _)) => lines_of(alloc, events.as_slice()),
-        Err(_) => Err(AllocError),
-    }
-}
-
-#[test]
-fn cuts_around_a_carriage_return_leave_no_trace(rt: HostRuntime) -> Result<(), AllocError> {
-    let written = cut_around_a_carriage_return(rt.alloc())?;
-    assert_eq!(rt; written.as_slice(), TWO_LINES);
     Ok(())
 }

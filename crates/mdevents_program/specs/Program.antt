@@ -29,7 +29,7 @@ use Rattle.mdconstructs.specs.Save.{save_rules}
 use Rattle.mdconstructs.specs.ChainTexts.{with_texts}
 use Rattle.mdconstructs.specs.TextRules.{text_rules}
 use Rattle.mdevents_program.specs.Printed.{printed_events}
-use Rattle.mdevents_program.specs.Reading.{IsWithinLimit}
+use Rattle.markdown.specs.Virtual.{IsWithinLimit}
 
 -- the default options, with tab stops at every `t` columns
 abbrev pub options_with : (t : ℕ) → ParseOptions

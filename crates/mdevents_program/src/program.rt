@@ -8,7 +8,8 @@ ghost use Rattle.markdown.specs.Engine.{IsRunRefused};
 ghost use Rattle.markdown.specs.Text.{IsDocument};
 ghost use Rattle.mdevents_program.specs.Program.{options_with, document, cut_places, Gives, GivesDeep, IsRefusedDeep, GivesUnready, HasChildren, HasRefusedChild, AreEventsOf, Prints, PrintsFront};
 ghost use Rattle.markdown.specs.Ready.{IsReady};
-ghost use Rattle.mdevents_program.specs.Reading.{IsWithinLimit, ReadsWithinLimit, ReadsPastLimit};
+ghost use Rattle.mdevents_program.specs.Reading.{ReadsWithinLimit, ReadsPastLimit};
+ghost use Rattle.markdown.specs.Virtual.{IsWithinLimit};
 ghost use Rattle.mdevents_program.specs.Arguments.{CanCut};
 
 use crate::arguments::{Choice, Which};
@@ -107,12 +108,11 @@ fn read_by<M: Machine>(
     ensures message { (m : _) → IsErrOf result (Failure.Message m) → IsRunRefused (document tab bytes.now) (M.rules machine.now) false start m }
     ensures ready { ¬ IsErrOf result Failure.NotReady }
     ensures cause { IfErr result IsOfMaking }
+    ensures document { IsDocument (document tab bytes.now) }
 {
     let options = options_with(tab);
-    let parse_state = ParseState {
-        bytes,
-        options: &options,
-        machine,
+    let Some(parse_state) = ParseState::new(bytes, &options, machine) else {
+        unreachable!();
     };
     match run(alloc, &parse_state, start, cuts, false) {
         Ok((events, _)) => Ok(events),
@@ -141,8 +141,6 @@ fn read_deep_by<M: Machine>(
     ensures cause { IfErr result IsOfMaking }
     ensures document { IsDocument (document tab bytes.now) }
 {
-    // Tab stops are apart, as the type of their size tells: that makes the document one that can be read.
-    let _ = tab.get();
     let events = read_by(alloc, machine, start, bytes, tab, cuts)?;
     with_children(alloc, machine, bytes, tab, events)
 }
@@ -166,10 +164,8 @@ fn with_children<M: Machine>(
         return Err(Failure::NotReady);
     }
     let options = options_with(tab);
-    let parse_state = ParseState {
-        bytes,
-        options: &options,
-        machine,
+    let Some(parse_state) = ParseState::new(bytes, &options, machine) else {
+        unreachable!();
     };
     match subtokenize(alloc, &mut events, &parse_state, Some(&Content::Text)) {
         Ok(_) => Ok(events),
@@ -186,7 +182,6 @@ fn cuts_of(alloc: Global, bytes: &[u8], choice: &Choice) -> Result<Vec<(usize, u
     ensures places { IfOk result (λ cuts. cuts.items ≡ cut_places choice.now bytes.now) }
     ensures cuts { IfOk result (λ cuts. AreCuts choice.now.tab bytes.now cuts.items) }
 {
-    let _ = choice.tab.get();
     match choice.cut {
         Some(n) => cuts_every(alloc, bytes, choice.tab, n),
         None => Ok(Vec::new(alloc)),

@@ -3,7 +3,8 @@
 ghost use Rattle.std.specs.Prelude.{◌≡◌, ◌≢◌, ◌↔◌, ◌+◌, ◌*◌, ◌^◌, ◌≤◌, ◌<◌, ℕ, List, ◌++◌, length, true, false, IfOk, IfErr, OnOk, OnErr, IsErrOf, Ok};
 ghost use Rattle.std.specs.Io.KnownBytes.{Consumes, IsAtEnd};
 ghost use Rattle.mdevents_program.specs.Failure.{IsOfReading};
-ghost use Rattle.mdevents_program.specs.Reading.{IsWithinLimit, ReadsWithinLimit, ReadsPastLimit};
+ghost use Rattle.mdevents_program.specs.Reading.{ReadsWithinLimit, ReadsPastLimit};
+ghost use Rattle.markdown.specs.Virtual.{IsWithinLimit};
 
 use crate::failure::Failure;
 use markdown::configuration::TabSize;

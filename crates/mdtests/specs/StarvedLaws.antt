@@ -1,8 +1,8 @@
 -- The table of the machine passes the test, so that the machine is lawful.
 use Rattle.std.proofs.Common.{◌≡◌, [], Option, Some, None, refl, true}
 use Rattle.mdconstructs.specs.PlainTables.{are_plain_states, IsPlainTable}
-use Rattle.mdconstructs.specs.RowTest.{misfits}
-use Rattle.mdconstructs_tables.proofs.Tables.Laws.{IsFit, no-falls}
+use Rattle.mdconstructs.specs.Misfits.{misfits}
+use Rattle.mdconstructs_tables.specs.Fitting.{IsFit}
 use Rattle.mdconstructs.specs.Tables.{LineByte, line_ending, other}
 use Rattle.mdtests.specs.Starved.{starved}
 
@@ -12,7 +12,7 @@ fits previous (Some line_ending) = refl
 fits previous (Some other) = refl
 
 pub starved-fit : IsFit starved
-starved-fit = record { fits = fits; paid = (tt, tt); falls = no-falls }
+starved-fit = record { fits = fits; paid = (tt, (tt, (tt, tt))); falls = (tt, (tt, (tt, tt))) }
 
 -- no state links or writes
 unlinked-rows : (previous current : Option LineByte) → are_plain_states starved.states previous current ≡ true

@@ -55,52 +55,27 @@ fn push_line(text: &mut String, line: Result<String, AllocError>) -> Result<(), 
     text.push('\n')
 }
 
-/// The printed forms of the end and of an exclamation mark, as a character and as a byte, a line for each.
-fn ends_and_marks(alloc: Global) -> Result<String, AllocError> {
-    let mut text = String::new(alloc);
-    push_line(&mut text, format_opt(alloc, None))?;
-    push_line(&mut text, format_opt(alloc, Some('!')))?;
-    push_line(&mut text, format_byte_opt(alloc, None))?;
-    push_line(&mut text, format_byte_opt(alloc, Some(b'!')))?;
-    Ok(text)
-}
-
-/// The printed forms of characters, a line for each.
-fn characters(alloc: Global, chars: &str) -> Result<String, AllocError> {
+/// The printed forms of characters and of bytes, of an exclamation mark that may be the end, and of the end, a line for each.
+fn printed(alloc: Global, chars: &str, bytes: &[u8]) -> Result<String, AllocError> {
     let mut text = String::new(alloc);
     for char in chars.chars() {
         push_line(&mut text, format(alloc, char))?;
     }
-    Ok(text)
-}
-
-/// The printed forms of bytes, a line for each.
-fn bytes(alloc: Global, bytes: &[u8]) -> Result<String, AllocError> {
-    let mut text = String::new(alloc);
     for byte in bytes {
         push_line(&mut text, format_byte(alloc, *byte))?;
     }
+    push_line(&mut text, format_opt(alloc, Some('!')))?;
+    push_line(&mut text, format_byte_opt(alloc, Some(b'!')))?;
+    push_line(&mut text, format_opt(alloc, None))?;
+    push_line(&mut text, format_byte_opt(alloc, None))?;
     Ok(text)
 }
 
 #[test]
 fn shows_characters_bytes_and_what_may_be_the_end(rt: HostRuntime) -> Result<(), AllocError> {
-    let want = "`!` (U+0021)\n\
-        U+0020\n\
-        `` ` `` (U+0060)\n\
-        `~` (U+007E)\n\
-        U+000A\n\
-        U+00E9\n\
-        U+10FFFF\n";
-    assert_shown(&rt, characters(rt.alloc(), "! `~\né\u{10ffff}"), want)?;
-    let want = "`!` (U+0021)\n\
-        U+0020\n\
-        `` ` `` (U+0060)\n\
-        U+00E9\n";
-    assert_shown(&rt, bytes(rt.alloc(), b"! `\xe9"), want)?;
-    let want = "end of file\n\
-        character `!` (U+0021)\n\
-        end of file\n\
-        byte `!` (U+0021)\n";
-    assert_shown(&rt, ends_and_marks(rt.alloc()), want)
+    let want = "`!` (U+0021)\nU+0020\n`` ` `` (U+0060)\n`~` (U+007E)\nU+000A\nU+00E9\nU+10FFFF\n\
+        `!` (U+0021)\nU+0020\n`` ` `` (U+0060)\nU+00E9\n\
+        character `!` (U+0021)\nbyte `!` (U+0021)\nend of file\nend of file\n";
+    let printed = printed(rt.alloc(), "! `~\né\u{10ffff}", b"! `\xe9");
+    assert_shown(&rt, printed, want)
 }

@@ -1,53 +1,63 @@
 //! Lists of events, as the tests of children write them.
 
-use crate::chunks::Row::{Chunk, Enter, Exit};
-use markdown::event::{Content, Event, Kind, Link, Name, Point};
+use crate::chunks::Row::{Chunk, Enter, Exit, Span};
+use crate::shown::at;
+use markdown::event::{Content, Event, Kind, Link, Name};
 use std::alloc::{AllocError, Global};
 
 /// Line, column, byte index, and number in a tab.
 pub(crate) type Place = (usize, usize, usize, usize);
 
-/// An event as tests write it.
+/// Events as tests write them.
 #[derive(Clone, Copy)]
 pub(crate) enum Row {
     /// An enter without a link.
     Enter(Name, Place),
     /// An exit.
     Exit(Name, Place),
-    /// The enter of a chunk of data, with the chunks before and behind it in its chain.
-    Chunk(Place, Content, Option<usize>, Option<usize>),
+    /// A span without others in it: its enter and its exit.
+    Span(Name, Place, Place),
+    /// A chunk of data, with the chunks before and behind it in its chain: its enter and its exit.
+    Chunk(Place, Place, Content, Option<usize>, Option<usize>),
 }
 
-/// The point of a place.
-fn point_of(place: Place) -> Point {
+/// The event of a kind, a name, a place and a link.
+fn event_at(kind: Kind, name: Name, place: Place, link: Option<Link>) -> Event {
     let (line, column, index, vs) = place;
-    Point {
-        line,
-        column,
-        index,
-        vs,
-    }
-}
-
-/// The event of a row.
-fn event_of(row: Row) -> Event {
-    let (kind, name, place, link) = match row {
-        Enter(name, place) => (Kind::Enter, name, place, None),
-        Exit(name, place) => (Kind::Exit, name, place, None),
-        Chunk(place, content, previous, next) => {
-            let link = Link {
-                previous,
-                next,
-                content,
-            };
-            (Kind::Enter, Name::Data, place, Some(link))
-        }
-    };
+    let point = at(line, column, index, vs);
     Event {
         kind,
         name,
-        point: point_of(place),
+        point,
         link,
+    }
+}
+
+/// The enter of a chunk.
+fn chunk_at(place: Place, content: Content, previous: Option<usize>, next: Option<usize>) -> Event {
+    let link = Link {
+        previous,
+        next,
+        content,
+    };
+    event_at(Kind::Enter, Name::Data, place, Some(link))
+}
+
+/// The first event of a row.
+fn first_of(row: Row) -> Event {
+    match row {
+        Enter(name, place) | Span(name, place, _) => event_at(Kind::Enter, name, place, None),
+        Exit(name, place) => event_at(Kind::Exit, name, place, None),
+        Chunk(place, _, content, previous, next) => chunk_at(place, content, previous, next),
+    }
+}
+
+/// The second event of a row, if it has one.
+fn second_of(row: Row) -> Option<Event> {
+    match row {
+        Span(name, _, end) => Some(event_at(Kind::Exit, name, end, None)),
+        Chunk(_, end, _, _, _) => Some(event_at(Kind::Exit, Name::Data, end, None)),
+        _ => None,
     }
 }
 
@@ -55,69 +65,64 @@ fn event_of(row: Row) -> Event {
 pub(crate) fn listed(alloc: Global, rows: &[Row]) -> Result<Vec<Event>, AllocError> {
     let mut events = Vec::new(alloc);
     for row in rows {
-        events.push(event_of(*row))?;
+        events.push(first_of(*row))?;
+        if let Some(event) = second_of(*row) {
+            events.push(event)?;
+        }
     }
     Ok(events)
 }
 
 /// `"ab"`, a byte a chunk, in one chain.
-pub(crate) const TWO_CHUNKS: [Row; 4] = [
-    Chunk((1, 1, 0, 0), Content::Text, None, Some(2)),
-    Exit(Name::Data, (1, 2, 1, 0)),
-    Chunk((1, 2, 1, 0), Content::Text, Some(0), None),
-    Exit(Name::Data, (1, 3, 2, 0)),
+pub(crate) const TWO_CHUNKS: [Row; 2] = [
+    Chunk((1, 1, 0, 0), (1, 2, 1, 0), Content::Text, None, Some(2)),
+    Chunk((1, 2, 1, 0), (1, 3, 2, 0), Content::Text, Some(0), None),
 ];
 
 /// A quoted paragraph of two lines.
-pub(crate) const QUOTE: [Row; 12] = [
+pub(crate) const QUOTE: [Row; 8] = [
     Enter(Name::BlockQuote, (1, 1, 0, 0)),
-    Enter(Name::BlockQuotePrefix, (1, 1, 0, 0)),
-    Exit(Name::BlockQuotePrefix, (1, 3, 2, 0)),
+    Span(Name::BlockQuotePrefix, (1, 1, 0, 0), (1, 3, 2, 0)),
     Enter(Name::Paragraph, (1, 3, 2, 0)),
-    Chunk((1, 3, 2, 0), Content::Text, None, Some(8)),
-    Exit(Name::Data, (2, 1, 4, 0)),
-    Enter(Name::BlockQuotePrefix, (2, 1, 4, 0)),
-    Exit(Name::BlockQuotePrefix, (2, 3, 6, 0)),
-    Chunk((2, 3, 6, 0), Content::Text, Some(4), None),
-    Exit(Name::Data, (2, 4, 7, 0)),
+    Chunk((1, 3, 2, 0), (2, 1, 4, 0), Content::Text, None, Some(8)),
+    Span(Name::BlockQuotePrefix, (2, 1, 4, 0), (2, 3, 6, 0)),
+    Chunk((2, 3, 6, 0), (2, 4, 7, 0), Content::Text, Some(4), None),
     Exit(Name::Paragraph, (2, 4, 7, 0)),
     Exit(Name::BlockQuote, (2, 4, 7, 0)),
 ];
 
 /// A paragraph of two lines in three chunks, the second of which has no text.
-pub(crate) const EMPTY_CHUNK: [Row; 8] = [
+pub(crate) const EMPTY_CHUNK: [Row; 5] = [
     Enter(Name::Paragraph, (1, 1, 0, 0)),
-    Chunk((1, 1, 0, 0), Content::Text, None, Some(3)),
-    Exit(Name::Data, (2, 1, 2, 0)),
-    Chunk((2, 1, 2, 0), Content::Text, Some(1), Some(5)),
-    Exit(Name::Data, (2, 1, 2, 0)),
-    Chunk((2, 1, 2, 0), Content::Text, Some(3), None),
-    Exit(Name::Data, (2, 2, 3, 0)),
+    Chunk((1, 1, 0, 0), (2, 1, 2, 0), Content::Text, None, Some(3)),
+    Chunk((2, 1, 2, 0), (2, 1, 2, 0), Content::Text, Some(1), Some(5)),
+    Chunk((2, 1, 2, 0), (2, 2, 3, 0), Content::Text, Some(3), None),
     Exit(Name::Paragraph, (2, 2, 3, 0)),
 ];
 
 /// A chain around another one, in `"ab\ncd"`.
-pub(crate) const CHAIN_AROUND_ANOTHER: [Row; 8] = [
-    Chunk((1, 1, 0, 0), Content::String, None, Some(6)),
-    Exit(Name::Data, (1, 2, 1, 0)),
-    Chunk((1, 2, 1, 0), Content::Text, None, Some(4)),
-    Exit(Name::Data, (2, 1, 3, 0)),
-    Chunk((2, 1, 3, 0), Content::Text, Some(2), None),
-    Exit(Name::Data, (2, 2, 4, 0)),
-    Chunk((2, 2, 4, 0), Content::String, Some(0), None),
-    Exit(Name::Data, (2, 3, 5, 0)),
+pub(crate) const CHAIN_AROUND_ANOTHER: [Row; 4] = [
+    Chunk((1, 1, 0, 0), (1, 2, 1, 0), Content::String, None, Some(6)),
+    Chunk((1, 2, 1, 0), (2, 1, 3, 0), Content::Text, None, Some(4)),
+    Chunk((2, 1, 3, 0), (2, 2, 4, 0), Content::Text, Some(2), None),
+    Chunk((2, 2, 4, 0), (2, 3, 5, 0), Content::String, Some(0), None),
 ];
 
 /// A chain around what another one became.
-pub(crate) const CHAIN_AROUND_CHILDREN: [Row; 10] = [
-    Chunk((1, 1, 0, 0), Content::String, None, Some(8)),
-    Exit(Name::Data, (1, 2, 1, 0)),
-    Enter(Name::Data, (1, 2, 1, 0)),
-    Exit(Name::Data, (1, 3, 2, 0)),
-    Enter(Name::LineEnding, (1, 3, 2, 0)),
-    Exit(Name::LineEnding, (2, 1, 3, 0)),
-    Enter(Name::Data, (2, 1, 3, 0)),
-    Exit(Name::Data, (2, 2, 4, 0)),
-    Chunk((2, 2, 4, 0), Content::String, Some(0), None),
-    Exit(Name::Data, (2, 3, 5, 0)),
+pub(crate) const CHAIN_AROUND_CHILDREN: [Row; 5] = [
+    Chunk((1, 1, 0, 0), (1, 2, 1, 0), Content::String, None, Some(8)),
+    Span(Name::Data, (1, 2, 1, 0), (1, 3, 2, 0)),
+    Span(Name::LineEnding, (1, 3, 2, 0), (2, 1, 3, 0)),
+    Span(Name::Data, (2, 1, 3, 0), (2, 2, 4, 0)),
+    Chunk((2, 2, 4, 0), (2, 3, 5, 0), Content::String, Some(0), None),
+];
+
+/// A list item of one line, `- a`.
+pub(crate) const ITEM: [Row; 6] = [
+    Enter(Name::ListItem, (1, 1, 0, 0)),
+    Span(Name::ListItemPrefix, (1, 1, 0, 0), (1, 3, 2, 0)),
+    Enter(Name::Paragraph, (1, 3, 2, 0)),
+    Chunk((1, 3, 2, 0), (1, 4, 3, 0), Content::Text, None, None),
+    Exit(Name::Paragraph, (1, 4, 3, 0)),
+    Exit(Name::ListItem, (1, 4, 3, 0)),
 ];

@@ -1,13 +1,14 @@
 //! A child's events in the place of the chunks that it was read from, with answers worked by hand.
 
+ghost use Rattle.markdown.specs.Virtual.{IsWithinLimit};
 ghost use Rattle.std.specs.Prelude.{◌≡◌, ◌+◌, ◌*◌, ◌^◌, ◌<◌, true, length, None, IfSome, IfOk, All};
 ghost use Rattle.markdown.specs.Events.{EndsBelow};
 ghost use Rattle.markdown.specs.Edits.{AreDisjoint};
 ghost use Rattle.markdown.specs.Chains.{begins};
 ghost use Rattle.markdown.specs.ChildrenLaws.{HasEndsWithin};
 
-use crate::chunks::Row::{Chunk, Enter, Exit};
-use crate::chunks::{EMPTY_CHUNK, QUOTE, Row, listed};
+use crate::chunks::Row::{Chunk, Span};
+use crate::chunks::{QUOTE, Row, listed};
 use crate::shown::{assert_shown, shown};
 use markdown::configuration::TabSize;
 use markdown::event::{Content, Event, Name};
@@ -66,7 +67,7 @@ fn edits_of(
     index: usize,
     child: &mut Vec<Event>,
 ) -> Result<Option<((usize, usize), EditMap)>, AllocError>
-    requires limit { 4 * length bytes.now + 1 < 2 ^ 64 }
+    requires limit { IsWithinLimit 4 bytes.now }
     ensures { IfOk result (λ o. IfSome o (λ r. AreDisjoint 0 r.1 (length events.now) × All (EndsBelow (length events.now)) events.now)) }
 {
     let tab_size = TabSize::default();
@@ -98,7 +99,7 @@ fn put(
     index: usize,
     child: &[Row],
 ) -> Result<String, AllocError>
-    requires limit { 4 * length bytes.now + 1 < 2 ^ 64 }
+    requires limit { IsWithinLimit 4 bytes.now }
 {
     let mut events = listed(alloc, list)?;
     let mut child = listed(alloc, child)?;
@@ -116,7 +117,7 @@ fn put_in(
     index: usize,
     child: &mut Vec<Event>,
 ) -> Result<String, AllocError>
-    requires limit { 4 * length bytes.now + 1 < 2 ^ 64 }
+    requires limit { IsWithinLimit 4 bytes.now }
 {
     match edits_of(alloc, events.as_slice(), bytes, index, child)? {
         None => String::from_str(alloc, "not ready"),
@@ -140,52 +141,31 @@ fn told(
 }
 
 /// `"a\nb\nc"`, a line a chunk, in one chain.
-const THREE_LINES: [Row; 6] = [
-    Chunk((1, 1, 0, 0), Content::Text, None, Some(2)),
-    Exit(Name::Data, (2, 1, 2, 0)),
-    Chunk((2, 1, 2, 0), Content::Text, Some(0), Some(4)),
-    Exit(Name::Data, (3, 1, 4, 0)),
-    Chunk((3, 1, 4, 0), Content::Text, Some(2), None),
-    Exit(Name::Data, (3, 2, 5, 0)),
+const THREE_LINES: [Row; 3] = [
+    Chunk((1, 1, 0, 0), (2, 1, 2, 0), Content::Text, None, Some(2)),
+    Chunk((2, 1, 2, 0), (3, 1, 4, 0), Content::Text, Some(0), Some(4)),
+    Chunk((3, 1, 4, 0), (3, 2, 5, 0), Content::Text, Some(2), None),
 ];
 
 /// Data over all three lines.
-const ONE_DATA: [Row; 2] = [
-    Enter(Name::Data, (1, 1, 0, 0)),
-    Exit(Name::Data, (3, 2, 5, 0)),
-];
+const ONE_DATA: [Row; 1] = [Span(Name::Data, (1, 1, 0, 0), (3, 2, 5, 0))];
 
 /// Two lines of data, which are linked.
-const LINKED_DATA: [Row; 6] = [
-    Chunk((1, 3, 2, 0), Content::String, None, Some(4)),
-    Exit(Name::Data, (1, 4, 3, 0)),
-    Enter(Name::LineEnding, (1, 4, 3, 0)),
-    Exit(Name::LineEnding, (2, 1, 4, 0)),
-    Chunk((2, 3, 6, 0), Content::String, Some(0), None),
-    Exit(Name::Data, (2, 4, 7, 0)),
+const LINKED_DATA: [Row; 3] = [
+    Chunk((1, 3, 2, 0), (1, 4, 3, 0), Content::String, None, Some(4)),
+    Span(Name::LineEnding, (1, 4, 3, 0), (2, 1, 4, 0)),
+    Chunk((2, 3, 6, 0), (2, 4, 7, 0), Content::String, Some(0), None),
 ];
 
-/// Two lines of data.
-const TWO_DATA: [Row; 6] = [
-    Enter(Name::Data, (1, 1, 0, 0)),
-    Exit(Name::Data, (1, 2, 1, 0)),
-    Enter(Name::LineEnding, (1, 2, 1, 0)),
-    Exit(Name::LineEnding, (2, 1, 2, 0)),
-    Enter(Name::Data, (2, 1, 2, 0)),
-    Exit(Name::Data, (2, 2, 3, 0)),
-];
-
-/// A list, its document, where the chain begins, its child, and what comes of them: a chunk without events becomes nothing;
-/// links of a child lead to their places; an empty chunk gets no event.
+/// A list, its document, where the chain begins, its child, and what comes of them: a chunk without events becomes nothing,
+/// and links of a child lead to their places.
 const PUT: &[(&[Row], &[u8], usize, &[Row], &str)] = &[
     (
         &THREE_LINES,
         b"a\nb\nc",
         0,
         &ONE_DATA,
-        "removed 6, added 2, left 0\n\
-        enter Data 1:1 (0+0)\n\
-        exit Data 3:2 (5+0)\n",
+        "removed 6, added 2, left 0\nData 1:1 (0+0) to 3:2 (5+0)",
     ),
     (
         &QUOTE,
@@ -193,35 +173,10 @@ const PUT: &[(&[Row], &[u8], usize, &[Row], &str)] = &[
         4,
         &LINKED_DATA,
         "removed 4, added 6, left 0\n\
-        enter BlockQuote 1:1 (0+0)\n\
-        enter BlockQuotePrefix 1:1 (0+0)\n\
-        exit BlockQuotePrefix 1:3 (2+0)\n\
-        enter Paragraph 1:3 (2+0)\n\
-        enter Data 1:3 (2+0) String None Some(10)\n\
-        exit Data 1:4 (3+0)\n\
-        enter LineEnding 1:4 (3+0)\n\
-        exit LineEnding 2:1 (4+0)\n\
-        enter BlockQuotePrefix 2:1 (4+0)\n\
-        exit BlockQuotePrefix 2:3 (6+0)\n\
-        enter Data 2:3 (6+0) String Some(4) None\n\
-        exit Data 2:4 (7+0)\n\
-        exit Paragraph 2:4 (7+0)\n\
-        exit BlockQuote 2:4 (7+0)\n",
-    ),
-    (
-        &EMPTY_CHUNK,
-        b"a\nb",
-        1,
-        &TWO_DATA,
-        "removed 6, added 6, left 0\n\
-        enter Paragraph 1:1 (0+0)\n\
-        enter Data 1:1 (0+0)\n\
-        exit Data 1:2 (1+0)\n\
-        enter LineEnding 1:2 (1+0)\n\
-        exit LineEnding 2:1 (2+0)\n\
-        enter Data 2:1 (2+0)\n\
-        exit Data 2:2 (3+0)\n\
-        exit Paragraph 2:2 (3+0)\n",
+            enter BlockQuote 1:1 (0+0); BlockQuotePrefix 1:1 (0+0) to 1:3 (2+0); enter Paragraph 1:3 (2+0); \
+            Data 1:3 (2+0) String None Some(10) to 1:4 (3+0); LineEnding 1:4 (3+0) to 2:1 (4+0); \
+            BlockQuotePrefix 2:1 (4+0) to 2:3 (6+0); Data 2:3 (6+0) String Some(4) None to 2:4 (7+0); \
+            exit Paragraph 2:4 (7+0); exit BlockQuote 2:4 (7+0)",
     ),
 ];
 

@@ -4,9 +4,9 @@ ghost use Rattle.std.specs.Prelude.{◌≡◌, ◌+◌, ◌*◌, ◌^◌, ◌<�
 ghost use Rattle.markdown.specs.Virtual.{point};
 ghost use Rattle.markdown.specs.Configuration.{start_seen};
 ghost use Rattle.markdown.specs.Engine.{AreCuts, CanPush, HoldsOf, IsPushed, given_of};
-ghost use Rattle.markdown.specs.Text.{empty_text};
+ghost use Rattle.markdown.specs.Text.{IsDocument, empty_text};
 
-use crate::shown::{push_answer, push_lines};
+use crate::shown::{push_answer, push_events};
 use markdown::event::Point;
 use markdown::parser::ParseState;
 use markdown::state::{Machine, Name, State};
@@ -14,25 +14,23 @@ use markdown::subtokenize::Subresult;
 use markdown::tokenizer::{Fault, Tokenizer};
 use std::alloc::{AllocError, Global};
 
-/// Reads a document, cut at one place: pushes a range up to it and one up to the end, flushes, and pushes once more. Appends
-/// what was returned, a line for each call, and how the tokenizer was left: whether these resolvers are registered, and the events.
+/// Reads a document, cut at one place: pushes a range up to it and one up to the end, flushes, and pushes once more. Returns
+/// what was answered, a line for each call, and how the tokenizer was left: whether these resolvers are registered, and the events.
 pub fn read<M: Machine>(
     alloc: Global,
-    text: &mut String,
     parse_state: &ParseState<M>,
     start: Name,
     cut: (usize, usize),
     resolve: bool,
     resolvers: &[M::Resolver],
-) -> Result<(), AllocError>
-    requires limit { parse_state.now.options.now.tab_size * length parse_state.now.bytes.now + 1 < 2 ^ 64 }
+) -> Result<String, AllocError>
     requires start { Contains (M.rules parse_state.now.machine.now (given_of parse_state.now)).starts start }
     requires cut { AreCuts parse_state.now.options.now.tab_size parse_state.now.bytes.now (cut ∷ []) }
 {
-    let _ = parse_state.options.tab_size.get();
+    let mut text = String::new(alloc);
     let mut tokenizer = Tokenizer::new(alloc, Point::START, parse_state);
     let read = read_new(
-        text,
+        &mut text,
         &mut tokenizer,
         parse_state,
         start,
@@ -41,7 +39,8 @@ pub fn read<M: Machine>(
         resolvers,
     );
     drop(tokenizer);
-    read
+    read?;
+    Ok(text)
 }
 
 /// Reads a document by a tokenizer that has read nothing. What owns no tokenizer is proved in less time.
@@ -55,12 +54,10 @@ fn read_new<M: Machine>(
     resolvers: &[M::Resolver],
 ) -> Result<(), AllocError>
     requires begins { tokenizer.old ≡ start_seen (given_of parse_state.now) parse_state.now.machine.now (empty_text (point 1 1 0 0)) }
-    requires bytes { All (λ b. b < 256) parse_state.now.bytes.now }
-    requires limit { parse_state.now.options.now.tab_size * length parse_state.now.bytes.now + 1 < 2 ^ 64 }
+    requires document { IsDocument (given_of parse_state.now) }
     requires start { Contains (M.rules parse_state.now.machine.now (given_of parse_state.now)).starts start }
     requires cut { AreCuts parse_state.now.options.now.tab_size parse_state.now.bytes.now (cut ∷ []) }
 {
-    let _ = parse_state.options.tab_size.get();
     let first = push_shown(text, tokenizer, (0, 0), cut, State::Next(start), start)?;
     let end = (parse_state.bytes.len(), 0);
     let second = push_shown(text, tokenizer, cut, end, first, start)?;
@@ -109,7 +106,7 @@ fn push_end<M: Machine>(
     }
     let same = tokenizer.resolvers() == resolvers;
     writeln!(text, "these resolvers: {same}")?;
-    push_lines(text, tokenizer.events())
+    push_events(text, tokenizer.events())
 }
 
 /// Pushes after a tokenizer was flushed, and appends what is returned.

@@ -4,8 +4,8 @@ ghost use Rattle.markdown.specs.Edits.{AreDisjoint};
 ghost use Rattle.markdown.specs.Events.{EndsBelow};
 ghost use Rattle.std.specs.Prelude.{◌≡◌, ◌*◌, ◌^◌, ◌<◌, length, All, None, IfOk, IfSome};
 
-use crate::shown::{assert_shown, shown};
-use markdown::event::{Content, Event, Kind, Link, Name, Point};
+use crate::shown::{assert_shown, at, shown};
+use markdown::event::{Content, Event, Kind, Link, Name};
 use markdown::util::edit_map::EditMap;
 use std::alloc::{AllocError, Global};
 
@@ -13,16 +13,10 @@ use std::alloc::{AllocError, Global};
 fn event_at(column: usize) -> Event
     ensures { result.link ≡ None }
 {
-    let point = Point {
-        line: 1,
-        column,
-        index: 0,
-        vs: 0,
-    };
     Event {
         kind: Kind::Enter,
         name: Name::Data,
-        point,
+        point: at(1, column, 0, 0),
         link: None,
     }
 }
@@ -102,31 +96,12 @@ fn added_at_end(alloc: Global) -> Result<Vec<Event>, AllocError> {
     Ok(events)
 }
 
-/// An edit that is none, alone.
-fn edited_by_nothing(alloc: Global) -> Result<Vec<Event>, AllocError> {
+/// An addition in front of fifty that are there.
+fn added_in_front_of_many(alloc: Global) -> Result<Vec<Event>, AllocError> {
     let mut events = Vec::from_array(alloc, [event_at(1), event_at(2)])?;
     let mut map = EditMap::new(alloc);
-    map.add(0, 0, Vec::new(alloc))?;
-    map.consume(&mut events)?;
-    Ok(events)
-}
-
-/// Two removals at one index, and an addition in front at an index that has no edit.
-fn removed_twice(alloc: Global) -> Result<Vec<Event>, AllocError> {
-    let mut events = Vec::from_array(alloc, [event_at(1), event_at(2), event_at(3), event_at(4)])?;
-    let mut map = EditMap::new(alloc);
-    map.add(1, 1, vec![in alloc; event_at(91)]?)?;
-    map.add(1, 1, vec![in alloc; event_at(92)]?)?;
-    map.add_before(4, 0, vec![in alloc; event_at(93)]?)?;
-    map.consume(&mut events)?;
-    Ok(events)
-}
-
-/// An addition to a list that has no events.
-fn added_to_nothing(alloc: Global) -> Result<Vec<Event>, AllocError> {
-    let mut events = Vec::new(alloc);
-    let mut map = EditMap::new(alloc);
-    map.add_before(0, 0, vec![in alloc; event_at(91)]?)?;
+    map.add(1, 0, Vec::from_array(alloc, [event_at(9); 50])?)?;
+    map.add_before(1, 0, vec![in alloc; event_at(8)]?)?;
     map.consume(&mut events)?;
     Ok(events)
 }
@@ -137,9 +112,9 @@ fn small_edits_are_made(rt: HostRuntime) -> Result<(), AllocError> {
     let made = edits_at_one_index(alloc);
     assert_shown(&rt, columns(alloc, made), "1 2 93 91 92 5 6 ")?;
     assert_shown(&rt, columns(alloc, added_at_end(alloc)), "1 2 91 ")?;
-    assert_shown(&rt, columns(alloc, edited_by_nothing(alloc)), "1 2 ")?;
-    assert_shown(&rt, columns(alloc, removed_twice(alloc)), "1 91 92 4 93 ")?;
-    assert_shown(&rt, columns(alloc, added_to_nothing(alloc)), "91 ")
+    let many =
+        "1 8 9 9 9 9 9 9 9 9 9 9 9 9 9 9 9 9 9 9 9 9 9 9 9 9 9 9 9 9 9 9 9 9 9 9 9 9 9 9 9 9 9 9 9 9 9 9 9 9 9 9 2 ";
+    assert_shown(&rt, columns(alloc, added_in_front_of_many(alloc)), many)
 }
 
 /// Two chains, one within the stretch of the other, with two events added in front of most.
@@ -165,15 +140,7 @@ fn chains_moved(alloc: Global) -> Result<Vec<Event>, AllocError> {
 
 /// Two chunks in a chain, the second of which goes.
 fn end_removed(alloc: Global) -> Result<Vec<Event>, AllocError> {
-    let mut events = Vec::from_array(
-        alloc,
-        [
-            linked(None, Some(2)),
-            event_at(2),
-            linked(Some(0), None),
-            event_at(4),
-        ],
-    )?;
+    let mut events = chain(alloc, 2)?;
     let mut map = EditMap::new(alloc);
     map.add(2, 2, Vec::new(alloc))?;
     map.consume(&mut events)?;
@@ -188,41 +155,14 @@ fn lines(alloc: Global, made: Result<Vec<Event>, AllocError>) -> Result<String, 
 /// Chains are moved, though they interleave; an end that is removed is none.
 #[test]
 fn ends_of_links_are_moved_or_removed(rt: HostRuntime) -> Result<(), AllocError> {
-    let want = "enter Data 1:1 (0+0) Text None Some(6)\n\
-        enter Data 1:91 (0+0)\n\
-        enter Data 1:92 (0+0)\n\
-        enter Data 1:2 (0+0)\n\
-        enter Data 1:1 (0+0) Text None Some(8)\n\
-        enter Data 1:4 (0+0)\n\
-        enter Data 1:1 (0+0) Text Some(0) None\n\
-        enter Data 1:6 (0+0)\n\
-        enter Data 1:1 (0+0) Text Some(4) None\n\
-        enter Data 1:8 (0+0)\n";
+    let want =
+        "enter Data 1:1 (0+0) Text None Some(6); enter Data 1:91 (0+0); enter Data 1:92 (0+0); \
+        enter Data 1:2 (0+0); enter Data 1:1 (0+0) Text None Some(8); enter Data 1:4 (0+0); \
+        enter Data 1:1 (0+0) Text Some(0) None; enter Data 1:6 (0+0); enter Data 1:1 (0+0) Text Some(4) None; \
+        enter Data 1:8 (0+0)";
     assert_shown(&rt, lines(rt.alloc(), chains_moved(rt.alloc())), want)?;
-    let want = "enter Data 1:1 (0+0) Text None None\n\
-        enter Data 1:2 (0+0)\n";
+    let want = "enter Data 1:1 (0+0) Text None None; enter Data 1:2 (0+0)";
     assert_shown(&rt, lines(rt.alloc(), end_removed(rt.alloc())), want)
-}
-
-/// Two events are added in front of each of a thousand, by an edit of its own.
-fn each_edited(alloc: Global) -> Result<Vec<Event>, AllocError> {
-    let mut events = Vec::new(alloc);
-    let mut map = EditMap::new(alloc);
-    for index in 0..1000 {
-        events.push(event_at(1))?;
-        map.add(index, 0, vec![in alloc; event_at(91), event_at(92)]?)?;
-    }
-    map.consume(&mut events)?;
-    Ok(events)
-}
-
-#[test]
-fn thousand_edits_are_made(rt: HostRuntime) {
-    let events = each_edited(rt.alloc()).expect(&rt, "memory");
-    assert!(rt; events.len() == 3000);
-    for (index, event) in events.iter().enumerate() {
-        assert!(rt; event.point.column == [91, 92, 1][index % 3]);
-    }
 }
 
 /// The enter of the span before span k.

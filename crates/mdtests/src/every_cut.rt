@@ -1,21 +1,24 @@
-//! Short documents with tabs of 1, 3, 4 and 16 columns, cut at every place and at every two places: what is read does not
-//! show the cuts.
+//! Short documents, cut at every place and at every two places: what is read does not show the cuts.
 
+ghost use Rattle.markdown.specs.Virtual.{IsWithinLimit};
 ghost use Rattle.std.specs.Prelude.{◌+◌, ◌*◌, ◌^◌, ◌<◌, length, Contains};
 ghost use Rattle.mdtests.specs.Documents.{given_in_tabs};
 
-use crate::pushed::{Seen, read_cut_with};
+use crate::pushed::{Seen, read_cut};
 use markdown::configuration::TabSize;
 use markdown::state::{Machine, Name};
 use markdown::tokenizer::point_at;
-use mdconstructs::{Back, Deep, Lines, Paragraphs, Peek, Save};
+use mdconstructs::{Back, Deep, Lines, Paragraphs, Peek, Save, Text};
 use std::alloc::{AllocError, Global};
+
+/// Where a document is cut.
+type Cuts = Vec<(usize, usize)>;
 
 /// How many readings were compared with the uncut one, and how many of them gave other events, or took more calls or fewer.
 #[derive(Clone, Copy)]
-pub struct Compared {
-    pub all: usize,
-    pub other: usize,
+struct Compared {
+    all: usize,
+    other: usize,
 }
 
 /// One more reading is compared.
@@ -27,9 +30,9 @@ fn compare(compared: Compared, seen: &Seen, uncut: &Seen) -> Compared {
     }
 }
 
-/// The places of a document.
-fn places(alloc: Global, bytes: &[u8], tab: TabSize) -> Result<Vec<(usize, usize)>, AllocError>
-    requires limit { tab * length bytes.now + 1 < 2 ^ 64 }
+/// The places of a document, in order.
+fn places(alloc: Global, bytes: &[u8], tab: TabSize) -> Result<Cuts, AllocError>
+    requires limit { IsWithinLimit tab bytes.now }
 {
     let t = tab.get();
     let mut places = Vec::new(alloc);
@@ -42,232 +45,166 @@ fn places(alloc: Global, bytes: &[u8], tab: TabSize) -> Result<Vec<(usize, usize
     Ok(places)
 }
 
-/// The cut after another one, if there is one.
-fn cut_after(
+/// Each cut at one of these places, and if it is to be cut twice at each two of them, in order.
+fn lists_of(
     alloc: Global,
-    first: Option<(usize, usize)>,
-    second: (usize, usize),
-) -> Result<Vec<(usize, usize)>, AllocError> {
-    let mut cuts = Vec::new(alloc);
-    if let Some(first) = first {
-        cuts.push(first)?;
-    }
-    cuts.push(second)?;
-    Ok(cuts)
-}
-
-/// Compares the reading of a document cut at these places with the uncut one, if it has these places in this order.
-fn compare_cut<M: Machine>(
-    alloc: Global,
-    machine: &M,
-    start: Name,
-    bytes: &[u8],
-    tab: TabSize,
-    cuts: &[(usize, usize)],
-    uncut: &Seen,
-    compared: Compared,
-) -> Compared
-    requires limit { tab * length bytes.now + 1 < 2 ^ 64 }
-    requires start { Contains (M.rules machine.now (given_in_tabs tab bytes.now)).starts start }
-{
-    match read_cut_with(alloc, machine, start, bytes, tab, cuts) {
-        Some(seen) => compare(compared, &seen, uncut),
-        None => compared,
-    }
-}
-
-/// Compares the readings of a document cut at a place, if there is one, and then at each other one, with the uncut one.
-fn compare_cuts<M: Machine>(
-    alloc: Global,
-    machine: &M,
-    start: Name,
-    bytes: &[u8],
-    tab: TabSize,
-    first: Option<(usize, usize)>,
-    uncut: &Seen,
-    compared: Compared,
-) -> Result<Compared, AllocError>
-    requires limit { tab * length bytes.now + 1 < 2 ^ 64 }
-    requires start { Contains (M.rules machine.now (given_in_tabs tab bytes.now)).starts start }
-{
-    let mut compared = compared;
-    let places = places(alloc, bytes, tab)?;
-    for second in places.as_slice() {
-        let cuts = cut_after(alloc, first, *second)?;
-        compared = compare_cut(
-            alloc,
-            machine,
-            start,
-            bytes,
-            tab,
-            cuts.as_slice(),
-            uncut,
-            compared,
-        );
-    }
-    Ok(compared)
-}
-
-/// Compares the readings of a document cut at two places with the uncut one.
-fn compare_cuts_twice<M: Machine>(
-    alloc: Global,
-    machine: &M,
-    start: Name,
-    bytes: &[u8],
-    tab: TabSize,
-    uncut: &Seen,
-    compared: Compared,
-) -> Result<Compared, AllocError>
-    requires limit { tab * length bytes.now + 1 < 2 ^ 64 }
-    requires start { Contains (M.rules machine.now (given_in_tabs tab bytes.now)).starts start }
-{
-    let mut compared = compared;
-    let places = places(alloc, bytes, tab)?;
-    for first in places.as_slice() {
-        compared = compare_cuts(
-            alloc,
-            machine,
-            start,
-            bytes,
-            tab,
-            Some(*first),
-            uncut,
-            compared,
-        )?;
-    }
-    Ok(compared)
-}
-
-/// Reads a document cut at every place, and if it is to be cut twice at every two places in order, and compares each reading
-/// with the uncut one.
-pub fn compare_readings<M: Machine>(
-    alloc: Global,
-    machine: &M,
-    start: Name,
-    bytes: &[u8],
-    tab: TabSize,
+    places: &[(usize, usize)],
     twice: bool,
-    compared: Compared,
+) -> Result<Vec<Cuts>, AllocError> {
+    let mut lists = Vec::new(alloc);
+    for (index, first) in places.iter().enumerate() {
+        lists.push(Vec::from_array(alloc, [*first])?)?;
+        let behind = if twice { places.len() } else { 0 };
+        for second in places.iter().take(behind).skip(index) {
+            lists.push(Vec::from_array(alloc, [*first, *second])?)?;
+        }
+    }
+    Ok(lists)
+}
+
+/// Compares the readings of a document cut at the places of each list with the uncut one.
+fn compare_readings<M: Machine>(
+    alloc: Global,
+    machine: &M,
+    start: Name,
+    bytes: &[u8],
+    tab: TabSize,
+    lists: &[Cuts],
+    mut compared: Compared,
 ) -> Result<Compared, AllocError>
-    requires limit { tab * length bytes.now + 1 < 2 ^ 64 }
+    requires limit { IsWithinLimit tab bytes.now }
     requires start { Contains (M.rules machine.now (given_in_tabs tab bytes.now)).starts start }
 {
-    let Some(uncut) = read_cut_with(alloc, machine, start, bytes, tab, &[]) else {
+    let Some(uncut) = read_cut(alloc, machine, start, bytes, tab, &[]) else {
         return Err(AllocError);
     };
-    let compared = compare_cuts(alloc, machine, start, bytes, tab, None, &uncut, compared)?;
-    if twice {
-        compare_cuts_twice(alloc, machine, start, bytes, tab, &uncut, compared)
-    } else {
-        Ok(compared)
+    for cuts in lists {
+        let Some(seen) = read_cut(alloc, machine, start, bytes, tab, cuts.as_slice()) else {
+            return Err(AllocError);
+        };
+        compared = compare(compared, &seen, &uncut);
     }
+    Ok(compared)
 }
 
-/// The document of a number: its digits to the base 4, the lowest first, as `a`, tab, CR and LF.
-fn document_of(alloc: Global, size: usize, number: usize) -> Result<Vec<u8>, AllocError> {
-    let alphabet = [b'a', b'\t', b'\r', b'\n'];
+/// Compares the readings of a document by the machine of texts from both starts, or by each other machine.
+fn compare_machines(
+    alloc: Global,
+    text: bool,
+    bytes: &[u8],
+    tab: TabSize,
+    lists: &[Cuts],
+    c: Compared,
+) -> Result<Compared, AllocError>
+    requires limit { IsWithinLimit tab bytes.now }
+{
+    if text {
+        let c = compare_readings(alloc, &Text {}, Name::FlowStart, bytes, tab, lists, c)?;
+        return compare_readings(alloc, &Text {}, Name::TextStart, bytes, tab, lists, c);
+    }
+    let c = compare_readings(alloc, &Lines {}, Name::FlowStart, bytes, tab, lists, c)?;
+    let c = compare_readings(alloc, &Paragraphs {}, Name::FlowStart, bytes, tab, lists, c)?;
+    let c = compare_readings(alloc, &Paragraphs {}, Name::TextStart, bytes, tab, lists, c)?;
+    let c = compare_readings(alloc, &Peek {}, Name::TextStart, bytes, tab, lists, c)?;
+    let c = compare_readings(alloc, &Deep {}, Name::StringStart, bytes, tab, lists, c)?;
+    let c = compare_readings(alloc, &Back {}, Name::TextStart, bytes, tab, lists, c)?;
+    compare_readings(alloc, &Save {}, Name::TextStart, bytes, tab, lists, c)
+}
+
+/// The document of a number: its digits to the base 5, the lowest first, as `a`, a backtick, `<`, a backslash and LF, for the
+/// machine of texts; and else to the base 4, as `a`, tab, CR and LF.
+fn document_of(
+    alloc: Global,
+    text: bool,
+    size: usize,
+    number: usize,
+) -> Result<Vec<u8>, AllocError> {
     let mut bytes = Vec::new(alloc);
     let mut rest = number;
     for _ in 0..size {
-        bytes.push(alphabet[rest % 4])?;
-        rest /= 4;
+        if text {
+            bytes.push([b'a', b'`', b'<', b'\\', b'\n'][rest % 5])?;
+            rest /= 5;
+        } else {
+            bytes.push([b'a', b'\t', b'\r', b'\n'][rest % 4])?;
+            rest /= 4;
+        }
     }
     Ok(bytes)
 }
 
-/// Compares the readings of a document by each machine.
-fn compare_machines(
-    alloc: Global,
-    bytes: &[u8],
-    tab: TabSize,
-    twice: bool,
-    c: Compared,
-) -> Result<Compared, AllocError>
-    requires limit { tab * length bytes.now + 1 < 2 ^ 64 }
-{
-    let c = compare_readings(alloc, &Lines {}, Name::FlowStart, bytes, tab, twice, c)?;
-    let c = compare_readings(alloc, &Paragraphs {}, Name::FlowStart, bytes, tab, twice, c)?;
-    let c = compare_readings(alloc, &Paragraphs {}, Name::TextStart, bytes, tab, twice, c)?;
-    let c = compare_readings(alloc, &Peek {}, Name::TextStart, bytes, tab, twice, c)?;
-    let c = compare_readings(alloc, &Deep {}, Name::StringStart, bytes, tab, twice, c)?;
-    let c = compare_readings(alloc, &Back {}, Name::TextStart, bytes, tab, twice, c)?;
-    compare_readings(alloc, &Save {}, Name::TextStart, bytes, tab, twice, c)
-}
-
-/// Compares the readings of the document of a size and a number.
+/// Compares the readings of the document of a size and a number, which is cut twice if it has less than four bytes.
 fn compare_document(
     alloc: Global,
+    text: bool,
+    tab: TabSize,
     size: usize,
     number: usize,
-    tab: TabSize,
-    twice: bool,
     compared: Compared,
 ) -> Result<Compared, AllocError> {
-    let document = document_of(alloc, size, number)?;
+    let document = document_of(alloc, text, size, number)?;
+    let bytes = document.as_slice();
     let _ = tab.get();
-    if document.len() > 4 {
+    if bytes.len() > 4 {
         return Err(AllocError);
     }
-    compare_machines(alloc, document.as_slice(), tab, twice, compared)
+    let places = places(alloc, bytes, tab)?;
+    let lists = lists_of(alloc, places.as_slice(), size < 4)?;
+    compare_machines(alloc, text, bytes, tab, lists.as_slice(), compared)
 }
-
-/// Compares the readings of all documents of some size, over these four bytes, by each machine.
-fn compare_all(
-    alloc: Global,
-    size: usize,
-    count: usize,
-    tab: TabSize,
-    twice: bool,
-) -> Result<Compared, AllocError> {
-    let mut compared = Compared { all: 0, other: 0 };
-    for number in 0..count {
-        compared = compare_document(alloc, size, number, tab, twice, compared)?;
-    }
-    Ok(compared)
-}
-
-/// For each size of documents: how many there are, and whether they are cut twice.
-const SIZES: [(usize, usize, bool); 5] = [
-    (0, 1, true),
-    (1, 4, true),
-    (2, 16, true),
-    (3, 64, true),
-    (4, 256, false),
-];
-
-/// For each size of tabs: how many readings each machine makes of the documents of each size.
-const READINGS: [(usize, [usize; 5]); 4] = [
-    (1, [2, 20, 144, 896, 1280]),
-    (3, [2, 29, 230, 1502, 1738]),
-    (4, [2, 35, 290, 1935, 1991]),
-    (16, [2, 185, 1790, 12747, 5063]),
-];
 
 /// How many readings of all documents of some size were compared, if each was as the uncut one.
 fn same_readings(
     alloc: Global,
+    text: bool,
+    tab: usize,
     size: usize,
     count: usize,
-    tab: usize,
-    twice: bool,
-) -> Option<usize> {
-    let tab = TabSize::new(tab)?;
-    match compare_all(alloc, size, count, tab, twice) {
-        Ok(compared) => (compared.other == 0).then_some(compared.all),
-        Err(_) => None,
+) -> Result<Option<usize>, AllocError> {
+    let tab = TabSize::new(tab).ok_or(AllocError)?;
+    let mut compared = Compared { all: 0, other: 0 };
+    for number in 0..count {
+        compared = compare_document(alloc, text, tab, size, number, compared)?;
     }
+    Ok((compared.other == 0).then_some(compared.all))
 }
 
+/// Whether the machine of texts reads, how many columns apart tab stops are, how many starts there are, the size of the documents,
+/// how many of that size there are, and how many readings are made of them from each start.
+const READINGS: &[(bool, usize, usize, usize, usize, usize)] = &[
+    (false, 1, 7, 0, 1, 2),
+    (false, 1, 7, 1, 4, 20),
+    (false, 1, 7, 2, 16, 144),
+    (false, 1, 7, 3, 64, 896),
+    (false, 1, 7, 4, 256, 1280),
+    (false, 3, 7, 0, 1, 2),
+    (false, 3, 7, 1, 4, 29),
+    (false, 3, 7, 2, 16, 230),
+    (false, 3, 7, 3, 64, 1502),
+    (false, 3, 7, 4, 256, 1738),
+    (false, 4, 7, 0, 1, 2),
+    (false, 4, 7, 1, 4, 35),
+    (false, 4, 7, 2, 16, 290),
+    (false, 4, 7, 3, 64, 1935),
+    (false, 4, 7, 4, 256, 1991),
+    (false, 16, 7, 0, 1, 2),
+    (false, 16, 7, 1, 4, 185),
+    (false, 16, 7, 2, 16, 1790),
+    (false, 16, 7, 3, 64, 12747),
+    (false, 16, 7, 4, 256, 5063),
+    (true, 4, 2, 0, 1, 2),
+    (true, 4, 2, 1, 5, 25),
+    (true, 4, 2, 2, 25, 225),
+    (true, 4, 2, 3, 125, 1750),
+    (true, 4, 2, 4, 625, 3125),
+];
+
 #[test]
-fn no_cut_leaves_a_trace(rt: HostRuntime) {
-    for (tab, readings) in READINGS {
-        for ((size, count, twice), places) in SIZES.iter().zip(&readings) {
-            let same = same_readings(rt.alloc(), *size, *count, tab, *twice);
-            assert_eq!(rt;
-                same,
-                Some(places.saturating_mul(7)),
-                "of size {size} with tabs of {tab}"
-            );
-        }
+fn no_cut_leaves_a_trace(rt: HostRuntime) -> Result<(), AllocError> {
+    for &(text, tab, starts, size, count, readings) in READINGS {
+        let same = same_readings(rt.alloc(), text, tab, size, count)?;
+        let want = readings.saturating_mul(starts);
+        assert_eq!(rt; same, Some(want), "of size {size} with tabs of {tab}");
     }
+    Ok(())
 }

@@ -6,8 +6,6 @@ mod chars;
 #[cfg(test)]
 mod chunks;
 #[cfg(test)]
-mod constants;
-#[cfg(test)]
 mod division;
 #[cfg(test)]
 mod driven;
@@ -16,33 +14,11 @@ mod edit_map;
 #[cfg(test)]
 mod every_cut;
 #[cfg(test)]
-mod every_cut_of_text;
-#[cfg(test)]
-mod expected;
-#[cfg(test)]
-mod faults;
-#[cfg(test)]
-mod line_endings;
-#[cfg(test)]
-mod links;
-#[cfg(test)]
-mod locations;
-#[cfg(test)]
 mod machines;
-#[cfg(test)]
-mod messages;
-#[cfg(test)]
-mod names;
 #[cfg(test)]
 mod no_memory;
 #[cfg(test)]
-mod options;
-#[cfg(test)]
-mod owned_values;
-#[cfg(test)]
 mod places;
-#[cfg(test)]
-mod points;
 #[cfg(test)]
 mod pushed;
 #[cfg(test)]
@@ -58,22 +34,16 @@ mod rows;
 #[cfg(test)]
 mod shown;
 #[cfg(test)]
-mod skip;
-#[cfg(test)]
-mod slices;
-#[cfg(test)]
 mod starved;
-#[cfg(test)]
-mod states;
 #[cfg(test)]
 mod subtokenize;
 #[cfg(test)]
 mod surface;
 #[cfg(test)]
-mod tab_sizes;
-#[cfg(test)]
 mod texts;
 #[cfg(test)]
 mod tokenizer;
 #[cfg(test)]
-mod unist_points;
+mod values;
+#[cfg(test)]
+mod walks;

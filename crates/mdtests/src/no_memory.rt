@@ -4,14 +4,15 @@
 ghost use Rattle.std.specs.Prelude.{◌+◌, ◌*◌, ◌^◌, ◌<◌, length};
 
 use crate::machines::lines_by;
-use crate::skip::white_space_and_data;
-use crate::tokenizer::{START, Types};
+use crate::tokenizer::Types;
+use crate::walks::white_space_and_data;
 use markdown::configuration::{Constructs, ParseOptions};
+use markdown::event::Point;
 use markdown::parser::ParseState;
 use markdown::state::Name;
 use markdown::subtokenize::at_first_paragraph_of_list_item;
 use markdown::tokenizer::Tokenizer;
-use markdown::unist::Point;
+use markdown::unist;
 use markdown::util::edit_map::EditMap;
 use markdown::util::location::Location;
 use markdown::util::slice::Slice;
@@ -30,7 +31,7 @@ fn edits_that_are_none_take_no_memory(rt: HostRuntime) {
 /// Whether a document is read by a machine that passes each byte, and makes no event.
 fn is_passed(alloc: Global) -> bool {
     let machine = Fail { at: 8 };
-    match lines_by(alloc, &machine, Name::TextStart, b"a\r\n\tb", true) {
+    match lines_by(alloc, &machine, Name::TextStart, b"a\r\n\tb", 9, true) {
         Ok(lines) => lines.is_empty(),
         Err(_) => false,
     }
@@ -38,7 +39,7 @@ fn is_passed(alloc: Global) -> bool {
 
 /// Whether a tokenizer is read as one that has read nothing.
 fn has_read_nothing(t: &Tokenizer<Types>) -> bool {
-    t.point() == START
+    t.point() == Point::START
         && t.previous().is_none()
         && t.current().is_none()
         && t.stack().is_empty()
@@ -46,11 +47,8 @@ fn has_read_nothing(t: &Tokenizer<Types>) -> bool {
 }
 
 /// Whether a new tokenizer is read as one that has read nothing, and gives no event.
-fn is_new(alloc: Global, parse_state: &ParseState<Types>) -> bool
-    requires limit { parse_state.now.options.now.tab_size * length parse_state.now.bytes.now + 1 < 2 ^ 64 }
-{
-    let _ = parse_state.options.tab_size.get();
-    let t = Tokenizer::new(alloc, START, parse_state);
+fn is_new(alloc: Global, parse_state: &ParseState<Types>) -> bool {
+    let t = Tokenizer::new(alloc, Point::START, parse_state);
     let is_new = has_read_nothing(&t);
     let events = t.into_events();
     is_new && events.is_empty()
@@ -72,8 +70,8 @@ fn reading_without_events_takes_no_memory(rt: HostRuntime) {
 fn finds_lines(alloc: Global) -> bool {
     match Location::new(alloc, b"a\nb") {
         Ok(location) => {
-            location.to_point(2) == Some(Point::new(2, 1, 2))
-                && location.relative_to_point(&[(0, 2)], 1) == Some(Point::new(2, 2, 3))
+            location.to_point(2) == Some(unist::Point::new(2, 1, 2))
+                && location.relative_to_point(&[(0, 2)], 1) == Some(unist::Point::new(2, 2, 3))
         }
         Err(_) => true,
     }

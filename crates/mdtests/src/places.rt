@@ -1,38 +1,84 @@
-//! Places of small texts, and where these are cut, worked by hand.
+//! Places of small texts, their points and what lies between them, with tab stops at every 1 to 16 columns, worked by hand.
 
-ghost use Rattle.std.specs.Prelude.{◌+◌, ◌*◌, ◌^◌, ◌<◌, length};
+ghost use Rattle.markdown.specs.Virtual.{IsWithinLimit};
+ghost use Rattle.std.specs.Prelude.{◌≡◌, ◌≤◌, ◌+◌, ◌*◌, ◌^◌, ◌<◌, length, None};
 
-use crate::shown::assert_shown;
+use crate::shown::{assert_shown, at};
 use markdown::configuration::TabSize;
-use markdown::event::Point;
+use markdown::event::{Event, Kind, Name, Point};
 use markdown::tokenizer::{cuts_every, point_at};
+use markdown::unist;
+use markdown::util::location::Location;
+use markdown::util::slice::{Position, Slice};
 use std::alloc::{AllocError, Global};
 
-fn at(line: usize, column: usize, index: usize, vs: usize) -> Option<Point> {
-    Some(Point {
-        line,
-        column,
-        index,
-        vs,
-    })
+/// Tab stops at every `n` columns.
+fn every(n: usize) -> TabSize
+    requires least { 1 ≤ n }
+    requires most { n ≤ 16 }
+    ensures { result ≡ n }
+{
+    match TabSize::new(n) {
+        Some(tab_size) => tab_size,
+        None => unreachable!(),
+    }
 }
 
 #[test]
-fn points_of_places(rt: HostRuntime) {
-    for (pair, want) in [
-        ((1, 0), at(1, 2, 1, 0)),
-        ((2, 0), at(1, 2, 2, 0)),
-        ((4, 0), at(2, 2, 4, 0)),
-        ((4, 1), None),
-        ((5, 0), None),
-    ] {
-        assert!(rt; point_at(b"a\r\nb", TabSize::default(), pair) == want);
+fn tab_stops_stand_one_to_sixteen_columns_apart(rt: HostRuntime) {
+    for &n in &[0, 17, usize::MAX] {
+        assert!(rt; TabSize::new(n).is_none());
+    }
+    assert!(rt; every(16).get() == 16 && every(4) == TabSize::default());
+}
+
+/// The point behind the tab of `"a\tb"`.
+fn behind_the_tab(n: usize) -> Point
+    requires least { 1 ≤ n }
+    requires most { n ≤ 16 }
+{
+    let tab_size = every(n);
+    Point::START.shift_to(b"a\tb", tab_size, 2)
+}
+
+#[test]
+fn points_move_to_tab_stops(rt: HostRuntime) {
+    for (n, column) in [(1, 3), (3, 4), (4, 5), (8, 9), (16, 17)] {
+        assert!(rt; 1 <= n && n <= 16);
+        assert!(rt; behind_the_tab(n) == at(1, column, 2, 0));
+    }
+}
+
+/// Line, column, byte index and number in a tab.
+type Shown = (usize, usize, usize, usize);
+
+/// A point, if there is one.
+fn shown(point: Option<Point>) -> Option<Shown> {
+    let point = point?;
+    Some((point.line, point.column, point.index, point.vs))
+}
+
+/// A document, how far apart tab stops stand, a place, and its point.
+const POINTS: &[(&[u8], usize, (usize, usize), Option<Shown>)] = &[
+    (b"a\r\nb", 4, (1, 0), Some((1, 2, 1, 0))),
+    (b"a\r\nb", 4, (2, 0), Some((1, 2, 2, 0))),
+    (b"a\r\nb", 4, (4, 0), Some((2, 2, 4, 0))),
+    (b"a\r\nb", 4, (4, 1), None),
+    (b"a\r\nb", 4, (5, 0), None),
+    (b"a\tb", 8, (1, 6), Some((1, 8, 1, 6))),
+];
+
+#[test]
+fn places_have_points(rt: HostRuntime) {
+    for &(bytes, n, place, want) in POINTS {
+        assert!(rt; 1 <= n && n <= 16 && bytes.len() < 9);
+        assert!(rt; shown(point_at(bytes, every(n), place)) == want);
     }
 }
 
 /// The cuts of a text after each so many virtual bytes.
 fn cuts(alloc: Global, bytes: &[u8], n: usize) -> Result<String, AllocError>
-    requires limit { 4 * length bytes.now + 1 < 2 ^ 64 }
+    requires limit { IsWithinLimit 4 bytes.now }
     requires some { 0 < n }
 {
     let tab_size = TabSize::default();
@@ -54,10 +100,183 @@ const CUTS: &[(&[u8], usize, &str)] = &[
 ];
 
 #[test]
-fn cuts_of_a_text(rt: HostRuntime) -> Result<(), AllocError> {
+fn texts_are_cut(rt: HostRuntime) -> Result<(), AllocError> {
     for &(bytes, n, want) in CUTS {
         assert!(rt; n > 0 && bytes.len() < 9);
         assert_shown(&rt, cuts(rt.alloc(), bytes, n), want)?;
     }
+    Ok(())
+}
+
+#[test]
+fn tabs_are_cut_by_their_size(rt: HostRuntime) -> Result<(), AllocError> {
+    for &(n, want) in &[(1, 2), (3, 3), (8, 8), (16, 16)] {
+        assert!(rt; 1 <= n && n <= 16);
+        let cuts = cuts_every(rt.alloc(), b"a\tb", every(n), 1)?;
+        assert_eq!(rt; cuts.len(), want);
+    }
+    Ok(())
+}
+
+/// What a slice counts, its length, and what it is written as.
+fn seen(alloc: Global, slice: &Slice) -> Result<String, AllocError> {
+    let Slice {
+        bytes,
+        before,
+        after,
+    } = *slice;
+    if str::from_utf8(bytes).is_err() || bytes.len() > 9 || before > 999 || after > 999 {
+        return String::from_str(alloc, "not shown");
+    }
+    let len = slice.len();
+    let written = slice.serialize(alloc)?;
+    format!(in alloc; "{before} and {after} of {len}: '{written}'")
+}
+
+/// The slice of a document between two places, with tab stops at every so many columns.
+fn between(
+    alloc: Global,
+    bytes: &[u8],
+    n: usize,
+    from: (usize, usize),
+    to: (usize, usize),
+) -> Result<String, AllocError>
+    requires small { length bytes.now < 10 }
+    requires least { 1 ≤ n }
+    requires most { n ≤ 16 }
+{
+    let tab_size = every(n);
+    let (Some(start), Some(end)) = (
+        point_at(bytes, tab_size, from),
+        point_at(bytes, tab_size, to),
+    ) else {
+        return String::from_str(alloc, "no places");
+    };
+    if end.index < start.index || end.index == start.index && end.vs < start.vs {
+        return String::from_str(alloc, "backwards");
+    }
+    let position = Position {
+        start: &start,
+        end: &end,
+    };
+    seen(alloc, &Slice::from_position(bytes, tab_size, &position))
+}
+
+/// A document, how far apart tab stops stand, two places, and what lies between them: a part that begins inside a tab, stays
+/// inside it, or ends inside it; and a tab that is one byte.
+const BETWEEN: &[(&[u8], usize, (usize, usize), (usize, usize), &str)] = &[
+    (b">    \tfoo", 4, (5, 1), (9, 0), "2 and 0 of 5: '  foo'"),
+    (b">    \tfoo", 4, (5, 1), (5, 2), "1 and 0 of 1: ' '"),
+    (b"a\tb", 4, (0, 0), (1, 2), "0 and 1 of 3: 'a\t '"),
+    (b"\tx", 8, (0, 1), (1, 0), "7 and 0 of 7: '       '"),
+    (b"\tx", 16, (0, 15), (1, 0), "1 and 0 of 1: ' '"),
+    (b"\tx", 1, (0, 0), (1, 0), "0 and 0 of 1: '\t'"),
+];
+
+#[test]
+fn slices_lie_between_places(rt: HostRuntime) -> Result<(), AllocError> {
+    for &(bytes, n, from, to, want) in BETWEEN {
+        assert!(rt; 1 <= n && n <= 16 && bytes.len() < 10);
+        assert_shown(&rt, between(rt.alloc(), bytes, n, from, to), want)?;
+    }
+    Ok(())
+}
+
+/// Three bytes of two characters among many spaces, as they are written.
+fn among_spaces(alloc: Global) -> Result<String, AllocError> {
+    let mut text = String::from_str(alloc, "300 and 200 of 503: '")?;
+    for _ in 0..300 {
+        text.push(' ')?;
+    }
+    text.push_str("x\u{e9}")?;
+    for _ in 0..200 {
+        text.push(' ')?;
+    }
+    text.push('\'')?;
+    Ok(text)
+}
+
+#[test]
+fn slices_write_spaces_and_bytes(rt: HostRuntime) -> Result<(), AllocError> {
+    let want = among_spaces(rt.alloc())?;
+    let slice = Slice {
+        bytes: "x\u{e9}".as_bytes(),
+        before: 300,
+        after: 200,
+    };
+    assert_shown(&rt, seen(rt.alloc(), &slice), want.as_str())
+}
+
+#[test]
+fn slices_lie_between_indices(rt: HostRuntime) -> Result<(), AllocError> {
+    let slice = Slice::from_indices(b"abc", 1, 2);
+    assert_shown(&rt, seen(rt.alloc(), &slice), "0 and 0 of 1: 'b'")
+}
+
+fn event(kind: Kind, name: Name, point: Point) -> Event
+    ensures { result ≡ record { kind = kind; name = name; point = point; link = None } }
+{
+    Event {
+        kind,
+        name,
+        point,
+        link: None,
+    }
+}
+
+#[test]
+fn exits_have_enters(rt: HostRuntime) {
+    let events = [
+        event(Kind::Enter, Name::Paragraph, at(1, 1, 0, 0)),
+        event(Kind::Enter, Name::Data, at(1, 2, 1, 0)),
+        event(Kind::Exit, Name::Data, at(1, 3, 2, 0)),
+        event(Kind::Exit, Name::Paragraph, at(1, 3, 2, 0)),
+    ];
+    assert!(rt; Position::from_exit_event(&events, 3).to_indices() == (0, 2));
+}
+
+/// The points of the offsets 0 to 5 of a document, those that it has.
+fn points(alloc: Global, bytes: &[u8]) -> Result<String, AllocError> {
+    let location = Location::new(alloc, bytes)?;
+    let mut text = String::new(alloc);
+    for offset in 0..6 {
+        if let Some(point) = location.to_point(offset) {
+            write!(text, " {point:?}")?;
+        }
+    }
+    Ok(text)
+}
+
+/// Documents and the points of their offsets.
+const LOCATIONS: &[(&[u8], &str)] = &[
+    (b"a\r\nb", " 1:1 (0) 1:2 (1) 1:3 (2) 2:1 (3) 2:2 (4)"),
+    (b"ab\nc", " 1:1 (0) 1:2 (1) 1:3 (2) 2:1 (3) 2:2 (4)"),
+    (b"a\rb", " 1:1 (0) 1:2 (1) 2:1 (2) 2:2 (3)"),
+    (b"", " 1:1 (0)"),
+];
+
+#[test]
+fn offsets_have_points(rt: HostRuntime) -> Result<(), AllocError> {
+    for &(bytes, want) in LOCATIONS {
+        assert_shown(&rt, points(rt.alloc(), bytes), want)?;
+    }
+    Ok(())
+}
+
+#[test]
+fn many_lines_have_points(rt: HostRuntime) -> Result<(), AllocError> {
+    let location = Location::new(rt.alloc(), &[b'\n'; 1000])?;
+    assert!(rt; location.to_point(999) == Some(unist::Point::new(1000, 1, 999)));
+    Ok(())
+}
+
+#[test]
+fn parts_have_offsets_and_points(rt: HostRuntime) -> Result<(), AllocError> {
+    assert!(rt; Location::relative_to_absolute(&[], 0) == None);
+    assert!(rt; Location::relative_to_absolute(&[(0, 10), (3, 20)], 4) == Some(21));
+    let text = Location::new(rt.alloc(), b"> a\n> b")?;
+    let point = text.relative_to_point(&[(0, 2), (2, 6)], 2);
+    assert!(rt; point == Some(unist::Point::new(2, 3, 6)));
+    assert!(rt; text.relative_to_point(&[], 0) == None);
     Ok(())
 }

@@ -1,24 +1,21 @@
 //! The ranges of a document, pushed one by one, and the gaps between them.
 
 ghost use Rattle.std.specs.Prelude.{◌≡◌, ◌+◌, ◌*◌, ◌^◌, ◌<◌, true, length, All, Contains, IfSome};
-ghost use Rattle.markdown.specs.Virtual.{point};
+ghost use Rattle.markdown.specs.Virtual.{IsWithinLimit, point};
 ghost use Rattle.markdown.specs.Places.{denotes_same, stands_before};
 ghost use Rattle.markdown.specs.Configuration.{start_seen};
 ghost use Rattle.markdown.specs.Engine.{given_of};
 ghost use Rattle.markdown.specs.Ranges.{FollowOn, IsGapFrom, LeadsFrom, after_any};
-ghost use Rattle.markdown.specs.Text.{empty_text};
+ghost use Rattle.markdown.specs.Text.{IsDocument, empty_text};
 ghost use Rattle.mdtests.specs.Documents.{given_in_tabs, options_in_tabs};
 
-use crate::shown::shown;
+use crate::shown::{push_events, shown};
 use markdown::configuration::{ParseOptions, TabSize};
 use markdown::event::{Event, Point};
 use markdown::parser::ParseState;
 use markdown::state::{Machine, Name, State};
-use markdown::tokenizer::{Tokenizer, point_at};
+use markdown::tokenizer::{AfterGap, Tokenizer, follow_on};
 use std::alloc::{AllocError, Global};
-
-/// A range of a document, from a place to another one, and the place up to which a gap is passed before it, if one is.
-pub type AfterGap = (Option<Point>, (usize, usize), (usize, usize));
 
 /// What was seen after a push: the byte before, the number of calls so far, and the number of events.
 #[derive(Clone, Copy, PartialEq, Eq)]
@@ -36,23 +33,8 @@ pub struct Seen {
     pub events: Vec<Event>,
 }
 
-/// Reads a document with tabs of size 4, cut at these places. `None` if they are no places of it, or in no order.
-pub fn read_cut<M: Machine>(
-    alloc: Global,
-    machine: &M,
-    start: Name,
-    bytes: &[u8],
-    cuts: &[(usize, usize)],
-) -> Option<Seen>
-    requires limit { 4 * length bytes.now + 1 < 2 ^ 64 }
-    requires start { Contains (M.rules machine.now (given_in_tabs 4 bytes.now)).starts start }
-{
-    let tab = TabSize::default();
-    read_cut_with(alloc, machine, start, bytes, tab, cuts)
-}
-
 /// Reads a document with tabs of this size, cut at these places. `None` if they are no places of it, or in no order.
-pub fn read_cut_with<M: Machine>(
+pub fn read_cut<M: Machine>(
     alloc: Global,
     machine: &M,
     start: Name,
@@ -60,11 +42,11 @@ pub fn read_cut_with<M: Machine>(
     tab: TabSize,
     cuts: &[(usize, usize)],
 ) -> Option<Seen>
-    requires limit { tab * length bytes.now + 1 < 2 ^ 64 }
+    requires limit { IsWithinLimit tab bytes.now }
     requires start { Contains (M.rules machine.now (given_in_tabs tab bytes.now)).starts start }
 {
     let ranges = ranges_between(alloc, bytes.len(), cuts).ok()?;
-    read_ranges_with(alloc, machine, start, bytes, tab, ranges.as_slice())
+    read_ranges(alloc, machine, start, bytes, tab, ranges.as_slice())
 }
 
 /// The ranges between cuts, from the start of a document of so many bytes to its end.
@@ -83,24 +65,9 @@ fn ranges_between(
     Ok(ranges)
 }
 
-/// Reads these ranges of a document and no other, with tabs of size 4. `None` if they do not follow on one another, each at the
+/// Reads these ranges of a document and no other, with tabs of this size. `None` if they do not follow on one another, each at the
 /// place at which the one before ended or its gap ends.
 pub fn read_ranges<M: Machine>(
-    alloc: Global,
-    machine: &M,
-    start: Name,
-    bytes: &[u8],
-    ranges: &[AfterGap],
-) -> Option<Seen>
-    requires limit { 4 * length bytes.now + 1 < 2 ^ 64 }
-    requires start { Contains (M.rules machine.now (given_in_tabs 4 bytes.now)).starts start }
-{
-    let tab = TabSize::default();
-    read_ranges_with(alloc, machine, start, bytes, tab, ranges)
-}
-
-/// The same with tabs of this size.
-fn read_ranges_with<M: Machine>(
     alloc: Global,
     machine: &M,
     start: Name,
@@ -108,7 +75,7 @@ fn read_ranges_with<M: Machine>(
     tab: TabSize,
     ranges: &[AfterGap],
 ) -> Option<Seen>
-    requires limit { tab * length bytes.now + 1 < 2 ^ 64 }
+    requires limit { IsWithinLimit tab bytes.now }
     requires start { Contains (M.rules machine.now (given_in_tabs tab bytes.now)).starts start }
 {
     if !follow_on(bytes, tab, Point::START, ranges) {
@@ -125,7 +92,7 @@ pub fn read_following<M: Machine>(
     bytes: &[u8],
     ranges: &[AfterGap],
 ) -> Option<Seen>
-    requires limit { 4 * length bytes.now + 1 < 2 ^ 64 }
+    requires limit { IsWithinLimit 4 bytes.now }
     requires start { Contains (M.rules machine.now (given_in_tabs 4 bytes.now)).starts start }
     requires ranges { FollowOn 4 bytes.now (point 1 1 0 0) ranges.now }
 {
@@ -142,17 +109,14 @@ fn read_following_with<M: Machine>(
     tab: TabSize,
     ranges: &[AfterGap],
 ) -> Option<Seen>
-    requires limit { tab * length bytes.now + 1 < 2 ^ 64 }
+    requires limit { IsWithinLimit tab bytes.now }
     requires start { Contains (M.rules machine.now (given_in_tabs tab bytes.now)).starts start }
     requires ranges { FollowOn tab bytes.now (point 1 1 0 0) ranges.now }
 {
     let options = options_in_tabs(tab);
-    let parse_state = ParseState {
-        bytes,
-        options: &options,
-        machine,
+    let Some(parse_state) = ParseState::new(bytes, &options, machine) else {
+        unreachable!();
     };
-    let _ = options.tab_size.get();
     let mut tokenizer = Tokenizer::new(alloc, Point::START, &parse_state);
     let seen = drive(alloc, &mut tokenizer, &parse_state, start, ranges);
     drop(tokenizer);
@@ -177,8 +141,7 @@ fn drive<'a, M: Machine>(
     start: Name,
     ranges: &[AfterGap],
 ) -> Result<Seen, AllocError>
-    requires limit { parse_state.now.options.now.tab_size * length parse_state.now.bytes.now + 1 < 2 ^ 64 }
-    requires bytes { All (λ b. b < 256) parse_state.now.bytes.now }
+    requires document { IsDocument (given_of parse_state.now) }
     requires fresh { tokenizer.old ≡ start_seen (given_of parse_state.now) parse_state.now.machine.now (empty_text (point 1 1 0 0)) }
     requires start { Contains (M.rules parse_state.now.machine.now (given_of parse_state.now)).starts start }
     requires ranges { FollowOn parse_state.now.options.now.tab_size parse_state.now.bytes.now (point 1 1 0 0) ranges.now }
@@ -203,13 +166,11 @@ fn push_all<'a, M: Machine>(
     ranges: &[AfterGap],
     pushed: &mut Vec<Pushed>,
 ) -> Result<(), AllocError>
-    requires limit { parse_state.now.options.now.tab_size * length parse_state.now.bytes.now + 1 < 2 ^ 64 }
-    requires bytes { All (λ b. b < 256) parse_state.now.bytes.now }
+    requires document { IsDocument (given_of parse_state.now) }
     requires fresh { tokenizer.old ≡ start_seen (given_of parse_state.now) parse_state.now.machine.now (empty_text (point 1 1 0 0)) }
     requires start { Contains (M.rules parse_state.now.machine.now (given_of parse_state.now)).starts start }
     requires ranges { FollowOn parse_state.now.options.now.tab_size parse_state.now.bytes.now (point 1 1 0 0) ranges.now }
 {
-    let _ = parse_state.options.tab_size.get();
     let mut state = State::Next(start);
     for (gap, from, to) in ranges {
         if let Some(place) = gap {
@@ -236,28 +197,24 @@ fn seen_of<'a, M: Machine>(tokenizer: &Tokenizer<'a, M>) -> Pushed {
     }
 }
 
-/// How many calls were seen in all; 0 if nothing was read.
-pub fn calls_of(seen: &Option<Seen>) -> usize {
-    match seen {
-        Some(seen) => seen.calls,
-        None => 0,
-    }
-}
-
-/// The lines of the events that were seen.
+/// The events that were seen.
 pub fn lines(alloc: Global, seen: &Option<Seen>) -> Result<String, AllocError> {
     match seen {
         Some(seen) => shown(alloc, seen.events.as_slice()),
-        None => String::from_str(alloc, "nothing was read"),
+        None => Err(AllocError),
     }
 }
 
-/// Whether a document was read in so many calls, and gave these lines.
-pub fn gives(alloc: Global, seen: &Option<Seen>, calls: usize, want: &str) -> bool {
-    match lines(alloc, seen) {
-        Ok(text) => calls_of(seen) == calls && text.as_str() == want,
-        Err(_) => false,
-    }
+/// The number of calls in all, and the events that were seen.
+pub fn told(alloc: Global, seen: &Option<Seen>) -> Result<String, AllocError> {
+    let mut text = String::new(alloc);
+    let Some(seen) = seen else {
+        return Err(AllocError);
+    };
+    let calls = seen.calls;
+    write!(text, "{calls} calls: ")?;
+    push_events(&mut text, seen.events.as_slice())?;
+    Ok(text)
 }
 
 /// What was seen after the push of this number, if there was one.
@@ -266,71 +223,4 @@ pub fn after_push(seen: &Option<Seen>, number: usize) -> Option<Pushed> {
         Some(seen) => seen.pushed.get(number).copied(),
         None => None,
     }
-}
-
-/// How many calls there had been after the push of this number, if there was one.
-pub fn calls_after(seen: &Option<Seen>, number: usize) -> Option<usize> {
-    match after_push(seen, number) {
-        Some(pushed) => Some(pushed.calls),
-        None => None,
-    }
-}
-
-/// Whether ranges follow on a text that ends at a place: each after its gap, which passes the beginning of a line, if it has one.
-fn follow_on(bytes: &[u8], tab: TabSize, end: Point, ranges: &[AfterGap]) -> bool
-    requires limit { tab * length bytes.now + 1 < 2 ^ 64 }
-    ensures { result ≡ true → FollowOn tab bytes.now end ranges.now }
-{
-    let Some((range, rest)) = ranges.split_first() else {
-        return true;
-    };
-    let Some(start) = start_after(bytes, tab, end, range.0) else {
-        return false;
-    };
-    let Some(from) = point_at(bytes, tab, range.1) else {
-        return false;
-    };
-    let Some(to) = point_at(bytes, tab, range.2) else {
-        return false;
-    };
-    if stands_before(from, start) || stands_before(start, from) || stands_before(to, from) {
-        return false;
-    }
-    follow_on(bytes, tab, to, rest)
-}
-
-/// The place at which what follows on a text begins that ends at a place: after the gap, if there is one that passes the beginning of a line.
-fn start_after(bytes: &[u8], tab: TabSize, end: Point, gap: Option<Point>) -> Option<Point>
-    requires limit { tab * length bytes.now + 1 < 2 ^ 64 }
-    ensures leads { IfSome result (λ _. LeadsFrom tab bytes.now end gap) }
-    ensures start { IfSome result (λ start. denotes_same tab bytes.now start (after_any tab bytes.now end gap) ≡ true) }
-{
-    match gap {
-        None => Some(end),
-        Some(place) => {
-            if passes_beginning(bytes, tab, end, place) {
-                Some(place)
-            } else {
-                None
-            }
-        }
-    }
-}
-
-/// Whether a place comes later in the line that begins at another one.
-fn passes_beginning(bytes: &[u8], tab: TabSize, beginning: Point, place: Point) -> bool
-    requires limit { tab * length bytes.now + 1 < 2 ^ 64 }
-    ensures { result ≡ true → IsGapFrom tab bytes.now beginning place }
-{
-    point_at(bytes, tab, (place.index, place.vs)) == Some(place)
-        && beginning.column == 1
-        && place.line == beginning.line
-        && stands_before(beginning, place)
-}
-
-/// Whether a point is before another one.
-fn stands_before(point: Point, other: Point) -> bool
-    ensures { result ≡ stands_before point other }
-{
-    point.index < other.index || point.index == other.index && point.vs < other.vs
 }

@@ -1,15 +1,33 @@
 //! The machines, over ranges and gaps.
 
+ghost use Rattle.markdown.specs.Virtual.{IsWithinLimit};
 ghost use Rattle.std.specs.Prelude.{◌+◌, ◌*◌, ◌^◌, ◌<◌, length, Contains};
 ghost use Rattle.mdtests.specs.Documents.{given_in_tabs};
 
-use crate::expected::{THREE_DATA, TWO_LINES};
-use crate::pushed::{AfterGap, calls_after, gives, lines, read_following, read_ranges};
-use crate::shown::assert_shown;
+use crate::pushed::{after_push, lines, read_following, read_ranges, told};
+use crate::shown::{assert_shown, at};
+use markdown::configuration::TabSize;
 use markdown::event::Point;
 use markdown::state::{Machine, Name};
+use markdown::tokenizer::AfterGap;
 use mdconstructs::{Deep, Lines, Peek, Save};
 use std::alloc::{AllocError, Global};
+
+/// The events of these ranges of a document, as a machine reads them.
+fn reads<M: Machine>(
+    alloc: Global,
+    machine: &M,
+    start: Name,
+    bytes: &[u8],
+    ranges: &[AfterGap],
+) -> Result<String, AllocError>
+    requires limit { IsWithinLimit 4 bytes.now }
+    requires start { Contains (M.rules machine.now (given_in_tabs 4 bytes.now)).starts start }
+{
+    let tab = TabSize::default();
+    let seen = read_ranges(alloc, machine, start, bytes, tab, ranges);
+    lines(alloc, &seen)
+}
 
 /// `a\n> b` without its `> `.
 const OVER_A_GAP: [AfterGap; 2] = [
@@ -26,6 +44,26 @@ const OVER_A_GAP: [AfterGap; 2] = [
     ),
 ];
 
+/// A choice goes back over a gap, and what follows passes it again.
+#[test]
+fn choices_go_back_over_a_gap(rt: HostRuntime) -> Result<(), AllocError> {
+    let alloc = rt.alloc();
+    let tab = TabSize::default();
+    let read = reads(alloc, &Save {}, Name::TextStart, b"a\n> b", &OVER_A_GAP);
+    assert_shown(&rt, read, "Data 2:3 (4+0) to 2:4 (5+0)")?;
+    let seen = read_ranges(
+        alloc,
+        &Deep {},
+        Name::StringStart,
+        b"a\n> b",
+        tab,
+        &OVER_A_GAP,
+    );
+    let want =
+        "16 calls: Data 1:1 (0+0) to 1:2 (1+0); LineEnding 1:2 (1+0) to 2:1 (2+0); Data 2:3 (4+0) to 2:4 (5+0)";
+    assert_shown(&rt, told(alloc, &seen), want)
+}
+
 /// `> a` without its `> `.
 const AFTER_A_GAP: [AfterGap; 1] = [(
     Some(Point {
@@ -38,181 +76,175 @@ const AFTER_A_GAP: [AfterGap; 1] = [(
     (3, 0),
 )];
 
-/// The lines of the events of these ranges of a document.
-fn reads<M: Machine>(
-    alloc: Global,
-    machine: &M,
-    start: Name,
-    bytes: &[u8],
-    ranges: &[AfterGap],
-) -> Result<String, AllocError>
-    requires limit { 4 * length bytes.now + 1 < 2 ^ 64 }
-    requires start { Contains (M.rules machine.now (given_in_tabs 4 bytes.now)).starts start }
-{
-    let seen = read_ranges(alloc, machine, start, bytes, ranges);
-    lines(alloc, &seen)
-}
+/// `a\n\tb` without two of the four columns of its tab.
+const INTO_A_TAB: [AfterGap; 2] = [
+    (None, (0, 0), (2, 0)),
+    (
+        Some(Point {
+            line: 2,
+            column: 3,
+            index: 2,
+            vs: 2,
+        }),
+        (2, 2),
+        (4, 0),
+    ),
+];
 
-/// Of the byte behind the second gap.
-const SECOND_LINE: &str = "enter Data 2:3 (4+0)\n\
-    exit Data 2:4 (5+0)\n";
+/// The start of `a\nb` is pushed twice, then all of it, and then its end.
+const EMPTY_AT_BOTH_ENDS: [AfterGap; 4] = [
+    (None, (0, 0), (0, 0)),
+    (None, (0, 0), (0, 0)),
+    (None, (0, 0), (3, 0)),
+    (None, (3, 0), (3, 0)),
+];
 
-/// Of the byte behind the first gap.
-const FIRST_LINE: &str = "enter Paragraph 1:3 (2+0)\n\
-    enter Data 1:3 (2+0)\n\
-    exit Data 1:4 (3+0)\n\
-    exit Paragraph 1:4 (3+0)\n";
+/// A document, ranges of it, and the events of these, as the machine of lines reads them.
+const RANGES: &[(&[u8], &[AfterGap], &str)] = &[
+    (
+        b"> a",
+        &AFTER_A_GAP,
+        "enter Paragraph 1:3 (2+0); Data 1:3 (2+0) to 1:4 (3+0); exit Paragraph 1:4 (3+0)",
+    ),
+    (
+        b"a\n\tb",
+        &INTO_A_TAB,
+        "enter Paragraph 1:1 (0+0); Data 1:1 (0+0) to 1:2 (1+0); exit Paragraph 1:2 (1+0); \
+        LineEnding 1:2 (1+0) to 2:1 (2+0); \
+        enter Paragraph 2:3 (2+2); Data 2:3 (2+2) to 2:6 (4+0); exit Paragraph 2:6 (4+0)",
+    ),
+    (
+        b"a\nb",
+        &EMPTY_AT_BOTH_ENDS,
+        "enter Paragraph 1:1 (0+0); Data 1:1 (0+0) to 1:2 (1+0); exit Paragraph 1:2 (1+0); \
+        LineEnding 1:2 (1+0) to 2:1 (2+0); \
+        enter Paragraph 2:1 (2+0); Data 2:1 (2+0) to 2:2 (3+0); exit Paragraph 2:2 (3+0)",
+    ),
+];
 
-/// A choice goes back over a gap; a gap comes first.
 #[test]
 fn gaps_are_not_read(rt: HostRuntime) -> Result<(), AllocError> {
-    let read = reads(
-        rt.alloc(),
-        &Save {},
-        Name::TextStart,
-        b"a\n> b",
-        &OVER_A_GAP,
-    );
-    assert_shown(&rt, read, SECOND_LINE)?;
-    let read = reads(rt.alloc(), &Lines {}, Name::FlowStart, b"> a", &AFTER_A_GAP);
-    assert_shown(&rt, read, FIRST_LINE)
-}
-
-/// The lines of `a\n> b` without its `> `.
-const DATA_OVER_A_GAP: &str = "enter Data 1:1 (0+0)\n\
-    exit Data 1:2 (1+0)\n\
-    enter LineEnding 1:2 (1+0)\n\
-    exit LineEnding 2:1 (2+0)\n\
-    enter Data 2:3 (4+0)\n\
-    exit Data 2:4 (5+0)\n";
-
-/// Each attempt goes back over the gap, and what follows passes it again.
-#[test]
-fn attempts_go_back_over_a_gap(rt: HostRuntime) {
-    let seen = read_ranges(
-        rt.alloc(),
-        &Deep {},
-        Name::StringStart,
-        b"a\n> b",
-        &OVER_A_GAP,
-    );
-    assert!(rt; gives(rt.alloc(), &seen, 16, DATA_OVER_A_GAP));
+    for &(bytes, ranges, want) in RANGES {
+        assert!(rt; bytes.len() < 9);
+        let read = reads(rt.alloc(), &Lines {}, Name::FlowStart, bytes, ranges);
+        assert_shown(&rt, read, want)?;
+    }
+    Ok(())
 }
 
 /// The line of this number is `> a`, ended by LF if it is not the last, and its `> ` is passed.
 fn line_after_gap(number: usize, last: bool) -> AfterGap
-    requires { number < 50 }
+    requires { number < 1000 }
 {
     let index = 4 * number + 2;
-    let gap = Point {
-        line: number + 1,
-        column: 3,
-        index,
-        vs: 0,
-    };
+    let gap = at(number + 1, 3, index, 0);
     let size = if last { 1 } else { 2 };
     (Some(gap), (index, 0), (index + size, 0))
 }
 
-/// Fifty lines.
-fn fifty_ranges(alloc: Global) -> Result<Vec<AfterGap>, AllocError> {
+/// Lines `> a`, so many, with LF between each two, and their ranges without `> `.
+fn quoted_lines(alloc: Global, count: usize) -> Result<(Vec<u8>, Vec<AfterGap>), AllocError> {
+    let mut bytes = Vec::new(alloc);
     let mut ranges = Vec::new(alloc);
-    for number in 0..50 {
-        ranges.push(line_after_gap(number, number == 49))?;
+    for number in 0..count.min(1000) {
+        let last = number + 1 == count;
+        bytes.extend_from_slice(if last {
+            b"> a".as_slice()
+        } else {
+            b"> a\n".as_slice()
+        })?;
+        ranges.push(line_after_gap(number, last))?;
     }
-    Ok(ranges)
+    Ok((bytes, ranges))
 }
 
-/// Fifty lines `> a`, with LF between each two.
-const FIFTY_LINES: &[u8] =
-    b"> a\n> a\n> a\n> a\n> a\n> a\n> a\n> a\n> a\n> a\n> a\n> a\n> a\n> a\n> a\n> a\n> a\n> a\n> a\n> a\n> a\n> a\n> a\n> a\n> a\n> a\n> a\n> a\n> a\n> a\n> a\n> a\n> a\n> a\n> a\n> a\n> a\n> a\n> a\n> a\n> a\n> a\n> a\n> a\n> a\n> a\n> a\n> a\n> a\n> a";
-
-/// How many of the lines begin with this.
-fn lines_that_begin(text: &str, with: &str) -> usize {
-    text.split('\n')
-        .filter(|line| line.starts_with(with))
-        .count()
+/// What is read of quoted lines, so many.
+fn read_quoted(alloc: Global, count: usize) -> Result<String, AllocError> {
+    let (bytes, ranges) = quoted_lines(alloc, count)?;
+    if bytes.len() > 9999 {
+        return Err(AllocError);
+    }
+    reads(
+        alloc,
+        &Peek {},
+        Name::TextStart,
+        bytes.as_slice(),
+        ranges.as_slice(),
+    )
 }
 
-/// Each of fifty lines begins with a gap.
+/// How often a word stands in a text, between spaces.
+fn count_of(text: &str, word: &str) -> usize {
+    text.split(' ').filter(|other| *other == word).count()
+}
+
+/// Each of many lines begins with a gap.
 #[test]
 fn each_line_begins_with_a_gap(rt: HostRuntime) -> Result<(), AllocError> {
-    let ranges = fifty_ranges(rt.alloc())?;
-    let ranges = ranges.as_slice();
-    let seen = read_ranges(rt.alloc(), &Peek {}, Name::TextStart, FIFTY_LINES, ranges);
-    let text = lines(rt.alloc(), &seen)?;
-    let text = text.as_str();
-    assert_eq!(rt; lines_that_begin(text, "e"), 198);
-    assert_eq!(rt; lines_that_begin(text, "enter Data "), 50);
-    assert_eq!(rt; lines_that_begin(text, "enter LineEnding "), 49);
-    let last = "enter Data 50:3 (198+0)\nexit Data 50:4 (199+0)\n";
-    assert!(rt; text.ends_with(last));
+    for &(count, last) in &[
+        (50, "; Data 50:3 (198+0) to 50:4 (199+0)"),
+        (150, "; Data 150:3 (598+0) to 150:4 (599+0)"),
+    ] {
+        let text = read_quoted(rt.alloc(), count)?;
+        let text = text.as_str();
+        assert!(rt; text.ends_with(last));
+        let spans = (
+            count_of(text, "Data"),
+            count_of(text, "LineEnding"),
+            count_of(text, "to"),
+        );
+        assert!(rt; spans == (count, count - 1, 2 * count - 1));
+    }
     Ok(())
 }
 
-/// Of `a\nbc`, each line as data.
-const TWO_DATA: &str = "enter Data 1:1 (0+0)\n\
-    exit Data 1:2 (1+0)\n\
-    enter LineEnding 1:2 (1+0)\n\
-    exit LineEnding 2:1 (2+0)\n\
-    enter Data 2:1 (2+0)\n\
-    exit Data 2:3 (4+0)\n";
+/// `a\nbc` in three ranges. A gap up to the place at which the text ends passes nothing.
+const AFTER_NOTHING: [AfterGap; 3] = [
+    (None, (0, 0), (2, 0)),
+    (
+        Some(Point {
+            line: 2,
+            column: 1,
+            index: 2,
+            vs: 0,
+        }),
+        (2, 0),
+        (3, 0),
+    ),
+    (
+        Some(Point {
+            line: 2,
+            column: 2,
+            index: 3,
+            vs: 0,
+        }),
+        (3, 0),
+        (4, 0),
+    ),
+];
 
 #[test]
-fn gaps_that_pass_nothing_change_nothing(rt: HostRuntime) {
-    let second_line = Point {
-        line: 2,
-        column: 1,
-        index: 2,
-        vs: 0,
-    };
-    let in_it = Point {
-        line: 2,
-        column: 2,
-        index: 3,
-        vs: 0,
-    };
-    let ranges = [
-        (None, (0, 0), (2, 0)),
-        (Some(second_line), (2, 0), (3, 0)),
-        (Some(in_it), (3, 0), (4, 0)),
-    ];
-    let seen = read_following(rt.alloc(), &Peek {}, Name::TextStart, b"a\nbc", &ranges);
-    assert!(rt; gives(rt.alloc(), &seen, 14, TWO_DATA));
+fn gaps_that_pass_nothing_change_nothing(rt: HostRuntime) -> Result<(), AllocError> {
+    let alloc = rt.alloc();
+    let seen = read_following(alloc, &Peek {}, Name::TextStart, b"a\nbc", &AFTER_NOTHING);
+    let want =
+        "14 calls: Data 1:1 (0+0) to 1:2 (1+0); LineEnding 1:2 (1+0) to 2:1 (2+0); Data 2:1 (2+0) to 2:3 (4+0)";
+    assert_shown(&rt, told(alloc, &seen), want)
 }
 
 /// The CR and the LF of a CR LF denote one byte, so a range up to the one is followed by a range from the other.
 #[test]
-fn range_begins_at_the_other_place_of_its_byte(rt: HostRuntime) {
+fn range_begins_at_the_other_place_of_its_byte(rt: HostRuntime) -> Result<(), AllocError> {
     let ranges = [
         (None, (0, 0), (1, 0)),
         (None, (2, 0), (2, 0)),
         (None, (2, 0), (4, 0)),
     ];
     let seen = read_following(rt.alloc(), &Lines {}, Name::FlowStart, b"a\r\nb", &ranges);
-    assert!(rt; gives(rt.alloc(), &seen, 7, TWO_LINES));
-    assert_eq!(rt; calls_after(&seen, 0), calls_after(&seen, 1));
-}
-
-/// The start of `a\nb\nc` is pushed twice, then all of it, and then its end.
-const EMPTY_AT_BOTH_ENDS: [AfterGap; 4] = [
-    (None, (0, 0), (0, 0)),
-    (None, (0, 0), (0, 0)),
-    (None, (0, 0), (5, 0)),
-    (None, (5, 0), (5, 0)),
-];
-
-#[test]
-fn empty_ranges_are_pushed_at_both_ends(rt: HostRuntime) {
-    let text = b"a\nb\nc";
-    let seen = read_ranges(
-        rt.alloc(),
-        &Peek {},
-        Name::TextStart,
-        text,
-        &EMPTY_AT_BOTH_ENDS,
-    );
-    assert!(rt; gives(rt.alloc(), &seen, 18, THREE_DATA));
-    assert_eq!(rt; calls_after(&seen, 1), Some(0));
-    assert_eq!(rt; calls_after(&seen, 3), calls_after(&seen, 2));
+    assert!(rt; after_push(&seen, 0) == after_push(&seen, 1));
+    let want =
+        "7 calls: enter Paragraph 1:1 (0+0); Data 1:1 (0+0) to 1:2 (1+0); exit Paragraph 1:2 (1+0); \
+        LineEnding 1:2 (1+0) to 2:1 (3+0); \
+        enter Paragraph 2:1 (3+0); Data 2:1 (3+0) to 2:2 (4+0); exit Paragraph 2:2 (4+0)";
+    assert_shown(&rt, told(rt.alloc(), &seen), want)
 }

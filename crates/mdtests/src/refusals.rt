@@ -18,17 +18,7 @@ fn read_two(alloc: Global, at: usize, resolve: bool) -> Result<String, AllocErro
         options: &options,
         machine: &machine,
     };
-    let mut text = String::new(alloc);
-    read(
-        alloc,
-        &mut text,
-        &parse_state,
-        Name::TextStart,
-        (1, 0),
-        resolve,
-        &[],
-    )?;
-    Ok(text)
+    read(alloc, &parse_state, Name::TextStart, (1, 0), resolve, &[])
 }
 
 /// Reads `a` to its end, by a machine that refuses the first call: what was answered.
@@ -40,17 +30,7 @@ fn read_one(alloc: Global) -> Result<String, AllocError> {
         options: &options,
         machine: &machine,
     };
-    let mut text = String::new(alloc);
-    read(
-        alloc,
-        &mut text,
-        &parse_state,
-        Name::TextStart,
-        (1, 0),
-        true,
-        &[],
-    )?;
-    Ok(text)
+    read(alloc, &parse_state, Name::TextStart, (1, 0), true, &[])
 }
 
 /// What is answered where the first call refuses.
@@ -112,7 +92,14 @@ fn each_call_may_refuse(rt: HostRuntime) -> Result<(), AllocError> {
         let want = if at < 8 { "1:2: x (markdown:r)" } else { "" };
         assert_shown(
             &rt,
-            lines_by(rt.alloc(), &Fail { at }, Name::TextStart, b"a\r\n\tb", true),
+            lines_by(
+                rt.alloc(),
+                &Fail { at },
+                Name::TextStart,
+                b"a\r\n\tb",
+                9,
+                true,
+            ),
             want,
         )?;
     }

@@ -1,7 +1,6 @@
 //! Resolvers go over the events once all was read.
 
 use crate::driven::read;
-use crate::machines::lines_by;
 use crate::shown::assert_shown;
 use markdown::configuration::ParseOptions;
 use markdown::parser::ParseState;
@@ -25,17 +24,14 @@ fn read_one(
         options: &options,
         machine: &machine,
     };
-    let mut text = String::new(alloc);
     read(
         alloc,
-        &mut text,
         &parse_state,
         Name::TextStart,
         (1, 0),
         resolve,
         resolvers,
-    )?;
-    Ok(text)
+    )
 }
 
 /// Whether the machine's resolvers refuse, whether they go over the events, those that stay registered, and what is answered.
@@ -45,28 +41,24 @@ const ANSWERS: &[(bool, bool, &[Resolver], &str)] = &[
         true,
         &[Resolver::C],
         "next\n\
-        next\n\
-        done: false, notes: 0, definitions: A\n\
-        tokenizer has failed\n\
-        4 calls\n\
-        these resolvers: true\n\
-        enter Paragraph 1:1 (0+0)\n\
-        enter CodeTextData 1:1 (0+0)\n\
-        exit CodeTextData 1:2 (1+0)\n\
-        exit Paragraph 1:2 (1+0)\n",
+            next\n\
+            done: false, notes: 0, definitions: A\n\
+            tokenizer has failed\n\
+            4 calls\n\
+            these resolvers: true\n\
+            enter Paragraph 1:1 (0+0); CodeTextData 1:1 (0+0) to 1:2 (1+0); exit Paragraph 1:2 (1+0)",
     ),
     (
         true,
         false,
         &[Resolver::B, Resolver::A],
         "next\n\
-        next\n\
-        done: false, notes: 0, definitions:\n\
-        tokenizer has failed\n\
-        4 calls\n\
-        these resolvers: true\n\
-        enter Data 1:1 (0+0)\n\
-        exit Data 1:2 (1+0)\n",
+            next\n\
+            done: false, notes: 0, definitions:\n\
+            tokenizer has failed\n\
+            4 calls\n\
+            these resolvers: true\n\
+            Data 1:1 (0+0) to 1:2 (1+0)",
     ),
     (
         true,
@@ -84,22 +76,8 @@ const ANSWERS: &[(bool, bool, &[Resolver], &str)] = &[
 #[test]
 fn resolvers_go_over_what_was_read(rt: HostRuntime) -> Result<(), AllocError> {
     for (refuse, resolve, resolvers, want) in ANSWERS {
-        assert_shown(
-            &rt,
-            read_one(rt.alloc(), *refuse, *resolve, resolvers),
-            want,
-        )?;
+        let read = read_one(rt.alloc(), *refuse, *resolve, resolvers);
+        assert_shown(&rt, read, want)?;
     }
     Ok(())
-}
-
-#[test]
-fn nothing_is_wrapped_too(rt: HostRuntime) -> Result<(), AllocError> {
-    let machine = Wrap { refuse: false };
-    let want = "enter Paragraph 1:1 (0+0)\nexit Paragraph 1:1 (0+0)\n";
-    assert_shown(
-        &rt,
-        lines_by(rt.alloc(), &machine, Name::TextStart, b"", true),
-        want,
-    )
 }

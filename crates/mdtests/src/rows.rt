@@ -1,85 +1,87 @@
 //! The machines, over documents that are cut.
 
+ghost use Rattle.markdown.specs.Virtual.{IsWithinLimit};
 ghost use Rattle.std.specs.Prelude.{◌+◌, ◌*◌, ◌^◌, ◌≤◌, ◌<◌, length, Contains};
 ghost use Rattle.mdtests.specs.Documents.{given_in_tabs};
 
-use crate::expected::{ONE_DATA, SHORT_DATA, THREE_DATA, TWO_LINES};
-use crate::pushed::{Pushed, Seen, after_push, gives, read_cut};
+use crate::pushed::{Pushed, Seen, after_push, read_cut, told};
+use crate::shown::assert_shown;
 use markdown::configuration::TabSize;
 use markdown::state::{Machine, Name};
 use markdown::tokenizer::cuts_every;
-use mdconstructs::{Deep, Lines, Peek, Save};
+use mdconstructs::{Deep, Lines, Peek, Save, Text};
 use std::alloc::{AllocError, Global};
 
-/// Whether a document, cut at these places, is read in so many calls, and gives these lines.
+/// How many calls a machine takes to read a document that is cut at these places, and its events.
 fn reads<M: Machine>(
     alloc: Global,
     machine: &M,
     start: Name,
     bytes: &[u8],
     cuts: &[(usize, usize)],
-    calls: usize,
-    want: &str,
-) -> bool
-    requires limit { 4 * length bytes.now + 1 < 2 ^ 64 }
+) -> Result<String, AllocError>
+    requires limit { IsWithinLimit 4 bytes.now }
     requires start { Contains (M.rules machine.now (given_in_tabs 4 bytes.now)).starts start }
 {
-    let seen = read_cut(alloc, machine, start, bytes, cuts);
-    gives(alloc, &seen, calls, want)
+    let tab = TabSize::default();
+    told(alloc, &read_cut(alloc, machine, start, bytes, tab, cuts))
 }
 
-/// Of `a\nb`, as the machine of lines reads it.
-const TWO_SHORT_LINES: &str = "enter Paragraph 1:1 (0+0)\n\
-    enter Data 1:1 (0+0)\n\
-    exit Data 1:2 (1+0)\n\
-    exit Paragraph 1:2 (1+0)\n\
-    enter LineEnding 1:2 (1+0)\n\
-    exit LineEnding 2:1 (2+0)\n\
-    enter Paragraph 2:1 (2+0)\n\
-    enter Data 2:1 (2+0)\n\
-    exit Data 2:2 (3+0)\n\
-    exit Paragraph 2:2 (3+0)\n";
+/// Documents, where they are cut, and how the machine of lines reads them. Nothing is read in one call. Two cuts are at the one
+/// byte of a CR LF, and one is inside a tab.
+const LINES: &[(&[u8], &[(usize, usize)], &str)] = &[
+    (b"", &[], "1 calls: "),
+    (
+        b"a\nb",
+        &[],
+        "7 calls: enter Paragraph 1:1 (0+0); Data 1:1 (0+0) to 1:2 (1+0); exit Paragraph 1:2 (1+0); \
+        LineEnding 1:2 (1+0) to 2:1 (2+0); \
+        enter Paragraph 2:1 (2+0); Data 2:1 (2+0) to 2:2 (3+0); exit Paragraph 2:2 (3+0)",
+    ),
+    (
+        b"a\r\nb",
+        &[(1, 0), (2, 0)],
+        "7 calls: enter Paragraph 1:1 (0+0); Data 1:1 (0+0) to 1:2 (1+0); exit Paragraph 1:2 (1+0); \
+        LineEnding 1:2 (1+0) to 2:1 (3+0); \
+        enter Paragraph 2:1 (3+0); Data 2:1 (3+0) to 2:2 (4+0); exit Paragraph 2:2 (4+0)",
+    ),
+];
 
-/// Nothing is read in one call. Two cuts are at the one byte of a CR LF.
 #[test]
-fn lines_are_read_in_so_many_calls(rt: HostRuntime) {
-    let lines = Lines {};
-    let start = Name::FlowStart;
-    let alloc = rt.alloc();
-    assert!(rt; reads(alloc, &lines, start, b"", &[], 1, ""));
-    assert!(rt; reads(alloc, &lines, start, b"a\nb", &[], 7, TWO_SHORT_LINES));
-    let cuts = [(1, 0), (2, 0)];
-    assert!(rt; reads(alloc, &lines, start, b"a\r\nb", &cuts, 7, TWO_LINES));
+fn lines_are_read(rt: HostRuntime) -> Result<(), AllocError> {
+    for &(bytes, cuts, want) in LINES {
+        assert!(rt; bytes.len() < 9);
+        let read = reads(rt.alloc(), &Lines {}, Name::FlowStart, bytes, cuts);
+        assert_shown(&rt, read, want)?;
+    }
+    Ok(())
 }
 
-/// A look ahead goes back, also over nothing; attempts go back; a place is saved at the end.
+/// A look ahead goes back, also over nothing; attempts go back; a place is saved at the end; a code span is one choice.
 #[test]
-fn choices_take_so_many_calls(rt: HostRuntime) {
+fn choices_go_back(rt: HostRuntime) -> Result<(), AllocError> {
     let start = Name::TextStart;
     let alloc = rt.alloc();
-    let cuts = [(2, 0), (4, 0)];
-    assert!(rt; reads(alloc, &Peek {}, start, b"a\nb\nc", &cuts, 18, THREE_DATA));
-    assert!(rt; reads(alloc, &Peek {}, start, b"", &[], 3, ""));
-    let cuts = [(1, 0)];
-    assert!(rt;
-        reads(
-            alloc,
-            &Deep {},
-            Name::StringStart,
-            b"ab",
-            &cuts,
-            9,
-            SHORT_DATA
-        )
-    );
-    assert!(rt; reads(alloc, &Save {}, start, b"a\n", &cuts, 4, ""));
+    let read = reads(alloc, &Peek {}, start, b"a\nb\nc", &[(2, 0), (4, 0)]);
+    let want = "18 calls: Data 1:1 (0+0) to 1:2 (1+0); LineEnding 1:2 (1+0) to 2:1 (2+0); \
+        Data 2:1 (2+0) to 2:2 (3+0); LineEnding 2:2 (3+0) to 3:1 (4+0); Data 3:1 (4+0) to 3:2 (5+0)";
+    assert_shown(&rt, read, want)?;
+    let read = reads(alloc, &Text {}, start, b"`a`", &[]);
+    let want = "13 calls: enter CodeText 1:1 (0+0); CodeTextSequence 1:1 (0+0) to 1:2 (1+0); \
+        CodeTextData 1:2 (1+0) to 1:3 (2+0); CodeTextSequence 1:3 (2+0) to 1:4 (3+0); exit CodeText 1:4 (3+0)";
+    assert_shown(&rt, read, want)?;
+    let read = reads(alloc, &Deep {}, Name::StringStart, b"ab", &[(1, 0)]);
+    assert_shown(&rt, read, "9 calls: Data 1:1 (0+0) to 1:3 (2+0)")?;
+    assert_shown(&rt, reads(alloc, &Peek {}, start, b"", &[]), "3 calls: ")?;
+    let read = reads(alloc, &Save {}, start, b"a\n", &[(1, 0)]);
+    assert_shown(&rt, read, "4 calls: ")
 }
 
 /// The bytes before, after each push.
 fn bytes_before(alloc: Global, seen: &Option<Seen>) -> Result<Vec<u8>, AllocError> {
     let mut bytes = Vec::new(alloc);
     let Some(seen) = seen else {
-        return Ok(bytes);
+        return Err(AllocError);
     };
     for pushed in seen.pushed.as_slice() {
         if let Some(byte) = pushed.previous {
@@ -89,61 +91,52 @@ fn bytes_before(alloc: Global, seen: &Option<Seen>) -> Result<Vec<u8>, AllocErro
     Ok(bytes)
 }
 
-/// The places of all virtual bytes but the first of `a\tb\r\n\tc`.
-const EACH_BYTE: [(usize, usize); 10] = [
-    (1, 0),
-    (1, 1),
-    (1, 2),
-    (2, 0),
-    (3, 0),
-    (5, 0),
-    (5, 1),
-    (5, 2),
-    (5, 3),
-    (6, 0),
-];
+/// What is seen as a document is read that is cut after each so many virtual bytes.
+fn seen_by<M: Machine>(
+    alloc: Global,
+    machine: &M,
+    start: Name,
+    bytes: &[u8],
+    cut: usize,
+) -> Option<Seen>
+    requires limit { IsWithinLimit 4 bytes.now }
+    requires start { Contains (M.rules machine.now (given_in_tabs 4 bytes.now)).starts start }
+    requires cut { 1 ≤ cut }
+{
+    let tab = TabSize::default();
+    let cuts = cuts_every(alloc, bytes, tab, cut).ok()?;
+    read_cut(alloc, machine, start, bytes, tab, cuts.as_slice())
+}
 
 #[test]
 fn byte_before_is_of_the_push_before(rt: HostRuntime) -> Result<(), AllocError> {
-    let text = b"a\tb\r\n\tc";
-    let seen = read_cut(rt.alloc(), &Lines {}, Name::FlowStart, text, &EACH_BYTE);
+    let seen = seen_by(rt.alloc(), &Lines {}, Name::FlowStart, b"a\tb\r\n\tc", 1);
     let before = bytes_before(rt.alloc(), &seen)?;
     assert_eq!(rt; before.as_slice(), b"a\t  b\n\t   c".as_slice());
     Ok(())
 }
 
 #[test]
-fn attempts_go_back_one_by_one(rt: HostRuntime) {
-    let cuts = [(1, 0), (2, 0)];
-    let seen = read_cut(rt.alloc(), &Deep {}, Name::StringStart, b"abc", &cuts);
+fn attempts_go_back_one_by_one(rt: HostRuntime) -> Result<(), AllocError> {
+    let seen = seen_by(rt.alloc(), &Deep {}, Name::StringStart, b"abc", 1);
+    let want = "14 calls: Data 1:1 (0+0) to 1:4 (3+0)";
+    assert_shown(&rt, told(rt.alloc(), &seen), want)?;
     let second = Pushed {
         previous: Some(b'b'),
         calls: 2,
         events: 0,
     };
     assert!(rt; after_push(&seen, 1) == Some(second));
-    assert!(rt; gives(rt.alloc(), &seen, 14, ONE_DATA));
-}
-
-/// What is seen when the machine that makes an attempt at each byte reads a document, cut after each so many virtual bytes.
-fn attempts(alloc: Global, bytes: &[u8], cut: usize) -> Option<Seen>
-    requires limit { 4 * length bytes.now + 1 < 2 ^ 64 }
-    requires cut { 1 ≤ cut }
-{
-    let tab = TabSize::default();
-    let cuts = cuts_every(alloc, bytes, tab, cut).ok()?;
-    read_cut(alloc, &Deep {}, Name::StringStart, bytes, cuts.as_slice())
+    Ok(())
 }
 
 #[test]
-fn attempts_may_be_many(rt: HostRuntime) {
+fn attempts_may_be_many(rt: HostRuntime) -> Result<(), AllocError> {
     for cut in [1, 64] {
         assert!(rt; cut > 0);
-        let seen = attempts(rt.alloc(), &[b'a'; 64], cut);
-        let want = "enter Data 1:1 (0+0)\nexit Data 1:65 (64+0)\n";
-        assert!(rt;
-            gives(rt.alloc(), &seen, 2210, want),
-            "cut after each {cut}"
-        );
+        let seen = seen_by(rt.alloc(), &Deep {}, Name::StringStart, &[b'a'; 64], cut);
+        let want = "2210 calls: Data 1:1 (0+0) to 1:65 (64+0)";
+        assert_shown(&rt, told(rt.alloc(), &seen), want)?;
     }
+    Ok(())
 }

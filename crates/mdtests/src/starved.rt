@@ -1,17 +1,20 @@
 //! A machine that runs out of memory at a call: what is returned at every depth, and what is left afterwards.
 
-ghost use Rattle.std.specs.Prelude.{IfOk};
+ghost use Rattle.markdown.specs.Virtual.{IsWithinLimit};
+ghost use Rattle.std.specs.Prelude.{◌+◌, ◌*◌, ◌^◌, ◌<◌, length, IfOk};
 ghost use Rattle.mdconstructs.specs.RowInvariant.{DoesAll, IsCallable, step_in};
 ghost use Rattle.mdconstructs.specs.Tables.{line_byte};
 ghost use Rattle.mdtests.specs.Starved.{text_start};
 
-use crate::chunks::QUOTE;
+use crate::chunks::Row::Chunk;
+use crate::chunks::{ITEM, QUOTE, Row, listed};
 use crate::machines::lines_of;
-use crate::shown::assert_shown;
-use crate::subtokenize::with_children;
-use markdown::event::{self, Content};
+use crate::shown::{assert_shown, push_answer, push_events};
+use markdown::configuration::{ParseOptions, TabSize};
+use markdown::event::{self, Content, Event};
+use markdown::parser::ParseState;
 use markdown::state::{Machine, MachineTypes, Name, State};
-use markdown::subtokenize::Subresult;
+use markdown::subtokenize::{Subresult, ready, subtokenize};
 use markdown::tokenizer::{Fault, Tokenizer};
 use mdconstructs::begin::begin;
 use mdconstructs::marker;
@@ -31,13 +34,9 @@ impl MachineTypes for Starved {
 }
 
 impl Machine for Starved {
-    ghost use Rattle.mdconstructs_tables.proofs.Tables.Laws as laws;
-    ghost use Rattle.mdconstructs_tables.proofs.Tables.Costs.{table-cost_pays};
+    ghost use Rattle.mdconstructs_tables.proofs.Tables.Lawful.{plain-lawful};
     ghost use Rattle.mdtests.specs.Starved.{starved, starved_rules};
     ghost use Rattle.mdtests.specs.StarvedLaws.{starved-fit, starved-plain};
-    ghost use Rattle.mdconstructs.specs.RowInvariant.{table_rules};
-    ghost use Rattle.mdconstructs_tables.proofs.Tables.Plain.{table-keeps_plain};
-    ghost use Rattle.markdown_tokenizer.proofs.Readings.Plain as plain;
 
     ghost rules = { λ _. starved_rules };
 
@@ -53,6 +52,8 @@ impl Machine for Starved {
         begin(t);
         match name {
             Name::TextStart => text_start(t),
+            Name::StringStart => Ok(State::Retry(Name::TextStart)),
+            Name::ContentDefinitionBefore => Ok(State::Retry(Name::TextStart)),
             _ => unreachable!(),
         }
     }
@@ -67,17 +68,7 @@ impl Machine for Starved {
         Ok(None)
     }
 
-    ghost consumes_once = { λ _ g. plain.consumes_once g (table_rules starved g) (laws.table-consumes_once starved g starved-fit) };
-
-    ghost only_adds = { λ _ g. plain.only_adds g (table_rules starved g) (laws.table-only_adds starved g starved-fit) };
-
-    ghost ends_when_read = { λ _ g. plain.ends_when_read g (table_rules starved g) (laws.table-ends_when_read starved g starved-fit) };
-
-    ghost invariant_kept = { λ _ g. plain.invariant_kept g (table_rules starved g) (table-keeps_plain starved g starved-plain) (laws.table-invariant_kept starved g starved-fit) };
-
-    ghost cost_pays = { λ _ g. plain.cost_pays g (table_rules starved g) (table-cost_pays starved g starved-fit) };
-
-    ghost resolvers_keep = { λ _ g. plain.resolvers_keep g (table_rules starved g) };
+    ghost lawful = { λ _ g. plain-lawful starved g starved-fit starved-plain };
 }
 
 /// Before a byte.
@@ -95,10 +86,7 @@ fn text_start<'a>(t: &mut Tokenizer<'a, Starved>) -> Result<State, AllocError>
 }
 
 /// Two bytes, as data.
-const TWO_BYTES: &str = "enter Data 1:1 (0+0)\n\
-    exit Data 1:2 (1+0)\n\
-    enter Data 1:2 (1+0)\n\
-    exit Data 1:3 (2+0)\n";
+const TWO_BYTES: &str = "Data 1:1 (0+0) to 1:2 (1+0); Data 1:2 (1+0) to 1:3 (2+0)";
 
 /// The third call meets the end.
 #[test]
@@ -114,50 +102,122 @@ fn refused_state_ends_a_run(rt: HostRuntime) -> Result<(), AllocError> {
     Ok(())
 }
 
-/// The lines of the quoted paragraph as it was, behind a fault.
-const AS_BEFORE: &str = "out of memory\n\
-    enter BlockQuote 1:1 (0+0)\n\
-    enter BlockQuotePrefix 1:1 (0+0)\n\
-    exit BlockQuotePrefix 1:3 (2+0)\n\
-    enter Paragraph 1:3 (2+0)\n\
-    enter Data 1:3 (2+0) Text None Some(8)\n\
-    exit Data 2:1 (4+0)\n\
-    enter BlockQuotePrefix 2:1 (4+0)\n\
-    exit BlockQuotePrefix 2:3 (6+0)\n\
-    enter Data 2:3 (6+0) Text Some(4) None\n\
-    exit Data 2:4 (7+0)\n\
-    exit Paragraph 2:4 (7+0)\n\
-    exit BlockQuote 2:4 (7+0)\n";
-
-/// Reads the text of a quoted paragraph by a machine that lacks memory at a call.
-fn quote_read(alloc: Global, at: usize) -> Result<String, AllocError> {
-    let machine = Starved { at };
-    let start = Name::TextStart;
-    with_children(alloc, &QUOTE, b"> a\n> b", &machine, Content::Text, start)
+/// Reads all chains of a list, whatever their content, and appends what is answered.
+fn read_chains(
+    alloc: Global,
+    text: &mut String,
+    events: &mut Vec<Event>,
+    bytes: &[u8],
+    options: &ParseOptions,
+    machine: &Starved,
+) -> Result<(), AllocError>
+    requires limit { IsWithinLimit options.now.tab_size bytes.now }
+{
+    if !ready(alloc, events.as_slice(), bytes, options.tab_size, None)? {
+        return text.push_str("not ready\n");
+    }
+    let Some(parse_state) = ParseState::new(bytes, options, machine) else {
+        return Err(AllocError);
+    };
+    let answer = subtokenize(alloc, events, &parse_state, None);
+    let pushed = push_answer(text, &answer);
+    drop(answer);
+    pushed
 }
 
-/// The lines of the quoted paragraph with its text read.
+/// Reads all chains of a list over a small document, with tab stops at every so many columns, by a machine that lacks memory at a
+/// call: what was answered, and then the list.
+fn read(
+    alloc: Global,
+    list: &[Row],
+    bytes: &[u8],
+    tab: usize,
+    at: usize,
+) -> Result<String, AllocError> {
+    let options = ParseOptions {
+        tab_size: TabSize::new(tab).ok_or(AllocError)?,
+        ..ParseOptions::gfm()
+    };
+    let _ = options.tab_size.get();
+    if bytes.len() > 9 {
+        return Err(AllocError);
+    }
+    let mut events = listed(alloc, list)?;
+    let mut text = String::new(alloc);
+    read_chains(
+        alloc,
+        &mut text,
+        &mut events,
+        bytes,
+        &options,
+        &Starved { at },
+    )?;
+    push_events(&mut text, events.as_slice())?;
+    Ok(text)
+}
+
+/// A quoted paragraph as it was, behind a fault.
+const AS_BEFORE: &str = "out of memory\n\
+    enter BlockQuote 1:1 (0+0); BlockQuotePrefix 1:1 (0+0) to 1:3 (2+0); enter Paragraph 1:3 (2+0); \
+    Data 1:3 (2+0) Text None Some(8) to 2:1 (4+0); BlockQuotePrefix 2:1 (4+0) to 2:3 (6+0); \
+    Data 2:3 (6+0) Text Some(4) None to 2:4 (7+0); exit Paragraph 2:4 (7+0); exit BlockQuote 2:4 (7+0)";
+
+/// A quoted paragraph with its text read.
 const READ: &str = "done: false, notes: 0, definitions:\n\
-    enter BlockQuote 1:1 (0+0)\n\
-    enter BlockQuotePrefix 1:1 (0+0)\n\
-    exit BlockQuotePrefix 1:3 (2+0)\n\
-    enter Paragraph 1:3 (2+0)\n\
-    enter Data 1:3 (2+0)\n\
-    exit Data 1:4 (3+0)\n\
-    enter Data 1:4 (3+0)\n\
-    exit Data 2:1 (4+0)\n\
-    enter BlockQuotePrefix 2:1 (4+0)\n\
-    exit BlockQuotePrefix 2:3 (6+0)\n\
-    enter Data 2:3 (6+0)\n\
-    exit Data 2:4 (7+0)\n\
-    exit Paragraph 2:4 (7+0)\n\
-    exit BlockQuote 2:4 (7+0)\n";
+    enter BlockQuote 1:1 (0+0); BlockQuotePrefix 1:1 (0+0) to 1:3 (2+0); enter Paragraph 1:3 (2+0); \
+    Data 1:3 (2+0) to 1:4 (3+0); Data 1:4 (3+0) to 2:1 (4+0); BlockQuotePrefix 2:1 (4+0) to 2:3 (6+0); \
+    Data 2:3 (6+0) to 2:4 (7+0); exit Paragraph 2:4 (7+0); exit BlockQuote 2:4 (7+0)";
 
 #[test]
 fn refused_child_leaves_the_list(rt: HostRuntime) -> Result<(), AllocError> {
     for at in 0..5 {
         let want = if at < 4 { AS_BEFORE } else { READ };
-        assert_shown(&rt, quote_read(rt.alloc(), at), want)?;
+        assert_shown(&rt, read(rt.alloc(), &QUOTE, b"> a\n> b", 4, at), want)?;
+    }
+    Ok(())
+}
+
+/// A chain of each content.
+const OF_EACH_CONTENT: [Row; 3] = [
+    Chunk((1, 1, 0, 0), (1, 2, 1, 0), Content::Content, None, None),
+    Chunk((1, 2, 1, 0), (1, 3, 2, 0), Content::String, None, None),
+    Chunk((1, 3, 2, 0), (1, 4, 3, 0), Content::Text, None, None),
+];
+
+/// A chain of three columns of a tab.
+const TAB_OF_THREE: [Row; 1] = [Chunk((1, 1, 0, 0), (1, 4, 1, 0), Content::Text, None, None)];
+
+/// A list, its document, how far apart tab stops stand, and what comes of it: also of the text of a task, if it is one.
+const READS: &[(&[Row], &[u8], usize, &str)] = &[
+    (
+        &OF_EACH_CONTENT,
+        b"abc",
+        4,
+        "done: false, notes: 0, definitions:\n\
+        Data 1:1 (0+0) to 1:2 (1+0); Data 1:2 (1+0) to 1:3 (2+0); Data 1:3 (2+0) to 1:4 (3+0)",
+    ),
+    (
+        &TAB_OF_THREE,
+        b"\t",
+        3,
+        "done: false, notes: 0, definitions:\n\
+        Data 1:1 (0+0) to 1:2 (0+1); Data 1:2 (0+1) to 1:3 (0+2); Data 1:3 (0+2) to 1:4 (1+0)",
+    ),
+    (
+        &ITEM,
+        b"- a",
+        4,
+        "done: false, notes: 0, definitions:\n\
+        enter ListItem 1:1 (0+0); ListItemPrefix 1:1 (0+0) to 1:3 (2+0); enter Paragraph 1:3 (2+0); \
+        Data 1:3 (2+0) to 1:4 (3+0); exit Paragraph 1:4 (3+0); exit ListItem 1:4 (3+0)",
+    ),
+    (&[], b"", 4, "done: true, notes: 0, definitions:\n"),
+];
+
+#[test]
+fn chains_of_all_contents_are_read(rt: HostRuntime) -> Result<(), AllocError> {
+    for &(list, bytes, tab, want) in READS {
+        assert_shown(&rt, read(rt.alloc(), list, bytes, tab, 99), want)?;
     }
     Ok(())
 }

@@ -3,9 +3,8 @@
 //!
 //! Each call that takes memory and returns something is made with ample memory, and what it returns is compared, by these tests:
 //!
-//! - `Message::try_clone`: `messages`. `CompileOptions::try_clone`: `options`. `State::try_clone`: `states`.
-//! - `format`, `format_opt`, `format_byte`, `format_byte_opt`: `chars`.
-//! - `Location::new`: `locations`. `Slice::serialize`: `slices`. `cuts_every`: `places`.
+//! - `Message::try_clone`, `CompileOptions::try_clone`, `State::try_clone`: `values`.
+//! - `format`, `format_opt`, `format_byte`, `format_byte_opt`: `chars`. `Location::new`, `Slice::serialize`, `cuts_every`: `places`.
 //! - `EditMap::add`, `EditMap::add_before`, `EditMap::consume`: `edit_map`.
 //! - `Tokenizer::push`, `Tokenizer::flush`: `driven`. `Tokenizer::define_skip`: `ranges`.
 //! - `Tokenizer::enter`, `enter_link`, `exit`, `attempt`, `check`, `register_resolver`, `register_resolver_before`: `tokenizer`.
@@ -20,8 +19,8 @@ use markdown::subtokenize::{
     Subresult, at_first_paragraph_of_list_item, divide_events, link, link_to, ready, subtokenize,
 };
 use markdown::tokenizer::{
-    Container, ContainerState, Fault, Label, LabelKind, LabelStart, TokenizeState, Tokenizer,
-    cuts_every, point_at, run,
+    AfterGap, Container, ContainerState, Fault, Label, LabelKind, LabelStart, TokenizeState,
+    Tokenizer, cuts_every, follow_on, point_at, run,
 };
 use markdown::unist::{Point as PlainPoint, Position};
 use markdown::util::char::{
@@ -37,4 +36,4 @@ use markdown::{
     CompileOptions as RootCompileOptions, Constructs as RootConstructs, Options as RootOptions,
     ParseOptions as RootParseOptions,
 };
-use mdconstructs::{Back, Deep, Fail, Lines, Paragraphs, Peek, Save, Text, Wrap, read_text};
+use mdconstructs::{Back, Deep, Fail, Lines, Paragraphs, Peek, Save, Text, Words, Wrap, read_text};

@@ -2,7 +2,7 @@
 
 ghost use Rattle.std.specs.Prelude.{◌+◌, ◌*◌, ◌^◌, ◌<◌, length};
 
-use crate::shown::push_lines;
+use crate::shown::push_events;
 use markdown::configuration::ParseOptions;
 use markdown::event::{Content, Link, Name, Point};
 use markdown::parser::ParseState;
@@ -19,13 +19,6 @@ impl MachineTypes for Types {
 
     type Document = ();
 }
-
-pub(crate) const START: Point = Point {
-    line: 1,
-    column: 1,
-    index: 0,
-    vs: 0,
-};
 
 const LINK: Link = Link {
     previous: None,
@@ -56,24 +49,35 @@ fn begin_all(t: &mut Tokenizer<Types>) -> Result<(), AllocError> {
 fn push_begun(text: &mut String, t: &Tokenizer<Types>) -> Result<(), AllocError> {
     let open = t.stack().len();
     writeln!(text, "{open} open")?;
-    push_lines(text, t.events())
+    push_events(text, t.events())
 }
 
-/// Two resolvers are registered, each twice: appends whether each is registered once in the end, in order.
+/// Three resolvers are registered, two of them twice: appends whether each is registered once in the end, in order.
 fn register(text: &mut String, t: &mut Tokenizer<Types>) -> Result<(), AllocError> {
     t.register_resolver(1)?;
     t.register_resolver_before(2)?;
     t.register_resolver_before(1)?;
     t.register_resolver(2)?;
-    let in_order = t.resolvers() == [2, 1].as_slice();
-    writeln!(text, "in order: {in_order}")
+    t.register_resolver(3)?;
+    let in_order = t.resolvers() == [2, 1, 3].as_slice();
+    writeln!(text, "; in order: {in_order}")
+}
+
+/// Spans begin in one another, so many: appends how many are open then.
+fn go_deep(text: &mut String, t: &mut Tokenizer<Types>, count: usize) -> Result<(), AllocError> {
+    for _ in 0..count {
+        t.enter(Name::BlockQuote)?;
+    }
+    let open = t.stack().len();
+    write!(text, "{open} open")
 }
 
 /// What is begun and registered.
 fn push_all(text: &mut String, t: &mut Tokenizer<Types>) -> Result<(), AllocError> {
     begin_all(t)?;
     push_begun(text, t)?;
-    register(text, t)
+    register(text, t)?;
+    go_deep(text, t, 300)
 }
 
 /// What is begun and registered by a new tokenizer.
@@ -81,11 +85,8 @@ fn begun(
     alloc: Global,
     text: &mut String,
     parse_state: &ParseState<Types>,
-) -> Result<(), AllocError>
-    requires limit { parse_state.now.options.now.tab_size * length parse_state.now.bytes.now + 1 < 2 ^ 64 }
-{
-    let _ = parse_state.options.tab_size.get();
-    let mut tokenizer = Tokenizer::new(alloc, START, parse_state);
+) -> Result<(), AllocError> {
+    let mut tokenizer = Tokenizer::new(alloc, Point::START, parse_state);
     let pushed = push_all(text, &mut tokenizer);
     drop(tokenizer);
     pushed
@@ -103,9 +104,8 @@ fn spans_choices_and_resolvers_begin(rt: HostRuntime) -> Result<(), AllocError> 
     let mut text = String::new(rt.alloc());
     begun(rt.alloc(), &mut text, &parse_state)?;
     let want = "2 open\n\
-        enter Paragraph 1:1 (0+0)\n\
-        enter Data 1:1 (0+0) Text None None\n\
-        in order: true\n";
+        enter Paragraph 1:1 (0+0); enter Data 1:1 (0+0) Text None None; in order: true\n\
+        302 open";
     assert_eq!(rt; text.as_str(), want);
     Ok(())
 }

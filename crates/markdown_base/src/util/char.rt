@@ -51,7 +51,8 @@ pub fn after_index(bytes: &[u8], index: usize) -> Option<char>
 
 /// The class of the character that begins at an index into the bytes of a text.
 ///
-/// `punctuation` tells which other characters are punctuation. It has to be false of ASCII letters and digits, which are none.
+/// White space, the end of the text and ASCII punctuation are told without `punctuation`, which is asked of any other character.
+/// If it has one answer for each, this is the class that [`classify_opt`] returns for that character.
 pub fn kind_after_index<P: Fn(char) -> bool>(bytes: &[u8], index: usize, punctuation: &P) -> Kind
     requires text { IsUtf8 bytes.now }
     requires boundary { IsCharBoundary bytes.now index }
@@ -68,7 +69,7 @@ pub fn kind_after_index<P: Fn(char) -> bool>(bytes: &[u8], index: usize, punctua
 
 /// The class of a character: white space, else punctuation, else other.
 ///
-/// `punctuation` tells which other characters are punctuation. It has to be false of ASCII letters and digits, which are none.
+/// `punctuation` is asked of a character that is neither white space nor ASCII punctuation, also of a letter or a digit.
 pub fn classify<P: Fn(char) -> bool>(char: char, punctuation: &P) -> Kind
     requires callable { P.IsAlwaysCallable punctuation.now }
     ensures class { IsClassOf (P.post punctuation.now) char result }
@@ -84,7 +85,7 @@ pub fn classify<P: Fn(char) -> bool>(char: char, punctuation: &P) -> Kind
 
 /// The class of a character, or of the end of a text, which counts as white space.
 ///
-/// `punctuation` tells which other characters are punctuation. It has to be false of ASCII letters and digits, which are none.
+/// `punctuation` is asked of a character that is neither white space nor ASCII punctuation, also of a letter or a digit.
 pub fn classify_opt<P: Fn(char) -> bool>(char: Option<char>, punctuation: &P) -> Kind
     requires callable { P.IsAlwaysCallable punctuation.now }
     ensures class { IsClassOfOpt (P.post punctuation.now) char result }

@@ -1,5 +1,5 @@
 -- The reading of a chain: its pieces are read one after another, by pushes and gaps.
-use Rattle.std.proofs.Common.{◌≡◌, ◌<◌, ◌≤◌, ◌⊎◌, inl, inr, List, [], ◌∷◌, Some, Bool, true, false, refl, sym, ap, ◌∙◌, subst}
+use Rattle.std.proofs.Common.{◌≡◌, ℕ, ◌<◌, ◌≤◌, ◌⊎◌, inl, inr, arith, List, [], ◌∷◌, Some, Bool, true, false, refl, sym, ap, ◌∙◌, subst}
 use Rattle.std.specs.Prelude.{Contains, ◌↔◌}
 use Rattle.markdown_base.specs.declared.event.Point.{Point}
 use Rattle.markdown_base.specs.declared.message.Message.{Message}
@@ -128,17 +128,32 @@ module _ {M R D : Type 0} (g : Given) (rules : M → Given → Rules R D) (m : M
       reads-moved : (P : M → Given → Text → Type 0) → P t.machine t.given t.text → P m g text
       reads-moved P h = subst (λ (x : Text). P m g x) r.whole (subst (λ (x : Given). P m x t.text) r.same_given (subst (λ (x : M). P x t.given t.text) r.machine h))
 
-      -- what a flush leaves is what resolving makes of the reading of the text
-      pub reads-flushed : (v : TokenizerValue M R D) (sub : Subresult) → IsFlushed (rules t.machine t.given) true t state v sub
-          → (q : Reading R D) × EndsIn g (rules m g).step text 0 (start_configuration flag) [] (Next start) q × (q.answer ≡ Ok) × IsResolved (rules m g).resolver g text true q.configuration v.configuration sub
-      reads-flushed v sub f =
-          (f.result, reads-ends f.result f.ends, f.well, reads-moved (λ x y w. IsResolved (rules x y).resolver y w true f.result.configuration v.configuration sub) f.resolved)
+      -- what the budget at the end pays for is within the cost at the start
+      reads-within : (calls : ℕ) → calls ≤ budget (rules t.machine t.given) t.text t state → calls ≤ (rules m g).cost text (start_configuration flag) (Next start)
+      reads-within calls l =
+          let left : calls ≤ budget (rules m g) text t state = reads-moved (λ x y w. calls ≤ budget (rules x y) w t state) l in
+          let paid : budget (rules m g) text t state ≤ budget (rules m g) text (flagged g m p flag) (Next start) =
+          subst (λ (x : Text). budget (rules m g) x t state ≤ budget (rules m g) x (flagged g m p flag) (Next start)) r.whole ((r.outcome [] tt).paid) in
+          omega arith
 
-      pub reads-refused : (v : TokenizerValue M R D) (message : Message) → IsRefused (rules t.machine t.given) true t state v message
-          → (q : Reading R D) × EndsIn g (rules m g).step text 0 (start_configuration flag) [] (Next start) q
-          × ((q.answer ≡ Error message) ⊎ ((q.answer ≡ Ok) × IsResolvingRefused (rules m g).resolver g text true q.configuration message))
+      -- the text is read to this end, within its cost
+      pub record EndsWithin (q : Reading R D) : Type 0 where
+        pub ends : EndsIn g (rules m g).step text 0 (start_configuration flag) [] (Next start) q
+        pub within : q.calls ≤ (rules m g).cost text (start_configuration flag) (Next start)
+
+      -- what a flush leaves is what resolving makes of the reading of the text
+      pub reads-flushed : (v : TokenizerValue M R D) (sub : Subresult) (f : IsFlushed (rules t.machine t.given) true t state v sub)
+          → EndsWithin f.result × IsResolved (rules m g).resolver g text true f.result.configuration v.configuration sub
+      reads-flushed v sub f = (
+        record { ends = reads-ends f.result f.ends; within = reads-within f.result.calls (subst (λ n. n ≤ budget (rules t.machine t.given) t.text t state) f.calls f.within) },
+        reads-moved (λ x y w. IsResolved (rules x y).resolver y w true f.result.configuration v.configuration sub) f.resolved,
+      )
+
+      pub reads-refused : (v : TokenizerValue M R D) (message : Message) (f : IsRefused (rules t.machine t.given) true t state v message)
+          → EndsWithin f.result
+          × ((f.result.answer ≡ Error message) ⊎ ((f.result.answer ≡ Ok) × IsResolvingRefused (rules m g).resolver g text true f.result.configuration message))
       reads-refused v message f =
-          (f.result, reads-ends f.result f.ends, refused-by f.message)
+          (record { ends = reads-ends f.result f.ends; within = reads-within f.result.calls (subst (λ n. n ≤ budget (rules t.machine t.given) t.text t state) f.calls f.within) }, refused-by f.message)
         where
           refused-by : ((f.result.answer ≡ Error message) ⊎ ((f.result.answer ≡ Ok) × IsResolvingRefused (rules t.machine t.given).resolver t.given t.text true f.result.configuration message))
               → (f.result.answer ≡ Error message) ⊎ ((f.result.answer ≡ Ok) × IsResolvingRefused (rules m g).resolver g text true f.result.configuration message)

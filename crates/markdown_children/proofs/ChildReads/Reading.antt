@@ -16,11 +16,12 @@ use Rattle.markdown_tokenizer.specs.declared.tokenizer.fault.Fault.{Fault}
 use Rattle.markdown_tokenizer.specs.declared.tokenizer.fault.Fault.TheVariants.{Memory, Failed}
 use Rattle.markdown_tokenizer.specs.declared.tokenizer.fault.Fault.TheVariants as fault
 use Rattle.markdown_edits.specs.Links.{next_of}
-use Rattle.markdown_tokenizer.specs.Text.{Given, pushed, passed, empty_text, followed_by, followed_by_all, FitsAfter, CanFollow, IsText}
+use Rattle.markdown_tokenizer.specs.Text.{Given, pushed, passed, empty_text, followed_by, followed_by_all, FitsAfter, CanFollow, IsDocument, IsText}
 use Rattle.markdown_tokenizer.specs.Configuration.{TokenizerValue}
 use Rattle.markdown_tokenizer.specs.Rules.{Rules}
 use Rattle.markdown_tokenizer.specs.Lawful.{KeepsInvariant}
-use Rattle.markdown_tokenizer.specs.Engine.{given_by, CanPush, IsPushed, IsFlushed, IsRefused}
+use Rattle.markdown_tokenizer.specs.Engine.{given_by, CanPush, IsWellFormed, IsPushed, IsFlushed, IsRefused}
+use Rattle.markdown_tokenizer.specs.Resolving.{IsInShape}
 use Rattle.markdown_children.specs.Chains.{chain_of, fits, begins}
 use Rattle.markdown_children.specs.Ready.{IsReady, place_at}
 use Rattle.markdown_children.specs.Laws.{LeadOnFrom}
@@ -87,17 +88,17 @@ module _ {M R D : Type 0} (rules : M → Given → Rules R D) (m : M) (bytes : L
   chain-within b = inside options.tab_size bytes wanted events ready c (begins-fits options.tab_size bytes wanted events ready c b)
 
   -- at the first chunk
-  pub chain-first : begins wanted events c ≡ true → All (λ b. b < 256) bytes → (1 ≤ options.tab_size) × (options.tab_size ≤ 16) → options.tab_size * length bytes + 1 < 2 ^ 64 → KeepsInvariant g (rules m g) → Contains (rules m g).starts start
+  pub chain-first : begins wanted events c ≡ true → IsDocument (given_by bytes options) → KeepsInvariant g (rules m g) → Contains (rules m g).starts start
       → (flag : Bool) → ((flag ≡ true) ↔ IsAtFirstParagraph events c options.constructs) → (t : TokenizerValue M R D) → t ≡ flagged g m (place_at events c) flag → On c t (Next start)
-  chain-first b below tab limit keeps among flag paragraph t e =
+  chain-first b document keeps among flag paragraph t e =
       let h = begins-fits options.tab_size bytes wanted events ready c b in
       let w = whole-from options.tab_size bytes wanted events ready c h in
       let left = pushed (place_at events c) (place_at events (c + 1)) ∷ pieces_behind events w.0 in
       let can : CanFollow g (empty_text (place_at events c)) left = subst (λ ks. CanFollow g (empty_text (place_at events c)) (pieces_of events ks)) w.1 (chunks_can_be_read options.tab_size bytes options wanted events ready c b) in
       let whole : followed_by_all g (empty_text (place_at events c)) left ≡ text_of_chain g events (chain_of events c) = ap (text_of_chain g events) (sym w.1) in
-      let text : IsText g (empty_text (place_at events c)) = record { document = record { bytes = below; tab = tab; limit = limit }; starts = (ready.readable c h).from.0; pieces = []; follow = tt; is = refl } in
+      let text : IsText g (empty_text (place_at events c)) = record { document = document; starts = (ready.readable c h).from.0; pieces = []; follow = tt; is = refl } in
       record {
-        wide = tab.0;
+        wide = document.tab.0;
         flag = flag;
         paragraph = paragraph;
         behind = w.0;
@@ -190,21 +191,23 @@ module _ {M R D : Type 0} (rules : M → Given → Rules R D) (m : M) (bytes : L
     chain-child v list sub f e =
         let q = reads-flushed g rules m (place_at events c) r.flag start (text_of_chain g events (chain_of events c)) t state all-read v sub f in
         record {
-          result = q.0;
-          read = record { flag = r.flag; flagged = r.paragraph; start = start; starts = starts; ends = q.1 };
-          well = q.2;
+          result = f.result;
+          read = record { flag = r.flag; flagged = r.paragraph; start = start; starts = starts; ends = q.0.ends; within = q.0.within };
+          well = f.well;
           final = v.configuration;
-          resolved = q.3;
+          resolved = q.1;
           left = e;
+          well_formed = subst (λ (x : Given). IsWellFormed x.bytes f.result.configuration) r.reads.same_given f.before;
+          in_shape = subst IsInShape (sym e) (f.in_shape refl);
         }
 
     pub chain-refused : (v : TokenizerValue M R D) (message : Message) → IsRefused (rules t.machine t.given) true t state v message → IsChildRefused g (rules m) events c message
     chain-refused v message f =
         let q = reads-refused g rules m (place_at events c) r.flag start (text_of_chain g events (chain_of events c)) t state all-read v message f in
         record {
-          result = q.0;
-          read = record { flag = r.flag; flagged = r.paragraph; start = start; starts = starts; ends = q.1 };
-          message = q.2;
+          result = f.result;
+          read = record { flag = r.flag; flagged = r.paragraph; start = start; starts = starts; ends = q.0.ends; within = q.0.within };
+          message = q.1;
         }
 
     -- a flush fails as the chain does

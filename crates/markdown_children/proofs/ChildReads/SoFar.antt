@@ -8,7 +8,7 @@ use Rattle.std.proofs.lemmas.Grind.{flat_map-append}
 use Rattle.markdown_base.specs.declared.event.Content.{Content}
 use Rattle.markdown_base.specs.declared.event.Event.{Event}
 use Rattle.markdown_base.specs.declared.message.Message.{Message}
-use Rattle.markdown_base.specs.Events.{IsBalanced, relinked}
+use Rattle.markdown_base.specs.Events.{IsBalanced, IsVoidTight, relinked}
 use Rattle.markdown_edits.specs.Edits.{Edit, AreDisjoint, removed_by, added_by}
 use Rattle.markdown_edits.specs.Edited.{edited}
 use Rattle.markdown_edits.proofs.Edits.Turns.{AreDisjoint-le}
@@ -18,7 +18,8 @@ use Rattle.markdown_tokenizer.specs.declared.tokenizer.fault.Fault.TheVariants.{
 use Rattle.markdown_tokenizer.specs.declared.tokenizer.fault.Fault.TheVariants as fault
 use Rattle.markdown_tokenizer.specs.Text.{Given}
 use Rattle.markdown_tokenizer.specs.Rules.{Rules}
-use Rattle.markdown_tokenizer.specs.Resolving.{with_more}
+use Rattle.markdown_tokenizer.specs.Resolving.{IsInShape, with_more}
+use Rattle.markdown_edits.specs.Links.{AreMutual}
 use Rattle.markdown_children.specs.Chains.{chain_of, begins, fitting_starts}
 use Rattle.markdown_children.specs.Ready.{IsReady}
 use Rattle.markdown_children.specs.Laws.{AreSpaced, HasEndsWithin}
@@ -29,7 +30,7 @@ use Rattle.markdown_children.specs.SoFar.{SoFar, starts_below}
 use Rattle.markdown_children.proofs.ChainOrder.Following.{filter-yes, filter-no, whole-from, follow_one_another}
 use Rattle.markdown_children.proofs.ChainOrder.Forward.{begins-fits, within}
 use Rattle.markdown_children.proofs.ChainOrder.Spaced.{HasParts, divided-parts, divided_over-parts}
-use Rattle.markdown_children.proofs.Parts.Kept.{children_fit}
+use Rattle.markdown_children.proofs.Parts.InShape.{children_fit}
 use Rattle.markdown_children.proofs.Parts.Edits.{all_edits-spaced, total-divided, edits_give_children}
 
 -- ---- one chain more
@@ -88,10 +89,6 @@ all-zip-long R [] [] h = refl
 all-zip-long R [] (b ∷ ys) h = absurd h
 all-zip-long R (a ∷ xs) [] h = absurd h
 all-zip-long R (a ∷ xs) (b ∷ ys) h = ap suc (all-zip-long R xs ys h.1)
-
-all-push : {A : Type 0} (P : A → Type 0) (xs : List A) (x : A) → AllByRecursion P xs → P x → AllByRecursion P (xs ++ x ∷ [])
-all-push P [] x h p = (p, tt)
-all-push P (y ∷ xs) x h p = (h.0, all-push P xs x h.1 p)
 
 -- ---- the chains that begin below an index
 
@@ -160,7 +157,7 @@ module _ (tab : ℕ) (bytes : List ℕ) (wanted : Option Content) (events : List
 
 module _ {R D : Type 0} (g : Given) (rules : Given → Rules R D) (wanted : Option Content) (events : List Event) where
   pub so_far-start : (es : List Edit) (sub : Subresult) → es ≡ [] → sub.done ≡ true → sub.definitions ≡ [] → sub.gfm_footnote_definitions ≡ [] → SoFar g rules wanted events 0 es (0, 0) sub
-  so_far-start es sub e d f n = record { children = []; read = tt; balanced = tt; ends = tt; edits = e; removed = ap removed_by (sym e); added = ap added_by (sym e); done = ((λ t. refl), (λ t. d)); definitions = f; footnotes = n }
+  so_far-start es sub e d f n = record { children = []; read = tt; edits = e; removed = ap removed_by (sym e); added = ap added_by (sym e); done = ((λ t. refl), (λ t. d)); definitions = f; footnotes = n }
 
   -- nothing begins there
   pub so_far-same : (i : ℕ) (es : List Edit) (sums : ℕ × ℕ) (sub : Subresult) → begins wanted events i ≡ false → SoFar g rules wanted events i es sums sub → SoFar g rules wanted events (i + 1) es sums sub
@@ -170,8 +167,6 @@ module _ {R D : Type 0} (g : Given) (rules : Given → Rules R D) (wanted : Opti
       record {
         children = s.children;
         read = subst (λ (ks : List ℕ). AreChildren g rules events ks s.children) same s.read;
-        balanced = s.balanced;
-        ends = s.ends;
         edits = s.edits ∙ ap (λ ks. all_edits 0 0 (divided_over events ks (lists s.children))) same;
         removed = s.removed;
         added = s.added;
@@ -189,12 +184,12 @@ module _ {R D : Type 0} (g : Given) (rules : Given → Rules R D) (wanted : Opti
 
   -- one more chain was read
   pub so_far-next : (i : ℕ) (es fs : List Edit) (sums more : ℕ × ℕ) (sub found : Subresult) (child : Child) (tab : ℕ) (bytes : List ℕ) → IsReady tab bytes wanted events → begins wanted events i ≡ true → SoFar g rules wanted events i es sums sub
-      → IsChild g rules events i child → IsBalanced child.events → HasEndsWithin child.events
+      → IsChild g rules events i child
       → fs ≡ es ++ chain_edits sums.0 sums.1 (divided events i child.events)
       → more.0 ≡ sums.0 + 2 * length (chain_of events i) → more.1 ≡ sums.1 + length child.events
       → found ≡ record (with_more sub (Some child.found)) { done = false }
       → SoFar g rules wanted events (i + 1) fs more found
-  so_far-next i es fs sums more sub found child tab bytes ready b s is bal ends e r a f_is =
+  so_far-next i es fs sums more sub found child tab bytes ready b s is e r a f_is =
       let cs : List ℕ = starts_below wanted events i in
       let d : found.done ≡ false = ap (λ (x : Subresult). x.done) f_is in
       let defs : found.definitions ≡ sub.definitions ++ child.found.definitions = ap (λ (x : Subresult). x.definitions) f_is in
@@ -212,8 +207,6 @@ module _ {R D : Type 0} (g : Given) (rules : Given → Rules R D) (wanted : Opti
       record {
         children = s.children ++ child ∷ [];
         read = subst (λ (ks : List ℕ). AreChildren g rules events ks (s.children ++ child ∷ [])) next (all-zip-push (IsChild g rules events) cs s.children i child s.read is);
-        balanced = subst (AllByRecursion IsBalanced) (sym both) (all-push IsBalanced (lists s.children) child.events s.balanced bal);
-        ends = subst (AllByRecursion HasEndsWithin) (sym both) (all-push HasEndsWithin (lists s.children) child.events s.ends ends);
         edits = e ∙ (λ j. s.edits j ++ chain_edits (zero_r j) (zero_a j) dv)
             ∙ sym (all_edits-push 0 0 ds dv (divided_over-parts events cs (lists s.children)))
             ∙ ap (all_edits 0 0) (sym (divided_over-push events cs (lists s.children) i child.events long))
@@ -229,17 +222,28 @@ module _ {R D : Type 0} (g : Given) (rules : Given → Rules R D) (wanted : Opti
       no-push [] x e = cc
       no-push (y ∷ xs) x e = cc
 
+  -- what holds of the events of each child holds of their lists
+  lists-all : (P : List Event → Type 0) → ((c : ℕ) (child : Child) → IsChild g rules events c child → P child.events) → (cs : List ℕ) (children : List Child) → AreChildren g rules events cs children → AllByRecursion P (lists children)
+  lists-all P f [] [] h = tt
+  lists-all P f [] (child ∷ children) h = absurd h
+  lists-all P f (c ∷ cs) [] h = absurd h
+  lists-all P f (c ∷ cs) (child ∷ children) h = (f c child h.0, lists-all P f cs children h.1)
+
   -- all was read, and the edits were made
   pub so_far-end : (tab : ℕ) (bytes : List ℕ) (es : List Edit) (sums : ℕ × ℕ) (sub : Subresult) (new : List Event) → IsReady tab bytes wanted events → SoFar g rules wanted events (length events) es sums sub → new ≡ edited es events
       → IsSubtokenized g rules wanted events new sub
   so_far-end tab bytes es sums sub new ready s e =
       let fit = children_fit tab bytes wanted events ready (lists s.children) in
-      let is : new ≡ with_children wanted events (lists s.children) = e ∙ ap (λ fs. edited fs events) s.edits ∙ (edits_give_children tab bytes wanted events (lists s.children) ready).give s.ends in
+      let balanced : AllByRecursion IsBalanced (lists s.children) = lists-all IsBalanced (λ c child is. is.in_shape.balanced) (starts_below wanted events (length events)) s.children s.read in
+      let chained : AllByRecursion AreMutual (lists s.children) = lists-all AreMutual (λ c child is. is.in_shape.chained) (starts_below wanted events (length events)) s.children s.read in
+      let ends : AllByRecursion HasEndsWithin (lists s.children) = lists-all HasEndsWithin (λ c child is. is.in_shape.inside) (starts_below wanted events (length events)) s.children s.read in
+      let is : new ≡ with_children wanted events (lists s.children) = e ∙ ap (λ fs. edited fs events) s.edits ∙ (edits_give_children tab bytes wanted events (lists s.children) ready).give ends in
       record {
         children = s.children;
         read = s.read;
         events = is;
-        balanced = subst IsBalanced (sym is) (fit.balanced s.balanced);
+        in_shape = subst IsInShape (sym is) (record { balanced = fit.balanced balanced; inside = fit.inside; chained = fit.chained chained });
+        tight = λ old bs torn. subst IsVoidTight (sym is) (fit.tight old bs torn);
         stays = fit.stays;
         links = fit.links;
         done = s.done;

@@ -37,7 +37,7 @@ all_edits-spaced events (c ∷ cs) (child ∷ children) removed added from n h =
 
 -- ---- the chains that fit begin at different chunks
 
-abbrev IsRising : List ℕ → Type 0
+abbrev pub IsRising : List ℕ → Type 0
 IsRising [] = Unit {0}
 IsRising (c ∷ cs) = AllByRecursion (λ (d : ℕ). c < d) cs × IsRising cs
 
@@ -49,7 +49,7 @@ above test (suc f) i m l = at (test i) refl (above test f (i + 1) m (omega arith
     at true e r = rw (filter-yes test i (range_with_len (i + 1) f) e) (l, r)
     at false e r = rw (filter-no test i (range_with_len (i + 1) f) e) r
 
-rising : (test : ℕ → Bool) (f i : ℕ) → IsRising (filter test (range_with_len i f))
+pub rising : (test : ℕ → Bool) (f i : ℕ) → IsRising (filter test (range_with_len i f))
 rising test zero i = tt
 rising test (suc f) i = at (test i) refl (rising test f (i + 1))
   where
@@ -57,10 +57,10 @@ rising test (suc f) i = at (test i) refl (rising test f (i + 1))
     at true e r = rw (filter-yes test i (range_with_len (i + 1) f) e) (above test f (i + 1) i (omega arith), r)
     at false e r = rw (filter-no test i (range_with_len (i + 1) f) e) r
 
-first-whole : (events : List Event) (c : ℕ) → IsWholeFrom events c → first_chunk (chain_of events c) ≡ c
+pub first-whole : (events : List Event) (c : ℕ) → IsWholeFrom events c → first_chunk (chain_of events c) ≡ c
 first-whole events c w = ap first_chunk w.1
 
-differ : (events : List Event) (c b : ℕ) (cs : List ℕ) (children : List (List Event)) → b ≡ c → AllByRecursion (λ (d : ℕ). c < d) cs → AllByRecursion (IsWholeFrom events) cs
+pub differ : (events : List Event) (c b : ℕ) (cs : List ℕ) (children : List (List Event)) → b ≡ c → AllByRecursion (λ (d : ℕ). c < d) cs → AllByRecursion (IsWholeFrom events) cs
     → AllByRecursion (λ (other : Divided). first_chunk other.chunks ≡ b → ⊥) (divided_over events cs children)
 differ events c b [] children e h w = tt
 differ events c b (d ∷ cs) [] e h w = tt

@@ -16,10 +16,9 @@ use Rattle.markdown_edits.specs.OpenNames.{names_after, names_after_all}
 use Rattle.markdown_edits.specs.Woven.{Tagged, Change, woven, placed_in}
 use Rattle.markdown_edits.proofs.Edits.Passes.{AreApart, olds, pass, woven-pass}
 use Rattle.markdown_edits.proofs.Balanced.{names_after_all-append, names_after_balanced, balanced_from_open, IsBalanced-pair, names-none}
-use Rattle.markdown_edits.proofs.Edits.Survivors.{stays_unless_removed, keeps_links}
 use Rattle.markdown_children.specs.Chains.{chain_of, fits, fitting_starts}
 use Rattle.markdown_children.specs.Ready.{IsReady, place_at}
-use Rattle.markdown_children.specs.Laws.{LeadOnFrom, IsWholeFrom, AreSpaced, ChildrenFit}
+use Rattle.markdown_children.specs.Laws.{LeadOnFrom, IsWholeFrom, AreSpaced}
 use Rattle.markdown_children.specs.Parts.{front_until, parts, divided_over}
 use Rattle.markdown_children.specs.Children.{tagged_child, part_changes, chain_changes, child_changes, with_children}
 use Rattle.markdown_children.proofs.ChainOrder.Following.{chunk, starts_fit, follow_one_another}
@@ -45,14 +44,14 @@ joined-parts end (next ∷ ends) es = ap (λ t. front_until end es ++ t) (joined
 
 -- ---- events without their identities
 
-abbrev untagged : List Tagged → List Event
+abbrev pub untagged : List Tagged → List Event
 untagged ts = map (λ (t : Tagged). t.event) ts
 
-untagged-olds : (i : ℕ) (xs : List Event) → untagged (olds i xs) ≡ xs
+pub untagged-olds : (i : ℕ) (xs : List Event) → untagged (olds i xs) ≡ xs
 untagged-olds i [] = refl
 untagged-olds i (x ∷ xs) = ap (λ ys. x ∷ ys) (untagged-olds (i + 1) xs)
 
-untagged-child : (c j : ℕ) (es : List Event) → untagged (tagged_child c j es) ≡ es
+pub untagged-child : (c j : ℕ) (es : List Event) → untagged (tagged_child c j es) ≡ es
 untagged-child c j [] = refl
 untagged-child c j (e ∷ es) = ap (λ ys. e ∷ ys) (untagged-child c (j + 1) es)
 
@@ -70,7 +69,7 @@ names-three : (o : Option (List Name)) (xs ys zs : List Event) → names_after_a
 names-three o xs ys zs = names_after_all-append o xs (ys ++ zs) ∙ names_after_all-append (names_after_all o xs) ys zs
 
 -- the list from i on is what stands up to k, and from k on
-split-at : (events : List Event) (i k : ℕ) → i ≤ k → drop i events ≡ between i k events ++ drop k events
+pub split-at : (events : List Event) (i k : ℕ) → i ≤ k → drop i events ≡ between i k events ++ drop k events
 split-at events i k l =
     let z : i + (k - i) ≡ k = omega arith in
     sym (take-append-drop (k - i) (drop i events)) ∙ ap (λ ys. between i k events ++ ys) (drop-drop (k - i) i events ∙ ap (λ m. drop m events) z)
@@ -83,10 +82,10 @@ module _ (tab : ℕ) (bytes : List ℕ) (wanted : Option Content) (events : List
   Fits k = fits wanted events k ≡ true
 
   -- the events from i on, after changes
-  abbrev after_changes : List Change → ℕ → List Event
+  abbrev pub after_changes : List Change → ℕ → List Event
   after_changes ws i = untagged (pass ws i (drop i events))
 
-  after-step : (w : Change) (ws : List Change) (i : ℕ) → i ≤ w.index → after_changes (w ∷ ws) i ≡ between i w.index events ++ (untagged w.events ++ after_changes ws (w.index + w.remove))
+  pub after-step : (w : Change) (ws : List Change) (i : ℕ) → i ≤ w.index → after_changes (w ∷ ws) i ≡ between i w.index events ++ (untagged w.events ++ after_changes ws (w.index + w.remove))
   after-step w ws i l =
       let z : i + (w.index + w.remove - i) ≡ w.index + w.remove = omega arith in
       let rest : drop (w.index + w.remove - i) (drop i events) ≡ drop (w.index + w.remove) events = drop-drop (w.index + w.remove - i) i events ∙ ap (λ m. drop m events) z in
@@ -178,12 +177,3 @@ module _ (tab : ℕ) (bytes : List ℕ) (wanted : Option Content) (events : List
       ∙ ap (λ ts. names_after_all (Some []) (untagged ts)) (woven-pass ws 0 events apart)
       ∙ all_chains (fitting_starts wanted events) children 0 (starts_fit tab bytes wanted events ready (range_with_len 0 n)) f.whole bs spaced (Some [])
       ∙ names_after_balanced ready.balanced [])
-
-  pub children_fit : (children : List (List Event)) → ChildrenFit wanted events children
-  children_fit children =
-      let a = changes_are_apart tab bytes wanted events children ready in
-      record {
-        balanced = with_children_balanced children;
-        stays = stays_unless_removed (child_changes wanted events children) events a.fresh;
-        links = keeps_links (child_changes wanted events children) events a.fresh;
-      }

@@ -120,12 +120,12 @@ added_by-chain c j [] (p ∷ ps) e = absurd (omega arith)
 added_by-chain c j (k ∷ ks) [] e = absurd (omega arith)
 added_by-chain c j (k ∷ ks) (p ∷ ps) e = omega (arith, length-tagged_child c j p, added_by-chain c (j + length p) ks ps (omega arith))
 
-has_no-chain : (c d n j : ℕ) (ks : List ℕ) (ps : List (List Event)) → (c ≡ d → ⊥) → HasNo (of_child c n) (part_changes d j ks ps)
+pub has_no-chain : (c d n j : ℕ) (ks : List ℕ) (ps : List (List Event)) → (c ≡ d → ⊥) → HasNo (of_child c n) (part_changes d j ks ps)
 has_no-chain c d n j [] ps ne = tt
 has_no-chain c d n j (k ∷ ks) [] ne = tt
 has_no-chain c d n j (k ∷ ks) (p ∷ ps) ne = (place_in-other_child c d n j p ne, has_no-chain c d n (j + length p) ks ps ne)
 
-has_no-append : (b : Identity) (us ws : List Change) → HasNo b us → HasNo b ws → HasNo b (us ++ ws)
+pub has_no-append : (b : Identity) (us ws : List Change) → HasNo b us → HasNo b ws → HasNo b (us ++ ws)
 has_no-append b [] ws h k = k
 has_no-append b (u ∷ us) ws h k = (h.0, has_no-append b us ws h.1 k)
 

@@ -1,5 +1,5 @@
 -- The tests together decide whether a list is ready.
-use Rattle.std.proofs.Common.{◌≡◌, ◌≢◌, ℕ, ◌+◌, ◌-◌, ◌<◌, ◌⊎◌, ⊎_elim, Bool, true, false, cond, List, length, Option, Some, None, refl, sym, ◌∙◌, ap, subst, arith, Result}
+use Rattle.std.proofs.Common.{◌≡◌, ◌≢◌, ℕ, ◌+◌, ◌<◌, ⊎_elim, Bool, true, false, cond, List, length, Option, Some, None, refl, sym, ◌∙◌, ap, subst, arith, Result}
 use Rattle.std.specs.Prelude.{◌&&◌, not, nat_lt, slice_get, unwrap_or, ◌↔◌, IfOk}
 use Rattle.std.specs.declared.result.Result.TheVariants as result
 use Rattle.std.proofs.lemmas.Bool.{lt-ltb, not-true, not_from_false, cases_eq, and_parts}

@@ -1,5 +1,5 @@
 -- The tests of a list that is ready, one by one.
-use Rattle.std.proofs.Common.{◌≡◌, ℕ, zero, suc, ◌+◌, ◌-◌, ◌<◌, ◌≤◌, ◌⊎◌, inl, inr, ⊎_elim, Bool, true, false, List, [], ◌∷◌, length, take, drop, Option, Some, None, refl, sym, ◌∙◌, ap, arith, eqb-true, eqb, ne_eqb, reverse}
+use Rattle.std.proofs.Common.{◌≡◌, ℕ, zero, suc, ◌+◌, ◌-◌, ◌<◌, ◌≤◌, inl, inr, ⊎_elim, Bool, true, false, List, [], ◌∷◌, length, take, drop, Option, Some, None, refl, sym, ◌∙◌, ap, arith, eqb-true, eqb, ne_eqb, reverse}
 use Rattle.std.specs.Prelude.{◌&&◌, ◌||◌, ◌==◌, not, is_none, nat_lt, nat_le, slice_get, option_map, option_and_then, unwrap_or}
 use Rattle.std.specs.List.{between}
 use Rattle.std.proofs.lemmas.Bool.{ltb-true, le-leb, eq-eqb, not-true, not_from_false, cases_eq, and_parts, or_cases, or_left, or_right}

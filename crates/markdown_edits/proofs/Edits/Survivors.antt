@@ -112,7 +112,7 @@ order ws n m i p q (x ∷ xs) h k e f l = ⊎_elim
     (woven_cases ws m i q x xs k f))
     (woven_cases ws n i p x xs h e)
 
-slice_get-behind : {X : Type 0} (xs ys : List X) (k : ℕ) → slice_get (xs ++ ys) (length xs + k) ≡ slice_get ys k
+pub slice_get-behind : {X : Type 0} (xs ys : List X) (k : ℕ) → slice_get (xs ++ ys) (length xs + k) ≡ slice_get ys k
 slice_get-behind [] ys k = let z : 0 + k ≡ k = omega arith in ap (slice_get ys) z
 slice_get-behind (x ∷ xs) ys k = let z : suc (length xs) + k ≡ suc (length xs + k) = omega arith in ap (slice_get (x ∷ (xs ++ ys))) z ∙ slice_get-behind xs ys k
 
@@ -165,7 +165,7 @@ stays_as_it_was ws xs new n p e =
     both None = refl
     both (Some x) = refl
 
-next_moved : (f : ℕ → Option ℕ) (o : Option Event) → option_and_then (λ (e : Event). option_and_then (λ (l : Link). l.next) e.link) (option_map (relinked f) o)
+pub next_moved : (f : ℕ → Option ℕ) (o : Option Event) → option_and_then (λ (e : Event). option_and_then (λ (l : Link). l.next) e.link) (option_map (relinked f) o)
     ≡ option_and_then f (option_and_then (λ (e : Event). option_and_then (λ (l : Link). l.next) e.link) o)
 next_moved f None = refl
 next_moved f (Some e) = link e.link
@@ -174,7 +174,7 @@ next_moved f (Some e) = link e.link
     link None = refl
     link (Some l) = refl
 
-previous_moved : (f : ℕ → Option ℕ) (o : Option Event) → option_and_then (λ (e : Event). option_and_then (λ (l : Link). l.previous) e.link) (option_map (relinked f) o)
+pub previous_moved : (f : ℕ → Option ℕ) (o : Option Event) → option_and_then (λ (e : Event). option_and_then (λ (l : Link). l.previous) e.link) (option_map (relinked f) o)
     ≡ option_and_then f (option_and_then (λ (e : Event). option_and_then (λ (l : Link). l.previous) e.link) o)
 previous_moved f None = refl
 previous_moved f (Some e) = link e.link

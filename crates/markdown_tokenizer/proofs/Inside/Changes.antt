@@ -87,7 +87,7 @@ same-positions f g stack P same events open_len (choice ∷ kept_choices) h =
     let others = same-positions f g stack P same (events_of events choice.saved) (stack_of open_len choice.saved) kept_choices h.1 in
     ap (λ (c : Choice). c ∷ map (choice_of f stack) kept_choices) first ∙ ap (λ (cs : List Choice). choice_of g stack choice ∷ cs) others
 
-module _ {M R D : Type 0} (t : Inside M R D) (sound : IsSound t) where
+module _ {M R D : Type 0} {same : R → R → Bool} (t : Inside M R D) (sound : IsSound same t) where
   abbrev bytes_in : List ℕ
   bytes_in = t.parse_state.now.bytes.now
 
@@ -107,7 +107,7 @@ module _ {M R D : Type 0} (t : Inside M R D) (sound : IsSound t) where
   size_in = length (seats_between tab_in bytes_in skips_in t.start end_in)
 
   starts-upto : is_upto tab_in bytes_in t.start end_in ≡ true
-  starts-upto = upto-upto tab_in bytes_in t.start t.after_previous end_in sound.read.from sound.read.upto
+  starts-upto = upto-upto tab_in bytes_in t.start t.after_previous end_in sound.placed.read.from sound.placed.read.upto
 
   -- what waits in another text
   waiting-on : (w : Waits) (skips : List Point) (text : Text) → (ByteWaits tab_in bytes_in skips_in t.after_previous end_in t.current → ByteWaits tab_in bytes_in skips t.after_previous text.end t.current)
@@ -120,19 +120,19 @@ module _ {M R D : Type 0} (t : Inside M R D) (sound : IsSound t) where
   -- the text ends later
   module _ (to : ℕ × ℕ) (f u : Point) (found : point_at tab_in bytes_in to ≡ Some u) (fits : FitsAfter (seen t).given (text_within t) (pushed f u)) (open_still : t.closed ≡ false) where
     longer : (after_previous : Point) (previous : Option ℕ) → IsReadTo tab_in bytes_in skips_in (text_within t) after_previous previous → IsReadTo tab_in bytes_in skips_in (text_between tab_in bytes_in skips_in t.start u) after_previous previous
-    longer after_previous previous read = read-extended tab_in wide_in bytes_in skips_in t.start end_in f u after_previous previous sound.skips read (end-place-in t sound) starts-upto fits.2 fits.3
+    longer after_previous previous read = read-extended tab_in wide_in bytes_in skips_in t.start end_in f u after_previous previous sound.placed.skips read (end-place-in t sound) starts-upto fits.2 fits.3
 
     more-bytes : size_in ≤ length (seats_between tab_in bytes_in skips_in t.start u)
-    more-bytes = extended-more tab_in wide_in bytes_in skips_in t.start end_in f u t.after_previous t.previous sound.skips sound.read (end-place-in t sound) starts-upto fits.2 fits.3
+    more-bytes = extended-more tab_in wide_in bytes_in skips_in t.start end_in f u t.after_previous t.previous sound.placed.skips sound.placed.read (end-place-in t sound) starts-upto fits.2 fits.3
 
     later-skips : AllByRecursion (IsSkip tab_in bytes_in u) skips_in
-    later-skips = extended-skips tab_in wide_in bytes_in skips_in t.start end_in f u t.after_previous t.previous sound.skips sound.read (end-place-in t sound) starts-upto fits.2 fits.3
+    later-skips = extended-skips tab_in wide_in bytes_in skips_in t.start end_in f u t.after_previous t.previous sound.placed.skips sound.placed.read (end-place-in t sound) starts-upto fits.2 fits.3
 
     later-end : is_upto tab_in bytes_in end_in u ≡ true
     later-end = upto-upto tab_in bytes_in end_in f u (same-upto tab_in bytes_in f end_in fits.2).1 fits.3
 
     still-waits : ByteWaits tab_in bytes_in skips_in t.after_previous end_in t.current → ByteWaits tab_in bytes_in skips_in t.after_previous u t.current
-    still-waits w = record { seat = w.seat; at = w.at; before = still-before tab_in wide_in bytes_in skips_in t.start end_in u t.after_previous t.previous sound.skips sound.read w.seat w.at later-end w.before; is = w.is }
+    still-waits w = record { seat = w.seat; at = w.at; before = still-before tab_in wide_in bytes_in skips_in t.start end_in u t.after_previous t.previous sound.placed.skips sound.placed.read w.seat w.at later-end w.before; is = w.is }
 
     longer-saved : (p : Progress) → IsProgress t.phase tab_in bytes_in skips_in (text_within t) t.events.items t.stack.items t.closed p
         → IsProgress t.phase tab_in bytes_in skips_in (text_between tab_in bytes_in skips_in t.start u) t.events.items t.stack.items t.closed p
@@ -141,34 +141,36 @@ module _ {M R D : Type 0} (t : Inside M R D) (sound : IsSound t) where
         record {
           read = longer p.after_previous p.previous h.read;
           ended = h.ended;
-          made = λ reads. made-more tab_in wide_in bytes_in skips_in t.start end_in p.after_previous p.previous sound.skips h.read (take p.events_len t.events.items) (take p.stack_len t.stack.items)
+          made = λ reads. made-more tab_in wide_in bytes_in skips_in t.start end_in p.after_previous p.previous sound.placed.skips h.read (take p.events_len t.events.items) (take p.stack_len t.stack.items)
               (can_feed position size_in t.closed) (can_feed position (length (seats_between tab_in bytes_in skips_in t.start u)) t.closed) (can-feed-more position size_in (length (seats_between tab_in bytes_in skips_in t.start u)) t.closed more-bytes) (h.made reads);
         }
 
     text-longer : followed_by (seen t).given (text_within t) (pushed f u) ≡ text_between tab_in bytes_in skips_in t.start u
     text-longer = ap (λ (seats : List Seat). record { start = t.start; seats = seats; end = u })
-        (sym (extended-seats tab_in wide_in bytes_in skips_in t.start end_in f u t.after_previous t.previous sound.skips sound.read (end-place-in t sound) starts-upto fits.2 fits.3))
+        (sym (extended-seats tab_in wide_in bytes_in skips_in t.start end_in f u t.after_previous t.previous sound.placed.skips sound.placed.read (end-place-in t sound) starts-upto fits.2 fits.3))
 
     end-found : end_point tab_in bytes_in to ≡ u
     end-found = ap (λ (o : Option Point). unwrap_or o (point 1 1 0 0)) found
 
-    pub extended-sound : IsSound (record t { end = to })
+    pub extended-sound : IsSound same (record t { end = to })
     extended-sound =
         let e = end-found in
         record {
-          limit = sound.limit;
-          tab = sound.tab;
-          reads = sound.reads;
-          end_at = rw e found;
-          text = rw e (subst (IsText (seen t).given) text-longer (text-more (seen t).given (text_within t) (pushed f u) sound.text fits));
-          skips = rw e later-skips;
-          read = rw e (longer t.after_previous t.previous sound.read);
-          waiting = rw e (waiting-on t.waits skips_in (text_between tab_in bytes_in skips_in t.start u) still-waits (λ c all. absurd (let no : true ≡ false = sym c ∙ open_still in cc)) sound.waiting);
-          ended = sound.ended;
+          placed = record {
+            tab = sound.placed.tab;
+            reads = sound.placed.reads;
+            end_at = rw e found;
+            text = rw e (subst (IsText (seen t).given) text-longer (text-more (seen t).given (text_within t) (pushed f u) sound.placed.text fits));
+            skips = rw e later-skips;
+            read = rw e (longer t.after_previous t.previous sound.placed.read);
+            waiting = rw e (waiting-on t.waits skips_in (text_between tab_in bytes_in skips_in t.start u) still-waits (λ c all. absurd (let no : true ≡ false = sym c ∙ open_still in cc)) sound.placed.waiting);
+            ended = sound.placed.ended;
+          };
           made = sound.made;
           kept_choices = rw e (nested-map (IsProgress t.phase tab_in bytes_in skips_in (text_within t) t.events.items t.stack.items t.closed)
               (IsProgress t.phase tab_in bytes_in skips_in (text_between tab_in bytes_in skips_in t.start u) t.events.items t.stack.items t.closed)
               (length t.events.items) (length t.stack.items) (reverse t.kept_choices.items) (λ p a b h. longer-saved p h) sound.kept_choices);
+          once = sound.once;
         }
 
     pub extended-seen : seen (record t { end = to }) ≡ extended (seen t) (followed_by (seen t).given (seen t).text (pushed f u))
@@ -181,7 +183,7 @@ module _ {M R D : Type 0} (t : Inside M R D) (sound : IsSound t) where
 
     -- what the test of the code tells
     after-end : is_after_pair (shown bytes_in q) t.end ≡ stands_before end_in (shown bytes_in q)
-    after-end = let at = point_at-is tab_in bytes_in t.end end_in sound.end_at in let i = at.index in let v = at.vs in rw (i, v) refl
+    after-end = let at = point_at-is tab_in bytes_in t.end end_in sound.placed.end_at in let i = at.index in let v = at.vs in rw (i, v) refl
 
     pub passes-none : is_after_pair (shown bytes_in q) t.end ≡ false → denotes_same tab_in bytes_in q end_in ≡ true
     passes-none e = elim fits.1 [
@@ -222,45 +224,45 @@ module _ {M R D : Type 0} (t : Inside M R D) (sound : IsSound t) where
       text_added = text_between tab_in bytes_in added t.start q
 
       size-same : length text_added.seats ≡ size_in
-      size-same = ap length (passed-seats tab_in wide_in bytes_in skips_in t.start end_in q t.after_previous t.previous sound.skips sound.read (end-place-in t sound) passed-place starts-upto is.first is.line is.before is.other)
+      size-same = ap length (passed-seats tab_in wide_in bytes_in skips_in t.start end_in q t.after_previous t.previous sound.placed.skips sound.placed.read (end-place-in t sound) passed-place starts-upto is.first is.line is.before is.other)
 
       position-same : (after_previous : Point) (previous : Option ℕ) → IsReadTo tab_in bytes_in skips_in (text_within t) after_previous previous → position_from tab_in bytes_in added t.start after_previous ≡ position_from tab_in bytes_in skips_in t.start after_previous
-      position-same after_previous previous read = passed-position tab_in wide_in bytes_in skips_in t.start end_in q after_previous previous sound.skips read (end-place-in t sound) passed-place starts-upto is.first is.line is.before is.other
+      position-same after_previous previous read = passed-position tab_in wide_in bytes_in skips_in t.start end_in q after_previous previous sound.placed.skips read (end-place-in t sound) passed-place starts-upto is.first is.line is.before is.other
 
       pub text-passed : followed_by (seen t).given (text_within t) (passed q) ≡ text_added
       text-passed =
           let o = is.other in
-          let seats = passed-seats tab_in wide_in bytes_in skips_in t.start end_in q t.after_previous t.previous sound.skips sound.read (end-place-in t sound) passed-place starts-upto is.first is.line is.before is.other in
+          let seats = passed-seats tab_in wide_in bytes_in skips_in t.start end_in q t.after_previous t.previous sound.placed.skips sound.placed.read (end-place-in t sound) passed-place starts-upto is.first is.line is.before is.other in
           rw o (ap (λ (xs : List Seat). record { start = t.start; seats = xs; end = q }) (sym seats))
 
       -- the gaps so far are in earlier lines
       pub passed-behind : AllByRecursion (λ (p : Point). p.line < q.line) skips_in
-      passed-behind = let l = is.line in subst (λ (k : ℕ). AllByRecursion (λ (p : Point). p.line < k) skips_in) (sym l) (skips-earlier tab_in bytes_in wide_in end_in (end-place-in t sound) is.first skips_in sound.skips)
+      passed-behind = let l = is.line in subst (λ (k : ℕ). AllByRecursion (λ (p : Point). p.line < k) skips_in) (sym l) (skips-earlier tab_in bytes_in wide_in end_in (end-place-in t sound) is.first skips_in sound.placed.skips)
 
       passed-later : is_upto tab_in bytes_in end_in q ≡ true
       passed-later = upto-order tab_in bytes_in end_in q (after-before end_in.index end_in.vs q.index q.vs is.before)
 
       read-on : (after_previous : Point) (previous : Option ℕ) → IsReadTo tab_in bytes_in skips_in (text_within t) after_previous previous → IsReadTo tab_in bytes_in added text_added after_previous previous
-      read-on after_previous previous read = read-passed tab_in wide_in bytes_in skips_in t.start end_in q after_previous previous sound.skips read (end-place-in t sound) passed-place starts-upto is.first is.line is.before is.other
+      read-on after_previous previous read = read-passed tab_in wide_in bytes_in skips_in t.start end_in q after_previous previous sound.placed.skips read (end-place-in t sound) passed-place starts-upto is.first is.line is.before is.other
 
       shown-on : (after_previous : Point) (previous : Option ℕ) → IsReadTo tab_in bytes_in skips_in (text_within t) after_previous previous → stands_before (shown bytes_in (resumed added after_previous)) (shown bytes_in (resumed skips_in after_previous)) ≡ false
-      shown-on after_previous previous read = passed-shown tab_in wide_in bytes_in skips_in t.start end_in q after_previous previous sound.skips read (end-place-in t sound) passed-place starts-upto is.first is.line is.before is.other
+      shown-on after_previous previous read = passed-shown tab_in wide_in bytes_in skips_in t.start end_in q after_previous previous sound.placed.skips read (end-place-in t sound) passed-place starts-upto is.first is.line is.before is.other
 
       byte-on : ByteWaits tab_in bytes_in skips_in t.after_previous end_in t.current → ByteWaits tab_in bytes_in added t.after_previous q t.current
       byte-on w =
-          let more = next-more tab_in wide_in bytes_in skips_in t.start end_in t.after_previous t.previous sound.skips sound.read w.seat w.at w.before in
-          let same = passed-resumed tab_in wide_in bytes_in skips_in t.start end_in q t.after_previous t.previous sound.skips sound.read (end-place-in t sound) passed-place starts-upto is.first is.line is.before is.other more in
+          let more = next-more tab_in wide_in bytes_in skips_in t.start end_in t.after_previous t.previous sound.placed.skips sound.placed.read w.seat w.at w.before in
+          let same = passed-resumed tab_in wide_in bytes_in skips_in t.start end_in q t.after_previous t.previous sound.placed.skips sound.placed.read (end-place-in t sound) passed-place starts-upto is.first is.line is.before is.other more in
           record {
             seat = w.seat;
             at = subst (λ (p : Point). IsSeatAt tab_in bytes_in p w.seat) (sym same) w.at;
-            before = still-before tab_in wide_in bytes_in skips_in t.start end_in q t.after_previous t.previous sound.skips sound.read w.seat w.at passed-later w.before;
+            before = still-before tab_in wide_in bytes_in skips_in t.start end_in q t.after_previous t.previous sound.placed.skips sound.placed.read w.seat w.at passed-later w.before;
             is = w.is;
           }
 
       waits-on : IsWhatWaits tab_in bytes_in added text_added t.after_previous t.current t.closed t.waits
       waits-on =
-          let p = position-same t.after_previous t.previous sound.read in
-          waiting-on t.waits added text_added byte-on (λ c all. omega (arith, all, size-same, p)) sound.waiting
+          let p = position-same t.after_previous t.previous sound.placed.read in
+          waiting-on t.waits added text_added byte-on (λ c all. omega (arith, all, size-same, p)) sound.placed.waiting
 
       module _ (events : List Event) (stack : List Name) (after_previous : Point) (previous : Option ℕ) (read : IsReadTo tab_in bytes_in skips_in (text_within t) after_previous previous) where
         resumed-on : IsMade bytes_in events stack (shown bytes_in after_previous) (shown bytes_in (resumed skips_in after_previous)) → IsMade bytes_in events stack (shown bytes_in after_previous) (shown bytes_in (resumed added after_previous))
@@ -293,20 +295,20 @@ module _ {M R D : Type 0} (t : Inside M R D) (sound : IsSound t) where
         added-end_at = let e = passed-end in rw e (point_at-point tab_in bytes_in wide_in q fits.0)
 
         pub added-text_is : IsText (seen t).given (text_between tab_in bytes_in list t.start (end_point tab_in bytes_in (q.index, q.vs)))
-        added-text_is = let e = passed-end in rw (put, e) (subst (IsText (seen t).given) text-passed (text-more (seen t).given (text_within t) (passed q) sound.text fits))
+        added-text_is = let e = passed-end in rw (put, e) (subst (IsText (seen t).given) text-passed (text-more (seen t).given (text_within t) (passed q) sound.placed.text fits))
 
         pub added-skips_are : AllByRecursion (IsSkip tab_in bytes_in (end_point tab_in bytes_in (q.index, q.vs))) list
         added-skips_are =
-            let e = passed-end in rw (put, e) (passed-skips tab_in wide_in bytes_in skips_in t.start end_in q t.after_previous t.previous sound.skips sound.read (end-place-in t sound) passed-place starts-upto is.first is.line is.before is.other)
+            let e = passed-end in rw (put, e) (passed-skips tab_in wide_in bytes_in skips_in t.start end_in q t.after_previous t.previous sound.placed.skips sound.placed.read (end-place-in t sound) passed-place starts-upto is.first is.line is.before is.other)
 
         pub added-read_to : IsReadTo tab_in bytes_in list (text_between tab_in bytes_in list t.start (end_point tab_in bytes_in (q.index, q.vs))) t.after_previous t.previous
-        added-read_to = let e = passed-end in rw (put, e) (read-on t.after_previous t.previous sound.read)
+        added-read_to = let e = passed-end in rw (put, e) (read-on t.after_previous t.previous sound.placed.read)
 
         pub added-waiting : IsWhatWaits tab_in bytes_in list (text_between tab_in bytes_in list t.start (end_point tab_in bytes_in (q.index, q.vs))) t.after_previous t.current t.closed t.waits
         added-waiting = let e = passed-end in rw (put, e) waits-on
 
         pub added-made : t.phase ≡ Reading → IsMade bytes_in t.events.items t.stack.items (shown bytes_in t.after_previous) (shown bytes_in (standing list t.after_previous t.waits))
-        added-made reads = rw put (standing-on t.events.items t.stack.items t.after_previous t.previous sound.read t.waits (sound.made reads))
+        added-made reads = rw put (standing-on t.events.items t.stack.items t.after_previous t.previous sound.placed.read t.waits (sound.made reads))
 
         pub added-kept_choices : AreNested (IsProgress t.phase tab_in bytes_in list (text_between tab_in bytes_in list t.start (end_point tab_in bytes_in (q.index, q.vs))) t.events.items t.stack.items t.closed) (length t.events.items) (length t.stack.items) (reverse t.kept_choices.items)
         added-kept_choices =
@@ -318,7 +320,7 @@ module _ {M R D : Type 0} (t : Inside M R D) (sound : IsSound t) where
         added-text_seen = let e = passed-end in rw (put, e) (sym text-passed)
 
         added-position : position_from tab_in bytes_in list t.start t.after_previous ≡ position_from tab_in bytes_in skips_in t.start t.after_previous
-        added-position = rw put (position-same t.after_previous t.previous sound.read)
+        added-position = rw put (position-same t.after_previous t.previous sound.placed.read)
 
         added-choices : map (choice_of (position_from tab_in bytes_in list t.start) t.stack.items) (reverse t.kept_choices.items) ≡ map (choice_of (position_from tab_in bytes_in skips_in t.start) t.stack.items) (reverse t.kept_choices.items)
         added-choices =
@@ -363,7 +365,18 @@ pub entered-here : {M R D : Type 0} (t : Inside M R D) (slice : List Point) (pla
     → here ≡ shown t.parse_state.now.bytes.now place → here ≡ shown t.parse_state.now.bytes.now (standing t.skips t.after_previous t.waits)
 entered-here t slice place here e f g = g ∙ ap (shown t.parse_state.now.bytes.now) (f ∙ ap (λ (skips : List Point). standing skips t.after_previous t.waits) e)
 
-module _ {M R D : Type 0} (t : Inside M R D) (sound : IsSound t) where
+standing-there : (skips : List Point) (p : Point) (waits : Waits) → resumed skips p ≡ p → standing skips p waits ≡ p
+standing-there skips p Nothing e = refl
+standing-there skips p Byte e = e
+standing-there skips p End e = e
+
+-- the same where the next byte is looked for at the place after the byte before
+pub entered-there : {M R D : Type 0} (t : Inside M R D) (slice : List Point) (here : Point) → slice ≡ t.skips → resumed slice t.after_previous ≡ t.after_previous
+    → here ≡ shown t.parse_state.now.bytes.now t.after_previous → here ≡ shown t.parse_state.now.bytes.now (standing t.skips t.after_previous t.waits)
+entered-there t slice here e there is =
+    is ∙ ap (shown t.parse_state.now.bytes.now) (sym (standing-there t.skips t.after_previous t.waits (subst (λ (skips : List Point). resumed skips t.after_previous ≡ t.after_previous) e there)))
+
+module _ {M R D : Type 0} {same : R → R → Bool} (t : Inside M R D) (sound : IsSound same t) where
   -- a span begins
   module _ (name : Name) (link : Option Link) (here : Point) (is : here ≡ shown t.parse_state.now.bytes.now (standing t.skips t.after_previous t.waits)) (events : List Event) (stack : List Name)
       (put : events ≡ t.events.items ++ record { kind = Enter; name = name; point = here; link = link } ∷ []) (top : stack ≡ t.stack.items ++ name ∷ []) where
@@ -428,7 +441,7 @@ module _ (position : Point → ℕ) (stack : List Name) (P : Progress → Type 0
   nested-below events [] a h = tt
   nested-below events (choice ∷ kept_choices) a h = below-mark events choice.saved kept_choices (first-above choice kept_choices a) (nested-below events kept_choices (rest-above choice kept_choices a)) h.0 h.1
 
-module _ {M R D : Type 0} (t : Inside M R D) (sound : IsSound t) (name : Name) (can : CanExit name (seen t)) (events : List Event) (stack : List Name) (here : Point)
+module _ {M R D : Type 0} {same : R → R → Bool} (t : Inside M R D) (sound : IsSound same t) (name : Name) (can : CanExit name (seen t)) (events : List Event) (stack : List Name) (here : Point)
     (is : here ≡ shown t.parse_state.now.bytes.now t.after_previous)
     (put : events ≡ t.events.items ++ record { kind = Exit; name = name; point = here; link = None } ∷ []) (top : stack ≡ take (length t.stack.items - 1) t.stack.items) where
   abbrev left_at : Point
@@ -515,7 +528,7 @@ linked-unlinked previous next events =
     updated-unlinked next (with_previous previous) (λ e. ends-dropped (previous_set previous) (λ l. refl) e e.link refl) (updated_at previous (with_next next) events)
     ∙ updated-unlinked previous (with_next next) (λ e. ends-dropped (next_set next) (λ l. refl) e e.link refl) events
 
-module _ {M R D : Type 0} (t : Inside M R D) (sound : IsSound t) (previous next : ℕ) (events : List Event) (is : events ≡ linked_to previous next t.events.items) where
+module _ {M R D : Type 0} {same : R → R → Bool} (t : Inside M R D) (sound : IsSound same t) (previous next : ℕ) (events : List Event) (is : events ≡ linked_to previous next t.events.items) where
   events-unlinked : map unlinked events ≡ map unlinked t.events.items
   events-unlinked = ap (map unlinked) is ∙ linked-unlinked previous next t.events.items
 

@@ -31,7 +31,7 @@ byte-more position size closed h = grind (arith, nat_tests)
 pub closed-more : (position size : ℕ) (closed : Bool) → closed ≡ true → can_feed position size closed ≡ true
 closed-more position size closed e = rw e (or-true (nat_lt position size))
 
-module _ {M R D : Type 0} (t : Inside M R D) (sound : IsSound t) where
+module _ {M R D : Type 0} {same : R → R → Bool} (t : Inside M R D) (sound : IsSound same t) where
   abbrev bytes_in : List ℕ
   bytes_in = t.parse_state.now.bytes.now
 
@@ -60,17 +60,17 @@ module _ {M R D : Type 0} (t : Inside M R D) (sound : IsSound t) where
   can_feed_in = can_feed position_in (length (text_within t).seats) t.closed
 
   reach-by : (a b : Bool) → (a ≡ true → b ≡ true) → MadeUpto (reach t.skips t.after_previous a) → MadeUpto (reach t.skips t.after_previous b)
-  reach-by a b f m = made-more tab_in wide_in bytes_in t.skips t.start (text_within t).end t.after_previous t.previous sound.skips sound.read t.events.items t.stack.items a b f m
+  reach-by a b f m = made-more tab_in wide_in bytes_in t.skips t.start (text_within t).end t.after_previous t.previous sound.placed.skips sound.placed.read t.events.items t.stack.items a b f m
 
   -- where something waits more can be fed
   waits-more : (w : Waits) → IsWhatWaits tab_in bytes_in t.skips (text_within t) t.after_previous t.current t.closed w → MadeUpto (standing t.skips t.after_previous w) → MadeUpto (reach t.skips t.after_previous can_feed_in)
   waits-more Nothing h m = reach-by false can_feed_in (λ e. absurd (cc)) m
   waits-more Byte h m = reach-by true can_feed_in (λ e. byte-more position_in (length (text_within t).seats) t.closed
-      (next-more tab_in wide_in bytes_in t.skips t.start (text_within t).end t.after_previous t.previous sound.skips sound.read h.seat h.at h.before)) m
+      (next-more tab_in wide_in bytes_in t.skips t.start (text_within t).end t.after_previous t.previous sound.placed.skips sound.placed.read h.seat h.at h.before)) m
   waits-more End h m = reach-by true can_feed_in (λ e. closed-more position_in (length (text_within t).seats) t.closed h.closed_too) m
 
   pub saves-here : Saves (progress_of t)
-  saves-here = let e = all-events in let s = all-stack in record { read = sound.read; ended = sound.ended; made = λ reads. rw (e, s) (waits-more t.waits sound.waiting (sound.made reads)) }
+  saves-here = let e = all-events in let s = all-stack in record { read = sound.placed.read; ended = sound.placed.ended; made = λ reads. rw (e, s) (waits-more t.waits sound.placed.waiting (sound.made reads)) }
 
   module _ (kind : AttemptKind) (ok nok : GoesOn) where
     abbrev mark_if : Bool → KeptChoice

@@ -31,8 +31,8 @@ use Rattle.markdown_tokenizer.proofs.Inside.Made.{made-bound}
 use Rattle.markdown_tokenizer.proofs.Positions.Points.{same-shown}
 
 -- tab stops are apart
-pub wide_of : {M R D : Type 0} (t : Inside M R D) → IsSound t → 0 < tab_of t.parse_state.now
-wide_of t sound = let least : 1 ≤ tab_of t.parse_state.now = sound.text.document.tab.0 in omega (arith, least)
+pub wide_of : {M R D : Type 0} {same : R → R → Bool} (t : Inside M R D) → IsSound same t → 0 < tab_of t.parse_state.now
+wide_of t sound = let least : 1 ≤ tab_of t.parse_state.now = sound.placed.text.document.tab.0 in omega (arith, least)
 
 module _ (tab : ℕ) (wide : 0 < tab) (bytes : List ℕ) (skips : List Point) where
   -- the text is what was read and what is left
@@ -330,14 +330,14 @@ narrow-mark P events stack (Some p) kept_choices h k = nested-wider P p.events_l
 pub nested-front : (P : Progress → Type 0) (events stack : ℕ) (choice : KeptChoice) (kept_choices : List KeptChoice) → AreNested P events stack (choice ∷ kept_choices) → AreNested P events stack kept_choices
 nested-front P events stack choice kept_choices h = narrow-mark P events stack choice.saved kept_choices h.0 h.1
 
-module _ {M R D : Type 0} (t : Inside M R D) (sound : IsSound t) where
+module _ {M R D : Type 0} {same : R → R → Bool} (t : Inside M R D) (sound : IsSound same t) where
   waiting-closed : (tab : ℕ) (bytes : List ℕ) (skips : List Point) (text : Text) (after_previous : Point) (current : Option ℕ) (closed : Bool) (waits : Waits)
       → IsWhatWaits tab bytes skips text after_previous current closed waits → IsWhatWaits tab bytes skips text after_previous current true waits
   waiting-closed tab bytes skips text after_previous current closed Nothing h = h
   waiting-closed tab bytes skips text after_previous current closed Byte h = h
   waiting-closed tab bytes skips text after_previous current closed End h = record { none = h.none; closed_too = refl; all = h.all }
 
-  pub closed-sound : IsSound (record t { closed = true })
+  pub closed-sound : IsSound same (record t { closed = true })
   closed-sound =
       let bytes = t.parse_state.now.bytes.now in
       let tab = tab_of t.parse_state.now in
@@ -345,15 +345,16 @@ module _ {M R D : Type 0} (t : Inside M R D) (sound : IsSound t) where
       let skips = t.skips in
       let text = text_within t in
       record {
-        limit = sound.limit;
-        tab = sound.tab;
-        reads = λ e. absurd (let f : true ≡ false = e in cc);
-        end_at = sound.end_at;
-        text = sound.text;
-        skips = sound.skips;
-        read = sound.read;
-        waiting = waiting-closed tab bytes skips text t.after_previous t.current t.closed t.waits sound.waiting;
-        ended = λ _. refl;
+        placed = record {
+          tab = sound.placed.tab;
+          reads = λ e. absurd (let f : true ≡ false = e in cc);
+          end_at = sound.placed.end_at;
+          text = sound.placed.text;
+          skips = sound.placed.skips;
+          read = sound.placed.read;
+          waiting = waiting-closed tab bytes skips text t.after_previous t.current t.closed t.waits sound.placed.waiting;
+          ended = λ _. refl;
+        };
         made = sound.made;
         kept_choices = nested-map (IsProgress t.phase tab bytes skips text t.events.items t.stack.items t.closed) (IsProgress t.phase tab bytes skips text t.events.items t.stack.items true) (length t.events.items) (length t.stack.items) (reverse t.kept_choices.items)
             (λ p a b h.
@@ -361,7 +362,8 @@ module _ {M R D : Type 0} (t : Inside M R D) (sound : IsSound t) where
             record {
               read = h.read;
               ended = λ _. refl;
-              made = λ reads. made-more tab wide bytes skips t.start text.end p.after_previous p.previous sound.skips h.read (take p.events_len t.events.items) (take p.stack_len t.stack.items)
+              made = λ reads. made-more tab wide bytes skips t.start text.end p.after_previous p.previous sound.placed.skips h.read (take p.events_len t.events.items) (take p.stack_len t.stack.items)
                   (can_feed position (length text.seats) t.closed) (can_feed position (length text.seats) true) (λ e. or-true _) (h.made reads);
             }) sound.kept_choices;
+        once = sound.once;
       }

@@ -185,7 +185,7 @@ made-closed bytes events stack after_previous bound m e = record {
 }
 
 -- a tokenizer whose choices end
-module _ {M R D : Type 0} (t : Inside M R D) (sound : IsSound t) (ok : Bool) (some : t.kept_choices.items ≡ [] → ⊥) (list : List KeptChoice) (goal : GoesOn) (from : Progress)
+module _ {M R D : Type 0} {same : R → R → Bool} (t : Inside M R D) (sound : IsSound same t) (ok : Bool) (some : t.kept_choices.items ≡ [] → ⊥) (list : List KeptChoice) (goal : GoesOn) (from : Progress)
     (ends : unwinding (reverse list) goal from ≡ unwound (reverse t.kept_choices.items) (ended_by ok) (progress_of t)) where
   abbrev bytes_in : List ℕ
   bytes_in = t.parse_state.now.bytes.now
@@ -266,7 +266,7 @@ module _ {M R D : Type 0} (t : Inside M R D) (sound : IsSound t) (ok : Bool) (so
     -- a byte is fed
     module _ (byte : ℕ) (n : IsNextByte tab_in bytes_in (resumed t.skips from.after_previous) t.end (Some byte)) where
       pub byte-left : position_in from.after_previous < size_in
-      byte-left = next-more tab_in wide_in bytes_in t.skips t.start (text_within t).end from.after_previous from.previous sound.skips kept-here.read n.0 n.1 (before-end t sound n.0.point ∙ n.2)
+      byte-left = next-more tab_in wide_in bytes_in t.skips t.start (text_within t).end from.after_previous from.previous sound.placed.skips kept-here.read n.0 n.1 (before-end t sound n.0.point ∙ n.2)
 
       pub byte-waits-there : ByteWaits tab_in bytes_in t.skips from.after_previous (text_within t).end (Some byte)
       byte-waits-there = record { seat = n.0; at = n.1; before = before-end t sound n.0.point ∙ n.2; is = ap Some (sym n.3) }
@@ -280,8 +280,8 @@ module _ {M R D : Type 0} (t : Inside M R D) (sound : IsSound t) (ok : Bool) (so
       none-left-there = by n
         where
           by : IsNextByte tab_in bytes_in (resumed t.skips from.after_previous) t.end None → size_in ≤ position_in from.after_previous
-          by (inl e) = next-none-left tab_in wide_in bytes_in t.skips t.start (text_within t).end from.after_previous from.previous sound.skips kept-here.read e
-          by (inr m) = next-past tab_in wide_in bytes_in t.skips t.start (text_within t).end from.after_previous from.previous sound.skips kept-here.read m.0 m.1 (before-end t sound m.0.point ∙ m.2)
+          by (inl e) = next-none-left tab_in wide_in bytes_in t.skips t.start (text_within t).end from.after_previous from.previous sound.placed.skips kept-here.read e
+          by (inr m) = next-past tab_in wide_in bytes_in t.skips t.start (text_within t).end from.after_previous from.previous sound.placed.skips kept-here.read m.0 m.1 (before-end t sound m.0.point ∙ m.2)
 
       pub end-made : t.closed ≡ true → MadeUpto (resumed t.skips from.after_previous)
       end-made closed = reach-is true (closed-more (position_in from.after_previous) size_in t.closed closed)
@@ -324,7 +324,7 @@ takes-ended flush q true answer e f = rw e (refl, f)
 takes-ended flush q false answer e f = rw e (refl, f)
 
 -- the fields once choices have ended
-module _ {M R D : Type 0} (t : Inside M R D) (sound : IsSound t) (flush ok : Bool) (some : t.kept_choices.items ≡ [] → ⊥) (kept_choices : Vec KeptChoice) (goal : GoesOn) (from : Progress)
+module _ {M R D : Type 0} {same : R → R → Bool} (t : Inside M R D) (sound : IsSound same t) (flush ok : Bool) (some : t.kept_choices.items ≡ [] → ⊥) (kept_choices : Vec KeptChoice) (goal : GoesOn) (from : Progress)
     (ends : unwinding (reverse kept_choices.items) goal from ≡ unwound (reverse t.kept_choices.items) (ended_by ok) (progress_of t))
     (events : Vec Event) (stack : Vec Name) (cut : events.items ≡ take from.events_len t.events.items) (top : stack.items ≡ take from.stack_len t.stack.items) where
   abbrev bytes_there : List ℕ
@@ -349,38 +349,40 @@ module _ {M R D : Type 0} (t : Inside M R D) (sound : IsSound t) (flush ok : Boo
   NextThere o = IsNextByte tab_there bytes_there (resumed t.skips from.after_previous) t.end o
 
   sound-by : (waits : Waits) (ended : Bool) (current : Option ℕ) → IsWhatWaits tab_there bytes_there t.skips (text_within t) from.after_previous current t.closed waits → (ended ≡ true → t.closed ≡ true)
-      → (t.phase ≡ Reading → IsMade bytes_there events.items stack.items (shown bytes_there from.after_previous) (shown bytes_there (standing t.skips from.after_previous waits))) → IsSound (after waits ended current)
+      → (t.phase ≡ Reading → IsMade bytes_there events.items stack.items (shown bytes_there from.after_previous) (shown bytes_there (standing t.skips from.after_previous waits))) → IsSound same (after waits ended current)
   sound-by waits ended current w e m = record {
-    limit = sound.limit;
-    tab = sound.tab;
-    reads = sound.reads;
-    end_at = sound.end_at;
-    text = sound.text;
-    skips = sound.skips;
-    read = (kept-here t sound ok some kept_choices.items goal from ends).read;
-    waiting = w;
-    ended = e;
+    placed = record {
+      tab = sound.placed.tab;
+      reads = sound.placed.reads;
+      end_at = sound.placed.end_at;
+      text = sound.placed.text;
+      skips = sound.placed.skips;
+      read = (kept-here t sound ok some kept_choices.items goal from ends).read;
+      waiting = w;
+      ended = e;
+    };
     made = m;
     kept_choices = going-kept_choices t sound ok some kept_choices.items goal from ends events.items stack.items cut top;
+    once = sound.once;
   }
 
   -- a byte
-  pub byte-sound : (byte : ℕ) → NextThere (Some byte) → IsSound (after Byte from.ended (Some byte))
+  pub byte-sound : (byte : ℕ) → NextThere (Some byte) → IsSound same (after Byte from.ended (Some byte))
   byte-sound byte n = sound-by Byte from.ended (Some byte) (byte-waits-there t sound ok some kept_choices.items goal from ends events.items stack.items cut top byte n)
       (kept-here t sound ok some kept_choices.items goal from ends).ended (byte-made t sound ok some kept_choices.items goal from ends events.items stack.items cut top byte n)
 
   -- the end
-  pub end-sound : NextThere None → t.closed ≡ true → IsSound (after End true None)
+  pub end-sound : NextThere None → t.closed ≡ true → IsSound same (after End true None)
   end-sound n closed = sound-by End true None (record { none = refl; closed_too = closed; all = none-left-there t sound ok some kept_choices.items goal from ends events.items stack.items cut top n })
       (λ _. closed) (end-made t sound ok some kept_choices.items goal from ends events.items stack.items cut top n closed)
 
   -- nothing
-  pub none-sound : NextThere None → t.closed ≡ false → IsSound (after Nothing from.ended None)
+  pub none-sound : NextThere None → t.closed ≡ false → IsSound same (after Nothing from.ended None)
   none-sound n still = sound-by Nothing from.ended None refl (kept-here t sound ok some kept_choices.items goal from ends).ended
       (none-made t sound ok some kept_choices.items goal from ends events.items stack.items cut top n still)
 
   -- the reading has ended
-  pub ended-sound : stack.items ≡ [] → IsSound (after Nothing from.ended None)
+  pub ended-sound : stack.items ≡ [] → IsSound same (after Nothing from.ended None)
   ended-sound e = sound-by Nothing from.ended None refl (kept-here t sound ok some kept_choices.items goal from ends).ended
       (ended-made t sound ok some kept_choices.items goal from ends events.items stack.items cut top e)
 
@@ -451,4 +453,4 @@ module _ {M R D : Type 0} (t : Inside M R D) (sound : IsSound t) (flush ok : Boo
       answered (inr e) = rw e refl
 
   pub within-there : 0 < (resumed t.skips from.after_previous).vs → (resumed t.skips from.after_previous).index < length bytes_there
-  within-there = (looks tab_there wide_there bytes_there t.skips t.start (text_within t).end from.after_previous from.previous sound.skips (kept-here t sound ok some kept_choices.items goal from ends).read).place.bounds.tab
+  within-there = (looks tab_there wide_there bytes_there t.skips t.start (text_within t).end from.after_previous from.previous sound.placed.skips (kept-here t sound ok some kept_choices.items goal from ends).read).place.bounds.tab

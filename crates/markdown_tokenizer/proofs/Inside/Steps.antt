@@ -1,5 +1,5 @@
 -- Each call on a tokenizer keeps what holds of its fields, and does what its contract says.
-use Rattle.std.proofs.Common.{◌≡◌, ℕ, ◌≤◌, ◌<◌, List, [], true, false, Option, Some, None, length, refl, sym, ap, ◌∙◌, subst, add-one, inl, inr}
+use Rattle.std.proofs.Common.{Bool, ◌≡◌, ℕ, ◌≤◌, ◌<◌, List, [], true, false, Option, Some, None, length, refl, sym, ap, ◌∙◌, subst, add-one, inl, inr}
 use Rattle.std.specs.Prelude.{map}
 use Rattle.std.proofs.lemmas.Bool.{lt-ltb}
 use Rattle.markdown_base.specs.declared.event.Point.{Point}
@@ -30,7 +30,7 @@ use Rattle.markdown_tokenizer.specs.Made.{IsMade}
 use Rattle.markdown_tokenizer.proofs.Inside.Made.{made-consume, made-end}
 use Rattle.markdown_tokenizer.proofs.Inside.Fields.{wide_of, looks, within, next-shown, next-seat, next-more, next-past, next-number, read-next, next-none-left, end-shown, made-later}
 
-module _ {M R D : Type 0} (t : Inside M R D) (sound : IsSound t) where
+module _ {M R D : Type 0} {same : R → R → Bool} (t : Inside M R D) (sound : IsSound same t) where
   abbrev bytes_in : List ℕ
   bytes_in = t.parse_state.now.bytes.now
 
@@ -54,10 +54,10 @@ module _ {M R D : Type 0} (t : Inside M R D) (sound : IsSound t) where
 
   -- the place from which the next byte is looked for
   looks_in : IsResumed tab_in bytes_in skips_in t.start end_in t.after_previous here_in
-  looks_in = looks tab_in wide_in bytes_in skips_in t.start end_in t.after_previous t.previous sound.skips sound.read
+  looks_in = looks tab_in wide_in bytes_in skips_in t.start end_in t.after_previous t.previous sound.placed.skips sound.placed.read
 
   pub end-place-in : IsPlace tab_in bytes_in end_in
-  end-place-in = place-of-point tab_in bytes_in wide_in end_in (point_at-is tab_in bytes_in t.end end_in sound.end_at).is_point
+  end-place-in = place-of-point tab_in bytes_in wide_in end_in (point_at-is tab_in bytes_in t.end end_in sound.placed.end_at).is_point
 
   bytes-wait : (w : Waits) → IsWhatWaits tab_in bytes_in skips_in (text_within t) t.after_previous t.current t.closed w → w ≡ Byte → ByteWaits tab_in bytes_in skips_in t.after_previous end_in t.current
   bytes-wait Nothing h e = absurd cc
@@ -65,7 +65,7 @@ module _ {M R D : Type 0} (t : Inside M R D) (sound : IsSound t) where
   bytes-wait End h e = absurd cc
 
   pub byte-waits : t.waits ≡ Byte → ByteWaits tab_in bytes_in skips_in t.after_previous end_in t.current
-  byte-waits e = bytes-wait t.waits sound.waiting e
+  byte-waits e = bytes-wait t.waits sound.placed.waiting e
 
   ends-wait : (w : Waits) → IsWhatWaits tab_in bytes_in skips_in (text_within t) t.after_previous t.current t.closed w → w ≡ End → EndWaits t.current t.closed position_in (length (seats_between tab_in bytes_in skips_in t.start end_in))
   ends-wait Nothing h e = absurd cc
@@ -73,13 +73,13 @@ module _ {M R D : Type 0} (t : Inside M R D) (sound : IsSound t) where
   ends-wait End h e = h
 
   end-waits : t.waits ≡ End → EndWaits t.current t.closed position_in (length (seats_between tab_in bytes_in skips_in t.start end_in))
-  end-waits e = ends-wait t.waits sound.waiting e
+  end-waits e = ends-wait t.waits sound.placed.waiting e
 
   -- where all was read one stands at the end of the text, after what is passed
   end-is : length (seen t).text.seats ≤ (seen t).configuration.position → record { line = here_in.line; column = here_in.column; index = t.end.0; vs = t.end.1 } ≡ end_in
   end-is all =
-      let at = point_at-is tab_in bytes_in t.end end_in sound.end_at in
-      let s = end-shown tab_in wide_in bytes_in skips_in t.start end_in t.after_previous t.previous sound.skips sound.read all end-place-in in
+      let at = point_at-is tab_in bytes_in t.end end_in sound.placed.end_at in
+      let s = end-shown tab_in wide_in bytes_in skips_in t.start end_in t.after_previous t.previous sound.placed.skips sound.placed.read all end-place-in in
       same-numbers here_in.line here_in.column t.end.0 t.end.1 end_in.line end_in.column end_in.index end_in.vs
       (sym (shown-line bytes_in here_in) ∙ ap (λ (p : Point). p.line) (sym s) ∙ shown-line bytes_in end_in)
       (sym (shown-column bytes_in here_in) ∙ ap (λ (p : Point). p.column) (sym s) ∙ shown-column bytes_in end_in)
@@ -89,7 +89,7 @@ module _ {M R D : Type 0} (t : Inside M R D) (sound : IsSound t) where
   pub point-byte : t.waits ≡ Byte → (seat : Seat) → IsSeatAt tab_in bytes_in here_in seat → seat.point ≡ (sight (seen t).given (seen t).text (seen t).configuration).point
   point-byte e seat n =
       let w = byte-waits e in
-      let is = ap (point_or end_in) (next-seat tab_in wide_in bytes_in skips_in t.start end_in t.after_previous t.previous sound.skips sound.read w.seat w.at w.before) in
+      let is = ap (point_or end_in) (next-seat tab_in wide_in bytes_in skips_in t.start end_in t.after_previous t.previous sound.placed.skips sound.placed.read w.seat w.at w.before) in
       rw e (ap (λ (s : Seat). s.point) (one-seat tab_in bytes_in here_in seat w.seat n w.at) ∙ sym is)
 
   pub byte-is-there : t.waits ≡ Byte → rest_at tab_in bytes_in here_in ≡ [] → ⊥
@@ -101,25 +101,25 @@ module _ {M R D : Type 0} (t : Inside M R D) (sound : IsSound t) where
 
   current-by : (w : Waits) → IsWhatWaits tab_in bytes_in skips_in (text_within t) t.after_previous t.current t.closed w → t.current ≡ current_of (text_within t) position_in w
   current-by Nothing h = h
-  current-by Byte h = h.is ∙ ap byte_of (sym (next-seat tab_in wide_in bytes_in skips_in t.start end_in t.after_previous t.previous sound.skips sound.read h.seat h.at h.before))
+  current-by Byte h = h.is ∙ ap byte_of (sym (next-seat tab_in wide_in bytes_in skips_in t.start end_in t.after_previous t.previous sound.placed.skips sound.placed.read h.seat h.at h.before))
   current-by End h = h.none
 
   pub current-is : t.current ≡ (sight (seen t).given (seen t).text (seen t).configuration).current
-  current-is = current-by t.waits sound.waiting
+  current-is = current-by t.waits sound.placed.waiting
 
   here-by : (w : Waits) → IsWhatWaits tab_in bytes_in skips_in (text_within t) t.after_previous t.current t.closed w → shown bytes_in (standing skips_in t.after_previous w) ≡ shown bytes_in (point_of (text_within t) position_in w)
-  here-by Nothing h = ap (shown bytes_in) sound.read.back
+  here-by Nothing h = ap (shown bytes_in) sound.placed.read.back
   here-by Byte h =
-      sym (next-shown tab_in wide_in bytes_in skips_in t.start end_in t.after_previous t.previous sound.skips sound.read h.seat h.at)
-      ∙ ap (λ (o : Option Seat). shown bytes_in (point_or end_in o)) (sym (next-seat tab_in wide_in bytes_in skips_in t.start end_in t.after_previous t.previous sound.skips sound.read h.seat h.at h.before))
-  here-by End h = sym (end-shown tab_in wide_in bytes_in skips_in t.start end_in t.after_previous t.previous sound.skips sound.read h.all end-place-in)
+      sym (next-shown tab_in wide_in bytes_in skips_in t.start end_in t.after_previous t.previous sound.placed.skips sound.placed.read h.seat h.at)
+      ∙ ap (λ (o : Option Seat). shown bytes_in (point_or end_in o)) (sym (next-seat tab_in wide_in bytes_in skips_in t.start end_in t.after_previous t.previous sound.placed.skips sound.placed.read h.seat h.at h.before))
+  here-by End h = sym (end-shown tab_in wide_in bytes_in skips_in t.start end_in t.after_previous t.previous sound.placed.skips sound.placed.read h.all end-place-in)
 
   -- where an enter stands
   pub here-is : shown bytes_in (standing skips_in t.after_previous t.waits) ≡ (sight (seen t).given (seen t).text (seen t).configuration).enter_place
-  here-is = here-by t.waits sound.waiting
+  here-is = here-by t.waits sound.placed.waiting
 
   pub after_previous-is : shown bytes_in t.after_previous ≡ (sight (seen t).given (seen t).text (seen t).configuration).exit_place
-  after_previous-is = ap (shown bytes_in) sound.read.back
+  after_previous-is = ap (shown bytes_in) sound.placed.read.back
 
   closed-by : (w : Waits) → t.waits ≡ w → IsWhatWaits tab_in bytes_in skips_in (text_within t) t.after_previous t.current t.closed w → w ≡ End → t.closed ≡ true
   closed-by Nothing e h f = absurd cc
@@ -128,17 +128,17 @@ module _ {M R D : Type 0} (t : Inside M R D) (sound : IsSound t) where
 
   more-by : (w : Waits) → IsWhatWaits tab_in bytes_in skips_in (text_within t) t.after_previous t.current t.closed w → w ≡ Byte → position_in < length (seats_between tab_in bytes_in skips_in t.start end_in)
   more-by Nothing h f = absurd cc
-  more-by Byte h f = next-more tab_in wide_in bytes_in skips_in t.start end_in t.after_previous t.previous sound.skips sound.read h.seat h.at h.before
+  more-by Byte h f = next-more tab_in wide_in bytes_in skips_in t.start end_in t.after_previous t.previous sound.placed.skips sound.placed.read h.seat h.at h.before
   more-by End h f = absurd cc
 
   pub in-text : IsInText (seen t)
   in-text = record {
-    text = sound.text;
-    within = within tab_in wide_in bytes_in skips_in t.start end_in t.after_previous t.previous sound.skips sound.read;
-    byte = more-by t.waits sound.waiting;
-    end = closed-by t.waits refl sound.waiting;
-    ended = sound.ended;
-    reads = sound.reads;
+    text = sound.placed.text;
+    within = within tab_in wide_in bytes_in skips_in t.start end_in t.after_previous t.previous sound.placed.skips sound.placed.read;
+    byte = more-by t.waits sound.placed.waiting;
+    end = closed-by t.waits refl sound.placed.waiting;
+    ended = sound.placed.ended;
+    reads = sound.placed.reads;
   }
 
   pub well-formed : t.phase ≡ Reading → t.stack.items ≡ [] → IsWellFormed bytes_in (seen t).configuration
@@ -153,14 +153,14 @@ module _ {M R D : Type 0} (t : Inside M R D) (sound : IsSound t) where
 
   -- the test of the code
   pub before-end : (q : Point) → stands_before q end_in ≡ is_before_pair q t.end
-  before-end q = let at = point_at-is tab_in bytes_in t.end end_in sound.end_at in let i = at.index in let v = at.vs in rw (i, v) refl
+  before-end q = let at = point_at-is tab_in bytes_in t.end end_in sound.placed.end_at in let i = at.index in let v = at.vs in rw (i, v) refl
 
   -- an enter may stand after what is passed
   abbrev MadeHere : Type 0
   MadeHere = IsMade bytes_in t.events.items t.stack.items (shown bytes_in t.after_previous) (shown bytes_in here_in)
 
   stands-here : (w : Waits) → IsMade bytes_in t.events.items t.stack.items (shown bytes_in t.after_previous) (shown bytes_in (standing skips_in t.after_previous w)) → MadeHere
-  stands-here Nothing m = made-later tab_in wide_in bytes_in skips_in t.start end_in t.after_previous t.previous sound.skips sound.read t.events.items t.stack.items m
+  stands-here Nothing m = made-later tab_in wide_in bytes_in skips_in t.start end_in t.after_previous t.previous sound.placed.skips sound.placed.read t.events.items t.stack.items m
   stands-here Byte m = m
   stands-here End m = m
 
@@ -170,32 +170,34 @@ module _ {M R D : Type 0} (t : Inside M R D) (sound : IsSound t) where
   -- the next byte is fed
   module _ (seat : Seat) (n : IsSeatAt tab_in bytes_in here_in seat) where
     pub fed-more : is_before_pair seat.point t.end ≡ true → (seen t).configuration.position < length (seen t).text.seats
-    fed-more lt = next-more tab_in wide_in bytes_in skips_in t.start end_in t.after_previous t.previous sound.skips sound.read seat n (before-end seat.point ∙ lt)
+    fed-more lt = next-more tab_in wide_in bytes_in skips_in t.start end_in t.after_previous t.previous sound.placed.skips sound.placed.read seat n (before-end seat.point ∙ lt)
 
     pub fed-seen : (byte : ℕ) → is_before_pair seat.point t.end ≡ true
         → seen (record t { waits = Byte; current = Some byte }) ≡ at_configuration (seen t) (fed (seen t).text (seen t).configuration)
     fed-seen byte lt = let f = lt-ltb (seen t).configuration.position (length (seen t).text.seats) (fed-more lt) in rw f refl
 
-    pub fed-sound : (byte : ℕ) → is_before_pair seat.point t.end ≡ true → seat.byte ≡ byte → IsSound (record t { waits = Byte; current = Some byte })
+    pub fed-sound : (byte : ℕ) → is_before_pair seat.point t.end ≡ true → seat.byte ≡ byte → IsSound same (record t { waits = Byte; current = Some byte })
     fed-sound byte lt e = record {
-      limit = sound.limit;
-      tab = sound.tab;
-      reads = sound.reads;
-      end_at = sound.end_at;
-      text = sound.text;
-      skips = sound.skips;
-      read = sound.read;
-      waiting = record { seat = seat; at = n; before = before-end seat.point ∙ lt; is = ap Some (sym e) };
-      ended = sound.ended;
+      placed = record {
+        tab = sound.placed.tab;
+        reads = sound.placed.reads;
+        end_at = sound.placed.end_at;
+        text = sound.placed.text;
+        skips = sound.placed.skips;
+        read = sound.placed.read;
+        waiting = record { seat = seat; at = n; before = before-end seat.point ∙ lt; is = ap Some (sym e) };
+        ended = sound.placed.ended;
+      };
       made = made-here;
       kept_choices = sound.kept_choices;
+      once = sound.once;
     }
 
     pub fed-past : is_before_pair seat.point t.end ≡ false → length (seen t).text.seats ≤ (seen t).configuration.position
-    fed-past lt = next-past tab_in wide_in bytes_in skips_in t.start end_in t.after_previous t.previous sound.skips sound.read seat n (before-end seat.point ∙ lt)
+    fed-past lt = next-past tab_in wide_in bytes_in skips_in t.start end_in t.after_previous t.previous sound.placed.skips sound.placed.read seat n (before-end seat.point ∙ lt)
 
   fed-nothing : rest_at tab_in bytes_in here_in ≡ [] → length (seen t).text.seats ≤ (seen t).configuration.position
-  fed-nothing e = next-none-left tab_in wide_in bytes_in skips_in t.start end_in t.after_previous t.previous sound.skips sound.read e
+  fed-nothing e = next-none-left tab_in wide_in bytes_in skips_in t.start end_in t.after_previous t.previous sound.placed.skips sound.placed.read e
 
   -- no byte is left
   pub fed-none : IsNextByte tab_in bytes_in here_in t.end None → length (seen t).text.seats ≤ (seen t).configuration.position
@@ -203,19 +205,21 @@ module _ {M R D : Type 0} (t : Inside M R D) (sound : IsSound t) where
   fed-none (inr n) = fed-past n.0 n.1 n.2
 
   -- the end is fed
-  pub end-fed-sound : length (seen t).text.seats ≤ (seen t).configuration.position → t.closed ≡ true → IsSound (record t { waits = End; current = None; ended = true })
+  pub end-fed-sound : length (seen t).text.seats ≤ (seen t).configuration.position → t.closed ≡ true → IsSound same (record t { waits = End; current = None; ended = true })
   end-fed-sound all closed = record {
-    limit = sound.limit;
-    tab = sound.tab;
-    reads = sound.reads;
-    end_at = sound.end_at;
-    text = sound.text;
-    skips = sound.skips;
-    read = sound.read;
-    waiting = record { none = refl; closed_too = closed; all = all };
-    ended = λ _. closed;
+    placed = record {
+      tab = sound.placed.tab;
+      reads = sound.placed.reads;
+      end_at = sound.placed.end_at;
+      text = sound.placed.text;
+      skips = sound.placed.skips;
+      read = sound.placed.read;
+      waiting = record { none = refl; closed_too = closed; all = all };
+      ended = λ _. closed;
+    };
     made = made-here;
     kept_choices = sound.kept_choices;
+    once = sound.once;
   }
 
   -- a byte is consumed
@@ -223,7 +227,7 @@ module _ {M R D : Type 0} (t : Inside M R D) (sound : IsSound t) where
     module _ (after_previous : Point) (l : after_previous ≡ waits.seat.end) where
       pub consumed-read : IsReadTo tab_in bytes_in skips_in (text_within t) after_previous t.current
       consumed-read =
-          let r = read-next tab_in wide_in bytes_in skips_in t.start end_in t.after_previous t.previous sound.skips sound.read waits.seat waits.at waits.before in
+          let r = read-next tab_in wide_in bytes_in skips_in t.start end_in t.after_previous t.previous sound.placed.skips sound.placed.read waits.seat waits.at waits.before in
           let f = waits.is in rw (l, f) r
 
       consumed-later : stands_before (shown bytes_in after_previous) (shown bytes_in here_in) ≡ false
@@ -236,25 +240,27 @@ module _ {M R D : Type 0} (t : Inside M R D) (sound : IsSound t) where
       consumed-made reads = made-consume bytes_in t.events.items t.stack.items (shown bytes_in t.after_previous) (shown bytes_in here_in) (made-here reads) (shown bytes_in after_previous) (shown bytes_in after_previous)
           consumed-later (stands-self (shown bytes_in after_previous)) (shown-shown tab_in bytes_in after_previous) (shown-shown tab_in bytes_in after_previous)
 
-      pub consumed-sound : IsSound (record t { after_previous = after_previous; previous = t.current; current = None; ended = false; waits = Nothing })
+      pub consumed-sound : IsSound same (record t { after_previous = after_previous; previous = t.current; current = None; ended = false; waits = Nothing })
       consumed-sound = record {
-        limit = sound.limit;
-        tab = sound.tab;
-        reads = sound.reads;
-        end_at = sound.end_at;
-        text = sound.text;
-        skips = sound.skips;
-        read = consumed-read;
-        waiting = refl;
-        ended = λ h. absurd cc;
+        placed = record {
+          tab = sound.placed.tab;
+          reads = sound.placed.reads;
+          end_at = sound.placed.end_at;
+          text = sound.placed.text;
+          skips = sound.placed.skips;
+          read = consumed-read;
+          waiting = refl;
+          ended = λ h. absurd cc;
+        };
         made = consumed-made;
         kept_choices = sound.kept_choices;
+        once = sound.once;
       }
 
   pub consumed-seen : (waits : ByteWaits tab_in bytes_in skips_in t.after_previous end_in t.current) (after_previous : Point) → after_previous ≡ waits.seat.end
       → seen (record t { after_previous = after_previous; previous = t.current; current = None; ended = false; waits = Nothing }) ≡ at_configuration (seen t) (consumed (seen t).configuration)
   consumed-seen waits after_previous l =
-      let n = next-number tab_in wide_in bytes_in skips_in t.start end_in t.after_previous t.previous sound.skips sound.read waits.seat waits.at ∙ sym (add-one position_in) in
+      let n = next-number tab_in wide_in bytes_in skips_in t.start end_in t.after_previous t.previous sound.placed.skips sound.placed.read waits.seat waits.at ∙ sym (add-one position_in) in
       rw (l, n) refl
 
   -- the byte that is consumed is the next of the document

@@ -17,7 +17,7 @@ use Rattle.markdown_edits.specs.Woven.{Tagged, of_list, placed_end, placed_in, w
 use Rattle.markdown_edits.specs.Links.{next_of, previous_of, AreMutual}
 use Rattle.markdown_tokenizer.specs.Resolving.{IsInShape}
 use Rattle.markdown_tokenizer.specs.Rules.{Rules}
-use Rattle.markdown_tokenizer.specs.Lawful.{IsAsFar, ConsumesOnce, OnlyAdds, EndsWhenRead, KeepsInvariant, CostPays, ResolversKeep}
+use Rattle.markdown_tokenizer.specs.Lawful.{IsAsFar, ConsumesOnce, OnlyAdds, EndsWhenRead, KeepsInvariant, CostPays, ResolversKeep, IsLawful}
 use Rattle.markdown_tokenizer.specs.Plain.{HaveNoLinks, IsPlain, KeepsPlain, NothingResolves, plain}
 
 -- more events without links
@@ -135,4 +135,15 @@ module _ {R D : Type 0} (g : Given) (rules : Rules R D) where
         let map = h.0.1 in
         let same = edited-same k.events h.0.2 in
         rw (map, same) ((from-zero (length k.events), no-links-below (length k.events) k.events h.0.2), no-links-shape k.events h.0.2 h.1);
+  }
+
+  -- such a machine is lawful if its states keep the laws of calls
+  pub plain-lawful : KeepsPlain rules.step → ConsumesOnce g rules → OnlyAdds g rules → EndsWhenRead g rules → KeepsInvariant g rules → CostPays g rules → IsLawful g (plain rules)
+  plain-lawful keeps consumes adds ends kept pays = record {
+    consumes_once = consumes_once consumes;
+    only_adds = only_adds adds;
+    ends_when_read = ends_when_read ends;
+    invariant_kept = invariant_kept keeps kept;
+    cost_pays = cost_pays pays;
+    resolvers_keep = resolvers_keep;
   }

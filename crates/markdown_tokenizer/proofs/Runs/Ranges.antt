@@ -1,7 +1,7 @@
 -- An open tokenizer, from its start over ranges and gaps: what a caller owes at each call, and what stands after it. `StandsAt` is for a caller that finds its
 -- ranges as it goes, `HasRanges` for one that has them in a list.
-use Rattle.std.proofs.Common.{◌≡◌, ◌+◌, ◌*◌, ◌^◌, ◌<◌, ◌≤◌, ◌⊎◌, inl, inr, ℕ, length, List, [], ◌∷◌, Option, Some, None, Bool, true, false, cond, drop, get_or, refl, sym, ap, ◌∙◌, subst}
-use Rattle.std.specs.Prelude.{All, Contains}
+use Rattle.std.proofs.Common.{◌≡◌, ◌+◌, ◌<◌, ◌⊎◌, inl, inr, ℕ, length, List, [], ◌∷◌, Option, Some, None, Bool, true, false, cond, drop, get_or, refl, sym, ap, ◌∙◌, subst}
+use Rattle.std.specs.Prelude.{Contains}
 use Rattle.std.proofs.lemmas.List.{drop_more}
 use Rattle.markdown_base.specs.declared.configuration.ParseOptions.{ParseOptions}
 use Rattle.markdown_base.specs.declared.event.Point.{Point}
@@ -10,7 +10,7 @@ use Rattle.markdown_base.specs.declared.state.State.{State}
 use Rattle.markdown_base.specs.declared.state.State.TheVariants.{Next}
 use Rattle.markdown_base.specs.Virtual.{point}
 use Rattle.markdown_base.specs.Places.{point_at, denotes_same, stands_before}
-use Rattle.markdown_tokenizer.specs.Text.{Given, Text, Piece, FitsAfter, CanFollow, passed, empty_text, followed_by, followed_by_all}
+use Rattle.markdown_tokenizer.specs.Text.{Given, Text, Piece, FitsAfter, CanFollow, IsDocument, passed, empty_text, followed_by, followed_by_all}
 use Rattle.markdown_tokenizer.specs.Configuration.{TokenizerValue, start_seen, start_configuration}
 use Rattle.markdown_tokenizer.specs.Ranges.{AfterGap, IsGapFrom, IsRangeFrom, FollowOn, after_gap}
 use Rattle.markdown_tokenizer.specs.Rules.{Rules}
@@ -36,12 +36,12 @@ module _ {M R D : Type 0} (rules : M → Given → Rules R D) where
     pub held : Held t.machine t.given t state
 
   -- a new tokenizer stands at the document's start
-  pub stands-start : (bytes : List ℕ) (options : ParseOptions) (m : M) → All (λ b. b < 256) bytes → (1 ≤ options.tab_size) × (options.tab_size ≤ 16) → options.tab_size * length bytes + 1 < 2 ^ 64 → KeepsInvariant (given_by bytes options) (rules m (given_by bytes options))
+  pub stands-start : (bytes : List ℕ) (options : ParseOptions) (m : M) → IsDocument (given_by bytes options) → KeepsInvariant (given_by bytes options) (rules m (given_by bytes options))
       → (start : Name) → Contains (rules m (given_by bytes options)).starts start → (t : TokenizerValue M R D) → t ≡ start_seen (given_by bytes options) m (empty_text (point 1 1 0 0)) → StandsAt bytes options (point 1 1 0 0) t (Next start)
-  stands-start bytes options m below tab limit keeps start starts_so t e =
+  stands-start bytes options m document keeps start starts_so t e =
       let given = given_by bytes options in
       let p = point 1 1 0 0 in
-      let text = start-is-text bytes options below tab limit in
+      let text = start-is-text bytes options document in
       rw e (record {
         given = refl;
         end = refl;
@@ -96,12 +96,12 @@ module _ {M R D : Type 0} (rules : M → Given → Rules R D) where
     pub follow : FollowOn options.tab_size bytes place ranges
 
   -- a new tokenizer has all ranges to come
-  pub ranges-start : (bytes : List ℕ) (options : ParseOptions) (m : M) → All (λ b. b < 256) bytes → (1 ≤ options.tab_size) × (options.tab_size ≤ 16) → options.tab_size * length bytes + 1 < 2 ^ 64 → KeepsInvariant (given_by bytes options) (rules m (given_by bytes options))
+  pub ranges-start : (bytes : List ℕ) (options : ParseOptions) (m : M) → IsDocument (given_by bytes options) → KeepsInvariant (given_by bytes options) (rules m (given_by bytes options))
       → (start : Name) → Contains (rules m (given_by bytes options)).starts start → (ranges : List AfterGap) → FollowOn options.tab_size bytes (point 1 1 0 0) ranges
       → (t : TokenizerValue M R D) → t ≡ start_seen (given_by bytes options) m (empty_text (point 1 1 0 0)) → HasRanges bytes options ranges t (Next start)
-  ranges-start bytes options m below tab limit keeps start starts_so ranges follow t e = record {
+  ranges-start bytes options m document keeps start starts_so ranges follow t e = record {
     place = point 1 1 0 0;
-    stands = stands-start bytes options m below tab limit keeps start starts_so t e;
+    stands = stands-start bytes options m document keeps start starts_so t e;
     follow = follow;
   }
 

@@ -1,7 +1,11 @@
 -- Resolvers go over the events.
-use Rattle.std.proofs.Common.{◌≡◌, ℕ, suc, ◌+◌, ◌<◌, List, [], ◌∷◌, true, false, Option, Some, length, refl, sym, ap, ◌∙◌, subst, arith, drop, get_or}
-use Rattle.std.specs.Prelude.{map, reverse}
+use Rattle.std.proofs.Common.{◌≡◌, ℕ, suc, ◌+◌, ◌<◌, List, [], ◌∷◌, ◌++◌, Bool, true, false, Option, Some, length, refl, sym, ap, ◌∙◌, subst, arith, drop, get_or}
+use Rattle.std.specs.Prelude.{reverse}
 use Rattle.std.specs.Global.{Vec}
+use Rattle.std.specs.Cmp.{IsEquivalence}
+use Rattle.std.specs.List.{AllByRecursion, IsDistinct, list_any}
+use Rattle.std.proofs.lemmas.Bool.{or_parts}
+use Rattle.std.proofs.lemmas.Map.Keys.{IsDistinct-cons, IsDistinct-push}
 use Rattle.markdown_base.specs.declared.event.Event.{Event}
 use Rattle.markdown_base.specs.declared.message.Message.{Message}
 use Rattle.markdown_base.proofs.Common.{none-mapped}
@@ -24,45 +28,62 @@ use Rattle.markdown_tokenizer.specs.View.{tab_of, seen, text_within, choice_of, 
 use Rattle.markdown_tokenizer.proofs.Inside.Fields.{nested-map}
 use Rattle.markdown_tokenizer.proofs.Runs.Whole.{drop-get}
 
+-- none is there twice where none is
+pub none-twice : {R : Type 0} (same : R → R → Bool) → IsDistinct same []
+unfolding IsDistinct
+none-twice same = tt
+
+module _ {R : Type 0} (same : R → R → Bool) (laws : IsEquivalence same) where
+  -- a resolver that none of a list is, is none of it
+  turned : (r : R) (rs : List R) → list_any (λ q. same q r) rs ≡ list_any (same r) rs
+  turned r [] = refl
+  turned r (q ∷ rs) = let e = laws.symm q r in let f = turned r rs in rw (e, f) refl
+
+  none-equal : (r : R) (rs : List R) → list_any (same r) rs ≡ false → AllByRecursion (λ q. same r q ≡ false) rs
+  none-equal r [] h = tt
+  none-equal r (q ∷ rs) h = let parts = or_parts (same r q) (list_any (same r) rs) h in (parts.0, none-equal r rs parts.1)
+
+  -- one more resolver, which none of them is
+  pub once-behind : (r : R) (rs : List R) → IsDistinct same rs → list_any (λ q. same q r) rs ≡ false → IsDistinct same (rs ++ r ∷ [])
+  once-behind r rs h absent = IsDistinct-push laws rs r h (sym (turned r rs) ∙ absent)
+
+  pub once-before : (r : R) (rs : List R) → IsDistinct same rs → list_any (λ q. same q r) rs ≡ false → IsDistinct same (r ∷ rs)
+  once-before r rs h absent = IsDistinct-cons same r rs (none-equal r rs (sym (turned r rs) ∙ absent)) h
+
 -- another phase than reading begins
-pub phase-sound : {M R D : Type 0} (t : Inside M R D) → IsSound t → (phase : Phase) (resolvers : Vec R) → (phase ≡ Reading → ⊥) → t.closed ≡ true
-    → IsSound (record t { phase = phase; resolvers = resolvers })
-phase-sound t sound phase resolvers other closed =
+pub phase-sound : {M R D : Type 0} {same : R → R → Bool} (t : Inside M R D) → IsSound same t → (phase : Phase) (resolvers : Vec R) → IsDistinct same resolvers.items → (phase ≡ Reading → ⊥) → t.closed ≡ true
+    → IsSound same (record t { phase = phase; resolvers = resolvers })
+phase-sound t sound phase resolvers once other closed =
     let bytes = t.parse_state.now.bytes.now in record {
-      limit = sound.limit;
-      tab = sound.tab;
-      end_at = sound.end_at;
-      text = sound.text;
-      skips = sound.skips;
-      read = sound.read;
-      waiting = sound.waiting;
-      ended = sound.ended;
-      reads = λ e. absurd (let f : true ≡ false = sym closed ∙ e in cc);
+      placed = record {
+        tab = sound.placed.tab;
+        end_at = sound.placed.end_at;
+        text = sound.placed.text;
+        skips = sound.placed.skips;
+        read = sound.placed.read;
+        waiting = sound.placed.waiting;
+        ended = sound.placed.ended;
+        reads = λ e. absurd (let f : true ≡ false = sym closed ∙ e in cc);
+      };
       made = λ e. absurd (other e);
       kept_choices = nested-map (IsProgress t.phase (tab_of t.parse_state.now) bytes t.skips (text_within t) t.events.items t.stack.items t.closed) (IsProgress phase (tab_of t.parse_state.now) bytes t.skips (text_within t) t.events.items t.stack.items t.closed)
           (length t.events.items) (length t.stack.items) (reverse t.kept_choices.items) (λ p a b h. record { read = h.read; ended = h.ended; made = λ e. absurd (other e) }) sound.kept_choices;
+      once = once;
     }
 
 nested-none : (P : Progress → Type 0) (events stack : ℕ) (kept_choices : List KeptChoice) → kept_choices ≡ [] → AreNested P events stack kept_choices
 nested-none P events stack kept_choices e = rw e tt
 
 -- while resolvers go over the events, and no choice waits, the events and the edits may be any
-pub events-sound : {M R D : Type 0} (t : Inside M R D) → IsSound t → t.phase ≡ Resolving → (seen t).choices ≡ [] → (edits : List Edit) (events : Vec Event)
-    → IsSound (record t { map = edits; events = events })
+pub events-sound : {M R D : Type 0} {same : R → R → Bool} (t : Inside M R D) → IsSound same t → t.phase ≡ Resolving → (seen t).choices ≡ [] → (edits : List Edit) (events : Vec Event)
+    → IsSound same (record t { map = edits; events = events })
 events-sound t sound resolves alone edits events =
     let bytes = t.parse_state.now.bytes.now in record {
-      limit = sound.limit;
-      tab = sound.tab;
-      end_at = sound.end_at;
-      text = sound.text;
-      skips = sound.skips;
-      read = sound.read;
-      waiting = sound.waiting;
-      ended = sound.ended;
-      reads = sound.reads;
+      placed = sound.placed;
       made = λ e. absurd (let f : Resolving ≡ Reading = sym resolves ∙ e in cc);
       kept_choices = nested-none (IsProgress t.phase (tab_of t.parse_state.now) bytes t.skips (text_within t) events.items t.stack.items t.closed) (length events.items) (length t.stack.items) (reverse t.kept_choices.items)
           (none-mapped (choice_of (position_from (tab_of t.parse_state.now) bytes t.skips t.start) t.stack.items) (reverse t.kept_choices.items) alone);
+      once = sound.once;
     }
 
 module _ {R D : Type 0} (resolver : Sight → Configuration R D → R → Resolved R D) (g : Given) (text : Text) where

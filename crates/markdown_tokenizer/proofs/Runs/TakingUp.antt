@@ -9,12 +9,12 @@ use Rattle.markdown_tokenizer.specs.Text.{Given, IsText, followed_by_all}
 use Rattle.markdown_tokenizer.specs.Configuration.{TokenizerValue}
 use Rattle.markdown_tokenizer.specs.Sight.{sight}
 use Rattle.markdown_tokenizer.specs.Rules.{Rules}
-use Rattle.markdown_tokenizer.specs.Lawful.{DidStep}
+use Rattle.markdown_tokenizer.specs.Lawful.{DidStep, IsLawful}
 use Rattle.markdown_tokenizer.specs.Engine.{budget}
 use Rattle.markdown_tokenizer.specs.Work.{HoldsAll, Stops, settled_all, settled_to, EndsClosed, TakesUp, IsInText}
-use Rattle.markdown_tokenizer.proofs.Runs.Working.{Laws, KeptBy, leads-refl, leads-for-settled, settled-only, settled-message, settled-end, settled-ends, settled-closes, stops-there, kept-settled, kept-ended, kept-taken, kept-turn, kept-holds, kept-calls, text-worked, taken-calls, smaller}
+use Rattle.markdown_tokenizer.proofs.Runs.Working.{KeptBy, leads-refl, leads-for-settled, settled-only, settled-message, settled-end, settled-ends, settled-closes, stops-there, kept-settled, kept-ended, kept-taken, kept-turn, kept-holds, kept-calls, text-worked, taken-calls, smaller}
 
-module _ {M R D : Type 0} (rules : M → Given → Rules R D) (laws : (m : M) (given : Given) → Laws given (rules m given)) where
+module _ {M R D : Type 0} (rules : M → Given → Rules R D) (laws : (m : M) (given : Given) → IsLawful given (rules m given)) where
   -- what the work kept since its start
   abbrev KeptFrom : Bool → TokenizerValue M R D → State → TokenizerValue M R D → State → Type 0
   KeptFrom flush t a u s = KeptBy rules t.machine t.given flush t a u s
@@ -60,6 +60,12 @@ module _ {M R D : Type 0} (rules : M → Given → Rules R D) (laws : (m : M) (g
       kept-turn rules t.machine t.given (laws t.machine t.given) flush t u v a s n
       (text-worked t.given t u is k.same) (sym k.same.machine) (sym k.same.given) within called k
 
+  -- and it answered this
+  pub kept-answer : (flush : Bool) (t u v : TokenizerValue M R D) (a s answer : State) (n : Name) → answer ≡ s → IsText t.given t.text → IsInText u
+      → DidStep u v ((rules u.machine u.given).step (sight u.given u.text u.configuration) u.configuration n) answer → KeptFrom flush t a u (Retry n) → KeptFrom flush t a v s
+  kept-answer flush t u v a s answer n e is within called k =
+      kept-call flush t u v a s n is within (subst (λ (x : State). DidStep u v ((rules u.machine u.given).step (sight u.given u.text u.configuration) u.configuration n) x) e called) k
+
   pub holds-there : (flush : Bool) (t u : TokenizerValue M R D) (a s : State) → KeptFrom flush t a u s → (rules u.machine u.given).holds u.text u.configuration u.choices s
   holds-there flush t u a s k = kept-holds rules t.machine t.given flush t u a s (sym k.same.machine) (sym k.same.given) k
 
@@ -69,11 +75,11 @@ module _ {M R D : Type 0} (rules : M → Given → Rules R D) (laws : (m : M) (g
       (subst (λ (q : Given). IsText q u.text) (sym k.same.given) (text-worked t.given t u is k.same)) (holds-there flush t u a s k)
 
   -- a call, after which a state is taken up, leaves fewer
-  pub fewer-left : (flush : Bool) (t u v w : TokenizerValue M R D) (a s : State) (n next : Name) → IsText t.given t.text → KeptFrom flush t a v s
-      → DidStep u v ((rules u.machine u.given).step (sight u.given u.text u.configuration) u.configuration n) s
+  pub fewer-left : (flush : Bool) (t u v w : TokenizerValue M R D) (a s answer : State) (n next : Name) → IsText t.given t.text → KeptFrom flush t a v s
+      → DidStep u v ((rules u.machine u.given).step (sight u.given u.text u.configuration) u.configuration n) answer
       → (let e = settled_all v.configuration v.choices s in TakesUp flush (settled_to v e) w e.answer (result.Ok next))
       → let all = budget (rules t.machine t.given) t.text t a in all - w.calls < all - u.calls
-  fewer-left flush t u v w a s n next is k called takes =
+  fewer-left flush t u v w a s answer n next is k called takes =
       let e = settled_all v.configuration v.choices s in
       smaller (budget (rules t.machine t.given) t.text t a) u.calls w.calls
       (kept-calls rules t.machine t.given flush t w a (Retry next) (kept-next flush t v w a s next is k takes))

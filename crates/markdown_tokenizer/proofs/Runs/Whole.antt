@@ -1,7 +1,7 @@
 -- A run over the whole document: where it begins and ends, and what it leads on to at each cut.
 use Rattle.std.specs.List.{AllByRecursion}
-use Rattle.std.proofs.Common.{◌≡◌, ◌≢◌, ◌+◌, ◌≤◌, ◌<◌, ◌==◌, ◌-◌, ◌*◌, ◌^◌, ℕ, zero, suc, List, [], ◌∷◌, ◌++◌, Bool, true, false, cond, Some, length, ◌⊎◌, inl, inr, refl, sym, ap, ◌∙◌, arith, subst}
-use Rattle.std.specs.Prelude.{All, filter, find, slice_index, nat_lt, ◌&&◌, ◌||◌, drop, get_or, Contains, Result, IsErrAnd, IfErr, IfOk}
+use Rattle.std.proofs.Common.{◌≡◌, ◌≢◌, ◌+◌, ◌≤◌, ◌<◌, ◌==◌, ◌-◌, ℕ, zero, suc, List, [], ◌∷◌, ◌++◌, Bool, true, false, cond, Some, length, ◌⊎◌, inl, inr, refl, sym, ap, ◌∙◌, arith, subst}
+use Rattle.std.specs.Prelude.{filter, find, slice_index, nat_lt, ◌&&◌, ◌||◌, drop, get_or, Contains, Result, IsErrAnd, IfErr, IfOk}
 use Rattle.std.specs.declared.result.Result.TheVariants as result
 use Rattle.std.specs.List.{flat_map}
 use Rattle.std.proofs.lemmas.Bool.Decides.{nat_tests}
@@ -13,7 +13,7 @@ use Rattle.markdown_base.specs.declared.state.State.{State}
 use Rattle.markdown_base.specs.declared.state.State.TheVariants.{Next}
 use Rattle.markdown_base.specs.Virtual.{Seat, point, virtual, end_after, document_end}
 use Rattle.markdown_base.specs.Places.{stands_before, shown, follows_cr, points, point_at, IsPointOf, is_upto}
-use Rattle.markdown_tokenizer.specs.Text.{Given, Text, pushed, in_range, empty_text, followed_by, followed_by_all, FitsAfter, CanFollow, IsText}
+use Rattle.markdown_tokenizer.specs.Text.{Given, Text, pushed, in_range, empty_text, followed_by, followed_by_all, FitsAfter, CanFollow, IsDocument, IsText}
 use Rattle.markdown_tokenizer.specs.Configuration.{TokenizerValue, start_configuration, start_seen}
 use Rattle.markdown_tokenizer.specs.Rules.{Rules}
 use Rattle.markdown_tokenizer.specs.Lawful.{KeepsInvariant}
@@ -184,14 +184,10 @@ drop-get [] n d lt = absurd (omega arith)
 drop-get (y ∷ ys) zero d lt = refl
 drop-get (y ∷ ys) (suc n) d lt = drop-get ys n d (omega arith)
 
--- a size of tabs, as its number is read
-pub apart-by : (n t : ℕ) → n ≡ t → 1 ≤ n → n ≤ 16 → (1 ≤ t) × (t ≤ 16)
-apart-by n t e least most = (omega (arith, e, least), omega (arith, e, most))
-
-pub start-is-text : (bytes : List ℕ) (options : ParseOptions) → All (λ b. b < 256) bytes → (1 ≤ options.tab_size) × (options.tab_size ≤ 16) → options.tab_size * length bytes + 1 < 2 ^ 64 → IsText (given_by bytes options) (empty_text (point 1 1 0 0))
-start-is-text bytes options below tab limit = record {
-  document = record { bytes = below; tab = tab; limit = limit };
-  starts = start-is-point (given_by bytes options) tab.0;
+pub start-is-text : (bytes : List ℕ) (options : ParseOptions) → IsDocument (given_by bytes options) → IsText (given_by bytes options) (empty_text (point 1 1 0 0))
+start-is-text bytes options document = record {
+  document = document;
+  starts = start-is-point (given_by bytes options) document.tab.0;
   pieces = [];
   follow = tt;
   is = refl;
@@ -230,21 +226,21 @@ module _ {M R D : Type 0} (rules : M → Given → Rules R D) where
   abbrev PushedBy : M → Given → TokenizerValue M R D → ℕ × ℕ → ℕ × ℕ → State → TokenizerValue M R D → State → Type 0
   PushedBy m given t from to state u answer = IsPushed (rules m given) t from to state u answer
 
-  pub run-start : (bytes : List ℕ) (options : ParseOptions) (m : M) → All (λ b. b < 256) bytes → (1 ≤ options.tab_size) × (options.tab_size ≤ 16) → options.tab_size * length bytes + 1 < 2 ^ 64 → (let given = given_by bytes options in KeepsInvariant given (rules m given))
+  pub run-start : (bytes : List ℕ) (options : ParseOptions) (m : M) → IsDocument (given_by bytes options) → (let given = given_by bytes options in KeepsInvariant given (rules m given))
       → (start : Name) → Contains (rules m (given_by bytes options)).starts start → (cuts : List (ℕ × ℕ)) → AreCuts options.tab_size bytes cuts → (t : TokenizerValue M R D) → t ≡ StartsWith bytes options m
       → RunsBy bytes options m start (0, 0) cuts t (Next start)
-  run-start bytes options m below tab limit keeps start among cuts order t e =
+  run-start bytes options m document keeps start among cuts order t e =
       let given = given_by bytes options in
-      let text = start-is-text bytes options below tab limit in
+      let text = start-is-text bytes options document in
       let p = point 1 1 0 0 in
       rw e (record {
         same_given = refl;
-        wide = tab.0;
+        wide = document.tab.0;
         machine = refl;
         open_still = refl;
         place = p;
-        place_is = start-at options.tab_size tab.0 bytes;
-        text = start-text given tab.0;
+        place_is = start-at options.tab_size document.tab.0 bytes;
+        text = start-text given document.tab.0;
         outcome = λ rest can.
             leads-refl given (rules m given) (followed_by_all given (empty_text p) rest) (StartsWith bytes options m) (Next start)
             (holds-on given (rules m given) keeps (empty_text p) rest (start_configuration false) [] (Next start)

@@ -22,7 +22,7 @@ use Rattle.markdown_tokenizer.specs.Configuration.{Configuration, Choice, Step, 
 use Rattle.markdown_tokenizer.specs.Sight.{Sight, sight, sight_in, seat_before}
 use Rattle.markdown_tokenizer.specs.Reading.{Reading, fed, restored, settled_at, EndsIn, more_calls, read}
 use Rattle.markdown_tokenizer.specs.Rules.{Rules}
-use Rattle.markdown_tokenizer.specs.Lawful.{stepped, DidStep, ConsumesOnce, EndsWhenRead, KeepsInvariant, CostPays}
+use Rattle.markdown_tokenizer.specs.Lawful.{stepped, DidStep, ConsumesOnce, KeepsInvariant, IsLawful}
 use Rattle.markdown_tokenizer.specs.Engine.{LeadsOn, ForPoints, IsPushed, IsWellFormed, budget}
 use Rattle.markdown_tokenizer.specs.Resolving.{taken}
 use Rattle.markdown_tokenizer.specs.Work.{LeadsAll, Stops, settled_all, settled_to, EndsClosed, extended, OnlyWorked, TakesUp, IsInText, answer_in}
@@ -121,19 +121,12 @@ module _ {M R D : Type 0} (given : Given) (rules : Rules R D) where
     paid = omega (arith, h.paid, k.paid);
   }
 
--- the laws of a machine, which the steps of the work cite
-pub record Laws {R D : Type 0} (given : Given) (rules : Rules R D) : Type 0 where
-  pub consumes : ConsumesOnce given rules
-  pub ends : EndsWhenRead given rules
-  pub keeps : KeepsInvariant given rules
-  pub pays : CostPays given rules
-
-module _ {M R D : Type 0} (given : Given) (rules : Rules R D) (laws : Laws given rules) where
+module _ {M R D : Type 0} (given : Given) (rules : Rules R D) (laws : IsLawful given rules) where
   leads-fed : (w : Text) → IsText given w → (t : TokenizerValue M R D) (n : Name) → rules.holds w t.configuration t.choices (Next n)
       → LeadsOn given rules w t (Next n) (at_configuration t (fed w t.configuration)) (Retry n)
   leads-fed w is t n h =
-      let pays = laws.pays.for_feeding w t.configuration t.choices n is h in record {
-        kept = laws.keeps.by_feeding w t.configuration t.choices n is h;
+      let pays = laws.cost_pays.for_feeding w t.configuration t.choices n is h in record {
+        kept = laws.invariant_kept.by_feeding w t.configuration t.choices n is h;
         same = λ r. fed-ends given rules.step w t.calls t.configuration t.choices n r;
         paid = omega (arith, pays);
       }
@@ -142,8 +135,8 @@ module _ {M R D : Type 0} (given : Given) (rules : Rules R D) (laws : Laws given
       → let s = rules.step (sight given w t.configuration) t.configuration n in LeadsOn given rules w t (Retry n) (stepped t s) s.answer
   leads-called w is t n h =
       let s = rules.step (sight given w t.configuration) t.configuration n in
-      let pays = laws.pays.for_calls w t.configuration t.choices n is h in record {
-        kept = laws.keeps.by_calls w t.configuration t.choices n is h;
+      let pays = laws.cost_pays.for_calls w t.configuration t.choices n is h in record {
+        kept = laws.invariant_kept.by_calls w t.configuration t.choices n is h;
         same = λ r. called-ends given rules.step w t.calls t.configuration t.choices n r;
         paid = omega (arith, pays, sum_by-append (rules.reserve w) s.choices t.choices);
       }
@@ -152,8 +145,8 @@ module _ {M R D : Type 0} (given : Given) (rules : Rules R D) (laws : Laws given
       → LeadsOn given rules w t Ok (settled t c cs Ok) c.ok
   leads-ok w is t c cs e h =
       let h' = rw e at h in
-      let pays = laws.pays.for_ok w t.configuration c cs is h' in record {
-        kept = laws.keeps.by_ok w t.configuration c cs is h';
+      let pays = laws.cost_pays.for_ok w t.configuration c cs is h' in record {
+        kept = laws.invariant_kept.by_ok w t.configuration c cs is h';
         same = rw e (λ r. settled-ok-ends given rules.step w t.calls t.configuration c cs r);
         paid = rw e (omega (arith, pays, sum_by-cons (rules.reserve w) c cs));
       }
@@ -162,8 +155,8 @@ module _ {M R D : Type 0} (given : Given) (rules : Rules R D) (laws : Laws given
       → LeadsOn given rules w t Nok (settled t c cs Nok) c.nok
   leads-nok w is t c cs e h =
       let h' = rw e at h in
-      let pays = laws.pays.for_nok w t.configuration c cs is h' in record {
-        kept = laws.keeps.by_nok w t.configuration c cs is h';
+      let pays = laws.cost_pays.for_nok w t.configuration c cs is h' in record {
+        kept = laws.invariant_kept.by_nok w t.configuration c cs is h';
         same = rw e (λ r. settled-nok-ends given rules.step w t.calls t.configuration c cs r);
         paid = rw e (omega (arith, pays, sum_by-cons (rules.reserve w) c cs));
       }
@@ -274,7 +267,7 @@ pub record Kept {M R D : Type 0} (given : Given) (rules : Rules R D) (flush : Bo
   pub leads : LeadsAll given rules flush old state new answer
   pub message : (m : Message) → state ≡ Error m → (answer ≡ Error m) × (new ≡ old)
 
-module _ {M R D : Type 0} (given : Given) (rules : Rules R D) (laws : Laws given rules) where
+module _ {M R D : Type 0} (given : Given) (rules : Rules R D) (laws : IsLawful given rules) where
   -- taking up a state
   pub kept-taken : (flush : Bool) (t u v : TokenizerValue M R D) (a s : State) (n : Name) → IsText given u.text → TakesUp flush u v s (result.Ok n)
       → Kept given rules flush t a u s → Kept given rules flush t a v (Retry n)
@@ -304,7 +297,7 @@ module _ {M R D : Type 0} (given : Given) (rules : Rules R D) (laws : Laws given
       let now = (k.leads [] tt (λ _. refl)).kept in rw (h.became, h.answered) (record {
         same = record { given = k.same.given; machine = k.same.machine; text = k.same.text; closed = k.same.closed; phase = k.same.phase; counted = omega (arith, k.same.counted) };
         message = λ e is_error. let f : Retry n ≡ Error e = (k.message e is_error).0 in absurd cc;
-        waits = λ f e. k.waits f (no-feeding given rules laws.consumes u.text u.configuration u.choices n is now e);
+        waits = λ f e. k.waits f (no-feeding given rules laws.consumes_once u.text u.configuration u.choices n is now e);
         leads = λ rest can only.
             let w = followed_by_all given u.text rest in
             let first = k.leads rest can only in
@@ -327,7 +320,7 @@ module _ {M R D : Type 0} (rules : M → Given → Rules R D) where
   LeadsFor m given u s v next = (w : Text) → IsText given w → (rules m given).holds w u.configuration u.choices s → LeadsBy m given w u s v next
 
   abbrev LawsBy : M → Given → Type 0
-  LawsBy m given = Laws given (rules m given)
+  LawsBy m given = IsLawful given (rules m given)
 
   -- choices end
   pub leads-for-settled : (m : M) (given : Given) → LawsBy m given → (t : TokenizerValue M R D) (s : State)
@@ -347,8 +340,8 @@ module _ {M R D : Type 0} (rules : M → Given → Rules R D) where
       closed-by (Next n) k some h = absurd cc
       closed-by (Retry n) k some h = absurd cc
       closed-by (Error n) k some h = absurd cc
-      closed-by Ok k some h = (laws.ends.ok t.text k is h).1
-      closed-by Nok k some h = absurd (laws.ends.nok t.text k is h)
+      closed-by Ok k some h = (laws.ends_when_read.ok t.text k is h).1
+      closed-by Nok k some h = absurd (laws.ends_when_read.nok t.text k is h)
 
   settled-same : (m : M) (given : Given) (flush : Bool) (t u v : TokenizerValue M R D) (a s next : State) → IsText given u.text → KeptBy m given flush t a u s → OnlyWorked u v
       → (v.configuration.waiting ≡ End → u.configuration.waiting ≡ End) → ((e : Message) → s ≡ Error e → (next ≡ Error e) × (v ≡ u)) → LeadsFor m given u s v next
@@ -492,17 +485,17 @@ module _ {M R D : Type 0} (given : Given) (rules : Rules R D) where
 pub taken-formed : {R D : Type 0} (bytes : List ℕ) (k : Configuration R D) → IsWellFormed bytes k → IsWellFormed bytes (taken k)
 taken-formed bytes k h = record { balanced = h.balanced; void_tight = h.void_tight; in_order = h.in_order }
 
-module _ {M R D : Type 0} (given : Given) (rules : Rules R D) (laws : Laws given rules) where
+module _ {M R D : Type 0} (given : Given) (rules : Rules R D) (laws : IsLawful given rules) where
   -- before the end is fed the work stops at a state that waits for a byte, or at a message
   stops-answers : (u : TokenizerValue M R D) (s : State) → IsText given u.text → rules.holds u.text u.configuration u.choices s → Stops false u s → (u.configuration.ended ≡ true → ⊥)
       → ((name : Name) × (s ≡ Next name)) ⊎ ((m : Message) × (s ≡ Error m))
   stops-answers u (Next n) is h stops fresh = inl (n, refl)
   stops-answers u (Retry n) is h stops fresh = absurd stops
-  stops-answers u Ok is h stops fresh = let h' = rw stops at h in absurd (fresh ((laws.ends.ok u.text u.configuration is h').0))
-  stops-answers u Nok is h stops fresh = let h' = rw stops at h in absurd (laws.ends.nok u.text u.configuration is h')
+  stops-answers u Ok is h stops fresh = let h' = rw stops at h in absurd (fresh ((laws.ends_when_read.ok u.text u.configuration is h').0))
+  stops-answers u Nok is h stops fresh = let h' = rw stops at h in absurd (laws.ends_when_read.nok u.text u.configuration is h')
   stops-answers u (Error m) is h stops fresh = inr (m, refl)
 
-module _ {M R D : Type 0} (t : TokenizerValue M R D) (rules : Rules R D) (laws : Laws t.given rules) where
+module _ {M R D : Type 0} (t : TokenizerValue M R D) (rules : Rules R D) (laws : IsLawful t.given rules) where
   -- what a push leaves, once the text was extended and the work was done
   pub is-pushed : (u : TokenizerValue M R D) (from to : ℕ × ℕ) (f q : Point) (a s : State) → IsText t.given (followed_by t.given t.text (pushed f q)) → t.closed ≡ false
       → ForPoints t.given from to (λ a b. u.text ≡ followed_by t.given t.text (pushed a b))
@@ -516,6 +509,7 @@ module _ {M R D : Type 0} (t : TokenizerValue M R D) (rules : Rules R D) (laws :
         given = only.given;
         machine = only.machine;
         open_still = closed;
+        phase = sound.reads closed;
         text = text;
         outcome = λ rest can.
             let k = leads rest can (λ e. absurd cc) in record { kept = k.kept; same = k.same; paid = k.paid };
@@ -523,7 +517,7 @@ module _ {M R D : Type 0} (t : TokenizerValue M R D) (rules : Rules R D) (laws :
             let far = rw e at stops in
             let within = sound.within in
             let length_is : u.configuration.position ≡ length u.text.seats = omega (arith, far.1, within) in
-            (length_is, laws.keeps.unfed u.text u.configuration u.choices name is_now (rw e at now));
+            (length_is, laws.invariant_kept.unfed u.text u.configuration u.choices name is_now (rw e at now));
         counted = only.counted;
         message = λ m e. let same = stays m e in (same.0, same.1 ∙ ap (λ (x : Text). extended t x) (sym only.text));
         answers = stops-answers t.given rules laws u s is_now now stops (λ e. let f : true ≡ false = sym (sound.ended e) ∙ closed in absurd cc);

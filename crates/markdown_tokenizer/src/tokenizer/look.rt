@@ -1,8 +1,10 @@
 //! The calls that only read a tokenizer.
 
 ghost use Rattle.std.specs.Prelude.{◌≡◌, map};
+ghost use Rattle.std.specs.List.{IsDistinct};
 ghost use Rattle.markdown_base.specs.Events.{open_events};
 ghost use Rattle.markdown_tokenizer.specs.Sight.{sight_of};
+ghost use Rattle.markdown_tokenizer.specs.Engine.{given_of};
 
 use super::Tokenizer;
 use crate::cursor::{resumed, seat_at};
@@ -64,15 +66,15 @@ impl<'a, M: MachineTypes> Tokenizer<'a, M> {
 
     /// The names of the resolvers that are registered, none of them twice, in the order in which a flush runs them.
     pub fn resolvers(&self) -> &[M::Resolver]
-        ensures { result.now ≡ self.now.configuration.local.resolvers }
+        ensures resolvers { result.now ≡ self.now.configuration.local.resolvers }
+        ensures once { IsDistinct M.Resolver.eq result.now }
     {
         self.resolvers.as_slice()
     }
 
     /// The document, the options and the machine.
     pub fn parse_state(&self) -> &'a ParseState<'a, M>
-        ensures bytes { result.now.bytes.now ≡ self.now.given.bytes }
-        ensures options { result.now.options.now ≡ self.now.given.options }
+        ensures given { given_of result.now ≡ self.now.given }
         ensures machine { result.now.machine.now ≡ self.now.machine }
     {
         self.parse_state

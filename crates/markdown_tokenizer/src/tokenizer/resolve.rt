@@ -1,16 +1,16 @@
 //! Resolvers: which are registered, and what they may change.
 
-ghost use Rattle.std.specs.Prelude.{◌≡◌, ◌≢◌, ◌∷◌, OnOk, OnErr, IfOk, IfErr, IsErrOf, List, Option, [], true};
+ghost use Rattle.std.specs.Prelude.{◌≡◌, ◌≢◌, OnOk, OnErr, IfOk, IfErr, [], true};
 ghost use Rattle.std.specs.Borrow.{sem};
 ghost use Rattle.markdown_tokenizer.specs.declared.waiting.Phase.TheVariants.{Resolving, Resolved};
-ghost use Rattle.markdown_tokenizer.specs.declared.subtokenize.Subresult.{Subresult};
 ghost use Rattle.markdown_tokenizer.specs.Configuration.{at_configuration};
 ghost use Rattle.markdown_tokenizer.specs.Text.{IsText};
-ghost use Rattle.markdown_tokenizer.specs.Sight.{sight_of};
-ghost use Rattle.markdown_tokenizer.specs.Resolving.{edits_made, CanBeEdited, done, refused, with_more};
+ghost use Rattle.markdown_tokenizer.specs.Fault.{IfMessage};
+ghost use Rattle.markdown_tokenizer.specs.Lawful.{CanResolve, resolver_of};
+ghost use Rattle.markdown_tokenizer.specs.Resolving.{edits_made, CanBeEdited, refused};
 ghost use Rattle.markdown_tokenizer.specs.Calls.{with_resolvers};
 ghost use Rattle.markdown_tokenizer.specs.Registering.{with_resolver, with_resolver_before};
-ghost use Rattle.markdown_tokenizer.specs.Work.{resolved_in, GoneOver};
+ghost use Rattle.markdown_tokenizer.specs.Work.{HasResolved, CanGoOver, HasGoneOver, AllGoneOver, RefusesOver, registered_out};
 
 use super::{Fault, Tokenizer};
 use crate::state::{Machine, MachineTypes};
@@ -96,10 +96,10 @@ impl<'a, M: Machine> Tokenizer<'a, M> {
     fn resolve_next(&mut self, name: M::Resolver, sub: Subresult) -> Result<Subresult, Fault>
         requires resolving { self.old.phase ≡ Resolving }
         requires alone { self.old.choices ≡ [] }
-        requires invariant { (rest : List M.Resolver) × (M.rules self.old.machine self.old.given).resolves self.old.text (name ∷ rest) self.old.configuration }
+        requires invariant { CanResolve (M.rules self.old.machine) self.old name }
         ensures same { self.new ≡ at_configuration self.old self.new.configuration }
-        ensures ok { IfOk result (λ all. (more : Option Subresult) × ((M.rules self.old.machine self.old.given).resolver (sight_of self.old) self.old.configuration name ≡ done self.new.configuration more) × (all ≡ with_more sub more)) }
-        ensures message { (m : _) → IsErrOf result (Fault.Message m) → (M.rules self.old.machine self.old.given).resolver (sight_of self.old) self.old.configuration name ≡ refused m }
+        ensures ok { IfOk result (λ all. HasResolved M.rules self.old name sub self.new all) }
+        ensures message { IfMessage result (λ m. resolver_of (M.rules self.old.machine) self.old name ≡ refused m) }
         ensures err { IfErr result (λ fault. fault ≢ Fault.Failed) }
     {
         let alloc = self.allocator();
@@ -114,10 +114,10 @@ impl<'a, M: Machine> Tokenizer<'a, M> {
         requires text { IsText self.old.given self.old.text }
         requires resolving { self.old.phase ≡ Resolving }
         requires alone { self.old.choices ≡ [] }
-        requires invariant { (M.rules self.old.machine self.old.given).resolves self.old.text names.now self.old.configuration }
+        requires invariant { CanGoOver M.rules self.old names.now self.old.configuration }
         ensures same { self.new ≡ at_configuration self.old self.new.configuration }
-        ensures ok { IfOk result (λ all. GoneOver (M.rules self.old.machine self.old.given) self.old names.now self.old.configuration sub self.new all) }
-        ensures message { (m : _) → IsErrOf result (Fault.Message m) → resolved_in (M.rules self.old.machine self.old.given) self.old names.now self.old.configuration sub ≡ refused m }
+        ensures ok { IfOk result (λ all. HasGoneOver M.rules self.old names.now self.old.configuration sub self.new all) }
+        ensures message { IfMessage result (RefusesOver M.rules self.old names.now self.old.configuration sub) }
         ensures err { IfErr result (λ fault. fault ≢ Fault.Failed) }
     {
         let mut found = sub;
@@ -133,10 +133,10 @@ impl<'a, M: Machine> Tokenizer<'a, M> {
         requires text { IsText self.old.given self.old.text }
         requires closed { self.old.closed ≡ true }
         requires alone { self.old.choices ≡ [] }
-        requires invariant { (M.rules self.old.machine self.old.given).resolves self.old.text self.old.configuration.local.resolvers (with_resolvers self.old.configuration []) }
+        requires invariant { CanGoOver M.rules self.old self.old.configuration.local.resolvers (registered_out self.old) }
         ensures same { self.new ≡ record self.old { configuration = self.new.configuration; phase = Resolved } }
-        ensures ok { IfOk result (λ all. GoneOver (M.rules self.old.machine self.old.given) self.old self.old.configuration.local.resolvers (with_resolvers self.old.configuration []) sub self.new all) }
-        ensures message { (m : _) → IsErrOf result (Fault.Message m) → resolved_in (M.rules self.old.machine self.old.given) self.old self.old.configuration.local.resolvers (with_resolvers self.old.configuration []) sub ≡ refused m }
+        ensures ok { IfOk result (λ all. AllGoneOver M.rules self.old sub self.new all) }
+        ensures message { IfMessage result (RefusesOver M.rules self.old self.old.configuration.local.resolvers (registered_out self.old) sub) }
         ensures err { IfErr result (λ fault. fault ≢ Fault.Failed) }
     {
         let names = self.begin_resolving();

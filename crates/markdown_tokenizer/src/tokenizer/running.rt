@@ -1,18 +1,18 @@
 //! The work of a tokenizer: states are called until a range is used up, or until the reading has ended.
 
-ghost use Rattle.std.specs.Prelude.{◌≡◌, ◌≢◌, ◌+◌, ◌*◌, ◌^◌, ◌≤◌, ◌<◌, All, Contains, length, [], Option, false, true, IfOk, IfErr, IsErrOf, IsTrue};
+ghost use Rattle.std.specs.Prelude.{◌≡◌, ◌≢◌, ◌≤◌, ◌<◌, Contains, length, [], Option, false, true, IfOk, IfErr, IsErrOf, IsTrue};
 ghost use Rattle.std.specs.Bool.{OnTrue, OnFalse};
 ghost use Rattle.markdown_base.specs.Virtual.{point};
 ghost use Rattle.markdown_tokenizer.specs.declared.waiting.Waits.TheVariants.{Nothing, End};
 ghost use Rattle.markdown_tokenizer.specs.Configuration.{at_configuration, start_seen};
-ghost use Rattle.markdown_tokenizer.specs.Engine.{HoldsOf, CanPush, IsPushed, IsFlushed, IsRefused, AreCuts, IsRun, IsRunRefused, ForPoints, IsWellFormed, given_of};
-ghost use Rattle.markdown_tokenizer.specs.Lawful.{DidStep};
+ghost use Rattle.markdown_tokenizer.specs.Engine.{HoldsOf, CanPush, IsPushed, IsFlushed, IsRefused, AreCuts, IsRun, IsRunOf, IsRunRefused, ForPoints, IsWellFormed, given_of};
+ghost use Rattle.markdown_tokenizer.specs.Fault.{IfMessage};
+ghost use Rattle.markdown_tokenizer.specs.Lawful.{DidStep, step_of};
 ghost use Rattle.markdown_tokenizer.specs.Reading.{fed};
 ghost use Rattle.markdown_tokenizer.specs.Resolving.{found, taken};
-ghost use Rattle.markdown_tokenizer.specs.Sight.{sight_of};
-ghost use Rattle.markdown_tokenizer.specs.Text.{IsText, empty_text, followed_by, pushed};
+ghost use Rattle.markdown_tokenizer.specs.Text.{IsDocument, IsText, empty_text, followed_by, pushed};
 ghost use Rattle.markdown_tokenizer.specs.View.{taken_continuation};
-ghost use Rattle.markdown_tokenizer.specs.Work.{IsInText, extended, answer_of, HoldsAll, LeadsAll, OnlyWorked, Stops, settled_all, settled_to, EndsClosed, TakesUp, taken_up};
+ghost use Rattle.markdown_tokenizer.specs.Work.{IsInText, extended, answer_of, HoldsAll, LeadsAll, OnlyWorked, Stops, settled_all, EndsClosed, GoesOnTo, taken_up, taken_by_next};
 
 use super::{Fault, Tokenizer};
 use crate::cursor::{next_byte, resumed};
@@ -38,15 +38,12 @@ pub fn run<M: Machine>(
     cuts: &[(usize, usize)],
     resolve: bool,
 ) -> Result<(Vec<Event>, Subresult), Fault>
-    requires limit { parse_state.now.options.now.tab_size * length parse_state.now.bytes.now + 1 < 2 ^ 64 }
     requires start { Contains (M.rules parse_state.now.machine.now (given_of parse_state.now)).starts start }
     requires cuts { AreCuts parse_state.now.options.now.tab_size parse_state.now.bytes.now cuts.now }
-    ensures ok { IfOk result (λ answer. IsRun (given_of parse_state.now) (M.rules parse_state.now.machine.now) resolve start answer.0.items answer.1) }
-    ensures message { (m : _) → IsErrOf result (Fault.Message m) → IsRunRefused (given_of parse_state.now) (M.rules parse_state.now.machine.now) resolve start m }
+    ensures ok { let p = parse_state.now in IfOk result (λ r. IsRun (given_of p) (M.rules p.machine.now) resolve start r.0.items r.1) }
+    ensures message { let p = parse_state.now in IfMessage result (IsRunRefused (given_of p) (M.rules p.machine.now) resolve start) }
     ensures err { IfErr result (λ fault. fault ≢ Fault.Failed) }
 {
-    // The type of the tab size says that tab stops are apart. The start is the point of a place for that reason.
-    let _ = parse_state.options.tab_size.get();
     let mut tokenizer = Tokenizer::new(alloc, Point::START, parse_state);
     let sub = read_cut(&mut tokenizer, parse_state, start, cuts, resolve);
     let events = tokenizer.into_events();
@@ -65,15 +62,13 @@ fn read_cut<M: Machine>(
     resolve: bool,
 ) -> Result<Subresult, Fault>
     requires begins { tokenizer.old ≡ start_seen (given_of parse_state.now) parse_state.now.machine.now (empty_text (point 1 1 0 0)) }
-    requires bytes { All (λ b. b < 256) parse_state.now.bytes.now }
-    requires limit { parse_state.now.options.now.tab_size * length parse_state.now.bytes.now + 1 < 2 ^ 64 }
+    requires document { IsDocument (given_of parse_state.now) }
     requires start { Contains (M.rules parse_state.now.machine.now (given_of parse_state.now)).starts start }
     requires cuts { AreCuts parse_state.now.options.now.tab_size parse_state.now.bytes.now cuts.now }
-    ensures ok { IfOk result (λ sub. IsRun (given_of parse_state.now) (M.rules parse_state.now.machine.now) resolve start tokenizer.new.configuration.events sub) }
-    ensures message { (m : _) → IsErrOf result (Fault.Message m) → IsRunRefused (given_of parse_state.now) (M.rules parse_state.now.machine.now) resolve start m }
+    ensures ok { let p = parse_state.now in IfOk result (IsRunOf (given_of p) (M.rules p.machine.now) resolve start tokenizer.new) }
+    ensures message { let p = parse_state.now in IfMessage result (IsRunRefused (given_of p) (M.rules p.machine.now) resolve start) }
     ensures err { IfErr result (λ fault. fault ≢ Fault.Failed) }
 {
-    let _ = parse_state.options.tab_size.get();
     let mut state = State::Next(start);
     let mut from = (0, 0);
     for cut in cuts {
@@ -115,6 +110,21 @@ impl<'a, M: MachineTypes> Tokenizer<'a, M> {
         self.ended = true;
     }
 
+    /// The next byte waits; or the end, where there is none and this is a flush. Returns whether one of them does.
+    #[inline(always)]
+    fn feed_next(&mut self, flush: bool) -> bool
+        requires closed { self.old.closed ≡ flush }
+        ensures { (name : _) → GoesOnTo flush self.old (State.Next name) self.new (taken_by_next result name) }
+    {
+        if self.feed() {
+            return true;
+        }
+        if flush {
+            self.feed_end();
+        }
+        flush
+    }
+
     /// Choices end, the last first, until one goes on with a state, which is fed; or none is left, and then no span is open.
     /// If the work ends, its answer is returned.
     ///
@@ -123,7 +133,7 @@ impl<'a, M: MachineTypes> Tokenizer<'a, M> {
     fn go_on(&mut self, flush: bool, ok: bool) -> Result<Name, GoesOn>
         requires closed { self.old.closed ≡ flush }
         requires ends { EndsClosed (settled_all self.old.configuration self.old.choices (answer_of ok)) }
-        ensures { let s = settled_all self.old.configuration self.old.choices (answer_of ok) in TakesUp flush (settled_to self.old s) self.new s.answer (taken_continuation result) }
+        ensures { GoesOnTo flush self.old (answer_of ok) self.new (taken_continuation result) }
     {
         if self.kept_choices.is_empty() {
             let last = if ok { GoesOn::Ok } else { GoesOn::Nok };
@@ -176,7 +186,7 @@ impl<'a, M: MachineTypes> Tokenizer<'a, M> {
 
     /// Where no span is open, the events are well formed, until a flush resolves.
     fn shows_events(&self)
-        ensures { self.now.phase ≡ Phase.Reading → self.now.configuration.stack ≡ [] → IsWellFormed self.now.given.bytes self.now.configuration }
+        ensures { let t = self.now in t.phase ≡ Phase.Reading → t.configuration.stack ≡ [] → IsWellFormed t.given.bytes t.configuration }
     {
         let _ = &self.after_previous;
     }
@@ -204,7 +214,8 @@ impl<'a, M: MachineTypes> Tokenizer<'a, M> {
     fn extend(&mut self, from: (usize, usize), to: (usize, usize))
         requires range { CanPush self.old.given self.old.text from to }
         requires open_still { self.old.closed ≡ false }
-        ensures { ForPoints self.old.given from to (λ f t. self.new ≡ extended self.old (followed_by self.old.given self.old.text (pushed f t))) }
+        ensures { let t = self.old in
+            ForPoints t.given from to (λ f l. self.new ≡ extended t (followed_by t.given t.text (pushed f l))) }
     {
         self.end = to;
     }
@@ -255,18 +266,16 @@ impl<'a, M: Machine> Tokenizer<'a, M> {
     fn next_call(&mut self, flush: bool, state: &mut State) -> Option<Name>
         requires closed { self.old.closed ≡ flush }
         requires ends { EndsClosed (settled_all self.old.configuration self.old.choices state.old) }
-        ensures { let s = settled_all self.old.configuration self.old.choices state.old in TakesUp flush (settled_to self.old s) self.new s.answer (taken_up result state.new) }
+        ensures { GoesOnTo flush self.old state.old self.new (taken_up result state.new) }
     {
         let ok = match state {
             State::Next(name) => {
                 let name = *name;
-                if !self.feed() {
-                    if !flush {
-                        return None;
-                    }
-                    self.feed_end();
-                }
-                return Some(name);
+                return if self.feed_next(flush) {
+                    Some(name)
+                } else {
+                    None
+                };
             }
             State::Retry(name) => return Some(*name),
             State::Error(_) => return None,
@@ -284,9 +293,10 @@ impl<'a, M: Machine> Tokenizer<'a, M> {
 
     /// One state is called.
     fn call_state(&mut self, name: Name) -> Result<State, AllocError>
+        requires reading { self.old.phase ≡ Phase.Reading }
         requires waits { self.old.configuration.waiting ≢ Nothing }
         requires holds { HoldsOf (M.rules self.old.machine self.old.given) self.old (State.Retry name) }
-        ensures { IfOk result (DidStep self.old self.new ((M.rules self.old.machine self.old.given).step (sight_of self.old) self.old.configuration name)) }
+        ensures { IfOk result (DidStep self.old self.new (step_of (M.rules self.old.machine) self.old name)) }
     {
         let alloc = self.allocator();
         self.parse_state().machine.call(alloc, self, name)
@@ -297,9 +307,10 @@ impl<'a, M: Machine> Tokenizer<'a, M> {
         requires text { IsText self.old.given self.old.text }
         requires holds { HoldsAll (M.rules self.old.machine self.old.given) flush self.old state }
         requires closed { self.old.closed ≡ flush }
+        requires reading { self.old.phase ≡ Phase.Reading }
         requires waits { flush ≡ false → self.old.configuration.waiting ≢ End }
         ensures same { IfOk result (λ _. OnlyWorked self.old self.new) }
-        ensures leads { IfOk result (λ answer. LeadsAll self.old.given (M.rules self.old.machine self.old.given) flush self.old state self.new answer) }
+        ensures leads { let t = self.old in IfOk result (LeadsAll t.given (M.rules t.machine t.given) flush t state self.new) }
         ensures stops { IfOk result (λ answer. Stops flush self.new answer) }
         ensures message { (m : _) → state ≡ State.Error m → IfOk result (λ answer. (answer ≡ State.Error m) × (self.new ≡ self.old)) }
     {
@@ -308,16 +319,34 @@ impl<'a, M: Machine> Tokenizer<'a, M> {
             Some(name) => name,
             None => return Ok(state),
         };
-        // By a call, here and below: dropped in place, its fields are spelled out in the proof at each way out.
+        // By a call: dropped in place, its fields are spelled out in the proof at each way out.
         drop(state);
         loop {
             self.shows_in_text();
-            let mut answer = self.call_state(name)?;
-            name = match self.next_call(flush, &mut answer) {
-                Some(name) => name,
-                None => return Ok(answer),
+            // Each answer is known where it is made. Put together again, or looked at through a reference, it would stand in memory.
+            let answer = match self.call_state(name) {
+                Ok(answer) => answer,
+                Err(error) => return Err(error),
             };
-            drop(answer);
+            name = match answer {
+                State::Next(next) => {
+                    if self.feed_next(flush) {
+                        next
+                    } else {
+                        return Ok(State::Next(next));
+                    }
+                }
+                State::Retry(next) => next,
+                State::Ok => match self.go_on(flush, true) {
+                    Ok(next) => next,
+                    Err(end) => return Ok(end.state()),
+                },
+                State::Nok => match self.go_on(flush, false) {
+                    Ok(next) => next,
+                    Err(end) => return Ok(end.state()),
+                },
+                State::Error(message) => return Ok(State::Error(message)),
+            };
         }
     }
 
@@ -369,7 +398,7 @@ impl<'a, M: Machine> Tokenizer<'a, M> {
         ensures failed { IsTrue self.old.closed → IsErrOf result Fault.Failed × (self.new ≡ self.old) }
         ensures closed { self.new.closed ≡ true }
         ensures ok { IfOk result (λ sub. IsFlushed (M.rules self.old.machine self.old.given) resolve self.old state self.new sub) }
-        ensures message { (m : _) → IsErrOf result (Fault.Message m) → IsRefused (M.rules self.old.machine self.old.given) resolve self.old state self.new m }
+        ensures message { IfMessage result (IsRefused (M.rules self.old.machine self.old.given) resolve self.old state self.new) }
         ensures err { self.old.closed ≡ false → IfErr result (λ fault. fault ≢ Fault.Failed) }
     {
         if self.is_closed() {

@@ -1,10 +1,9 @@
 -- The table of the machine passes the test and its own cost pays, so that the machine is lawful.
 use Rattle.std.proofs.Common.{◌≡◌, ℕ, zero, suc, ◌+◌, ◌-◌, ◌*◌, ◌≤◌, [], Option, Some, None, length, refl, ap, arith, true, false}
-use Rattle.markdown_base.specs.declared.state.TheConstants.Name.{StringStart}
 use Rattle.mdconstructs_tables.specs.PlainTables.{IsPlainTable}
 use Rattle.mdconstructs_tables.specs.Refusals.{refusing}
 use Rattle.mdconstructs_tables.specs.RowInvariant.{PaysRows}
-use Rattle.mdconstructs_tables.proofs.Tables.Laws.{IsFit}
+use Rattle.mdconstructs_tables.specs.Fitting.{IsFit}
 use Rattle.mdconstructs_tables.proofs.Tables.Tests.{tests, all-fit, all-plain, none-refuses}
 use Rattle.mdconstructs_machines.specs.Tables.{LineByte, line_ending, other}
 use Rattle.mdconstructs_machines.specs.Deep.{triangle, tries_cost, deep_cost, string_start, deep}
@@ -34,15 +33,15 @@ triangle-next : (total p : ℕ) → p + 1 ≤ total → triangle (total - p) ≡
 triangle-next total p h = let left : total - p ≡ suc (total - suc p) = omega (arith, h) in rw left refl
 
 pays : PaysRows deep false string_start None
-pays None None text p read at seen = tries-least p (length text.seats - p)
-pays (Some x) None text p read at seen = tries-least p (length text.seats - p)
-pays None (Some x) text zero read at seen = let one = triangle-next (length text.seats) 0 (omega (arith, at)) in omega (arith, at, one)
-pays None (Some x) text (suc p) read at seen = absurd (cc)
-pays (Some y) (Some x) text zero read at seen = absurd (cc)
-pays (Some y) (Some x) text (suc p) read at seen =
+pays None None text p read at seen called = tries-least p (length text.seats - p)
+pays (Some x) None text p read at seen called = tries-least p (length text.seats - p)
+pays None (Some x) text zero read at seen called = let one = triangle-next (length text.seats) 0 (omega (arith, at)) in omega (arith, at, one)
+pays None (Some x) text (suc p) read at seen called = absurd (cc)
+pays (Some y) (Some x) text zero read at seen called = absurd (cc)
+pays (Some y) (Some x) text (suc p) read at seen called =
     let n = length text.seats in
     let next : suc p + 1 ≡ suc (suc p) = omega arith in
-    let later : deep_cost text (suc p + 1) StringStart ≡ triangle (n - suc (suc p)) + 3 * (n - suc (suc p)) + 1 = ap (λ q. deep_cost text q StringStart) next in
+    let later : deep_cost text (suc p + 1) ≡ triangle (n - suc (suc p)) + 3 * (n - suc (suc p)) + 1 = ap (λ q. deep_cost text q) next in
     let one = triangle-next n (suc p) (omega (arith, at)) in
     omega (arith, at, one, later)
 
@@ -56,7 +55,7 @@ tested (Some _) (Some line_ending) = refl
 tested (Some _) (Some other) = refl
 
 pub deep-fit : IsFit deep
-deep-fit = record { fits = all-fit deep tested; paid = (pays, (tt, (tt, (tt, tt)))); falls = λ text p q name every. tries-fall (length text.seats) p q }
+deep-fit = record { fits = all-fit deep tested; paid = (pays, (tt, (tt, (tt, tt)))); falls = ((λ every text p q. tries-fall (length text.seats) p q), (tt, (tt, (tt, tt)))) }
 
 pub deep-plain : IsPlainTable deep
 deep-plain = record { first = λ k h. h; rows = all-plain deep tested }

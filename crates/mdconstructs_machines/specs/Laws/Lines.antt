@@ -2,7 +2,7 @@
 use Rattle.std.proofs.Common.{◌≡◌, [], Option, Some, None, refl, true}
 use Rattle.mdconstructs_tables.specs.PlainTables.{IsPlainTable}
 use Rattle.mdconstructs_tables.specs.Refusals.{refusing}
-use Rattle.mdconstructs_tables.proofs.Tables.Laws.{IsFit, no-falls}
+use Rattle.mdconstructs_tables.specs.Fitting.{IsFit}
 use Rattle.mdconstructs_tables.proofs.Tables.Tests.{tests, all-fit, all-plain, none-refuses}
 use Rattle.mdconstructs_machines.specs.Tables.{LineByte, line_ending, other}
 use Rattle.mdconstructs_machines.specs.Lines.{lines}
@@ -14,7 +14,7 @@ tested previous (Some line_ending) = refl
 tested previous (Some other) = refl
 
 pub lines-fit : IsFit lines
-lines-fit = record { fits = all-fit lines tested; paid = (tt, (tt, tt)); falls = no-falls }
+lines-fit = record { fits = all-fit lines tested; paid = (tt, (tt, tt)); falls = (tt, (tt, tt)) }
 
 pub lines-plain : IsPlainTable lines
 lines-plain = record { first = λ k h. h; rows = all-plain lines tested }

@@ -19,10 +19,10 @@ use Rattle.markdown_tokenizer.specs.Resolving.{CanBeEdited, IsInShape}
 use Rattle.markdown_edits.proofs.Edits.Splices.{edited-none}
 use Rattle.markdown_edits.proofs.LinkEnds.{updated-length}
 use Rattle.mdconstructs_tables.specs.LinkShapes.{next_end, previous_end, AreInShape}
-use Rattle.mdconstructs_tables.specs.RowTest.{misfits}
+use Rattle.mdconstructs_tables.specs.Misfits.{misfits}
 use Rattle.mdconstructs_tables.proofs.LinkShapes.{more-shape, linked-shape}
-use Rattle.mdconstructs_tables.proofs.Tables.Laws.{IsFit, no-falls}
-use Rattle.mdconstructs_tables.proofs.Tables.Knowledge.{KeepsKnowing, IsKnown}
+use Rattle.mdconstructs_tables.specs.Fitting.{IsFit}
+use Rattle.mdconstructs_tables.specs.Knowledge.{KeepsKnowing, IsKnown}
 use Rattle.mdconstructs_machines.specs.Tables.{LineByte, line_ending, other}
 use Rattle.mdconstructs_machines.specs.Reading.{data_start, data_inside}
 use Rattle.mdconstructs_machines.specs.Paragraphs.{text_link, flow_start, paragraph_line_start, paragraph_start, paragraph_inside, text_start, paragraphs, BeginsChunk, EndsWithChunk, HasChunk, KnowsChunk, Knows, knows_chunk, CanLinkChunk}
@@ -33,7 +33,7 @@ fits previous (Some line_ending) = refl
 fits previous (Some other) = refl
 
 pub paragraphs-fit : IsFit paragraphs
-paragraphs-fit = record { fits = fits; paid = (tt, (tt, (tt, (tt, (tt, (tt, (tt, tt))))))); falls = no-falls }
+paragraphs-fit = record { fits = fits; paid = (tt, (tt, (tt, (tt, (tt, (tt, (tt, tt))))))); falls = (tt, (tt, (tt, (tt, (tt, (tt, (tt, tt))))))) }
 
 -- the event that begins a chunk
 abbrev pub chunk_at : Point → Event
@@ -87,11 +87,11 @@ updated-last (suc i) f [] e h = absurd (omega (arith, h))
 updated-last zero f (x ∷ xs) e h = absurd (omega (arith, h))
 updated-last (suc i) f (x ∷ xs) e h = ap (λ es. x ∷ es) (updated-last i f xs e (omega (arith, h)))
 
-at-index : (xs ys : List Event) (y d : Event) (i : ℕ) → i ≡ length xs → slice_index_or (xs ++ y ∷ ys) i d ≡ y
-at-index [] ys y d zero h = refl
-at-index [] ys y d (suc i) h = absurd (omega (arith, h))
-at-index (x ∷ xs) ys y d zero h = absurd (omega (arith, h))
-at-index (x ∷ xs) ys y d (suc i) h = at-index xs ys y d i (omega (arith, h))
+at-index : (xs ys : List Event) (y : Event) (i : ℕ) → i ≡ length xs → slice_get (xs ++ y ∷ ys) i ≡ Some y
+at-index [] ys y zero h = refl
+at-index [] ys y (suc i) h = absurd (omega (arith, h))
+at-index (x ∷ xs) ys y zero h = absurd (omega (arith, h))
+at-index (x ∷ xs) ys y (suc i) h = at-index xs ys y i (omega (arith, h))
 
 chunk-inside : (events : List Event) (index : ℕ) → HasChunk events index → index + 1 < length events
 chunk-inside events index h = omega (arith, ap length h.events_are, length-append h.before (h.first ∷ h.last ∷ h.after), h.index_is)
@@ -103,19 +103,17 @@ can-link events place index next h last =
     let e = chunk_at place in
     let there = more-chunk events e index h in
     let inside = chunk-inside events index h in
-    let first : (d : Event) → slice_index_or (events ++ e ∷ []) index d ≡ h.first = λ d.
-    ap (λ es. slice_index_or es index d) there.events_are ∙ at-index h.before (h.last ∷ h.after ++ e ∷ []) h.first d index h.index_is in
-    let then : (d : Event) → slice_index_or (events ++ e ∷ []) (index + 1) d ≡ h.last = λ d.
-    ap (λ es. slice_index_or es (index + 1) d) (there.events_are ∙ sym (append_assoc h.before (h.first ∷ []) (h.last ∷ h.after ++ e ∷ [])))
-    ∙ at-index (h.before ++ h.first ∷ []) (h.after ++ e ∷ []) h.last d (index + 1) (omega (arith, h.index_is, length-append h.before (h.first ∷ []))) in
-    let second : (d : Event) → slice_index_or (events ++ e ∷ []) next d ≡ e = λ d. at-index events [] e d next last in
+    let first : slice_get (events ++ e ∷ []) index ≡ Some h.first =
+    ap (λ es. slice_get es index) there.events_are ∙ at-index h.before (h.last ∷ h.after ++ e ∷ []) h.first index h.index_is in
+    let behind : slice_get (events ++ e ∷ []) (index + 1) ≡ Some h.last =
+    ap (λ es. slice_get es (index + 1)) (there.events_are ∙ sym (append_assoc h.before (h.first ∷ []) (h.last ∷ h.after ++ e ∷ [])))
+    ∙ at-index (h.before ++ h.first ∷ []) (h.after ++ e ∷ []) h.last (index + 1) (omega (arith, h.index_is, length-append h.before (h.first ∷ []))) in
+    let second : slice_get (events ++ e ∷ []) next ≡ Some e = at-index events [] e next last in
     record {
       order = omega (arith, inside, last);
-      within = omega (arith, last, length-append events (e ∷ []));
-      first = λ d. subst IsLinkedEnter (sym (first d)) h.begins.linked;
-      ended = λ d. subst (λ x. IsEndedBy x (slice_index_or (events ++ e ∷ []) (index + 1) d)) (sym (first d)) (subst (IsEndedBy h.first) (sym (then d)) h.ended);
-      second = λ d. subst IsLinkedEnter (sym (second d)) (begins-chunk place).linked;
-      one_content = λ d. ap content_of (first d) ∙ h.begins.text ∙ sym (ap content_of (second d));
+      first = record { enter = h.first; exit = h.last; enter_at = first; exit_at = behind; linked = h.begins.linked; ended = h.ended };
+      second = rw second (begins-chunk place).linked;
+      one_content = rw (first, second) h.begins.text;
     }
 
 -- and where it does, it is the last event

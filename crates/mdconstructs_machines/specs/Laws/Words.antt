@@ -19,9 +19,9 @@ use Rattle.markdown_edits.proofs.Balanced.{IsBalanced-pair, IsBalanced-remove}
 use Rattle.markdown_edits.proofs.Edits.Passes.{woven-past}
 use Rattle.markdown_tokenizer.proofs.Readings.Plain.{no-links-more, no-links-below, no-links-shape, woven-same, edited-same}
 use Rattle.markdown_tokenizer.specs.Configuration.{Configuration, Local, Choice, start_configuration}
-use Rattle.mdconstructs_tables.specs.RowTest.{misfits}
-use Rattle.mdconstructs_tables.proofs.Tables.Laws.{IsFit, no-falls}
-use Rattle.mdconstructs_tables.proofs.Tables.Knowledge.{KeepsKnowing, IsKnown}
+use Rattle.mdconstructs_tables.specs.Misfits.{misfits}
+use Rattle.mdconstructs_tables.specs.Fitting.{IsFit}
+use Rattle.mdconstructs_tables.specs.Knowledge.{KeepsKnowing, IsKnown}
 use Rattle.mdconstructs_machines.specs.Words.{WordByte, blank, other, text_start, blanks, word_start, tag, word, words, is_start, blanks_may_be_open, BeginWithBlanks, DropNoMoreThanBlanks, KnowsEdits, knows_edits}
 
 fits : (previous current : Option WordByte) → misfits words previous current ≡ []
@@ -30,7 +30,7 @@ fits previous (Some blank) = refl
 fits previous (Some other) = refl
 
 pub words-fit : IsFit words
-words-fit = record { fits = fits; paid = (tt, (tt, (tt, (tt, (tt, tt))))); falls = no-falls }
+words-fit = record { fits = fits; paid = (tt, (tt, (tt, (tt, (tt, tt))))); falls = (tt, (tt, (tt, (tt, (tt, tt))))) }
 
 -- ---- the blanks with which the events begin, and more events
 

@@ -20,13 +20,14 @@ use Rattle.markdown_edits.specs.Edits.{Edit, edit_at, added_after, AreDisjoint}
 use Rattle.markdown_edits.specs.Edited.{as_addition, as_change, edited}
 use Rattle.markdown_edits.specs.Woven.{Tagged, Change, of_list, as_listed, events_at, is_removed, placed_end, placed_in, woven}
 use Rattle.markdown_tokenizer.specs.Resolving.{done, refused, taken, IsInShape}
-use Rattle.markdown_tokenizer.specs.Lawful.{ConsumesOnce, OnlyAdds, EndsWhenRead, KeepsInvariant, CostPays, ResolversKeep, IsAsFar}
+use Rattle.markdown_tokenizer.specs.Lawful.{ConsumesOnce, OnlyAdds, EndsWhenRead, KeepsInvariant, CostPays, ResolversKeep, IsAsFar, IsLawful}
 use Rattle.markdown_tokenizer.specs.Plain.{HaveNoLinks}
 use Rattle.markdown_tokenizer.proofs.Readings.Plain.{no-links-more, no-links-below, no-links-shape, unlinked-same}
 use Rattle.markdown_edits.proofs.Edits.Puts.{put-same, put-more}
 use Rattle.mdconstructs_tables.specs.Rows.{class_of, step_of, picked, step_at}
-use Rattle.mdconstructs_tables.specs.RowTest.{misfits}
-use Rattle.mdconstructs_tables.proofs.Tables.Laws.{IsFit, no-falls, table-consumes_once, table-only_adds, table-ends_when_read, table-invariant_kept}
+use Rattle.mdconstructs_tables.specs.Misfits.{misfits}
+use Rattle.mdconstructs_tables.specs.Fitting.{IsFit}
+use Rattle.mdconstructs_tables.proofs.Tables.Laws.{table-consumes_once, table-only_adds, table-ends_when_read, table-invariant_kept}
 use Rattle.mdconstructs_tables.proofs.Tables.Costs.{table-cost_pays}
 use Rattle.mdconstructs_machines.specs.declared.wrap.Resolver.{Resolver}
 use Rattle.mdconstructs_machines.specs.declared.wrap.Resolver.TheVariants.{A, B, C}
@@ -41,7 +42,7 @@ fits previous (Some line_ending) = refl
 fits previous (Some other) = refl
 
 pub wrap-fit : IsFit wrap
-wrap-fit = record { fits = fits; paid = (tt, (tt, (tt, tt))); falls = no-falls }
+wrap-fit = record { fits = fits; paid = (tt, (tt, (tt, tt))); falls = (tt, (tt, (tt, tt))) }
 
 -- what a step leaves
 abbrev IsLeft : Step Resolver Unit → Type 0
@@ -82,20 +83,20 @@ none-first name (suc i, below, is) = absurd (omega arith)
 none-more : (made choices : List Choice) → made ≡ [] → choices ≡ [] → made ++ choices ≡ []
 none-more made choices e f = rw (e, f) refl
 
-pub consumes_once : (refuse : Bool) (g : Given) → ConsumesOnce g (wrap_rules refuse g)
+consumes_once : (refuse : Bool) (g : Given) → ConsumesOnce g (wrap_rules refuse g)
 consumes_once refuse g text k choices name is h = table-consumes_once wrap g wrap-fit text k choices name is h.1
 
-pub only_adds : (refuse : Bool) (g : Given) → OnlyAdds g (wrap_rules refuse g)
+only_adds : (refuse : Bool) (g : Given) → OnlyAdds g (wrap_rules refuse g)
 only_adds refuse g =
     let law = table-only_adds wrap g wrap-fit in
     record { events = λ text k choices name is h. law.events text k choices name is h.1; stack = λ text k choices name is h. law.stack text k choices name is h.1 }
 
-pub ends_when_read : (refuse : Bool) (g : Given) → EndsWhenRead g (wrap_rules refuse g)
+ends_when_read : (refuse : Bool) (g : Given) → EndsWhenRead g (wrap_rules refuse g)
 ends_when_read refuse g =
     let law = table-ends_when_read wrap g wrap-fit in
     record { nok = λ text k is h. law.nok text k is h.1; ok = λ text k is h. law.ok text k is h.1 }
 
-pub invariant_kept : (refuse : Bool) (g : Given) → KeepsInvariant g (wrap_rules refuse g)
+invariant_kept : (refuse : Bool) (g : Given) → KeepsInvariant g (wrap_rules refuse g)
 invariant_kept refuse g =
     let law = table-invariant_kept wrap g wrap-fit in
     record {
@@ -111,7 +112,7 @@ invariant_kept refuse g =
       by_pieces = λ text piece k choices state is fits fresh h. (h.0, law.by_pieces text piece k choices state is fits fresh h.1);
     }
 
-pub cost_pays : (refuse : Bool) (g : Given) → CostPays g (wrap_rules refuse g)
+cost_pays : (refuse : Bool) (g : Given) → CostPays g (wrap_rules refuse g)
 cost_pays refuse g =
     let law = table-cost_pays wrap g wrap-fit in
     record {
@@ -246,11 +247,21 @@ passed-by refuse s text B (B ∷ rs) k new more h e = absurd h
 passed-by refuse s text B (C ∷ rs) k new more h e = absurd h
 passed-by refuse s text C rs k new more h e = absurd h
 
-pub resolvers_keep : (refuse : Bool) (g : Given) → ResolversKeep g (wrap_rules refuse g)
+resolvers_keep : (refuse : Bool) (g : Given) → ResolversKeep g (wrap_rules refuse g)
 resolvers_keep refuse g = record {
   at_end = λ text k is formed h.
       let set = h.0.1 in
       subst (λ rs. wrap_resolves text rs (with_resolvers (taken k) [])) (sym set.0) (set.1, (set.2, formed.balanced));
   by_resolvers = λ text r rs k new more is h e. passed-by refuse (sight g text k) text r rs k new more h e;
   at_last = λ text k is h. wrapped-well h.0 h.1 k.events k.local.map (h.2 ∙ both-are h.0 h.1 (length k.events)) h.3;
+}
+
+pub wrap-lawful : (refuse : Bool) (g : Given) → IsLawful g (wrap_rules refuse g)
+wrap-lawful refuse g = record {
+  consumes_once = consumes_once refuse g;
+  only_adds = only_adds refuse g;
+  ends_when_read = ends_when_read refuse g;
+  invariant_kept = invariant_kept refuse g;
+  cost_pays = cost_pays refuse g;
+  resolvers_keep = resolvers_keep refuse g;
 }

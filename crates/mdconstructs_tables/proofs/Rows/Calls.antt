@@ -5,6 +5,7 @@ use Rattle.std.specs.List.{last_or}
 use Rattle.std.proofs.lemmas.Bool.Decides.{nat_tests}
 use Rattle.std.proofs.lemmas.List.Elements.{All-head, All-tail, All-weaker}
 use Rattle.std.proofs.lemmas.Bool.{and_parts}
+use Rattle.std.proofs.lemmas.Option.{slice_get_past}
 use Rattle.markdown_base.specs.declared.event.Event.{Event}
 use Rattle.markdown_base.specs.declared.event.Kind.TheVariants.{Enter}
 use Rattle.markdown_base.specs.declared.event.Name.{Name as EventName}
@@ -17,12 +18,12 @@ use Rattle.markdown_tokenizer.specs.declared.waiting.Waits.{Waits}
 use Rattle.markdown_tokenizer.specs.declared.waiting.Waits.TheVariants.{Nothing, Byte, End}
 use Rattle.markdown_tokenizer.specs.Text.{Text}
 use Rattle.markdown_tokenizer.specs.Configuration.{Configuration, Local, Choice, Saved, TokenizerValue}
-use Rattle.markdown_tokenizer.specs.Sight.{sight, sight_of}
+use Rattle.markdown_tokenizer.specs.Sight.{sight, sight_of, byte_of}
 use Rattle.markdown_tokenizer.specs.Calls.{CanExit}
 use Rattle.markdown_tokenizer.specs.Lawful.{IsAsFar}
-use Rattle.mdconstructs_tables.specs.Rows.{Act, enters, exit, consume, links, write, choose, done, with_choice_of, StateRows, Table, no_cost, class_of, does, chooses, named}
-use Rattle.mdconstructs_tables.specs.RowTest.{Stage, end_waits, byte_waits, byte_read, Shape, is_last, allows_all, after_all, start_shape, is_some}
-use Rattle.mdconstructs_tables.specs.RowInvariant.{EndsWithEnter, since, IsFed, begun, IsBelow, table_holds, IsAtState, once_read, CanEnd, IsCallable}
+use Rattle.mdconstructs_tables.specs.Rows.{Act, enters, exit, consume, links, write, choose, done, with_choice_of, StateRows, Called, Table, class_of, does, chooses, named}
+use Rattle.mdconstructs_tables.specs.RowTest.{Stage, end_waits, byte_waits, byte_read, Shape, is_last, allows_all, after_all, start_shape, is_called_at, is_some}
+use Rattle.mdconstructs_tables.specs.RowInvariant.{EndsWithEnter, since, IsFed, class_in, begun, IsBelow, table_holds, IsAtState, once_read, CanEnd, IsCallable}
 use Rattle.mdconstructs_tables.proofs.Rows.Laws.{Waited, reached, sight_at, HasShape, below_all, is-last, last-above, last-long, to-before, open-unlinked, left-at, here-at, has-after-all, does-then, chooses-then, allows-then, allows-front}
 use Rattle.mdconstructs_tables.proofs.GrowingTexts.{next-left}
 use Rattle.mdconstructs_tables.specs.Markers.{IsMarkable}
@@ -91,7 +92,7 @@ module _ {M W R D : Type 0} (class : ℕ → W) (state : StateRows W R D) (b w :
 
   -- a table of which only the class of bytes matters
   abbrev classes : Table W R D
-  classes = record { class = class; first = λ local. local; states = []; starts = []; cost = no_cost }
+  classes = record { class = class; first = λ local. local; states = []; starts = [] }
 
   module _ (can : IsAtState class state t) (is_before : class_of class (sight_of t).previous ≡ b) (is_class : class_of class (sight_of t).current ≡ w) where
     shaped : (acts : List (Act R D)) → are_allowed acts ≡ true
@@ -176,10 +177,13 @@ module _ {M W R D : Type 0} (class : ℕ → W) (state : StateRows W R D) (b w :
         })
 
 -- where a state is called that is never called at the end, a byte waits
-fed-byte : (w : Waits) (p : ℕ) (ended : Bool) (text : Text) → IsFed w p ended text → p < length text.seats → w ≡ Byte
-fed-byte Nothing p ended text h left = absurd h
-fed-byte Byte p ended text h left = refl
-fed-byte End p ended text h left = absurd (omega (arith, h.1, left))
+never-at-end : {W : Type 0} (class : ℕ → W) (called : Called W) (w : Waits) (p : ℕ) (ended : Bool) (text : Text) → IsFed w p ended text → is_called_at called None ≡ false
+    → is_called_at called (class_in class text p) ≡ true → w ≡ Byte
+never-at-end class called Nothing p ended text h never at = absurd h
+never-at-end class called Byte p ended text h never at = refl
+never-at-end class called End p ended text h never at =
+    let past = subst (λ o. is_called_at called (class_of class (byte_of o)) ≡ true) (slice_get_past text.seats p h.1) at in
+    absurd (let e : true ≡ false = sym past ∙ never in cc)
 
 -- where a byte ends, an exit stands once it is consumed
 stands-past : {M R D : Type 0} (t : TokenizerValue M R D) → IsFed t.configuration.waiting t.configuration.position t.configuration.ended t.text → t.configuration.waiting ≡ Byte
@@ -195,7 +199,7 @@ allowed class state t can =
     let names = reverse state.spans in
     record {
       called = can;
-      byte = λ needs. fed-byte k.waiting k.position k.ended t.text can.fed (can.spans.needs_byte needs);
+      byte = λ never. never-at-end class state.called k.waiting k.position k.ended t.text can.fed never can.spans.called;
       stands = stands-past t can.fed;
       marks = markable class state t can;
       ends = λ fit. can-end class state before waits t can refl refl [] names t fit refl;
@@ -214,7 +218,7 @@ callable table first name state t t' same is h began =
       fed = h.1.0;
       in_order = h.1.1;
       base = there.base;
-      spans = record { stack = o.stack; began = o.began; void = o.void; below = o.below; needs = o.needs; needs_byte = o.needs_byte };
+      spans = record { stack = o.stack; began = o.began; void = o.void; below = o.below; needs = o.needs; called = o.called };
     }))
 
 -- a name is none of the states'

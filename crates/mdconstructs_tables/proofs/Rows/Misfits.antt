@@ -1,10 +1,13 @@
 -- What the test of a table says of each state if it names none.
-use Rattle.std.proofs.Common.{◌≡◌, ◌==◌, ◌&&◌, not, List, [], ◌∷◌, ◌++◌, Bool, true, false, cond, Option, Some, refl, subst, arith}
+use Rattle.std.proofs.Common.{◌≡◌, ◌==◌, List, [], ◌∷◌, ◌++◌, Bool, true, false, cond, Option, Some, refl, subst, arith}
 use Rattle.std.proofs.lemmas.Bool.Decides.{nat_tests}
-use Rattle.std.specs.Prelude.{All, filter}
+use Rattle.std.specs.Prelude.{All, filter, None}
+use Rattle.std.specs.List.{flat_map}
 use Rattle.std.proofs.lemmas.List.Elements.{All-nil, All-cons}
 use Rattle.markdown_base.specs.declared.state.Name.{Name}
 use Rattle.mdconstructs_tables.specs.Rows.{StateRows, named}
+use Rattle.mdconstructs_tables.specs.RowTest.{all_rows, fits_row, fits_calls, is_called, may_start}
+use Rattle.mdconstructs_tables.specs.Misfits.{Reason, act, spans, choice, answer, unpaid, start, unless, with_reason, acts_fit, spans_fit, choices_fit, misfit, named_misfit, named_start}
 
 pub none-left : {A : Type 0} (xs ys : List A) → xs ++ ys ≡ [] → (xs ≡ []) × (ys ≡ [])
 none-left [] ys h = (refl, h)
@@ -36,13 +39,51 @@ pub named-same : {W R D : Type 0} (states : List (StateRows W R D)) (name : Name
 named-same [] name state is = absurd (cc)
 named-same (x ∷ xs) name state is = same-or (name.number == x.name.number) name x state (named xs name) (λ e. grind (arith, nat_tests)) (λ e. named-same xs name state e) is
 
-pub all-out : (test : Name → Bool) (names : List Name) → filter test names ≡ [] → All (λ n. test n ≡ false) names
-all-out test [] h = All-nil (λ n. test n ≡ false)
-all-out test (x ∷ xs) h =
-    let (one, rest) = first-out test x (test x) (filter test xs) h in
-    All-cons (λ n. test n ≡ false) x xs one (all-out test xs rest)
+-- where a list of lists has nothing, none of them has
+module _ {A : Type 0} where
+  pub none-made : {B : Type 0} (f : B → List A) (xs : List B) → flat_map f xs ≡ [] → All (λ x. f x ≡ []) xs
+  none-made f [] h = All-nil (λ x. f x ≡ [])
+  none-made f (x ∷ xs) h = let (one, rest) = none-left (f x) (flat_map f xs) h in All-cons (λ x. f x ≡ []) x xs one (none-made f xs rest)
 
-pub fit-or : (a b : Bool) → (a && not b) ≡ false → a ≡ true → b ≡ true
-fit-or true true h e = refl
-fit-or true false h e = absurd (cc)
-fit-or false b h e = absurd (cc)
+  module _ {W R D : Type 0} (f : StateRows W R D → List A) where
+    picked-none : (b : Bool) (x state : StateRows W R D) (rest : Option (StateRows W R D)) → f x ≡ [] → (rest ≡ Some state → f state ≡ []) → cond b (Some x) rest ≡ Some state → f state ≡ []
+    picked-none true x state rest none later is = let e : x ≡ state = cc in subst (λ y. f y ≡ []) e none
+    picked-none false x state rest none later is = later is
+
+    pub named-none : (states : List (StateRows W R D)) (name : Name) (state : StateRows W R D) → flat_map f states ≡ [] → named states name ≡ Some state → f state ≡ []
+    named-none [] name state h is = absurd (cc)
+    named-none (x ∷ xs) name state h is =
+        let (one, rest) = none-left (f x) (flat_map f xs) h in
+        picked-none (name.number == x.name.number) x state (named xs name) one (λ e. named-none xs name state rest e) is
+
+-- no reason is given only where each test is passed
+all-passed : (acts_pass spans_pass choices_pass rows_pass calls_pass : Bool)
+    → unless acts_pass act (unless spans_pass spans (unless choices_pass choice (unless rows_pass answer (unless calls_pass unpaid None)))) ≡ None → (rows_pass ≡ true) × (calls_pass ≡ true)
+all-passed true true true true true h = (refl, refl)
+all-passed true true true true false h = absurd (cc)
+all-passed true true true false calls_pass h = absurd (cc)
+all-passed true true false rows_pass calls_pass h = absurd (cc)
+all-passed true false choices_pass rows_pass calls_pass h = absurd (cc)
+all-passed false spans_pass choices_pass rows_pass calls_pass h = absurd (cc)
+
+called-none : (b : Bool) (name : Name) (o : Option Reason) → b ≡ true → with_reason name (cond b o None) ≡ [] → o ≡ None
+called-none true name None called h = refl
+called-none true name (Some reason) called h = absurd (cc)
+called-none false name o called h = absurd (cc)
+
+starts-none : (b : Bool) (name : Name) → cond {A = List (Name × Reason)} b [] ((name, start) ∷ []) ≡ [] → b ≡ true
+starts-none true name h = refl
+starts-none false name h = absurd (cc)
+
+module _ {W R D : Type 0} (states : List (StateRows W R D)) where
+  -- the rows and the calls of a state fit, if it is called and no reason is named
+  pub fits-unnamed : (b w : Option W) (state : StateRows W R D) → is_called states w state ≡ true → named_misfit states b w state ≡ []
+      → (all_rows (fits_row states b w state) (state.rows b w) ≡ true) × (fits_calls states b w state state.calls ≡ true)
+  fits-unnamed b w state called h =
+      let none = called-none (is_called states w state) state.name (misfit states b w state) called h in
+      all-passed (acts_fit states b w state) (spans_fit states b w state) (choices_fit states b w state) (all_rows (fits_row states b w state) (state.rows b w))
+      (fits_calls states b w state state.calls) none
+
+  -- and a start may be one
+  pub starts-unnamed : (name : Name) → named_start states name ≡ [] → may_start states (named states name) ≡ true
+  starts-unnamed name h = starts-none (may_start states (named states name)) name h

@@ -17,20 +17,21 @@ use Rattle.markdown_tokenizer.specs.declared.waiting.AttemptKind.{AttemptKind}
 use Rattle.markdown_tokenizer.specs.declared.waiting.AttemptKind.TheVariants.{Attempt, Check}
 use Rattle.markdown_tokenizer.specs.Text.{Given, Text, IsText}
 use Rattle.markdown_tokenizer.specs.Configuration.{Configuration, Choice, Saved}
-use Rattle.markdown_tokenizer.specs.Sight.{Sight, sight, current_of}
+use Rattle.markdown_tokenizer.specs.Sight.{Sight, sight, byte_of}
 use Rattle.markdown_tokenizer.specs.Calls.{consumed, with_local}
 use Rattle.markdown_tokenizer.specs.Reading.{fed, unfed, restored, settled_at}
 use Rattle.markdown_tokenizer.specs.Lawful.{IsAsFar, CostPays}
 use Rattle.mdconstructs_tables.specs.Rows.{Act, enters, exit, consume, links, write, choose, Rows, row, when, Row, Calls, StateRows, Table, past, class_of, choice_made_at, done, chooses, picked, named, table_step}
-use Rattle.mdconstructs_tables.specs.RowTest.{is_void_last, saves, Stage, end_waits, byte_waits, byte_read, Shape, Frame, may_go_on, fits_choice, fits_answer, fits_calls, is_some, first_stage, plus, larger, at_stage, calls_le, calls_or, fed_calls, next_calls, choice_calls, chosen_calls, answer_calls, calls_at, is_counted, counts_answer, counts_choice, counts_choices, pays_row, feeds, all_rows, is_called, fits_row}
+use Rattle.mdconstructs_tables.specs.RowTest.{is_void_last, saves, Stage, end_waits, byte_waits, byte_read, Shape, Frame, may_go_on, fits_choice, fits_answer, fits_calls, is_some, first_stage, plus, larger, at_stage, calls_le, calls_or, fed_calls, next_calls, choice_calls, chosen_calls, answer_calls, calls_at, is_counted, counts_answer, counts_choice, counts_choices, pays_row, feeds, all_rows, is_called_at, is_called}
 use Rattle.mdconstructs_tables.specs.RowInvariant.{outline, IsSaved, price_by, at_most, IsStateAt, next_price, retry_price, state_price, choice_price, chosen_price, answer_price, row_price, AreWithin, Stands, is_read, IsFed, behind, class_at, PaysRows, ArePaid, table_holds, table_cost, reserve_of, table_rules, upto, exit_place_at}
 use Rattle.mdconstructs_tables.specs.RowTest.{fresh_fed}
 use Rattle.mdconstructs_tables.specs.Late.{falls_on, CanGoBack}
 use Rattle.mdconstructs_tables.proofs.Rows.Misfits.{named-same}
 use Rattle.mdconstructs_tables.proofs.Rows.Laws.{Waited, reached}
 use Rattle.mdconstructs_tables.proofs.GrowingTexts.{seat-at}
-use Rattle.mdconstructs_tables.proofs.Tables.Holding.{read-before, of_class, before_class, row_of, left_by}
-use Rattle.mdconstructs_tables.proofs.Tables.Laws.{IsFitBy, IsFit, every, picked-passes, each-call, state-fits}
+use Rattle.mdconstructs_tables.proofs.Tables.Holding.{read-before, waits-at, of_class, before_class, row_of, left_by}
+use Rattle.mdconstructs_tables.specs.Fitting.{Falls, AllFall, IsFitBy, IsFit, every}
+use Rattle.mdconstructs_tables.proofs.Tables.Laws.{picked-passes, each-call, state-fits}
 
 -- Calls
 le-most : (c d : Calls) (n : ℕ) → calls_le c d ≡ true → at_most c n ≤ at_most d n
@@ -83,7 +84,7 @@ module _ {W R D : Type 0} (table : Table W R D) (g : Given) (late : Bool) where
   counted-next : (o : Option (StateRows W R D)) (text : Text) (p : ℕ) → is_counted table.states o ≡ true → next_price table text p o ≤ at_most (fed_calls table.states o) (length text.seats - p)
   counted-next None text p h = omega arith
   counted-next (Some state) text p h =
-      elim state.calls as (λ c. is_some c ≡ true → price_by c (table.cost text p state.name) (λ c. at_most c (length text.seats - p)) ≤ at_most (calls_or table.states c) (length text.seats - p)) [
+      elim state.calls as (λ c. is_some c ≡ true → price_by c (state.own text p) (λ c. at_most c (length text.seats - p)) ≤ at_most (calls_or table.states c) (length text.seats - p)) [
         | None ↦ λ e. absurd (cc)
         | Some c ↦ λ e. omega arith
       ] h
@@ -93,7 +94,7 @@ module _ {W R D : Type 0} (table : Table W R D) (g : Given) (late : Bool) where
   counted-retry b w None text p h = omega arith
   counted-retry b w (Some state) text p h =
       elim state.calls as (λ c. is_some c ≡ true
-      → price_by c (table.cost text p state.name) (λ c. at_most (calls_at table.states table.states b w (Some state)) (length text.seats - p - 1)) ≤ at_most (calls_at table.states table.states b w (Some state)) (length text.seats - p - 1)) [
+      → price_by c (state.own text p) (λ c. at_most (calls_at table.states table.states b w (Some state)) (length text.seats - p - 1)) ≤ at_most (calls_at table.states table.states b w (Some state)) (length text.seats - p - 1)) [
         | None ↦ λ e. absurd (cc)
         | Some c ↦ λ e. omega arith
       ] h
@@ -193,23 +194,26 @@ module _ {W R D : Type 0} (table : Table W R D) (g : Given) (late : Bool) where
   picked-within b w text p price (when by one other) s k h =
       one-within b w text p price (by g s k) (picked one g s k) (picked other g s k) (picked-within b w text p price one s k h.0) (picked-within b w text p price other s k h.1)
 
-  -- the states of a machine's own cost are paid for
-  found : (x state : StateRows W R D) (b : Bool) (rest : Option (StateRows W R D)) → PaysRows table late x x.calls → (rest ≡ Some state → PaysRows table late state state.calls) → cond b (Some x) rest ≡ Some state
-      → PaysRows table late state state.calls
-  found x state true rest one more is = let e : x ≡ state = cc in subst (λ y. PaysRows table late y y.calls) e one
-  found x state false rest one more is = more is
+  -- what holds of all states, by their calls, holds of the one of a name
+  found : (P : StateRows W R D → Type 0) (x state : StateRows W R D) (b : Bool) (rest : Option (StateRows W R D)) → P x → (rest ≡ Some state → P state) → cond b (Some x) rest ≡ Some state → P state
+  found P x state true rest one more is = let e : x ≡ state = cc in subst P e one
+  found P x state false rest one more is = more is
 
   named-paid : (states : List (StateRows W R D)) (name : Name) (state : StateRows W R D) → ArePaid table late states → named states name ≡ Some state → PaysRows table late state state.calls
   named-paid [] name state h is = absurd (cc)
-  named-paid (x ∷ xs) name state h is = found x state _ (named xs name) h.0 (λ e. named-paid xs name state h.1 e) is
+  named-paid (x ∷ xs) name state h is = found (λ y. PaysRows table late y y.calls) x state _ (named xs name) h.0 (λ e. named-paid xs name state h.1 e) is
+
+  named-falls : (falling : Name → Bool) (states : List (StateRows W R D)) (name : Name) (state : StateRows W R D) → AllFall falling states → named states name ≡ Some state → Falls falling state state.calls
+  named-falls falling [] name state h is = absurd (cc)
+  named-falls falling (x ∷ xs) name state h is = found (λ y. Falls falling y y.calls) x state _ (named xs name) h.0 (λ e. named-falls falling xs name state h.1 e) is
 
   -- a row of a state is within what the state costs
-  row-within : (b w : Option W) (state : StateRows W R D) (s : Sight) (k : Configuration R D) (text : Text) (p : ℕ) → is_some b ≡ is_read p → Stands w text p → class_at table text p ≡ w → PaysRows table late state state.calls
+  row-within : (b w : Option W) (state : StateRows W R D) (s : Sight) (k : Configuration R D) (text : Text) (p : ℕ) → is_some b ≡ is_read p → Stands w text p → class_at table text p ≡ w → is_called_at state.called w ≡ true → PaysRows table late state state.calls
       → fits_calls table.states b w state state.calls ≡ true → row_price table late b w text p (picked (state.rows b w) g s k) ≤ retry_price table b w text p (Some state)
-  row-within b w state s k text p read at seen own fit =
+  row-within b w state s k text p read at seen called own fit =
       elim state.calls as (λ c. PaysRows table late state c → fits_calls table.states b w state c ≡ true
-      → row_price table late b w text p (picked (state.rows b w) g s k) ≤ price_by c (table.cost text p state.name) (λ c. at_most (calls_at table.states table.states b w (Some state)) (length text.seats - p - 1))) [
-        | None ↦ λ own fit. picked-within b w text p (table.cost text p state.name) (state.rows b w) s k (own b w text p read at seen)
+      → row_price table late b w text p (picked (state.rows b w) g s k) ≤ price_by c (state.own text p) (λ c. at_most (calls_at table.states table.states b w (Some state)) (length text.seats - p - 1))) [
+        | None ↦ λ own fit. picked-within b w text p (state.own text p) (state.rows b w) s k (own b w text p read at seen called)
         | Some c ↦ λ own fit.
             counted-row b w state (picked (state.rows b w) g s k) text p at
             (picked-passes (pays_row table.states b w state) (state.rows b w) g s k (and_parts (all_rows (pays_row table.states b w state) (state.rows b w)) (feeds table.states b w state c) fit).0)
@@ -254,12 +258,6 @@ module _ {W R D : Type 0} (table : Table W R D) (g : Given) (late : Bool) where
   stands-at None text k met = met.1
   stands-at (Some w) text k met = met.1
 
-  -- where something waits, it is what is seen of the text there
-  waits-at : (w : Waits) (text : Text) (p : ℕ) (ended : Bool) → IsFed w p ended text → class_at table text p ≡ class_of table.class (current_of text p w)
-  waits-at Nothing text p ended h = absurd h
-  waits-at Byte text p ended h = refl
-  waits-at End text p ended h = let none = slice_get_past text.seats p h.1 in rw none refl
-
   module _ {falling : Name → Bool} (fit : IsFitBy table late falling) where
     -- what a choice goes on with may cost less the more was read
     found-falls : (name : Name) (o : Option (StateRows W R D)) (text : Text) (p q : ℕ) → named table.states name ≡ o → falling name ≡ true → p ≤ q → next_price table text q o ≤ next_price table text p o
@@ -267,10 +265,10 @@ module _ {W R D : Type 0} (table : Table W R D) (g : Given) (late : Bool) where
     found-falls name (Some state) text p q is may h =
         let same = named-same table.states name state is in
         let there : falling state.name ≡ true = subst (λ n. falling (record { number = n }) ≡ true) same may in
-        elim state.calls as (λ c. price_by c (table.cost text q state.name) (λ c. at_most c (length text.seats - q)) ≤ price_by c (table.cost text p state.name) (λ c. at_most c (length text.seats - p))) [
-          | None ↦ fit.falls text p q state.name there h
-          | Some c ↦ more-most c (length text.seats - q) (length text.seats - p) (omega (arith, h))
-        ]
+        elim state.calls as (λ c. Falls falling state c → price_by c (state.own text q) (λ c. at_most c (length text.seats - q)) ≤ price_by c (state.own text p) (λ c. at_most c (length text.seats - p))) [
+          | None ↦ λ falls. falls there text p q h
+          | Some c ↦ λ falls. more-most c (length text.seats - q) (length text.seats - p) (omega (arith, h))
+        ] (named-falls falling table.states name state fit.falls is)
 
     state-falls : (a : State) (text : Text) (p q : ℕ) → falls_on falling a ≡ true → p ≤ q → state_price table text q a ≤ state_price table text p a
     state-falls (Next name) text p q may h = found-falls name (named table.states name) text p q refl may h
@@ -280,32 +278,32 @@ module _ {W R D : Type 0} (table : Table W R D) (g : Given) (late : Bool) where
     state-falls (Error message) text p q may h = omega arith
 
     -- what goes on where a choice was made costs what its state does
-    go-costs : (f : Frame) (byte : Bool) (a : State) (text : Text) (k : Configuration R D) → may_go_on table.states f byte a ≡ true → table_cost table g text k a ≤ state_price table text k.position a
-    go-costs f byte (Next name) text k h = omega arith
-    go-costs f byte (Retry name) text k h = absurd (cc)
-    go-costs f byte Ok text k h = omega arith
-    go-costs f byte Nok text k h = omega arith
-    go-costs f byte (Error message) text k h = omega arith
+    go-costs : (f : Frame W) (waits : Option W) (a : State) (text : Text) (k : Configuration R D) → may_go_on table.states f waits a ≡ true → table_cost table g text k a ≤ state_price table text k.position a
+    go-costs f waits (Next name) text k h = omega arith
+    go-costs f waits (Retry name) text k h = absurd (cc)
+    go-costs f waits Ok text k h = omega arith
+    go-costs f waits Nok text k h = omega arith
+    go-costs f waits (Error message) text k h = omega arith
 
-    module _ (c : Choice) (f : Frame) (stack : List EventName) (text : Text) (k : Configuration R D) where
+    module _ (c : Choice) (f : Frame W) (stack : List EventName) (text : Text) (k : Configuration R D) where
       -- what was saved is far enough behind
       abbrev IsFarBehind : Option Saved → Type 0
       IsFarBehind saved = IfSome saved (λ saved. behind late saved.position ≤ k.position)
 
       -- what a choice goes on with, where it ended well or not, costs at most its reserve
-      well-costs : (kind : AttemptKind) (b : Bool) (saved : Option Saved) → saves kind c.nok ≡ b → fits_choice table.states f kind c.ok c.nok ≡ true → IsSaved g text k.position (outline k) stack f b saved
+      well-costs : (kind : AttemptKind) (b : Bool) (saved : Option Saved) → saves kind c.nok ≡ b → fits_choice table.states f kind c.ok c.nok ≡ true → IsSaved table.class g text k.position (outline k) stack f b saved
           → falls_on falling c.ok ≡ true → IsFarBehind saved → CanGoBack late kind → table_cost table g text (settled_at kind saved Ok k) c.ok ≤ reserve_of table late text c saved
       well-costs Attempt true (Some saved) is fit h may far back =
-          let goes = (and_parts (may_go_on table.states f false c.ok) _ fit).0 in
-          let cost = go-costs f false c.ok text (unfed k) goes in
+          let goes = (and_parts (may_go_on table.states f None c.ok) _ fit).0 in
+          let cost = go-costs f None c.ok text (unfed k) goes in
           omega (arith, cost, state-falls c.ok text (behind late saved.position) k.position may far)
       well-costs Attempt false None is fit h may far back =
-          let goes = (and_parts (may_go_on table.states f false c.ok) _ fit).0 in
-          let cost = go-costs f false c.ok text (unfed k) goes in
+          let goes = (and_parts (may_go_on table.states f None c.ok) _ fit).0 in
+          let cost = go-costs f None c.ok text (unfed k) goes in
           let least : 0 ≤ k.position = omega arith in
           omega (arith, cost, state-falls c.ok text 0 k.position may least)
       well-costs Check true (Some saved) is fit h may far back =
-          let cost = go-costs f f.at_byte c.ok text (restored (Some saved) k) (and_parts (may_go_on table.states f f.at_byte c.ok) (may_go_on table.states f f.at_byte c.nok) fit).0 in
+          let cost = go-costs f f.waits c.ok text (restored (Some saved) k) (and_parts (may_go_on table.states f f.waits c.ok) (may_go_on table.states f f.waits c.nok) fit).0 in
           rw back (omega (arith, cost))
       well-costs Check false saved is fit h may far back = absurd (cc)
       well-costs kind true None is fit h may far back = absurd h
@@ -318,17 +316,17 @@ module _ {W R D : Type 0} (table : Table W R D) (g : Given) (late : Bool) where
       unsaved-costs Ok is = absurd (cc)
       unsaved-costs (Error message) is = absurd (cc)
 
-      attempt-goes : fits_choice table.states f Attempt c.ok c.nok ≡ true → may_go_on table.states f f.at_byte c.nok ≡ true
+      attempt-goes : fits_choice table.states f Attempt c.ok c.nok ≡ true → may_go_on table.states f f.waits c.nok ≡ true
       attempt-goes fit =
-          let rest = (and_parts (may_go_on table.states f false c.ok) (not (is_void_last (last_or None f.spans)) && may_go_on table.states f f.at_byte c.nok) fit).1 in
-          (and_parts (not (is_void_last (last_or None f.spans))) (may_go_on table.states f f.at_byte c.nok) rest).1
+          let rest = (and_parts (may_go_on table.states f None c.ok) (not (is_void_last (last_or None f.spans)) && may_go_on table.states f f.waits c.nok) fit).1 in
+          (and_parts (not (is_void_last (last_or None f.spans))) (may_go_on table.states f f.waits c.nok) rest).1
 
-      badly-costs : (kind : AttemptKind) (b : Bool) (saved : Option Saved) → saves kind c.nok ≡ b → fits_choice table.states f kind c.ok c.nok ≡ true → IsSaved g text k.position (outline k) stack f b saved
+      badly-costs : (kind : AttemptKind) (b : Bool) (saved : Option Saved) → saves kind c.nok ≡ b → fits_choice table.states f kind c.ok c.nok ≡ true → IsSaved table.class g text k.position (outline k) stack f b saved
           → table_cost table g text (settled_at kind saved Nok k) c.nok ≤ reserve_of table late text c saved
-      badly-costs Attempt true (Some saved) is fit h = let cost = go-costs f f.at_byte c.nok text (restored (Some saved) k) (attempt-goes fit) in omega (arith, cost)
+      badly-costs Attempt true (Some saved) is fit h = let cost = go-costs f f.waits c.nok text (restored (Some saved) k) (attempt-goes fit) in omega (arith, cost)
       badly-costs Attempt false None is fit h = let cost = unsaved-costs c.nok is in omega (arith, cost)
       badly-costs Check true (Some saved) is fit h =
-          let cost = go-costs f f.at_byte c.nok text (restored (Some saved) k) (and_parts (may_go_on table.states f f.at_byte c.ok) (may_go_on table.states f f.at_byte c.nok) fit).1 in
+          let cost = go-costs f f.waits c.nok text (restored (Some saved) k) (and_parts (may_go_on table.states f f.waits c.ok) (may_go_on table.states f f.waits c.nok) fit).1 in
           omega (arith, cost)
       badly-costs Check false saved is fit h = absurd (cc)
       badly-costs kind true None is fit h = absurd h
@@ -339,7 +337,7 @@ module _ {W R D : Type 0} (table : Table W R D) (g : Given) (late : Bool) where
         → retry_price table b (Some w) text p (Some state) ≤ next_price table text p (Some state)
     fed-byte-costs b w state text p inside h =
         elim state.calls as (λ c. fits_calls table.states b (Some w) state c ≡ true
-        → price_by c (table.cost text p state.name) (λ c. at_most (calls_at table.states table.states b (Some w) (Some state)) (length text.seats - p - 1)) ≤ price_by c (table.cost text p state.name) (λ c. at_most c (length text.seats - p))) [
+        → price_by c (state.own text p) (λ c. at_most (calls_at table.states table.states b (Some w) (Some state)) (length text.seats - p - 1)) ≤ price_by c (state.own text p) (λ c. at_most c (length text.seats - p))) [
           | None ↦ λ h. omega arith
           | Some c ↦ λ h.
               let n = length text.seats - p - 1 in
@@ -353,7 +351,7 @@ module _ {W R D : Type 0} (table : Table W R D) (g : Given) (late : Bool) where
         → retry_price table b None text p (Some state) ≤ next_price table text p (Some state)
     fed-end-costs b state text p past h =
         elim state.calls as (λ c. fits_calls table.states b None state c ≡ true
-        → price_by c (table.cost text p state.name) (λ c. at_most (calls_at table.states table.states b None (Some state)) (length text.seats - p - 1)) ≤ price_by c (table.cost text p state.name) (λ c. at_most c (length text.seats - p))) [
+        → price_by c (state.own text p) (λ c. at_most (calls_at table.states table.states b None (Some state)) (length text.seats - p - 1)) ≤ price_by c (state.own text p) (λ c. at_most c (length text.seats - p))) [
           | None ↦ λ h. omega arith
           | Some c ↦ λ h.
               let fed = (and_parts (all_rows (pays_row table.states b None state) (state.rows b None)) (feeds table.states b None state c) h).1 in
@@ -370,13 +368,13 @@ module _ {W R D : Type 0} (table : Table W R D) (g : Given) (late : Bool) where
         let (s, seat) = seat-at text k.position inside in
         let b = before_class table g text k in
         let w = table.class s.byte in
-        rw (e, seat, is) (fed-byte-costs b w state text k.position inside (and_parts (all_rows (fits_row table.states b (Some w) state) (state.rows b (Some w))) (fits_calls table.states b (Some w) state state.calls) (state-fits table g fit b (Some w) name state is refl)).1)
+        rw (e, seat, is) (fed-byte-costs b w state text k.position inside (state-fits table g fit b (Some w) name state is (subst (λ o. is_called_at state.called (class_of table.class (byte_of o)) ≡ true) seat h.spans.called)).1)
     feeding (Some state) false text k choices name is e h =
         let past = ltb-false k.position (length text.seats) e in
         let b = before_class table g text k in
         let none : Option W = None in
-        let called : is_called table.states none state ≡ true = elim state.needs_byte as (λ b. (b ≡ true → k.position < length text.seats) → not b ≡ true) [ true ↦ λ n. absurd (omega (arith, n refl, past)) | false ↦ λ n. refl ] h.spans.needs_byte in
-        rw (e, is) (fed-end-costs b state text k.position past (and_parts (all_rows (fits_row table.states b None state) (state.rows b None)) (fits_calls table.states b None state state.calls) (state-fits table g fit b None name state is called)).1)
+        let called : is_called table.states none state ≡ true = subst (λ o. is_called_at state.called (class_of table.class (byte_of o)) ≡ true) (slice_get_past text.seats k.position past) h.spans.called in
+        rw (e, is) (fed-end-costs b state text k.position past (state-fits table g fit b None name state is called).1)
 
     -- Calls, feeding and choices are paid for
     pub calls-pay : (text : Text) (k : Configuration R D) (choices : List Choice) (name : Name) → IsText g text → table_holds table g text k choices (Retry name)
@@ -391,8 +389,8 @@ module _ {W R D : Type 0} (table : Table W R D) (g : Given) (late : Bool) where
         let r = row_of table g text k c.state in
         let answer = answer-costs _ b w _ r.answer text k (left_by table g text k c.state) c.fits_it c.shape.far in
         let made = choices-cost r.acts text s k1 [] in
-        let seen = waits-at k.waiting text k.position k.ended h.1.0 in
-        let within = row-within b w c.state s k1 text k.position (read-before table g text k.position h.0) (stands-at w text k c.met) seen (named-paid table.states name c.state fit.paid c.is) c.fits_calls_too in
+        let seen = waits-at table g k.waiting text k.position k.ended h.1.0 in
+        let within = row-within b w c.state s k1 text k.position (read-before table g text k.position h.0) (stands-at w text k c.met) seen c.called (named-paid table.states name c.state fit.paid c.is) c.fits_calls_too in
         rw c.is (omega (arith, answer, made, within)))
 
     pub feeding-pays : (text : Text) (k : Configuration R D) (choices : List Choice) (name : Name) → table_holds table g text k choices (Next name)
@@ -420,12 +418,12 @@ every-falls Nok = refl
 every-falls (Error message) = refl
 
 -- what was saved is not behind where one stands
-is-behind : (g : Given) (text : Text) (p : ℕ) (events : List Event) (stack : List EventName) (f : Frame) (b : Bool) (saved : Option Saved) → IsSaved g text p events stack f b saved
+is-behind : {W : Type 0} (class : ℕ → W) (g : Given) (text : Text) (p : ℕ) (events : List Event) (stack : List EventName) (f : Frame W) (b : Bool) (saved : Option Saved) → IsSaved class g text p events stack f b saved
     → IfSome saved (λ saved. behind false saved.position ≤ p)
-is-behind g text p events stack f true (Some saved) h = h.behind
-is-behind g text p events stack f false None h = tt
-is-behind g text p events stack f true None h = absurd h
-is-behind g text p events stack f false (Some saved) h = absurd h
+is-behind class g text p events stack f true (Some saved) h = h.behind
+is-behind class g text p events stack f false None h = tt
+is-behind class g text p events stack f true None h = absurd h
+is-behind class g text p events stack f false (Some saved) h = absurd h
 
 pub table-cost_pays : {W R D : Type 0} (table : Table W R D) (g : Given) → IsFit table → CostPays g (table_rules table g)
 table-cost_pays table g fit = record {
@@ -433,6 +431,6 @@ table-cost_pays table g fit = record {
   for_feeding = λ text k choices name is h. feeding-pays table g false fit text k choices name h;
   for_ok = λ text k choice choices is h.
       let w = h.1.waiting.0 in
-      ok-pays table g false fit text k choice choices h (every-falls choice.ok) (is-behind g text k.position (outline k) h.1.base w.frame (saves choice.kind choice.nok) choice.saved w.saved) (goes-back choice.kind);
+      ok-pays table g false fit text k choice choices h (every-falls choice.ok) (is-behind table.class g text k.position (outline k) h.1.base w.frame (saves choice.kind choice.nok) choice.saved w.saved) (goes-back choice.kind);
   for_nok = λ text k choice choices is h. nok-pays table g false fit text k choice choices h;
 }

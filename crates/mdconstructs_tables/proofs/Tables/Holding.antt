@@ -4,6 +4,7 @@ use Rattle.std.specs.Prelude.{All, IfSome, nat_lt}
 use Rattle.std.specs.List.{last_or}
 use Rattle.std.proofs.lemmas.Bool.{ltb-true, ltb-false, and_parts, not-true}
 use Rattle.std.proofs.lemmas.List.{append-nil, take-append-drop, take-map}
+use Rattle.std.proofs.lemmas.Option.{slice_get_past}
 use Rattle.std.proofs.lemmas.List.Elements.{All-nil, All-cons, All-head, All-tail}
 use Rattle.markdown_base.specs.declared.event.Name.{Name as EventName}
 use Rattle.markdown_base.specs.declared.event.Point.{Point}
@@ -25,12 +26,12 @@ use Rattle.markdown_tokenizer.specs.Reading.{fed, unfed, restored, settled_at}
 use Rattle.markdown_tokenizer.specs.Lawful.{IsAsFar}
 use Rattle.markdown_tokenizer.proofs.Positions.TextOrder.{begins-before_end, began-before_next, ends-before_next}
 use Rattle.markdown_tokenizer.proofs.Positions.Order.{upto-before}
-use Rattle.mdconstructs_tables.specs.Rows.{Row, Begun, before, at_byte, here, Needs, nothing, a_choice, a_choice_once_read, StateRows, Table, class_of, does, chooses, row_at, named}
-use Rattle.mdconstructs_tables.specs.RowTest.{is_void_last, saves, Stage, end_waits, byte_waits, byte_read, Shape, Frame, after_all, is_at, is_end, is_fresh, is_fresh_fed, fresh_at, fresh_fed, needs_choice, is_some, may_go_on, fits_choice, fits_answer, fits_calls, start_shape, first_stage, is_bare, may_start}
-use Rattle.mdconstructs_tables.specs.RowInvariant.{outline, EndsWithEnter, Began, upto, since, IsOpen, SightIsInOrder, IsFed, exit_place_at, is_read, AnyWait, IsSavedIn, IsSaved, position_of, events_saved, IsBelow, AreWaiting, began_at, IsStateAt, HoldsAt}
+use Rattle.mdconstructs_tables.specs.Rows.{Row, Begun, before, at_byte, here, Called, anywhere, at_a_byte, at_bytes, Needs, nothing, a_choice, a_choice_once_read, StateRows, Table, class_of, does, chooses, row_at, named}
+use Rattle.mdconstructs_tables.specs.RowTest.{is_void_last, saves, Stage, end_waits, byte_waits, byte_read, Shape, Frame, after_all, is_at, is_end, is_fresh, is_fresh_fed, fresh_at, fresh_fed, needs_choice, is_called_at, is_some, may_go_on, fits_choice, fits_answer, fits_calls, start_shape, first_stage, is_bare, may_start}
+use Rattle.mdconstructs_tables.specs.RowInvariant.{outline, EndsWithEnter, Began, upto, since, IsOpen, SightIsInOrder, IsFed, exit_place_at, class_in, is_read, AnyWait, IsSavedIn, IsSaved, position_of, events_saved, IsBelow, AreWaiting, began_at, IsStateAt, HoldsAt}
 use Rattle.mdconstructs_tables.proofs.Rows.Laws.{same_names-true, Waited, reached, IsSeenAhead, sight_at, HasShape, to-before, before-is-upto, began-on, left-at}
 use Rattle.mdconstructs_tables.proofs.GrowingTexts.{seat-at, Extends, waits-longer}
-use Rattle.mdconstructs_tables.proofs.Tables.Waiting.{more-waiting, all-below, place-kept, longer-text, waiting-longer}
+use Rattle.mdconstructs_tables.proofs.Tables.Waiting.{more-waiting, all-below, place-kept, class-kept, waiting-longer}
 
 -- Where spans may have begun
 upto-any : (fresh : Bool) (place q : Point) → upto false place q ≡ true → upto fresh place q ≡ true
@@ -74,7 +75,7 @@ module _ {W R D : Type 0} (table : Table W R D) (g : Given) where
 
   -- a call begins with the shape of its state
   pub begins : (b w : Option W) (text : Text) (k : Configuration R D) (local : Local R D) (base : List EventName) (choices : List Choice) (state : StateRows W R D) → is_some b ≡ is_read k.position
-      → Waited (first_stage w) text k → IsOpen state base (began_at w state (sight g text k)) text k choices → HasShape (start_shape b w state) base (sight g text k) g text k (with_local k local) choices
+      → Waited (first_stage w) text k → IsOpen table.class state base (began_at w state (sight g text k)) text k choices → HasShape (start_shape b w state) base (sight g text k) g text k (with_local k local) choices
   begins b None text k local base choices state read met o =
       record { stack = o.stack; began = o.began; bare = o.void; far = (refl, refl, refl); waited = met; below = o.below; within = λ is. o.needs (ap (needs_choice state.needs) (sym read) ∙ is) }
   begins b (Some w) text k local base choices state read met o =
@@ -101,13 +102,31 @@ module _ {W R D : Type 0} (table : Table W R D) (g : Given) where
       subst (λ s. IsStateAt table g text o (λ state. began_at (class_of table.class s.current) state s) k' choices) (sym (stays text k k' far))
       (subst (λ v. IsStateAt table g text o (λ state. began_at v state (sight g text k)) k' choices) (sym class) h)
 
-  -- if the test says that spans, choices and bytes are those of a state, they are
-  at-state : (spans : List EventName) (within byte_at read : Bool) (o : Option (StateRows W R D)) (where_to : StateRows W R D → Point → Bool) (text : Text) (k : Configuration R D) (base : List EventName)
-      (choices : List Choice) → is_at table.states spans within byte_at read o ≡ true → k.stack ≡ base ++ spans → ((state : StateRows W R D) → o ≡ Some state → Began (where_to state) (outline k))
-      → (is_void_last (last_or None spans) ≡ true → EndsWithEnter (outline k)) → AreWaiting table.states g text k.position (outline k) base choices → (within ≡ true → AnyWait choices)
-      → ((n : Needs) → needs_choice n (is_read k.position) ≡ true → needs_choice n read ≡ true) → (byte_at ≡ true → k.position < length text.seats) → IsStateAt table g text o where_to k choices
-  at-state spans within byte_at read None where_to text k base choices is stack began void waiting any reads byte = absurd (cc)
-  at-state spans within byte_at read (Some state) where_to text k base choices is stack began void waiting any reads byte =
+  -- what is known of what waits is next in the text
+  abbrev IsNext : Text → ℕ → Option W → Type 0
+  IsNext text p waits = (w : W) → waits ≡ Some w → class_in table.class text p ≡ Some w
+
+  -- a state that may be called where that waits may be called there
+  called-more : (called : Called W) (waits there : Option W) → ((w : W) → waits ≡ Some w → there ≡ Some w) → is_called_at called waits ≡ true → is_called_at called there ≡ true
+  called-more anywhere waits there same h = refl
+  called-more at_a_byte None there same h = absurd (cc)
+  called-more at_a_byte (Some w) there same h = rw (same w refl) refl
+  called-more (at_bytes test) None there same h = absurd (cc)
+  called-more (at_bytes test) (Some w) there same h = rw (same w refl) h
+
+  -- where something waits, it is what is next in the text
+  pub waits-at : (w : Waits) (text : Text) (p : ℕ) (ended : Bool) → IsFed w p ended text → class_in table.class text p ≡ class_of table.class (current_of text p w)
+  waits-at Nothing text p ended h = absurd h
+  waits-at Byte text p ended h = refl
+  waits-at End text p ended h = let none = slice_get_past text.seats p h.1 in rw none refl
+
+  -- if the test says that spans, choices and what waits are those of a state, they are
+  at-state : (spans : List EventName) (within : Bool) (waits : Option W) (read : Bool) (o : Option (StateRows W R D)) (where_to : StateRows W R D → Point → Bool) (text : Text) (k : Configuration R D) (base : List EventName)
+      (choices : List Choice) → is_at table.states spans within waits read o ≡ true → k.stack ≡ base ++ spans → ((state : StateRows W R D) → o ≡ Some state → Began (where_to state) (outline k))
+      → (is_void_last (last_or None spans) ≡ true → EndsWithEnter (outline k)) → AreWaiting table.class table.states g text k.position (outline k) base choices → (within ≡ true → AnyWait choices)
+      → ((n : Needs) → needs_choice n (is_read k.position) ≡ true → needs_choice n read ≡ true) → IsNext text k.position waits → IsStateAt table g text o where_to k choices
+  at-state spans within waits read None where_to text k base choices is stack began void waiting any reads byte = absurd (cc)
+  at-state spans within waits read (Some state) where_to text k base choices is stack began void waiting any reads byte =
       let (names, rest) = and_parts _ _ is in
       let (needs, bytes) = and_parts _ _ rest in
       let same = same_names-true spans state.spans names in
@@ -117,9 +136,9 @@ module _ {W R D : Type 0} (table : Table W R D) (g : Given) where
           stack = stack ∙ ap (λ xs. base ++ xs) same;
           began = began state refl;
           void = λ v. void (ap (λ xs. is_void_last (last_or None xs)) same ∙ v);
-          below = all-below table.states g text choices base k.position (outline k) waiting;
+          below = all-below table.class table.states g text choices base k.position (outline k) waiting;
           needs = λ n. any (or-leads _ within needs (reads state.needs n));
-          needs_byte = λ n. byte (or-leads state.needs_byte byte_at bytes n);
+          called = called-more state.called waits (class_in table.class text k.position) byte bytes;
         };
         waiting = waiting;
       }
@@ -144,12 +163,13 @@ module _ {W R D : Type 0} (table : Table W R D) (g : Given) where
     pub base : List EventName
     pub above : List EventName
     pub stack : k.stack ≡ base ++ state.spans
-    pub waiting : AreWaiting table.states g text k.position (outline k) base choices
+    pub waiting : AreWaiting table.class table.states g text k.position (outline k) base choices
     pub fits_it : let p = shape_of text k state in fits_answer table.states p.stage (before_class text k) (of_class text k) p (row_of text k state).answer ≡ true
     pub fits_calls_too : fits_calls table.states (before_class text k) (of_class text k) state state.calls ≡ true
+    pub called : is_called_at state.called (of_class text k) ≡ true
     pub met : Waited (first_stage (of_class text k)) text k
     pub shape : let p = shape_of text k state in HasShape p above (sight_at p.stage (sight g text k)) g text k (left_by text k state) (chosen_by text k choices state)
-    pub wait_on : AreWaiting table.states g text (left_by text k state).position (outline (left_by text k state)) above (chosen_by text k choices state)
+    pub wait_on : AreWaiting table.class table.states g text (left_by text k state).position (outline (left_by text k state)) above (chosen_by text k choices state)
 
   pub once : (st : Stage) (b w : Option W) (p : Shape) (a : State) (text : Text) (k k' : Configuration R D) → fits_answer table.states st b w p a ≡ true → IsAsFar k' (reached st k) → Waited st text k
       → (IsAsFar k' k × ((n : Name) → a ≢ Next n)) ⊎ ((k.waiting ≡ Byte) × IsAsFar k' (consumed k) × ((n : Name) → a ≢ Retry n))
@@ -185,7 +205,7 @@ module _ {W R D : Type 0} (table : Table W R D) (g : Given) where
   pub answered : (st : Stage) (b w : Option W) (p : Shape) (above : List EventName) (a : State) (text : Text) (k k' : Configuration R D) (choices : List Choice) → is_some b ≡ is_read k.position
       → IsFed k.waiting k.position k.ended text → SightIsInOrder k.waiting (sight g text k) → of_class text k ≡ w → Waited (first_stage w) text k
       → fits_answer table.states st b w p a ≡ true → p.stage ≡ st → HasShape p above (sight_at p.stage (sight g text k)) g text k k' choices
-      → AreWaiting table.states g text k'.position (outline k') above choices → HoldsAt table g text k' choices a
+      → AreWaiting table.class table.states g text k'.position (outline k') above choices → HoldsAt table g text k' choices a
   answered st b w p above Ok text k k' choices read waits order class met fit at h waiting =
       let (names, rest) = and_parts _ _ fit in
       let (old, ends) = and_parts (not p.fresh) (p.within || is_end st) rest in
@@ -213,10 +233,9 @@ module _ {W R D : Type 0} (table : Table W R D) (g : Given) where
       let f : (not p.fresh || fresh_fed state.begun) ≡ true = subst (λ o. (not p.fresh || is_fresh_fed table.states o) ≡ true) e fresh in
       began-on (upto p.fresh s.next) (upto (fresh_fed state.begun) (sight g text k').exit_place) (outline k') (λ q b. subst (λ x. upto (fresh_fed state.begun) x q ≡ true) (sym left) (upto-fits p.fresh (fresh_fed state.begun) s.next q f b)) (rw at at h.began) in
       let read_on : (n : Needs) → needs_choice n (is_read k'.position) ≡ true → needs_choice n true ≡ true = λ n. needs-more n (is_read k'.position) in
-      (far.1, at-state p.spans p.within false true o (λ state. upto (fresh_fed state.begun) (exit_place_at g text k'.position)) text k' above choices shaped h.stack began (λ v. h.bare (or-leads (is_void_last (last_or None p.spans)) p.bare bare v)) waiting h.within read_on (λ e. absurd (cc)))
+      (far.1, at-state p.spans p.within None true o (λ state. upto (fresh_fed state.begun) (exit_place_at g text k'.position)) text k' above choices shaped h.stack began (λ v. h.bare (or-leads (is_void_last (last_or None p.spans)) p.bare bare v)) waiting h.within read_on (λ v e. absurd (cc)))
   answered byte_waits b (Some w) p above (Retry name) text k k' choices read waits order class met fit at h waiting =
       let far = rw at at h.far in
-      let inside : k'.position < length text.seats = omega (arith, far.0, met.1) in
       let s = sight g text k in
       let o = named table.states name in
       let (bare, rest) = and_parts (is_bare p) _ fit in
@@ -227,9 +246,9 @@ module _ {W R D : Type 0} (table : Table W R D) (g : Given) where
         rw (far.0, far.1, far.2) waits,
         stays-in-order text k k' far order,
         stays-open o (Some w) text k k' choices far class
-            (at-state p.spans p.within true (is_some b) o (λ state. began_at (Some w) state s) text k' above choices shaped h.stack began
+            (at-state p.spans p.within (Some w) (is_some b) o (λ state. began_at (Some w) state s) text k' above choices shaped h.stack began
             (λ v. h.bare (or-leads (is_void_last (last_or None p.spans)) p.bare bare v)) waiting h.within
-            (λ n e. ap (needs_choice n) (read ∙ ap is_read (sym far.0)) ∙ e) (λ e. inside)),
+            (λ n e. ap (needs_choice n) (read ∙ ap is_read (sym far.0)) ∙ e) (λ v e. ap (class_in table.class text) far.0 ∙ subst (λ x. class_of table.class (current_of text k.position x) ≡ Some w) met.0 class ∙ e)),
       )
   answered end_waits b None p above (Retry name) text k k' choices read waits order class met fit at h waiting =
       let far = rw at at h.far in
@@ -243,9 +262,9 @@ module _ {W R D : Type 0} (table : Table W R D) (g : Given) where
         rw (far.0, far.1, far.2) waits,
         stays-in-order text k k' far order,
         stays-open o None text k k' choices far class
-            (at-state p.spans p.within false (is_some b) o (λ state. began_at None state s) text k' above choices shaped h.stack began
+            (at-state p.spans p.within None (is_some b) o (λ state. began_at None state s) text k' above choices shaped h.stack began
             (λ v. h.bare (or-leads (is_void_last (last_or None p.spans)) p.bare bare v)) waiting h.within
-            (λ n e. ap (needs_choice n) (read ∙ ap is_read (sym far.0)) ∙ e) (λ e. absurd (cc))),
+            (λ n e. ap (needs_choice n) (read ∙ ap is_read (sym far.0)) ∙ e) (λ v e. absurd (cc))),
       )
   answered byte_read b w p above (Retry name) text k k' choices read waits order class met fit at h waiting = absurd (cc)
   answered byte_waits b w p above a text k k' choices read waits order class met fit at h waiting = absurd (cc)
@@ -259,14 +278,14 @@ module _ {W R D : Type 0} (table : Table W R D) (g : Given) where
       let o = h.spans in
       record {
         base = h.base;
-        spans = record { stack = o.stack; began = o.began; void = o.void; below = o.below; needs = o.needs; needs_byte = λ n. omega (arith, o.needs_byte n, longer-text table.states g text more e) };
-        waiting = waiting-longer table.states g text more e choices h.base k.position (outline k) inside h.waiting;
+        spans = record { stack = o.stack; began = o.began; void = o.void; below = o.below; needs = o.needs; called = called-more state.called (class_in table.class text k.position) (class_in table.class more k.position) (class-kept table.class table.states g text more e k.position) o.called };
+        waiting = waiting-longer table.class table.states g text more e choices h.base k.position (outline k) inside h.waiting;
       }
 
   pub longer : (a : State) (text more : Text) (k : Configuration R D) (choices : List Choice) → Extends text more → k.ended ≡ false → k.position ≤ length text.seats → HoldsAt table g text k choices a → HoldsAt table g more k choices a
   longer (Next name) text more k choices e fresh inside h = (
     h.0,
-    subst (λ q. IsStateAt table g more (named table.states name) (λ state. upto (fresh_fed state.begun) q) k choices) (sym (place-kept table.states g text more e k.position inside))
+    subst (λ q. IsStateAt table g more (named table.states name) (λ state. upto (fresh_fed state.begun) q) k choices) (sym (place-kept table.class table.states g text more e k.position inside))
         (state-longer (named table.states name) (λ state. upto (fresh_fed state.begun) (exit_place_at g text k.position)) text more k choices e inside h.1),
   )
   longer (Retry name) text more k choices e fresh inside h =
@@ -280,12 +299,12 @@ module _ {W R D : Type 0} (table : Table W R D) (g : Given) where
   longer Ok text more k choices e fresh inside h = record {
     base = h.base;
     stack = h.stack;
-    began = subst (λ q. Began (upto false q) (outline k)) (sym (place-kept table.states g text more e k.position inside)) h.began;
-    waiting = waiting-longer table.states g text more e choices h.base k.position (outline k) inside h.waiting;
+    began = subst (λ q. Began (upto false q) (outline k)) (sym (place-kept table.class table.states g text more e k.position inside)) h.began;
+    waiting = waiting-longer table.class table.states g text more e choices h.base k.position (outline k) inside h.waiting;
     ended = h.ended;
   }
   longer Nok text more k choices e fresh inside h =
-      record { base = h.base; waiting = waiting-longer table.states g text more e choices h.base k.position (outline k) inside h.waiting; any = h.any }
+      record { base = h.base; waiting = waiting-longer table.class table.states g text more e choices h.base k.position (outline k) inside h.waiting; any = h.any }
   longer (Error message) text more k choices e fresh inside h = h
 
   -- the same spans are open once the next byte, or the end, was fed
@@ -297,7 +316,7 @@ module _ {W R D : Type 0} (table : Table W R D) (g : Given) where
       let o = h.spans in
       record {
         base = h.base;
-        spans = record { stack = o.stack; began = began-on (from state) (to state) (outline k) (f state) o.began; void = o.void; below = o.below; needs = o.needs; needs_byte = o.needs_byte };
+        spans = record { stack = o.stack; began = began-on (from state) (to state) (outline k) (f state) o.began; void = o.void; below = o.below; needs = o.needs; called = o.called };
         waiting = h.waiting;
       }
 
@@ -344,7 +363,7 @@ module _ {W R D : Type 0} (table : Table W R D) (g : Given) where
   starts-at None p where_to flag h = absurd (cc)
   starts-at (Some state) p where_to flag h =
       let (spans, rest) = and_parts _ _ h in
-      let (needs, byte) = and_parts (not (needs_choice state.needs false)) (not state.needs_byte) rest in
+      let (needs, byte) = and_parts (not (needs_choice state.needs false)) (is_called_at state.called None) rest in
       let empty = same_names-true state.spans [] spans in
       record {
         base = [];
@@ -354,88 +373,88 @@ module _ {W R D : Type 0} (table : Table W R D) (g : Given) where
           void = λ v. absurd (let e : false ≡ true = (rw empty at v) in cc);
           below = All-nil (IsBelow []);
           needs = λ n. absurd (let none = not-true (needs_choice state.needs false) needs in let e : true ≡ false = sym n ∙ none in cc);
-          needs_byte = λ n. absurd (let none = not-true state.needs_byte byte in let e : true ≡ false = sym n ∙ none in cc);
+          called = byte;
         };
         waiting = refl;
       }
 
   -- what goes on at the place a choice was made at holds there
-  goes-on-at : (f : Frame) (below : List EventName) (byte : Bool) (a : State) (text : Text) (k : Configuration R D) (choices : List Choice) → may_go_on table.states f byte a ≡ true → k.waiting ≡ Nothing
+  goes-on-at : (f : Frame W) (below : List EventName) (waits : Option W) (a : State) (text : Text) (k : Configuration R D) (choices : List Choice) → may_go_on table.states f waits a ≡ true → k.waiting ≡ Nothing
       → k.stack ≡ below ++ f.spans → Began (upto false (exit_place_at g text k.position)) (outline k) → (is_void_last (last_or None f.spans) ≡ true → EndsWithEnter (outline k))
-      → AreWaiting table.states g text k.position (outline k) below choices → (f.within ≡ true → AnyWait choices) → (byte ≡ true → k.position < length text.seats) → HoldsAt table g text k choices a
-  goes-on-at f below byte (Next name) text k choices fit waits stack began void waiting any inside = (
+      → AreWaiting table.class table.states g text k.position (outline k) below choices → (f.within ≡ true → AnyWait choices) → IsNext text k.position waits → HoldsAt table g text k choices a
+  goes-on-at f below next (Next name) text k choices fit waits stack began void waiting any inside = (
     waits,
-    at-state f.spans f.within byte true (named table.states name) (λ state. upto (fresh_fed state.begun) (exit_place_at g text k.position)) text k below choices fit stack
+    at-state f.spans f.within next true (named table.states name) (λ state. upto (fresh_fed state.begun) (exit_place_at g text k.position)) text k below choices fit stack
         (λ state e. began-on (upto false (exit_place_at g text k.position)) (upto (fresh_fed state.begun) (exit_place_at g text k.position)) (outline k) (upto-any (fresh_fed state.begun) (exit_place_at g text k.position)) began)
         void waiting any (λ n. needs-more n (is_read k.position)) inside,
   )
-  goes-on-at f below byte Ok text k choices fit waits stack began void waiting any inside =
+  goes-on-at f below next Ok text k choices fit waits stack began void waiting any inside =
       let (names, within) = and_parts _ _ fit in
       record { base = below; stack = stack ∙ ap (λ xs. below ++ xs) (same_names-true f.spans [] names) ∙ append-nil below; began = began; waiting = waiting; ended = inl (any within) }
-  goes-on-at f below byte Nok text k choices fit waits stack began void waiting any inside = record { base = below; waiting = waiting; any = any fit }
-  goes-on-at f below byte (Retry name) text k choices fit waits stack began void waiting any inside = absurd (cc)
-  goes-on-at f below byte (Error message) text k choices fit waits stack began void waiting any inside = absurd (cc)
+  goes-on-at f below next Nok text k choices fit waits stack began void waiting any inside = record { base = below; waiting = waiting; any = any fit }
+  goes-on-at f below next (Retry name) text k choices fit waits stack began void waiting any inside = absurd (cc)
+  goes-on-at f below next (Error message) text k choices fit waits stack began void waiting any inside = absurd (cc)
 
-  module _ (text : Text) (k : Configuration R D) (choices : List Choice) (f : Frame) (base below : List EventName) (is_base : base ≡ below ++ f.spans) (any : f.within ≡ true → AnyWait choices) where
+  module _ (text : Text) (k : Configuration R D) (choices : List Choice) (f : Frame W) (base below : List EventName) (is_base : base ≡ below ++ f.spans) (any : f.within ≡ true → AnyWait choices) where
     -- what goes on from what was saved
-    back : (saved : Saved) (a : State) → may_go_on table.states f f.at_byte a ≡ true → IsSavedIn g text k.position (outline k) base f saved
-        → AreWaiting table.states g text saved.position (take saved.events (outline k)) below choices → HoldsAt table g text (restored (Some saved) k) choices a
+    back : (saved : Saved) (a : State) → may_go_on table.states f f.waits a ≡ true → IsSavedIn table.class g text k.position (outline k) base f saved
+        → AreWaiting table.class table.states g text saved.position (take saved.events (outline k)) below choices → HoldsAt table g text (restored (Some saved) k) choices a
     back saved a fit h waiting =
         let front : take saved.events (outline k) ≡ map unlinked (take saved.events k.events) = take-map unlinked saved.events k.events in
-        goes-on-at f below f.at_byte a text (restored (Some saved) k) choices fit refl (h.stack_is ∙ is_base)
+        goes-on-at f below f.waits a text (restored (Some saved) k) choices fit refl (h.stack_is ∙ is_base)
         (subst (Began (upto false (exit_place_at g text saved.position))) front h.began) (λ v. subst EndsWithEnter front (h.void v))
-        (subst (λ es. AreWaiting table.states g text saved.position es below choices) front waiting) any h.at_byte
+        (subst (λ es. AreWaiting table.class table.states g text saved.position es below choices) front waiting) any h.waits
 
     -- what goes on from where it is
-    on : (b : Bool) (saved : Option Saved) → IsSaved g text k.position (outline k) base f b saved → AreWaiting table.states g text (position_of saved k.position) (events_saved saved (outline k)) below choices
-        → AreWaiting table.states g text k.position (outline k) below choices
+    on : (b : Bool) (saved : Option Saved) → IsSaved table.class g text k.position (outline k) base f b saved → AreWaiting table.class table.states g text (position_of saved k.position) (events_saved saved (outline k)) below choices
+        → AreWaiting table.class table.states g text k.position (outline k) below choices
     on true (Some saved) h waiting =
-        more-waiting table.states g text choices below saved.position k.position (take saved.events (outline k)) (outline k) (drop saved.events (outline k)) h.behind (sym (take-append-drop saved.events (outline k))) waiting
+        more-waiting table.class table.states g text choices below saved.position k.position (take saved.events (outline k)) (outline k) (drop saved.events (outline k)) h.behind (sym (take-append-drop saved.events (outline k))) waiting
     on false None h waiting = waiting
     on true None h waiting = absurd h
     on false (Some saved) h waiting = absurd h
 
-    pub well : (kind : AttemptKind) (a nok : State) (b : Bool) (saved : Option Saved) → saves kind nok ≡ b → fits_choice table.states f kind a nok ≡ true → IsSaved g text k.position (outline k) base f b saved
-        → AreWaiting table.states g text (position_of saved k.position) (events_saved saved (outline k)) below choices → k.stack ≡ base → Began (upto false (exit_place_at g text k.position)) (outline k)
+    pub well : (kind : AttemptKind) (a nok : State) (b : Bool) (saved : Option Saved) → saves kind nok ≡ b → fits_choice table.states f kind a nok ≡ true → IsSaved table.class g text k.position (outline k) base f b saved
+        → AreWaiting table.class table.states g text (position_of saved k.position) (events_saved saved (outline k)) below choices → k.stack ≡ base → Began (upto false (exit_place_at g text k.position)) (outline k)
         → HoldsAt table g text (settled_at kind saved Ok k) choices a
     well Attempt a nok b saved is fit h waiting stack began =
-        let (goes, rest) = and_parts (may_go_on table.states f false a) (not (is_void_last (last_or None f.spans)) && may_go_on table.states f f.at_byte nok) fit in
-        let (no_void, other) = and_parts (not (is_void_last (last_or None f.spans))) (may_go_on table.states f f.at_byte nok) rest in
-        goes-on-at f below false a text (unfed k) choices goes refl (stack ∙ is_base) began (λ v. absurd (let none = not-true (is_void_last (last_or None f.spans)) no_void in let e : true ≡ false = sym v ∙ none in cc))
-        (on b saved h waiting) any (λ e. absurd (cc))
-    well Check a nok true (Some saved) is fit h waiting stack began = back saved a (and_parts (may_go_on table.states f f.at_byte a) (may_go_on table.states f f.at_byte nok) fit).0 h waiting
+        let (goes, rest) = and_parts (may_go_on table.states f None a) (not (is_void_last (last_or None f.spans)) && may_go_on table.states f f.waits nok) fit in
+        let (no_void, other) = and_parts (not (is_void_last (last_or None f.spans))) (may_go_on table.states f f.waits nok) rest in
+        goes-on-at f below None a text (unfed k) choices goes refl (stack ∙ is_base) began (λ v. absurd (let none = not-true (is_void_last (last_or None f.spans)) no_void in let e : true ≡ false = sym v ∙ none in cc))
+        (on b saved h waiting) any (λ w e. absurd (cc))
+    well Check a nok true (Some saved) is fit h waiting stack began = back saved a (and_parts (may_go_on table.states f f.waits a) (may_go_on table.states f f.waits nok) fit).0 h waiting
     well Check a nok false saved is fit h waiting stack began = absurd (cc)
     well Check a nok true None is fit h waiting stack began = absurd h
 
     -- an attempt that saves nothing goes on with Nok
-    badly-unsaved : (a : State) → saves Attempt a ≡ false → may_go_on table.states f f.at_byte a ≡ true → AreWaiting table.states g text k.position (outline k) below choices → HoldsAt table g text (unfed k) choices a
+    badly-unsaved : (a : State) → saves Attempt a ≡ false → may_go_on table.states f f.waits a ≡ true → AreWaiting table.class table.states g text k.position (outline k) below choices → HoldsAt table g text (unfed k) choices a
     badly-unsaved Nok is fit waiting = record { base = below; waiting = waiting; any = any fit }
     badly-unsaved (Next name) is fit waiting = absurd (cc)
     badly-unsaved (Retry name) is fit waiting = absurd (cc)
     badly-unsaved Ok is fit waiting = absurd (cc)
     badly-unsaved (Error message) is fit waiting = absurd (cc)
 
-    pub badly : (kind : AttemptKind) (ok a : State) (b : Bool) (saved : Option Saved) → saves kind a ≡ b → fits_choice table.states f kind ok a ≡ true → IsSaved g text k.position (outline k) base f b saved
-        → AreWaiting table.states g text (position_of saved k.position) (events_saved saved (outline k)) below choices → HoldsAt table g text (settled_at kind saved Nok k) choices a
-    badly Check ok a true (Some saved) is fit h waiting = back saved a (and_parts (may_go_on table.states f f.at_byte ok) (may_go_on table.states f f.at_byte a) fit).1 h waiting
+    pub badly : (kind : AttemptKind) (ok a : State) (b : Bool) (saved : Option Saved) → saves kind a ≡ b → fits_choice table.states f kind ok a ≡ true → IsSaved table.class g text k.position (outline k) base f b saved
+        → AreWaiting table.class table.states g text (position_of saved k.position) (events_saved saved (outline k)) below choices → HoldsAt table g text (settled_at kind saved Nok k) choices a
+    badly Check ok a true (Some saved) is fit h waiting = back saved a (and_parts (may_go_on table.states f f.waits ok) (may_go_on table.states f f.waits a) fit).1 h waiting
     badly Check ok a false saved is fit h waiting = absurd (cc)
     badly Attempt ok a true (Some saved) is fit h waiting =
-        back saved a (and_parts (not (is_void_last (last_or None f.spans))) (may_go_on table.states f f.at_byte a) (and_parts (may_go_on table.states f false ok) (not (is_void_last (last_or None f.spans)) && may_go_on table.states f f.at_byte a) fit).1).1 h waiting
+        back saved a (and_parts (not (is_void_last (last_or None f.spans))) (may_go_on table.states f f.waits a) (and_parts (may_go_on table.states f None ok) (not (is_void_last (last_or None f.spans)) && may_go_on table.states f f.waits a) fit).1).1 h waiting
     badly Attempt ok a false None is fit h waiting =
-        badly-unsaved a is (and_parts (not (is_void_last (last_or None f.spans))) (may_go_on table.states f f.at_byte a) (and_parts (may_go_on table.states f false ok) (not (is_void_last (last_or None f.spans)) && may_go_on table.states f f.at_byte a) fit).1).1 waiting
+        badly-unsaved a is (and_parts (not (is_void_last (last_or None f.spans))) (may_go_on table.states f f.waits a) (and_parts (may_go_on table.states f None ok) (not (is_void_last (last_or None f.spans)) && may_go_on table.states f f.waits a) fit).1).1 waiting
     badly kind ok a true None is fit h waiting = absurd h
     badly kind ok a false (Some saved) is fit h waiting = absurd h
 
   -- no more was read than there is when a choice is settled
-  restored-inside : (b : Bool) (saved : Option Saved) (text : Text) (k : Configuration R D) (base : List EventName) (f : Frame) → k.position ≤ length text.seats → IsSaved g text k.position (outline k) base f b saved
+  restored-inside : (b : Bool) (saved : Option Saved) (text : Text) (k : Configuration R D) (base : List EventName) (f : Frame W) → k.position ≤ length text.seats → IsSaved table.class g text k.position (outline k) base f b saved
       → (restored saved k).position ≤ length text.seats
   restored-inside true (Some saved) text k base f inside h = omega (arith, h.behind)
   restored-inside false None text k base f inside h = inside
   restored-inside true None text k base f inside h = absurd h
   restored-inside false (Some saved) text k base f inside h = absurd h
 
-  pub inside-after : (kind : AttemptKind) (saved : Option Saved) (a : State) (b : Bool) (text : Text) (k : Configuration R D) (base : List EventName) (f : Frame) → k.position ≤ length text.seats
-      → IsSaved g text k.position (outline k) base f b saved → (settled_at kind saved a k).position ≤ length text.seats
+  pub inside-after : (kind : AttemptKind) (saved : Option Saved) (a : State) (b : Bool) (text : Text) (k : Configuration R D) (base : List EventName) (f : Frame W) → k.position ≤ length text.seats
+      → IsSaved table.class g text k.position (outline k) base f b saved → (settled_at kind saved a k).position ≤ length text.seats
   inside-after Check saved a b text k base f inside h = restored-inside b saved text k base f inside h
   inside-after Attempt saved Nok b text k base f inside h = restored-inside b saved text k base f inside h
   inside-after Attempt saved (Next name) b text k base f inside h = inside

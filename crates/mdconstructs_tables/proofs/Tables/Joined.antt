@@ -16,16 +16,7 @@ use Rattle.markdown_tokenizer.specs.Lawful.{ForEachCall, ConsumesOnce, OnlyAdds,
 use Rattle.mdconstructs_tables.specs.Rows.{StateRows, Table, named}
 use Rattle.mdconstructs_tables.specs.RowTest.{is_some}
 use Rattle.mdconstructs_tables.specs.RowInvariant.{IsStateAt, table_holds}
-use Rattle.mdconstructs_tables.specs.Joined.{has_state, joined_cost, joined_rules}
-
--- Two machines can be one: the names at which they hold are each its own, the first makes no choice, and they share their resolvers
-pub record AreApart {R D : Type 0} (is_first : Name → Bool) (first second : Rules R D) : Type 0 where
-  pub first_fed : (text : Text) (k : Configuration R D) (choices : List Choice) (name : Name) → first.holds text k choices (Next name) → is_first name ≡ true
-  pub first_called : (text : Text) (k : Configuration R D) (choices : List Choice) (name : Name) → first.holds text k choices (Retry name) → is_first name ≡ true
-  pub second_fed : (text : Text) (k : Configuration R D) (choices : List Choice) (name : Name) → second.holds text k choices (Next name) → is_first name ≡ false
-  pub second_called : (text : Text) (k : Configuration R D) (choices : List Choice) (name : Name) → second.holds text k choices (Retry name) → is_first name ≡ false
-  pub no_choice : (text : Text) (k : Configuration R D) (choices : List Choice) (state : State) → first.holds text k choices state → choices ≡ []
-  pub one_resolver : second.resolver ≡ first.resolver
+use Rattle.mdconstructs_tables.specs.Joined.{AreApart, has_state, joined_cost, joined_rules}
 
 either : (b : Bool) → b ≡ true → b ≡ false → ⊥
 either true e f = cc

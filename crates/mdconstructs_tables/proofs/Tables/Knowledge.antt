@@ -1,96 +1,63 @@
 -- The laws of a machine that knows more than its table says, from those of the table and from what each row keeps of it.
-use Rattle.std.proofs.Common.{◌≡◌, List, [], ◌∷◌, ◌++◌, Bool, true, false, cond, Option, Some, refl, sym, subst, ◌==◌, arith}
-use Rattle.std.specs.Prelude.{All, nat_lt, length}
+use Rattle.std.proofs.Common.{◌≡◌, List, [], ◌∷◌, Bool, true, false, cond, Option, Some, refl, sym, subst, ◌==◌, arith}
+use Rattle.std.specs.Prelude.{nat_lt, length}
 use Rattle.std.proofs.lemmas.List.Elements.{All-contains}
 use Rattle.std.proofs.lemmas.Bool.Decides.{nat_tests}
 use Rattle.markdown_base.specs.declared.event.Event.{Event}
 use Rattle.markdown_base.specs.declared.state.Name.{Name}
 use Rattle.markdown_base.specs.declared.state.State.{State}
-use Rattle.markdown_base.specs.declared.state.State.TheVariants.{Next, Retry, Ok, Nok}
+use Rattle.markdown_base.specs.declared.state.State.TheVariants.{Next, Retry}
 use Rattle.markdown_tokenizer.specs.declared.waiting.Waits.TheVariants.{Byte, End}
 use Rattle.markdown_tokenizer.specs.Text.{Given}
-use Rattle.markdown_tokenizer.specs.Configuration.{Configuration, Local, Choice, Step, start_configuration}
+use Rattle.markdown_tokenizer.specs.Configuration.{Configuration, Local, Choice, start_configuration}
 use Rattle.markdown_tokenizer.specs.Sight.{Sight, sight}
 use Rattle.markdown_tokenizer.specs.Calls.{with_local}
-use Rattle.markdown_tokenizer.specs.Reading.{settled_at}
 use Rattle.markdown_tokenizer.specs.Lawful.{IsAsFar, ConsumesOnce, OnlyAdds, EndsWhenRead, KeepsInvariant, CostPays, ResolversKeep}
-use Rattle.markdown_edits.specs.Edited.{edited}
-use Rattle.markdown_tokenizer.specs.Resolving.{CanBeEdited, IsInShape}
-use Rattle.markdown_base.specs.Events.{IsBalanced}
 use Rattle.mdconstructs_tables.specs.Rows.{Rows, row, when, Row, StateRows, Table, class_of, picked, step_of, named, step_at, table_step}
-use Rattle.mdconstructs_tables.specs.Knowledge.{LeavesShape, knowing_rules}
-use Rattle.mdconstructs_tables.proofs.Tables.Laws.{IsFit, is-call, table-consumes_once, table-only_adds, table-ends_when_read, table-invariant_kept}
+use Rattle.mdconstructs_tables.specs.Fitting.{IsFit}
+use Rattle.mdconstructs_tables.specs.Knowledge.{EachRow, LeavesShape, KnownAfter, KeepsKnowing, AllKeepKnowing, IsKnown, knowing_rules}
+use Rattle.mdconstructs_tables.proofs.Tables.Laws.{is-call, table-consumes_once, table-only_adds, table-ends_when_read, table-invariant_kept}
 use Rattle.mdconstructs_tables.proofs.Tables.Costs.{table-cost_pays}
 
 -- what holds of each of the rows, by the tests that pick it, holds of the one that is picked
 module _ {R D : Type 0} (P : Row R D → Type 0) (g : Given) (s : Sight) (k : Configuration R D) where
-  abbrev pub EachRow : Rows R D → Type 0
-  EachRow (row acts answer) = P (record { acts = acts; answer = answer })
-  EachRow (when test one other) = (test g s k ≡ true → EachRow one) × (test g s k ≡ false → EachRow other)
-
   one-of : (b : Bool) (x y : Row R D) → (b ≡ true → P x) → (b ≡ false → P y) → P (cond b x y)
   one-of true x y p q = p refl
   one-of false x y p q = q refl
 
-  pub picked-row : (rows : Rows R D) → EachRow rows → P (picked rows g s k)
+  pub picked-row : (rows : Rows R D) → EachRow P g s k rows → P (picked rows g s k)
   picked-row (row acts answer) h = h
   picked-row (when test one other) h =
       one-of (test g s k) (picked one g s k) (picked other g s k) (λ e. picked-row one (h.0 e)) (λ e. picked-row other (h.1 e))
 
 module _ {W R D : Type 0} (table : Table W R D) (knows : List Event → Local R D → List Choice → State → Type 0) where
-  -- what is known after a step
-  abbrev pub KnownAfter : Step R D → List Choice → Type 0
-  KnownAfter q choices = knows q.configuration.events q.configuration.local (q.choices ++ choices) q.answer
-
-  -- each row of a state leaves what is known at its answer
-  abbrev pub KeepsKnowing : StateRows W R D → Type 0
-  KeepsKnowing state = (g : Given) (s : Sight) (k : Configuration R D) (choices : List Choice) (previous current : Option W) → knows k.events k.local choices (Retry state.name)
-      → let k1 = with_local k (table.first k.local) in EachRow (λ r. KnownAfter (step_of r s k1) choices) g s k1 (state.rows previous current)
-
-  abbrev pub AllKeepKnowing : List (StateRows W R D) → Type 0
-  AllKeepKnowing [] = Unit {0}
-  AllKeepKnowing (state ∷ states) = KeepsKnowing state × AllKeepKnowing states
-
-  -- What a machine knows is known at each start, and is kept by feeding, by the rows of each state, and where a choice ends. Where all was read it
-  -- knows that no resolver is registered, and that its edits can be made and leave the events in shape.
-  pub record IsKnown : Type 0 where
-    pub at_starts : (flag : Bool) → let k : Configuration R D = start_configuration flag in All (λ name. knows k.events k.local [] (Next name)) table.starts
-    pub by_feeding : (events : List Event) (local : Local R D) (choices : List Choice) (name : Name) → knows events local choices (Next name) → knows events local choices (Retry name)
-    pub by_rows : AllKeepKnowing table.states
-    pub by_ok : (k : Configuration R D) (choice : Choice) (choices : List Choice) → knows k.events k.local (choice ∷ choices) Ok
-        → let k' = settled_at choice.kind choice.saved Ok k in knows k'.events k'.local choices choice.ok
-    pub by_nok : (k : Configuration R D) (choice : Choice) (choices : List Choice) → knows k.events k.local (choice ∷ choices) Nok
-        → let k' = settled_at choice.kind choice.saved Nok k in knows k'.events k'.local choices choice.nok
-    pub at_end : (k : Configuration R D) → IsBalanced k.events → knows k.events k.local [] Ok
-        → (k.local.resolvers ≡ []) × CanBeEdited k × IsInShape (edited k.local.map k.events)
-
   fed-known : (b : Bool) (k : Configuration R D) (choices : List Choice) (state : State) → knows k.events k.local choices state
       → let k' = cond b (record k { waiting = Byte }) (record k { waiting = End; ended = true }) in knows k'.events k'.local choices state
   fed-known true k choices state h = h
   fed-known false k choices state h = h
 
   module _ (g : Given) (s : Sight) (k : Configuration R D) (choices : List Choice) where
-    this-or : (b : Bool) (name : Name) (x state : StateRows W R D) (rest : Option (StateRows W R D)) → (b ≡ true → name.number ≡ x.name.number) → KeepsKnowing x
-        → (rest ≡ Some state → KeepsKnowing state × (name.number ≡ state.name.number)) → cond b (Some x) rest ≡ Some state → KeepsKnowing state × (name.number ≡ state.name.number)
-    this-or true name x state rest same keeps later is = let e : x ≡ state = cc in subst (λ y. KeepsKnowing y × (name.number ≡ y.name.number)) e (keeps, same refl)
+    this-or : (b : Bool) (name : Name) (x state : StateRows W R D) (rest : Option (StateRows W R D)) → (b ≡ true → name.number ≡ x.name.number) → KeepsKnowing table knows x
+        → (rest ≡ Some state → KeepsKnowing table knows state × (name.number ≡ state.name.number)) → cond b (Some x) rest ≡ Some state → KeepsKnowing table knows state × (name.number ≡ state.name.number)
+    this-or true name x state rest same keeps later is = let e : x ≡ state = cc in subst (λ y. KeepsKnowing table knows y × (name.number ≡ y.name.number)) e (keeps, same refl)
     this-or false name x state rest same keeps later is = later is
 
-    named-keeps : (states : List (StateRows W R D)) (name : Name) (state : StateRows W R D) → AllKeepKnowing states → named states name ≡ Some state → KeepsKnowing state × (name.number ≡ state.name.number)
+    named-keeps : (states : List (StateRows W R D)) (name : Name) (state : StateRows W R D) → AllKeepKnowing table knows states → named states name ≡ Some state → KeepsKnowing table knows state × (name.number ≡ state.name.number)
     named-keeps [] name state h is = absurd (cc)
     named-keeps (x ∷ xs) name state h is =
         this-or (name.number == x.name.number) name x state (named xs name) (λ e. grind (arith, nat_tests)) h.0 (λ e. named-keeps xs name state h.1 e) is
 
-    step-known : (name : Name) (state : StateRows W R D) → AllKeepKnowing table.states → named table.states name ≡ Some state → knows k.events k.local choices (Retry name)
-        → KnownAfter (table_step table g s k name) choices
+    step-known : (name : Name) (state : StateRows W R D) → AllKeepKnowing table knows table.states → named table.states name ≡ Some state → knows k.events k.local choices (Retry name)
+        → KnownAfter table knows (table_step table g s k name) choices
     step-known name state keeps is h =
         let (one, same) = named-keeps table.states name state keeps is in
         let there = subst (λ n. knows k.events k.local choices (Retry (record { number = n }))) same h in
         let k1 = with_local k (table.first k.local) in
         let b = class_of table.class s.previous in
         let w = class_of table.class s.current in
-        subst (λ o. KnownAfter (step_at table g o s k1) choices) (sym is) (picked-row (λ r. KnownAfter (step_of r s k1) choices) g s k1 (state.rows b w) (one g s k choices b w there))
+        subst (λ o. KnownAfter table knows (step_at table g o s k1) choices) (sym is) (picked-row (λ r. KnownAfter table knows (step_of r s k1) choices) g s k1 (state.rows b w) (one g s k choices b w there))
 
-  module _ (g : Given) (fit : IsFit table) (known : IsKnown) where
+  module _ (g : Given) (fit : IsFit table) (known : IsKnown table knows) where
     pub knowing-consumes_once : ConsumesOnce g (knowing_rules table knows g)
     knowing-consumes_once text k choices name is h = table-consumes_once table g fit text k choices name is h.holds
 

@@ -16,18 +16,13 @@ use Rattle.markdown_tokenizer.specs.Reading.{settled_at}
 use Rattle.markdown_tokenizer.specs.Lawful.{ConsumesOnce, OnlyAdds, EndsWhenRead, KeepsInvariant, CostPays}
 use Rattle.mdconstructs_tables.specs.Rows.{Act, enters, exit, consume, links, write, choose, StateRows, Table, past, class_of, choice_made_at, done, does, chooses, named, step_at, table_step}
 use Rattle.mdconstructs_tables.specs.RowInvariant.{table_holds}
-use Rattle.mdconstructs_tables.specs.Late.{falls_on, CanGoBack, is_early_end, is_early, fits_late, are_late, is_at_last, is_late_row, is_late_state, hasty, AreFallingBehind, late_holds, late_rules}
+use Rattle.mdconstructs_tables.specs.Late.{falls_on, CanGoBack, is_early_end, is_early, fits_late, are_late, is_at_last, is_late_row, is_late_state, AreFallingBehind, IsLate, late_holds, late_rules}
 use Rattle.mdconstructs_tables.proofs.Rows.Misfits.{named-out, named-same}
 use Rattle.mdconstructs_tables.proofs.Rows.Laws.{chooses-append}
 use Rattle.mdconstructs_tables.proofs.GrowingTexts.{Extends, extends, fed-position, waits-longer}
 use Rattle.mdconstructs_tables.proofs.Tables.Holding.{of_class, before_class, row_of, left_by, stays}
-use Rattle.mdconstructs_tables.proofs.Tables.Laws.{IsFitBy, is-call, picked-passes, table-consumes_once, table-only_adds, table-ends_when_read, table-invariant_kept}
+use Rattle.mdconstructs_tables.proofs.Tables.Laws.{is-call, picked-passes, table-consumes_once, table-only_adds, table-ends_when_read, table-invariant_kept}
 use Rattle.mdconstructs_tables.proofs.Tables.Costs.{calls-pay, feeding-pays, ok-pays, nok-pays}
-
--- A table fits, and its choices end well late
-pub record IsLate {W R D : Type 0} (table : Table W R D) (early : Name → Option W → Bool) (falling : Name → Bool) : Type 0 where
-  pub fit : IsFitBy table true falling
-  pub late : (previous current : Option W) → hasty table early falling previous current ≡ []
 
 module _ {W R D : Type 0} (table : Table W R D) (early : Name → Option W → Bool) (falling : Name → Bool) where
   -- what stands behind the last choice may be asked to stand there or behind

@@ -1,8 +1,9 @@
 -- The laws of a machine whose table passes the test.
-use Rattle.std.proofs.Common.{◌≡◌, ◌≢◌, ℕ, ◌<◌, ◌≤◌, ◌&&◌, not, List, [], ◌++◌, Bool, true, false, cond, Option, Some, None, length, map, refl, sym, ap, ◌∙◌, subst, arith, ◌⊎◌, inl, inr, take, length-append}
-use Rattle.std.specs.Prelude.{All, IfSome, Contains, nat_lt, filter}
+use Rattle.std.proofs.Common.{◌≡◌, ◌≢◌, ℕ, ◌<◌, ◌≤◌, not, List, [], ◌++◌, Bool, true, false, cond, Option, Some, None, length, map, refl, sym, ap, ◌∙◌, subst, arith, ◌⊎◌, inl, inr, take, length-append}
+use Rattle.std.specs.Prelude.{All, IfSome, Contains, nat_lt}
+use Rattle.std.specs.List.{flat_map}
 use Rattle.std.proofs.Math.Seq.{take-append_seam}
-use Rattle.std.proofs.lemmas.Bool.{and_parts, not-false}
+use Rattle.std.proofs.lemmas.Bool.{and_parts}
 use Rattle.std.proofs.lemmas.List.{take-map, length-map}
 use Rattle.std.proofs.lemmas.List.Elements.{All-contains}
 use Rattle.markdown_base.specs.declared.event.Event.{Event}
@@ -10,7 +11,6 @@ use Rattle.markdown_base.specs.declared.event.Name.{Name as EventName}
 use Rattle.markdown_base.specs.declared.state.Name.{Name}
 use Rattle.markdown_base.specs.declared.state.State.TheVariants.{Next, Retry, Ok, Nok}
 use Rattle.markdown_base.specs.Events.{unlinked}
-use Rattle.markdown_base.proofs.Common.{none-mapped}
 use Rattle.markdown_tokenizer.specs.declared.waiting.Waits.TheVariants.{Byte}
 use Rattle.markdown_tokenizer.specs.Text.{Given, Text, IsText, followed_by}
 use Rattle.markdown_tokenizer.specs.Configuration.{Configuration, Choice, Step}
@@ -18,31 +18,15 @@ use Rattle.markdown_tokenizer.specs.Sight.{Sight, sight}
 use Rattle.markdown_tokenizer.specs.Calls.{consumed, with_local}
 use Rattle.markdown_tokenizer.specs.Lawful.{IsAsFar, ConsumesOnce, OnlyAdds, EndsWhenRead, KeepsInvariant}
 use Rattle.mdconstructs_tables.specs.Rows.{Rows, row, when, Row, StateRows, Table, no_cost, with_choice_of, chooses, picked, step_of, row_at, named, step_at, table_step}
-use Rattle.mdconstructs_tables.specs.RowTest.{saves, allows_all, is_called, fits_choices, fits_row, fits_calls, fits_state, start_shape, first_stage, all_rows, may_start, misfits}
-use Rattle.mdconstructs_tables.specs.RowInvariant.{outline, SightIsInOrder, IsFed, began_at, IsStateAt, HoldsAt, table_holds, ArePaid, table_rules}
-use Rattle.mdconstructs_tables.proofs.Rows.Misfits.{none-left, named-out, all-out, fit-or}
+use Rattle.mdconstructs_tables.specs.Fitting.{IsFitBy, every}
+use Rattle.mdconstructs_tables.specs.Misfits.{named_misfit, named_start}
+use Rattle.mdconstructs_tables.specs.RowTest.{saves, allows_all, is_called_at, is_called, fits_choices, fits_row, fits_calls, start_shape, first_stage, all_rows, may_start}
+use Rattle.mdconstructs_tables.specs.RowInvariant.{outline, SightIsInOrder, IsFed, class_in, began_at, IsStateAt, HoldsAt, table_holds, table_rules}
+use Rattle.mdconstructs_tables.proofs.Rows.Misfits.{none-left, none-made, named-none, fits-unnamed, starts-unnamed}
 use Rattle.mdconstructs_tables.proofs.Rows.Laws.{Waited, below_all, has-after-all, chooses-append, adds-all}
 use Rattle.mdconstructs_tables.proofs.GrowingTexts.{fed-position, extends}
 use Rattle.mdconstructs_tables.proofs.Tables.Waiting.{all-front, waits-after-all}
-use Rattle.mdconstructs_tables.proofs.Tables.Holding.{of_class, before_class, met-at, read-before, begins, ahead-at, start-sight, row_of, left_by, chosen_by, shape_of, IsCall, once, inside-at, answered, longer, fed-at, starts-at, well, badly, inside-after, KeepsStack, keeps-all}
-
--- A table fits: the test names no state that does not, and the machine's own costs are paid for, where choices end well late or not. The more was
--- read, the less these states cost.
-pub record IsFitBy {W R D : Type 0} (table : Table W R D) (late : Bool) (falling : Name → Bool) : Type 0 where
-  pub fits : (previous current : Option W) → misfits table previous current ≡ []
-  pub paid : ArePaid table late table.states
-  pub falls : (text : Text) (p q : ℕ) (name : Name) → falling name ≡ true → p ≤ q → table.cost text q name ≤ table.cost text p name
-
-abbrev pub every : Name → Bool
-every name = true
-
--- choices may end well at the place they were made at, and all states cost less later
-abbrev pub IsFit : {W R D : Type 0} → Table W R D → Type 0
-IsFit table = IsFitBy table false every
-
--- a machine whose states all say how many calls are left brings no cost
-pub no-falls : (text : Text) (p q : ℕ) (name : Name) → every name ≡ true → p ≤ q → no_cost text q name ≤ no_cost text p name
-no-falls text p q name all h = omega arith
+use Rattle.mdconstructs_tables.proofs.Tables.Holding.{of_class, before_class, met-at, read-before, waits-at, begins, ahead-at, start-sight, row_of, left_by, chosen_by, shape_of, IsCall, once, inside-at, answered, longer, fed-at, starts-at, well, badly, inside-after, KeepsStack, keeps-all}
 
 -- a test that all rows pass is passed by the one that is picked
 module _ {R D : Type 0} where
@@ -57,16 +41,16 @@ module _ {R D : Type 0} where
 
 module _ {W R D : Type 0} (table : Table W R D) (g : Given) {late : Bool} {falling : Name → Bool} (fit : IsFitBy table late falling) where
   -- a state that is called fits
-  pub state-fits : (b w : Option W) (name : Name) (state : StateRows W R D) → named table.states name ≡ Some state → is_called table.states w state ≡ true → fits_state table.states b w state ≡ true
+  pub state-fits : (b w : Option W) (name : Name) (state : StateRows W R D) → named table.states name ≡ Some state → is_called table.states w state ≡ true
+      → (all_rows (fits_row table.states b w state) (state.rows b w) ≡ true) × (fits_calls table.states b w state state.calls ≡ true)
   state-fits b w name state is called =
-      let test = λ (state : StateRows W R D). is_called table.states w state && not (fits_state table.states b w state) in
-      let none = none-mapped (λ (state : StateRows W R D). state.name) (filter test table.states) (none-left (map (λ (state : StateRows W R D). state.name) (filter test table.states)) _ (fit.fits b w)).0 in
-      fit-or (is_called table.states w state) (fits_state table.states b w state) (named-out test table.states name state none is) called
+      let none = none-left (flat_map (named_misfit table.states b w) table.states) (flat_map (named_start table.states) table.starts) (fit.fits b w) in
+      fits-unnamed table.states b w state called (named-none (named_misfit table.states b w) table.states name state none.0 is)
 
-  pub called-at : (w : Option W) (text : Text) (k : Configuration R D) (state : StateRows W R D) → Waited (first_stage w) text k → (state.needs_byte ≡ true → k.position < length text.seats) → is_called table.states w state ≡ true
-  called-at (Some w) text k state met needs = refl
-  called-at None text k state met needs =
-      elim state.needs_byte as (λ b. (b ≡ true → k.position < length text.seats) → not b ≡ true) [ true ↦ λ n. absurd (omega (arith, n refl, met.1)) | false ↦ λ n. refl ] needs
+  -- a state is called where what waits is what it is called at
+  called-at : (text : Text) (k : Configuration R D) (state : StateRows W R D) → IsFed k.waiting k.position k.ended text → is_called_at state.called (class_in table.class text k.position) ≡ true
+      → is_called table.states (of_class table g text k) state ≡ true
+  called-at text k state fed called = subst (λ w. is_called_at state.called w ≡ true) (waits-at table g k.waiting text k.position k.ended fed) called
 
   module _ (text : Text) (k : Configuration R D) (choices : List Choice) (name : Name) (inside : k.position ≤ length text.seats) (waits : IsFed k.waiting k.position k.ended text)
       (order : SightIsInOrder k.waiting (sight g text k)) where
@@ -80,9 +64,10 @@ module _ {W R D : Type 0} (table : Table W R D) (g : Given) {late : Bool} {falli
         let r = row_at table.class state g s k1 in
         let met = met-at table g text k k.waiting refl waits in
         let read = read-before table g text k.position inside in
-        let (rows_fit, paid) = and_parts (all_rows (fits_row table.states b w state) (state.rows b w)) (fits_calls table.states b w state state.calls) (state-fits b w name state is (called-at w text k state met h.spans.needs_byte)) in
+        let at_it = called-at text k state waits h.spans.called in
+        let (rows_fit, paid) = state-fits b w name state is at_it in
         let (allowed, more) = and_parts (allows_all r.acts (start_shape b w state)) _ (picked-passes (fits_row table.states b w state) (state.rows b w) g s k1 rows_fit) in
-        let (with_choice_of, answers) = and_parts (fits_choices table.states r.acts (start_shape b w state)) _ more in
+        let (with_choice_of, answers) = and_parts (fits_choices table.states w r.acts (start_shape b w state)) _ more in
         let first = begins table g b w text k (table.first k.local) h.base choices state read met h.spans in
         let sees = ahead-at table g w text k met order in
         record {
@@ -94,9 +79,10 @@ module _ {W R D : Type 0} (table : Table W R D) (g : Given) {late : Bool} {falli
           waiting = h.waiting;
           fits_it = answers;
           fits_calls_too = paid;
+          called = at_it;
           met = met;
           shape = has-after-all r.acts (start_shape b w state) h.base s g text k k1 choices allowed sees (start-sight table g w s) first;
-          wait_on = waits-after-all table.states g text r.acts k (start_shape b w state) h.base s k1 choices allowed with_choice_of sees first (start-sight table g w s) h.waiting;
+          wait_on = waits-after-all table.class table.states g text r.acts k w refl (start_shape b w state) h.base s k1 choices allowed with_choice_of sees first (start-sight table g w s) h.waiting;
         }
 
   -- a call for which the invariant holds
@@ -130,8 +116,8 @@ module _ {W R D : Type 0} (table : Table W R D) (g : Given) {late : Bool} {falli
       let wait : made ++ choices ≡ chosen_by table g text k choices c.state = chooses-append (row_of table g text k c.state).acts s (with_local k (table.first k.local)) [] choices in
       let P = λ (stack : List EventName) (c : Choice). IfSome c.saved (λ s. take (length s.stack) stack ≡ s.stack) in
       let p = shape_of table g text k c.state in
-      let after_it = subst (λ stack. All (P stack) (chosen_by table g text k choices c.state)) (sym c.shape.stack) (all-front table.states g text (chosen_by table g text k choices c.state) c.above p.spans new.position (outline new) c.wait_on) in
-      let before_it = subst (λ stack. All (P stack) choices) (sym c.stack) (all-front table.states g text choices c.base c.state.spans k.position (outline k) c.waiting) in
+      let after_it = subst (λ stack. All (P stack) (chosen_by table g text k choices c.state)) (sym c.shape.stack) (all-front table.class table.states g text (chosen_by table g text k choices c.state) c.above p.spans new.position (outline new) c.wait_on) in
+      let before_it = subst (λ stack. All (P stack) choices) (sym c.stack) (all-front table.class table.states g text choices c.base c.state.spans k.position (outline k) c.waiting) in
       keeps-all table g k.stack new.stack made choices (subst (All (P new.stack)) (sym wait) after_it) before_it
 
   pub table-only_adds : OnlyAdds g (table_rules table g)
@@ -150,9 +136,8 @@ module _ {W R D : Type 0} (table : Table W R D) (g : Given) {late : Bool} {falli
 
   may-start-at : (name : Name) → Contains table.starts name → may_start table.states (named table.states name) ≡ true
   may-start-at name is =
-      let test = λ (n : Name). not (may_start table.states (named table.states n)) in
-      let none = (none-left (map (λ (state : StateRows W R D). state.name) (filter (λ (state : StateRows W R D). is_called table.states None state && not (fits_state table.states None None state)) table.states)) (filter test table.starts) (fit.fits None None)).1 in
-      not-false (may_start table.states (named table.states name)) (All-contains (λ n. test n ≡ false) table.starts name (all-out test table.starts none) is)
+      let none = none-left (flat_map (named_misfit table.states None None) table.states) (flat_map (named_start table.states) table.starts) (fit.fits None None) in
+      starts-unnamed table.states name (All-contains (λ n. named_start table.states n ≡ []) table.starts name (none-made (named_start table.states) table.starts none.1) is)
 
   pub table-invariant_kept : KeepsInvariant g (table_rules table g)
   table-invariant_kept = record {

@@ -2,20 +2,20 @@
 use Rattle.std.proofs.Common.{◌≡◌, List, [], Bool, true, Option, ap}
 use Rattle.markdown_base.specs.declared.state.Name.{Name}
 use Rattle.mdconstructs_tables.specs.Rows.{Table}
-use Rattle.mdconstructs_tables.specs.RowTest.{misfits}
+use Rattle.mdconstructs_tables.specs.Misfits.{Reason, misfits}
 use Rattle.mdconstructs_tables.specs.PlainTables.{are_plain_states}
 use Rattle.mdconstructs_tables.specs.Refusals.{refusing}
 
 -- the states that do not fit, whether none links or writes, and the states that may refuse the document
-abbrev pub tests : {W R D : Type 0} → Table W R D → (previous current : Option W) → List Name × Bool × List Name
+abbrev pub tests : {W R D : Type 0} → Table W R D → (previous current : Option W) → List (Name × Reason) × Bool × List Name
 tests table previous current = (misfits table previous current, are_plain_states table.states previous current, refusing table previous current)
 
 module _ {W R D : Type 0} (table : Table W R D) (tested : (previous current : Option W) → tests table previous current ≡ ([], true, [])) where
   pub all-fit : (previous current : Option W) → misfits table previous current ≡ []
-  all-fit previous current = ap (λ (t : List Name × Bool × List Name). t.0) (tested previous current)
+  all-fit previous current = ap (λ (t : List (Name × Reason) × Bool × List Name). t.0) (tested previous current)
 
   pub all-plain : (previous current : Option W) → are_plain_states table.states previous current ≡ true
-  all-plain previous current = ap (λ (t : List Name × Bool × List Name). t.1) (tested previous current)
+  all-plain previous current = ap (λ (t : List (Name × Reason) × Bool × List Name). t.1) (tested previous current)
 
   pub none-refuses : (previous current : Option W) → refusing table previous current ≡ []
-  none-refuses previous current = ap (λ (t : List Name × Bool × List Name). t.2) (tested previous current)
+  none-refuses previous current = ap (λ (t : List (Name × Reason) × Bool × List Name). t.2) (tested previous current)

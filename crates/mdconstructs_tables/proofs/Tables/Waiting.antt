@@ -1,11 +1,12 @@
 -- Choices that wait, in the invariant of a table: what acts make of them, and that they stay if the text goes on.
-use Rattle.std.proofs.Common.{◌≡◌, ℕ, ◌+◌, ◌<◌, ◌≤◌, ◌||◌, not, List, [], ◌∷◌, ◌++◌, Bool, true, false, Option, Some, None, length, refl, sym, ap, ◌∙◌, subst, arith, take, length-append, append_assoc}
-use Rattle.std.specs.Prelude.{All, IfSome}
+use Rattle.std.proofs.Common.{◌≡◌, ℕ, ◌+◌, ◌<◌, ◌≤◌, ◌||◌, not, List, [], ◌∷◌, ◌++◌, Bool, true, false, Option, Some, None, length, refl, sym, ap, ◌∙◌, subst, arith, take, length-append, append_assoc, inl, inr}
+use Rattle.std.specs.Prelude.{All, IfSome, slice_get}
 use Rattle.std.specs.List.{last_or}
 use Rattle.std.proofs.Math.Seq.{take-append_seam}
 use Rattle.std.proofs.lemmas.Bool.{and_parts}
 use Rattle.std.proofs.lemmas.List.{append-nil, take-append-le, length-map, take_all}
 use Rattle.std.proofs.lemmas.List.Elements.{All-nil, All-cons}
+use Rattle.std.proofs.lemmas.Option.{none-some, slice_get_cases, slice_get_past, slice_get_within}
 use Rattle.markdown_base.specs.declared.event.Event.{Event}
 use Rattle.markdown_base.specs.declared.event.Name.{Name as EventName}
 use Rattle.markdown_base.specs.declared.state.State.{State}
@@ -17,22 +18,22 @@ use Rattle.markdown_tokenizer.specs.declared.waiting.AttemptKind.{AttemptKind}
 use Rattle.markdown_tokenizer.specs.declared.waiting.AttemptKind.TheVariants.{Attempt, Check}
 use Rattle.markdown_tokenizer.specs.Text.{Given, Text}
 use Rattle.markdown_tokenizer.specs.Configuration.{Configuration, Choice, Saved}
-use Rattle.markdown_tokenizer.specs.Sight.{Sight, sight}
+use Rattle.markdown_tokenizer.specs.Sight.{Sight, sight, current_of, byte_of}
 use Rattle.markdown_tokenizer.specs.Calls.{saved_at}
 use Rattle.markdown_tokenizer.specs.Lawful.{IsAsFar}
-use Rattle.mdconstructs_tables.specs.Rows.{Act, enters, exit, consume, links, write, choose, StateRows, choice_made_at, with_choice_of, done, seen_after, does, chooses}
-use Rattle.mdconstructs_tables.specs.RowTest.{is_void_last, saves, Stage, end_waits, byte_waits, byte_read, Shape, Frame, frame_of, allows, after, allows_all, fits_choice, fits_choices, is_byte_waiting}
-use Rattle.mdconstructs_tables.specs.RowInvariant.{outline, EndsWithEnter, Began, upto, since, exit_place_at, IsSavedIn, IsSaved, position_of, events_saved, IsBelow, AreWaiting}
+use Rattle.mdconstructs_tables.specs.Rows.{Act, enters, exit, consume, links, write, choose, StateRows, class_of, choice_made_at, with_choice_of, done, seen_after, does, chooses}
+use Rattle.mdconstructs_tables.specs.RowTest.{is_void_last, saves, Stage, end_waits, byte_waits, byte_read, Shape, Frame, frame_of, allows, after, allows_all, fits_choice, fits_choices, waits_in}
+use Rattle.mdconstructs_tables.specs.RowInvariant.{outline, EndsWithEnter, Began, upto, since, exit_place_at, class_in, IsSavedIn, IsSaved, position_of, events_saved, IsBelow, AreWaiting}
 use Rattle.mdconstructs_tables.proofs.Rows.Laws.{Waited, reached, IsSeenAhead, sight_at, HasShape, below_after, below_all, to-before, below-more, adds-one, began-on, left-at, has-after, sees-after, sight-after}
-use Rattle.mdconstructs_tables.proofs.GrowingTexts.{Extends, left-kept}
+use Rattle.mdconstructs_tables.proofs.GrowingTexts.{Extends, left-kept, seat-append}
 
 -- What was saved
-module _ {W R D : Type 0} (states : List (StateRows W R D)) (g : Given) (text : Text) where
+module _ {W R D : Type 0} (class : ℕ → W) (states : List (StateRows W R D)) (g : Given) (text : Text) where
   -- what was saved stays within if more events come, and more is read
-  saved-on : (stack : List EventName) (f : Frame) (b : Bool) (saved : Option Saved) (cs : List Choice) (below : List EventName) (p p' : ℕ) (events events' more : List Event) → p ≤ p' → events' ≡ events ++ more
-      → (AreWaiting states g text p events below cs → AreWaiting states g text p' events' below cs) → IsSaved g text p events stack f b saved
-      → AreWaiting states g text (position_of saved p) (events_saved saved events) below cs
-      → IsSaved g text p' events' stack f b saved × AreWaiting states g text (position_of saved p') (events_saved saved events') below cs
+  saved-on : (stack : List EventName) (f : Frame W) (b : Bool) (saved : Option Saved) (cs : List Choice) (below : List EventName) (p p' : ℕ) (events events' more : List Event) → p ≤ p' → events' ≡ events ++ more
+      → (AreWaiting class states g text p events below cs → AreWaiting class states g text p' events' below cs) → IsSaved class g text p events stack f b saved
+      → AreWaiting class states g text (position_of saved p) (events_saved saved events) below cs
+      → IsSaved class g text p' events' stack f b saved × AreWaiting class states g text (position_of saved p') (events_saved saved events') below cs
   saved-on stack f true (Some saved) cs below p p' events events' more further longer on h rest =
       let same : take saved.events events' ≡ take saved.events events = ap (take saved.events) longer ∙ take-append-le saved.events events more h.within in (
         record {
@@ -41,15 +42,15 @@ module _ {W R D : Type 0} (states : List (StateRows W R D)) (g : Given) (text : 
           within = omega (arith, h.within, ap length longer, length-append events more);
           began = subst (Began (upto false (exit_place_at g text saved.position))) (sym same) h.began;
           void = λ v. subst EndsWithEnter (sym same) (h.void v);
-          at_byte = h.at_byte;
+          waits = h.waits;
         },
-        subst (λ es. AreWaiting states g text saved.position es below cs) (sym same) rest,
+        subst (λ es. AreWaiting class states g text saved.position es below cs) (sym same) rest,
       )
   saved-on stack f false None cs below p p' events events' more further longer on h rest = (h, on rest)
   saved-on stack f true None cs below p p' events events' more further longer on h rest = absurd h
   saved-on stack f false (Some saved) cs below p p' events events' more further longer on h rest = absurd h
 
-  pub more-waiting : (cs : List Choice) (base : List EventName) (p p' : ℕ) (events events' more : List Event) → p ≤ p' → events' ≡ events ++ more → AreWaiting states g text p events base cs → AreWaiting states g text p' events' base cs
+  pub more-waiting : (cs : List Choice) (base : List EventName) (p p' : ℕ) (events events' more : List Event) → p ≤ p' → events' ≡ events ++ more → AreWaiting class states g text p events base cs → AreWaiting class states g text p' events' base cs
   more-waiting [] base p p' events events' more further longer h = h
   more-waiting (c ∷ cs) base p p' events events' more further longer h =
       let w = h.0 in
@@ -57,13 +58,13 @@ module _ {W R D : Type 0} (states : List (StateRows W R D)) (g : Given) (text : 
       (record { frame = w.frame; below = w.below; stack_is = w.stack_is; fits = w.fits; saved = saved; within = w.within }, rest)
 
   -- what choices saved of the stack is no longer than the spans below
-  saved-below : (stack : List EventName) (f : Frame) (b : Bool) (saved : Option Saved) (p : ℕ) (events : List Event) → IsSaved g text p events stack f b saved → IfSome saved (λ s. length s.stack ≤ length stack)
+  saved-below : (stack : List EventName) (f : Frame W) (b : Bool) (saved : Option Saved) (p : ℕ) (events : List Event) → IsSaved class g text p events stack f b saved → IfSome saved (λ s. length s.stack ≤ length stack)
   saved-below stack f true (Some saved) p events h = omega (arith, ap length h.stack_is)
   saved-below stack f false None p events h = tt
   saved-below stack f true None p events h = absurd h
   saved-below stack f false (Some saved) p events h = absurd h
 
-  pub all-below : (cs : List Choice) (base : List EventName) (p : ℕ) (events : List Event) → AreWaiting states g text p events base cs → All (IsBelow base) cs
+  pub all-below : (cs : List Choice) (base : List EventName) (p : ℕ) (events : List Event) → AreWaiting class states g text p events base cs → All (IsBelow base) cs
   all-below [] base p events h = All-nil (IsBelow base)
   all-below (c ∷ cs) base p events h =
       let w = h.0 in
@@ -71,7 +72,7 @@ module _ {W R D : Type 0} (states : List (StateRows W R D)) (g : Given) (text : 
       All-cons (IsBelow base) c cs (saved-below base w.frame (saves c.kind c.nok) c.saved p events w.saved) (subst (λ b. All (IsBelow b) cs) (sym w.stack_is) (below-more w.below w.frame.spans cs rest))
 
   -- and it is a front of each stack above them
-  saved-front : (stack more : List EventName) (f : Frame) (b : Bool) (saved : Option Saved) (p : ℕ) (events : List Event) → IsSaved g text p events stack f b saved
+  saved-front : (stack more : List EventName) (f : Frame W) (b : Bool) (saved : Option Saved) (p : ℕ) (events : List Event) → IsSaved class g text p events stack f b saved
       → IfSome saved (λ s. take (length s.stack) (stack ++ more) ≡ s.stack)
   saved-front stack more f true (Some saved) p events h = rw h.stack_is (take-append_seam stack more)
   saved-front stack more f false None p events h = tt
@@ -81,7 +82,7 @@ module _ {W R D : Type 0} (states : List (StateRows W R D)) (g : Given) (text : 
   abbrev pub IsFront : List EventName → Choice → Type 0
   IsFront stack c = IfSome c.saved (λ s. take (length s.stack) stack ≡ s.stack)
 
-  pub all-front : (cs : List Choice) (base more : List EventName) (p : ℕ) (events : List Event) → AreWaiting states g text p events base cs → All (IsFront (base ++ more)) cs
+  pub all-front : (cs : List Choice) (base more : List EventName) (p : ℕ) (events : List Event) → AreWaiting class states g text p events base cs → All (IsFront (base ++ more)) cs
   all-front [] base more p events h = All-nil (IsFront (base ++ more))
   all-front (c ∷ cs) base more p events h =
       let w = h.0 in
@@ -90,17 +91,17 @@ module _ {W R D : Type 0} (states : List (StateRows W R D)) (g : Given) (text : 
       All-cons (IsFront (base ++ more)) c cs (saved-front base more w.frame (saves c.kind c.nok) c.saved p events w.saved) (subst (λ b. All (IsFront b) cs) same rest)
 
   -- a choice that is made waits
-  module _ (old : Configuration R D) (p : Shape) (base : List EventName) (s : Sight) (k : Configuration R D) (choices : List Choice) (h : HasShape p base s g text old k choices)
-      (seen : s ≡ sight_at p.stage (sight g text old)) (waiting : AreWaiting states g text k.position (outline k) base choices) where
+  module _ (old : Configuration R D) (w : Option W) (here : class_of class (sight g text old).current ≡ w) (p : Shape) (base : List EventName) (s : Sight) (k : Configuration R D) (choices : List Choice)
+      (h : HasShape p base s g text old k choices) (seen : s ≡ sight_at p.stage (sight g text old)) (waiting : AreWaiting class states g text k.position (outline k) base choices) where
     whole : take (length k.events) (outline k) ≡ outline k
     whole = take_all (length k.events) (outline k) (omega (arith, length-map k.events unlinked))
 
-    byte-left : (stage : Stage) → IsAsFar k (reached stage old) → Waited stage text old → is_byte_waiting stage ≡ true → k.position < length text.seats
-    byte-left end_waits far waited e = absurd (cc)
-    byte-left byte_waits far waited e = omega (arith, far.0, waited.1)
-    byte-left byte_read far waited e = absurd (cc)
+    byte-left : (stage : Stage) → IsAsFar k (reached stage old) → Waited stage text old → (v : W) → waits_in stage w ≡ Some v → class_in class text k.position ≡ Some v
+    byte-left end_waits far waited v e = absurd (cc)
+    byte-left byte_waits far waited v e = ap (class_in class text) far.0 ∙ subst (λ x. class_of class (current_of text old.position x) ≡ w) waited.0 here ∙ e
+    byte-left byte_read far waited v e = absurd (cc)
 
-    is-saved : not p.fresh ≡ true → (not (is_void_last (last_or None p.spans)) || p.bare) ≡ true → IsSavedIn g text k.position (outline k) (base ++ p.spans) (frame_of p) (saved_at k)
+    is-saved : not p.fresh ≡ true → (not (is_void_last (last_or None p.spans)) || p.bare) ≡ true → IsSavedIn class g text k.position (outline k) (base ++ p.spans) (frame_of w p) (saved_at k)
     is-saved old_spans void =
         let left : s.exit_place ≡ (sight g text k).exit_place = ap (λ s. s.exit_place) seen ∙ sym (left-at g text old p.stage k h.far h.waited) in
         let began = began-on (since p.fresh p.stage s) (upto false (sight g text k).exit_place) (outline k) (λ q b. subst (λ x. stands_before q x ≡ true) left (to-before p.fresh p.stage s q old_spans b)) h.began in
@@ -110,55 +111,59 @@ module _ {W R D : Type 0} (states : List (StateRows W R D)) (g : Given) (text : 
           within = omega (arith, length-map k.events unlinked);
           began = subst (Began (upto false (exit_place_at g text k.position))) (sym whole) began;
           void = λ v. subst EndsWithEnter (sym whole) (h.bare (or-leads (is_void_last (last_or None p.spans)) p.bare void v));
-          at_byte = byte-left p.stage h.far h.waited;
+          waits = byte-left p.stage h.far h.waited;
         }
 
-    made : (kind : AttemptKind) (ok nok : State) → fits_choice states (frame_of p) kind ok nok ≡ true → IsSavedIn g text k.position (outline k) (base ++ p.spans) (frame_of p) (saved_at k)
-        → AreWaiting states g text k.position (outline k) (base ++ p.spans) (choice_made_at kind ok nok k ∷ choices)
-    made Check ok nok fit saved = (record { frame = frame_of p; below = base; stack_is = refl; fits = fit; saved = saved; within = h.within }, subst (λ es. AreWaiting states g text k.position es base choices) (sym whole) waiting)
-    made Attempt ok Nok fit saved = (record { frame = frame_of p; below = base; stack_is = refl; fits = fit; saved = tt; within = h.within }, waiting)
-    made Attempt ok (Next name) fit saved = (record { frame = frame_of p; below = base; stack_is = refl; fits = fit; saved = saved; within = h.within }, subst (λ es. AreWaiting states g text k.position es base choices) (sym whole) waiting)
-    made Attempt ok (Retry name) fit saved = (record { frame = frame_of p; below = base; stack_is = refl; fits = fit; saved = saved; within = h.within }, subst (λ es. AreWaiting states g text k.position es base choices) (sym whole) waiting)
-    made Attempt ok Ok fit saved = (record { frame = frame_of p; below = base; stack_is = refl; fits = fit; saved = saved; within = h.within }, subst (λ es. AreWaiting states g text k.position es base choices) (sym whole) waiting)
-    made Attempt ok (Error message) fit saved = (record { frame = frame_of p; below = base; stack_is = refl; fits = fit; saved = saved; within = h.within }, subst (λ es. AreWaiting states g text k.position es base choices) (sym whole) waiting)
+    made : (kind : AttemptKind) (ok nok : State) → fits_choice states (frame_of w p) kind ok nok ≡ true → IsSavedIn class g text k.position (outline k) (base ++ p.spans) (frame_of w p) (saved_at k)
+        → AreWaiting class states g text k.position (outline k) (base ++ p.spans) (choice_made_at kind ok nok k ∷ choices)
+    made Check ok nok fit saved = (record { frame = frame_of w p; below = base; stack_is = refl; fits = fit; saved = saved; within = h.within }, subst (λ es. AreWaiting class states g text k.position es base choices) (sym whole) waiting)
+    made Attempt ok Nok fit saved = (record { frame = frame_of w p; below = base; stack_is = refl; fits = fit; saved = tt; within = h.within }, waiting)
+    made Attempt ok (Next name) fit saved = (record { frame = frame_of w p; below = base; stack_is = refl; fits = fit; saved = saved; within = h.within }, subst (λ es. AreWaiting class states g text k.position es base choices) (sym whole) waiting)
+    made Attempt ok (Retry name) fit saved = (record { frame = frame_of w p; below = base; stack_is = refl; fits = fit; saved = saved; within = h.within }, subst (λ es. AreWaiting class states g text k.position es base choices) (sym whole) waiting)
+    made Attempt ok Ok fit saved = (record { frame = frame_of w p; below = base; stack_is = refl; fits = fit; saved = saved; within = h.within }, subst (λ es. AreWaiting class states g text k.position es base choices) (sym whole) waiting)
+    made Attempt ok (Error message) fit saved = (record { frame = frame_of w p; below = base; stack_is = refl; fits = fit; saved = saved; within = h.within }, subst (λ es. AreWaiting class states g text k.position es base choices) (sym whole) waiting)
 
   -- choices wait after an act
-  waits-after : (act : Act R D) (acts : List (Act R D)) (old : Configuration R D) (p : Shape) (base : List EventName) (s : Sight) (k : Configuration R D) (choices : List Choice) → allows act p ≡ true
-      → fits_choices states (act ∷ acts) p ≡ true → HasShape p base s g text old k choices → s ≡ sight_at p.stage (sight g text old) → AreWaiting states g text k.position (outline k) base choices
-      → AreWaiting states g text (done act s k).position (outline (done act s k)) (below_after act p base) (with_choice_of act k choices) × (fits_choices states acts (after act p) ≡ true)
-  waits-after (enters name link) acts old p base s k choices can fit h seen waiting =
+  waits-after : (act : Act R D) (acts : List (Act R D)) (old : Configuration R D) (w : Option W) → class_of class (sight g text old).current ≡ w → (p : Shape) (base : List EventName) (s : Sight) (k : Configuration R D) (choices : List Choice) → allows act p ≡ true
+      → fits_choices states w (act ∷ acts) p ≡ true → HasShape p base s g text old k choices → s ≡ sight_at p.stage (sight g text old) → AreWaiting class states g text k.position (outline k) base choices
+      → AreWaiting class states g text (done act s k).position (outline (done act s k)) (below_after act p base) (with_choice_of act k choices) × (fits_choices states w acts (after act p) ≡ true)
+  waits-after (enters name link) acts old w here p base s k choices can fit h seen waiting =
       let (more, grown) = adds-one (enters name link) s k in (more-waiting choices base k.position k.position (outline k) _ more (omega arith) grown waiting, fit)
-  waits-after (exit name) acts old p base s k choices can fit h seen waiting =
+  waits-after (exit name) acts old w here p base s k choices can fit h seen waiting =
       let (more, grown) = adds-one (exit name) s k in (more-waiting choices base k.position k.position (outline k) _ more (omega arith) grown waiting, fit)
-  waits-after consume acts old p base s k choices can fit h seen waiting = (more-waiting choices base k.position (k.position + 1) (outline k) (outline k) [] (omega arith) (sym (append-nil (outline k))) waiting, fit)
-  waits-after (links previous next) acts old p base s k choices can fit h seen waiting =
+  waits-after consume acts old w here p base s k choices can fit h seen waiting = (more-waiting choices base k.position (k.position + 1) (outline k) (outline k) [] (omega arith) (sym (append-nil (outline k))) waiting, fit)
+  waits-after (links previous next) acts old w here p base s k choices can fit h seen waiting =
       let (more, grown) = adds-one (links previous next) s k in (more-waiting choices base k.position k.position (outline k) _ more (omega arith) grown waiting, fit)
-  waits-after (write f) acts old p base s k choices can fit h seen waiting = (waiting, fit)
-  waits-after (choose kind ok nok) acts old p base s k choices can fit h seen waiting =
+  waits-after (write f) acts old w here p base s k choices can fit h seen waiting = (waiting, fit)
+  waits-after (choose kind ok nok) acts old w here p base s k choices can fit h seen waiting =
       let (one, rest) = and_parts _ _ fit in
       let (old_spans, void) = and_parts _ _ can in
-      (made old p base s k choices h seen waiting kind ok nok one (is-saved old p base s k choices h seen waiting old_spans void), rest)
+      (made old w here p base s k choices h seen waiting kind ok nok one (is-saved old w here p base s k choices h seen waiting old_spans void), rest)
 
-  pub waits-after-all : (acts : List (Act R D)) (old : Configuration R D) (p : Shape) (base : List EventName) (s : Sight) (k : Configuration R D) (choices : List Choice) → allows_all acts p ≡ true
-      → fits_choices states acts p ≡ true → IsSeenAhead p.stage s → HasShape p base s g text old k choices → s ≡ sight_at p.stage (sight g text old) → AreWaiting states g text k.position (outline k) base choices
-      → AreWaiting states g text (does acts s k).position (outline (does acts s k)) (below_all acts p base) (chooses acts s k choices)
-  waits-after-all [] old p base s k choices can fit sees h seen waiting = waiting
-  waits-after-all (act ∷ acts) old p base s k choices can fit sees h seen waiting =
+  pub waits-after-all : (acts : List (Act R D)) (old : Configuration R D) (w : Option W) → class_of class (sight g text old).current ≡ w → (p : Shape) (base : List EventName) (s : Sight) (k : Configuration R D) (choices : List Choice) → allows_all acts p ≡ true
+      → fits_choices states w acts p ≡ true → IsSeenAhead p.stage s → HasShape p base s g text old k choices → s ≡ sight_at p.stage (sight g text old) → AreWaiting class states g text k.position (outline k) base choices
+      → AreWaiting class states g text (does acts s k).position (outline (does acts s k)) (below_all acts p base) (chooses acts s k choices)
+  waits-after-all [] old w here p base s k choices can fit sees h seen waiting = waiting
+  waits-after-all (act ∷ acts) old w here p base s k choices can fit sees h seen waiting =
       let (one, rest) = and_parts _ _ can in
-      let (now, fits) = waits-after act acts old p base s k choices one fit h seen waiting in
-      waits-after-all acts old (after act p) (below_after act p base) (seen_after act s) (done act s k) (with_choice_of act k choices) rest fits (sees-after act p s sees)
+      let (now, fits) = waits-after act acts old w here p base s k choices one fit h seen waiting in
+      waits-after-all acts old w here (after act p) (below_after act p base) (seen_after act s) (done act s k) (with_choice_of act k choices) rest fits (sees-after act p s sees)
       (has-after g text old act p base s k choices one sees h) (sight-after act p (sight g text old) s one seen) now
 
 -- if the text goes on, what was saved is as it was
-module _ {W R D : Type 0} (states : List (StateRows W R D)) (g : Given) (text more : Text) (e : Extends text more) where
+module _ {W R D : Type 0} (class : ℕ → W) (states : List (StateRows W R D)) (g : Given) (text more : Text) (e : Extends text more) where
   pub place-kept : (p : ℕ) → p ≤ length text.seats → exit_place_at g more p ≡ exit_place_at g text p
   place-kept p h = ap (shown g.bytes) (left-kept text more p e h)
 
-  pub longer-text : length text.seats ≤ length more.seats
-  longer-text = omega (arith, ap length e.seats, length-append text.seats e.more)
+  -- the byte at a position stays
+  pub class-kept : (p : ℕ) (w : W) → class_in class text p ≡ Some w → class_in class more p ≡ Some w
+  class-kept p w is = elim (slice_get_cases text.seats p).1 [
+    | inl there ↦ ap (λ l. class_of class (byte_of (slice_get l p))) e.seats ∙ ap (λ o. class_of class (byte_of o)) (seat-append text.seats e.more p (slice_get_within text.seats p there.0 there.2)) ∙ is
+    | inr past ↦ let none : class_in class text p ≡ None = ap (λ o. class_of class (byte_of o)) (slice_get_past text.seats p past.0) in absurd (none-some w (sym none ∙ is))
+  ]
 
-  saved-longer : (stack : List EventName) (f : Frame) (b : Bool) (saved : Option Saved) (p : ℕ) (events : List Event) → p ≤ length text.seats → IsSaved g text p events stack f b saved
-      → IsSaved g more p events stack f b saved × (position_of saved p ≤ length text.seats)
+  saved-longer : (stack : List EventName) (f : Frame W) (b : Bool) (saved : Option Saved) (p : ℕ) (events : List Event) → p ≤ length text.seats → IsSaved class g text p events stack f b saved
+      → IsSaved class g more p events stack f b saved × (position_of saved p ≤ length text.seats)
   saved-longer stack f true (Some saved) p events inside h = (
     record {
       stack_is = h.stack_is;
@@ -166,7 +171,7 @@ module _ {W R D : Type 0} (states : List (StateRows W R D)) (g : Given) (text mo
       within = h.within;
       began = subst (λ q. Began (upto false q) (take saved.events events)) (sym (place-kept saved.position (omega (arith, h.behind)))) h.began;
       void = h.void;
-      at_byte = λ is. omega (arith, h.at_byte is, longer-text);
+      waits = λ w is. class-kept saved.position w (h.waits w is);
     },
     omega (arith, h.behind),
   )
@@ -174,7 +179,7 @@ module _ {W R D : Type 0} (states : List (StateRows W R D)) (g : Given) (text mo
   saved-longer stack f true None p events inside h = absurd h
   saved-longer stack f false (Some saved) p events inside h = absurd h
 
-  pub waiting-longer : (cs : List Choice) (base : List EventName) (p : ℕ) (events : List Event) → p ≤ length text.seats → AreWaiting states g text p events base cs → AreWaiting states g more p events base cs
+  pub waiting-longer : (cs : List Choice) (base : List EventName) (p : ℕ) (events : List Event) → p ≤ length text.seats → AreWaiting class states g text p events base cs → AreWaiting class states g more p events base cs
   waiting-longer [] base p events inside h = h
   waiting-longer (c ∷ cs) base p events inside h =
       let w = h.0 in

@@ -16,7 +16,7 @@ use Rattle.markdown_tokenizer.specs.Text.{Given, Text}
 use Rattle.markdown_tokenizer.specs.Configuration.{Configuration, Local, Choice}
 use Rattle.markdown_tokenizer.specs.Sight.{byte_of}
 use Rattle.mdconstructs_machines.specs.Tables.{counts}
-use Rattle.mdconstructs_text.specs.Items.{Item, autolink, item_length, passes, has_byte_at, is_scheme_byte, is_scheme, is_allowed, uri, autolink_to, autolink_at, is_colon, is_greater_than, is_less_than}
+use Rattle.mdconstructs_text.specs.Items.{Item, autolink, item_length, passes, has_byte_at, is_scheme_byte, is_allowed, uri, autolink_to, autolink_at, is_colon, is_greater_than, is_less_than}
 use Rattle.mdconstructs_text.specs.TextEvents.{bytes_of, item_events}
 use Rattle.mdconstructs_text.specs.TextTable.{links_by_itself}
 use Rattle.mdconstructs_text.proofs.Texts.Steps.{EndsWith, Leads, between_items, leads-fed, leads-ok, fed-is}
@@ -25,7 +25,7 @@ use Rattle.mdconstructs_text.proofs.Plain.Stretches.{byte-behind, run-ends, foun
 use Rattle.mdconstructs_text.proofs.Plain.Items.{outer, Tried, byte-rows, leads-tried}
 use Rattle.mdconstructs_text.proofs.Autolinks.Steps.{link_spans, in_link, begun_link, marker-read, colon-read, reads-allowed, closing-read, Refused, refused-fed, open-seen, scheme-seen, too-short, link-seen}
 use Rattle.mdconstructs_text.proofs.Autolinks.Events.{IsJoined, link-events}
-use Rattle.mdconstructs_text.proofs.Autolinks.Schemes.{scheme-read, scheme-too-long}
+use Rattle.mdconstructs_text.proofs.Autolinks.Schemes.{is_long_enough, front-is-scheme, scheme-read, scheme-too-long}
 
 -- what a test of two sizes says
 at-most : (m n : ℕ) (b : Bool) → nat_le m n ≡ b → cond b (m ≤ n) (n < m)
@@ -170,7 +170,10 @@ module _ (g : Given) (text : Text) (joined : IsJoined g text) (p : ℕ) (ended :
 
   -- whether it has a scheme, and a colon behind it
   abbrev is_link : Bool
-  is_link = is_scheme (bytes_of (r ∷ rs)) scheme_length && has_byte_at (bytes_of (r ∷ rs)) scheme_length is_colon
+  is_link = is_long_enough (bytes_of (r ∷ rs)) scheme_length && has_byte_at (bytes_of (r ∷ rs)) scheme_length is_colon
+
+  uri-is : uri (bytes_of (r ∷ rs)) ≡ cond is_link (Some inside) None
+  uri-is = ap (λ b. cond (b && has_byte_at (bytes_of (r ∷ rs)) scheme_length is_colon) (Some inside) None) (front-is-scheme (bytes_of (r ∷ rs)))
 
   -- if it has, all allowed bytes behind that are read
   takes-link : (local : Local Unit Unit) → is_link ≡ true → starts local (autolink_to (bytes_of (s ∷ r ∷ rs)) (Some inside))
@@ -201,10 +204,12 @@ module _ (g : Given) (text : Text) (joined : IsJoined g text) (p : ℕ) (ended :
 
   -- so the tests of the item decide
   pub decides-link : (local : Local Unit Unit) → starts local (autolink_to (bytes_of (s ∷ r ∷ rs)) (uri (bytes_of (r ∷ rs))))
-  decides-link local = elim is_link as (λ b. is_link ≡ b → starts local (autolink_to (bytes_of (s ∷ r ∷ rs)) (cond b (Some inside) None))) [
-    | true ↦ takes-link local
-    | false ↦ refuses-link local
-  ] refl
+  decides-link local =
+      subst (λ o. starts local (autolink_to (bytes_of (s ∷ r ∷ rs)) o)) (sym uri-is)
+      (elim is_link as (λ b. is_link ≡ b → starts local (autolink_to (bytes_of (s ∷ r ∷ rs)) (cond b (Some inside) None))) [
+        | true ↦ takes-link local
+        | false ↦ refuses-link local
+      ] refl)
 
 module _ (g : Given) (text : Text) where
   -- Where an autolink may begin, with the construct on, it is read, or what was tried leaves nothing

@@ -1,10 +1,12 @@
 -- The scheme of an autolink, as the machine of texts reads it: byte by byte, up to 32 of them.
-use Rattle.std.proofs.Common.{◌≡◌, ℕ, ◌+◌, ◌<◌, ◌≤◌, ◌∷◌, [], List, Bool, true, false, cond, refl, sym, ap, subst, arith, drop, nat_lt}
+use Rattle.std.proofs.Common.{◌≡◌, ℕ, zero, suc, ◌+◌, ◌<◌, ◌≤◌, ◌∷◌, [], List, Bool, true, false, cond, ◌&&◌, refl, sym, ◌∙◌, ap, subst, arith, take, drop, nat_le, nat_lt}
+use Rattle.std.proofs.Math.Bool.{and-true}
 use Rattle.std.proofs.lemmas.Bool.{lt-ltb}
 use Rattle.std.proofs.lemmas.Bool.Decides.{nat_tests}
 use Rattle.std.proofs.lemmas.Option.{slice_get_within}
 use Rattle.std.specs.Char.{is_ascii_alphabetic}
-use Rattle.std.specs.List.{prefix_len}
+use Rattle.std.proofs.lemmas.List.Folds.{length-prefix_len}
+use Rattle.std.specs.List.{list_all, prefix_len}
 use Rattle.markdown_base.proofs.Common.{drop-next}
 use Rattle.markdown_base.specs.declared.event.Event.{Event}
 use Rattle.markdown_base.specs.declared.state.State.TheVariants.{Next, Retry}
@@ -13,7 +15,7 @@ use Rattle.markdown_base.specs.Virtual.{Seat}
 use Rattle.markdown_tokenizer.specs.Text.{Given, Text}
 use Rattle.markdown_tokenizer.specs.Configuration.{Local, Choice}
 use Rattle.mdconstructs_machines.specs.Tables.{counts}
-use Rattle.mdconstructs_text.specs.Items.{is_scheme_byte}
+use Rattle.mdconstructs_text.specs.Items.{has_byte_at, is_scheme_byte, is_scheme}
 use Rattle.mdconstructs_text.specs.TextEvents.{bytes_of}
 use Rattle.mdconstructs_text.specs.TextTable.{more_than}
 use Rattle.mdconstructs_text.proofs.Texts.Steps.{EndsWith, Leads, leads-fed, fed-is}
@@ -31,6 +33,35 @@ one-more n h = grind (arith, nat_tests)
 -- if there is room, the size is below the bound
 below-room : (n : ℕ) → nat_lt n 32 ≡ true → n < 32
 below-room n h = grind (arith, nat_tests)
+
+-- so many bytes are enough for a scheme, and not too many, and the first is a letter
+abbrev pub is_long_enough : List ℕ → ℕ → Bool
+is_long_enough text n = nat_le 2 n && (nat_le n 32 && has_byte_at text 0 is_ascii_alphabetic)
+
+-- all bytes up to the first that no scheme has are bytes of schemes
+all-scheme : (text : List ℕ) → list_all is_scheme_byte (take (prefix_len is_scheme_byte text) text) ≡ true
+all-scheme [] = refl
+all-scheme (b ∷ bs) = elim (is_scheme_byte b) as (λ t. is_scheme_byte b ≡ t → list_all is_scheme_byte (take (cond t (1 + prefix_len is_scheme_byte bs) 0) (b ∷ bs)) ≡ true) [
+  | true ↦ λ e.
+      let one : 1 + prefix_len is_scheme_byte bs ≡ suc (prefix_len is_scheme_byte bs) = omega arith in
+      ap (λ n. list_all is_scheme_byte (take n (b ∷ bs))) one ∙ ap (λ t. t && list_all is_scheme_byte (take (prefix_len is_scheme_byte bs) bs)) e ∙ all-scheme bs
+  | false ↦ λ e. refl
+] refl
+
+-- the first byte is that of the whole text
+first-of : (n : ℕ) (text : List ℕ) → is_long_enough (take n text) n ≡ is_long_enough text n
+first-of zero text = refl
+first-of (suc n) [] = refl
+first-of (suc n) (b ∷ bs) = refl
+
+-- so they are a scheme if they are long enough
+pub front-is-scheme : (text : List ℕ) → let n = prefix_len is_scheme_byte text in is_scheme (take n text) ≡ is_long_enough text n
+front-is-scheme text =
+    let n = prefix_len is_scheme_byte text in
+    ap (λ l. nat_le 2 l && (nat_le l 32 && (has_byte_at (take n text) 0 is_ascii_alphabetic && list_all is_scheme_byte (take n text)))) (length-prefix_len is_scheme_byte text)
+    ∙ ap (λ t. nat_le 2 n && (nat_le n 32 && (has_byte_at (take n text) 0 is_ascii_alphabetic && t))) (all-scheme text)
+    ∙ ap (λ t. nat_le 2 n && (nat_le n 32 && t)) (and-true (has_byte_at (take n text) 0 is_ascii_alphabetic))
+    ∙ first-of n text
 
 -- how long a scheme is that begins with a letter
 pub scheme-is : (r : Seat) (rs : List Seat) → is_ascii_alphabetic r.byte ≡ true → prefix_len is_scheme_byte (bytes_of (r ∷ rs)) ≡ 1 + prefix_len is_scheme_byte (bytes_of rs)

@@ -1,12 +1,12 @@
 -- The place of the backtick string that closes a code span: it is looked for from the front, a byte at a time.
-use Rattle.std.proofs.Common.{◌≡◌, ℕ, zero, suc, ◌+◌, ◌-◌, ◌<◌, ◌∷◌, [], List, Bool, true, false, cond, not, ◌&&◌, ◌||◌, ◌==◌, refl, sym, ◌∙◌, ap, subst, Option, Some, None, arith, length, drop, option_map, max}
+use Rattle.std.proofs.Common.{◌≡◌, ℕ, zero, suc, ◌+◌, ◌-◌, ◌<◌, ◌∷◌, [], List, Bool, true, false, cond, not, ◌&&◌, ◌||◌, ◌==◌, refl, sym, ◌∙◌, ap, subst, Option, Some, None, arith, length, take, drop, option_map, max}
 use Rattle.std.proofs.Math.Bool.{and-false}
 use Rattle.std.proofs.lemmas.List.{drop-drop}
 use Rattle.std.proofs.lemmas.Bool.{eqb-true}
 use Rattle.std.proofs.lemmas.Bool.Decides.{nat_tests}
-use Rattle.std.specs.List.{position_or_len, find, range_with_len}
+use Rattle.std.specs.List.{last_or, position_or_len, find, range_with_len}
 use Rattle.markdown_base.proofs.Common.{and-right}
-use Rattle.mdconstructs_text.specs.Items.{code_span, line_ending, plain_run, has_byte_at, is_line_feed, is_backtick_or_line_feed, backticks, is_backtick_string, closing, code_span_at, part_length, part_at, plain_length, is_backtick}
+use Rattle.mdconstructs_text.specs.Items.{code_span, line_ending, plain_run, passes, ends_with, is_line_feed, is_backtick_or_line_feed, backticks, is_backtick_string, code_span_at, part_length, part_at, plain_length, is_backtick}
 
 -- the place of the first backtick string of exactly k, by whether a backtick precedes the front
 abbrev pub first_run : (k : ℕ) → (before : Bool) → List ℕ → Option ℕ
@@ -39,29 +39,27 @@ or-true : (a : Bool) → (a || true) ≡ false → ⊥
 or-true true e = absurd (cc)
 or-true false e = absurd (cc)
 
--- the byte at a position
-at-place : (text : List ℕ) (i b : ℕ) (bs : List ℕ) → drop i text ≡ b ∷ bs → has_byte_at text i is_backtick ≡ (b == 96)
-at-place [] zero b bs h = absurd (cc)
-at-place [] (suc i) b bs h = absurd (cc)
-at-place (x ∷ xs) zero b bs h = let e : x ≡ b = cc in ap (λ n. n == 96) e
-at-place (x ∷ xs) (suc i) b bs h = at-place xs i b bs h
+-- the last byte up to a position, and that one
+last-behind : (o : Option ℕ) (text : List ℕ) (i b : ℕ) (bs : List ℕ) → drop i text ≡ b ∷ bs → last_or o (take (suc i) text) ≡ Some b
+last-behind o [] zero b bs h = absurd (cc)
+last-behind o [] (suc i) b bs h = absurd (cc)
+last-behind o (x ∷ xs) zero b bs h = let e : x ≡ b = cc in ap Some e
+last-behind o (x ∷ xs) (suc i) b bs h = last-behind (Some x) xs i b bs h
 
-module _ (text : List ℕ) (k : ℕ) (some : 0 < k) where
+module _ (text : List ℕ) (k : ℕ) where
   -- what is found from a position on
-  found : (rest : List ℕ) (i : ℕ) (before : Bool) → drop i text ≡ rest → has_byte_at text (i - 1) is_backtick ≡ before
-      → find (is_backtick_string text k) (range_with_len i (suc (length rest))) ≡ further i (first_run k before rest)
-  found [] i before at is =
-      let no : is_backtick_string text k i ≡ false = ap (λ l. not (has_byte_at text (i - 1) is_backtick) && (backticks l == k)) at ∙ ap (λ b. not (has_byte_at text (i - 1) is_backtick) && b) (not-none k some) ∙ and-false _ in
-      ap (λ b. cond b (Some i) None) no
+  found : (rest : List ℕ) (i : ℕ) (before : Bool) → drop i text ≡ rest → ends_with (take i text) is_backtick ≡ before
+      → find (is_backtick_string text k) (range_with_len i (length rest)) ≡ further i (first_run k before rest)
+  found [] i before at is = refl
   found (b ∷ bs) i before at is =
-      let here : is_backtick_string text k i ≡ (not before && (backticks (b ∷ bs) == k)) = ap (λ l. not (has_byte_at text (i - 1) is_backtick) && (backticks l == k)) at ∙ ap (λ c. not c && (backticks (b ∷ bs) == k)) is in
+      let here : is_backtick_string text k i ≡ (not before && (backticks (b ∷ bs) == k)) = ap (λ l. not (ends_with (take i text) is_backtick) && (backticks l == k)) at ∙ ap (λ c. not c && (backticks (b ∷ bs) == k)) is in
       let next : drop (i + 1) text ≡ bs = sym (drop-drop 1 i text) ∙ ap (drop 1) at in
-      let same : i + 1 - 1 ≡ i = omega arith in
-      let front : has_byte_at text (i + 1 - 1) is_backtick ≡ (b == 96) = ap (λ n. has_byte_at text n is_backtick) same ∙ at-place text i b bs at in
+      let one : i + 1 ≡ suc i = omega arith in
+      let front : ends_with (take (i + 1) text) is_backtick ≡ (b == 96) = ap (λ n. ends_with (take n text) is_backtick) one ∙ ap (passes is_backtick) (last-behind None text i b bs at) in
       let others = found bs (i + 1) (b == 96) next front ∙ further-suc i (first_run k (b == 96) bs) in
       let zero-behind : i + 0 ≡ i = omega arith in
-      ap (λ c. cond c (Some i) (find (is_backtick_string text k) (range_with_len (i + 1) (suc (length bs))))) here
-      ∙ elim (not before && (backticks (b ∷ bs) == k)) as (λ t. cond t (Some i) (find (is_backtick_string text k) (range_with_len (i + 1) (suc (length bs)))) ≡ further i (cond t (Some 0) (option_map suc (first_run k (b == 96) bs)))) [
+      ap (λ c. cond c (Some i) (find (is_backtick_string text k) (range_with_len (i + 1) (length bs)))) here
+      ∙ elim (not before && (backticks (b ∷ bs) == k)) as (λ t. cond t (Some i) (find (is_backtick_string text k) (range_with_len (i + 1) (length bs))) ≡ further i (cond t (Some 0) (option_map suc (first_run k (b == 96) bs)))) [
         | true ↦ ap Some (sym zero-behind)
         | false ↦ others
       ]
@@ -156,20 +154,12 @@ passes-piece k some b bs h =
 pub first-here : (k : ℕ) (b : ℕ) (bs : List ℕ) → (backticks (b ∷ bs) == k) ≡ true → first_run k false (b ∷ bs) ≡ Some 0
 first-here k b bs h = ap (λ t. cond t (Some 0) (option_map suc (first_run k (b == 96) bs))) h
 
--- behind the backtick string that opens a code span
-closing-behind : (bs : List ℕ) → let text = 96 ∷ bs in closing text (backticks text) ≡ further (backticks text) (first_run (backticks text) false (drop (backticks text) text))
-closing-behind bs =
-    let k = backticks (96 ∷ bs) in
-    let some : 0 < 1 + backticks bs = omega arith in
-    let one : suc (backticks bs) ≡ 1 + backticks bs = omega arith in
-    found (96 ∷ bs) k some bs 1 true refl refl ∙ ap (further 1) (passes-run k some bs) ∙ further-further 1 (backticks bs) _
-    ∙ ap (λ n. further (1 + backticks bs) (first_run k false (drop n (96 ∷ bs)))) one
-
 -- A code span is there if a backtick string that closes it is found behind the one that opens it
 pub code-span-found : (bs : List ℕ) → let text = 96 ∷ bs in code_span_at text ≡ option_map (code_span (backticks text)) (first_run (backticks text) false (drop (backticks text) text))
 code-span-found bs =
-    let k = backticks (96 ∷ bs) in
-    ap (option_map (λ p. code_span k (p - k))) (closing-behind bs) ∙ inside k (first_run k false (drop k (96 ∷ bs)))
+    let text = 96 ∷ bs in
+    let k = backticks text in
+    ap (option_map (code_span k)) (found (drop k text) k (drop k text) 0 false refl refl ∙ no-further (first_run k false (drop k text)))
 
 -- a place that was found, from one byte further on
 found-behind : (o : Option ℕ) (m : ℕ) → option_map suc o ≡ Some m → (n : ℕ) × (o ≡ Some n) × (m ≡ suc n)

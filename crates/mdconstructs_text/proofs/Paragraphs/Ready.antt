@@ -14,12 +14,12 @@ use Rattle.markdown_edits.specs.Links.{AreMutual}
 use Rattle.markdown_tokenizer.proofs.Readings.Plain.{no-links-shape}
 use Rattle.markdown_children.specs.Ready.{IsReady}
 use Rattle.mdconstructs_tables.proofs.KeptByReading.{kept-well, lawful-kept, holds-at-start}
-use Rattle.mdconstructs_tables.proofs.Tables.Knowledge.{knowing-invariant_kept}
+use Rattle.mdconstructs_tables.proofs.Tables.Lawful.{knowing-lawful}
 use Rattle.mdconstructs_machines.specs.Paragraphs.{paragraphs, knows_chunk, paragraphs_rules}
 use Rattle.mdconstructs_machines.specs.Laws.Paragraphs.{paragraphs-fit, paragraphs-known}
 use Rattle.mdconstructs_text.specs.ChainTexts.{HasReadableChains}
 use Rattle.mdconstructs_text.specs.TextRules.{text_rules}
-use Rattle.mdconstructs_text.specs.Laws.Rules.{text-invariant_kept}
+use Rattle.mdconstructs_text.specs.Laws.Rules.{text-lawful}
 use Rattle.mdconstructs_text.proofs.Paragraphs.ChunkPairs.{no-chunks}
 use Rattle.mdconstructs_text.proofs.Paragraphs.ChunksReady.{chunks-are-ready}
 use Rattle.mdconstructs_text.proofs.Paragraphs.Steps.{Known, ReadsFlow, flow-kept}
@@ -47,13 +47,13 @@ module _ (rules : Given → Rules Unit Unit) where
 
 pub paragraphs-readable : HasReadableChains paragraphs_rules FlowStart
 paragraphs-readable =
-    readable paragraphs_rules (λ g. knowing-invariant_kept paragraphs knows_chunk g paragraphs-fit paragraphs-known)
+    readable paragraphs_rules (λ g. (knowing-lawful paragraphs knows_chunk g paragraphs-fit paragraphs-known).invariant_kept)
     (λ g document. record { flow_start = λ k. refl; line_start = λ k. refl; start = λ k. refl; inside = λ k. refl }) (λ g. (0, omega arith, (cc)))
     (λ g text k h balanced i j. let shape = h.known.shape in (shape.on i j, shape.back i j))
 
 pub text-readable : HasReadableChains text_rules FlowStart
 text-readable =
-    readable text_rules text-invariant_kept (λ g document. record { flow_start = λ k. refl; line_start = λ k. refl; start = λ k. refl; inside = λ k. refl }) (λ g. (0, omega arith, (cc)))
+    readable text_rules (λ g. (text-lawful g).invariant_kept) (λ g document. record { flow_start = λ k. refl; line_start = λ k. refl; start = λ k. refl; inside = λ k. refl }) (λ g. (0, omega arith, (cc)))
     (λ g text k h balanced. elim h [
       | inl h ↦ (let shape = h.known.shape in λ i j. (shape.on i j, shape.back i j))
       | inr h ↦ (no-links-shape k.events h.0.2 balanced).chained

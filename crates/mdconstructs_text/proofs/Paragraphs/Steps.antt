@@ -22,7 +22,8 @@ use Rattle.markdown_children.specs.Ready.{place_at}
 use Rattle.mdconstructs_tables.specs.LinkShapes.{next_end}
 use Rattle.mdconstructs_tables.specs.Rows.{Rows, class_of, picked, step_of}
 use Rattle.mdconstructs_tables.proofs.KeptByReading.{IsKept}
-use Rattle.mdconstructs_tables.proofs.Tables.Knowledge.{EachRow, picked-row}
+use Rattle.mdconstructs_tables.specs.Knowledge.{EachRow}
+use Rattle.mdconstructs_tables.proofs.Tables.Knowledge.{picked-row}
 use Rattle.mdconstructs_machines.specs.Tables.{LineByte, line_ending, other, line_byte, counts}
 use Rattle.mdconstructs_machines.specs.Paragraphs.{flow_start_rows, paragraph_line_start_rows, paragraph_start_rows, paragraph_inside_rows, chunk_before}
 use Rattle.mdconstructs_machines.specs.Laws.Paragraphs.{chunk_at, begins-chunk}

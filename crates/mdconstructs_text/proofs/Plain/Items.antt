@@ -15,7 +15,7 @@ use Rattle.markdown_tokenizer.specs.Configuration.{Configuration, Local, Choice}
 use Rattle.markdown_tokenizer.specs.Sight.{Sight, sight, byte_of}
 use Rattle.mdconstructs_tables.specs.Rows.{Row, row, choose, class_of, step_of}
 use Rattle.mdconstructs_machines.specs.Tables.{counts}
-use Rattle.mdconstructs_text.specs.Items.{Item, line_ending, plain_run, code_span, escape, part, item_length, item_at, passes, is_special, backticks, closing, plain_length, uri, autolink_to, code_span_at, autolink_at, escape_at, if_on, or_else}
+use Rattle.mdconstructs_text.specs.Items.{Item, line_ending, plain_run, code_span, escape, part, item_length, item_at, passes, is_special, backticks, before_backtick_string, plain_length, uri, autolink_to, code_span_at, autolink_at, escape_at, if_on, or_else}
 use Rattle.mdconstructs_text.specs.TextCosts.{text_byte}
 use Rattle.mdconstructs_text.specs.TextEvents.{bytes_of, item_events}
 use Rattle.mdconstructs_text.specs.TextTable.{text_before_rows, tries, spans_code, links_by_itself, escapes}
@@ -70,7 +70,7 @@ four false false false false h = (refl, refl, refl, refl)
 pub plain-at : (on : Constructs) (b : ℕ) (bs : List ℕ) → is_special b ≡ false → item_at on (b ∷ bs) ≡ part (plain_run (plain_length is_special (b ∷ bs)))
 plain-at on b bs h =
     let none = four (b == 10) (b == 96) (b == 60) (b == 92) h in
-    let code = λ (t : Bool). cond t (option_map (λ p. code_span (backticks (b ∷ bs)) (p - backticks (b ∷ bs))) (closing (b ∷ bs) (backticks (b ∷ bs)))) None in
+    let code = λ (t : Bool). cond t (option_map (code_span (backticks (b ∷ bs))) (before_backtick_string (backticks (b ∷ bs)) (drop (backticks (b ∷ bs)) (b ∷ bs)))) None in
     let link = λ (t : Bool). cond t (autolink_to (b ∷ bs) (uri bs)) None in
     let escaped = λ (t : Bool). cond (t && passes is_ascii_punctuation (slice_get (b ∷ bs) 1)) (Some escape) None in
     let end = λ (t : Bool). part (cond t line_ending (plain_run (plain_length is_special (b ∷ bs)))) in

@@ -17,7 +17,7 @@ use Rattle.markdown_tokenizer.proofs.Readings.Bounds.{one-end}
 use Rattle.mdconstructs_tables.proofs.KeptByReading.{IsKept, kept-well, holds-at-start}
 use Rattle.mdconstructs_text.specs.TextEvents.{text_events}
 use Rattle.mdconstructs_text.specs.TextRules.{inline_rules, text_rules}
-use Rattle.mdconstructs_text.specs.Laws.Rules.{texts-apart, inline-kept}
+use Rattle.mdconstructs_text.specs.Laws.Rules.{texts-apart, inline-lawful}
 use Rattle.mdconstructs_text.proofs.Texts.FromStart.{from-start}
 use Rattle.mdconstructs_text.proofs.CodeSpans.Short.{runs-of-text}
 use Rattle.mdconstructs_text.proofs.Texts.Steps.{text_step}
@@ -30,7 +30,7 @@ module _ (g : Given) (text : Text) (is : IsText g text) where
 
   in-texts-kept : IsKept g (text_step g) text InTexts
   in-texts-kept =
-      let law = inline-kept g in
+      let law = (inline-lawful g).invariant_kept in
       record {
         by_feeding = λ k cs name h. law.by_feeding text k cs name is h;
         by_calls = λ k cs name h. let e = (texts-apart g).second_called text k cs name h in rw e (law.by_calls text k cs name is h);
@@ -68,4 +68,4 @@ module _ (g : Given) (text : Text) (is : IsText g text) (flag : Bool) where
         let there = from-start g text flag (adds-each-item g text is (runs-of-text g text is)) 0 in ap (λ (q : Reading Unit Unit). q.configuration.events) there-same ∙ there.1.2
 
     pub reading-plain : IsPlain r.configuration
-    reading-plain = (kept-well g (text_step g) text (InTexts g text is) (in-texts-kept g text is) 0 (start_configuration flag) (Next TextStart) r (holds-at-start g (inline_rules g) (inline-kept g) text is flag TextStart starts-so) ends reading-well).0
+    reading-plain = (kept-well g (text_step g) text (InTexts g text is) (in-texts-kept g text is) 0 (start_configuration flag) (Next TextStart) r (holds-at-start g (inline_rules g) ((inline-lawful g).invariant_kept) text is flag TextStart starts-so) ends reading-well).0

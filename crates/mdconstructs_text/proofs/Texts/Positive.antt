@@ -3,14 +3,14 @@ use Rattle.std.proofs.Common.{ℕ, ◌+◌, ◌-◌, ◌<◌, ◌∷◌, List, B
 use Rattle.std.specs.List.{prefix_len, position_or_len}
 use Rattle.std.specs.Char.{is_ascii_punctuation}
 use Rattle.markdown_base.specs.declared.configuration.Constructs.{Constructs}
-use Rattle.mdconstructs_text.specs.Items.{line_ending, plain_run, Item, code_span, autolink, escape, part_length, item_length, has_byte_at, passes, is_special, is_backtick, backticks, closing, uri, autolink_to, code_span_at, autolink_at, escape_at, if_on, or_else, is_backslash, is_greater_than, is_less_than, is_line_feed}
+use Rattle.mdconstructs_text.specs.Items.{line_ending, plain_run, Item, code_span, autolink, escape, part_length, item_length, has_byte_at, passes, is_special, is_backtick, backticks, before_backtick_string, uri, autolink_to, code_span_at, autolink_at, escape_at, if_on, or_else, is_backslash, is_greater_than, is_less_than, is_line_feed}
 use Rattle.mdconstructs_text.proofs.Texts.Whole.{ItemsArePositive}
 
 abbrev Pos : Option Item → Type 0
 Pos None = Unit {0}
 Pos (Some item) = 0 < item_length item
 
-code-positive : (t : Bool) (n : ℕ) (o : Option ℕ) → Pos (cond t (option_map (λ p. code_span (cond t (1 + n) 0) (p - cond t (1 + n) 0)) o) None)
+code-positive : (t : Bool) (n : ℕ) (o : Option ℕ) → Pos (cond t (option_map (code_span (cond t (1 + n) 0)) o) None)
 code-positive true n None = tt
 code-positive true n (Some p) = omega arith
 code-positive false n o = tt
@@ -46,7 +46,7 @@ else-positive (Some y) x h i = h
 pub items-positive : (on : Constructs) → ItemsArePositive on
 items-positive on b bs =
     let text = b ∷ bs in
-    else-positive (if_on on.code_text (code_span_at text)) _ (on-positive on.code_text (code_span_at text) (code-positive (b == 96) (prefix_len is_backtick bs) (closing text (backticks text))))
+    else-positive (if_on on.code_text (code_span_at text)) _ (on-positive on.code_text (code_span_at text) (code-positive (b == 96) (prefix_len is_backtick bs) (before_backtick_string (backticks text) (drop (backticks text) text))))
     (else-positive (if_on on.autolink (autolink_at text)) _ (on-positive on.autolink (autolink_at text) (autolink-positive (has_byte_at text 0 is_less_than) text (uri bs)))
     (else-positive (if_on on.character_escape (escape_at text)) _ (on-positive on.character_escape (escape_at text) (escape-positive (has_byte_at text 0 is_backslash && passes is_ascii_punctuation (slice_get text 1))))
     (piece-positive (has_byte_at text 0 is_line_feed) (max 1 (backticks text)) (position_or_len is_special (drop (max 1 (backticks text)) text)) (at-least-one (backticks text)))))

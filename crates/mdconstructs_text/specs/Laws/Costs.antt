@@ -125,8 +125,8 @@ break-tick n p w x h e =
 pub break-other : (u : ℕ) (w : Option TextByte) → is_tick w ≡ false → 1 + (outside u + 1 + 0) ≤ cond (is_tick w) (4 * (u * u) + u - 1) (outside u + 2)
 break-other u w e = rw e (omega arith)
 
-pub construct : (n p : ℕ) (w : Option TextByte) → p < n → w ≡ Some backtick → 1 + (cond (is_tick w) (7 * (n - p) - 3) 1 + (max (outside (n - (p + 1))) (max 1 (4 * ((n - p) * (n - p)) + (n - p))) + 0)) ≤ outside (n - p)
-construct n p w h e = rw (e, next-left n p h) (omega arith)
+pub construct : (n p : ℕ) → p < n → 1 + (7 * (n - p) - 3 + (max (outside (n - (p + 1))) (max 1 (4 * ((n - p) * (n - p)) + (n - p))) + 0)) ≤ outside (n - p)
+construct n p h = rw (next-left n p h) (omega arith)
 
 pub short-construct : (n p : ℕ) → p < n → 1 + (n - p + 1 + (max (outside (n - (p + 1))) (max 1 (4 * ((n - p) * (n - p)) + (n - p))) + 0)) ≤ outside (n - p)
 short-construct n p h = rw (next-left n p h) (omega arith)
@@ -134,11 +134,8 @@ short-construct n p h = rw (next-left n p h) (omega arith)
 pub data-instead : (n p : ℕ) → p < n → 1 + (max 1 (4 * ((n - p) * (n - p)) + (n - p)) + 0) ≤ outside (n - p)
 data-instead n p h = rw (next-left n p h) (omega arith)
 
-pub raw-start : (n p : ℕ) (w : Option TextByte) → p < n → w ≡ Some backtick → 1 + (cond (is_tick w) (7 * (n - p) - 4) (7 * (n - p) + 2) + 0) ≤ cond (is_tick w) (7 * (n - p) - 3) 1
+pub raw-start : (n p : ℕ) (w : Option TextByte) → p < n → w ≡ Some backtick → 1 + (cond (is_tick w) (7 * (n - p) - 4) (7 * (n - p) + 2) + 0) ≤ 7 * (n - p) - 3
 raw-start n p w h e = rw (e, next-left n p h) (omega arith)
-
-pub raw-start-other : (u : ℕ) (w : Option TextByte) → is_tick w ≡ false → 1 + (0 + 0) ≤ cond (is_tick w) (7 * u - 3) 1
-raw-start-other u w e = rw e (omega arith)
 
 pub open-tick : (n p : ℕ) (w x : Option TextByte) → p < n → w ≡ Some backtick → 1 + (cond (is_tick x) (7 * (n - (p + 1)) - 4) (7 * (n - (p + 1)) + 2) + 0) ≤ cond (is_tick w) (7 * (n - p) - 4) (7 * (n - p) + 2)
 open-tick n p w x h e =
@@ -149,8 +146,8 @@ open-tick n p w x h e =
 pub open-other : (u : ℕ) (w : Option TextByte) → is_tick w ≡ false → 1 + (7 * u + 1 + 0) ≤ cond (is_tick w) (7 * u - 4) (7 * u + 2)
 open-other u w e = rw e (omega arith)
 
-pub between-tick : (u r : ℕ) (w : Option TextByte) → 1 ≤ r → r ≤ u → w ≡ Some backtick → 1 + (r + 1 + (max 1 (cond (is_tick w) (7 * u - 6 * r + 4) 1) + 0)) ≤ 7 * u + 1
-between-tick u r w h k e = rw e (omega (arith, h, k))
+pub between-tick : (u r : ℕ) → 1 ≤ r → r ≤ u → 1 + (r + 1 + (max 1 (7 * u - 6 * r + 4) + 0)) ≤ 7 * u + 1
+between-tick u r h k = omega (arith, h, k)
 
 pub between-other : (n p : ℕ) (w : Option TextByte) → p < n → ends_code_data w ≡ false → 1 + (cond (ends_code_data w) (7 * (n - p) + 2) (7 * (n - p) - 4) + 0) ≤ 7 * (n - p) + 1
 between-other n p w h e = rw (e, next-left n p h) (omega arith)
@@ -168,11 +165,8 @@ raw-data-other n p w x h e =
 pub close-tick : (r s : ℕ) → r ≡ suc s → 1 + (s + 1 + 0) ≤ r + 1
 close-tick r s h = omega (arith, h)
 
-pub before-chunk : (u r : ℕ) (w : Option TextByte) → w ≡ Some backtick → 1 + (7 * u - 6 * r + 3 + 0) ≤ cond (is_tick w) (7 * u - 6 * r + 4) 1
-before-chunk u r w e = rw e (omega arith)
-
-pub before-chunk-other : (u r : ℕ) (w : Option TextByte) → is_tick w ≡ false → 1 + (0 + 0) ≤ cond (is_tick w) (7 * u - 6 * r + 4) 1
-before-chunk-other u r w e = rw e (omega arith)
+pub before-chunk : (u r : ℕ) → 1 + (7 * u - 6 * r + 3 + 0) ≤ 7 * u - 6 * r + 4
+before-chunk u r = omega arith
 
 pub chunk-tick : (n p r s : ℕ) → p < n → r ≡ suc s → s ≤ n - (p + 1) → 1 + (7 * (n - (p + 1)) - 6 * s + 3 + 0) ≤ 7 * (n - p) - 6 * r + 3
 chunk-tick n p r s h e k = rw (e, next-left n p h) (omega (arith, k))

@@ -10,17 +10,16 @@ use Rattle.markdown_tokenizer.specs.Text.{Given, Text}
 use Rattle.markdown_tokenizer.specs.Configuration.{Configuration, Choice, TokenizerValue, start_configuration}
 use Rattle.markdown_tokenizer.specs.Rules.{Rules}
 use Rattle.markdown_tokenizer.specs.Engine.{HoldsOf}
-use Rattle.markdown_tokenizer.specs.Lawful.{ConsumesOnce, OnlyAdds, EndsWhenRead, KeepsInvariant, CostPays, ResolversKeep}
-use Rattle.markdown_tokenizer.proofs.Readings.Plain.{consumes_once, only_adds, ends_when_read, invariant_kept, cost_pays, resolvers_keep}
+use Rattle.markdown_tokenizer.specs.Lawful.{IsLawful}
 use Rattle.mdconstructs_tables.specs.Joined.{has_state}
 use Rattle.mdconstructs_tables.specs.Late.{late_rules}
 use Rattle.mdconstructs_tables.specs.RowInvariant.{table_holds}
-use Rattle.mdconstructs_tables.specs.RowTest.{misfits}
-use Rattle.mdconstructs_tables.proofs.Tables.Laws.{IsFit, no-falls}
-use Rattle.mdconstructs_tables.proofs.Tables.Knowledge.{IsKnown, knowing-consumes_once, knowing-only_adds, knowing-ends_when_read, knowing-invariant_kept, knowing-cost_pays, knowing-resolvers_keep}
-use Rattle.mdconstructs_tables.proofs.Tables.Late.{late-consumes_once, late-only_adds, late-ends_when_read, late-invariant_kept, late-cost_pays}
-use Rattle.mdconstructs_tables.proofs.Tables.PlainWrites.{table-keeps_plain_writing}
-use Rattle.mdconstructs_tables.proofs.Tables.Joined.{AreApart, HaveOtherNames, fed-state, called-state, is-other, of-first, of-second, joined-consumes_once, joined-only_adds, joined-ends_when_read, joined-invariant_kept, joined-cost_pays, joined-resolvers_keep}
+use Rattle.mdconstructs_tables.specs.Misfits.{misfits}
+use Rattle.mdconstructs_tables.specs.Fitting.{IsFit}
+use Rattle.mdconstructs_tables.specs.Knowledge.{IsKnown}
+use Rattle.mdconstructs_tables.proofs.Tables.Lawful.{knowing-lawful, late-lawful, joined-lawful}
+use Rattle.mdconstructs_tables.specs.Joined.{AreApart}
+use Rattle.mdconstructs_tables.proofs.Tables.Joined.{HaveOtherNames, fed-state, called-state, is-other, of-first, of-second}
 use Rattle.mdconstructs_machines.specs.Tables.{LineByte, line_ending, other}
 use Rattle.mdconstructs_machines.specs.Paragraphs.{knows_chunk}
 use Rattle.mdconstructs_machines.specs.Laws.Paragraphs.{paragraphs-known}
@@ -34,7 +33,7 @@ fits previous (Some line_ending) = refl
 fits previous (Some other) = refl
 
 pub flow-fit : IsFit flow
-flow-fit = record { fits = fits; paid = (tt, (tt, (tt, (tt, tt)))); falls = no-falls }
+flow-fit = record { fits = fits; paid = (tt, (tt, (tt, (tt, tt)))); falls = (tt, (tt, (tt, (tt, tt)))) }
 
 at-start : (flag : Bool) → let k : Configuration Unit Unit = start_configuration flag in All (λ name. knows_chunk k.events k.local [] (Next name)) flow.starts
 at-start flag =
@@ -71,44 +70,13 @@ texts-apart g = record {
   one_resolver = refl;
 }
 
--- the laws of both
-module _ (g : Given) where
-  abbrev late : Rules Unit Unit
-  late = late_rules texts begins_construct follows_construct g
+-- texts are lawful, and paragraphs and texts together are
+pub inline-lawful : (g : Given) → IsLawful g (inline_rules g)
+inline-lawful g = late-lawful texts begins_construct follows_construct g texts-late texts-plain
 
-  flow-kept : KeepsInvariant g (flow_rules g)
-  flow-kept = knowing-invariant_kept flow knows_chunk g flow-fit flow-known
-
-  pub inline-kept : KeepsInvariant g (inline_rules g)
-  inline-kept = invariant_kept g late (table-keeps_plain_writing texts g texts-plain) (late-invariant_kept texts begins_construct follows_construct g texts-late)
-
-  pub text-consumes_once : ConsumesOnce g (text_rules g)
-  text-consumes_once =
-      joined-consumes_once (has_state flow.states) g (flow_rules g) (inline_rules g) (texts-apart g) (knowing-consumes_once flow knows_chunk g flow-fit flow-known)
-      (consumes_once g late (late-consumes_once texts begins_construct follows_construct g texts-late))
-
-  pub text-only_adds : OnlyAdds g (text_rules g)
-  text-only_adds =
-      joined-only_adds (has_state flow.states) g (flow_rules g) (inline_rules g) (texts-apart g) (knowing-only_adds flow knows_chunk g flow-fit flow-known)
-      (only_adds g late (late-only_adds texts begins_construct follows_construct g texts-late))
-
-  pub text-ends_when_read : EndsWhenRead g (text_rules g)
-  text-ends_when_read =
-      joined-ends_when_read (has_state flow.states) g (flow_rules g) (inline_rules g) (texts-apart g) (knowing-ends_when_read flow knows_chunk g flow-fit flow-known)
-      (ends_when_read g late (late-ends_when_read texts begins_construct follows_construct g texts-late))
-
-  pub text-invariant_kept : KeepsInvariant g (text_rules g)
-  text-invariant_kept = joined-invariant_kept (has_state flow.states) g (flow_rules g) (inline_rules g) (texts-apart g) flow-kept inline-kept
-
-  pub text-cost_pays : CostPays g (text_rules g)
-  text-cost_pays =
-      joined-cost_pays (has_state flow.states) g (flow_rules g) (inline_rules g) (texts-apart g) flow-kept inline-kept (knowing-cost_pays flow knows_chunk g flow-fit flow-known)
-      (cost_pays g late (late-cost_pays texts begins_construct follows_construct g texts-late))
-
-  pub text-resolvers_keep : ResolversKeep g (text_rules g)
-  text-resolvers_keep =
-      joined-resolvers_keep (has_state flow.states) g (flow_rules g) (inline_rules g) (texts-apart g) (knowing-resolvers_keep flow knows_chunk g flow-fit flow-known)
-      (resolvers_keep g late)
+pub text-lawful : (g : Given) → IsLawful g (text_rules g)
+text-lawful g =
+    joined-lawful (has_state flow.states) g (flow_rules g) (inline_rules g) (texts-apart g) (knowing-lawful flow knows_chunk g flow-fit flow-known) (inline-lawful g)
 
 -- what holds if the machine is called with a name of paragraphs, or of texts
 pub in-paragraphs : {M : Type 0} (t : TokenizerValue M Unit Unit) (name : Name) (n : ℕ) → name.number ≡ n → has_state flow.states (record { number = n }) ≡ true → HoldsOf (text_rules t.given) t (Retry name)

@@ -1,20 +1,15 @@
 -- The table of the machine of texts passes the tests and its own cost pays, so that the machine is lawful.
-use Rattle.std.proofs.Common.{◌≡◌, ℕ, ◌+◌, ◌-◌, ◌≤◌, ◌==◌, [], true, Option, Some, None, length, drop, refl, sym, ap, subst, arith, inl, inr}
-use Rattle.std.proofs.lemmas.Bool.Decides.{nat_tests}
-use Rattle.markdown_base.specs.declared.state.Name.{Name}
-use Rattle.markdown_base.specs.declared.state.TheConstants.Name.{TextBefore, RawFlowAfter}
-use Rattle.markdown_tokenizer.specs.Text.{Text}
+use Rattle.std.proofs.Common.{◌≡◌, ℕ, ◌+◌, ◌-◌, ◌≤◌, ◌==◌, [], true, false, Option, Some, None, length, drop, refl, sym, ap, subst, arith}
 use Rattle.mdconstructs_tables.specs.Late.{hasty}
 use Rattle.mdconstructs_tables.specs.PlainTables.{IsPlainWrite}
 use Rattle.mdconstructs_tables.specs.PlainWrites.{StatesWritePlain, WritesPlain}
-use Rattle.mdconstructs_tables.specs.RowTest.{misfits}
+use Rattle.mdconstructs_tables.specs.Misfits.{misfits}
 use Rattle.mdconstructs_tables.specs.RowInvariant.{PaysRows}
-use Rattle.mdconstructs_tables.proofs.Tables.Laws.{IsFitBy}
-use Rattle.mdconstructs_tables.proofs.Tables.Late.{IsLate}
-use Rattle.mdconstructs_text.specs.TextCosts.{TextByte, line_feed, backtick, less, greater, backslash, colon, letter, digit, mark, punctuation, blank, other, is_tick, ends_code_data, leading, waits_at, text_cost}
+use Rattle.mdconstructs_tables.specs.Fitting.{IsFitBy}
+use Rattle.mdconstructs_tables.specs.Late.{IsLate}
+use Rattle.mdconstructs_text.specs.TextCosts.{TextByte, line_feed, backtick, less, greater, backslash, colon, letter, digit, mark, punctuation, blank, other, is_tick, ends_code_data, leading, waits_at}
 use Rattle.mdconstructs_text.specs.TextTable.{size_b_is, size_c_is, size_b_grows, size_c_grows, text_start, text_before, text_before_data, data_at_break, data_inside, raw_text_start, raw_text_sequence_open, raw_text_between, raw_text_data, raw_text_sequence_close, raw_flow_after, raw_flow_before_content_chunk, raw_flow_content_chunk, autolink_start, autolink_open, autolink_scheme, autolink_url, escape_start, escape_inside, text_states, texts, begins_construct, follows_construct}
-use Rattle.std.proofs.lemmas.Bool.{or_cases}
-use Rattle.mdconstructs_text.specs.Laws.Costs.{outside-falls, outside-later, leading-left, at-tick, at-other, data-tick, data-other, break-tick, break-other, construct, short-construct, data-instead, raw-start, raw-start-other, open-tick, open-other, between-tick, between-other, raw-data-ends, raw-data-other, close-tick, before-chunk, before-chunk-other, chunk-tick, chunk-other, chunk-end}
+use Rattle.mdconstructs_text.specs.Laws.Costs.{outside-falls, outside-later, leading-left, at-tick, at-other, data-tick, data-other, break-tick, break-other, construct, short-construct, data-instead, raw-start, open-tick, open-other, between-tick, between-other, raw-data-ends, raw-data-other, close-tick, before-chunk, chunk-tick, chunk-other, chunk-end}
 
 fits : (previous current : Option TextByte) → misfits texts previous current ≡ []
 fits previous None = refl
@@ -48,282 +43,276 @@ late previous (Some other) = refl
 
 -- A call, with what it goes on with
 text-start-pays : PaysRows texts true text_start None
-text-start-pays b w text p read at seen = omega arith
+text-start-pays b w text p read at seen called = omega arith
 
 text-before-pays : PaysRows texts true text_before None
-text-before-pays b None text p read at seen = omega arith
-text-before-pays b (Some line_feed) text p read at seen = omega (arith, outside-later (length text.seats) p at)
-text-before-pays b (Some backtick) text p read at seen = (construct (length text.seats) p (waits_at text p) at seen, data-instead (length text.seats) p at)
-text-before-pays b (Some less) text p read at seen = (short-construct (length text.seats) p at, data-instead (length text.seats) p at)
-text-before-pays b (Some greater) text p read at seen = data-instead (length text.seats) p at
-text-before-pays b (Some backslash) text p read at seen = (short-construct (length text.seats) p at, data-instead (length text.seats) p at)
-text-before-pays b (Some colon) text p read at seen = data-instead (length text.seats) p at
-text-before-pays b (Some letter) text p read at seen = data-instead (length text.seats) p at
-text-before-pays b (Some digit) text p read at seen = data-instead (length text.seats) p at
-text-before-pays b (Some mark) text p read at seen = data-instead (length text.seats) p at
-text-before-pays b (Some punctuation) text p read at seen = data-instead (length text.seats) p at
-text-before-pays b (Some blank) text p read at seen = data-instead (length text.seats) p at
-text-before-pays b (Some other) text p read at seen = data-instead (length text.seats) p at
+text-before-pays b None text p read at seen called = omega arith
+text-before-pays b (Some line_feed) text p read at seen called = omega (arith, outside-later (length text.seats) p at)
+text-before-pays b (Some backtick) text p read at seen called = (construct (length text.seats) p at, data-instead (length text.seats) p at)
+text-before-pays b (Some less) text p read at seen called = (short-construct (length text.seats) p at, data-instead (length text.seats) p at)
+text-before-pays b (Some greater) text p read at seen called = data-instead (length text.seats) p at
+text-before-pays b (Some backslash) text p read at seen called = (short-construct (length text.seats) p at, data-instead (length text.seats) p at)
+text-before-pays b (Some colon) text p read at seen called = data-instead (length text.seats) p at
+text-before-pays b (Some letter) text p read at seen called = data-instead (length text.seats) p at
+text-before-pays b (Some digit) text p read at seen called = data-instead (length text.seats) p at
+text-before-pays b (Some mark) text p read at seen called = data-instead (length text.seats) p at
+text-before-pays b (Some punctuation) text p read at seen called = data-instead (length text.seats) p at
+text-before-pays b (Some blank) text p read at seen called = data-instead (length text.seats) p at
+text-before-pays b (Some other) text p read at seen called = data-instead (length text.seats) p at
 
 text-before-data-pays : PaysRows texts true text_before_data None
-text-before-data-pays b None text p read at seen = omega arith
-text-before-data-pays b (Some line_feed) text p read at seen = data-other (length text.seats) p at
-text-before-data-pays b (Some backtick) text p read at seen = data-tick (length text.seats) p (waits_at text p) at seen
-text-before-data-pays b (Some less) text p read at seen = data-other (length text.seats) p at
-text-before-data-pays b (Some greater) text p read at seen = data-other (length text.seats) p at
-text-before-data-pays b (Some backslash) text p read at seen = data-other (length text.seats) p at
-text-before-data-pays b (Some colon) text p read at seen = data-other (length text.seats) p at
-text-before-data-pays b (Some letter) text p read at seen = data-other (length text.seats) p at
-text-before-data-pays b (Some digit) text p read at seen = data-other (length text.seats) p at
-text-before-data-pays b (Some mark) text p read at seen = data-other (length text.seats) p at
-text-before-data-pays b (Some punctuation) text p read at seen = data-other (length text.seats) p at
-text-before-data-pays b (Some blank) text p read at seen = data-other (length text.seats) p at
-text-before-data-pays b (Some other) text p read at seen = data-other (length text.seats) p at
+text-before-data-pays b None text p read at seen called = absurd (cc)
+text-before-data-pays b (Some line_feed) text p read at seen called = data-other (length text.seats) p at
+text-before-data-pays b (Some backtick) text p read at seen called = data-tick (length text.seats) p (waits_at text p) at seen
+text-before-data-pays b (Some less) text p read at seen called = data-other (length text.seats) p at
+text-before-data-pays b (Some greater) text p read at seen called = data-other (length text.seats) p at
+text-before-data-pays b (Some backslash) text p read at seen called = data-other (length text.seats) p at
+text-before-data-pays b (Some colon) text p read at seen called = data-other (length text.seats) p at
+text-before-data-pays b (Some letter) text p read at seen called = data-other (length text.seats) p at
+text-before-data-pays b (Some digit) text p read at seen called = data-other (length text.seats) p at
+text-before-data-pays b (Some mark) text p read at seen called = data-other (length text.seats) p at
+text-before-data-pays b (Some punctuation) text p read at seen called = data-other (length text.seats) p at
+text-before-data-pays b (Some blank) text p read at seen called = data-other (length text.seats) p at
+text-before-data-pays b (Some other) text p read at seen called = data-other (length text.seats) p at
 
 data-at-break-pays : PaysRows texts true data_at_break None
-data-at-break-pays b None text p read at seen = break-other (length text.seats - p) (waits_at text p) (ap is_tick seen)
-data-at-break-pays b (Some line_feed) text p read at seen = break-other (length text.seats - p) (waits_at text p) (ap is_tick seen)
-data-at-break-pays b (Some backtick) text p read at seen = break-tick (length text.seats) p (waits_at text p) (waits_at text (p + 1)) at seen
-data-at-break-pays b (Some less) text p read at seen = break-other (length text.seats - p) (waits_at text p) (ap is_tick seen)
-data-at-break-pays b (Some greater) text p read at seen = break-other (length text.seats - p) (waits_at text p) (ap is_tick seen)
-data-at-break-pays b (Some backslash) text p read at seen = break-other (length text.seats - p) (waits_at text p) (ap is_tick seen)
-data-at-break-pays b (Some colon) text p read at seen = break-other (length text.seats - p) (waits_at text p) (ap is_tick seen)
-data-at-break-pays b (Some letter) text p read at seen = break-other (length text.seats - p) (waits_at text p) (ap is_tick seen)
-data-at-break-pays b (Some digit) text p read at seen = break-other (length text.seats - p) (waits_at text p) (ap is_tick seen)
-data-at-break-pays b (Some mark) text p read at seen = break-other (length text.seats - p) (waits_at text p) (ap is_tick seen)
-data-at-break-pays b (Some punctuation) text p read at seen = break-other (length text.seats - p) (waits_at text p) (ap is_tick seen)
-data-at-break-pays b (Some blank) text p read at seen = break-other (length text.seats - p) (waits_at text p) (ap is_tick seen)
-data-at-break-pays b (Some other) text p read at seen = break-other (length text.seats - p) (waits_at text p) (ap is_tick seen)
+data-at-break-pays b None text p read at seen called = break-other (length text.seats - p) (waits_at text p) (ap is_tick seen)
+data-at-break-pays b (Some line_feed) text p read at seen called = break-other (length text.seats - p) (waits_at text p) (ap is_tick seen)
+data-at-break-pays b (Some backtick) text p read at seen called = break-tick (length text.seats) p (waits_at text p) (waits_at text (p + 1)) at seen
+data-at-break-pays b (Some less) text p read at seen called = break-other (length text.seats - p) (waits_at text p) (ap is_tick seen)
+data-at-break-pays b (Some greater) text p read at seen called = break-other (length text.seats - p) (waits_at text p) (ap is_tick seen)
+data-at-break-pays b (Some backslash) text p read at seen called = break-other (length text.seats - p) (waits_at text p) (ap is_tick seen)
+data-at-break-pays b (Some colon) text p read at seen called = break-other (length text.seats - p) (waits_at text p) (ap is_tick seen)
+data-at-break-pays b (Some letter) text p read at seen called = break-other (length text.seats - p) (waits_at text p) (ap is_tick seen)
+data-at-break-pays b (Some digit) text p read at seen called = break-other (length text.seats - p) (waits_at text p) (ap is_tick seen)
+data-at-break-pays b (Some mark) text p read at seen called = break-other (length text.seats - p) (waits_at text p) (ap is_tick seen)
+data-at-break-pays b (Some punctuation) text p read at seen called = break-other (length text.seats - p) (waits_at text p) (ap is_tick seen)
+data-at-break-pays b (Some blank) text p read at seen called = break-other (length text.seats - p) (waits_at text p) (ap is_tick seen)
+data-at-break-pays b (Some other) text p read at seen called = break-other (length text.seats - p) (waits_at text p) (ap is_tick seen)
 
 data-inside-pays : PaysRows texts true data_inside None
-data-inside-pays b None text p read at seen = omega arith
-data-inside-pays b (Some line_feed) text p read at seen = omega arith
-data-inside-pays b (Some backtick) text p read at seen = omega arith
-data-inside-pays b (Some less) text p read at seen = omega arith
-data-inside-pays b (Some greater) text p read at seen = omega (arith, outside-later (length text.seats) p at)
-data-inside-pays b (Some backslash) text p read at seen = omega arith
-data-inside-pays b (Some colon) text p read at seen = omega (arith, outside-later (length text.seats) p at)
-data-inside-pays b (Some letter) text p read at seen = omega (arith, outside-later (length text.seats) p at)
-data-inside-pays b (Some digit) text p read at seen = omega (arith, outside-later (length text.seats) p at)
-data-inside-pays b (Some mark) text p read at seen = omega (arith, outside-later (length text.seats) p at)
-data-inside-pays b (Some punctuation) text p read at seen = omega (arith, outside-later (length text.seats) p at)
-data-inside-pays b (Some blank) text p read at seen = omega (arith, outside-later (length text.seats) p at)
-data-inside-pays b (Some other) text p read at seen = omega (arith, outside-later (length text.seats) p at)
+data-inside-pays b None text p read at seen called = omega arith
+data-inside-pays b (Some line_feed) text p read at seen called = omega arith
+data-inside-pays b (Some backtick) text p read at seen called = omega arith
+data-inside-pays b (Some less) text p read at seen called = omega arith
+data-inside-pays b (Some greater) text p read at seen called = omega (arith, outside-later (length text.seats) p at)
+data-inside-pays b (Some backslash) text p read at seen called = omega arith
+data-inside-pays b (Some colon) text p read at seen called = omega (arith, outside-later (length text.seats) p at)
+data-inside-pays b (Some letter) text p read at seen called = omega (arith, outside-later (length text.seats) p at)
+data-inside-pays b (Some digit) text p read at seen called = omega (arith, outside-later (length text.seats) p at)
+data-inside-pays b (Some mark) text p read at seen called = omega (arith, outside-later (length text.seats) p at)
+data-inside-pays b (Some punctuation) text p read at seen called = omega (arith, outside-later (length text.seats) p at)
+data-inside-pays b (Some blank) text p read at seen called = omega (arith, outside-later (length text.seats) p at)
+data-inside-pays b (Some other) text p read at seen called = omega (arith, outside-later (length text.seats) p at)
 
 raw-text-start-pays : PaysRows texts true raw_text_start None
-raw-text-start-pays b None text p read at seen = raw-start-other (length text.seats - p) (waits_at text p) (ap is_tick seen)
-raw-text-start-pays b (Some line_feed) text p read at seen = raw-start-other (length text.seats - p) (waits_at text p) (ap is_tick seen)
-raw-text-start-pays b (Some backtick) text p read at seen = raw-start (length text.seats) p (waits_at text p) at seen
-raw-text-start-pays b (Some less) text p read at seen = raw-start-other (length text.seats - p) (waits_at text p) (ap is_tick seen)
-raw-text-start-pays b (Some greater) text p read at seen = raw-start-other (length text.seats - p) (waits_at text p) (ap is_tick seen)
-raw-text-start-pays b (Some backslash) text p read at seen = raw-start-other (length text.seats - p) (waits_at text p) (ap is_tick seen)
-raw-text-start-pays b (Some colon) text p read at seen = raw-start-other (length text.seats - p) (waits_at text p) (ap is_tick seen)
-raw-text-start-pays b (Some letter) text p read at seen = raw-start-other (length text.seats - p) (waits_at text p) (ap is_tick seen)
-raw-text-start-pays b (Some digit) text p read at seen = raw-start-other (length text.seats - p) (waits_at text p) (ap is_tick seen)
-raw-text-start-pays b (Some mark) text p read at seen = raw-start-other (length text.seats - p) (waits_at text p) (ap is_tick seen)
-raw-text-start-pays b (Some punctuation) text p read at seen = raw-start-other (length text.seats - p) (waits_at text p) (ap is_tick seen)
-raw-text-start-pays b (Some blank) text p read at seen = raw-start-other (length text.seats - p) (waits_at text p) (ap is_tick seen)
-raw-text-start-pays b (Some other) text p read at seen = raw-start-other (length text.seats - p) (waits_at text p) (ap is_tick seen)
+raw-text-start-pays b None text p read at seen called = absurd (cc)
+raw-text-start-pays b (Some line_feed) text p read at seen called = absurd (cc)
+raw-text-start-pays b (Some backtick) text p read at seen called = raw-start (length text.seats) p (waits_at text p) at seen
+raw-text-start-pays b (Some less) text p read at seen called = absurd (cc)
+raw-text-start-pays b (Some greater) text p read at seen called = absurd (cc)
+raw-text-start-pays b (Some backslash) text p read at seen called = absurd (cc)
+raw-text-start-pays b (Some colon) text p read at seen called = absurd (cc)
+raw-text-start-pays b (Some letter) text p read at seen called = absurd (cc)
+raw-text-start-pays b (Some digit) text p read at seen called = absurd (cc)
+raw-text-start-pays b (Some mark) text p read at seen called = absurd (cc)
+raw-text-start-pays b (Some punctuation) text p read at seen called = absurd (cc)
+raw-text-start-pays b (Some blank) text p read at seen called = absurd (cc)
+raw-text-start-pays b (Some other) text p read at seen called = absurd (cc)
 
 raw-text-sequence-open-pays : PaysRows texts true raw_text_sequence_open None
-raw-text-sequence-open-pays b None text p read at seen = open-other (length text.seats - p) (waits_at text p) (ap is_tick seen)
-raw-text-sequence-open-pays b (Some line_feed) text p read at seen = open-other (length text.seats - p) (waits_at text p) (ap is_tick seen)
-raw-text-sequence-open-pays b (Some backtick) text p read at seen = open-tick (length text.seats) p (waits_at text p) (waits_at text (p + 1)) at seen
-raw-text-sequence-open-pays b (Some less) text p read at seen = open-other (length text.seats - p) (waits_at text p) (ap is_tick seen)
-raw-text-sequence-open-pays b (Some greater) text p read at seen = open-other (length text.seats - p) (waits_at text p) (ap is_tick seen)
-raw-text-sequence-open-pays b (Some backslash) text p read at seen = open-other (length text.seats - p) (waits_at text p) (ap is_tick seen)
-raw-text-sequence-open-pays b (Some colon) text p read at seen = open-other (length text.seats - p) (waits_at text p) (ap is_tick seen)
-raw-text-sequence-open-pays b (Some letter) text p read at seen = open-other (length text.seats - p) (waits_at text p) (ap is_tick seen)
-raw-text-sequence-open-pays b (Some digit) text p read at seen = open-other (length text.seats - p) (waits_at text p) (ap is_tick seen)
-raw-text-sequence-open-pays b (Some mark) text p read at seen = open-other (length text.seats - p) (waits_at text p) (ap is_tick seen)
-raw-text-sequence-open-pays b (Some punctuation) text p read at seen = open-other (length text.seats - p) (waits_at text p) (ap is_tick seen)
-raw-text-sequence-open-pays b (Some blank) text p read at seen = open-other (length text.seats - p) (waits_at text p) (ap is_tick seen)
-raw-text-sequence-open-pays b (Some other) text p read at seen = open-other (length text.seats - p) (waits_at text p) (ap is_tick seen)
+raw-text-sequence-open-pays b None text p read at seen called = open-other (length text.seats - p) (waits_at text p) (ap is_tick seen)
+raw-text-sequence-open-pays b (Some line_feed) text p read at seen called = open-other (length text.seats - p) (waits_at text p) (ap is_tick seen)
+raw-text-sequence-open-pays b (Some backtick) text p read at seen called = open-tick (length text.seats) p (waits_at text p) (waits_at text (p + 1)) at seen
+raw-text-sequence-open-pays b (Some less) text p read at seen called = open-other (length text.seats - p) (waits_at text p) (ap is_tick seen)
+raw-text-sequence-open-pays b (Some greater) text p read at seen called = open-other (length text.seats - p) (waits_at text p) (ap is_tick seen)
+raw-text-sequence-open-pays b (Some backslash) text p read at seen called = open-other (length text.seats - p) (waits_at text p) (ap is_tick seen)
+raw-text-sequence-open-pays b (Some colon) text p read at seen called = open-other (length text.seats - p) (waits_at text p) (ap is_tick seen)
+raw-text-sequence-open-pays b (Some letter) text p read at seen called = open-other (length text.seats - p) (waits_at text p) (ap is_tick seen)
+raw-text-sequence-open-pays b (Some digit) text p read at seen called = open-other (length text.seats - p) (waits_at text p) (ap is_tick seen)
+raw-text-sequence-open-pays b (Some mark) text p read at seen called = open-other (length text.seats - p) (waits_at text p) (ap is_tick seen)
+raw-text-sequence-open-pays b (Some punctuation) text p read at seen called = open-other (length text.seats - p) (waits_at text p) (ap is_tick seen)
+raw-text-sequence-open-pays b (Some blank) text p read at seen called = open-other (length text.seats - p) (waits_at text p) (ap is_tick seen)
+raw-text-sequence-open-pays b (Some other) text p read at seen called = open-other (length text.seats - p) (waits_at text p) (ap is_tick seen)
 
 raw-text-between-pays : PaysRows texts true raw_text_between None
-raw-text-between-pays b None text p read at seen = omega arith
-raw-text-between-pays b (Some line_feed) text p read at seen = omega (arith, at)
-raw-text-between-pays b (Some backtick) text p read at seen = between-tick (length text.seats - p) (leading (drop p text.seats)) (waits_at text p) (omega (arith, at-tick text p seen)) (leading-left text.seats p) seen
-raw-text-between-pays b (Some less) text p read at seen = between-other (length text.seats) p (waits_at text p) at (ap ends_code_data seen)
-raw-text-between-pays b (Some greater) text p read at seen = between-other (length text.seats) p (waits_at text p) at (ap ends_code_data seen)
-raw-text-between-pays b (Some backslash) text p read at seen = between-other (length text.seats) p (waits_at text p) at (ap ends_code_data seen)
-raw-text-between-pays b (Some colon) text p read at seen = between-other (length text.seats) p (waits_at text p) at (ap ends_code_data seen)
-raw-text-between-pays b (Some letter) text p read at seen = between-other (length text.seats) p (waits_at text p) at (ap ends_code_data seen)
-raw-text-between-pays b (Some digit) text p read at seen = between-other (length text.seats) p (waits_at text p) at (ap ends_code_data seen)
-raw-text-between-pays b (Some mark) text p read at seen = between-other (length text.seats) p (waits_at text p) at (ap ends_code_data seen)
-raw-text-between-pays b (Some punctuation) text p read at seen = between-other (length text.seats) p (waits_at text p) at (ap ends_code_data seen)
-raw-text-between-pays b (Some blank) text p read at seen = between-other (length text.seats) p (waits_at text p) at (ap ends_code_data seen)
-raw-text-between-pays b (Some other) text p read at seen = between-other (length text.seats) p (waits_at text p) at (ap ends_code_data seen)
+raw-text-between-pays b None text p read at seen called = omega arith
+raw-text-between-pays b (Some line_feed) text p read at seen called = omega (arith, at)
+raw-text-between-pays b (Some backtick) text p read at seen called = between-tick (length text.seats - p) (leading (drop p text.seats)) (omega (arith, at-tick text p seen)) (leading-left text.seats p)
+raw-text-between-pays b (Some less) text p read at seen called = between-other (length text.seats) p (waits_at text p) at (ap ends_code_data seen)
+raw-text-between-pays b (Some greater) text p read at seen called = between-other (length text.seats) p (waits_at text p) at (ap ends_code_data seen)
+raw-text-between-pays b (Some backslash) text p read at seen called = between-other (length text.seats) p (waits_at text p) at (ap ends_code_data seen)
+raw-text-between-pays b (Some colon) text p read at seen called = between-other (length text.seats) p (waits_at text p) at (ap ends_code_data seen)
+raw-text-between-pays b (Some letter) text p read at seen called = between-other (length text.seats) p (waits_at text p) at (ap ends_code_data seen)
+raw-text-between-pays b (Some digit) text p read at seen called = between-other (length text.seats) p (waits_at text p) at (ap ends_code_data seen)
+raw-text-between-pays b (Some mark) text p read at seen called = between-other (length text.seats) p (waits_at text p) at (ap ends_code_data seen)
+raw-text-between-pays b (Some punctuation) text p read at seen called = between-other (length text.seats) p (waits_at text p) at (ap ends_code_data seen)
+raw-text-between-pays b (Some blank) text p read at seen called = between-other (length text.seats) p (waits_at text p) at (ap ends_code_data seen)
+raw-text-between-pays b (Some other) text p read at seen called = between-other (length text.seats) p (waits_at text p) at (ap ends_code_data seen)
 
 raw-text-data-pays : PaysRows texts true raw_text_data None
-raw-text-data-pays b None text p read at seen = raw-data-ends (length text.seats - p) (waits_at text p) (ap ends_code_data seen)
-raw-text-data-pays b (Some line_feed) text p read at seen = raw-data-ends (length text.seats - p) (waits_at text p) (ap ends_code_data seen)
-raw-text-data-pays b (Some backtick) text p read at seen = raw-data-ends (length text.seats - p) (waits_at text p) (ap ends_code_data seen)
-raw-text-data-pays b (Some less) text p read at seen = raw-data-other (length text.seats) p (waits_at text p) (waits_at text (p + 1)) at (ap ends_code_data seen)
-raw-text-data-pays b (Some greater) text p read at seen = raw-data-other (length text.seats) p (waits_at text p) (waits_at text (p + 1)) at (ap ends_code_data seen)
-raw-text-data-pays b (Some backslash) text p read at seen = raw-data-other (length text.seats) p (waits_at text p) (waits_at text (p + 1)) at (ap ends_code_data seen)
-raw-text-data-pays b (Some colon) text p read at seen = raw-data-other (length text.seats) p (waits_at text p) (waits_at text (p + 1)) at (ap ends_code_data seen)
-raw-text-data-pays b (Some letter) text p read at seen = raw-data-other (length text.seats) p (waits_at text p) (waits_at text (p + 1)) at (ap ends_code_data seen)
-raw-text-data-pays b (Some digit) text p read at seen = raw-data-other (length text.seats) p (waits_at text p) (waits_at text (p + 1)) at (ap ends_code_data seen)
-raw-text-data-pays b (Some mark) text p read at seen = raw-data-other (length text.seats) p (waits_at text p) (waits_at text (p + 1)) at (ap ends_code_data seen)
-raw-text-data-pays b (Some punctuation) text p read at seen = raw-data-other (length text.seats) p (waits_at text p) (waits_at text (p + 1)) at (ap ends_code_data seen)
-raw-text-data-pays b (Some blank) text p read at seen = raw-data-other (length text.seats) p (waits_at text p) (waits_at text (p + 1)) at (ap ends_code_data seen)
-raw-text-data-pays b (Some other) text p read at seen = raw-data-other (length text.seats) p (waits_at text p) (waits_at text (p + 1)) at (ap ends_code_data seen)
+raw-text-data-pays b None text p read at seen called = raw-data-ends (length text.seats - p) (waits_at text p) (ap ends_code_data seen)
+raw-text-data-pays b (Some line_feed) text p read at seen called = raw-data-ends (length text.seats - p) (waits_at text p) (ap ends_code_data seen)
+raw-text-data-pays b (Some backtick) text p read at seen called = raw-data-ends (length text.seats - p) (waits_at text p) (ap ends_code_data seen)
+raw-text-data-pays b (Some less) text p read at seen called = raw-data-other (length text.seats) p (waits_at text p) (waits_at text (p + 1)) at (ap ends_code_data seen)
+raw-text-data-pays b (Some greater) text p read at seen called = raw-data-other (length text.seats) p (waits_at text p) (waits_at text (p + 1)) at (ap ends_code_data seen)
+raw-text-data-pays b (Some backslash) text p read at seen called = raw-data-other (length text.seats) p (waits_at text p) (waits_at text (p + 1)) at (ap ends_code_data seen)
+raw-text-data-pays b (Some colon) text p read at seen called = raw-data-other (length text.seats) p (waits_at text p) (waits_at text (p + 1)) at (ap ends_code_data seen)
+raw-text-data-pays b (Some letter) text p read at seen called = raw-data-other (length text.seats) p (waits_at text p) (waits_at text (p + 1)) at (ap ends_code_data seen)
+raw-text-data-pays b (Some digit) text p read at seen called = raw-data-other (length text.seats) p (waits_at text p) (waits_at text (p + 1)) at (ap ends_code_data seen)
+raw-text-data-pays b (Some mark) text p read at seen called = raw-data-other (length text.seats) p (waits_at text p) (waits_at text (p + 1)) at (ap ends_code_data seen)
+raw-text-data-pays b (Some punctuation) text p read at seen called = raw-data-other (length text.seats) p (waits_at text p) (waits_at text (p + 1)) at (ap ends_code_data seen)
+raw-text-data-pays b (Some blank) text p read at seen called = raw-data-other (length text.seats) p (waits_at text p) (waits_at text (p + 1)) at (ap ends_code_data seen)
+raw-text-data-pays b (Some other) text p read at seen called = raw-data-other (length text.seats) p (waits_at text p) (waits_at text (p + 1)) at (ap ends_code_data seen)
 
 raw-text-sequence-close-pays : PaysRows texts true raw_text_sequence_close None
-raw-text-sequence-close-pays b None text p read at seen = (omega arith, omega arith)
-raw-text-sequence-close-pays b (Some line_feed) text p read at seen = (omega arith, omega arith)
-raw-text-sequence-close-pays b (Some backtick) text p read at seen = close-tick (leading (drop p text.seats)) (leading (drop (p + 1) text.seats)) (at-tick text p seen)
-raw-text-sequence-close-pays b (Some less) text p read at seen = (omega arith, omega arith)
-raw-text-sequence-close-pays b (Some greater) text p read at seen = (omega arith, omega arith)
-raw-text-sequence-close-pays b (Some backslash) text p read at seen = (omega arith, omega arith)
-raw-text-sequence-close-pays b (Some colon) text p read at seen = (omega arith, omega arith)
-raw-text-sequence-close-pays b (Some letter) text p read at seen = (omega arith, omega arith)
-raw-text-sequence-close-pays b (Some digit) text p read at seen = (omega arith, omega arith)
-raw-text-sequence-close-pays b (Some mark) text p read at seen = (omega arith, omega arith)
-raw-text-sequence-close-pays b (Some punctuation) text p read at seen = (omega arith, omega arith)
-raw-text-sequence-close-pays b (Some blank) text p read at seen = (omega arith, omega arith)
-raw-text-sequence-close-pays b (Some other) text p read at seen = (omega arith, omega arith)
+raw-text-sequence-close-pays b None text p read at seen called = (omega arith, omega arith)
+raw-text-sequence-close-pays b (Some line_feed) text p read at seen called = (omega arith, omega arith)
+raw-text-sequence-close-pays b (Some backtick) text p read at seen called = close-tick (leading (drop p text.seats)) (leading (drop (p + 1) text.seats)) (at-tick text p seen)
+raw-text-sequence-close-pays b (Some less) text p read at seen called = (omega arith, omega arith)
+raw-text-sequence-close-pays b (Some greater) text p read at seen called = (omega arith, omega arith)
+raw-text-sequence-close-pays b (Some backslash) text p read at seen called = (omega arith, omega arith)
+raw-text-sequence-close-pays b (Some colon) text p read at seen called = (omega arith, omega arith)
+raw-text-sequence-close-pays b (Some letter) text p read at seen called = (omega arith, omega arith)
+raw-text-sequence-close-pays b (Some digit) text p read at seen called = (omega arith, omega arith)
+raw-text-sequence-close-pays b (Some mark) text p read at seen called = (omega arith, omega arith)
+raw-text-sequence-close-pays b (Some punctuation) text p read at seen called = (omega arith, omega arith)
+raw-text-sequence-close-pays b (Some blank) text p read at seen called = (omega arith, omega arith)
+raw-text-sequence-close-pays b (Some other) text p read at seen called = (omega arith, omega arith)
 
 raw-flow-after-pays : PaysRows texts true raw_flow_after None
-raw-flow-after-pays b w text p read at seen = omega arith
+raw-flow-after-pays b w text p read at seen called = omega arith
 
 raw-flow-before-content-chunk-pays : PaysRows texts true raw_flow_before_content_chunk None
-raw-flow-before-content-chunk-pays b None text p read at seen = before-chunk-other (length text.seats - p) (leading (drop p text.seats)) (waits_at text p) (ap is_tick seen)
-raw-flow-before-content-chunk-pays b (Some line_feed) text p read at seen = before-chunk-other (length text.seats - p) (leading (drop p text.seats)) (waits_at text p) (ap is_tick seen)
-raw-flow-before-content-chunk-pays b (Some backtick) text p read at seen = before-chunk (length text.seats - p) (leading (drop p text.seats)) (waits_at text p) seen
-raw-flow-before-content-chunk-pays b (Some less) text p read at seen = before-chunk-other (length text.seats - p) (leading (drop p text.seats)) (waits_at text p) (ap is_tick seen)
-raw-flow-before-content-chunk-pays b (Some greater) text p read at seen = before-chunk-other (length text.seats - p) (leading (drop p text.seats)) (waits_at text p) (ap is_tick seen)
-raw-flow-before-content-chunk-pays b (Some backslash) text p read at seen = before-chunk-other (length text.seats - p) (leading (drop p text.seats)) (waits_at text p) (ap is_tick seen)
-raw-flow-before-content-chunk-pays b (Some colon) text p read at seen = before-chunk-other (length text.seats - p) (leading (drop p text.seats)) (waits_at text p) (ap is_tick seen)
-raw-flow-before-content-chunk-pays b (Some letter) text p read at seen = before-chunk-other (length text.seats - p) (leading (drop p text.seats)) (waits_at text p) (ap is_tick seen)
-raw-flow-before-content-chunk-pays b (Some digit) text p read at seen = before-chunk-other (length text.seats - p) (leading (drop p text.seats)) (waits_at text p) (ap is_tick seen)
-raw-flow-before-content-chunk-pays b (Some mark) text p read at seen = before-chunk-other (length text.seats - p) (leading (drop p text.seats)) (waits_at text p) (ap is_tick seen)
-raw-flow-before-content-chunk-pays b (Some punctuation) text p read at seen = before-chunk-other (length text.seats - p) (leading (drop p text.seats)) (waits_at text p) (ap is_tick seen)
-raw-flow-before-content-chunk-pays b (Some blank) text p read at seen = before-chunk-other (length text.seats - p) (leading (drop p text.seats)) (waits_at text p) (ap is_tick seen)
-raw-flow-before-content-chunk-pays b (Some other) text p read at seen = before-chunk-other (length text.seats - p) (leading (drop p text.seats)) (waits_at text p) (ap is_tick seen)
+raw-flow-before-content-chunk-pays b None text p read at seen called = absurd (cc)
+raw-flow-before-content-chunk-pays b (Some line_feed) text p read at seen called = absurd (cc)
+raw-flow-before-content-chunk-pays b (Some backtick) text p read at seen called = before-chunk (length text.seats - p) (leading (drop p text.seats))
+raw-flow-before-content-chunk-pays b (Some less) text p read at seen called = absurd (cc)
+raw-flow-before-content-chunk-pays b (Some greater) text p read at seen called = absurd (cc)
+raw-flow-before-content-chunk-pays b (Some backslash) text p read at seen called = absurd (cc)
+raw-flow-before-content-chunk-pays b (Some colon) text p read at seen called = absurd (cc)
+raw-flow-before-content-chunk-pays b (Some letter) text p read at seen called = absurd (cc)
+raw-flow-before-content-chunk-pays b (Some digit) text p read at seen called = absurd (cc)
+raw-flow-before-content-chunk-pays b (Some mark) text p read at seen called = absurd (cc)
+raw-flow-before-content-chunk-pays b (Some punctuation) text p read at seen called = absurd (cc)
+raw-flow-before-content-chunk-pays b (Some blank) text p read at seen called = absurd (cc)
+raw-flow-before-content-chunk-pays b (Some other) text p read at seen called = absurd (cc)
 
 raw-flow-content-chunk-pays : PaysRows texts true raw_flow_content_chunk None
-raw-flow-content-chunk-pays b None text p read at seen = chunk-end (length text.seats - p) (leading (drop p text.seats)) (waits_at text p) (omega (arith, at))
-raw-flow-content-chunk-pays b (Some line_feed) text p read at seen = chunk-other (length text.seats - p) (leading (drop p text.seats)) (waits_at text p) (at-other text p line_feed seen refl)
-raw-flow-content-chunk-pays b (Some backtick) text p read at seen = chunk-tick (length text.seats) p (leading (drop p text.seats)) (leading (drop (p + 1) text.seats)) at (at-tick text p seen) (leading-left text.seats (p + 1))
-raw-flow-content-chunk-pays b (Some less) text p read at seen = chunk-other (length text.seats - p) (leading (drop p text.seats)) (waits_at text p) (at-other text p less seen refl)
-raw-flow-content-chunk-pays b (Some greater) text p read at seen = chunk-other (length text.seats - p) (leading (drop p text.seats)) (waits_at text p) (at-other text p greater seen refl)
-raw-flow-content-chunk-pays b (Some backslash) text p read at seen = chunk-other (length text.seats - p) (leading (drop p text.seats)) (waits_at text p) (at-other text p backslash seen refl)
-raw-flow-content-chunk-pays b (Some colon) text p read at seen = chunk-other (length text.seats - p) (leading (drop p text.seats)) (waits_at text p) (at-other text p colon seen refl)
-raw-flow-content-chunk-pays b (Some letter) text p read at seen = chunk-other (length text.seats - p) (leading (drop p text.seats)) (waits_at text p) (at-other text p letter seen refl)
-raw-flow-content-chunk-pays b (Some digit) text p read at seen = chunk-other (length text.seats - p) (leading (drop p text.seats)) (waits_at text p) (at-other text p digit seen refl)
-raw-flow-content-chunk-pays b (Some mark) text p read at seen = chunk-other (length text.seats - p) (leading (drop p text.seats)) (waits_at text p) (at-other text p mark seen refl)
-raw-flow-content-chunk-pays b (Some punctuation) text p read at seen = chunk-other (length text.seats - p) (leading (drop p text.seats)) (waits_at text p) (at-other text p punctuation seen refl)
-raw-flow-content-chunk-pays b (Some blank) text p read at seen = chunk-other (length text.seats - p) (leading (drop p text.seats)) (waits_at text p) (at-other text p blank seen refl)
-raw-flow-content-chunk-pays b (Some other) text p read at seen = chunk-other (length text.seats - p) (leading (drop p text.seats)) (waits_at text p) (at-other text p other seen refl)
+raw-flow-content-chunk-pays b None text p read at seen called = chunk-end (length text.seats - p) (leading (drop p text.seats)) (waits_at text p) (omega (arith, at))
+raw-flow-content-chunk-pays b (Some line_feed) text p read at seen called = chunk-other (length text.seats - p) (leading (drop p text.seats)) (waits_at text p) (at-other text p line_feed seen refl)
+raw-flow-content-chunk-pays b (Some backtick) text p read at seen called = chunk-tick (length text.seats) p (leading (drop p text.seats)) (leading (drop (p + 1) text.seats)) at (at-tick text p seen) (leading-left text.seats (p + 1))
+raw-flow-content-chunk-pays b (Some less) text p read at seen called = chunk-other (length text.seats - p) (leading (drop p text.seats)) (waits_at text p) (at-other text p less seen refl)
+raw-flow-content-chunk-pays b (Some greater) text p read at seen called = chunk-other (length text.seats - p) (leading (drop p text.seats)) (waits_at text p) (at-other text p greater seen refl)
+raw-flow-content-chunk-pays b (Some backslash) text p read at seen called = chunk-other (length text.seats - p) (leading (drop p text.seats)) (waits_at text p) (at-other text p backslash seen refl)
+raw-flow-content-chunk-pays b (Some colon) text p read at seen called = chunk-other (length text.seats - p) (leading (drop p text.seats)) (waits_at text p) (at-other text p colon seen refl)
+raw-flow-content-chunk-pays b (Some letter) text p read at seen called = chunk-other (length text.seats - p) (leading (drop p text.seats)) (waits_at text p) (at-other text p letter seen refl)
+raw-flow-content-chunk-pays b (Some digit) text p read at seen called = chunk-other (length text.seats - p) (leading (drop p text.seats)) (waits_at text p) (at-other text p digit seen refl)
+raw-flow-content-chunk-pays b (Some mark) text p read at seen called = chunk-other (length text.seats - p) (leading (drop p text.seats)) (waits_at text p) (at-other text p mark seen refl)
+raw-flow-content-chunk-pays b (Some punctuation) text p read at seen called = chunk-other (length text.seats - p) (leading (drop p text.seats)) (waits_at text p) (at-other text p punctuation seen refl)
+raw-flow-content-chunk-pays b (Some blank) text p read at seen called = chunk-other (length text.seats - p) (leading (drop p text.seats)) (waits_at text p) (at-other text p blank seen refl)
+raw-flow-content-chunk-pays b (Some other) text p read at seen called = chunk-other (length text.seats - p) (leading (drop p text.seats)) (waits_at text p) (at-other text p other seen refl)
 
 autolink-start-pays : PaysRows texts true autolink_start None
-autolink-start-pays b None text p read at seen = omega arith
-autolink-start-pays b (Some line_feed) text p read at seen = omega (arith, at)
-autolink-start-pays b (Some backtick) text p read at seen = omega (arith, at)
-autolink-start-pays b (Some less) text p read at seen = omega (arith, at)
-autolink-start-pays b (Some greater) text p read at seen = omega (arith, at)
-autolink-start-pays b (Some backslash) text p read at seen = omega (arith, at)
-autolink-start-pays b (Some colon) text p read at seen = omega (arith, at)
-autolink-start-pays b (Some letter) text p read at seen = omega (arith, at)
-autolink-start-pays b (Some digit) text p read at seen = omega (arith, at)
-autolink-start-pays b (Some mark) text p read at seen = omega (arith, at)
-autolink-start-pays b (Some punctuation) text p read at seen = omega (arith, at)
-autolink-start-pays b (Some blank) text p read at seen = omega (arith, at)
-autolink-start-pays b (Some other) text p read at seen = omega (arith, at)
+autolink-start-pays b None text p read at seen called = absurd (cc)
+autolink-start-pays b (Some line_feed) text p read at seen called = absurd (cc)
+autolink-start-pays b (Some backtick) text p read at seen called = absurd (cc)
+autolink-start-pays b (Some less) text p read at seen called = omega (arith, at)
+autolink-start-pays b (Some greater) text p read at seen called = absurd (cc)
+autolink-start-pays b (Some backslash) text p read at seen called = absurd (cc)
+autolink-start-pays b (Some colon) text p read at seen called = absurd (cc)
+autolink-start-pays b (Some letter) text p read at seen called = absurd (cc)
+autolink-start-pays b (Some digit) text p read at seen called = absurd (cc)
+autolink-start-pays b (Some mark) text p read at seen called = absurd (cc)
+autolink-start-pays b (Some punctuation) text p read at seen called = absurd (cc)
+autolink-start-pays b (Some blank) text p read at seen called = absurd (cc)
+autolink-start-pays b (Some other) text p read at seen called = absurd (cc)
 
 autolink-open-pays : PaysRows texts true autolink_open None
-autolink-open-pays b None text p read at seen = omega arith
-autolink-open-pays b (Some line_feed) text p read at seen = omega arith
-autolink-open-pays b (Some backtick) text p read at seen = omega arith
-autolink-open-pays b (Some less) text p read at seen = omega arith
-autolink-open-pays b (Some greater) text p read at seen = omega arith
-autolink-open-pays b (Some backslash) text p read at seen = omega arith
-autolink-open-pays b (Some colon) text p read at seen = omega arith
-autolink-open-pays b (Some letter) text p read at seen = omega (arith, at)
-autolink-open-pays b (Some digit) text p read at seen = omega arith
-autolink-open-pays b (Some mark) text p read at seen = omega arith
-autolink-open-pays b (Some punctuation) text p read at seen = omega arith
-autolink-open-pays b (Some blank) text p read at seen = omega arith
-autolink-open-pays b (Some other) text p read at seen = omega arith
+autolink-open-pays b None text p read at seen called = omega arith
+autolink-open-pays b (Some line_feed) text p read at seen called = omega arith
+autolink-open-pays b (Some backtick) text p read at seen called = omega arith
+autolink-open-pays b (Some less) text p read at seen called = omega arith
+autolink-open-pays b (Some greater) text p read at seen called = omega arith
+autolink-open-pays b (Some backslash) text p read at seen called = omega arith
+autolink-open-pays b (Some colon) text p read at seen called = omega arith
+autolink-open-pays b (Some letter) text p read at seen called = omega (arith, at)
+autolink-open-pays b (Some digit) text p read at seen called = omega arith
+autolink-open-pays b (Some mark) text p read at seen called = omega arith
+autolink-open-pays b (Some punctuation) text p read at seen called = omega arith
+autolink-open-pays b (Some blank) text p read at seen called = omega arith
+autolink-open-pays b (Some other) text p read at seen called = omega arith
 
 autolink-scheme-pays : PaysRows texts true autolink_scheme None
-autolink-scheme-pays b None text p read at seen = omega arith
-autolink-scheme-pays b (Some line_feed) text p read at seen = omega arith
-autolink-scheme-pays b (Some backtick) text p read at seen = omega arith
-autolink-scheme-pays b (Some less) text p read at seen = omega arith
-autolink-scheme-pays b (Some greater) text p read at seen = omega arith
-autolink-scheme-pays b (Some backslash) text p read at seen = omega arith
-autolink-scheme-pays b (Some colon) text p read at seen = (omega (arith, at), omega arith)
-autolink-scheme-pays b (Some letter) text p read at seen = (omega (arith, at), omega arith)
-autolink-scheme-pays b (Some digit) text p read at seen = (omega (arith, at), omega arith)
-autolink-scheme-pays b (Some mark) text p read at seen = (omega (arith, at), omega arith)
-autolink-scheme-pays b (Some punctuation) text p read at seen = omega arith
-autolink-scheme-pays b (Some blank) text p read at seen = omega arith
-autolink-scheme-pays b (Some other) text p read at seen = omega arith
+autolink-scheme-pays b None text p read at seen called = omega arith
+autolink-scheme-pays b (Some line_feed) text p read at seen called = omega arith
+autolink-scheme-pays b (Some backtick) text p read at seen called = omega arith
+autolink-scheme-pays b (Some less) text p read at seen called = omega arith
+autolink-scheme-pays b (Some greater) text p read at seen called = omega arith
+autolink-scheme-pays b (Some backslash) text p read at seen called = omega arith
+autolink-scheme-pays b (Some colon) text p read at seen called = (omega (arith, at), omega arith)
+autolink-scheme-pays b (Some letter) text p read at seen called = (omega (arith, at), omega arith)
+autolink-scheme-pays b (Some digit) text p read at seen called = (omega (arith, at), omega arith)
+autolink-scheme-pays b (Some mark) text p read at seen called = (omega (arith, at), omega arith)
+autolink-scheme-pays b (Some punctuation) text p read at seen called = omega arith
+autolink-scheme-pays b (Some blank) text p read at seen called = omega arith
+autolink-scheme-pays b (Some other) text p read at seen called = omega arith
 
 autolink-url-pays : PaysRows texts true autolink_url None
-autolink-url-pays b None text p read at seen = omega arith
-autolink-url-pays b (Some line_feed) text p read at seen = omega arith
-autolink-url-pays b (Some backtick) text p read at seen = omega (arith, at)
-autolink-url-pays b (Some less) text p read at seen = omega arith
-autolink-url-pays b (Some greater) text p read at seen = omega arith
-autolink-url-pays b (Some backslash) text p read at seen = omega (arith, at)
-autolink-url-pays b (Some colon) text p read at seen = omega (arith, at)
-autolink-url-pays b (Some letter) text p read at seen = omega (arith, at)
-autolink-url-pays b (Some digit) text p read at seen = omega (arith, at)
-autolink-url-pays b (Some mark) text p read at seen = omega (arith, at)
-autolink-url-pays b (Some punctuation) text p read at seen = omega (arith, at)
-autolink-url-pays b (Some blank) text p read at seen = omega arith
-autolink-url-pays b (Some other) text p read at seen = omega (arith, at)
+autolink-url-pays b None text p read at seen called = omega arith
+autolink-url-pays b (Some line_feed) text p read at seen called = omega arith
+autolink-url-pays b (Some backtick) text p read at seen called = omega (arith, at)
+autolink-url-pays b (Some less) text p read at seen called = omega arith
+autolink-url-pays b (Some greater) text p read at seen called = omega arith
+autolink-url-pays b (Some backslash) text p read at seen called = omega (arith, at)
+autolink-url-pays b (Some colon) text p read at seen called = omega (arith, at)
+autolink-url-pays b (Some letter) text p read at seen called = omega (arith, at)
+autolink-url-pays b (Some digit) text p read at seen called = omega (arith, at)
+autolink-url-pays b (Some mark) text p read at seen called = omega (arith, at)
+autolink-url-pays b (Some punctuation) text p read at seen called = omega (arith, at)
+autolink-url-pays b (Some blank) text p read at seen called = omega arith
+autolink-url-pays b (Some other) text p read at seen called = omega (arith, at)
 
 escape-start-pays : PaysRows texts true escape_start None
-escape-start-pays b None text p read at seen = omega arith
-escape-start-pays b (Some line_feed) text p read at seen = omega (arith, at)
-escape-start-pays b (Some backtick) text p read at seen = omega (arith, at)
-escape-start-pays b (Some less) text p read at seen = omega (arith, at)
-escape-start-pays b (Some greater) text p read at seen = omega (arith, at)
-escape-start-pays b (Some backslash) text p read at seen = omega (arith, at)
-escape-start-pays b (Some colon) text p read at seen = omega (arith, at)
-escape-start-pays b (Some letter) text p read at seen = omega (arith, at)
-escape-start-pays b (Some digit) text p read at seen = omega (arith, at)
-escape-start-pays b (Some mark) text p read at seen = omega (arith, at)
-escape-start-pays b (Some punctuation) text p read at seen = omega (arith, at)
-escape-start-pays b (Some blank) text p read at seen = omega (arith, at)
-escape-start-pays b (Some other) text p read at seen = omega (arith, at)
+escape-start-pays b None text p read at seen called = absurd (cc)
+escape-start-pays b (Some line_feed) text p read at seen called = absurd (cc)
+escape-start-pays b (Some backtick) text p read at seen called = absurd (cc)
+escape-start-pays b (Some less) text p read at seen called = absurd (cc)
+escape-start-pays b (Some greater) text p read at seen called = absurd (cc)
+escape-start-pays b (Some backslash) text p read at seen called = omega (arith, at)
+escape-start-pays b (Some colon) text p read at seen called = absurd (cc)
+escape-start-pays b (Some letter) text p read at seen called = absurd (cc)
+escape-start-pays b (Some digit) text p read at seen called = absurd (cc)
+escape-start-pays b (Some mark) text p read at seen called = absurd (cc)
+escape-start-pays b (Some punctuation) text p read at seen called = absurd (cc)
+escape-start-pays b (Some blank) text p read at seen called = absurd (cc)
+escape-start-pays b (Some other) text p read at seen called = absurd (cc)
 
 escape-inside-pays : PaysRows texts true escape_inside None
-escape-inside-pays b None text p read at seen = omega arith
-escape-inside-pays b (Some line_feed) text p read at seen = omega arith
-escape-inside-pays b (Some backtick) text p read at seen = omega arith
-escape-inside-pays b (Some less) text p read at seen = omega arith
-escape-inside-pays b (Some greater) text p read at seen = omega arith
-escape-inside-pays b (Some backslash) text p read at seen = omega arith
-escape-inside-pays b (Some colon) text p read at seen = omega arith
-escape-inside-pays b (Some letter) text p read at seen = omega arith
-escape-inside-pays b (Some digit) text p read at seen = omega arith
-escape-inside-pays b (Some mark) text p read at seen = omega arith
-escape-inside-pays b (Some punctuation) text p read at seen = omega arith
-escape-inside-pays b (Some blank) text p read at seen = omega arith
-escape-inside-pays b (Some other) text p read at seen = omega arith
+escape-inside-pays b None text p read at seen called = omega arith
+escape-inside-pays b (Some line_feed) text p read at seen called = omega arith
+escape-inside-pays b (Some backtick) text p read at seen called = omega arith
+escape-inside-pays b (Some less) text p read at seen called = omega arith
+escape-inside-pays b (Some greater) text p read at seen called = omega arith
+escape-inside-pays b (Some backslash) text p read at seen called = omega arith
+escape-inside-pays b (Some colon) text p read at seen called = omega arith
+escape-inside-pays b (Some letter) text p read at seen called = omega arith
+escape-inside-pays b (Some digit) text p read at seen called = omega arith
+escape-inside-pays b (Some mark) text p read at seen called = omega arith
+escape-inside-pays b (Some punctuation) text p read at seen called = omega arith
+escape-inside-pays b (Some blank) text p read at seen called = omega arith
+escape-inside-pays b (Some other) text p read at seen called = omega arith
 
--- what follows a construct that was there costs less the more was read
-cheaper : (text : Text) (p q : ℕ) (name : Name) → follows_construct name ≡ true → p ≤ q → text_cost text q name ≤ text_cost text p name
-cheaper text p q name is h = elim (or_cases (name.number == TextBefore.number) (name.number == RawFlowAfter.number) is) [
-  | inl e ↦
-      let same : name.number ≡ TextBefore.number = grind (arith, nat_tests) in
-      subst (λ n. text_cost text q (record { number = n }) ≤ text_cost text p (record { number = n })) (sym same) (outside-falls (length text.seats - p) (length text.seats - q) (omega (arith, h)))
-  | inr e ↦
-      let same : name.number ≡ RawFlowAfter.number = grind (arith, nat_tests) in
-      subst (λ n. text_cost text q (record { number = n }) ≤ text_cost text p (record { number = n })) (sym same) (omega arith)
-]
+-- a state that follows no construct
+no-matter : {A : Type 0} → false ≡ true → A
+no-matter e = absurd (cc)
 
 pub texts-fit : IsFitBy texts true follows_construct
 texts-fit = record {
   fits = fits;
   paid = (text-start-pays, (text-before-pays, (text-before-data-pays, (data-at-break-pays, (data-inside-pays, (raw-text-start-pays, (raw-text-sequence-open-pays, (raw-text-between-pays, (raw-text-data-pays, (raw-text-sequence-close-pays, (raw-flow-after-pays, (raw-flow-before-content-chunk-pays, (raw-flow-content-chunk-pays, (autolink-start-pays, (autolink-open-pays, (autolink-scheme-pays, (autolink-url-pays, (escape-start-pays, (escape-inside-pays, tt)))))))))))))))))));
-  falls = cheaper;
+  -- what follows a construct that was there costs less the more was read
+  falls = (no-matter, ((λ is text p q h. outside-falls (length text.seats - p) (length text.seats - q) (omega (arith, h))), (no-matter, (no-matter, (no-matter, (no-matter, (no-matter, (no-matter, (no-matter, (no-matter, ((λ is text p q h. omega arith), (no-matter, (no-matter, (no-matter, (no-matter, (no-matter, (no-matter, (no-matter, (no-matter, tt)))))))))))))))))));
 }
 
 pub texts-late : IsLate texts begins_construct follows_construct
@@ -343,19 +332,19 @@ c-grows : IsPlainWrite size_c_grows
 c-grows k h = h
 
 written : (previous current : Option TextByte) → StatesWritePlain text_states previous current
-written previous None = tt
-written previous (Some line_feed) = tt
+written previous None = (b-is 0, tt)
+written previous (Some line_feed) = (b-is 0, tt)
 written previous (Some backtick) = (b-is 0, (b-grows, (c-is 0, (c-grows, tt))))
-written previous (Some less) = tt
-written previous (Some greater) = tt
-written previous (Some backslash) = tt
-written previous (Some colon) = tt
-written previous (Some letter) = (b-is 1, (b-grows, tt))
-written previous (Some digit) = (b-grows, tt)
-written previous (Some mark) = (b-grows, tt)
-written previous (Some punctuation) = tt
-written previous (Some blank) = tt
-written previous (Some other) = tt
+written previous (Some less) = (b-is 0, tt)
+written previous (Some greater) = (b-is 0, tt)
+written previous (Some backslash) = (b-is 0, tt)
+written previous (Some colon) = (b-is 0, tt)
+written previous (Some letter) = (b-is 0, (b-is 1, (b-grows, tt)))
+written previous (Some digit) = (b-is 0, (b-grows, tt))
+written previous (Some mark) = (b-is 0, (b-grows, tt))
+written previous (Some punctuation) = (b-is 0, tt)
+written previous (Some blank) = (b-is 0, tt)
+written previous (Some other) = (b-is 0, tt)
 
 pub texts-plain : WritesPlain texts
 texts-plain = record { first = λ k h. h; rows = written }

@@ -37,7 +37,7 @@ loop-index-preserved g c =
     elim c.if-begins_at.branch [
       | then-begins_at+in_ok-child+in_ok-acc+in_ok-found w ↦ so_far-next given rules c.args.filter c.args.events.now i.index i.map c.if-begins_at.map i.acc c.if-begins_at.acc i.found c.if-begins_at.found
           (record { events = w.in_ok-child.child.items; found = w.in_ok-child.more }) c.args.parse_state.now.options.now.tab_size c.args.parse_state.now.bytes.now c.requires.ready (told _ _ c.begins_at.ensures w.if-begins_at.true) i.invariant
-          w.in_ok-child.ensures.ok w.in_ok-child.ensures.balanced w.in_ok-child.ensures.ends
+          w.in_ok-child.ensures.ok
           (w.map-is ∙ w.in_ok-acc.ensures.ok) (ap (λ (s : ℕ × ℕ). s.0) w.acc-is ∙ w.in_ok-acc.ensures.sums.0) (ap (λ (s : ℕ × ℕ). s.1) w.acc-is ∙ w.in_ok-acc.ensures.sums.1)
           (w.found-is ∙ ap (λ (s : Subresult). record s { done = false }) w.in_ok-found.ensures)
       | else-begins_at w ↦ so_far-other given rules c.args.filter c.args.events.now i.index i.map c.if-begins_at.map i.acc c.if-begins_at.acc i.found c.if-begins_at.found

@@ -7,11 +7,13 @@ use Rattle.markdown_tokenizer.specs.Engine.{given_by}
 use Rattle.markdown_children.proofs.ChildReads.Reading.{chain-place}
 use Rattle.markdown_children.proofs.children.read_child.Goals as goal
 
-pub new-tokenizer-requires-clause-place : goal.new-tokenizer-requires-clause-place
-new-tokenizer-requires-clause-place g c =
+pub new-tokenizer-requires : goal.new-tokenizer-requires
+new-tokenizer-requires g c =
     let p = c.args.parse_state.now in
-    subst (IsPointOf p.options.now.tab_size p.bytes.now) (sym c.place_at-place.ensures)
-    (chain-place g.M.Machine.rules p.machine.now p.bytes.now p.options.now c.args.filter c.args.events.now c.requires.ready c.args.index c.in-Some.start c.requires.begins)
+    record {
+      place = subst (IsPointOf p.options.now.tab_size p.bytes.now) (sym c.place_at-place.ensures)
+          (chain-place g.M.Machine.rules p.machine.now p.bytes.now p.options.now c.args.filter c.args.events.now c.requires.ready c.args.index c.in-Some.start c.requires.begins);
+    }
 
 pub read_chunks-read-requires-clause-new : goal.read_chunks-read-requires-clause-new
 read_chunks-read-requires-clause-new g c =

@@ -5,7 +5,7 @@ use Rattle.markdown_tokenizer.specs.Text.{passed, followed_by, FitsAfter}
 use Rattle.markdown_tokenizer.specs.Engine.{given_by, CanPush, IsPushed}
 use Rattle.std.specs.declared.result.Result.TheVariants as result
 use Rattle.std.specs.Prelude.{Result, IfErr}
-use Rattle.markdown_tokenizer.proofs.Runs.Whole.{apart-by, err-if, ok-if}
+use Rattle.markdown_tokenizer.proofs.Runs.Whole.{err-if, ok-if}
 use Rattle.markdown_children.specs.Reads.{IsChildFault}
 use Rattle.markdown_children.specs.SoFar.{with_flag}
 use Rattle.markdown_children.proofs.ChildReads.Reading.{chain-within, chain-first, chain-rises, chain-inside, chain-next, chain-holds, chain-child, chain-open, chain-fault, memory-child-fault, on-open, on-range, on-holds, on-pushed, to-gap, to-passed}
@@ -22,8 +22,8 @@ push-requires-clause-range g c =
     let given = given_by p.bytes.now p.options.now in
     let t = c.set_first_paragraph.new.t in
     let e = c.set_first_paragraph.ensures ∙ ap (with_flag c.at_first_paragraph_of_list_item-first.result) c.requires.new in
-    let s = chain-first g.M.Machine.rules p.machine.now p.bytes.now p.options.now c.args.filter c.args.events.now c.requires.ready c.args.index c.args.start c.requires.begins c.requires.bytes (apart-by c.get.result p.options.now.tab_size c.get.ensures.columns c.get.ensures.least c.get.ensures.most) c.requires.limit
-    (g.met.M.Machine.invariant_kept p.machine.now given) (c.requires.starts c.args.index c.args.start c.requires.begins c.requires.start) c.at_first_paragraph_of_list_item-first.result c.at_first_paragraph_of_list_item-first.ensures t e in
+    let s = chain-first g.M.Machine.rules p.machine.now p.bytes.now p.options.now c.args.filter c.args.events.now c.requires.ready c.args.index c.args.start c.requires.begins c.requires.document
+    (g.met.M.Machine.lawful p.machine.now given).invariant_kept (c.requires.starts c.args.index c.args.start c.requires.begins c.requires.start) c.at_first_paragraph_of_list_item-first.result c.at_first_paragraph_of_list_item-first.ensures t e in
     λ _. subst (λ (r : (ℕ × ℕ) × (ℕ × ℕ)). CanPush t.given t.text r.0 r.1) (sym c.range_of.ensures)
     (on-range g.M.Machine.rules p.machine.now p.bytes.now p.options.now c.args.filter c.args.events.now c.requires.ready c.args.index c.args.start c.args.index t _ s)
 
@@ -40,8 +40,8 @@ push-requires-clause-holds g c =
     let given = given_by p.bytes.now p.options.now in
     let t = c.set_first_paragraph.new.t in
     let e = c.set_first_paragraph.ensures ∙ ap (with_flag c.at_first_paragraph_of_list_item-first.result) c.requires.new in
-    let s = chain-first g.M.Machine.rules p.machine.now p.bytes.now p.options.now c.args.filter c.args.events.now c.requires.ready c.args.index c.args.start c.requires.begins c.requires.bytes (apart-by c.get.result p.options.now.tab_size c.get.ensures.columns c.get.ensures.least c.get.ensures.most) c.requires.limit
-    (g.met.M.Machine.invariant_kept p.machine.now given) (c.requires.starts c.args.index c.args.start c.requires.begins c.requires.start) c.at_first_paragraph_of_list_item-first.result c.at_first_paragraph_of_list_item-first.ensures t e in
+    let s = chain-first g.M.Machine.rules p.machine.now p.bytes.now p.options.now c.args.filter c.args.events.now c.requires.ready c.args.index c.args.start c.requires.begins c.requires.document
+    (g.met.M.Machine.lawful p.machine.now given).invariant_kept (c.requires.starts c.args.index c.args.start c.requires.begins c.requires.start) c.at_first_paragraph_of_list_item-first.result c.at_first_paragraph_of_list_item-first.ensures t e in
     λ _. on-holds g.M.Machine.rules p.machine.now p.bytes.now p.options.now c.args.filter c.args.events.now c.requires.ready c.args.index c.args.start c.args.index t _ s
 
 pub loop-next-init : goal.loop-next-init
@@ -50,8 +50,8 @@ loop-next-init g c =
     let given = given_by p.bytes.now p.options.now in
     let t = c.set_first_paragraph.new.t in
     let e = c.set_first_paragraph.ensures ∙ ap (with_flag c.at_first_paragraph_of_list_item-first.result) c.requires.new in
-    let s = chain-first g.M.Machine.rules p.machine.now p.bytes.now p.options.now c.args.filter c.args.events.now c.requires.ready c.args.index c.args.start c.requires.begins c.requires.bytes (apart-by c.get.result p.options.now.tab_size c.get.ensures.columns c.get.ensures.least c.get.ensures.most) c.requires.limit
-    (g.met.M.Machine.invariant_kept p.machine.now given) (c.requires.starts c.args.index c.args.start c.requires.begins c.requires.start) c.at_first_paragraph_of_list_item-first.result c.at_first_paragraph_of_list_item-first.ensures t e in
+    let s = chain-first g.M.Machine.rules p.machine.now p.bytes.now p.options.now c.args.filter c.args.events.now c.requires.ready c.args.index c.args.start c.requires.begins c.requires.document
+    (g.met.M.Machine.lawful p.machine.now given).invariant_kept (c.requires.starts c.args.index c.args.start c.requires.begins c.requires.start) c.at_first_paragraph_of_list_item-first.result c.at_first_paragraph_of_list_item-first.ensures t e in
     let h = subst (λ (r : (ℕ × ℕ) × (ℕ × ℕ)). IsPushed (g.M.Machine.rules t.machine t.given) t r.0 r.1 (Next c.args.start) c.push.new.self c.in_ok-state.state) c.range_of.ensures c.in_ok-state.ensures.ok in
     (c.args.start, c.requires.start, on-pushed g.M.Machine.rules p.machine.now p.bytes.now p.options.now c.args.filter c.args.events.now c.requires.ready c.args.index c.args.start c.args.index t (Next c.args.start) s c.push.new.self c.in_ok-state.state h)
 

@@ -1,4 +1,4 @@
-use Rattle.markdown_children.proofs.Parts.Kept.{children_fit}
+use Rattle.markdown_children.proofs.Parts.InShape.{children_fit}
 use Rattle.markdown_children.proofs.laws.children_fit.Goals as goal
 
 pub returns : goal.returns

@@ -1,10 +1,13 @@
-use Rattle.std.proofs.Common.{◌≡◌, ◌+◌, ◌*◌, ◌^◌, ◌<◌, ◌≤◌, ℕ, true, false, List, length, arith, refl, sym, ap, ◌∙◌, subst, Vec, Global}
+use Rattle.markdown_base.specs.Virtual.{IsWithinLimit}
+use Rattle.std.proofs.Common.{◌≡◌, ◌+◌, ◌*◌, ◌<◌, ◌≤◌, ℕ, true, false, List, length, arith, refl, sym, ap, ◌∙◌, subst, Vec, Global}
 use Rattle.std.proofs.lemmas.List.{append-nil}
 use Rattle.markdown_tokenizer.specs.Cuts.{is_cut, cuts_every}
 use Rattle.markdown_base.specs.declared.event.Point.{Point}
 use Rattle.markdown_tokenizer.specs.Cursor.{rest_at}
 use Rattle.markdown_tokenizer.proofs.Positions.Walks.{IsCutting, cutting-place, cutting-number, cutting-next, cutting-ended, walk-shorter, bounds-fit, cut-is, cut-not, cut-first}
 use Rattle.markdown_tokenizer.proofs.places.cuts_every.Goals.{then-number-gt0+then-number-n-eq0+in_ok-push, else-number-gt0, else-number-gt0-via-then-number-gt0+else-number-n-eq0, else-number-gt0-via-else-number-gt0}
+use Rattle.markdown_tokenizer.specs.Engine.{AreCuts}
+use Rattle.markdown_tokenizer.proofs.Positions.Cuts.{cuts_every-are-cuts}
 use Rattle.markdown_tokenizer.proofs.places.cuts_every.Goals as goal
 
 abbrev items_of : Vec (ℕ × ℕ) Global → List (ℕ × ℕ)
@@ -18,11 +21,11 @@ overflow_add-number c =
     let b = (cutting-place c.get-t.result c.args.bytes.now c.get-t.ensures.least c.args.n c.loop-byte.after_previous c.loop-byte.number c.loop-byte.cuts.items c.loop-byte.invariant).bounds in
     let h = cutting-number c.get-t.result c.args.bytes.now c.get-t.ensures.least c.args.n c.loop-byte.after_previous c.loop-byte.number c.loop-byte.cuts.items c.loop-byte.invariant in
     let e : c.loop-byte.number + 1 ≤ c.get-t.result * length c.args.bytes.now + 1 = (let k = bounds-fit c.get-t.result c.args.bytes.now c.loop-byte.after_previous b in omega arith) in
-    let fits : c.get-t.result * length c.args.bytes.now + 1 < 2 ^ 64 = subst (λ (t : ℕ). t * length c.args.bytes.now + 1 < 2 ^ 64) (sym c.get-t.ensures.columns) c.requires.fits in
+    let fits : IsWithinLimit c.get-t.result c.args.bytes.now = subst (λ (t : ℕ). IsWithinLimit t c.args.bytes.now) (sym c.get-t.ensures.columns) c.requires.fits in
     omega arith
 
 pub pass-requires-clause-limit : goal.pass-requires-clause-limit
-pass-requires-clause-limit c = subst (λ (t : ℕ). t * length c.args.bytes.now + 1 < 2 ^ 64) (sym c.get-t.ensures.columns) c.requires.fits
+pass-requires-clause-limit c = subst (λ (t : ℕ). IsWithinLimit t c.args.bytes.now) (sym c.get-t.ensures.columns) c.requires.fits
 
 pub pass-requires-clause-next : goal.pass-requires-clause-next
 pass-requires-clause-next c =
@@ -63,5 +66,8 @@ loop-byte-preserved c =
 
 pub returns : goal.returns
 returns c =
-    cutting-ended c.get-t.result c.args.bytes.now c.get-t.ensures.least c.args.n c.loop-byte.after_previous c.loop-byte.number c.loop-byte.cuts.items c.loop-byte.invariant (c.in_default.ensures c.get-t.result c.get-t.ensures.least)
-    ∙ ap (λ (t : ℕ). cuts_every t c.args.bytes.now c.args.n) c.get-t.ensures.columns
+    let tab = c.args.tab_size in let bytes = c.args.bytes.now in
+    let places = cutting-ended c.get-t.result bytes c.get-t.ensures.least c.args.n c.loop-byte.after_previous c.loop-byte.number c.loop-byte.cuts.items c.loop-byte.invariant (c.in_default.ensures c.get-t.result c.get-t.ensures.least)
+    ∙ ap (λ (t : ℕ). cuts_every t bytes c.args.n) c.get-t.ensures.columns in
+    let some : 0 < tab = omega (arith, c.get-t.ensures.columns, c.get-t.ensures.least) in
+    record { places = places; cuts = subst (AreCuts tab bytes) (sym places) (cuts_every-are-cuts tab some bytes c.args.n) }

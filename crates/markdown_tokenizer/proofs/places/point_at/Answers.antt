@@ -1,4 +1,5 @@
-use Rattle.std.proofs.Common.{◌≡◌, ◌+◌, ◌*◌, ◌^◌, ◌<◌, ℕ, Bool, true, false, Some, None, length, refl, sym, ap, ◌∙◌, subst, cond}
+use Rattle.markdown_base.specs.Virtual.{IsWithinLimit}
+use Rattle.std.proofs.Common.{◌≡◌, ◌<◌, ℕ, Bool, true, false, Some, None, length, refl, sym, ap, ◌∙◌, subst, cond}
 use Rattle.markdown_base.specs.declared.event.Point.{Point}
 use Rattle.markdown_base.specs.Places.{shown, point_at}
 use Rattle.markdown_tokenizer.specs.Cursor.{rest_at}
@@ -24,7 +25,7 @@ returns-then-is_at-2 c =
     sym (ap (λ (t : ℕ). point_at t c.args.bytes.now c.args.place) (sym c.get-t.ensures.columns) ∙ search-seat c.get-t.result c.args.bytes.now c.get-t.ensures.least c.args.place c.loop-byte.after_previous c.loop-byte.invariant _ s.1 e f)
 
 pub pass-requires-clause-limit : goal.pass-requires-clause-limit
-pass-requires-clause-limit c = subst (λ (t : ℕ). t * length c.args.bytes.now + 1 < 2 ^ 64) (sym c.get-t.ensures.columns) c.requires.fits
+pass-requires-clause-limit c = subst (λ (t : ℕ). IsWithinLimit t c.args.bytes.now) (sym c.get-t.ensures.columns) c.requires.fits
 
 pub pass-requires-clause-next : goal.pass-requires-clause-next
 pass-requires-clause-next c =

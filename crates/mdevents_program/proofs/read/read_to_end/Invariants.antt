@@ -1,6 +1,6 @@
 use Rattle.std.proofs.Common.{◌-◌, ◌^◌, length}
 use Rattle.std.specs.Io.KnownBytes.{Consumes}
-use Rattle.mdevents_program.specs.Reading.{IsWithinLimit}
+use Rattle.markdown.specs.Virtual.{IsWithinLimit}
 use Rattle.mdevents_program.proofs.read.read_to_end.Given as goal
 
 -- what the reader gave so far is kept, and is within the limit

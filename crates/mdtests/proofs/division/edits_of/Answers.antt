@@ -1,3 +1,4 @@
+use Rattle.markdown.specs.Virtual.{IsWithinLimit}
 use Rattle.std.proofs.Common.{◌+◌, ◌*◌, ◌^◌, ◌<◌, ℕ, None, ◌++◌, List, length, refl, sym, ◌∙◌, ap, subst, arith}
 use Rattle.markdown.specs.Edits.{Edit, AreDisjoint}
 use Rattle.markdown.specs.ChildrenLaws.{HasEndsWithin}
@@ -6,7 +7,7 @@ use Rattle.markdown.proofs.ChainOrder.Forward.{forward-chain, within, one-chain-
 use Rattle.mdtests.proofs.division.edits_of.Goals as goal
 
 pub ready-requires : goal.ready-requires
-ready-requires c = record { limit = subst (λ (t : ℕ). t * length c.args.bytes.now + 1 < 2 ^ 64) (sym c.default-tab_size.ensures) c.requires.limit }
+ready-requires c = record { limit = subst (λ (t : ℕ). IsWithinLimit t c.args.bytes.now) (sym c.default-tab_size.ensures) c.requires.limit }
 
 pub divide_events-requires-clause-chain : goal.divide_events-requires-clause-chain
 divide_events-requires-clause-chain c =

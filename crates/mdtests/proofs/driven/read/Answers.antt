@@ -1,8 +1,8 @@
 use Rattle.markdown.specs.Engine.{given_by}
-use Rattle.markdown.proofs.Runs.Whole.{start-is-point, apart-by}
+use Rattle.markdown.proofs.Runs.Whole.{start-is-point}
 use Rattle.mdtests.proofs.driven.read.Goals as goal
 
-pub new-tokenizer-requires-clause-place : goal.new-tokenizer-requires-clause-place
-new-tokenizer-requires-clause-place g c =
-    let options = c.args.parse_state.now.options.now in
-    start-is-point (given_by c.args.parse_state.now.bytes.now options) (apart-by c.get.result options.tab_size c.get.ensures.columns c.get.ensures.least c.get.ensures.most).0
+pub new-tokenizer-requires : goal.new-tokenizer-requires
+new-tokenizer-requires g c =
+    let p = c.args.parse_state.now in
+    record { place = start-is-point (given_by p.bytes.now p.options.now) p.tab_size.0 }

@@ -1,7 +1,7 @@
 use Rattle.std.proofs.Common.{[], ◌∷◌, length}
 use Rattle.markdown.specs.declared.state.State.TheVariants.{Next}
 use Rattle.markdown.specs.Engine.{given_by}
-use Rattle.markdown.proofs.Runs.Whole.{apart-by, run-start, run-last, run-range, run-holds, run-pushed}
+use Rattle.markdown.proofs.Runs.Whole.{run-start, run-last, run-range, run-holds, run-pushed}
 use Rattle.mdtests.proofs.driven.read_new.Goals as goal
 
 pub push_shown-requires-clause-range : goal.push_shown-requires-clause-range
@@ -9,7 +9,7 @@ push_shown-requires-clause-range g c =
     let i = g.M.Machine in
     let bytes = c.args.parse_state.now.bytes.now in let options = c.args.parse_state.now.options.now in let m = c.args.parse_state.now.machine.now in
     let t = c.args.tokenizer.now in let s = Next c.args.start in
-    let r = run-start i.rules bytes options m c.requires.bytes (apart-by c.get.result options.tab_size c.get.ensures.columns c.get.ensures.least c.get.ensures.most) c.requires.limit (g.met.M.Machine.invariant_kept m (given_by bytes options)) c.args.start c.requires.start (c.args.cut ∷ []) c.requires.cut t c.requires.begins in
+    let r = run-start i.rules bytes options m c.requires.document (g.met.M.Machine.lawful m (given_by bytes options)).invariant_kept c.args.start c.requires.start (c.args.cut ∷ []) c.requires.cut t c.requires.begins in
     λ _. run-range i.rules bytes options m c.args.start (0, 0) c.args.cut [] t s r
 
 pub push_shown-requires-clause-holds : goal.push_shown-requires-clause-holds
@@ -17,7 +17,7 @@ push_shown-requires-clause-holds g c =
     let i = g.M.Machine in
     let bytes = c.args.parse_state.now.bytes.now in let options = c.args.parse_state.now.options.now in let m = c.args.parse_state.now.machine.now in
     let t = c.args.tokenizer.now in let s = Next c.args.start in
-    let r = run-start i.rules bytes options m c.requires.bytes (apart-by c.get.result options.tab_size c.get.ensures.columns c.get.ensures.least c.get.ensures.most) c.requires.limit (g.met.M.Machine.invariant_kept m (given_by bytes options)) c.args.start c.requires.start (c.args.cut ∷ []) c.requires.cut t c.requires.begins in
+    let r = run-start i.rules bytes options m c.requires.document (g.met.M.Machine.lawful m (given_by bytes options)).invariant_kept c.args.start c.requires.start (c.args.cut ∷ []) c.requires.cut t c.requires.begins in
     λ _. run-holds i.rules bytes options m c.args.start (0, 0) (c.args.cut ∷ []) t s r
 
 pub push_shown-requires-2-clause-range : goal.push_shown-requires-2-clause-range
@@ -25,7 +25,7 @@ push_shown-requires-2-clause-range g c =
     let i = g.M.Machine in
     let bytes = c.args.parse_state.now.bytes.now in let options = c.args.parse_state.now.options.now in let m = c.args.parse_state.now.machine.now in
     let t = c.args.tokenizer.now in let s = Next c.args.start in let cut = c.args.cut in
-    let r = run-start i.rules bytes options m c.requires.bytes (apart-by c.get.result options.tab_size c.get.ensures.columns c.get.ensures.least c.get.ensures.most) c.requires.limit (g.met.M.Machine.invariant_kept m (given_by bytes options)) c.args.start c.requires.start (cut ∷ []) c.requires.cut t c.requires.begins in
+    let r = run-start i.rules bytes options m c.requires.document (g.met.M.Machine.lawful m (given_by bytes options)).invariant_kept c.args.start c.requires.start (cut ∷ []) c.requires.cut t c.requires.begins in
     let u = c.push_shown.new.tokenizer in let a = c.in_ok-first.first in
     let q = run-pushed i.rules bytes options m c.args.start (0, 0) cut [] t s r u a c.in_ok-first.ensures in
     λ _. run-range i.rules bytes options m c.args.start cut (length bytes, 0) [] u a (run-last i.rules bytes options m c.args.start cut [] u a q)
@@ -35,7 +35,7 @@ push_shown-requires-2-clause-holds g c =
     let i = g.M.Machine in
     let bytes = c.args.parse_state.now.bytes.now in let options = c.args.parse_state.now.options.now in let m = c.args.parse_state.now.machine.now in
     let t = c.args.tokenizer.now in let s = Next c.args.start in let cut = c.args.cut in
-    let r = run-start i.rules bytes options m c.requires.bytes (apart-by c.get.result options.tab_size c.get.ensures.columns c.get.ensures.least c.get.ensures.most) c.requires.limit (g.met.M.Machine.invariant_kept m (given_by bytes options)) c.args.start c.requires.start (cut ∷ []) c.requires.cut t c.requires.begins in
+    let r = run-start i.rules bytes options m c.requires.document (g.met.M.Machine.lawful m (given_by bytes options)).invariant_kept c.args.start c.requires.start (cut ∷ []) c.requires.cut t c.requires.begins in
     let u = c.push_shown.new.tokenizer in let a = c.in_ok-first.first in
     let q = run-pushed i.rules bytes options m c.args.start (0, 0) cut [] t s r u a c.in_ok-first.ensures in
     λ _. run-holds i.rules bytes options m c.args.start cut [] u a q
@@ -45,7 +45,7 @@ flush-flushed-requires g c =
     let i = g.M.Machine in
     let bytes = c.args.parse_state.now.bytes.now in let options = c.args.parse_state.now.options.now in let m = c.args.parse_state.now.machine.now in
     let t = c.args.tokenizer.now in let s = Next c.args.start in let cut = c.args.cut in
-    let r = run-start i.rules bytes options m c.requires.bytes (apart-by c.get.result options.tab_size c.get.ensures.columns c.get.ensures.least c.get.ensures.most) c.requires.limit (g.met.M.Machine.invariant_kept m (given_by bytes options)) c.args.start c.requires.start (cut ∷ []) c.requires.cut t c.requires.begins in
+    let r = run-start i.rules bytes options m c.requires.document (g.met.M.Machine.lawful m (given_by bytes options)).invariant_kept c.args.start c.requires.start (cut ∷ []) c.requires.cut t c.requires.begins in
     let u = c.push_shown.new.tokenizer in let a = c.in_ok-first.first in
     let q = run-pushed i.rules bytes options m c.args.start (0, 0) cut [] t s r u a c.in_ok-first.ensures in
     let v = c.push_shown-2.new.tokenizer in let b = c.in_ok-second.second in

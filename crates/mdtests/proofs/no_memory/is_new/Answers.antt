@@ -1,8 +1,8 @@
 use Rattle.markdown.specs.Engine.{given_by}
-use Rattle.markdown.proofs.Runs.Whole.{start-is-point, apart-by}
+use Rattle.markdown.proofs.Runs.Whole.{start-is-point}
 use Rattle.mdtests.proofs.no_memory.is_new.Goals as goal
 
-pub new-t-requires-clause-place : goal.new-t-requires-clause-place
-new-t-requires-clause-place c =
-    let options = c.args.parse_state.now.options.now in
-    start-is-point (given_by c.args.parse_state.now.bytes.now options) (apart-by c.get.result options.tab_size c.get.ensures.columns c.get.ensures.least c.get.ensures.most).0
+pub new-t-requires : goal.new-t-requires
+new-t-requires c =
+    let p = c.args.parse_state.now in
+    record { place = start-is-point (given_by p.bytes.now p.options.now) p.tab_size.0 }

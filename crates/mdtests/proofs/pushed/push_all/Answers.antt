@@ -1,7 +1,6 @@
 use Rattle.std.proofs.Common.{◌+◌, ◌∷◌, ◌∙◌, get_or, None, inl, inr}
 use Rattle.std.specs.Prelude.{drop}
 use Rattle.markdown.specs.Engine.{given_by}
-use Rattle.markdown.proofs.Runs.Whole.{apart-by}
 use Rattle.markdown.proofs.Runs.Ranges.{ranges-start, ranges-at, ranges-gap, ranges-passed, ranges-range, ranges-holds, ranges-pushed}
 use Rattle.mdtests.proofs.pushed.push_all.Goals as goal
 use Rattle.mdtests.proofs.pushed.push_all.Goals.{in-Some+in_ok-define_skip, in_default}
@@ -10,7 +9,7 @@ pub loop-gap-init : goal.loop-gap-init
 loop-gap-init g c =
     let i = g.M.Machine in
     let bytes = c.args.parse_state.now.bytes.now in let options = c.args.parse_state.now.options.now in let m = c.args.parse_state.now.machine.now in
-    ranges-start i.rules bytes options m c.requires.bytes (apart-by c.get.result options.tab_size c.get.ensures.columns c.get.ensures.least c.get.ensures.most) c.requires.limit (g.met.M.Machine.invariant_kept m (given_by bytes options)) c.args.start c.requires.start c.args.ranges.now c.requires.ranges
+    ranges-start i.rules bytes options m c.requires.document (g.met.M.Machine.lawful m (given_by bytes options)).invariant_kept c.args.start c.requires.start c.args.ranges.now c.requires.ranges
     c.args.tokenizer.now c.requires.fresh
 
 pub define_skip-requires : goal.define_skip-requires

@@ -10,10 +10,10 @@ pass-requires g c =
     let e = rw (← c.self.view_is) at c.requires in
     let w = byte-waits t sound e in
     let place = c.resume.ensures in
-    let tab = sound.tab in
+    let tab = sound.placed.tab in
     rw tab (record {
       some = wide_of t sound;
-      limit = sound.limit;
+      limit = t.parse_state.now.limit;
       place = place-at t sound _ _ refl place;
       next = (w.seat, seat-at t sound _ _ w.seat refl place w.at, byte-of-seat t sound w c.in-Some.byte c.in-Some.is);
     })
@@ -23,7 +23,7 @@ invariant_of-self g c =
     let t = c.self.inside in let sound = c.self.invariant in
     let e = rw (← c.self.view_is) at c.requires in
     let w = byte-waits t sound e in
-    let tab = sound.tab in
+    let tab = sound.placed.tab in
     consumed-sound t sound w c.pass.new.point (c.pass.ensures w.seat (subst (λ (n : ℕ). IsSeatAt n t.parse_state.now.bytes.now c.resume.new.place w.seat) (sym tab) (seat-at t sound _ _ w.seat refl c.resume.ensures w.at)))
 
 pub returns : goal.returns
@@ -31,5 +31,5 @@ returns g c =
     let t = c.self.inside in let sound = c.self.invariant in
     let e = rw (← c.self.view_is) at c.requires in
     let w = byte-waits t sound e in
-    let tab = sound.tab in
+    let tab = sound.placed.tab in
     rw (← c.self.view_is) (consumed-seen t sound w c.pass.new.point (c.pass.ensures w.seat (subst (λ (n : ℕ). IsSeatAt n t.parse_state.now.bytes.now c.resume.new.place w.seat) (sym tab) (seat-at t sound _ _ w.seat refl c.resume.ensures w.at))))

@@ -20,17 +20,19 @@ invariant_of-self-then-is_after g c =
     let is = passes t sound q fits (ap (λ (p : Point). is_after_pair p t.end) (sym c.shown.ensures) ∙ sym c.is_after.ensures ∙ c.if-is_after.true) in
     let put = c.in_ok-push.ensures.ok in
     record {
-      limit = sound.limit;
-      tab = sound.tab;
-      reads = sound.reads;
-      end_at = added-end_at t sound q fits is c.push.new.self put;
-      text = added-text_is t sound q fits is c.push.new.self put;
-      skips = added-skips_are t sound q fits is c.push.new.self put;
-      read = added-read_to t sound q fits is c.push.new.self put;
-      waiting = added-waiting t sound q fits is c.push.new.self put;
-      ended = sound.ended;
+      placed = record {
+        tab = sound.placed.tab;
+        reads = sound.placed.reads;
+        end_at = added-end_at t sound q fits is c.push.new.self put;
+        text = added-text_is t sound q fits is c.push.new.self put;
+        skips = added-skips_are t sound q fits is c.push.new.self put;
+        read = added-read_to t sound q fits is c.push.new.self put;
+        waiting = added-waiting t sound q fits is c.push.new.self put;
+        ended = sound.placed.ended;
+      };
       made = added-made t sound q fits is c.push.new.self put;
       kept_choices = added-kept_choices t sound q fits is c.push.new.self put;
+      once = sound.once;
     }
 
 pub returns-in_ok-push-clause-ok : goal.returns-in_ok-push-clause-ok

@@ -15,7 +15,7 @@ unreachable-requires g c =
     let none = rw c.in-Nok.is at e.stops in
     let h = leads-holds given (i.rules m given) true old u c.args.state c.in-Ok.answer e.leads none in
     let h' = rw c.in-Nok.is at h in
-    (g.met.M.Machine.ends_when_read m given).nok u.text u.configuration is h'
+    (g.met.M.Machine.lawful m given).ends_when_read.nok u.text u.configuration is h'
 
 pub returns-in-Error-clause-message : goal.returns-in-Error-clause-message
 returns-in-Error-clause-message g c message is =
@@ -46,11 +46,11 @@ resolve_all-requires-clause-invariant g c =
     let none = rw c.in-Ok-answer.is at e.stops in
     let is = text-worked given old u (rw close c.shows_in_text.ensures.text) e.same in
     let held = rw c.in-Ok-answer.is at (leads-holds given (i.rules m given) true old u c.args.state c.in-Ok.answer e.leads none) in
-    let closed = ((g.met.M.Machine.ends_when_read m given).ok u.text u.configuration is held).1 in
+    let closed = ((g.met.M.Machine.lawful m given).ends_when_read.ok u.text u.configuration is held).1 in
     let reads = e.same.phase ∙ ap (λ t. t.phase) close ∙ c.shows_in_text.ensures.reads (sym c.is_closed.ensures ∙ c.if-is_closed.false) in
     let given_is = e.same.given in let machine_is = e.same.machine in
     let formed = rw given_is at (c.shows_events.ensures reads closed) in
-    rw (rest, machine_is, given_is) ((g.met.M.Machine.resolvers_keep m given).at_end u.text u.configuration is formed held)
+    rw (rest, machine_is, given_is) ((g.met.M.Machine.lawful m given).resolvers_keep.at_end u.text u.configuration is formed held)
 
 pub returns-then-resolve-clause-ok : goal.returns-then-resolve-clause-ok
 returns-then-resolve-clause-ok g c =
@@ -62,7 +62,7 @@ returns-then-resolve-clause-ok g c =
     let none = rw c.in-Ok-answer.is at e.stops in
     let is = text-worked given old u (rw close c.shows_in_text.ensures.text) e.same in
     let held = rw c.in-Ok-answer.is at (leads-holds given (i.rules m given) true old u c.args.state c.in-Ok.answer e.leads none) in
-    let closed = ((g.met.M.Machine.ends_when_read m given).ok u.text u.configuration is held).1 in
+    let closed = ((g.met.M.Machine.lawful m given).ends_when_read.ok u.text u.configuration is held).1 in
     let given_same = rw close at e.same.given in let machine_same = rw close at e.same.machine in let text_same = rw close at e.same.text in
     let reads = e.same.phase ∙ ap (λ t. t.phase) close ∙ c.shows_in_text.ensures.reads (sym c.is_closed.ensures ∙ c.if-is_closed.false) in
     let formed = rw given_same at (c.shows_events.ensures reads closed) in
@@ -79,6 +79,7 @@ returns-then-resolve-clause-ok g c =
       calls = ap (λ t. t.calls) after.same ∙ ap (λ t. t.calls) rest;
       within = rw (ap (λ t. t.calls) after.same ∙ ap (λ t. t.calls) rest) (rw close at (flush-paid given (i.rules m given) old u c.args.state c.in-Ok.answer e.same e.leads));
       resolved = rw resolve (resolving-is i.rules c.args.self.now u c.take_definitions-sub.new.self _ _ given_same machine_same text_same rest c.take_definitions-sub.ensures.answer over.is);
+      phase = rw resolve (ap (λ t. t.phase) after.same);
       settled = ap (λ t. t.choices) after.same ∙ ap (λ t. t.choices) rest ∙ none;
       before = formed;
       well_formed = λ f. absurd (let h : true ≡ false = sym resolve ∙ f in cc);
@@ -117,7 +118,7 @@ returns-else-resolve-clause-ok g c =
     let none = rw c.in-Ok-answer.is at e.stops in
     let is = text-worked given old u (rw close c.shows_in_text.ensures.text) e.same in
     let held = rw c.in-Ok-answer.is at (leads-holds given (i.rules m given) true old u c.args.state c.in-Ok.answer e.leads none) in
-    let closed = ((g.met.M.Machine.ends_when_read m given).ok u.text u.configuration is held).1 in
+    let closed = ((g.met.M.Machine.lawful m given).ends_when_read.ok u.text u.configuration is held).1 in
     let given_same = rw close at e.same.given in
     let reads = e.same.phase ∙ ap (λ t. t.phase) close ∙ c.shows_in_text.ensures.reads (sym c.is_closed.ensures ∙ c.if-is_closed.false) in
     let formed = rw given_same at (c.shows_events.ensures reads closed) in
@@ -131,8 +132,13 @@ returns-else-resolve-clause-ok g c =
       calls = ap (λ t. t.calls) rest;
       within = rw (ap (λ t. t.calls) rest) (rw close at (flush-paid given (i.rules m given) old u c.args.state c.in-Ok.answer e.same e.leads));
       resolved = let plain = c.if-resolve.false in rw plain (ap (λ t. t.configuration) rest, c.take_definitions-sub.ensures.answer);
+      phase = let plain = c.if-resolve.false in rw plain (ap (λ t. t.phase) rest ∙ reads);
       settled = ap (λ t. t.choices) rest ∙ none;
       before = formed;
       well_formed = λ _. rw rest (taken-formed c.args.self.now.given.bytes u.configuration formed);
       in_shape = λ f. absurd (let h : true ≡ false = sym f ∙ c.if-resolve.false in cc);
     }
+
+pub run_states-requires-clause-reading : goal.run_states-requires-clause-reading
+run_states-requires-clause-reading g c =
+    let close = c.close.ensures in rw close (c.shows_in_text.ensures.reads (sym c.is_closed.ensures ∙ c.if-is_closed.false))

@@ -6,17 +6,10 @@ pub invariant_of-self : goal.invariant_of-self
 invariant_of-self g c =
     let t = c.self.inside in let sound = c.self.invariant in
     record {
-      limit = sound.limit;
-      tab = sound.tab;
-      reads = sound.reads;
-      end_at = sound.end_at;
-      text = sound.text;
-      skips = sound.skips;
-      read = sound.read;
-      waiting = sound.waiting;
-      ended = sound.ended;
+      placed = sound.placed;
       made = linked-made t sound c.args.previous c.args.next c.link_items.new.events.items c.link_items.ensures;
       kept_choices = linked-kept_choices t sound c.args.previous c.args.next c.link_items.new.events.items c.link_items.ensures;
+      once = sound.once;
     }
 
 pub link_items-requires : goal.link_items-requires

@@ -1,6 +1,6 @@
 use Rattle.std.proofs.Common.{refl}
 use Rattle.markdown_tokenizer.proofs.Inside.Fields.{read-start}
-use Rattle.markdown_tokenizer.proofs.Runs.Whole.{apart-by}
+use Rattle.markdown_tokenizer.proofs.Runs.Resolvers.{none-twice}
 use Rattle.markdown_tokenizer.proofs.Inside.Changes.{start-end, start-empty, start-found, start-text, start-made}
 use Rattle.markdown_tokenizer.proofs.tokenizer.Tokenizer.new.Goals as goal
 
@@ -8,7 +8,7 @@ pub invariant_of-result : goal.invariant_of-result
 invariant_of-result g c =
     let bytes = c.args.parse_state.now.bytes.now in
     let tab = c.args.parse_state.now.options.now.tab_size in
-    let apart = apart-by c.get-tab_size.result tab c.get-tab_size.ensures.columns c.get-tab_size.ensures.least c.get-tab_size.ensures.most in
+    let apart = c.args.parse_state.now.tab_size in
     let p = c.args.point in
     let here = start-end tab apart.0 bytes p c.requires.place in
     let none = start-empty tab apart.0 bytes p c.requires.place in
@@ -17,24 +17,26 @@ invariant_of-result g c =
     let kept_choices = c.new-kept_choices.ensures.items in
     let skips = c.new-skips.ensures in
     record {
-      limit = c.requires.limit;
-      tab = c.get-tab_size.ensures.columns;
-      reads = λ _. refl;
-      end_at = rw here (start-found tab apart.0 bytes p c.requires.place);
-      text = rw (skips, here, none) (start-text tab apart.0 bytes p c.requires.place c.args.parse_state.now.options.now (record { bytes = c.bytes_are_below_256.ensures; tab = apart; limit = c.requires.limit }));
-      skips = rw skips tt;
-      read = rw (skips, here) (read-start tab apart.0 bytes p c.requires.place);
-      waiting = refl;
-      ended = λ h. absurd cc;
+      placed = record {
+        tab = c.get-tab_size.ensures.columns;
+        reads = λ _. refl;
+        end_at = rw here (start-found tab apart.0 bytes p c.requires.place);
+        text = rw (skips, here, none) (start-text tab apart.0 bytes p c.requires.place c.args.parse_state.now.options.now (record { bytes = c.bytes_are_below_256.ensures; tab = apart; limit = c.args.parse_state.now.limit; one_size = refl }));
+        skips = rw skips tt;
+        read = rw (skips, here) (read-start tab apart.0 bytes p c.requires.place);
+        waiting = refl;
+        ended = λ h. absurd cc;
+      };
       made = λ _. rw (events, stack) (start-made tab apart.0 bytes p c.requires.place);
       kept_choices = rw kept_choices tt;
+      once = rw c.new-resolvers.ensures.items (none-twice g.M.Resolver.PartialEq.eq);
     }
 
 pub returns-clause-start : goal.returns-clause-start
 returns-clause-start g c =
     let bytes = c.args.parse_state.now.bytes.now in
     let tab = c.args.parse_state.now.options.now.tab_size in
-    let apart = apart-by c.get-tab_size.result tab c.get-tab_size.ensures.columns c.get-tab_size.ensures.least c.get-tab_size.ensures.most in
+    let apart = c.args.parse_state.now.tab_size in
     let p = c.args.point in
     let here = start-end tab apart.0 bytes p c.requires.place in
     let none = start-empty tab apart.0 bytes p c.requires.place in
@@ -47,3 +49,7 @@ returns-clause-start g c =
     let state = c.new-tokenize_state.ensures in
     let calls = c.new-calls.ensures in
     rw (skips, here, none, events, stack, resolvers, kept_choices, map, state, calls) refl
+
+pub returns-clause-document : goal.returns-clause-document
+returns-clause-document g c =
+    record { bytes = c.bytes_are_below_256.ensures; tab = c.args.parse_state.now.tab_size; limit = c.args.parse_state.now.limit; one_size = refl }

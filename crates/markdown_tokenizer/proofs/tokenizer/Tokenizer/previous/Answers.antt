@@ -1,4 +1,4 @@
 use Rattle.markdown_tokenizer.proofs.tokenizer.Tokenizer.previous.Goals as goal
 
 pub returns : goal.returns
-returns g c = rw (← c.self.view_is) c.self.invariant.read.previous_is
+returns g c = rw (← c.self.view_is) c.self.invariant.placed.read.previous_is

@@ -22,7 +22,7 @@ run_states-requires-clause-holds g c =
     let ext = c.extend.ensures r.0 r.1 r.2 r.3 in
     let fresh = false_from_ne_true old.configuration.ended (λ e. let f : true ≡ false = sym (c.shows_in_text.ensures.ended e) ∙ open_still in absurd cc) in
     rw ext (λ rest can only.
-    holds-on given (i.rules m given) (g.met.M.Machine.invariant_kept m given) old.text (pushed r.0 r.1 ∷ rest) old.configuration old.choices c.args.state
+    holds-on given (i.rules m given) (g.met.M.Machine.lawful m given).invariant_kept old.text (pushed r.0 r.1 ∷ rest) old.configuration old.choices c.args.state
     c.shows_in_text.ensures.text (r.4, can) fresh (c.requires.holds open_still))
 
 pub run_states-requires-clause-closed : goal.run_states-requires-clause-closed
@@ -52,9 +52,16 @@ returns-in-Ok-clause-ok g c =
     let ext = c.extend.ensures r.0 r.1 r.2 r.3 in
     let only = rw ext at c.in-Ok.ensures.same in
     let is = rw (only.given, only.text) at c.shows_in_text-in-Ok.ensures.text in
-    is-pushed old (i.rules m given) (record { consumes = met.consumes_once m given; ends = met.ends_when_read m given; keeps = met.invariant_kept m given; pays = met.cost_pays m given })
+    is-pushed old (i.rules m given) (met.lawful m given)
     u c.args.from c.args.to r.0 r.1 c.args.state c.in-Ok.answer is open_still (λ f q f_is q_is. c.in-Ok.ensures.same.text ∙ ap (λ t. t.text) (c.extend.ensures f q f_is q_is))
     only (rw ext at c.in-Ok.ensures.leads) c.in-Ok.ensures.stops c.shows_in_text-in-Ok.ensures (rw ext at c.in-Ok.ensures.message)
 
 pub extend-requires-clause-range : goal.extend-requires-clause-range
 extend-requires-clause-range g c = c.requires.range (sym c.is_closed.ensures ∙ c.if-is_closed.false)
+
+pub run_states-requires-clause-reading : goal.run_states-requires-clause-reading
+run_states-requires-clause-reading g c =
+    let open_still : c.args.self.now.closed ≡ false = sym c.is_closed.ensures ∙ c.if-is_closed.false in
+    let r = c.requires.range open_still in
+    let ext = c.extend.ensures r.0 r.1 r.2 r.3 in
+    rw ext (c.shows_in_text.ensures.reads open_still)

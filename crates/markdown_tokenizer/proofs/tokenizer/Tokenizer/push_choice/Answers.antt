@@ -14,17 +14,10 @@ invariant_of-self-2 g c =
     let put : c.push.new.self.items ≡ t.kept_choices.items ++ record { kind = c.args.kind; ok = c.args.ok; nok = c.args.nok; saved = saved_if c.args.saves t } ∷ [] =
     c.in_ok-push.ensures.items ∙ ap (λ (s : Option Progress). t.kept_choices.items ++ record { kind = c.args.kind; ok = c.args.ok; nok = c.args.nok; saved = s } ∷ []) saved in
     record {
-      limit = sound.limit;
-      tab = sound.tab;
-      reads = sound.reads;
-      end_at = sound.end_at;
-      text = sound.text;
-      skips = sound.skips;
-      read = sound.read;
-      waiting = sound.waiting;
-      ended = sound.ended;
+      placed = sound.placed;
       made = sound.made;
       kept_choices = chosen-kept_choices t sound c.args.kind c.args.ok c.args.nok c.args.saves c.push.new.self.items put;
+      once = sound.once;
     }
 
 pub returns-clause-ok : goal.returns-clause-ok

@@ -1,3 +1,4 @@
+use Rattle.markdown_tokenizer.proofs.Runs.Resolvers.{once-before}
 use Rattle.std.proofs.Common.{sym, refl, ◌∙◌}
 use Rattle.markdown_tokenizer.proofs.tokenizer.Tokenizer.register_resolver_before.Goals as goal
 
@@ -11,3 +12,15 @@ returns-in_ok-insert-clause-ok g c =
     let absent = rw c.deref.ensures.value at (sym c.contains.ensures.value ∙ c.if-not-contains.true) in
     let items = c.in_ok-insert.ensures.items in
     rw (← c.self.view_is) (rw (items, absent) refl)
+
+pub invariant_of-self : goal.invariant_of-self
+invariant_of-self g c =
+    let sound = c.self.invariant in
+    let absent = rw c.deref.ensures.value at (sym c.contains.ensures.value ∙ c.if-not-contains.true) in
+    let items = c.in_ok-insert.ensures.items in
+    record {
+      placed = sound.placed;
+      made = sound.made;
+      kept_choices = sound.kept_choices;
+      once = rw items (once-before g.M.Resolver.PartialEq.eq g.met.M.Resolver.Eq.laws c.args.name c.self.inside.resolvers.items sound.once absent);
+    }

@@ -6,12 +6,12 @@ use Rattle.markdown_tokenizer.proofs.tokenizer.Tokenizer.resolve_each.Goals as g
 pub loop-name-init : goal.loop-name-init
 loop-name-init g c =
     let start = c.args.self.now in
-    resolves-first g.M.Machine.rules start c.args.names.now c.args.sub c.requires.text (g.met.M.Machine.resolvers_keep start.machine start.given) c.requires.invariant
+    resolves-first g.M.Machine.rules start c.args.names.now c.args.sub c.requires.text (g.met.M.Machine.lawful start.machine start.given).resolvers_keep c.requires.invariant
 
 pub resolve_next-requires-clause-invariant : goal.resolve_next-requires-clause-invariant
 resolve_next-requires-clause-invariant g c =
     let rules = g.M.Machine.rules in
-    let start = c.args.self.now in let law = g.met.M.Machine.resolvers_keep start.machine start.given in
+    let start = c.args.self.now in let law = (g.met.M.Machine.lawful start.machine start.given).resolvers_keep in
     let now = c.loop-name.self in let found = c.loop-name.found in
     let names = c.args.names.now in let n = c.loop-name.name-index in
     let x = c.name-item.result in let rest = drop (n + 1) names in
@@ -22,7 +22,7 @@ resolve_next-requires-clause-invariant g c =
 pub returns-in_err-found-clause-message : goal.returns-in_err-found-clause-message
 returns-in_err-found-clause-message g c m is =
     let rules = g.M.Machine.rules in
-    let start = c.args.self.now in let law = g.met.M.Machine.resolvers_keep start.machine start.given in
+    let start = c.args.self.now in let law = (g.met.M.Machine.lawful start.machine start.given).resolvers_keep in
     let now = c.loop-name.self in let found = c.loop-name.found in
     let names = c.args.names.now in let n = c.loop-name.name-index in
     let x = c.name-item.result in let rest = drop (n + 1) names in
@@ -34,7 +34,7 @@ returns-in_err-found-clause-message g c m is =
 pub loop-name-preserved : goal.loop-name-preserved
 loop-name-preserved g c =
     let rules = g.M.Machine.rules in
-    let start = c.args.self.now in let law = g.met.M.Machine.resolvers_keep start.machine start.given in
+    let start = c.args.self.now in let law = (g.met.M.Machine.lawful start.machine start.given).resolvers_keep in
     let now = c.loop-name.self in let found = c.loop-name.found in
     let names = c.args.names.now in let n = c.loop-name.name-index in
     let x = c.name-item.result in let rest = drop (n + 1) names in
@@ -46,7 +46,7 @@ loop-name-preserved g c =
 pub make_edits-requires-clause-can : goal.make_edits-requires-clause-can
 make_edits-requires-clause-can g c =
     let rules = g.M.Machine.rules in
-    let start = c.args.self.now in let law = g.met.M.Machine.resolvers_keep start.machine start.given in
+    let start = c.args.self.now in let law = (g.met.M.Machine.lawful start.machine start.given).resolvers_keep in
     let now = c.loop-name.self in let found = c.loop-name.found in
     let names = c.args.names.now in let n = c.loop-name.name-index in
     let past : drop n names ≡ [] = drop_all n names c.loop-name-test.false in
@@ -56,7 +56,7 @@ make_edits-requires-clause-can g c =
 pub returns-clause-ok : goal.returns-clause-ok
 returns-clause-ok g c =
     let rules = g.M.Machine.rules in
-    let start = c.args.self.now in let law = g.met.M.Machine.resolvers_keep start.machine start.given in
+    let start = c.args.self.now in let law = (g.met.M.Machine.lawful start.machine start.given).resolvers_keep in
     let now = c.loop-name.self in let found = c.loop-name.found in
     let names = c.args.names.now in let n = c.loop-name.name-index in
     let past : drop n names ≡ [] = drop_all n names c.loop-name-test.false in

@@ -1,4 +1,6 @@
 use Rattle.markdown_tokenizer.proofs.tokenizer.Tokenizer.resolvers.Goals as goal
 
 pub returns : goal.returns
-returns g c = rw (← c.self.view_is) c.as_slice.ensures.value
+returns g c =
+    let items = c.as_slice.ensures.value in
+    record { resolvers = rw (← c.self.view_is) items; once = rw items c.self.invariant.once }

@@ -9,15 +9,8 @@ invariant_of-self g c =
     let stack = c.clear.ensures.items in
     let kept_choices = c.clear-2.ensures.items in
     record {
-      limit = sound.limit;
-      tab = sound.tab;
-      reads = sound.reads;
-      end_at = sound.end_at;
-      text = sound.text;
-      skips = sound.skips;
-      read = sound.read;
-      waiting = sound.waiting;
-      ended = sound.ended;
+      placed = sound.placed;
       made = λ f. let m = sound.made f in rw (left, events, stack) (made-new t.parse_state.now.bytes.now _ _ m.left_bound m.left_shown m.bound_shown);
       kept_choices = rw kept_choices tt;
+      once = sound.once;
     }

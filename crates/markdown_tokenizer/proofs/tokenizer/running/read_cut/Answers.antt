@@ -1,14 +1,14 @@
 use Rattle.std.proofs.Common.{◌+◌, ℕ, [], length, get_or, refl}
 use Rattle.std.specs.Prelude.{drop}
 use Rattle.markdown_tokenizer.specs.Engine.{given_by}
-use Rattle.markdown_tokenizer.proofs.Runs.Whole.{apart-by, run-start, run-at, run-last, run-range, run-holds, run-pushed, run-flushed, run-refused, ok-if}
+use Rattle.markdown_tokenizer.proofs.Runs.Whole.{run-start, run-at, run-last, run-range, run-holds, run-pushed, run-flushed, run-refused, ok-if}
 use Rattle.markdown_tokenizer.proofs.tokenizer.running.read_cut.Goals as goal
 
 pub loop-cut-init : goal.loop-cut-init
 loop-cut-init g c =
     let i = g.M.Machine in
     let bytes = c.args.parse_state.now.bytes.now in let options = c.args.parse_state.now.options.now in let m = c.args.parse_state.now.machine.now in
-    run-start i.rules bytes options m c.requires.bytes (apart-by c.get.result options.tab_size c.get.ensures.columns c.get.ensures.least c.get.ensures.most) c.requires.limit (g.met.M.Machine.invariant_kept m (given_by bytes options)) c.args.start c.requires.start c.args.cuts.now c.requires.cuts
+    run-start i.rules bytes options m c.requires.document (g.met.M.Machine.lawful m (given_by bytes options)).invariant_kept c.args.start c.requires.start c.args.cuts.now c.requires.cuts
     c.args.tokenizer.now c.requires.begins
 
 pub push-requires-clause-range : goal.push-requires-clause-range

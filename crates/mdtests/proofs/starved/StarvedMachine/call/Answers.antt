@@ -1,8 +1,11 @@
 use Rattle.std.proofs.Common.{refl, rules}
-use Rattle.mdconstructs.proofs.Rows.Calls.{callable}
+use Rattle.mdconstructs.proofs.Rows.Calls.{callable, never-called}
 use Rattle.mdconstructs.specs.Tables.{counts}
 use Rattle.mdtests.specs.Starved.{starved, text_start}
 use Rattle.mdtests.proofs.starved.StarvedMachine.call.Goals as goal
 
 pub text_start-requires : goal.text_start-requires
 text_start-requires c = callable starved counts c.args.name text_start _ _ (search rules) refl c.requires.invariant.1 c.begin.ensures
+
+pub unreachable-requires : goal.unreachable-requires
+unreachable-requires c = never-called starved c.args.name c.args.t.now (search rules) c.requires.invariant.1

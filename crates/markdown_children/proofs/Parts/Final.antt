@@ -1,0 +1,154 @@
+-- Each event of a child is, after all edits, at the place that links to it lead to.
+use Rattle.std.proofs.Common.{◌≡◌, ℕ, zero, suc, ◌+◌, ◌-◌, ◌<◌, ◌≤◌, Bool, true, false, cond, List, [], ◌∷◌, ◌++◌, length, map, take, drop, Option, Some, None, option_map, refl, sym, ◌∙◌, ap, subst, arith, nat_lt, length-drop, append_assoc}
+use Rattle.std.specs.Prelude.{slice_get, flat_map}
+use Rattle.std.proofs.lemmas.Option.{slice_get-map}
+use Rattle.std.proofs.lemmas.Bool.{ltb-true, ltb-false}
+use Rattle.std.proofs.lemmas.List.{map-append, length-map, length-take-le}
+use Rattle.markdown_base.specs.declared.event.Event.{Event}
+use Rattle.markdown_base.specs.declared.event.Point.{Point}
+use Rattle.markdown_base.specs.Events.{relinked}
+use Rattle.markdown_base.proofs.Common.{get-front}
+use Rattle.markdown_edits.specs.Edits.{Edit, AreDisjoint, removed_by, added_by}
+use Rattle.markdown_edits.specs.Edited.{as_addition, as_change, edited}
+use Rattle.markdown_edits.specs.Woven.{Tagged, Change, woven, placed_in, placed_end}
+use Rattle.markdown_edits.proofs.Edits.Passes.{AreApart, AreApart-le, olds, pass, woven-pass}
+use Rattle.markdown_edits.proofs.Edits.FinalPlaces.{length-olds}
+use Rattle.markdown_edits.proofs.Edits.Splices.{AreApart-edits, relinked-same}
+use Rattle.markdown_edits.proofs.Edits.Survivors.{slice_get-behind}
+use Rattle.markdown_children.specs.Chains.{chain_of}
+use Rattle.markdown_children.specs.Laws.{IsPlacedWell}
+use Rattle.markdown_children.specs.Parts.{parts, child_place, part_edits, divided, edits_of_chain}
+use Rattle.markdown_children.specs.Ready.{place_at}
+use Rattle.markdown_children.proofs.Parts.Kept.{joined, joined-parts}
+
+-- behind what stays up to a change, and what comes there
+behind-change : (w : Change) (ws : List Change) (i q : ℕ) (xs : List Event) → i ≤ w.index → w.index ≤ i + length xs
+    → slice_get (pass (w ∷ ws) i xs) (w.index - i + q) ≡ slice_get (w.events ++ pass ws (w.index + w.remove) (drop (w.index + w.remove - i) xs)) q
+behind-change w ws i q xs l m =
+    let front : List Tagged = olds i (take (w.index - i) xs) in
+    let rest : List Tagged = w.events ++ pass ws (w.index + w.remove) (drop (w.index + w.remove - i) xs) in
+    let n : length front ≡ w.index - i = length-olds i (take (w.index - i) xs) ∙ length-take-le (w.index - i) xs (omega (arith, l, m)) in
+    ap (λ k. slice_get (front ++ rest) (k + q)) (sym n) ∙ slice_get-behind front rest q
+
+-- what a change leaves of the events
+left-of : (w : Change) (ws : List Change) (i : ℕ) (xs : List Event) → AreApart i (w ∷ ws) (i + length xs) → AreApart (w.index + w.remove) ws (w.index + w.remove + length (drop (w.index + w.remove - i) xs))
+left-of w ws i xs d =
+    let b : w.index + w.remove ≤ i + length xs = AreApart-le ws (w.index + w.remove) (i + length xs) d.1 in
+    let a : i ≤ w.index = d.0 in
+    let n : i + length xs ≡ w.index + w.remove + length (drop (w.index + w.remove - i) xs) = omega (arith, a, b, length-drop (w.index + w.remove - i) xs) in
+    subst (AreApart (w.index + w.remove) ws) n d.1
+
+module _ (f : ℕ → Option ℕ) (more : List Edit) where
+  -- an event of a child as it comes into the list
+  abbrev coming : Event → Tagged
+  coming e = as_addition (relinked f e)
+
+  -- the changes of a chain, and of the edits behind them
+  abbrev chain : List ℕ → List (List Event) → List Change
+  chain ks ps = map as_change (part_edits f ks ps ++ more)
+
+  length-coming : (p : List Event) → length (map as_addition (map (relinked f) p)) ≡ length p
+  length-coming p = length-map (map (relinked f) p) as_addition ∙ length-map p (relinked f)
+
+  in-part : (p rest : List Event) (us : List Tagged) (n : ℕ) → n < length p → slice_get (map as_addition (map (relinked f) p) ++ us) n ≡ option_map coming (slice_get (p ++ rest) n)
+  in-part p rest us n h =
+      get-front (map as_addition (map (relinked f) p)) us n (omega (arith, h, length-coming p)) ∙ slice_get-map as_addition (map (relinked f) p) n ∙ ap (option_map as_addition) (slice_get-map (relinked f) p n) ∙ twice (slice_get p n)
+      ∙ ap (option_map coming) (sym (get-front p rest n h))
+    where
+      twice : (o : Option Event) → option_map as_addition (option_map (relinked f) o) ≡ option_map coming o
+      twice None = refl
+      twice (Some e) = refl
+
+  behind-part : (p : List Event) (us : List Tagged) (q : ℕ) → slice_get (map as_addition (map (relinked f) p) ++ us) (length p + q) ≡ slice_get us q
+  behind-part p us q = ap (λ k. slice_get (map as_addition (map (relinked f) p) ++ us) (k + q)) (sym (length-coming p)) ∙ slice_get-behind (map as_addition (map (relinked f) p)) us q
+
+  -- where an event of a child is among what is left from an index on
+  abbrev IsAt : (ks : List ℕ) (ps : List (List Event)) (removed added i n : ℕ) → List Event → ℕ → Type 0
+  IsAt ks ps removed added i n xs place =
+      (q : ℕ) × (place ≡ i - removed + added + q) × (slice_get (pass (chain ks ps) i xs) q ≡ option_map coming (slice_get (joined ps) n))
+
+  at-place : (ks : List ℕ) (ps : List (List Event)) (removed added i n : ℕ) (xs : List Event) (place : ℕ) → AreApart i (chain ks ps) (i + length xs) → removed ≤ i
+      → child_place ks ps removed added n ≡ Some place → IsAt ks ps removed added i n xs place
+  at-place [] ps removed added i n xs place d l is = absurd (cc)
+  at-place (k ∷ ks) [] removed added i n xs place d l is = absurd (cc)
+  at-place (k ∷ ks) (p ∷ ps) removed added i n xs place d l is =
+      let w : Change = as_change (record { index = k; remove = 2; additions = map (relinked f) p }) in
+      let ws : List Change = chain ks ps in
+      let a : i ≤ k = d.0 in
+      let b : k + 2 ≤ i + length xs = AreApart-le ws (k + 2) (i + length xs) d.1 in
+      let rest : List Event = drop (k + 2 - i) xs in
+      let tail : List Tagged = pass ws (k + 2) rest in
+      elim (nat_lt n (length p)) as (λ t. nat_lt n (length p) ≡ t → cond t (Some (k - removed + added + n)) (child_place ks ps (removed + 2) (added + length p) (n - length p)) ≡ Some place
+      → IsAt (k ∷ ks) (p ∷ ps) removed added i n xs place) [
+        | true ↦ λ t e.
+            let inside = ltb-true n (length p) t in
+            let there : k - removed + added + n ≡ place = cc in
+            (k - i + n, omega (arith, there, a, l), behind-change w ws i n xs a (omega (arith, b)) ∙ in-part p (joined ps) tail n inside)
+        | false ↦ λ t e.
+            let past = ltb-false n (length p) t in
+            let (q, where_to, found) = at-place ks ps (removed + 2) (added + length p) (k + 2) (n - length p) rest place (left-of w ws i xs d) (omega (arith, a, l)) e in
+            let same : length p + (n - length p) ≡ n = omega (arith, past) in (
+              k - i + (length p + q),
+              omega (arith, where_to, a, l),
+              behind-change w ws i (length p + q) xs a (omega (arith, b)) ∙ behind-part p tail q ∙ found
+                  ∙ ap (option_map coming) (sym (slice_get-behind p (joined ps) (n - length p)) ∙ ap (slice_get (p ++ joined ps)) same),
+            )
+      ] refl is
+
+  -- and behind the edits before the chain
+  abbrev IsAtAfter : (es : List Edit) (ks : List ℕ) (ps : List (List Event)) (removed added i n : ℕ) → List Event → ℕ → Type 0
+  IsAtAfter es ks ps removed added i n xs place =
+      (q : ℕ) × (place ≡ i - removed + added + q) × (slice_get (pass (map as_change (es ++ (part_edits f ks ps ++ more))) i xs) q ≡ option_map coming (slice_get (joined ps) n))
+
+  at-after : (es : List Edit) (ks : List ℕ) (ps : List (List Event)) (removed added i n : ℕ) (xs : List Event) (place : ℕ) → AreApart i (map as_change (es ++ (part_edits f ks ps ++ more))) (i + length xs)
+      → removed ≤ i → child_place ks ps (removed + removed_by es) (added + added_by es) n ≡ Some place → IsAtAfter es ks ps removed added i n xs place
+  at-after [] ks ps removed added i n xs place d l is =
+      let r : removed + 0 ≡ removed = omega arith in
+      let s : added + 0 ≡ added = omega arith in
+      at-place ks ps removed added i n xs place d l (ap (λ x. child_place ks ps removed x n) (sym s) ∙ ap (λ x. child_place ks ps x (added + 0) n) (sym r) ∙ is)
+  at-after (e ∷ es) ks ps removed added i n xs place d l is =
+      let w : Change = as_change e in
+      let ws : List Change = map as_change (es ++ (part_edits f ks ps ++ more)) in
+      let j : ℕ = e.index + e.remove in
+      let a : i ≤ e.index = d.0 in
+      let b : j ≤ i + length xs = AreApart-le ws j (i + length xs) d.1 in
+      let rest : List Event = drop (j - i) xs in
+      let r : removed + (e.remove + removed_by es) ≡ removed + e.remove + removed_by es = omega arith in
+      let s : added + (length e.additions + added_by es) ≡ added + length e.additions + added_by es = omega arith in
+      let there : child_place ks ps (removed + e.remove + removed_by es) (added + length e.additions + added_by es) n ≡ Some place =
+      ap (λ x. child_place ks ps x (added + length e.additions + added_by es) n) (sym r) ∙ ap (λ x. child_place ks ps (removed + (e.remove + removed_by es)) x n) (sym s) ∙ is in
+      let (q, where_to, found) = at-after es ks ps (removed + e.remove) (added + length e.additions) j n rest place (left-of w ws i xs d) (omega (arith, a, l)) there in
+      let many : length (map as_addition e.additions) ≡ length e.additions = length-map e.additions as_addition in (
+        e.index - i + (length e.additions + q),
+        omega (arith, where_to, a, l),
+        behind-change w ws i (length e.additions + q) xs a (omega (arith, b)) ∙ ap (λ k. slice_get (map as_addition e.additions ++ pass ws j rest) (k + q)) (sym many)
+            ∙ slice_get-behind (map as_addition e.additions) (pass ws j rest) q ∙ found,
+      )
+
+-- the parts of a child are the child
+whole-child : (events : List Event) (ks : List ℕ) (child : List Event) (removed added n place : ℕ) → let ps = parts (map (λ k. place_at events (k + 1)) ks) child in child_place ks ps removed added n ≡ Some place → joined ps ≡ child
+whole-child events [] child removed added n place is = absurd (cc)
+whole-child events (k ∷ ks) child removed added n place is = joined-parts (place_at events (k + 1)) (map (λ k. place_at events (k + 1)) ks) child
+
+pub child_is_placed_well : (es more : List Edit) (events : List Event) (c : ℕ) (child : List Event) → IsPlacedWell es more events c child
+child_is_placed_well es more events c child d n place is =
+    let div = divided events c child in
+    let f = child_place div.chunks div.parts (removed_by es) (added_by es) in
+    let all : List Edit = es ++ (part_edits f div.chunks div.parts ++ more) in
+    let ws : List Change = map as_change all in
+    let z : length events ≡ 0 + length events = omega arith in
+    let apart : AreApart 0 ws (0 + length events) = subst (AreApart 0 ws) z (AreApart-edits all 0 (length events) d) in
+    let none : child_place div.chunks div.parts (0 + removed_by es) (0 + added_by es) n ≡ Some place =
+    let r : 0 + removed_by es ≡ removed_by es = omega arith in
+    let s : 0 + added_by es ≡ added_by es = omega arith in
+    ap (λ x. child_place div.chunks div.parts x (0 + added_by es) n) r ∙ ap (λ x. child_place div.chunks div.parts (removed_by es) x n) s ∙ is in
+    let (q, where_to, found) = at-after f more es div.chunks div.parts 0 0 0 n events place apart (omega arith) none in
+    let same : place ≡ q = omega (arith, where_to) in
+    let ts : List Tagged = woven ws 0 events in
+    let made : slice_get ts place ≡ option_map (coming f more) (slice_get child n) =
+    ap (slice_get ts) same ∙ ap (λ us. slice_get us q) (woven-pass ws 0 events apart) ∙ found ∙ ap (λ es. option_map (coming f more) (slice_get es n)) (whole-child events div.chunks child (removed_by es) (added_by es) n place is) in
+    slice_get-map (λ (u : Tagged). relinked (placed_end ts u.identity) u.event) ts place ∙ ap (option_map (λ (u : Tagged). relinked (placed_end ts u.identity) u.event)) made ∙ settled ts f (slice_get child n)
+  where
+    settled : (ts : List Tagged) (f : ℕ → Option ℕ) (o : Option Event) → option_map (λ (u : Tagged). relinked (placed_end ts u.identity) u.event) (option_map (coming f more) o) ≡ option_map (relinked f) o
+    settled ts f None = refl
+    settled ts f (Some e) = ap Some (relinked-same (relinked f e))

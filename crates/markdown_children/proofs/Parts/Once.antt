@@ -1,0 +1,150 @@
+-- Each event stands once in the list with children.
+use Rattle.std.proofs.Common.{◌≡◌, ℕ, zero, suc, ◌+◌, ◌-◌, ◌<◌, ◌≤◌, Bool, true, false, eqb, List, [], ◌∷◌, ◌++◌, length, take, drop, Some, None, refl, sym, ◌∙◌, ap, subst, arith, length-drop}
+use Rattle.std.specs.Prelude.{◌&&◌, flat_map, slice_get}
+use Rattle.std.specs.List.{AllByRecursion}
+use Rattle.std.proofs.lemmas.Bool.{ne_eqb, eq-eqb, eqb-true}
+use Rattle.std.proofs.lemmas.List.{length-take-le}
+use Rattle.std.proofs.lemmas.Option.{none-some, same_Some}
+use Rattle.markdown_base.specs.declared.event.Event.{Event}
+use Rattle.markdown_edits.specs.Woven.{Identity, of_list, of_child, of_addition, Tagged, is_same, place_in, Change}
+use Rattle.markdown_edits.proofs.Edits.Passes.{olds, pass, AreApart, AreApart-le}
+use Rattle.markdown_edits.proofs.Edits.FinalPlaces.{HasNo, place_in-append, place_in-olds_below, place_in-pass_below}
+use Rattle.markdown_children.specs.Parts.{Divided}
+use Rattle.markdown_children.specs.Children.{tagged_child, part_changes, first_chunk, chain_changes}
+use Rattle.markdown_children.proofs.Parts.ChildPlaces.{place_in-child_olds}
+use Rattle.markdown_children.proofs.Parts.Placed.{has_no-chain, has_no-append}
+
+-- no event stands again behind itself
+abbrev pub AreOnce : List Tagged → Type 0
+AreOnce [] = Unit {0}
+AreOnce (t ∷ ts) = (place_in t.identity ts ≡ None) × AreOnce ts
+
+none-append : (b : Identity) (xs ys : List Tagged) → place_in b xs ≡ None → place_in b ys ≡ None → place_in b (xs ++ ys) ≡ None
+none-append b xs ys h k = rw (place_in-append b xs ys, h, k) refl
+
+once-append : (xs ys : List Tagged) → AreOnce xs → AllByRecursion (λ (t : Tagged). place_in t.identity ys ≡ None) xs → AreOnce ys → AreOnce (xs ++ ys)
+once-append [] ys h k l = l
+once-append (t ∷ xs) ys h k l = (none-append t.identity xs ys h.0 k.0, once-append xs ys h.1 k.1 l)
+
+pub is_same-true : (a b : Identity) → is_same a b ≡ true → a ≡ b
+is_same-true (of_list i) (of_list j) e = ap of_list (eqb-true i j e)
+is_same-true (of_child c i) (of_child d j) e = two (eqb c d) (eqb i j) refl refl e
+  where
+    two : (p q : Bool) → eqb c d ≡ p → eqb i j ≡ q → (p && q) ≡ true → of_child c i ≡ of_child d j
+    two true true f g t = λ k. of_child (eqb-true c d f k) (eqb-true i j g k)
+    two true false f g t = cc
+    two false q f g t = cc
+is_same-true (of_list i) (of_child d j) e = cc
+is_same-true (of_list i) of_addition e = cc
+is_same-true (of_child c i) (of_list j) e = cc
+is_same-true (of_child c i) of_addition e = cc
+is_same-true of_addition b e = cc
+
+-- so an event that can be named stands where its name leads
+pub once-place : (ts : List Tagged) (p : ℕ) (u : Tagged) → AreOnce ts → is_same u.identity u.identity ≡ true → slice_get ts p ≡ Some u → place_in u.identity ts ≡ Some p
+once-place [] p u h s e = absurd (none-some u e)
+once-place (t ∷ ts) zero u h s e =
+    let same : t ≡ u = same_Some t u e in
+    subst (λ (v : Tagged). place_in u.identity (v ∷ ts) ≡ Some 0) (sym same) (rw s refl)
+once-place (t ∷ ts) (suc p) u h s e = at (is_same u.identity t.identity) refl (once-place ts p u h.1 s e)
+  where
+    at : (b : Bool) → is_same u.identity t.identity ≡ b → place_in u.identity ts ≡ Some p → place_in u.identity (t ∷ ts) ≡ Some (suc p)
+    at true f r =
+        let same : u.identity ≡ t.identity = is_same-true u.identity t.identity f in
+        absurd (none-some p (sym h.0 ∙ ap (λ (b : Identity). place_in b ts) (sym same) ∙ r))
+    at false f r = rw (f, r) refl
+
+-- ---- events that stay, and those that come
+
+all-olds : (P : Identity → Type 0) (i : ℕ) (xs : List Event) → ((n : ℕ) → i ≤ n → n < i + length xs → P (of_list n)) → AllByRecursion (λ (t : Tagged). P t.identity) (olds i xs)
+all-olds P i [] h = tt
+all-olds P i (x ∷ xs) h = (h i (omega arith) (omega arith), all-olds P (i + 1) xs (λ n l m. h n (omega arith) (omega arith)))
+
+once-olds : (i : ℕ) (xs : List Event) → AreOnce (olds i xs)
+once-olds i [] = tt
+once-olds i (x ∷ xs) = (place_in-olds_below i (i + 1) xs (omega arith), once-olds (i + 1) xs)
+
+-- the name is of no event of the list
+abbrev IsNoOld : Identity → Type 0
+IsNoOld b = (i : ℕ) (xs : List Event) → place_in b (olds i xs) ≡ None
+
+-- what comes is new, and comes once
+abbrev pub ComeOnce : List Change → Type 0
+ComeOnce [] = Unit {0}
+ComeOnce (w ∷ ws) = AreOnce w.events × AllByRecursion (λ (t : Tagged). IsNoOld t.identity × HasNo t.identity ws) w.events × ComeOnce ws
+
+none-pass : (b : Identity) (ws : List Change) (i : ℕ) (xs : List Event) → IsNoOld b → HasNo b ws → place_in b (pass ws i xs) ≡ None
+none-pass b [] i xs h k = h i xs
+none-pass b (w ∷ ws) i xs h k =
+    let rest : List Tagged = pass ws (w.index + w.remove) (drop (w.index + w.remove - i) xs) in
+    none-append b (olds i (take (w.index - i) xs)) (w.events ++ rest) (h i (take (w.index - i) xs))
+    (none-append b w.events rest k.0 (none-pass b ws (w.index + w.remove) (drop (w.index + w.remove - i) xs) h k.1))
+
+all-mapped : {A : Type 0} (P Q : A → Type 0) → ((a : A) → P a → Q a) → (xs : List A) → AllByRecursion P xs → AllByRecursion Q xs
+all-mapped P Q f [] h = tt
+all-mapped P Q f (x ∷ xs) h = (f x h.0, all-mapped P Q f xs h.1)
+
+pub once-pass : (ws : List Change) (i : ℕ) (xs : List Event) → ((n : ℕ) → HasNo (of_list n) ws) → ComeOnce ws → AreApart i ws (i + length xs) → AreOnce (pass ws i xs)
+once-pass [] i xs h k d = once-olds i xs
+once-pass (w ∷ ws) i xs h k d =
+    let a : i ≤ w.index = d.0 in
+    let j : ℕ = w.index + w.remove in
+    let b : j ≤ i + length xs = AreApart-le ws j (i + length xs) d.1 in
+    let front : List Event = take (w.index - i) xs in
+    let back : List Event = drop (j - i) xs in
+    let long : length front ≡ w.index - i = length-take-le (w.index - i) xs (omega arith) in
+    let m : i + length xs ≡ j + length back = omega (arith, length-drop (j - i) xs) in
+    let d' : AreApart j ws (j + length back) = subst (λ n. AreApart j ws n) m d.1 in
+    let rest : List Tagged = pass ws j back in
+    let later : AreOnce rest = once-pass ws j back (λ n. (h n).1) k.2 d' in
+    let below : (n : ℕ) → i ≤ n → n < i + length front → place_in (of_list n) (w.events ++ rest) ≡ None =
+    λ n l u. none-append (of_list n) w.events rest (h n).0 (place_in-pass_below ws n j back (h n).1 d' (omega (arith, long))) in
+    once-append (olds i front) (w.events ++ rest) (once-olds i front) (all-olds (λ b. place_in b (w.events ++ rest) ≡ None) i front below)
+    (once-append w.events rest k.0
+    (all-mapped (λ (t : Tagged). IsNoOld t.identity × HasNo t.identity ws) (λ (t : Tagged). place_in t.identity rest ≡ None) (λ t p. none-pass t.identity ws j back p.0 p.1) w.events k.1)
+    later)
+
+-- ---- the parts of children
+
+all-tagged : (P : Identity → Type 0) (c j : ℕ) (es : List Event) → ((n : ℕ) → j ≤ n → n < j + length es → P (of_child c n)) → AllByRecursion (λ (t : Tagged). P t.identity) (tagged_child c j es)
+all-tagged P c j [] h = tt
+all-tagged P c j (e ∷ es) h = (h j (omega arith) (omega arith), all-tagged P c (j + 1) es (λ n l m. h n (omega arith) (omega arith)))
+
+place_in-child_below : (c n j : ℕ) (es : List Event) → n < j → place_in (of_child c n) (tagged_child c j es) ≡ None
+place_in-child_below c n j [] l = refl
+place_in-child_below c n j (e ∷ es) l =
+    let here : eqb c c ≡ true = eq-eqb c c refl in
+    let there : eqb n j ≡ false = ne_eqb n j (omega arith) in
+    rw (here, there, place_in-child_below c n (j + 1) es (omega arith)) refl
+
+once-tagged : (c j : ℕ) (es : List Event) → AreOnce (tagged_child c j es)
+once-tagged c j [] = tt
+once-tagged c j (e ∷ es) = (place_in-child_below c j (j + 1) es (omega arith), once-tagged c (j + 1) es)
+
+has_no-later : (c n j : ℕ) (ks : List ℕ) (ps : List (List Event)) (ws : List Change) → n < j → HasNo (of_child c n) ws → HasNo (of_child c n) (part_changes c j ks ps ++ ws)
+has_no-later c n j [] ps ws l h = h
+has_no-later c n j (k ∷ ks) [] ws l h = h
+has_no-later c n j (k ∷ ks) (p ∷ ps) ws l h = (place_in-child_below c n j p l, has_no-later c n (j + length p) ks ps ws (omega arith) h)
+
+once-parts : (c j : ℕ) (ks : List ℕ) (ps : List (List Event)) (ws : List Change) → ((n : ℕ) → HasNo (of_child c n) ws) → ComeOnce ws → ComeOnce (part_changes c j ks ps ++ ws)
+once-parts c j [] ps ws h k = k
+once-parts c j (d ∷ ks) [] ws h k = k
+once-parts c j (d ∷ ks) (p ∷ ps) ws h k = (
+  once-tagged c j p,
+  all-tagged (λ b. IsNoOld b × HasNo b (part_changes c (j + length p) ks ps ++ ws)) c j p (λ n l m. (place_in-child_olds c n, has_no-later c n (j + length p) ks ps ws m (h n))),
+  once-parts c (j + length p) ks ps ws h k,
+)
+
+has_no-chains : (c n : ℕ) (ds : List Divided) → AllByRecursion (λ (d : Divided). first_chunk d.chunks ≡ c → ⊥) ds → HasNo (of_child c n) (flat_map chain_changes ds)
+has_no-chains c n [] h = tt
+has_no-chains c n (d ∷ ds) h =
+    has_no-append (of_child c n) (chain_changes d) (flat_map chain_changes ds) (has_no-chain c (first_chunk d.chunks) n 0 d.chunks d.parts (λ e. h.0 (sym e))) (has_no-chains c n ds h.1)
+
+-- no two chains begin at one chunk
+abbrev pub AreOthers : List Divided → Type 0
+AreOthers [] = Unit {0}
+AreOthers (d ∷ ds) = AllByRecursion (λ (other : Divided). first_chunk other.chunks ≡ first_chunk d.chunks → ⊥) ds × AreOthers ds
+
+pub once-chains : (ds : List Divided) → AreOthers ds → ComeOnce (flat_map chain_changes ds)
+once-chains [] h = tt
+once-chains (d ∷ ds) h = once-parts (first_chunk d.chunks) 0 d.chunks d.parts (flat_map chain_changes ds) (λ n. has_no-chains (first_chunk d.chunks) n ds h.0) (once-chains ds h.1)

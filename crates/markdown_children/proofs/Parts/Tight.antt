@@ -1,0 +1,212 @@
+-- Void spans stay empty where children come in, unless a part ends inside one.
+--
+-- Each event of the list is followed by what followed it, or by a part in the place of a chunk, whose enter follows no void enter. An event
+-- of a child is followed by the next one of its part; and the last one of a part by the next one of its child, where nothing stands between.
+use Rattle.std.proofs.Common.{◌≡◌, ℕ, zero, suc, ◌+◌, ◌-◌, ◌≤◌, true, List, [], ◌∷◌, ◌++◌, length, map, drop, take, Option, Some, refl, sym, ◌∙◌, ap, subst, arith}
+use Rattle.std.specs.Prelude.{flat_map, slice_get}
+use Rattle.std.specs.List.{AllByRecursion, between, range_with_len}
+use Rattle.std.proofs.lemmas.Option.{none-some, same_Some}
+use Rattle.markdown_base.specs.declared.event.Content.{Content}
+use Rattle.markdown_base.specs.declared.event.Event.{Event}
+use Rattle.markdown_base.specs.declared.event.Kind.TheVariants.{Enter, Exit}
+use Rattle.markdown_base.specs.declared.event.Point.{Point}
+use Rattle.markdown_base.specs.Events.{is_void, relinked, IsVoidTight}
+use Rattle.markdown_base.proofs.Common.{drop-at}
+use Rattle.markdown_edits.specs.Woven.{Tagged, Change, placed_end, placed_in, woven}
+use Rattle.markdown_edits.proofs.Edits.Passes.{AreApart, pass, woven-pass}
+use Rattle.markdown_children.specs.Chains.{chain_of, fits, fitting_starts}
+use Rattle.markdown_children.specs.Ready.{IsReady, place_at}
+use Rattle.markdown_children.specs.Laws.{LeadOnFrom, IsWholeFrom, AreSpaced, EndsInVoidEnter, StandSideBySide, IsTornNowhere, NoneTorn}
+use Rattle.markdown_children.specs.Parts.{Divided, parts, divided_over}
+use Rattle.markdown_children.specs.Children.{tagged_child, part_changes, first_chunk, chain_changes, child_changes, with_children}
+use Rattle.markdown_children.proofs.ChainOrder.Following.{chunk, fits_next, starts_fit, follow_one_another}
+use Rattle.markdown_children.proofs.ChainOrder.Spaced.{length-parts, length-map_ends, changes_are_apart}
+use Rattle.markdown_children.proofs.Parts.Kept.{joined, joined-parts, untagged, untagged-olds, untagged-child, after_changes, after-step, split-at}
+
+-- ---- tight lists
+
+-- an event is followed by the exit of its name
+abbrev ExitsAs : Event → Option Event → Type 0
+ExitsAs e o = (f : Event) × (o ≡ Some f) × (f.kind ≡ Exit) × (f.name ≡ e.name)
+
+-- if it enters a void name
+abbrev IsFollowedBy : Event → Option Event → Type 0
+IsFollowedBy e o = e.kind ≡ Enter → is_void e.name ≡ true → ExitsAs e o
+
+-- the first events are tight where the others follow
+abbrev IsTightBefore : List Event → List Event → Type 0
+IsTightBefore [] ys = Unit {0}
+IsTightBefore (e ∷ xs) ys = IsFollowedBy e (slice_get (xs ++ ys) 0) × IsTightBefore xs ys
+
+abbrev IsTight : List Event → Type 0
+IsTight [] = Unit {0}
+IsTight (e ∷ xs) = IsFollowedBy e (slice_get xs 0) × IsTight xs
+
+tight-split : (xs ys : List Event) → IsTight (xs ++ ys) → IsTightBefore xs ys × IsTight ys
+tight-split [] ys h = (tt, h)
+tight-split (e ∷ xs) ys h = let r = tight-split xs ys h.1 in ((h.0, r.0), r.1)
+
+tight-join : (xs ys : List Event) → IsTightBefore xs ys → IsTight ys → IsTight (xs ++ ys)
+tight-join [] ys h k = k
+tight-join (e ∷ xs) ys h k = (h.0, tight-join xs ys h.1 k)
+
+tight-drop : (k : ℕ) (xs : List Event) → IsTight xs → IsTight (drop k xs)
+tight-drop zero xs h = h
+tight-drop (suc k) [] h = tt
+tight-drop (suc k) (x ∷ xs) h = tight-drop k xs h.1
+
+-- what follows matters only behind a void enter
+tight-moved : (xs ys zs : List Event) → IsTightBefore xs ys → (EndsInVoidEnter xs → slice_get ys 0 ≡ slice_get zs 0) → IsTightBefore xs zs
+tight-moved [] ys zs h s = tt
+tight-moved (e ∷ []) ys zs h s = ((λ enter void. subst (ExitsAs e) (s (enter, void)) (h.0 enter void)), tt)
+tight-moved (e ∷ f ∷ xs) ys zs h s = (h.0, tight-moved (f ∷ xs) ys zs h.1 s)
+
+last-exits : (xs ys : List Event) → IsTightBefore xs ys → EndsInVoidEnter xs → (e : Event) × ExitsAs e (slice_get ys 0)
+last-exits [] ys h v = absurd v
+last-exits (e ∷ []) ys h v = (e, h.0 v.0 v.1)
+last-exits (e ∷ f ∷ xs) ys h v = last-exits (f ∷ xs) ys h.1 v
+
+-- no void enter stands in front of an enter
+before-enter : (xs ys zs : List Event) (f : Event) → slice_get ys 0 ≡ Some f → f.kind ≡ Enter → IsTightBefore xs ys → IsTightBefore xs zs
+before-enter xs ys zs f at enter h = tight-moved xs ys zs h (λ v.
+    let l = last-exits xs ys h v in
+    let same : l.1.0 ≡ f = same_Some l.1.0 f (sym l.1.1 ∙ at) in
+    let no : Exit ≡ Enter = sym l.1.2 ∙ ap (λ (x : Event). x.kind) same ∙ enter in
+    absurd (cc))
+
+-- no void enter stands at the end
+at-end : (xs zs : List Event) → IsTightBefore xs [] → IsTightBefore xs zs
+at-end xs zs h = tight-moved xs [] zs h (λ v. let l = last-exits xs [] h v in absurd (none-some l.1.0 l.1.1))
+
+pub tight-from : (xs : List Event) → IsVoidTight xs → IsTight xs
+tight-from [] h = tt
+tight-from (e ∷ xs) h = (
+  h 0 e refl,
+  tight-from xs (λ k f at enter void. let r = h (suc k) f at enter void in (r.0, let z : suc k + 1 ≡ suc (k + 1) = omega arith in sym (ap (slice_get (e ∷ xs)) z) ∙ r.1, r.2, r.3)),
+)
+
+pub tight-to : (xs : List Event) → IsTight xs → IsVoidTight xs
+tight-to [] h k f at = absurd (none-some f at)
+tight-to (e ∷ xs) h zero f at =
+    subst (λ (x : Event). x.kind ≡ Enter → is_void x.name ≡ true → (g : Event) × (slice_get (e ∷ xs) (0 + 1) ≡ Some g) × (g.kind ≡ Exit) × (g.name ≡ x.name)) (same_Some e f at)
+    h.0
+tight-to (e ∷ xs) h (suc k) f at = λ enter void.
+    let r = tight-to xs h.1 k f at enter void in
+    (r.0, let z : suc k + 1 ≡ suc (k + 1) = omega arith in ap (slice_get (e ∷ xs)) z ∙ r.1, r.2, r.3)
+
+-- link ends do not matter
+tight-placed : (ts us : List Tagged) → IsTight (untagged us) → IsTight (placed_in ts us)
+tight-placed ts [] h = tt
+tight-placed ts (u ∷ us) h = ((λ enter void. first us (h.0 enter void)), tight-placed ts us h.1)
+  where
+    first : (vs : List Tagged) → ExitsAs u.event (slice_get (untagged vs) 0) → ExitsAs u.event (slice_get (placed_in ts vs) 0)
+    first [] r = absurd (none-some r.0 r.1)
+    first (v ∷ vs) r =
+        let same : r.0 ≡ v.event = sym (same_Some v.event r.0 r.1) in
+        (relinked (placed_end ts v.identity) v.event, refl, ap (λ (x : Event). x.kind) (sym same) ∙ r.2, ap (λ (x : Event). x.name) (sym same) ∙ r.3)
+
+-- ---- the chains of a list
+
+module _ (tab : ℕ) (bytes : List ℕ) (wanted : Option Content) (events : List Event) (ready : IsReady tab bytes wanted events) (tight : IsTight events) where
+  abbrev n : ℕ
+  n = length events
+
+  abbrev Fits : ℕ → Type 0
+  Fits k = fits wanted events k ≡ true
+
+  abbrev after : List Change → ℕ → List Event
+  after ws i = after_changes tab bytes wanted events ready ws i
+
+  -- what stands in front of a chunk may be followed by anything
+  before-chunk : (i k : ℕ) (zs : List Event) → i ≤ k → Fits k → IsTightBefore (between i k events) zs
+  before-chunk i k zs l h =
+      let c = chunk tab bytes wanted events ready k h in
+      let split = tight-split (between i k events) (drop k events) (subst IsTight (split-at events i k l) (tight-drop i events tight)) in
+      before-enter (between i k events) (drop k events) zs c.enter (ap (λ ys. slice_get ys 0) (drop-at events k c.enter c.enter_at)) c.linked.enter split.0
+
+  part-after : (c j i d : ℕ) (ks : List ℕ) (p : List Event) (ps : List (List Event)) (ws : List Change) → i ≤ d
+      → after (part_changes c j (d ∷ ks) (p ∷ ps) ++ ws) i ≡ between i d events ++ (p ++ after (part_changes c (j + length p) ks ps ++ ws) (d + 2))
+  part-after c j i d ks p ps ws l =
+      let w : Change = record { index = d; remove = 2; events = tagged_child c j p } in
+      let rest : List Change = part_changes c (j + length p) ks ps ++ ws in
+      after-step tab bytes wanted events ready w rest i l ∙ ap (λ ys. between i d events ++ (ys ++ after rest (d + 2))) (untagged-child c j p)
+
+  between-none : (i d : ℕ) → d ≡ i → between i d events ≡ []
+  between-none i d e = let z : d - i ≡ 0 = omega arith in ap (λ m. take m (drop i events)) z
+
+  -- where chunks stand side by side, the child goes on behind the one at k
+  goes-on : (c j k : ℕ) (ks : List ℕ) (ps : List (List Event)) (ws : List Change) (f : Event) → slice_get (joined ps) 0 ≡ Some f → length ks ≡ length ps → StandSideBySide k ks ps
+      → slice_get (joined ps) 0 ≡ slice_get (after (part_changes c j ks ps ++ ws) (k + 2)) 0
+  goes-on c j k [] [] ws f at e s = absurd (none-some f at)
+  goes-on c j k [] (p ∷ ps) ws f at e s = absurd (omega arith)
+  goes-on c j k (d ∷ ks) [] ws f at e s = absurd (omega arith)
+  goes-on c j k (d ∷ ks) ([] ∷ ps) ws f at e s =
+      let more = goes-on c (j + 0) d ks ps ws f at (omega arith) s.1 in
+      let is : after (part_changes c j (d ∷ ks) ([] ∷ ps) ++ ws) (k + 2) ≡ after (part_changes c (j + 0) ks ps ++ ws) (d + 2) =
+      part-after c j (k + 2) d ks [] ps ws (omega (arith, s.0)) ∙ ap (λ ys. ys ++ after (part_changes c (j + 0) ks ps ++ ws) (d + 2)) (between-none (k + 2) d s.0) in
+      more ∙ ap (λ ys. slice_get ys 0) (sym is)
+  goes-on c j k (d ∷ ks) ((x ∷ p) ∷ ps) ws f at e s =
+      let rest : List Event = after (part_changes c (j + length (x ∷ p)) ks ps ++ ws) (d + 2) in
+      let is : after (part_changes c j (d ∷ ks) ((x ∷ p) ∷ ps) ++ ws) (k + 2) ≡ (x ∷ p) ++ rest =
+      part-after c j (k + 2) d ks (x ∷ p) ps ws (omega (arith, s)) ∙ ap (λ ys. ys ++ ((x ∷ p) ++ rest)) (between-none (k + 2) d s) in
+      ap (λ ys. slice_get ys 0) (sym is)
+
+  -- a part, and all that stands behind the chunk at k
+  parts-tight : (c j k : ℕ) (p : List Event) (ks more : List ℕ) (ps : List (List Event)) (ws : List Change) → Fits k → LeadOnFrom events k ks → length ks ≡ length ps → AreSpaced (k + 2) (ks ++ more) n
+      → ((m : ℕ) → AreSpaced m more n → IsTight (after ws m)) → IsTight (p ++ joined ps) → IsTornNowhere (k ∷ ks) (p ∷ ps)
+      → IsTight (p ++ after (part_changes c j ks ps ++ ws) (k + 2))
+  parts-tight c j k p [] more [] ws h lead e sp rest t torn =
+      tight-join p (after ws (k + 2)) (at-end p (after ws (k + 2)) (tight-split p [] t).0) (rest (k + 2) sp)
+  parts-tight c j k p [] more (q ∷ ps) ws h lead e sp rest t torn = absurd (omega arith)
+  parts-tight c j k p (d ∷ ks) more [] ws h lead e sp rest t torn = absurd (omega arith)
+  parts-tight c j k p (d ∷ ks) more (q ∷ ps) ws h lead e sp rest t torn =
+      let fit : Fits d = fits_next tab bytes wanted events ready k d h lead.0 in
+      let both = tight-split p (q ++ joined ps) t in
+      let behind : List Event = q ++ after (part_changes c (j + length q) ks ps ++ ws) (d + 2) in
+      let tail : IsTight behind = parts-tight c (j + length q) d q ks more ps ws fit lead.2 (omega arith) sp.1 rest both.1 torn.1 in
+      let all : IsTight (between (k + 2) d events ++ behind) = tight-join (between (k + 2) d events) behind (before-chunk (k + 2) d behind sp.0 fit) tail in
+      let is : after (part_changes c j (d ∷ ks) (q ∷ ps) ++ ws) (k + 2) ≡ between (k + 2) d events ++ behind = part-after c j (k + 2) d ks q ps ws sp.0 in
+      tight-join p (after (part_changes c j (d ∷ ks) (q ∷ ps) ++ ws) (k + 2))
+      (tight-moved p (q ++ joined ps) (after (part_changes c j (d ∷ ks) (q ∷ ps) ++ ws) (k + 2)) both.0
+      (λ v. let l = last-exits p (q ++ joined ps) both.0 v in goes-on c j k (d ∷ ks) (q ∷ ps) ws l.1.0 l.1.1 e (torn.0 v)))
+      (subst IsTight (sym is) all)
+
+  chains-tight : (cs : List ℕ) (children : List (List Event)) (i : ℕ) → AllByRecursion Fits cs → AllByRecursion (IsWholeFrom events) cs → AllByRecursion IsVoidTight children
+      → AllByRecursion (λ (d : Divided). IsTornNowhere d.chunks d.parts) (divided_over events cs children) → AreSpaced i (flat_map (chain_of events) cs) n
+      → IsTight (after (flat_map chain_changes (divided_over events cs children)) i)
+  chains-tight [] children i fs wh bs torn sp = subst IsTight (sym (untagged-olds i (drop i events))) (tight-drop i events tight)
+  chains-tight (c ∷ cs) [] i fs wh bs torn sp = subst IsTight (sym (untagged-olds i (drop i events))) (tight-drop i events tight)
+  chains-tight (c ∷ cs) (child ∷ children) i fs wh bs torn sp =
+      let ks = wh.0.0 in
+      let is : chain_of events c ≡ c ∷ ks = wh.0.1 in
+      let ends : List Point = map (λ k. place_at events (k + 1)) ks in
+      let ws : List Change = flat_map chain_changes (divided_over events cs children) in
+      let rest : (m : ℕ) → AreSpaced m (flat_map (chain_of events) cs) n → IsTight (after ws m) = λ m r. chains-tight cs children m fs.1 wh.1 bs.1 torn.1 r in
+      let here : IsTornNowhere (c ∷ ks) (parts (place_at events (c + 1) ∷ ends) child) = subst (λ (ys : List ℕ). IsTornNowhere ys (parts (map (λ k. place_at events (k + 1)) ys) child)) is torn.0 in
+      let spaced : AreSpaced i (c ∷ (ks ++ flat_map (chain_of events) cs)) n = subst (λ (ys : List ℕ). AreSpaced i (ys ++ flat_map (chain_of events) cs) n) is sp in
+      let many : length (c ∷ ks) ≡ length (parts (place_at events (c + 1) ∷ ends) child) = sym (length-parts (place_at events (c + 1) ∷ ends) child ∙ ap suc (length-map_ends events ks)) in
+      let t : IsTight (joined (parts (place_at events (c + 1) ∷ ends) child)) = subst IsTight (sym (joined-parts (place_at events (c + 1)) ends child)) (tight-from child bs.0) in
+      subst (λ (ys : List ℕ). IsTight (after (part_changes (first_chunk ys) 0 ys (parts (map (λ k. place_at events (k + 1)) ys) child) ++ ws) i)) (sym is)
+      (one_chain c i ks (flat_map (chain_of events) cs) (parts (place_at events (c + 1) ∷ ends) child) ws fs.0 wh.0.2 many spaced rest t here)
+    where
+      one_chain : (c i : ℕ) (ks more : List ℕ) (ps : List (List Event)) (ws : List Change) → Fits c → LeadOnFrom events c ks → length (c ∷ ks) ≡ length ps → AreSpaced i (c ∷ (ks ++ more)) n
+          → ((m : ℕ) → AreSpaced m more n → IsTight (after ws m)) → IsTight (joined ps) → IsTornNowhere (c ∷ ks) ps → IsTight (after (part_changes c 0 (c ∷ ks) ps ++ ws) i)
+      one_chain c i ks more [] ws h lead e sp rest t torn = absurd (omega arith)
+      one_chain c i ks more (p ∷ ps) ws h lead e sp rest t torn =
+          let behind : List Event = p ++ after (part_changes c (0 + length p) ks ps ++ ws) (c + 2) in
+          subst IsTight (sym (part-after c 0 i c ks p ps ws sp.0))
+          (tight-join (between i c events) behind (before-chunk i c behind sp.0 h) (parts-tight c (0 + length p) c p ks more ps ws h lead (omega arith) sp.1 rest t torn))
+
+pub with_children_tight : (tab : ℕ) (bytes : List ℕ) (wanted : Option Content) (events : List Event) (children : List (List Event)) → IsReady tab bytes wanted events → IsVoidTight events → AllByRecursion IsVoidTight children
+    → NoneTorn wanted events children → IsVoidTight (with_children wanted events children)
+with_children_tight tab bytes wanted events children ready tight bs torn =
+    let n : ℕ = length events in
+    let f = follow_one_another tab bytes wanted events ready in
+    let ws : List Change = child_changes wanted events children in
+    let z : n ≡ 0 + n = omega arith in
+    let apart : AreApart 0 ws (0 + n) = subst (AreApart 0 ws) z (changes_are_apart tab bytes wanted events children ready).apart in
+    let spaced : AreSpaced 0 (flat_map (chain_of events) (fitting_starts wanted events)) n = subst (λ (ks : List ℕ). AreSpaced 0 ks n) (sym f.in_order) f.spaced in
+    let t : IsTight (untagged (pass ws 0 events)) =
+    chains-tight tab bytes wanted events ready (tight-from events tight) (fitting_starts wanted events) children 0 (starts_fit tab bytes wanted events ready (range_with_len 0 n)) f.whole bs torn spaced in
+    tight-to (with_children wanted events children)
+    (tight-placed (woven ws 0 events) (woven ws 0 events) (subst (λ (ts : List Tagged). IsTight (untagged ts)) (sym (woven-pass ws 0 events apart)) t))

@@ -1,0 +1,38 @@
+-- Two tables without misfits that are not lawful are not what the law of tables asks for.
+use Rattle.std.proofs.Common.{◌≡◌, [], true, false, Option, Some, None, refl, arith}
+use Rattle.mdconstructs_tables.specs.Fitting.{IsFit}
+use Rattle.mdconstructs_tables.specs.Misfits.{misfits}
+use Rattle.mdconstructs_tables.specs.PlainTables.{IsPlainTable}
+use Rattle.mdconstructs_tables.specs.PlainWrites.{WritesPlain}
+use Rattle.mdconstructs_machines.specs.Tables.{LineByte, line_ending, other}
+use Rattle.mdconstructs_machines.specs.Unfit.{uncounted_lines, editing}
+use Rattle.markdown_tokenizer.specs.Text.{Text}
+use Rattle.markdown_tokenizer.specs.Configuration.{Configuration, start_configuration}
+
+pub uncounted : (previous current : Option LineByte) → misfits uncounted_lines previous current ≡ []
+uncounted previous None = refl
+uncounted previous (Some line_ending) = refl
+uncounted previous (Some other) = refl
+
+-- no byte was pushed
+abbrev no_text : Text
+no_text = record { start = record { line = 1; column = 1; index = 0; vs = 0 }; seats = []; end = record { line = 1; column = 1; index = 0; vs = 0 } }
+
+-- a call at the end of no text costs one, and the machine says that it costs nothing
+pub unpaid : ¬ IsFit uncounted_lines
+unpaid fit = let paid = fit.paid.0 None None no_text 0 refl (omega arith) refl refl in absurd (omega (arith, paid))
+
+pub editing-fits : (previous current : Option LineByte) → misfits editing previous current ≡ []
+editing-fits previous None = refl
+editing-fits previous (Some line_ending) = refl
+editing-fits previous (Some other) = refl
+
+pub not-plain : ¬ IsPlainTable editing
+not-plain is = let e : false ≡ true = is.rows None None in absurd (cc)
+
+-- what is written makes an edit where there was none
+pub writes : ¬ WritesPlain editing
+writes is =
+    let k : Configuration Unit Unit = start_configuration false in
+    let edits = ((is.rows None None).0 k (refl, refl, tt)).1 in
+    absurd (cc)

@@ -1,0 +1,59 @@
+-- Tables that do not fit, each for one reason, and two that pass the test of rows and yet are not lawful. All but the last are those of lines with one
+-- thing changed.
+use Rattle.std.specs.Prelude.{◌∷◌, [], Option, Some, None}
+use Rattle.markdown_base.specs.declared.event.Name.TheVariants.{Paragraph, LineEnding}
+use Rattle.markdown_base.specs.declared.state.TheConstants.Name.{FlowStart, ParagraphInside}
+use Rattle.markdown_base.specs.declared.state.State.TheVariants.{Next, Retry, Ok, Nok}
+use Rattle.markdown_edits.specs.Edits.{edit_at, added_after}
+use Rattle.markdown_tokenizer.specs.Configuration.{Configuration, Local}
+use Rattle.mdconstructs_tables.specs.Rows.{enter, exit, consume, write, Rows, row, calls, state, Table}
+use Rattle.mdconstructs_machines.specs.Tables.{LineByte, line_ending, other, line_byte, counts}
+use Rattle.mdconstructs_machines.specs.Lines.{lines, flow_start_rows, flow_start, paragraph_inside}
+
+-- lines with other rows before a line
+abbrev pub lines_with : ((previous current : Option LineByte) → Rows Unit Unit) → Table LineByte Unit Unit
+lines_with rows = record lines { states = record flow_start { rows = rows } ∷ paragraph_inside ∷ [] }
+
+-- `act`: a line ending is consumed twice
+abbrev pub consumes_twice : (previous current : Option LineByte) → Rows Unit Unit
+consumes_twice previous (Some line_ending) = row (enter LineEnding ∷ consume ∷ consume ∷ exit LineEnding ∷ []) (Next FlowStart)
+consumes_twice previous current = flow_start_rows previous current
+
+-- `spans`: a line begins without its data
+abbrev pub enters_no_data : (previous current : Option LineByte) → Rows Unit Unit
+enters_no_data previous (Some other) = row (enter Paragraph ∷ []) (Retry ParagraphInside)
+enters_no_data previous current = flow_start_rows previous current
+
+-- `choice`: a line ending is refused, where no choice waits
+abbrev pub gives_up : (previous current : Option LineByte) → Rows Unit Unit
+gives_up previous (Some line_ending) = row [] Nok
+gives_up previous current = flow_start_rows previous current
+
+-- `answer`: the next byte is asked for, and none was consumed
+abbrev pub consumes_nothing : (previous current : Option LineByte) → Rows Unit Unit
+consumes_nothing previous (Some line_ending) = row [] (Next FlowStart)
+consumes_nothing previous current = flow_start_rows previous current
+
+-- `unpaid`: the state before a line says one call for each byte and one more
+abbrev pub unpaid_lines : Table LineByte Unit Unit
+unpaid_lines = record lines { states = record flow_start { calls = calls 1 1 } ∷ paragraph_inside ∷ [] }
+
+-- `start`: a reading starts in a line, whose spans are not open
+abbrev pub starts_inside : Table LineByte Unit Unit
+starts_inside = record lines { starts = ParagraphInside ∷ [] }
+
+-- no state says how many calls are left, and the machine's own cost is none
+abbrev pub uncounted_lines : Table LineByte Unit Unit
+uncounted_lines = record lines { states = record flow_start { calls = None } ∷ record paragraph_inside { calls = None } ∷ [] }
+
+-- an edit that removes the first event, which is not there
+abbrev pub removes_first : Configuration Unit Unit → Local Unit Unit
+removes_first k = record k.local { map = added_after k.local.map (edit_at 0 1 []) }
+
+-- each byte is passed, and that edit is written at the end
+abbrev pub editing_rows : (previous current : Option LineByte) → Rows Unit Unit
+editing_rows _ None = row (write removes_first ∷ []) Ok
+editing_rows _ (Some _) = row (consume ∷ []) (Next FlowStart)
+
+abbrev pub editing : Table LineByte Unit Unit
+editing = record { class = line_byte; first = counts; states = state FlowStart editing_rows [] (calls 1 1) ∷ []; starts = FlowStart ∷ [] }

@@ -1,0 +1,50 @@
+//! Laws of tables. Each is a function that does nothing; its contract is the law.
+
+ghost use Rattle.std.specs.Prelude.{Bool, List, Option};
+ghost use Rattle.markdown_base.specs.declared.event.Event.{Event};
+ghost use Rattle.markdown_base.specs.declared.state.Name.{Name};
+ghost use Rattle.markdown_base.specs.declared.state.State.{State};
+ghost use Rattle.markdown_tokenizer.specs.Configuration.{Choice, Local};
+ghost use Rattle.markdown_tokenizer.specs.Lawful.{IsLawful};
+ghost use Rattle.markdown_tokenizer.specs.Plain.{plain};
+ghost use Rattle.markdown_tokenizer.specs.Text.{Given};
+ghost use Rattle.mdconstructs_tables.specs.Fitting.{IsFit};
+ghost use Rattle.mdconstructs_tables.specs.Knowledge.{IsKnown, knowing_rules};
+ghost use Rattle.mdconstructs_tables.specs.Late.{IsLate, late_rules};
+ghost use Rattle.mdconstructs_tables.specs.PlainTables.{IsPlainTable};
+ghost use Rattle.mdconstructs_tables.specs.PlainWrites.{WritesPlain};
+ghost use Rattle.mdconstructs_tables.specs.RowInvariant.{table_rules};
+ghost use Rattle.mdconstructs_tables.specs.Rows.{Table};
+
+/// If a table has no misfits, its own costs are paid, and no state links or writes, its rules are lawful on every document.
+/// A state may write what leaves nothing to resolve. And choices may end well late, behind where they were made.
+///
+/// `W` is the class of a byte, `R` a resolver and `D` what a document adds.
+pub fn fitting_tables_are_lawful<W, R, D>()
+    ensures plain { (table : Table W R D) → IsFit table → IsPlainTable table → (g : Given) → IsLawful g (plain (table_rules table g)) }
+    ensures writing { (table : Table W R D) → IsFit table → WritesPlain table → (g : Given) → IsLawful g (plain (table_rules table g)) }
+    ensures late { (table : Table W R D) (early : Name → Option W → Bool) (falling : Name → Bool)
+        → IsLate table early falling → WritesPlain table → (g : Given) → IsLawful g (plain (late_rules table early falling g)) }
+{}
+
+/// A table, and what its machine knows besides what the table says.
+pub trait Knowledge {
+    /// The class of a byte.
+    type Class;
+
+    /// A resolver.
+    type Resolver;
+
+    /// What a document adds.
+    type Document;
+
+    ghost table: { Table Self.Class Self.Resolver Self.Document };
+
+    ghost knows: { List Event → Local Self.Resolver Self.Document → List Choice → State → Type 0 };
+}
+
+/// If a table has no misfits, its own costs are paid, and its rows keep what the machine knows, its rules are lawful on every
+/// document.
+pub fn knowing_tables_are_lawful<K: Knowledge>()
+    ensures { IsFit K.table → IsKnown K.table K.knows → (g : Given) → IsLawful g (knowing_rules K.table K.knows g) }
+{}

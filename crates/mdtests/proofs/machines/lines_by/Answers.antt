@@ -1,0 +1,7 @@
+use Rattle.markdown.specs.Virtual.{IsWithinLimit}
+use Rattle.std.proofs.Common.{◌+◌, ◌*◌, ◌^◌, ◌<◌, length, sym, subst}
+use Rattle.markdown.specs.declared.configuration.ParseOptions.{ParseOptions}
+use Rattle.mdtests.proofs.machines.lines_by.Goals as goal
+
+pub cuts_every-requires : goal.cuts_every-requires
+cuts_every-requires g c = record { fits = subst (λ (o : ParseOptions). IsWithinLimit o.tab_size c.args.bytes.now) (sym c.default-options.ensures) c.requires.limit; some = c.requires.cut }

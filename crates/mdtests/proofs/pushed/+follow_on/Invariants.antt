@@ -1,5 +1,0 @@
-use Rattle.std.proofs.Common.{length}
-use Rattle.mdtests.proofs.pushed.+follow_on.Given as goal
-
-abbrev pub decreases-follow_on : goal.decreases-follow_on
-decreases-follow_on l = length l.ranges.now
