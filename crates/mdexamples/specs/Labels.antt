@@ -1,0 +1,99 @@
+-- The machine of labels: `[`, bytes of one line and `]` are a label; a `[` without its `]`, and all else but line endings, is data.
+use Rattle.std.specs.Prelude.{ℕ, ◌+◌, ◌-◌, ◌*◌, ◌==◌, cond, Bool, true, false, ◌∷◌, [], Option, Some, None, length}
+use Rattle.markdown.specs.declared.event.Name.TheVariants.{Data, Label, LabelMarker, LineEnding}
+use Rattle.markdown.specs.declared.state.Name.{Name}
+use Rattle.markdown.specs.StateConstants.Name.{TextBefore, TextBeforeData, DataInside, LabelStart, LabelInside}
+use Rattle.markdown.specs.declared.state.State.TheVariants.{Next, Retry, Ok, Nok}
+use Rattle.markdown.specs.declared.waiting.AttemptKind.TheVariants.{Attempt}
+use Rattle.markdown.specs.Text.{Given, Text}
+use Rattle.markdown.specs.Rules.{Rules}
+use Rattle.markdown.specs.Plain as shape
+use Rattle.mdconstructs.specs.Late.{late_rules}
+use Rattle.mdconstructs.specs.Rows.{enter, exit, consume, choose, Rows, row, a_choice, at_a_byte, at_bytes, costs, StateRows, state, Table}
+use Rattle.mdconstructs.specs.Tables.{counts}
+
+-- The classes of bytes: a line ending, the two brackets, or another
+pub data LabelByte : Type 0 where
+  line_feed : LabelByte
+  opening : LabelByte
+  closing : LabelByte
+  other : LabelByte
+
+abbrev pub label_byte : ℕ → LabelByte
+label_byte byte = cond (byte == 10) line_feed (cond (byte == 91) opening (cond (byte == 93) closing other))
+
+-- how many calls come from a state, by how many bytes are left
+abbrev pub by_left : (ℕ → ℕ) → Text → ℕ → ℕ
+by_left f text position = f (length text.seats - position)
+
+-- between labels: each byte may begin a label that is read to the end in vain
+abbrev pub outside : ℕ → ℕ
+outside n = n * n + 5 * n + 2
+
+-- between labels: at `[` one is tried
+abbrev pub text_before_rows : (previous current : Option LabelByte) → Rows Unit Unit
+text_before_rows _ None = row [] Ok
+text_before_rows _ (Some line_feed) = row (enter LineEnding ∷ consume ∷ exit LineEnding ∷ []) (Next TextBefore)
+text_before_rows _ (Some opening) = row (choose Attempt (Next TextBefore) (Next TextBeforeData) ∷ []) (Retry LabelStart)
+text_before_rows _ (Some _) = row [] (Retry TextBeforeData)
+
+abbrev pub text_before : StateRows LabelByte Unit Unit
+text_before = costs (by_left outside) (state TextBefore text_before_rows [] None)
+
+-- before data, and so never at the end
+abbrev pub text_before_data_rows : (previous current : Option LabelByte) → Rows Unit Unit
+text_before_data_rows _ _ = row (enter Data ∷ consume ∷ []) (Next DataInside)
+
+abbrev pub text_before_data : StateRows LabelByte Unit Unit
+text_before_data = costs (by_left (λ n. n * n + 3 * n + 1)) (record (state TextBeforeData text_before_data_rows [] None) { called = at_a_byte })
+
+-- in data
+abbrev pub data_inside_rows : (previous current : Option LabelByte) → Rows Unit Unit
+data_inside_rows _ None = row (exit Data ∷ []) (Retry TextBefore)
+data_inside_rows _ (Some line_feed) = row (exit Data ∷ []) (Retry TextBefore)
+data_inside_rows _ (Some opening) = row (exit Data ∷ []) (Retry TextBefore)
+data_inside_rows _ (Some _) = row (consume ∷ []) (Next DataInside)
+
+abbrev pub data_inside : StateRows LabelByte Unit Unit
+data_inside = costs (by_left (λ n. outside n + 1)) (state DataInside data_inside_rows (Data ∷ []) None)
+
+-- a label is tried, and so a choice waits, and `[`
+abbrev pub label_start_rows : (previous current : Option LabelByte) → Rows Unit Unit
+label_start_rows _ _ = row (enter Label ∷ enter LabelMarker ∷ consume ∷ exit LabelMarker ∷ []) (Next LabelInside)
+
+abbrev pub is_opening : LabelByte → Bool
+is_opening opening = true
+is_opening _ = false
+
+abbrev pub label_start : StateRows LabelByte Unit Unit
+label_start = costs (by_left (λ n. n + 1)) (record (state LabelStart label_start_rows [] None) { called = at_bytes is_opening; needs = a_choice })
+
+-- in a label
+abbrev pub label_inside_rows : (previous current : Option LabelByte) → Rows Unit Unit
+label_inside_rows _ None = row [] Nok
+label_inside_rows _ (Some line_feed) = row [] Nok
+label_inside_rows _ (Some closing) = row (enter LabelMarker ∷ consume ∷ exit LabelMarker ∷ exit Label ∷ []) Ok
+label_inside_rows _ (Some _) = row (consume ∷ []) (Next LabelInside)
+
+abbrev pub label_inside : StateRows LabelByte Unit Unit
+label_inside = costs (by_left (λ n. n + 1)) (record (state LabelInside label_inside_rows (Label ∷ []) None) { needs = a_choice })
+
+-- the state that may be where the attempt was made: the first of a label
+abbrev pub begins_label : Name → Option LabelByte → Bool
+begins_label name w = name.number == LabelStart.number
+
+-- the state that comes next if a label was there
+abbrev pub follows_label : Name → Bool
+follows_label name = name.number == TextBefore.number
+
+abbrev pub labels : Table LabelByte Unit Unit
+labels = record {
+  class = label_byte;
+  first = counts;
+  states = text_before ∷ text_before_data ∷ data_inside ∷ label_start ∷ label_inside ∷ [];
+  starts = TextBefore ∷ [];
+}
+
+-- its rules: no resolver, no edit, no link, and no label is empty
+abbrev pub labels_rules : Given → Rules Unit Unit
+labels_rules g = shape.plain (late_rules labels begins_label follows_label g)

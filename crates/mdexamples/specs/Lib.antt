@@ -1,0 +1,4 @@
+pub mod Headings
+pub mod HeadingsLaws
+pub mod Labels
+pub mod LabelsLaws

@@ -1,0 +1,140 @@
+//! What the examples do, against lines that were worked by hand.
+
+ghost use Rattle.std.specs.Prelude.{◌<◌, Contains};
+ghost use Rattle.markdown.specs.Presets.{default_parse_options};
+ghost use Rattle.markdown.specs.Engine.{given_by};
+
+use crate::headings::Headings;
+use crate::labels::Labels;
+use crate::spans::code_spans;
+use markdown::configuration::ParseOptions;
+use markdown::event::{Event, Kind, Point};
+use markdown::parser::ParseState;
+use markdown::state::{Machine, Name};
+use markdown::tokenizer::{Fault, run};
+use std::alloc::{AllocError, Global};
+use std::process::Abort;
+
+/// The code spans of a document that is pushed in ranges of this size.
+fn spans_of(alloc: Global, bytes: &[u8], size: usize) -> Result<String, AllocError>
+    requires { 0 < size }
+{
+    match code_spans(alloc, bytes, size) {
+        Ok(Some(text)) => Ok(text),
+        Ok(None) => Err(AllocError),
+        Err(_) => Err(AllocError),
+    }
+}
+
+/// Asserts that a text was made, and is this one.
+fn assert_made(
+    rt: &impl Abort,
+    made: Result<String, AllocError>,
+    want: &str,
+) -> Result<(), AllocError> {
+    let made = made?;
+    assert_eq!(rt; made.as_str(), want);
+    Ok(())
+}
+
+#[test]
+fn code_spans_are_listed_however_the_document_is_cut(rt: HostRuntime) -> Result<(), AllocError> {
+    let document = b"See `x`\nand\t``y`\nz``.\n";
+    for size in [1, 3, 100] {
+        let made = spans_of(rt.alloc(), document, size);
+        assert_made(&rt, made, "1:5 to 1:8\n2:5 to 3:4\n")?;
+    }
+    Ok(())
+}
+
+#[test]
+fn empty_document_has_no_code_spans(rt: HostRuntime) -> Result<(), AllocError> {
+    assert_made(&rt, spans_of(rt.alloc(), b"", 1), "")
+}
+
+/// The events of a document, a line each, as `enter Data 1:1`.
+fn lines_of<M: Machine>(
+    alloc: Global,
+    machine: &M,
+    start: Name,
+    bytes: &[u8],
+) -> Result<String, AllocError>
+    requires start { Contains (M.rules machine.now (given_by bytes.now default_parse_options)).starts start }
+{
+    let options = ParseOptions::default();
+    let Some(document) = ParseState::new(bytes, &options, machine) else {
+        return Err(AllocError);
+    };
+    match run(alloc, &document, start, &[], false) {
+        Ok((events, _)) => shown(alloc, events.as_slice()),
+        Err(fault) => refused(alloc, &fault),
+    }
+}
+
+/// Why a document was not read.
+fn refused(alloc: Global, fault: &Fault) -> Result<String, AllocError> {
+    fault.to_string(alloc)
+}
+
+/// The lines of events.
+fn shown(alloc: Global, events: &[Event]) -> Result<String, AllocError> {
+    let mut text = String::new(alloc);
+    for event in events {
+        let kind = match event.kind {
+            Kind::Enter => "enter",
+            Kind::Exit => "exit",
+        };
+        let name = event.name.as_str();
+        let Point { line, column, .. } = event.point;
+        writeln!(text, "{kind} {name} {line}:{column}")?;
+    }
+    Ok(text)
+}
+
+#[test]
+fn headings_have_up_to_six_signs(rt: HostRuntime) -> Result<(), AllocError> {
+    let made = lines_of(rt.alloc(), &Headings {}, Name::FlowStart, b"#a\n#######\nb");
+    assert_made(
+        &rt,
+        made,
+        "enter HeadingAtx 1:1\n\
+        enter HeadingAtxSequence 1:1\n\
+        exit HeadingAtxSequence 1:2\n\
+        enter Data 1:2\n\
+        exit Data 1:3\n\
+        exit HeadingAtx 1:3\n\
+        enter LineEnding 1:3\n\
+        exit LineEnding 2:1\n\
+        enter HeadingAtx 2:1\n\
+        enter HeadingAtxSequence 2:1\n\
+        exit HeadingAtxSequence 2:7\n\
+        enter Data 2:7\n\
+        exit Data 2:8\n\
+        exit HeadingAtx 2:8\n\
+        enter LineEnding 2:8\n\
+        exit LineEnding 3:1\n\
+        enter Data 3:1\n\
+        exit Data 3:2\n",
+    )
+}
+
+#[test]
+fn labels_end_in_their_line(rt: HostRuntime) -> Result<(), AllocError> {
+    let made = lines_of(rt.alloc(), &Labels {}, Name::TextBefore, b"a[b]\n[c");
+    assert_made(
+        &rt,
+        made,
+        "enter Data 1:1\n\
+        exit Data 1:2\n\
+        enter Label 1:2\n\
+        enter LabelMarker 1:2\n\
+        exit LabelMarker 1:3\n\
+        enter LabelMarker 1:4\n\
+        exit LabelMarker 1:5\n\
+        exit Label 1:5\n\
+        enter LineEnding 1:5\n\
+        exit LineEnding 2:1\n\
+        enter Data 2:1\n\
+        exit Data 2:3\n",
+    )
+}
