@@ -11,3 +11,4 @@ pub mod Skips
 pub mod Standing
 pub mod TextOrder
 pub mod Walks
+pub mod SameSoFar

@@ -1,11 +1,11 @@
 //! Ranges of a document from outside: whether they can be pushed one after another.
 
-ghost use Rattle.std.specs.Prelude.{◌≡◌, true, length, IfSome};
-ghost use Rattle.markdown_base.specs.Places.{denotes_same};
+ghost use Rattle.std.specs.Prelude.{◌≡◌, ◌↔◌, true, IfSome, IsNone, IsTrue};
+ghost use Rattle.markdown_base.specs.Places.{denotes_same, is_upto};
 ghost use Rattle.markdown_base.specs.Virtual.{IsWithinLimit};
 ghost use Rattle.markdown_tokenizer.specs.Ranges.{FollowOn, IsGapFrom, LeadsFrom, after_any};
 
-use crate::cursor::is_before;
+use crate::cursor::{is_before, pass, seat_at};
 use crate::places::point_at;
 use markdown_base::configuration::TabSize;
 use markdown_base::event::Point;
@@ -13,13 +13,14 @@ use markdown_base::event::Point;
 /// A range of a document, from a place to another one, and the place up to which a gap is passed before it, if one is.
 pub type AfterGap = (Option<Point>, (usize, usize), (usize, usize));
 
-/// Whether ranges follow on a text that ends at a place. Then each can be pushed, after its gap is passed (`define_skip`).
+/// Whether ranges follow on a text that ends at a place. Then, and only then, each can be pushed after its gap is passed
+/// (`define_skip`).
 ///
-/// Places are byte index and number in a tab. A gap passes the beginning of a line, up to a later place of it. A range begins at the
-/// place at which the text ends by then, and does not run backwards. Tab stops are `tab_size` columns apart.
+/// Places are byte index and number in a tab. A gap passes the beginning of a line, up to a later place of it, or nothing. A range
+/// begins at the place at which the text ends by then, and does not run backwards. Tab stops are `tab_size` columns apart.
 pub fn follow_on(bytes: &[u8], tab_size: TabSize, end: Point, ranges: &[AfterGap]) -> bool
     requires limit { IsWithinLimit tab_size bytes.now }
-    ensures { result ≡ true → FollowOn tab_size bytes.now end ranges.now }
+    ensures { IsTrue result ↔ FollowOn tab_size bytes.now end ranges.now }
 {
     let Some((range, rest)) = ranges.split_first() else {
         return true;
@@ -33,24 +34,27 @@ pub fn follow_on(bytes: &[u8], tab_size: TabSize, end: Point, ranges: &[AfterGap
     let Some(to) = point_at(bytes, tab_size, range.2) else {
         return false;
     };
-    let first = (from.index, from.vs);
-    if is_before(from, (start.index, start.vs)) || is_before(start, first) || is_before(to, first) {
+    if !denote_same(bytes, tab_size, from, start) {
+        return false;
+    }
+    if !is_up_to(bytes, tab_size, from, to) {
         return false;
     }
     follow_on(bytes, tab_size, to, rest)
 }
 
-/// The place at which what follows on a text begins that ends at a place: after the gap, if there is one that passes the beginning of a
-/// line.
+/// The place at which what follows on a text begins that ends at a place: after the gap, if there is one. `None` if the gap
+/// does not lead from there.
 fn start_after(bytes: &[u8], tab: TabSize, end: Point, gap: Option<Point>) -> Option<Point>
     requires limit { IsWithinLimit tab bytes.now }
     ensures leads { IfSome result (λ _. LeadsFrom tab bytes.now end gap) }
     ensures start { IfSome result (λ start. denotes_same tab bytes.now start (after_any tab bytes.now end gap) ≡ true) }
+    ensures none { IsNone result → ¬ LeadsFrom tab bytes.now end gap }
 {
     match gap {
         None => Some(end),
         Some(place) => {
-            if passes_beginning(bytes, tab, end, place) {
+            if is_gap_from(bytes, tab, end, place) {
                 Some(place)
             } else {
                 None
@@ -59,13 +63,39 @@ fn start_after(bytes: &[u8], tab: TabSize, end: Point, gap: Option<Point>) -> Op
     }
 }
 
-/// Whether a place comes later in the line that begins at another one.
-fn passes_beginning(bytes: &[u8], tab: TabSize, beginning: Point, place: Point) -> bool
+/// Whether a gap leads from a place to another one: it passes nothing, or the beginning of the line that begins at the first.
+fn is_gap_from(bytes: &[u8], tab: TabSize, beginning: Point, place: Point) -> bool
     requires limit { IsWithinLimit tab bytes.now }
-    ensures { result ≡ true → IsGapFrom tab bytes.now beginning place }
+    ensures { IsTrue result ↔ IsGapFrom tab bytes.now beginning place }
 {
     point_at(bytes, tab, (place.index, place.vs)) == Some(place)
-        && beginning.column == 1
-        && place.line == beginning.line
-        && is_before(beginning, (place.index, place.vs))
+        && (denote_same(bytes, tab, place, beginning)
+            || (beginning.column == 1
+                && place.line == beginning.line
+                && is_before(beginning, (place.index, place.vs))))
+}
+
+/// Whether a place is not after another one. The CR and the LF of a CR LF count as one place.
+fn is_up_to(bytes: &[u8], tab: TabSize, from: Point, to: Point) -> bool
+    requires limit { IsWithinLimit tab bytes.now }
+    ensures { result ≡ is_upto tab bytes.now from to }
+{
+    !is_before(to, (from.index, from.vs)) || denote_same(bytes, tab, from, to)
+}
+
+/// Whether two places are before the same bytes of the text: they are one place, or the CR and the LF of a CR LF.
+fn denote_same(bytes: &[u8], tab: TabSize, first: Point, second: Point) -> bool
+    requires limit { IsWithinLimit tab bytes.now }
+    ensures { result ≡ denotes_same tab bytes.now first second }
+{
+    let t = tab.get();
+    let mut after_previous = Point::START;
+    while let Some((byte, seat)) = seat_at(bytes, after_previous) {
+        let is_before_first = is_before(seat, (first.index, first.vs));
+        if is_before_first != is_before(seat, (second.index, second.vs)) {
+            return false;
+        }
+        pass(bytes, &t, &mut after_previous, byte);
+    }
+    true
 }

@@ -81,27 +81,11 @@ pub fn read_ranges<M: Machine>(
     if !follow_on(bytes, tab, Point::START, ranges) {
         return None;
     }
-    read_following_with(alloc, machine, start, bytes, tab, ranges)
-}
-
-/// Reads ranges that follow on one another, with tabs of size 4.
-pub fn read_following<M: Machine>(
-    alloc: Global,
-    machine: &M,
-    start: Name,
-    bytes: &[u8],
-    ranges: &[AfterGap],
-) -> Option<Seen>
-    requires limit { IsWithinLimit 4 bytes.now }
-    requires start { Contains (M.rules machine.now (given_in_tabs 4 bytes.now)).starts start }
-    requires ranges { FollowOn 4 bytes.now (point 1 1 0 0) ranges.now }
-{
-    let tab = TabSize::default();
-    read_following_with(alloc, machine, start, bytes, tab, ranges)
+    read_following(alloc, machine, start, bytes, tab, ranges)
 }
 
 /// Reads ranges that follow on one another, with the default options but for the size of tabs.
-fn read_following_with<M: Machine>(
+fn read_following<M: Machine>(
     alloc: Global,
     machine: &M,
     start: Name,

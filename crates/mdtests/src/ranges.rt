@@ -4,7 +4,7 @@ ghost use Rattle.markdown.specs.Virtual.{IsWithinLimit};
 ghost use Rattle.std.specs.Prelude.{◌+◌, ◌*◌, ◌^◌, ◌<◌, length, Contains};
 ghost use Rattle.mdtests.specs.Documents.{given_in_tabs};
 
-use crate::pushed::{after_push, lines, read_following, read_ranges, told};
+use crate::pushed::{after_push, lines, read_ranges, told};
 use crate::shown::{assert_shown, at};
 use markdown::configuration::TabSize;
 use markdown::event::Point;
@@ -226,7 +226,14 @@ const AFTER_NOTHING: [AfterGap; 3] = [
 #[test]
 fn gaps_that_pass_nothing_change_nothing(rt: HostRuntime) -> Result<(), AllocError> {
     let alloc = rt.alloc();
-    let seen = read_following(alloc, &Peek {}, Name::TextStart, b"a\nbc", &AFTER_NOTHING);
+    let seen = read_ranges(
+        alloc,
+        &Peek {},
+        Name::TextStart,
+        b"a\nbc",
+        TabSize::default(),
+        &AFTER_NOTHING,
+    );
     let want =
         "14 calls: Data 1:1 (0+0) to 1:2 (1+0); LineEnding 1:2 (1+0) to 2:1 (2+0); Data 2:1 (2+0) to 2:3 (4+0)";
     assert_shown(&rt, told(alloc, &seen), want)
@@ -240,7 +247,15 @@ fn range_begins_at_the_other_place_of_its_byte(rt: HostRuntime) -> Result<(), Al
         (None, (2, 0), (2, 0)),
         (None, (2, 0), (4, 0)),
     ];
-    let seen = read_following(rt.alloc(), &Lines {}, Name::FlowStart, b"a\r\nb", &ranges);
+    let tab = TabSize::default();
+    let seen = read_ranges(
+        rt.alloc(),
+        &Lines {},
+        Name::FlowStart,
+        b"a\r\nb",
+        tab,
+        &ranges,
+    );
     assert!(rt; after_push(&seen, 0) == after_push(&seen, 1));
     let want =
         "7 calls: enter Paragraph 1:1 (0+0); Data 1:1 (0+0) to 1:2 (1+0); exit Paragraph 1:2 (1+0); \

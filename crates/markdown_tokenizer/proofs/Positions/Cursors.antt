@@ -28,7 +28,7 @@ module _ {A : Type 0} (f : A → Bool) where
   every-list [] h = refl
   every-list (x ∷ xs) h = let e = h.0 in rw e (every-list xs h.1)
 
-leads-or : (a b : Bool) → (a ≡ true → b ≡ true) → (not a || b) ≡ true
+pub leads-or : (a b : Bool) → (a ≡ true → b ≡ true) → (not a || b) ≡ true
 leads-or true b h = h refl
 leads-or false b h = refl
 
@@ -61,7 +61,7 @@ module _ (t : ℕ) (bytes : List ℕ) where
   upto-leads p q h = every-map (λ s. (not (stands_before s.point p) || stands_before s.point q) ≡ true) (Leads p q) (λ s k. or-leads (stands_before s.point p) (stands_before s.point q) k) (virtual t bytes)
       (list-every (λ (s : Seat). not (stands_before s.point p) || stands_before s.point q) (virtual t bytes) h)
 
-  leads-upto : (p q : Point) → AllByRecursion (Leads p q) (virtual t bytes) → is_upto t bytes p q ≡ true
+  pub leads-upto : (p q : Point) → AllByRecursion (Leads p q) (virtual t bytes) → is_upto t bytes p q ≡ true
   leads-upto p q h = every-list (λ (s : Seat). not (stands_before s.point p) || stands_before s.point q) (virtual t bytes)
       (every-map (Leads p q) (λ s. (not (stands_before s.point p) || stands_before s.point q) ≡ true) (λ s k. leads-or (stands_before s.point p) (stands_before s.point q) k) (virtual t bytes) h)
 

@@ -1,23 +1,60 @@
-use Rattle.std.proofs.Common.{sym, ◌∙◌}
-use Rattle.markdown_tokenizer.proofs.Positions.Cursors.{upto-order, upto-same, same-same}
-use Rattle.markdown_tokenizer.specs.Ranges.{IsRangeFrom, after_any}
+use Rattle.std.proofs.Common.{◌≡◌, ℕ, List, Option, Some, true, sym, ap, ◌∙◌, subst}
+use Rattle.std.specs.Prelude.{unwrap_or}
+use Rattle.std.proofs.lemmas.Bool.{false≢true}
+use Rattle.markdown_base.specs.declared.event.Point.{Point}
+use Rattle.markdown_base.specs.Places.{point_at, denotes_same, is_upto}
+use Rattle.markdown_tokenizer.specs.Ranges.{IsRangeFrom, FollowOn, after_any}
+use Rattle.markdown_tokenizer.proofs.Positions.Cursors.{same-back, same-same}
 use Rattle.markdown_tokenizer.proofs.ranges.+follow_on.Goals as goal
 
-pub returns : goal.returns
-returns t c = λ h.
-    let bytes = c.args.bytes.now in let tab = c.args.tab_size in
-    let start = c.in-Some-start_after.start in let from = c.in-Some-point_at.from in let to = c.in-Some-point_at-2.to in
-    let later = sym c.is_before.ensures ∙ c.if-is_before.false in
-    let earlier = sym c.is_before-else-is_before.ensures ∙ c.if-is_before-2.false in
-    let same = upto-same tab bytes from start (upto-order tab bytes from start earlier) (upto-order tab bytes start from later) in
-    let begins = same-same tab bytes from start (after_any tab bytes c.args.end c.in-Some.range.now.0) same c.in-Some-start_after.ensures.start in
+-- the points of a range are those of its places
+module _ (t : ℕ) (bytes : List ℕ) (p : Point) (from to : ℕ × ℕ) (first last : Point) (from_is : point_at t bytes from ≡ Some first) (to_is : point_at t bytes to ≡ Some last) (r : IsRangeFrom t bytes p from to) where
+  first-is : r.first ≡ first
+  first-is = ap (λ (o : Option Point). unwrap_or o first) (sym r.from_is ∙ from_is)
+
+  last-is : r.last ≡ last
+  last-is = ap (λ (o : Option Point). unwrap_or o last) (sym r.to_is ∙ to_is)
+
+  begins-there : (start : Point) → denotes_same t bytes start p ≡ true → denotes_same t bytes first start ≡ true
+  begins-there start same = same-same t bytes first p start (subst (λ (q : Point). denotes_same t bytes q p ≡ true) first-is r.begins) (same-back t bytes start p same)
+
+  runs-on : is_upto t bytes first last ≡ true
+  runs-on = subst (λ (q : Point). is_upto t bytes q last ≡ true) first-is (subst (λ (q : Point). is_upto t bytes r.first q ≡ true) last-is r.upto)
+
+pub returns-then-not-denote_same : goal.returns-then-not-denote_same
+returns-then-not-denote_same t c =
+    let bytes = c.args.bytes.now in let tab = c.args.tab_size in let range = c.in-Some.range.now in
+    let p = after_any tab bytes c.args.end range.0 in
     let are = c.in-Some.ensures.cases.0 in
-    let range : IsRangeFrom tab bytes (after_any tab bytes c.args.end c.in-Some.range.now.0) c.in-Some.range.now.1 c.in-Some.range.now.2 = record {
+    let not_same = sym c.denote_same.ensures ∙ c.if-not-denote_same.true in
+    rw are ((λ h. absurd (false≢true h)), λ h. sym not_same ∙ begins-there tab bytes p range.1 range.2 _ _ (sym c.point_at.ensures ∙ c.in-Some-point_at.is) (sym c.point_at-2.ensures ∙ c.in-Some-point_at-2.is) h.1 c.in-Some-start_after.start c.in-Some-start_after.ensures.start)
+
+pub returns-then-not-is_up_to : goal.returns-then-not-is_up_to
+returns-then-not-is_up_to t c =
+    let bytes = c.args.bytes.now in let tab = c.args.tab_size in let range = c.in-Some.range.now in
+    let p = after_any tab bytes c.args.end range.0 in
+    let are = c.in-Some.ensures.cases.0 in
+    let not_upto = sym c.is_up_to.ensures ∙ c.if-not-is_up_to.true in
+    rw are ((λ h. absurd (false≢true h)), λ h. sym not_upto ∙ runs-on tab bytes p range.1 range.2 _ _ (sym c.point_at.ensures ∙ c.in-Some-point_at.is) (sym c.point_at-2.ensures ∙ c.in-Some-point_at-2.is) h.1)
+
+pub returns : goal.returns
+returns t c =
+    let bytes = c.args.bytes.now in let tab = c.args.tab_size in let range = c.in-Some.range.now in
+    let p = after_any tab bytes c.args.end range.0 in
+    let start = c.in-Some-start_after.start in let from = c.in-Some-point_at.from in let to = c.in-Some-point_at-2.to in
+    let from_is = sym c.point_at.ensures ∙ c.in-Some-point_at.is in
+    let to_is = sym c.point_at-2.ensures ∙ c.in-Some-point_at-2.is in
+    let same = sym c.denote_same.ensures ∙ c.if-not-denote_same.false in
+    let is_range : IsRangeFrom tab bytes p range.1 range.2 = record {
       first = from;
       last = to;
-      from_is = sym c.point_at.ensures ∙ c.in-Some-point_at.is;
-      to_is = sym c.point_at-2.ensures ∙ c.in-Some-point_at-2.is;
-      begins = begins;
-      upto = upto-order tab bytes from to (sym c.is_before-else-is_before-2.ensures ∙ c.if-is_before-3.false);
+      from_is = from_is;
+      to_is = to_is;
+      begins = same-same tab bytes from start p same c.in-Some-start_after.ensures.start;
+      upto = sym c.is_up_to.ensures ∙ c.if-not-is_up_to.false;
     } in
-    rw are (c.in-Some-start_after.ensures.leads, range, c.follow_on.ensures h)
+    let are = c.in-Some.ensures.cases.0 in
+    rw are (
+      (λ h. (c.in-Some-start_after.ensures.leads, is_range, c.follow_on.ensures.0 h)),
+      λ h. c.follow_on.ensures.1 (subst (λ (q : Point). FollowOn tab bytes q c.in-Some.rest.now) (last-is tab bytes p range.1 range.2 from to from_is to_is h.1) h.2),
+    )

@@ -16,5 +16,5 @@ behind t bytes p w = either t bytes p w (denotes_same t bytes w p) refl
 pub returns-in-None-clause-start : goal.returns-in-None-clause-start
 returns-in-None-clause-start c = let e = c.in-None.is in rw e (same-self c.args.tab c.args.bytes.now c.args.end)
 
-pub returns-then-passes_beginning-clause-start : goal.returns-then-passes_beginning-clause-start
-returns-then-passes_beginning-clause-start c = let e = c.in-Some.is in rw e (behind c.args.tab c.args.bytes.now c.args.end c.in-Some.place)
+pub returns-then-is_gap_from-clause-start : goal.returns-then-is_gap_from-clause-start
+returns-then-is_gap_from-clause-start c = let e = c.in-Some.is in rw e (behind c.args.tab c.args.bytes.now c.args.end c.in-Some.place)

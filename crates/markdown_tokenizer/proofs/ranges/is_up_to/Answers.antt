@@ -1,0 +1,26 @@
+use Rattle.std.proofs.Common.{◌≡◌, ℕ, Bool, true, false, refl, sym, ap, ◌∙◌, arith}
+use Rattle.std.specs.Prelude.{not, nat_lt, ◌==◌, ◌&&◌, ◌||◌}
+use Rattle.std.proofs.lemmas.Bool.Decides.{nat_tests}
+use Rattle.markdown_base.specs.Places.{is_upto}
+use Rattle.markdown_tokenizer.proofs.Positions.Cursors.{upto-order}
+use Rattle.markdown_tokenizer.proofs.ranges.is_up_to.Goals as goal
+
+-- of two places that are one before the other, only one is
+not-both : (i j m n : ℕ) → (nat_lt i m || ((i == m) && nat_lt j n)) ≡ true → (nat_lt m i || ((m == i) && nat_lt n j)) ≡ false
+not-both i j m n h = grind (arith, nat_tests)
+
+and-true : (a b : Bool) → b ≡ true → (a && b) ≡ a
+and-true true true h = refl
+and-true false b h = refl
+and-true true false h = absurd (cc)
+
+pub returns-then-not-is_before : goal.returns-then-not-is_before
+returns-then-not-is_before c =
+    ap not c.if-not-is_before.true
+    ∙ sym (upto-order c.args.tab c.args.bytes.now c.args.from c.args.to (sym c.is_before.ensures ∙ c.if-not-is_before.true))
+
+pub returns-else-not-is_before : goal.returns-else-not-is_before
+returns-else-not-is_before c =
+    let t = c.args.tab in let bytes = c.args.bytes.now in let from = c.args.from in let to = c.args.to in
+    let back = upto-order t bytes to from (not-both to.index to.vs from.index from.vs (sym c.is_before.ensures ∙ c.if-not-is_before.false)) in
+    c.denote_same.ensures ∙ and-true (is_upto t bytes from to) (is_upto t bytes to from) back
