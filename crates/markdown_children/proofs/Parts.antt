@@ -4,6 +4,7 @@ pub mod ByChunk
 pub mod ChildPlaces
 pub mod Edits
 pub mod Final
+pub mod Halves
 pub mod InShape
 pub mod Kept
 pub mod Placed

@@ -16,7 +16,8 @@ pub(crate) struct ByteStart {
     pub(crate) width: usize,
 }
 
-/// Where each byte of a document begins, and where the document ends. There is a tab stop at every `t` columns.
+/// Where each byte of a document begins, and where the document ends. There is a tab stop at every `t` columns. Room for all of them is
+/// taken at once, so that none of it waits unused.
 pub(crate) fn byte_starts(
     alloc: Global,
     bytes: &[u8],
@@ -26,36 +27,36 @@ pub(crate) fn byte_starts(
     requires limit { IsWithinLimit t bytes.now }
     ensures { IfOk result (λ v. v.items ≡ byte_starts t bytes.now) }
 {
-    let mut starts = Vec::new(alloc);
+    let mut starts = Vec::with_capacity(alloc, bytes.len() + 1)?;
     let mut line: usize = 1;
     let mut column: usize = 1;
     for index in 0..bytes.len() {
         // Most bytes: neither a tab nor a line ending, all of which are at most a CR.
         if bytes[index] > b'\r' {
-            starts.push(ByteStart {
+            starts.push_reserved(ByteStart {
                 line,
                 column,
                 width: 1,
-            })?;
+            });
             column += 1;
             continue;
         }
         let width = width_at(bytes, t, index, column);
-        starts.push(ByteStart {
+        starts.push_reserved(ByteStart {
             line,
             column,
             width,
-        })?;
+        });
         if ends_line(bytes, index) {
             line += 1;
         }
         column = column_after(bytes, t, index, column);
     }
-    starts.push(ByteStart {
+    starts.push_reserved(ByteStart {
         line,
         column,
         width: 1,
-    })?;
+    });
     Ok(starts)
 }
 

@@ -3,6 +3,7 @@
 ghost use Rattle.std.specs.Prelude.{◌≡◌, ◌+◌, ◌-◌, ◌*◌, ◌<◌, ◌≤◌, ◌^◌, ◌++◌, length, drop, map, IfOk, OnOk, OnErr, IfSome, Some, All};
 ghost use Rattle.std.specs.Option.{option_and_then};
 ghost use Rattle.std.specs.List.{between, AllByRecursion};
+ghost use Rattle.std.specs.List.Sorted.{IsNonDecreasingBy};
 ghost use Rattle.markdown_base.specs.Events.{EachEnd, relinked};
 ghost use Rattle.markdown_edits.specs.Edits.{removed_by, added_by};
 ghost use Rattle.markdown_children.specs.Chains.{chain_of};
@@ -104,26 +105,25 @@ pub(crate) fn chunks_of(
     Ok(chunks)
 }
 
-/// The final place of an event of the child.
+/// The final place of an event of the child. Its chunk is the first that ends behind it. It is found by halves, as the ends rise: a walk
+/// along the chunks for each link would take the time of links times chunks.
 fn place_in(chunks: &[Chunk], acc: (usize, usize), index: usize) -> Option<usize>
     requires apart { AreAbove acc.0 chunks.now }
+    requires ends { IsNonDecreasingBy (λ c. c.end) chunks.now }
     requires fits { All (λ c. c.index + 2 + acc.1 + index < 2 ^ 64) chunks.now }
     ensures { result ≡ table_place chunks.now acc.0 acc.1 index }
 {
     let (before, added) = acc;
-    let mut removed = before;
-    for chunk in chunks {
-        if index < chunk.end {
-            return Some(chunk.index - removed + added + index);
-        }
-        removed += 2;
-    }
-    None
+    let passed = chunks.partition_point(|chunk| chunk.end <= index);
+    let chunk = chunks.get(passed)?;
+    let removed = before + 2 * passed;
+    Some(chunk.index - removed + added + index)
 }
 
 /// The final place that a link end of an event of the child leads to.
 fn placed_end(chunks: &[Chunk], acc: (usize, usize), end: Option<usize>) -> Option<usize>
     requires apart { AreAbove acc.0 chunks.now }
+    requires ends { IsNonDecreasingBy (λ c. c.end) chunks.now }
     requires fits { IfSome end (λ n. All (λ c. c.index + 2 + acc.1 + n < 2 ^ 64) chunks.now) }
     ensures { result ≡ option_and_then (table_place chunks.now acc.0 acc.1) end }
 {
@@ -136,6 +136,7 @@ fn placed_end(chunks: &[Chunk], acc: (usize, usize), end: Option<usize>) -> Opti
 /// Leads the link of an event of the child to its final places. An event without a link is not written to.
 fn place_link(chunks: &[Chunk], acc: (usize, usize), event: &mut Event)
     requires apart { AreAbove acc.0 chunks.now }
+    requires ends { IsNonDecreasingBy (λ c. c.end) chunks.now }
     requires fits { IfSome event.old.link (EachEnd (λ n. All (λ c. c.index + 2 + acc.1 + n < 2 ^ 64) chunks.now)) }
     ensures { event.new ≡ relinked (table_place chunks.now acc.0 acc.1) event.old }
 {
@@ -151,6 +152,7 @@ fn place_link(chunks: &[Chunk], acc: (usize, usize), event: &mut Event)
 /// Leads the links of these events of the child to their final places.
 fn place_links(chunks: &[Chunk], acc: (usize, usize), events: &mut [Event])
     requires apart { AreAbove acc.0 chunks.now }
+    requires ends { IsNonDecreasingBy (λ c. c.end) chunks.now }
     requires fits { All (λ e. IfSome e.link (EachEnd (λ n. All (λ c. c.index + 2 + acc.1 + n < 2 ^ 64) chunks.now))) events.old }
     ensures { events.new ≡ map (relinked (table_place chunks.now acc.0 acc.1)) events.old }
 {
@@ -168,6 +170,7 @@ fn placed_part(
     chunk: Chunk,
 ) -> Result<Vec<Event>, AllocError>
     requires apart { AreAbove acc.0 chunks.now }
+    requires ends { IsNonDecreasingBy (λ c. c.end) chunks.now }
     requires fits { All (λ e. IfSome e.link (EachEnd (λ n. All (λ c. c.index + 2 + acc.1 + n < 2 ^ 64) chunks.now))) child.now }
     requires order { chunk.start ≤ chunk.end }
     requires within { chunk.end ≤ length child.now }
@@ -187,6 +190,7 @@ pub(crate) fn edits_of(
     child: &[Event],
 ) -> Result<EditMap, AllocError>
     requires apart { AreAbove acc.0 chunks.now }
+    requires ends { IsNonDecreasingBy (λ c. c.end) chunks.now }
     requires rising { AreRising chunks.now }
     requires fits { All (λ e. IfSome e.link (EachEnd (λ n. All (λ c. c.index + 2 + acc.1 + n < 2 ^ 64) chunks.now))) child.now }
     requires within { All (λ c. (c.start ≤ c.end) × (c.end ≤ length child.now)) chunks.now }

@@ -3,6 +3,7 @@ use Rattle.std.proofs.Common.{◌≡◌, ℕ, zero, suc, ◌+◌, ◌-◌, ◌*�
 use Rattle.std.specs.Prelude.{All, IfSome}
 use Rattle.std.specs.Option.{option_map, unwrap_or}
 use Rattle.std.specs.List.{between, AllByRecursion}
+use Rattle.std.specs.List.Sorted.{IsNonDecreasingBy}
 use Rattle.std.proofs.lemmas.Bool.{cases_lt, lt-ltb, le-ltb}
 use Rattle.std.proofs.lemmas.List.{drop-drop}
 use Rattle.std.proofs.lemmas.List.Elements.{All-from_recursion}
@@ -20,6 +21,7 @@ use Rattle.markdown_children.specs.Parts.{parts, divided, child_place, part_edit
 use Rattle.markdown_children.specs.Tables.{table, rest_table, table_place, AreAbove, AreRising, chunk_edit}
 use Rattle.markdown_children.specs.declared.division.Chunk.{Chunk}
 use Rattle.markdown_children.proofs.ChainOrder.Spaced.{length-parts, length-map_ends}
+use Rattle.markdown_children.proofs.Parts.Halves.{table-ends}
 use Rattle.markdown_children.proofs.Parts.Kept.{joined, joined-parts}
 use Rattle.markdown_children.proofs.Parts.Edits.{total-joined}
 
@@ -167,6 +169,9 @@ module _ (events child : List Event) (i : ℕ) (forward : AllByRecursion (IsForw
 
   pub chunks-rising : AreRising cs
   chunks-rising = are-rising events (length events) i 0 ps forward
+
+  pub chunks-ends : IsNonDecreasingBy (λ (c : Chunk). c.end) cs
+  chunks-ends = table-ends ks ps 0
 
   inside : AllByRecursion (λ (c : Chunk). c.index + 1 < length events) cs
   inside = within-each cs (inside-all events (length events) i 0 ps forward)

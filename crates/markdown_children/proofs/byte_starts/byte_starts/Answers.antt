@@ -33,7 +33,9 @@ loop-index-preserved-then-bytes-index-gt13 c =
     let i = c.loop-index.invariant in
     let above = c.if-bytes-index-gt13.true in
     record {
-      starts = c.in_ok-push.ensures.items ∙ starts-more c.args.t c.args.bytes.now c.loop-index.starts.items c.loop-index.line c.loop-index.column 1 c.loop-index.index i.starts i.line i.column (plain-width c.args.t c.args.bytes.now c.loop-index.index c.loop-index.column above);
+      starts = c.push_reserved.ensures.items ∙ starts-more c.args.t c.args.bytes.now c.loop-index.starts.items c.loop-index.line c.loop-index.column 1 c.loop-index.index i.starts i.line i.column (plain-width c.args.t c.args.bytes.now c.loop-index.index c.loop-index.column above);
+      so_far = omega (arith, c.push_reserved.ensures.len, i.so_far);
+      room = omega (arith, c.push_reserved.ensures.capacity, i.room);
       line = line-on c.args.bytes.now c.loop-index.line c.loop-index.index false i.line (plain-ends c.args.t c.args.bytes.now c.loop-index.index c.loop-index.column above);
       column = plain-column c.args.t c.args.bytes.now c.loop-index.index c.loop-index.column above ∙ column-on c.args.t c.args.bytes.now c.loop-index.column c.loop-index.index i.column;
     }
@@ -65,7 +67,9 @@ pub loop-index-preserved : goal.loop-index-preserved
 loop-index-preserved c =
     let i = c.loop-index.invariant in
     record {
-      starts = c.in_ok-push-2.ensures.items ∙ starts-more c.args.t c.args.bytes.now c.loop-index.starts.items c.loop-index.line c.loop-index.column c.width_at-width.result c.loop-index.index i.starts i.line i.column c.width_at-width.ensures;
+      starts = c.push_reserved-in-loop-index.ensures.items ∙ starts-more c.args.t c.args.bytes.now c.loop-index.starts.items c.loop-index.line c.loop-index.column c.width_at-width.result c.loop-index.index i.starts i.line i.column c.width_at-width.ensures;
+      so_far = omega (arith, c.push_reserved-in-loop-index.ensures.len, i.so_far);
+      room = omega (arith, c.push_reserved-in-loop-index.ensures.capacity, i.room);
       line = elim c.if-ends_line.branch [
         | then-ends_line w ↦ w.line-is ∙ line-on c.args.bytes.now c.loop-index.line c.loop-index.index true i.line (sym c.ends_line.ensures.end ∙ w.if-ends_line.true)
         | else-ends_line w ↦ w.line-is ∙ line-on c.args.bytes.now c.loop-index.line c.loop-index.index false i.line (sym c.ends_line.ensures.end ∙ w.if-ends_line.false)
@@ -78,5 +82,5 @@ returns c =
     let i = c.loop-index.invariant in
     let n : c.loop-index.index ≡ length c.args.bytes.now = omega arith in
     let w : 1 ≡ width_at c.args.t c.args.bytes.now c.loop-index.column c.loop-index.index = width-end c.args.t c.args.bytes.now c.loop-index.column ∙ ap (width_at c.args.t c.args.bytes.now c.loop-index.column) (sym n) in
-    c.in_ok-push-3.ensures.items ∙ starts-more c.args.t c.args.bytes.now c.loop-index.starts.items c.loop-index.line c.loop-index.column 1 c.loop-index.index i.starts i.line i.column w
+    c.push_reserved-2.ensures.items ∙ starts-more c.args.t c.args.bytes.now c.loop-index.starts.items c.loop-index.line c.loop-index.column 1 c.loop-index.index i.starts i.line i.column w
     ∙ ap (λ k. byte_starts_upto c.args.t c.args.bytes.now (k + 1)) n

@@ -1,11 +1,12 @@
 use Rattle.std.proofs.Common.{◌≡◌, ℕ, ◌+◌, ◌^◌, ◌<◌, ◌≤◌, List, ◌++◌, length, map, sym, ap, subst, ◌∙◌, arith}
 use Rattle.std.specs.Prelude.{All, IfSome}
+use Rattle.std.specs.List.Sorted.{IsNonDecreasingBy}
 use Rattle.markdown_base.specs.declared.event.Event.{Event}
 use Rattle.markdown_base.specs.Events.{EachEnd}
 use Rattle.markdown_edits.specs.Edits.{Edit, AreBehind}
 use Rattle.markdown_children.specs.Tables.{rest_table, table_place, AreAbove, AreRising, chunk_edit}
 use Rattle.markdown_children.specs.declared.division.Chunk.{Chunk}
-use Rattle.markdown_children.proofs.Parts.Tabled.{length-chunks, chunks-above, chunks-rising, chunks-within, chunks-room, chunks-fit, chunks-behind, table-edits, sums-le}
+use Rattle.markdown_children.proofs.Parts.Tabled.{length-chunks, chunks-above, chunks-rising, chunks-ends, chunks-within, chunks-room, chunks-fit, chunks-behind, table-edits, sums-le}
 use Rattle.markdown_children.proofs.division.divide_events.Goals as goal
 
 -- two lists of chunks and events that are those of the contract
@@ -32,6 +33,12 @@ edits_of-requires-clause-rising c =
     let a = c.args in
     subst AreRising (sym (table-at a.events.now _ a.child_events.now.items a.link_index _ _ c.deref.ensures.value c.in_ok-chunks.ensures c.as_slice.ensures.value))
     (chunks-rising a.events.now a.child_events.now.items a.link_index c.requires.chain)
+
+pub edits_of-requires-clause-ends : goal.edits_of-requires-clause-ends
+edits_of-requires-clause-ends c =
+    let a = c.args in
+    subst (IsNonDecreasingBy (λ (d : Chunk). d.end)) (sym (table-at a.events.now _ a.child_events.now.items a.link_index _ _ c.deref.ensures.value c.in_ok-chunks.ensures c.as_slice.ensures.value))
+    (chunks-ends a.events.now a.child_events.now.items a.link_index c.requires.chain)
 
 pub edits_of-requires-clause-fits : goal.edits_of-requires-clause-fits
 edits_of-requires-clause-fits c =

@@ -1,17 +1,37 @@
-use Rattle.std.proofs.Common.{◌≡◌, ℕ, ◌+◌, ◌-◌, ◌<◌, true, ltb, List, length, drop, get_or, Some, refl, ◌∙◌}
-use Rattle.std.proofs.lemmas.Bool.{lt-ltb}
-use Rattle.markdown_tokenizer.proofs.Runs.Whole.{drop-get}
+use Rattle.std.proofs.Common.{◌+◌, ◌-◌, ◌*◌, leb, Some, ap, ◌∙◌, arith, rules}
+use Rattle.std.proofs.lemmas.List.Sorted.{IsPartitionPoint-from_clause, IsPartitionedBy-leb}
 use Rattle.markdown_children.specs.declared.division.Chunk.{Chunk}
-use Rattle.markdown_children.specs.Tables.{table_place}
+use Rattle.markdown_children.proofs.Parts.Halves.{above-at, place-found, place-passed}
 use Rattle.markdown_children.proofs.division.place_in.Goals as goal
 
--- the chunk at k has event n: its place is by that chunk
-here : (cs : List Chunk) (k removed added n : ℕ) (d : Chunk) → k < length cs → n < (get_or cs k d).end → Some ((get_or cs k d).index - removed + added + n) ≡ table_place (drop k cs) removed added n
-here cs k removed added n d lt is =
-    let a : ltb n (get_or cs k d).end ≡ true = lt-ltb n (get_or cs k d).end is in
-    rw (drop-get cs k d lt, a) refl
+pub returns-in_err-chunk : goal.returns-in_err-chunk
+returns-in_err-chunk c =
+    let cs = c.args.chunks.now in
+    let i = c.partition_point-passed.result in
+    let p = IsPartitionPoint-from_clause (λ (k : Chunk). leb k.end c.args.index) cs i c.partition_point-passed.ensures.partitioned (IsPartitionedBy-leb (λ k. k.end) cs c.args.index c.requires.ends) (λ a r q k. search rules) in
+    c.from_residual.ensures ∙ place-passed cs i c.args.acc.0 c.args.acc.1 c.args.index p (c.in_err-chunk.ensures.lookup.3)
 
-pub returns-then-index-chunk : goal.returns-then-index-chunk
-returns-then-index-chunk c =
-    here c.args.chunks.now c.loop-chunk.chunk-index c.loop-chunk.removed c.args.acc.1 c.args.index _ c.loop-chunk-test.true c.if-index-chunk.true
-    ∙ c.loop-chunk.invariant.place
+-- as many events as go in front of the chunk stand there, and its index fits
+pub overflow_add-removed : goal.overflow_add-removed
+overflow_add-removed c =
+    let h = c.in_ok-chunk.ensures.lookup.3 in
+    let d = c.in_ok-chunk.chunk.now in
+    let above = above-at c.args.chunks.now c.partition_point-passed.result c.args.acc.0 d h.0 c.requires.apart in
+    let fits = c.requires.fits c.partition_point-passed.result d h.0 in
+    omega (arith, above, fits)
+
+pub overflow_sub-result : goal.overflow_sub-result
+overflow_sub-result c =
+    let h = c.in_ok-chunk.ensures.lookup.3 in
+    let d = c.in_ok-chunk.chunk.now in
+    let above = above-at c.args.chunks.now c.partition_point-passed.result c.args.acc.0 d h.0 c.requires.apart in
+    omega (arith, above, ap (λ (k : Chunk). k.index) (h.1 d))
+
+pub returns : goal.returns
+returns c =
+    let cs = c.args.chunks.now in
+    let i = c.partition_point-passed.result in
+    let p = IsPartitionPoint-from_clause (λ (k : Chunk). leb k.end c.args.index) cs i c.partition_point-passed.ensures.partitioned (IsPartitionedBy-leb (λ k. k.end) cs c.args.index c.requires.ends) (λ a r q k. search rules) in
+    let h = c.in_ok-chunk.ensures.lookup.3 in
+    let d = c.in_ok-chunk.chunk.now in
+    ap (λ (k : Chunk). Some (k.index - (c.args.acc.0 + 2 * i) + c.args.acc.1 + c.args.index)) (h.1 d) ∙ place-found cs i c.args.acc.0 c.args.acc.1 c.args.index d p h.0
