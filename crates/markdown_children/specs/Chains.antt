@@ -2,7 +2,7 @@
 --
 -- A linked enter and the exit behind it are a chunk, which is named by the enter's index. The text of a chain's chunks
 -- together is content of its own (the crate's comments on `subtokenize`).
-use Rattle.std.specs.Prelude.{ℕ, zero, suc, Bool, true, false, ◌&&◌, List, [], ◌∷◌, length, filter, Option, Some, None, option_map, option_and_then, unwrap_or, is_none, slice_get}
+use Rattle.std.specs.Prelude.{ℕ, zero, suc, Bool, true, false, ◌&&◌, List, [], ◌∷◌, length, filter, Option, Some, None, option_map, unwrap_or, is_none}
 use Rattle.std.specs.List.{range_with_len}
 use denote.Enum.Bare.{sameb}
 use Rattle.markdown_base.specs.contracts.event.Content.{the_type}

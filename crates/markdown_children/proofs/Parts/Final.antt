@@ -1,23 +1,21 @@
 -- Each event of a child is, after all edits, at the place that links to it lead to.
-use Rattle.std.proofs.Common.{◌≡◌, ℕ, zero, suc, ◌+◌, ◌-◌, ◌<◌, ◌≤◌, Bool, true, false, cond, List, [], ◌∷◌, ◌++◌, length, map, take, drop, Option, Some, None, option_map, refl, sym, ◌∙◌, ap, subst, arith, nat_lt, length-drop, append_assoc}
-use Rattle.std.specs.Prelude.{slice_get, flat_map}
+use Rattle.std.proofs.Common.{◌≡◌, ℕ, ◌+◌, ◌-◌, ◌<◌, ◌≤◌, true, false, cond, List, [], ◌∷◌, ◌++◌, length, map, take, drop, Option, Some, None, option_map, refl, sym, ◌∙◌, ap, subst, arith, nat_lt, length-drop}
+use Rattle.std.specs.Prelude.{slice_get}
 use Rattle.std.proofs.lemmas.Option.{slice_get-map}
 use Rattle.std.proofs.lemmas.Bool.{ltb-true, ltb-false}
-use Rattle.std.proofs.lemmas.List.{map-append, length-map, length-take-le}
+use Rattle.std.proofs.lemmas.List.{length-map, length-take-le}
 use Rattle.markdown_base.specs.declared.event.Event.{Event}
-use Rattle.markdown_base.specs.declared.event.Point.{Point}
 use Rattle.markdown_base.specs.Events.{relinked}
 use Rattle.markdown_base.proofs.Common.{get-front}
-use Rattle.markdown_edits.specs.Edits.{Edit, AreDisjoint, removed_by, added_by}
-use Rattle.markdown_edits.specs.Edited.{as_addition, as_change, edited}
-use Rattle.markdown_edits.specs.Woven.{Tagged, Change, woven, placed_in, placed_end}
+use Rattle.markdown_edits.specs.Edits.{Edit, removed_by, added_by}
+use Rattle.markdown_edits.specs.Edited.{as_addition, as_change}
+use Rattle.markdown_edits.specs.Woven.{Tagged, Change, woven, placed_end}
 use Rattle.markdown_edits.proofs.Edits.Passes.{AreApart, AreApart-le, olds, pass, woven-pass}
 use Rattle.markdown_edits.proofs.Edits.FinalPlaces.{length-olds}
 use Rattle.markdown_edits.proofs.Edits.Splices.{AreApart-edits, relinked-same}
 use Rattle.markdown_edits.proofs.Edits.Survivors.{slice_get-behind}
-use Rattle.markdown_children.specs.Chains.{chain_of}
 use Rattle.markdown_children.specs.Laws.{IsPlacedWell}
-use Rattle.markdown_children.specs.Parts.{parts, child_place, part_edits, divided, edits_of_chain}
+use Rattle.markdown_children.specs.Parts.{parts, child_place, part_edits, divided}
 use Rattle.markdown_children.specs.Ready.{place_at}
 use Rattle.markdown_children.proofs.Parts.Kept.{joined, joined-parts}
 
