@@ -9,7 +9,7 @@ use Rattle.markdown_base.specs.Places.{stands_before, lies_between}
 use Rattle.markdown_base.specs.Slices.{byte_place, bytes_between}
 use Rattle.markdown_base.specs.SlicesInner.{first_byte}
 
--- the bytes that stand before a place are those before the first one that does not
+-- the bytes before a place are the bytes before the first one that is not before it
 before_first : (p : Point) (index : ℕ) → stands_before (byte_place index) p ≡ nat_lt index (first_byte p)
 before_first p index = go (nat_lt 0 p.vs) (nat_lt index p.index) (index == p.index) refl refl refl
   where

@@ -49,7 +49,7 @@ some_char bs text some = go (chars bs) (encodes-chars bs text)
     go [] e = absurd (omega (arith, ap length e))
     go (c ∷ cs) e = omega arith
 
--- the last character before an index is that of a part that ends there
+-- the last character before an index is the last one of any part that ends there
 pub char_before_part : (bs : List ℕ) (i j : ℕ) → IsUtf8 bs → i < j → j ≤ length bs → IsCharBoundary bs i → IsCharBoundary bs j
     → char_before bs j ≡ last_or None (chars (take (j - i) (drop i bs)))
 char_before_part bs i j text lt within starts ends =
@@ -59,7 +59,7 @@ char_before_part bs i j text lt within starts ends =
     ∙ ap (λ cs. last_or None cs) (chars-append (take i bs) (take (j - i) (drop i bs)) (IsUtf8-take bs i text starts))
     ∙ last_of_both None (chars (take i bs)) (chars (take (j - i) (drop i bs))) (some_char (take (j - i) (drop i bs)) part long)
 
--- the first character from an index on is that of a part that begins there
+-- the first character from an index on is the first one of any part that begins there
 pub char_after_part : (bs : List ℕ) (i j : ℕ) → IsUtf8 bs → i < j → j ≤ length bs → IsCharBoundary bs i → IsCharBoundary bs j
     → char_after bs i ≡ slice_get (chars (take (j - i) (drop i bs))) 0
 char_after_part bs i j text lt within starts ends =
@@ -82,7 +82,7 @@ code_point_written (Ok s) d spec n shows plain ok =
     let written : IfSome (option_append (Some (codes "U+")) (option_map (padded_integral (format_spec 32 0 4 4 (2 ^ 64 - 1)) false []) (Some (digits 16 true n)))) (λ bs. string_bytes s ≡ bs) = rw (shows, plain) at ok in
     written ∙ ap (λ ds. codes "U+" ++ ds) (hexadecimal_is n)
 
--- nothing stands before a text's start, nor after its end
+-- there is no character before a text's start, and none after its end
 pub none_before : (bs : List ℕ) (i : ℕ) → i ≡ 0 → char_before bs i ≡ None
 none_before bs i e = rw (e, chars-nil) refl
 

@@ -63,7 +63,7 @@ from-index t line column index [] = tt
 from-index t line column index (b ∷ rest) =
     from-more t line column index b rest (λ line' column'. from-index t line' column' (suc index) rest) (b == 10) (b == 13) (begins_with_lf rest) (b == 9) refl refl refl refl
 
--- the virtual bytes at the index of a tab are those of the tab
+-- the virtual bytes at the index of a tab are the tab's
 tab_alone : (t : ℕ) (bytes : List ℕ) (line column index : ℕ) → IsReached t bytes line column index → index < length bytes → get_or bytes index 0 ≡ 9
     → (f : Seat → Bool) → ((s : Seat) → s.point.index ≢ index → f s ≡ false) → filter f (virtual t bytes) ≡ filter f (in_tab 9 (tab_width t column) line column index 0)
 tab_alone t bytes line column index r within is f other =
@@ -187,7 +187,7 @@ spaces-before_end t some bytes p q is cut where_p =
     ltb-one : (vs : ℕ) (r : Bool) → (nat_lt 0 vs && r) ≡ (nat_le 1 vs && r)
     ltb-one vs r = refl
 
--- the start of a range stands at a lower index than its end, or in the same byte and not behind it
+-- the start of a range is at a lower index than its end, or in the same byte and not after it
 pub at_lower_index : (p q : Point) → stands_before q p ≡ false → p.index ≢ q.index → p.index < q.index
 at_lower_index p q ordered other = elim (not_before p q ordered) [ inl lt ↦ lt | inr h ↦ absurd (other h.0) ]
 

@@ -39,7 +39,7 @@ none_passes : (p : ℕ → Bool) (xs : List ℕ) → AllWithin (λ y. p y ≡ fa
 none_passes p [] none = refl
 none_passes p (x ∷ xs) none = rw (none 0 0 (omega arith) (omega arith)) (none_passes p xs (λ k d low high. none (suc k) d (omega arith) (omega arith)))
 
--- where all numbers before a place pass a test, and none from it on, those before the place are those that pass
+-- if all numbers before a position pass a test, and none from it on does, the numbers that pass are the ones before it
 pub passing_are_leading : (p : ℕ → Bool) (xs : List ℕ) (k : ℕ) → k ≤ length xs → IsPartitionPoint (λ y. p y ≡ true) (λ y. p y ≡ false) xs k → filter p xs ≡ take k xs
 passing_are_leading p xs zero within h = none_passes p xs h.1
 passing_are_leading p [] (suc k) within h = refl
@@ -93,7 +93,7 @@ some_line end offset starts (suc k) kept h = omega arith
 pub starts_before : (offset : ℕ) (starts : List ℕ) (k : ℕ) → Divides offset starts (suc k) → get_or starts k 0 ≤ offset
 starts_before offset starts k h = leb-true (get_or starts k 0) offset (h.0 k 0 (omega arith) (omega arith))
 
--- the point that `Location::to_point` answers
+-- the point that `Location::to_point` returns
 pub point_found : (end offset : ℕ) (starts : List ℕ) (line : ℕ) → IsKept end starts → offset ≤ end → line ≤ length starts → Divides offset starts line
     → Some (record { line = line; column = offset - get_or starts (line - 1) 0 + 1; offset = offset }) ≡ point_in (record { end = end; starts = starts }) offset
 point_found end offset starts zero kept inside within h = absurd (omega (arith, some_line end offset starts zero kept h))

@@ -1,4 +1,4 @@
--- Lemmas on the enters that are open behind events, where the events' links are left out.
+-- Lemmas on the enters that are open after events, without regard to the events' links.
 use Rattle.std.proofs.Common.{◌≡◌, ◌-◌, List, [], ◌∷◌, length, take, refl, sym, ap, ◌∙◌}
 use Rattle.std.proofs.lemmas.List.{take-map, map-append, length-map}
 use Rattle.std.specs.Prelude.{map}

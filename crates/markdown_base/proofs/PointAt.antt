@@ -30,7 +30,7 @@ shown_below bytes p index below = go ((slice_index bytes p.index == 10) && follo
     go true e = rw e (λ is. omega arith)
     go false e = rw e (λ is. omega arith)
 
--- nothing before an index stands at it
+-- no place before an index is at it
 find_past : (bytes : List ℕ) (index : ℕ) (front : List Seat) (rest : List Point) → AllByRecursion (λ s. s.point.index < index) front → find (is_at index) (flat_map (both bytes) front ++ rest) ≡ find (is_at index) rest
 find_past bytes index [] rest below = refl
 find_past bytes index (s ∷ front) rest below =
@@ -40,7 +40,7 @@ find_past bytes index (s ∷ front) rest below =
 find_here : (index line column : ℕ) (rest : List Point) → find (is_at index) (point line column index 0 ∷ rest) ≡ Some (point line column index 0)
 find_here index line column rest = rw (eq-eqb index index refl) refl
 
--- a virtual byte that stands at the index is found there, shown or not
+-- a virtual byte at the index is found there, shown or not
 find_shown : (bytes : List ℕ) (line column index : ℕ) (rest : List Point) → find (is_at index) (shown bytes (point line column index 0) ∷ point line column index 0 ∷ rest) ≡ Some (point line column index 0)
 find_shown bytes line column index rest = go ((slice_index bytes index == 10) && follows_cr bytes index) refl
   where

@@ -70,7 +70,7 @@ tab_end : (p : Point) (width line column index : ℕ) → 1 ≤ width → end_af
 tab_end p zero line column index some = absurd (omega arith)
 tab_end p (suc n) line column index some = in_tab-end p 9 n line column index 0
 
--- where an LF comes next, the place before does not matter
+-- if an LF comes next, the place before it does not matter
 crlf_end : (t line column index : ℕ) (p q : Point) (rest : List ℕ) → begins_with_lf rest ≡ true → end_after p (virtual_from t line column index rest) ≡ end_after q (virtual_from t line column index rest)
 crlf_end t line column index p q [] is = absurd (false≢true is)
 crlf_end t line column index p q (b ∷ rest) is = rw is refl
@@ -106,7 +106,7 @@ module _ (t : ℕ) (bytes : List ℕ) (line column index : ℕ) (r : IsReached t
   reached-plain some not_lf nor not_tab = advance t bytes line column index line (suc column) (other_byte (get_or bytes index 0) line column index ∷ []) r within
       (rw (byte_here, not_lf, nor, not_tab) refl) ((omega arith), tt) refl (omega arith) (omega (arith, r.bound))
 
--- a place in a byte's virtual bytes: of a tab, where it is not its first
+-- a place in a byte's virtual bytes; if it is not at the first of them, the byte is a tab
 pub record IsSeatPlace (t : ℕ) (bytes : List ℕ) (p : Point) : Type 0 where
   pub column : ℕ
   pub reached : IsReached t bytes p.line column p.index
@@ -120,7 +120,7 @@ IsReturnPlace bytes p = (p.vs ≡ 0) × (p.index < length bytes) × (get_or byte
 abbrev pub IsPlace : ℕ → List ℕ → Point → Type 0
 IsPlace t bytes p = IsSeatPlace t bytes p ⊎ IsReturnPlace bytes p
 
--- a virtual byte stands at a place, and so is it shown
+-- a virtual byte is at a place, and is shown at a place
 abbrev IsPlaced : ℕ → List ℕ → Seat → Type 0
 IsPlaced t bytes s = IsPlace t bytes s.point × IsPlace t bytes (shown bytes s.point)
 
@@ -169,7 +169,7 @@ placed-tab t bytes line column index r within is s h =
     let placed = subst P (sym h.2) (tab, rw is refl) in
     placed-other t bytes s placed.0 placed.1
 
--- the next byte's virtual bytes are placed, where those after it are
+-- the next byte's virtual bytes are placed, if the ones after it are
 placed-more : (t : ℕ) → 0 < t → (bytes : List ℕ) (line column index b : ℕ) (rest : List ℕ) → drop index bytes ≡ b ∷ rest → IsReached t bytes line column index
     → ((line' column' : ℕ) → IsReached t bytes line' column' (suc index) → ArePlaced t bytes line' column' (suc index) rest)
     → (w x y z : Bool) → (b == 10) ≡ w → (b == 13) ≡ x → begins_with_lf rest ≡ y → (b == 9) ≡ z → ArePlaced t bytes line column index (b ∷ rest)
@@ -229,7 +229,7 @@ every-at P [] k d h within = absurd (omega arith)
 every-at P (x ∷ xs) zero d h within = h.0
 every-at P (x ∷ xs) (suc k) d h within = every-at P xs k d h.1 (omega arith)
 
--- each point of a document is that of a place
+-- each point of a document is the point of a place
 pub place-of : (t : ℕ) → 0 < t → (bytes : List ℕ) (p : Point) → IsPointOf t bytes p → IsPlace t bytes p
 place-of t some bytes p h =
     let all = placed-from t some bytes 1 1 0 bytes refl (reached_start t bytes) in

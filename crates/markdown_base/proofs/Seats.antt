@@ -15,6 +15,6 @@ pub end-after-one : (p : Point) (xs : List Seat) (s : Seat) → end_after p (xs 
 end-after-one p [] s = refl
 end-after-one p (x ∷ xs) s = end-after-one x.end xs s
 
--- no place stands before itself
+-- no place is before itself
 pub stands-self : (p : Point) → stands_before p p ≡ false
 stands-self p = grind (arith, nat_tests)

@@ -7,7 +7,8 @@ use Rattle.std.specs.Int.{is_in_range}
 abbrev pub code_point : ℕ → List ℕ
 code_point c = codes "U+" ++ (replicate (4 - length (digits 16 true c)) 48 ++ digits 16 true c)
 
--- visible ASCII between backticks, the backtick itself in a longer fence, and then the code point in parentheses; of any other character the code point alone
+-- visible ASCII between backticks (the backtick itself in a longer fence), then its code point in parentheses; for any other character only
+-- the code point
 abbrev pub shown_char : ℕ → List ℕ
 shown_char c = if c == 96 then codes "`` ` `` (" ++ (code_point c ++ codes ")")
     else (if is_in_range 33 126 c then codes "`" ++ (c ∷ codes "` (" ++ (code_point c ++ codes ")")) else code_point c)

@@ -1,4 +1,4 @@
--- Which character stands at an index of a text's bytes, and classes of characters.
+-- The character at an index of a text's bytes, and classes of characters.
 use Rattle.std.specs.Prelude.{◌≡◌, ℕ, Bool, true, false, cond, List, take, drop, slice_get, Option, Some, None, chars}
 use Rattle.std.specs.List.{last_or}
 use Rattle.std.specs.Char.{is_whitespace, is_ascii_punctuation}
@@ -13,18 +13,19 @@ char_before bytes index = last_or None (chars (take index bytes))
 abbrev pub char_after : List ℕ → ℕ → Option ℕ
 char_after bytes index = slice_get (chars (drop index bytes)) 0
 
--- a class is that of a character, where a predicate answers by this relation: Unicode's white space is white space; else ASCII punctuation is
--- punctuation; else the predicate answers, true for punctuation (CommonMark, "Unicode whitespace character" and "Unicode punctuation character")
+-- the class of a character, if `answers` is what a predicate returns: Unicode's white space is white space; else ASCII punctuation is
+-- punctuation; else the predicate returns true for punctuation (CommonMark, "Unicode whitespace character" and "Unicode punctuation
+-- character")
 pub record IsClassOf (answers : ℕ → Bool → Type 0) (c : ℕ) (kind : Kind) : Type 0 where
   pub white_space : is_whitespace c ≡ true → kind ≡ Whitespace
   pub ascii : is_whitespace c ≡ false → is_ascii_punctuation c ≡ true → kind ≡ Punctuation
   pub other : is_whitespace c ≡ false → is_ascii_punctuation c ≡ false → (answer : Bool) × answers c answer × (kind ≡ cond answer Punctuation Other)
 
--- the same, where the start and the end of a text count as white space (CommonMark, "Emphasis and strong emphasis")
+-- the same; the start and the end of a text count as white space (CommonMark, "Emphasis and strong emphasis")
 abbrev pub IsClassOfOpt : (ℕ → Bool → Type 0) → Option ℕ → Kind → Type 0
 IsClassOfOpt answers None kind = kind ≡ Whitespace
 IsClassOfOpt answers (Some c) kind = IsClassOf answers c kind
 
--- a predicate is a function: it has one answer, at most, for each character
+-- a predicate is a function: it returns at most one result for each character
 abbrev pub IsFunction : (ℕ → Bool → Type 0) → Type 0
 IsFunction answers = (c : ℕ) (one other : Bool) → answers c one → answers c other → one ≡ other

@@ -13,11 +13,11 @@ use Rattle.markdown_base.specs.declared.event.Name.{Name}
 use Rattle.markdown_base.specs.Places.{stands_before, IsShown}
 use Rattle.markdown_base.specs.VoidNames.{void_names}
 
--- whether two names are one
+-- whether two names are equal
 abbrev pub same_name : Name → Name → Bool
 same_name a b = sameb the_type a b
 
--- whether a name is one of the void names: spans of these hold no other event (the crate's comment on void events)
+-- whether a name is a void name: its spans hold no other event (the crate's comment on void events)
 abbrev pub is_void : Name → Bool
 is_void n = list_any (λ v. same_name v n) void_names
 
@@ -34,11 +34,11 @@ with_ends f l = record l { previous = option_and_then f l.previous; next = optio
 abbrev pub relinked : (ℕ → Option ℕ) → Event → Event
 relinked f e = record e { link = option_map (with_ends f) e.link }
 
--- each end of a link passes
+-- each end of a link has the property
 abbrev pub EachEnd : (ℕ → Type 0) → Link → Type 0
 EachEnd P l = IfSome l.previous P × IfSome l.next P
 
--- each end of the event's link, where it has one, is an index below n
+-- if the event has a link, each of its ends is an index below n
 abbrev pub EndsBelow : ℕ → Event → Type 0
 EndsBelow n e = IfSome e.link (EachEnd (λ k. k < n))
 
@@ -61,7 +61,7 @@ abbrev pub open_after : Kind → Event → List Event → List Event
 open_after Enter e before = before ++ e ∷ []
 open_after Exit e before = take (length before - 1) before
 
--- the open enters after these events, where some were open before
+-- the open enters after these events, if some were open before
 abbrev pub open_events_from : List Event → List Event → List Event
 open_events_from before [] = before
 open_events_from before (e ∷ es) = open_events_from (open_after e.kind e before) es
@@ -75,6 +75,6 @@ abbrev pub IsVoidTight : List Event → Type 0
 IsVoidTight events = (k : ℕ) (e : Event) → slice_get events k ≡ Some e → e.kind ≡ Enter → is_void e.name ≡ true
     → (f : Event) × (slice_get events (k + 1) ≡ Some f) × (f.kind ≡ Exit) × (f.name ≡ e.name)
 
--- the places of events never decrease, and none stands between a CR and its LF
+-- the places of events never decrease, and none is between a CR and its LF
 abbrev pub IsInOrder : List ℕ → List Event → Type 0
 IsInOrder bytes events = AllPairs (λ e f. stands_before f.point e.point ≡ false) events × All (λ e. IsShown bytes e.point) events

@@ -4,7 +4,7 @@ use Rattle.std.specs.List.{range_with_len, last_or}
 use Rattle.std.specs.List.Sorted.{IsNonDecreasingBy}
 use Rattle.markdown_base.specs.declared.unist.Point.{Point}
 
--- an LF stands at an index
+-- there is an LF at an index
 abbrev pub is_lf : List ℕ → ℕ → Bool
 is_lf bytes i = slice_index bytes i == 10
 
@@ -17,11 +17,11 @@ abbrev pub is_line_start : List ℕ → ℕ → Bool
 is_line_start bytes zero = true
 is_line_start bytes (suc k) = ends_line bytes k
 
--- no LF and no CR stands from one index up to another: both are in one line
+-- from one index up to another there is no LF and no CR: both are in one line
 abbrev pub HasNoLineEnding : List ℕ → (from to : ℕ) → Type 0
 HasNoLineEnding bytes from to = (k : ℕ) → from ≤ k → k < to → (slice_index bytes k ≢ 10) × (slice_index bytes k ≢ 13)
 
--- the byte offset of a document's end, and those at which its lines start
+-- the byte offset of a document's end, and the byte offsets at which its lines start
 pub record Lines : Type 0 where
   pub end : ℕ
   pub starts : List ℕ
@@ -34,7 +34,8 @@ lines_of bytes = record { end = length bytes; starts = filter (is_line_start byt
 abbrev pub greatest : List ℕ → ℕ
 greatest = fold max 0
 
--- the point of an offset: the number of line starts that are not after it, and how far the offset is from the greatest of these, from 1 (unist: "Point")
+-- the point of an offset, counted from 1 (unist: "Point"): its line is the number of line starts that are not after it, its column the
+-- distance from the last of these
 abbrev pub point_among : List ℕ → ℕ → Point
 point_among passed offset = record { line = length passed; column = offset - greatest passed + 1; offset = offset }
 
@@ -42,7 +43,8 @@ point_among passed offset = record { line = length passed; column = offset - gre
 abbrev pub point_in : Lines → ℕ → Option Point
 point_in lines offset = if nat_le offset lines.end then Some (point_among (filter (λ start. nat_le start offset) lines.starts) offset) else None
 
--- the offset into the document of an offset into a text of several parts: as far from where the last of the leading parts that begin at or before it stands; none if there is no such part
+-- converts an offset into a text joined from parts to an offset into the document: takes the last part, from the front, that begins at or
+-- before the offset, and adds the distance; None if no part does
 abbrev pub absolute_offset : List (ℕ × ℕ) → ℕ → Option ℕ
 absolute_offset stops relative = option_map (λ stop. stop.1 + (relative - stop.0)) (last_or None (take_while (λ stop. nat_le stop.0 relative) stops))
 

@@ -46,7 +46,7 @@ default_constructs = record {
   thematic_break = true;
 }
 
--- the constructs of GitHub flavored Markdown: those of CommonMark and the six of GFM
+-- the constructs of GitHub flavored Markdown: CommonMark's and the six of GFM
 abbrev pub gfm_constructs : Constructs
 gfm_constructs = record default_constructs {
   gfm_autolink_literal = true;
@@ -57,7 +57,7 @@ gfm_constructs = record default_constructs {
   gfm_task_list_item = true;
 }
 
--- the constructs of MDX: those of CommonMark without autolinks, indented code and HTML, and the five of MDX
+-- the constructs of MDX: CommonMark's without autolinks, indented code and HTML, and the five of MDX
 abbrev pub mdx_constructs : Constructs
 mdx_constructs = record default_constructs {
   autolink = false;
@@ -88,7 +88,7 @@ gfm_parse_options = record default_parse_options { constructs = gfm_constructs }
 abbrev pub mdx_parse_options : ParseOptions
 mdx_parse_options = record default_parse_options { constructs = mdx_constructs }
 
--- the line ending that is written where the document gives none
+-- the line ending that is written if the document gives none
 abbrev pub default_line_ending : LineEnding
 default_line_ending = LineFeed
 

@@ -28,11 +28,11 @@ abbrev pub place_text : Place → List ℕ
 place_text (place.Position p) = position_text p
 place_text (place.Point p) = point_text p
 
--- what stands before a message's reason: its place and `: `, if it has one
+-- what comes before a message's reason: its place and `: `, if it has one
 abbrev pub place_prefix : Option Place → List ℕ
 place_prefix None = []
 place_prefix (Some p) = place_text p ++ codes ": "
 
--- a message is shown as its place, its reason, and the rule that refuses: `1:2: reason (source:rule)`
+-- a message is shown as its place, its reason, and the rule that the document breaks: `1:2: reason (source:rule)`
 abbrev pub message_text : Message → List ℕ
 message_text m = place_prefix m.place ++ m.reason ++ codes " (" ++ m.source ++ codes ":" ++ m.rule_id ++ codes ")"

@@ -1,4 +1,4 @@
--- Texts that the constructs are bound by.
+-- The lists of names in CommonMark and GFM.
 use Rattle.std.specs.Prelude.{ℕ, List, [], ◌∷◌, codes}
 
 -- the tags that GFM's filter takes out (GFM, "Disallowed Raw HTML")

@@ -11,7 +11,7 @@ use std::alloc::{AllocError, Global};
 use std::fmt;
 use std::marker::Model;
 
-/// How many columns tab stops stand apart: from 1 to 16.
+/// The distance from one tab stop to the next, in columns: from 1 to 16.
 #[derive(Clone, Copy, PartialEq, Eq)]
 pub struct TabSize {
     columns: usize,
@@ -198,7 +198,7 @@ impl Default for Constructs {
 }
 
 impl Constructs {
-    /// The constructs of GitHub flavored Markdown: those of CommonMark, and the six that GFM adds.
+    /// The constructs of GitHub flavored Markdown: CommonMark's, and the six that GFM adds.
     pub fn gfm() -> Self
         ensures { result ≡ gfm_constructs }
     {
@@ -213,8 +213,7 @@ impl Constructs {
         }
     }
 
-    /// The constructs of MDX: those of CommonMark without autolinks, indented code and HTML, and the five that
-    /// MDX adds.
+    /// The constructs of MDX: CommonMark's without autolinks, indented code and HTML, and the five that MDX adds.
     pub fn mdx() -> Self
         ensures { result ≡ mdx_constructs }
     {
@@ -242,7 +241,7 @@ pub struct ParseOptions {
     pub gfm_strikethrough_single_tilde: bool,
     /// Whether text math takes one dollar.
     pub math_text_single_dollar: bool,
-    /// At how many columns tab stops stand.
+    /// The distance from one tab stop to the next.
     pub tab_size: TabSize,
 }
 
@@ -298,7 +297,7 @@ pub struct CompileOptions {
     pub default_line_ending: LineEnding,
     /// What the link back from a footnote is called; `Back to content` if none is given.
     pub gfm_footnote_back_label: Option<OwnedText>,
-    /// What stands before the `id` of a footnote; `user-content-` if none is given.
+    /// What is put before the `id` of a footnote; `user-content-` if none is given.
     pub gfm_footnote_clobber_prefix: Option<OwnedText>,
     /// The attributes of the heading of footnotes; `class="sr-only"` if none are given.
     pub gfm_footnote_label_attributes: Option<OwnedText>,

@@ -17,8 +17,8 @@ use crate::util::place::tab_width;
 
 /// What a span is.
 ///
-/// A *void* name is that of a span that holds no other events: its enter is directly followed by its exit.
-/// [`VOID_EVENTS`] lists these.
+/// A span with a *void* name holds no other events: its enter is directly followed by its exit. [`VOID_EVENTS`] lists
+/// these.
 #[derive(Clone, Copy, Debug, PartialEq, Eq, Hash)]
 pub enum Name {
     /// Run of `*`, `_` or `~` that may open or close emphasis, strong emphasis or strikethrough (void).
@@ -141,7 +141,7 @@ pub enum Name {
     GfmFootnoteCallMarker,
     /// Footnote definition, with all its lines, in GFM.
     GfmFootnoteDefinition,
-    /// What stands before the content of a footnote definition: its label, `:` and whitespace.
+    /// What comes before the content of a footnote definition: its label, `:` and whitespace.
     GfmFootnoteDefinitionPrefix,
     /// Label of a footnote definition, with its brackets.
     GfmFootnoteDefinitionLabel,
@@ -597,7 +597,7 @@ impl Name {
     }
 }
 
-/// What the text of a chain of linked events is read as.
+/// What the text of a chain of linked events is read as: the content type of the Rust crate.
 #[derive(Clone, Copy, Debug, PartialEq, Eq)]
 pub enum Content {
     /// Block constructs (headings, lists, paragraphs).
@@ -619,12 +619,12 @@ pub enum Kind {
     Exit,
 }
 
-/// Where an event joins a chain: the enters of one chain are linked in both directions.
+/// An event's neighbours in its chain. The enters of one chain are linked in both directions.
 #[derive(Clone, Copy, Debug, PartialEq, Eq)]
 pub struct Link {
-    /// Index into the events of the enter before in the chain.
+    /// The previous enter of the chain, as an index into the events. `None` at the chain's first.
     pub previous: Option<usize>,
-    /// Index into the events of the enter after in the chain.
+    /// The next enter of the chain, as an index into the events. `None` at the chain's last.
     pub next: Option<usize>,
     /// What the chain's text is read as.
     pub content: Content,
@@ -632,7 +632,7 @@ pub struct Link {
 
 /// A place in a document, with its line and its virtual column.
 ///
-/// A tab is as many virtual bytes as it takes to reach the next tab stop; `vs` tells these apart.
+/// A tab is as many virtual bytes as it takes to reach the next tab stop; `vs` is the number of one of them.
 #[derive(Clone, Copy, Debug, PartialEq, Eq)]
 pub struct Point {
     /// Line, from 1.
@@ -654,7 +654,7 @@ impl Point {
         vs: 0,
     };
 
-    /// This point as unist has it: the byte index is its offset.
+    /// This point as a unist point, without `vs`: the byte index is its offset.
     pub fn to_unist(&self) -> unist::Point
         ensures point { result ≡ record { line = self.now.line; column = self.now.column; offset = self.now.index } }
     {
@@ -698,8 +698,8 @@ pub struct Event {
     pub kind: Kind,
     /// What the span is.
     pub name: Name,
-    /// Where this stands.
+    /// Where the span begins or ends.
     pub point: Point,
-    /// Where the event joins a chain, if it does.
+    /// Its neighbours in a chain, if it is in one.
     pub link: Option<Link>,
 }

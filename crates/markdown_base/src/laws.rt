@@ -1,4 +1,4 @@
-//! Laws: what holds of the constants, the names and the definitions here.
+//! Laws about the constants, the names and the definitions of this crate.
 //!
 //! Each is a function that does nothing, whose contract is the law.
 
@@ -33,19 +33,20 @@ pub fn void_events_are_stated()
     ensures { VOID_EVENTS ≡ void_names }
 {}
 
-/// A tab at a column reaches the next tab stop: the place after it is one, and it is from one to `t` columns wide.
+/// A tab reaches the next tab stop, and is from one to `t` columns wide.
 ///
-/// Tab stops stand at every `t` columns, from the first on.
+/// There is a tab stop at every `t` columns, from the first column on.
 pub fn tabs_reach_stops()
     ensures stop { (t column : ℕ) → 0 < t → 1 ≤ column → (column + tab_width t column - 1) % t ≡ 0 }
     ensures some { (t column : ℕ) → 0 < t → 1 ≤ column → 1 ≤ tab_width t column }
     ensures most { (t column : ℕ) → 0 < t → 1 ≤ column → tab_width t column ≤ t }
 {}
 
-/// Where a predicate of punctuation is a function, a character, or the end of a text, has one class.
+/// If a predicate of punctuation is a function, each character has one class. So has the end of a text.
 ///
 /// So [`kind_after_index`](crate::util::char::kind_after_index) then returns the class that
-/// [`classify_opt`](crate::util::char::classify_opt) returns for the character at the index: each returns one by `IsClassOfOpt`.
+/// [`classify_opt`](crate::util::char::classify_opt) returns for the character at the index. Both return a class by
+/// `IsClassOfOpt`.
 pub fn characters_have_one_class<P: Fn(char) -> bool>(punctuation: &P)
     ensures { let answers = P.post punctuation.now in
         IsFunction answers → (c : _) (one other : _) → IsClassOfOpt answers c one → IsClassOfOpt answers c other → one ≡ other }
@@ -56,13 +57,13 @@ pub fn start_is_stated()
     ensures { START ≡ point 1 1 0 0 }
 {}
 
-/// The names of states are numbered from 0 on, by construct: no two are one.
+/// The names of states are numbered from 0 on, by construct: no two are equal.
 pub fn names_differ()
     ensures numbers { map (λ name. name.number) state_names ≡ range_with_len 0 317 }
     ensures differ { AllPairs (λ one other. one ≢ other) state_names }
 {}
 
-/// What each number is.
+/// The value of each number.
 pub fn numbers_are_stated()
     ensures autolink_scheme_size_max { AUTOLINK_SCHEME_SIZE_MAX ≡ 32 }
     ensures autolink_domain_size_max { AUTOLINK_DOMAIN_SIZE_MAX ≡ 63 }
@@ -83,7 +84,7 @@ pub fn numbers_are_stated()
     ensures thematic_break_marker_count_min { THEMATIC_BREAK_MARKER_COUNT_MIN ≡ 3 }
 {}
 
-/// What each list is, text by text and in order.
+/// The texts of each list, in order.
 pub fn lists_are_stated()
     ensures gfm_html_tagfilter_names { map (λ name. name.now) GFM_HTML_TAGFILTER_NAMES ≡ tagfilter_names }
     ensures html_block_names { map (λ name. name.now) HTML_BLOCK_NAMES ≡ html_block_names }
@@ -93,7 +94,7 @@ pub fn lists_are_stated()
     ensures safe_protocol_src { map (λ name. name.now) SAFE_PROTOCOL_SRC ≡ safe_protocols_of_images }
 {}
 
-/// Names of events and of states, contents and kinds of events, and line endings: equal ones are one.
+/// For names of events and of states, contents and kinds of events, and line endings, `==` is equality.
 pub fn equal_names_are_one()
     ensures event_names { (a : _) (b : _) → (⟦<event::Name as PartialEq>⟧.eq a b ≡ true) ↔ (a ≡ b) }
     ensures state_names { (a : _) (b : _) → (⟦<state::Name as PartialEq>⟧.eq a b ≡ true) ↔ (a ≡ b) }
@@ -102,31 +103,31 @@ pub fn equal_names_are_one()
     ensures line_endings { (a : _) (b : _) → (⟦<LineEnding as PartialEq>⟧.eq a b ≡ true) ↔ (a ≡ b) }
 {}
 
-/// Points of events, and links: equal ones are one.
+/// For points of events, and for links, `==` is equality.
 pub fn equal_points_and_links_are_one()
     ensures points { (a : _) (b : _) → (⟦<event::Point as PartialEq>⟧.eq a b ≡ true) ↔ (a ≡ b) }
     ensures links { (a : _) (b : _) → (⟦<event::Link as PartialEq>⟧.eq a b ≡ true) ↔ (a ≡ b) }
 {}
 
-/// Events: equal ones are one.
+/// For events, `==` is equality.
 pub fn equal_events_are_one()
     ensures { (a : _) (b : _) → (⟦<event::Event as PartialEq>⟧.eq a b ≡ true) ↔ (a ≡ b) }
 {}
 
-/// Points and positions of unist, and places: equal ones are one.
+/// For points and positions of unist, and for places, `==` is equality.
 pub fn equal_places_are_one()
     ensures points { (a : _) (b : _) → (⟦<unist::Point as PartialEq>⟧.eq a b ≡ true) ↔ (a ≡ b) }
     ensures positions { (a : _) (b : _) → (⟦<unist::Position as PartialEq>⟧.eq a b ≡ true) ↔ (a ≡ b) }
     ensures places { (a : _) (b : _) → (⟦<Place as PartialEq>⟧.eq a b ≡ true) ↔ (a ≡ b) }
 {}
 
-/// Messages and states: equal ones are one.
+/// For messages and states, `==` is equality.
 pub fn equal_states_are_one()
     ensures messages { (a : _) (b : _) → (⟦<Message as PartialEq>⟧.eq a b ≡ true) ↔ (a ≡ b) }
     ensures states { (a : _) (b : _) → (⟦<state::State as PartialEq>⟧.eq a b ≡ true) ↔ (a ≡ b) }
 {}
 
-/// Tab sizes: equal ones are one.
+/// For tab sizes, `==` is equality.
 pub fn equal_tab_sizes_are_one()
     ensures { (a : _) (b : _) → (⟦<TabSize as PartialEq>⟧.eq a b ≡ true) ↔ (a ≡ b) }
 {}

@@ -1,4 +1,4 @@
-//! What the tokenizer engine stands on: events, names of states, options, messages and places.
+//! The plain data of the tokenizer engine: events, names of states, options, messages and places.
 #![tactic(auto)]
 
 pub mod configuration;

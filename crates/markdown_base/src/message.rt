@@ -11,17 +11,16 @@ use std::fmt;
 
 /// Why a document was refused.
 ///
-/// It is shown as its place and `: `, if it has one, then the reason and, in parentheses, what has the rule,
-/// `:`, and the name of the rule.
+/// It is shown as `place: reason (source:rule)`, without `place: ` if it has no place.
 #[derive(Debug, PartialEq, Eq, Drop)]
 pub struct Message {
-    /// Where, if it is known.
+    /// Where in the document, if it is known.
     pub place: Option<Boxed<Place>>,
     /// The reason, as Markdown.
     pub reason: OwnedText,
-    /// The name of the rule that refuses.
+    /// The name of the rule that the document breaks.
     pub rule_id: Boxed<OwnedText>,
-    /// The name of what has the rule.
+    /// The name of the component that has the rule.
     pub source: Boxed<OwnedText>,
 }
 
@@ -54,7 +53,7 @@ fn boxed_clone(text: &Boxed<OwnedText>, alloc: Global) -> Result<Boxed<OwnedText
 impl fmt::Display for Message {
     ghost output = { λ m. Some (message_text m) };
 
-    /// Writes the message in one line: its place if it has one, its reason, and the rule that it is of.
+    /// Writes the message in one line: its place if it has one, its reason, and its rule.
     fn fmt<W: fmt::Write>(&self, f: &mut fmt::Formatter<W>) -> fmt::Result {
         write_prefix(&self.place, f)?;
         let reason = self.reason.as_str();
@@ -64,7 +63,7 @@ impl fmt::Display for Message {
     }
 }
 
-/// Writes what stands before a message's reason.
+/// Writes what comes before a message's reason.
 fn write_prefix<W: fmt::Write>(
     place: &Option<Boxed<Place>>,
     f: &mut fmt::Formatter<W>,
@@ -80,7 +79,7 @@ fn write_prefix<W: fmt::Write>(
     }
 }
 
-/// Somewhere in a document: shown as `line:column`, or as two of these with `-` between.
+/// A point or a range of a document, shown as `line:column`, or as two of these with `-` between.
 #[derive(Clone, Copy, Debug, PartialEq, Eq)]
 pub enum Place {
     /// From one point to another.

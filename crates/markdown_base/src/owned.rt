@@ -1,7 +1,8 @@
 //! Lists, texts and boxes, as contracts see them.
 //!
-//! Contracts compare what a `Vec`, a `String` or a `Box` holds, not where it holds it. Each type here is one of
-//! these, seen as its contents alone; it is made from what it wraps, and gives it back, without taking memory.
+//! Contracts compare what a `Vec`, a `String` or a `Box` holds, not where it holds it. Each type here wraps one of
+//! these, and a contract sees only its contents. It is made from what it wraps, and gives it back, without taking
+//! memory.
 
 ghost use Rattle.std.specs.Prelude.{◌≡◌, ◌++◌, ◌∷◌, [], List, ℕ, IfOk, OnOk, OnErr, bytes_eq, string_bytes};
 ghost use Rattle.std.specs.Cmp.{partial_equiv_from_equiv};
@@ -178,7 +179,7 @@ impl<T> Boxed<T> {
         Boxed { item }
     }
 
-    /// The box of it. Takes no memory.
+    /// The box that holds it. Takes no memory.
     pub fn into_box(self) -> Box<T>
         ensures { result.value ≡ self }
     {

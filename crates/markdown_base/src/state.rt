@@ -1,7 +1,7 @@
-//! States: what a machine is in, and what it answers.
+//! States: their names, and what the call of a state returns.
 //!
-//! A state is named by the construct that it reads and by the place in it. A machine's `call` runs the
-//! state of a name and answers a [`State`].
+//! A state is named by the construct that it reads and by the position in that construct. A machine's `call` runs the
+//! state of a name and returns a [`State`].
 
 ghost use Rattle.std.specs.Prelude.{◌≡◌, ◌≢◌, ◌↔◌, IfOk, IsOk};
 ghost use Rattle.markdown_base.specs.States.{IsOkOrError};
@@ -11,9 +11,8 @@ use std::alloc::{AllocError, Global};
 
 /// The name of a state.
 ///
-/// There are more names than an enum may have variants, so that each is a constant; they stand in
-/// expressions and in patterns as variants would. The number is a word wide, so that a [`State`] that holds
-/// a name is moved by words.
+/// An enum can't have this many variants, so each name is a constant. It is used in expressions and patterns as a
+/// variant would be. The number is one machine word wide, so that a [`State`] that holds a name is moved by words.
 #[derive(Clone, Copy, Debug, PartialEq, Eq)]
 pub struct Name {
     number: u64,
@@ -531,7 +530,7 @@ impl Name {
     pub const ListItemMarkerAfter: Name = Name { number: 253 };
     /// List item: after it.
     pub const ListItemAfter: Name = Name { number: 254 };
-    /// List item: after the marker, where the line is not blank.
+    /// List item: after the marker, on a line that is not blank.
     pub const ListItemMarkerAfterFilled: Name = Name { number: 255 };
     /// List item: whitespace after the marker.
     pub const ListItemWhitespace: Name = Name { number: 256 };
@@ -675,7 +674,7 @@ pub enum State {
 impl State {
     /// Nothing for `Ok`, the message for `Error`. Takes no memory.
     ///
-    /// The state must be one of these two.
+    /// The state must be `Ok` or `Error`.
     pub fn to_result(self) -> Result<(), Message>
         requires { IsOkOrError self }
         ensures ok { (result ≡ Ok tt) ↔ (self ≡ State.Ok) }
@@ -688,7 +687,7 @@ impl State {
         }
     }
 
-    /// The same state, in memory of its own. Only an error, with its message, takes memory.
+    /// The same state, in memory of its own. Only an `Error` takes memory, for its message.
     pub fn try_clone(&self, alloc: Global) -> Result<State, AllocError>
         ensures equal { IfOk result (λ copy. copy ≡ self.now) }
         ensures succeeds { ((m : _) → self.now ≢ State.Error m) → IsOk result }

@@ -1,4 +1,4 @@
-//! Characters: which one stands at an index of a text's bytes, what class it is of, and how to show it.
+//! Characters: the one at an index of a text's bytes, its class, and how messages show it.
 
 ghost use Rattle.std.specs.Prelude.{◌≡◌, ◌<◌, ◌≤◌, length, MatchBool, IsUtf8, IsCharBoundary, IfOk, string_bytes};
 ghost use Rattle.markdown_base.specs.Classes.{char_before, char_after, IsClassOf, IsClassOfOpt};
@@ -51,8 +51,8 @@ pub fn after_index(bytes: &[u8], index: usize) -> Option<char>
 
 /// The class of the character that begins at an index into the bytes of a text.
 ///
-/// White space, the end of the text and ASCII punctuation are told without `punctuation`, which is asked of any other character.
-/// If it has one answer for each, this is the class that [`classify_opt`] returns for that character.
+/// White space, the end of the text and ASCII punctuation are known without `punctuation`, which is called for any other
+/// character. If it is a function, this is the class that [`classify_opt`] returns for that character.
 pub fn kind_after_index<P: Fn(char) -> bool>(bytes: &[u8], index: usize, punctuation: &P) -> Kind
     requires text { IsUtf8 bytes.now }
     requires boundary { IsCharBoundary bytes.now index }

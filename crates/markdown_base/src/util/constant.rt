@@ -1,6 +1,6 @@
-//! Numbers and names that the constructs are bound by.
+//! Numbers and names that limit the constructs.
 //!
-//! Where CommonMark or GFM gives one, its section is named.
+//! If CommonMark or GFM gives one, its section is named.
 
 /// How many characters the scheme of an autolink may have at most: CommonMark, "Autolinks".
 pub const AUTOLINK_SCHEME_SIZE_MAX: usize = 32;
@@ -124,8 +124,7 @@ pub const HTML_BLOCK_NAMES: [&str; 62] = [
     "ul",
 ];
 
-/// What stands after `<!` and the first `[` of CDATA, `CDATA[`: CommonMark, "HTML blocks", start condition 5, and
-/// "Raw HTML".
+/// What follows `<![` at the start of CDATA, `CDATA[`: CommonMark, "HTML blocks", start condition 5, and "Raw HTML".
 pub const HTML_CDATA_PREFIX: [u8; 6] = *b"CDATA[";
 
 /// The names of the tags that begin a block of HTML which only the closing tag ends, in lowercase: CommonMark,
@@ -146,7 +145,7 @@ pub const LIST_ITEM_VALUE_SIZE_MAX: usize = 10;
 /// How many markers a fence of math has at least.
 pub const MATH_FLOW_SEQUENCE_SIZE_MIN: usize = 2;
 
-/// How many parentheses may be open in a link destination at once: CommonMark, "Links", asks for at least three.
+/// How many parentheses may be open in a link destination at once: CommonMark, "Links", requires at least three.
 pub const RESOURCE_DESTINATION_BALANCE_MAX: usize = 32;
 
 /// The protocols that a link may have in safe HTML, as on GitHub.
@@ -155,7 +154,7 @@ pub const SAFE_PROTOCOL_HREF: [&str; 6] = ["http", "https", "irc", "ircs", "mail
 /// The protocols that an image may have in safe HTML, as on GitHub.
 pub const SAFE_PROTOCOL_SRC: [&str; 2] = ["http", "https"];
 
-/// How many columns lie from one tab stop to the next: CommonMark, "Tabs".
+/// The distance from one tab stop to the next, in columns: CommonMark, "Tabs".
 pub const TAB_SIZE: usize = 4;
 
 /// How many markers a thematic break has at least: CommonMark, "Thematic breaks".

@@ -38,9 +38,9 @@ impl LineEnding {
         }
     }
 
-    /// The line ending that a text is.
+    /// The line ending that a text consists of.
     ///
-    /// Returns the error `Expected CR, LF, or CRLF` for a text that is none, as one that holds anything else beside a line ending.
+    /// Returns the error `Expected CR, LF, or CRLF` if the text is anything but one line ending.
     pub fn parse(text: &str) -> Result<LineEnding, &'static str>
         ensures accepts { (e : _) → (result ≡ Ok e) ↔ (text.now ≡ ending_text e) }
         ensures refuses { IfErr result (λ why. why.now ≡ codes "Expected CR, LF, or CRLF") }

@@ -1,5 +1,5 @@
-//! Places in a document: from byte offsets to lines and columns, and from offsets into a text that was put
-//! together of several parts of a document to offsets into the document.
+//! Places in a document: from byte offsets to lines and columns. A text may be joined from several parts of a document;
+//! offsets into it are converted to offsets into the document.
 
 ghost use Rattle.std.specs.Prelude.{◌≡◌, ◌<◌, ◌^◌, ◌+◌, IfOk, IfSome, option_and_then};
 ghost use Rattle.markdown_base.specs.Lines.{Lines, lines_of, point_in, is_line_start, absolute_offset, IsKept};
@@ -49,7 +49,7 @@ impl Location {
         })
     }
 
-    /// The line, the column and the offset of a byte offset into the document, columns counted in bytes.
+    /// The point of a byte offset into the document. Columns count bytes, from 1.
     ///
     /// The offset of the document's end has a point too. Returns `None` past it.
     pub fn to_point(&self, offset: usize) -> Option<Point>
@@ -62,9 +62,10 @@ impl Location {
         Some(Point::new(line, offset - self.starts[line - 1] + 1, offset))
     }
 
-    /// The point of a byte offset into a text that was put together of parts of the document.
+    /// The point of a byte offset into a text that was joined from parts of the document.
     ///
-    /// Returns `None` if the text has no part, or if the offset into the document is past its end.
+    /// Returns `None` if the text has no part that begins at or before the offset, or if the offset into the document
+    /// is past its end.
     pub fn relative_to_point(&self, stops: &[Stop], relative: usize) -> Option<Point>
         requires fits { IfSome (absolute_offset stops.now relative) (λ offset. offset < 2 ^ 64) }
         ensures point { result ≡ option_and_then (point_in self.now) (absolute_offset stops.now relative) }
@@ -72,9 +73,9 @@ impl Location {
         Location::relative_to_absolute(stops, relative).and_then(|absolute| self.to_point(absolute))
     }
 
-    /// The byte offset into the document of a byte offset into a text that was put together of its parts.
+    /// Converts a byte offset into a text joined from parts of the document to a byte offset into the document.
     ///
-    /// Returns `None` if the text has no part.
+    /// Returns `None` if the text has no part that begins at or before the offset.
     pub fn relative_to_absolute(stops: &[Stop], relative: usize) -> Option<usize>
         requires fits { IfSome (absolute_offset stops.now relative) (λ offset. offset < 2 ^ 64) }
         ensures offset { result ≡ absolute_offset stops.now relative }

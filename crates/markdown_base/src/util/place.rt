@@ -4,7 +4,7 @@ ghost use Rattle.std.specs.Prelude.{◌≡◌, ◌<◌, ◌≤◌};
 ghost use Rattle.markdown_base.specs.Lines.{ends_line};
 ghost use Rattle.markdown_base.specs.Virtual.{tab_width};
 
-/// How many columns lie from a column, counted from 1, to the next tab stop. Tab stops stand at every `tab_size`
+/// The number of columns from a column, counted from 1, to the next tab stop. There is a tab stop at every `tab_size`
 /// columns.
 #[inline]
 pub fn tab_width(tab_size: usize, column: usize) -> usize

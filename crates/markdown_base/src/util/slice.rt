@@ -15,12 +15,12 @@ use std::alloc::{AllocError, Global};
 pub struct Position<'a> {
     /// Where the range begins.
     pub start: &'a Point,
-    /// Where the range ends: before this point.
+    /// Where the range ends; the byte here is not in it.
     pub end: &'a Point,
 }
 
 impl<'a> Position<'a> {
-    /// The range of a span, of which the exit is given: from the nearest earlier enter of its name.
+    /// The range of a span, given the index of its exit: from the nearest earlier enter with its name.
     ///
     /// A span that holds a span of its own name is not supported.
     pub fn from_exit_event(events: &'a [Event], index: usize) -> Position<'a>
@@ -64,9 +64,9 @@ pub struct Slice<'a> {
 impl<'a> Slice<'a> {
     /// The part of a document in a range, with tab stops at every `tab_size` columns.
     ///
-    /// If the range begins inside a tab, what is left of the tab is spaces before the bytes. If it ends inside
-    /// a tab, the tab is the last byte, and what else is covered of it is spaces after the bytes. If both ends lie
-    /// inside one tab, there are no bytes, and the spaces between are before.
+    /// If the range begins inside a tab, the rest of the tab is spaces before the bytes. If it ends inside a tab, the
+    /// tab is the last byte, and its other columns in the range are spaces after the bytes. If both ends are inside one
+    /// tab, there are no bytes, and the spaces are before.
     pub fn from_position(bytes: &'a [u8], tab_size: TabSize, position: &Position) -> Slice<'a>
         requires start_is_place { IsPointOf tab_size bytes.now position.now.start.now }
         requires end_is_place { IsPointOf tab_size bytes.now position.now.end.now }
@@ -153,7 +153,7 @@ fn is_enter_of(event: &Event, exit: &Event) -> bool
     matches!(event.kind, Kind::Enter) && event.name == exit.name
 }
 
-/// The index of the first byte that does not stand before a place.
+/// The index of the first byte that is not before a place.
 fn first_byte(point: &Point) -> usize
     requires fits { point.now.index + 1 < 2 ^ 64 }
     ensures { result ≡ first_byte point.now }
@@ -165,8 +165,8 @@ fn first_byte(point: &Point) -> usize
     }
 }
 
-/// The number of virtual bytes in a range that belong to a tab which the range's start cuts. Tab stops stand at every
-/// `t` columns.
+/// The number of virtual bytes in a range that belong to a tab which the range's start cuts. There is a tab stop at
+/// every `t` columns.
 fn spaces_before(t: usize, start: &Point, end: &Point) -> usize
     requires tab { 0 < t }
     requires column { 0 < start.now.vs → 1 ≤ start.now.column }
@@ -182,7 +182,8 @@ fn spaces_before(t: usize, start: &Point, end: &Point) -> usize
     }
 }
 
-/// The number of virtual bytes in a range that belong to a tab which only the range's end cuts, but its tab byte.
+/// The number of virtual bytes in a range that belong to a tab which only the range's end cuts, not counting its tab
+/// byte.
 fn spaces_after(start: &Point, end: &Point) -> usize
     requires ordered { stands_before end.now start.now ≡ false }
     ensures { (t : ℕ) (bytes : List ℕ) → 0 < t → IsPointOf t bytes start.now → IsPointOf t bytes end.now → result ≡ spaces_after t bytes start.now end.now }

@@ -7,7 +7,7 @@ use Rattle.markdown_base.specs.Events.{same_name}
 use Rattle.markdown_base.specs.VoidNames.{void_names}
 use Rattle.markdown_base.proofs.event.Name.is_void.Goals as goal
 
--- the name is one of those of a pattern
+-- the name is in a pattern
 abbrev IsOneOf : Name → List Name → Type 0
 IsOneOf a [] = ⊥
 IsOneOf a (n ∷ []) = a ≡ n
@@ -28,7 +28,7 @@ one-is-found a (n ∷ m ∷ ns) h = ⊎_elim
 pub returns-in-AttentionSequence : goal.returns-in-AttentionSequence
 returns-in-AttentionSequence c = one-is-found c.args.self void_names c.in-AttentionSequence.is
 
--- the name is none of those of a list
+-- the name is not in a list
 abbrev IsNoneOf : Name → List Name → Type 0
 IsNoneOf a [] = Unit {0}
 IsNoneOf a (n ∷ ns) = (a ≡ n → ⊥) × IsNoneOf a ns

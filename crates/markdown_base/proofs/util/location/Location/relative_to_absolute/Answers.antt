@@ -5,7 +5,7 @@ use Rattle.markdown_base.proofs.LineLemmas.{leading_turn}
 use Rattle.markdown_base.proofs.util.location.Location.relative_to_absolute.Goals as goal
 use Rattle.markdown_base.proofs.util.location.Location.relative_to_absolute.Goals.{Left-loop-stop, else-loop-stop-test, then-loop-stop-test+then-stop-relative}
 
--- where the next does not pass, what was passed last is the answer
+-- if the next does not pass, the result is the last one that passed
 stopped : (p : ℕ × ℕ → Bool) (stops : List (ℕ × ℕ)) (i : ℕ) (last : Option (ℕ × ℕ)) → (i < length stops → p (get_or stops i (0, 0)) ≡ false) → last_or last (take_while p (drop i stops)) ≡ last
 stopped p [] zero last none = refl
 stopped p [] (suc i) last none = refl

@@ -4,7 +4,7 @@ use Rattle.std.specs.Prelude.{Option, Some, None, option_and_then}
 use Rattle.markdown_base.specs.Lines.{point_in}
 use Rattle.markdown_base.proofs.util.location.Location.relative_to_point.Goals as goal
 
--- what a call's cases say of its result, where each case's fact says what the result is
+-- what holds in each case of a call holds of its result
 chained : {A B : Type 0} (f : A → Option B) (P : A → Type 0) (result : Option B) → ((x : A) → P x → result ≡ f x) → (o : Option A) → MatchOption o (result ≡ None) P → result ≡ option_and_then f o
 chained f P result each None h = h
 chained f P result each (Some x) h = each x h

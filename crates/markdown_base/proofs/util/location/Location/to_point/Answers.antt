@@ -6,7 +6,7 @@ use Rattle.markdown_base.proofs.LineLemmas.{Divides, some_line, starts_before, p
 use Rattle.markdown_base.proofs.util.location.Location.to_point.Goals as goal
 use Rattle.markdown_base.proofs.util.location.Location.to_point.Goals.{After-partition_point-line}
 
--- the search answers the place after the line starts that are not after the offset
+-- the search returns the number of line starts that are not after the offset
 divides : (c : After-partition_point-line) → IsPartitionPoint (λ y. leb y c.args.offset ≡ true) (λ y. leb y c.args.offset ≡ false) c.self.inside.starts.items c.partition_point-line.result
 divides c =
     let found = rw c.deref.ensures.value at c.partition_point-line.ensures.partitioned in

@@ -10,7 +10,7 @@ use Rattle.markdown_base.proofs.SliceLemmas.{filler, nearest_is, exit_inside}
 use Rattle.markdown_base.proofs.util.slice.Position.from_exit_event.Goals as goal
 use Rattle.markdown_base.proofs.util.slice.Position.from_exit_event.Goals.{After-find}
 
--- what the search answers
+-- what the search returns
 found : (c : After-find) → option_map (λ y. y.now) c.find.result ≡ nearest_enter c.args.events.now c.args.index
 found c =
     let exit = get_or c.args.events.now c.args.index filler in
