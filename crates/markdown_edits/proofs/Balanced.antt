@@ -74,7 +74,7 @@ closes_from_open (e ∷ es) st h = kind_case e es (closes_from_open es) e.kind r
 balanced_from_closes : (es : List Event) → Closes [] es → IsBalanced es
 balanced_from_closes es (all_closed b) = b
 
--- the test tells balanced lists
+-- a list that passes the test is balanced
 pub balanced_from_open : (es : List Event) → names_after_all (Some []) es ≡ Some [] → IsBalanced es
 balanced_from_open es h = balanced_from_closes es (closes_from_open es [] h)
 

@@ -22,7 +22,7 @@ some-within P i [] h = absurd h
 some-within P zero (e ∷ es) h = omega arith
 some-within P (suc i) (e ∷ es) h = let l = some-within P i es h in omega (arith, l)
 
--- two writes, where the events read are told with any default
+-- two writes; the events are read with any default
 pub set-linked_to : (previous next : ℕ) (es : List Event) (d : Event) (a b : Event) → previous < length es → next < length es
     → a ≡ with_next next (get_or es previous d) → b ≡ with_previous previous (get_or (set es previous a) next d) → set (set es previous a) next b ≡ linked_to previous next es
 set-linked_to previous next es d a b l m p q =

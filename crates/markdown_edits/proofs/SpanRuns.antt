@@ -103,7 +103,7 @@ module _ (names : List Name) where
   IsSpanRun-closes {l = l} (all_closed b) = subst (λ (t : List Event). IsSpanRun names (take (run_len names 0 t) t)) (append-nil l) (IsSpanRun-run_len [] b refl)
   IsSpanRun-closes (closing f xs ys is ex same b c) = subst (λ (t : List Event). IsSpanRun names (take (run_len names 0 t) t)) (sym is) (IsSpanRun-run_len (f ∷ ys) b (exit_stops f ys ex))
 
-  -- what stands behind a front of a balanced list: a walk over it goes over a run
+  -- the rest of a balanced list after a front of it: a walk over it goes over a run
   pub suffix_closes : (front rest : List Event) → IsBalanced (front ++ rest) → (o : Option (List Name)) → names_after_all (Some []) front ≡ o → IsSpanRun names (take (run_len names 0 rest) rest)
   suffix_closes front rest b None e =
       let no : None ≡ Some [] = ap (λ o. names_after_all o rest) (sym e) ∙ sym (names_after_all-append (Some []) front rest) ∙ names_after_balanced b [] in

@@ -1,4 +1,4 @@
--- Edits of a list of events, in the order of their indices, one an index.
+-- Edits of a list of events, in the order of their indices, one for each index.
 use Rattle.std.specs.Prelude.{ℕ, ◌+◌, ◌≤◌, ◌<◌, Bool, ◌&&◌, ◌==◌, List, [], ◌∷◌, ◌++◌, length, if◌then◌else◌}
 use Rattle.std.specs.List.{AllByRecursion}
 use Rattle.std.specs.Ordering.{match_ordering, nat_cmp}
@@ -31,7 +31,7 @@ is_no_edit d = (d.remove == 0) && (length d.additions == 0)
 abbrev pub merged : (List Event → List Event → List Event) → Edit → Edit → Edit
 merged f e d = edit_at e.index (e.remove + d.remove) (f e.additions d.additions)
 
--- the edits with one more: merged with the one at its index, else in front of the first that lies behind it
+-- the edits with one more: merged with the one at its index, else before the first one with a greater index
 abbrev pub put_by : (List Event → List Event → List Event) → List Edit → Edit → List Edit
 put_by f [] d = d ∷ []
 put_by f (e ∷ es) d =
@@ -40,11 +40,11 @@ put_by f (e ∷ es) d =
     (merged f e d ∷ es)
     (e ∷ put_by f es d)
 
--- the edits with one more, whose additions come behind those that are there
+-- the edits with one more, whose additions come after the ones that are there
 abbrev pub put_after : List Edit → Edit → List Edit
 put_after = put_by (λ there more. there ++ more)
 
--- the edits with one more, whose additions come in front of those that are there
+-- the edits with one more, whose additions come before the ones that are there
 abbrev pub put_before : List Edit → Edit → List Edit
 put_before = put_by (λ there more. more ++ there)
 
@@ -66,6 +66,6 @@ abbrev pub AreDisjoint : ℕ → List Edit → ℕ → Type 0
 AreDisjoint from [] n = from ≤ n
 AreDisjoint from (e ∷ es) n = (from ≤ e.index) × AreDisjoint (e.index + e.remove) es n
 
--- the second edits stand behind the first ones: some index parts them
+-- the second edits are all behind the first ones: an index separates them
 abbrev pub AreBehind : List Edit → List Edit → Type 0
 AreBehind es more = (n : ℕ) × AllByRecursion (λ (e : Edit). e.index < n) es × AllByRecursion (λ (e : Edit). n ≤ e.index) more

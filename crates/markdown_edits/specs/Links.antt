@@ -34,8 +34,8 @@ pub record IsChunk (events : List Event) (k : ℕ) : Type 0 where
   pub linked : IsLinkedEnter enter
   pub ended : IsEndedBy enter exit
 
--- The event at `next` can follow the one at `previous` in a chain: that one begins a chunk, both are linked enters of void spans, and
--- they have one content (what the crate asserts in `link_to`, and that chains lead forward)
+-- The event at `next` can follow the one at `previous` in a chain: both are linked enters of void spans with the same content, and the span
+-- at `previous` ends before `next` (what the crate asserts in `link_to`, and that chains go forward)
 pub record CanLink (events : List Event) (previous next : ℕ) : Type 0 where
   pub order : previous < next
   pub first : IsChunk events previous
@@ -68,18 +68,18 @@ updated_at (suc i) f (e ∷ es) = e ∷ updated_at i f es
 abbrev pub linked_to : ℕ → ℕ → List Event → List Event
 linked_to previous next events = updated_at next (with_previous previous) (updated_at previous (with_next next) events)
 
--- where the link of the event at an index leads on, if it does
+-- the next event in the chain of the event at an index, if there is one
 abbrev pub next_of : List Event → ℕ → Option ℕ
 next_of events i = option_and_then (λ (e : Event). option_and_then (λ (l : Link). l.next) e.link) (slice_get events i)
 
--- where the link of the event at an index leads back, if it does
+-- the previous event in the chain of the event at an index, if there is one
 abbrev pub previous_of : List Event → ℕ → Option ℕ
 previous_of events i = option_and_then (λ (e : Event). option_and_then (λ (l : Link). l.previous) e.link) (slice_get events i)
 
--- two events are neighbours in a chain: the first one's link leads on to the second, and the second one's back to the first
+-- two events are neighbours in a chain: the first one links on to the second, and the second one back to the first
 abbrev pub AreNeighbours : List Event → ℕ → ℕ → Type 0
 AreNeighbours events i j = (next_of events i ≡ Some j) × (previous_of events j ≡ Some i)
 
--- each chain is mutual: an event's link leads on to another exactly where that one's leads back to it
+-- links are mutual: an event links on to another exactly if that one links back to it
 abbrev pub AreMutual : List Event → Type 0
 AreMutual events = (i j : ℕ) → (next_of events i ≡ Some j) ↔ (previous_of events j ≡ Some i)

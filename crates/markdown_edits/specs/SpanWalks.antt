@@ -27,14 +27,14 @@ pub data IsSpanRun (names : List Name) : List Event → Type 0 where
   no_span : IsSpanRun names []
   one_more : (first rest : List Event) {l : List Event} → l ≡ first ++ rest → IsSpan names first → IsSpanRun names rest → IsSpanRun names l
 
--- the longest run that begins at `from` ends before `to`; it is empty where `from` is past the end
+-- the longest run that begins at `from` ends before `to`; it is empty if `from` is past the end
 pub record IsLongestRunFrom (names : List Name) (events : List Event) (from to : ℕ) : Type 0 where
   pub run : IsSpanRun names (between from to events)
   pub order : from ≤ to
   pub within : to ≤ max from (length events)
   pub longest : (n : ℕ) → n ≤ length events → IsSpanRun names (between from n events) → n ≤ to
 
--- the longest run that ends with the event at an index begins at `start`; where it is empty, that is behind the event
+-- the longest run that ends with the event at an index begins at `start`; if it is empty, `start` is the index after the event
 pub record IsLongestRunTo (names : List Name) (events : List Event) (index start : ℕ) : Type 0 where
   pub run : IsSpanRun names (between start (index + 1) events)
   pub order : start ≤ index + 1
@@ -52,7 +52,8 @@ HasWanted names e = is_wanted names e.name ≡ true
 abbrev pub HasOther : List Name → Event → Type 0
 HasOther names e = is_wanted names e.name ≡ false
 
--- the first event at or after `from` with a wanted name, enter or exit, is at `to`: that is the length where none follows, and `from` where that is past the end
+-- the first event at or after `from` with a wanted name, enter or exit, is at `to`; if none follows, `to` is the length; if `from` is past
+-- the end, `to` is `from`
 pub record IsFirstWanted (names : List Name) (events : List Event) (from to : ℕ) : Type 0 where
   pub order : from ≤ to
   pub within : to ≤ max from (length events)

@@ -1,4 +1,4 @@
--- Inner to the walks over spans: how far one goes, event by event, and lists seen from behind. No public contract cites these.
+-- Inner: how far a walk over spans goes, event by event, and reversed lists. No public contract cites this file.
 use Rattle.std.specs.Prelude.{ℕ, ◌+◌, ◌-◌, Bool, not, ◌&&◌, ◌==◌, List, [], ◌∷◌, ◌++◌, if◌then◌else◌}
 use Rattle.markdown_base.specs.declared.event.Event.{Event}
 use Rattle.markdown_base.specs.declared.event.Kind.{Kind}
@@ -21,16 +21,16 @@ abbrev pub run_len : List Name → ℕ → List Event → ℕ
 run_len names depth [] = 0
 run_len names depth (e ∷ es) = if is_stop names e depth then 0 else 1 + run_len names (depth_after e.kind depth) es
 
--- what enters, exits, seen from behind
+-- in a reversed list an enter is an exit
 abbrev pub flip_kind : Kind → Kind
 flip_kind Enter = Exit
 flip_kind Exit = Enter
 
--- the event seen from behind
+-- the event in a reversed list
 abbrev pub flip : Event → Event
 flip e = record e { kind = flip_kind e.kind }
 
--- the list seen from behind
+-- the list reversed
 abbrev pub mirror : List Event → List Event
 mirror [] = []
 mirror (e ∷ es) = mirror es ++ flip e ∷ []

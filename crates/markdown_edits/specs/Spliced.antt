@@ -1,10 +1,10 @@
--- Inner: the edited list by prefix sums, as one pass over the edits makes it. No public contract speaks of it.
+-- Inner: the edited list by prefix sums, as one pass over the edits makes it. No public contract cites this file.
 use Rattle.std.specs.Prelude.{ℕ, ◌+◌, ◌-◌, List, [], ◌∷◌, ◌++◌, map, length, take, drop, Option, Some, None, if◌then◌else◌, nat_lt}
 use Rattle.markdown_base.specs.declared.event.Event.{Event}
 use Rattle.markdown_base.specs.Events.{relinked}
 use Rattle.markdown_edits.specs.Edits.{Edit}
 
--- where the event at n comes to stand, after edits in front of which `removed` events went and `added` events came
+-- the new place of the event at n after these edits, if earlier edits removed `removed` events and added `added`
 abbrev pub place_from : List Edit → ℕ → ℕ → ℕ → Option ℕ
 place_from [] removed added n = Some (n - removed + added)
 place_from (e ∷ es) removed added n =
@@ -15,7 +15,7 @@ place_from (e ∷ es) removed added n =
 abbrev pub moved : (ℕ → Option ℕ) → List Event → List Event
 moved place xs = map (relinked place) xs
 
--- the events xs, the first of which stands at i, with edits made in turn and link ends moved to their places
+-- the events xs, from index i on, with edits made in turn and link ends moved to their places
 abbrev pub spliced : (ℕ → Option ℕ) → List Edit → ℕ → List Event → List Event
 spliced place [] i xs = moved place xs
 spliced place (e ∷ es) i xs =

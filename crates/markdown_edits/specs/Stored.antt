@@ -1,4 +1,4 @@
--- Inner: what the entries of an edit map mean. No public contract speaks of it.
+-- Inner: what the entries of an edit map mean. No public contract cites this file.
 use Rattle.std.specs.Prelude.{ℕ, List, map}
 use Rattle.markdown_edits.specs.Edits.{Edit}
 use Rattle.markdown_edits.specs.declared.replacement.Replacement.{Replacement}

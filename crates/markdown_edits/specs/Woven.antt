@@ -1,12 +1,12 @@
--- A list of events after changes, told by the identities of its events: a link end names an event, and its place is read
--- off the list that comes out (the crate's comments on `EditMap`: indices move, links stay).
+-- A list of events after changes, defined by the identities of its events: a link end names an event, and its place is read off the new
+-- list (the crate's comments on `EditMap`: indices move, links stay).
 use Rattle.std.specs.Prelude.{ℕ, suc, ◌+◌, ◌≤◌, Bool, false, ◌&&◌, ◌==◌, nat_le, nat_lt, List, [], ◌∷◌, ◌++◌, map, Option, Some, None, option_map, if◌then◌else◌}
 use Rattle.std.specs.List.{list_any, flat_map}
 use Rattle.markdown_base.specs.declared.event.Event.{Event}
 use Rattle.markdown_base.specs.Events.{relinked}
 
--- which event one is: the one at an index of the list before; event j of the child of the chain whose first chunk stands
--- at an index of that list; or an addition, whose link ends are places in the list after
+-- the identity of an event: the event at an index of the old list; event j of the child of the chain whose first chunk is at an index of
+-- the old list; or an addition, whose link ends are places in the new list
 pub data Identity : Type 0 where
   of_list : ℕ → Identity
   of_child : ℕ → ℕ → Identity
@@ -17,7 +17,7 @@ pub record Tagged : Type 0 where
   pub identity : Identity
   pub event : Event
 
--- whether an event has the identity; an addition is named by no link
+-- whether an event has the identity; no link names an addition
 abbrev pub is_same : Identity → Identity → Bool
 is_same (of_list i) (of_list j) = i == j
 is_same (of_child c i) (of_child d j) = (c == d) && (i == j)
@@ -27,12 +27,12 @@ is_same (of_child c i) (of_list j) = false
 is_same (of_child c i) of_addition = false
 is_same of_addition b = false
 
--- where the event with an identity stands in a list, None where it is gone
+-- the place of the event with an identity in a list, None if it is not there
 abbrev pub place_in : Identity → List Tagged → Option ℕ
 place_in b [] = None
 place_in b (t ∷ ts) = if is_same b t.identity then Some 0 else option_map suc (place_in b ts)
 
--- where the link end n of an event leads: it is an index into the list or the child that the event is of
+-- the place to which the link end n of an event leads: n is an index into the list or the child that has the event
 abbrev pub placed_end : List Tagged → Identity → ℕ → Option ℕ
 placed_end ts (of_list _) n = place_in (of_list n) ts
 placed_end ts (of_child c _) n = place_in (of_child c n) ts
@@ -64,7 +64,7 @@ is_removed ws i = list_any (λ w. nat_le w.index i && nat_lt i (w.index + w.remo
 abbrev pub as_listed : ℕ → Event → Tagged
 as_listed i e = record { identity = of_list i; event = e }
 
--- at each index from i to the length: what comes there, then the event there unless a change removes it
+-- at each index from i to the length: the events that come there, then the event there unless a change removes it
 abbrev pub woven : List Change → ℕ → List Event → List Tagged
 woven ws i [] = events_at ws i
 woven ws i (x ∷ xs) = events_at ws i ++ ((if is_removed ws i then [] else as_listed i x ∷ []) ++ woven ws (i + 1) xs)

@@ -1,7 +1,7 @@
 //! Edits of a list of events, gathered first and then all made at once.
 //!
-//! An edit made by itself would move what stands behind it, and links would have to follow each time. So a map holds
-//! edits at indices into the events as they are, and every event and link end is moved once.
+//! An edit that is made on its own moves all later events, and every link to one of them must follow. So a map holds
+//! edits at indices into the events as they are, and each event and link end is moved once.
 
 ghost use Rattle.std.specs.List.{AllByRecursion};
 ghost use Rattle.std.specs.Prelude.{◌≡◌, ◌++◌, ◌+◌, ◌<◌, ◌≤◌, ◌^◌, [], ◌∷◌, length, take, OnOk, OnErr, IsOk, All, IsTrue, if◌then◌else◌};
@@ -47,9 +47,9 @@ impl EditMap {
 
     /// Adds an edit: at `index` (into the events as they are) `remove` events go, and `additions` come in their place.
     ///
-    /// If the index has an edit, the two become one: their removals add up, and these additions come behind those
-    /// that are there. No removal with no addition is no edit, and takes no memory. If it runs out of memory, the map
-    /// stays as it was, and the additions are dropped.
+    /// If the index has an edit, the two become one: their removals add up, and these additions come after the ones
+    /// that are there. An edit that removes and adds nothing is ignored, and takes no memory. If it runs out of memory,
+    /// the map stays as it was, and the additions are dropped.
     pub fn add(
         &mut self,
         index: usize,
@@ -64,7 +64,7 @@ impl EditMap {
         self.add_impl(index, remove, additions, false)
     }
 
-    /// Adds an edit as [`EditMap::add`] does, but with these additions in front of those that are there.
+    /// Adds an edit as [`EditMap::add`] does, but with these additions before the ones that are there.
     pub fn add_before(
         &mut self,
         index: usize,
@@ -79,7 +79,7 @@ impl EditMap {
         self.add_impl(index, remove, additions, true)
     }
 
-    /// Adds an edit, with its additions in front of those that are there if `before` is set, and else behind them.
+    /// Adds an edit. If `before` is set, its additions come before the ones that are there, and else after them.
     fn add_impl(
         &mut self,
         index: usize,
@@ -104,14 +104,16 @@ impl EditMap {
         Ok(())
     }
 
-    /// Moves the edits of another map, which stand behind all that are there, into this one: all of them, or none if it
-    /// runs out of memory. The other map is left empty, or as it was.
+    /// Moves the edits of another map into this one. They must be behind all edits that are there.
+    ///
+    /// If it runs out of memory, both maps stay as they were; else the other one is left empty.
     pub fn append(&mut self, more: &mut EditMap) -> Result<(), AllocError>
         requires { AreBehind self.old more.old }
         ensures ok { OnOk result ((self.new ≡ self.old ++ more.old) × (more.new ≡ [])) }
         ensures err { OnErr result ((self.new ≡ self.old) × (more.new ≡ more.old)) }
     {
-        // As for the first chain of each list: nothing is copied.
+        // Copying is needed only so that all edits are moved or none. Into an empty map they move as a whole, as for
+        // the first chain of each list.
         if self.edits.is_empty() {
             swap(&mut self.edits, &mut more.edits);
             return Ok(());
@@ -123,11 +125,12 @@ impl EditMap {
 
     /// Makes all edits at once, and leaves the map empty.
     ///
-    /// At each place come the additions, and then the event there, unless it is removed. A link between events that
-    /// stay joins the same two, by both ends; an end whose event was removed becomes `None`; link ends inside
-    /// additions stand for places in the new list. Each edit ends at or before the index of the next, and inside the
-    /// list. An empty map takes no memory. If it runs out of memory, map and events stay as they
-    /// were.
+    /// At each index come the additions, and then the event there, unless it is removed. Events that stay are linked to
+    /// each other as before. A link end whose event was removed becomes `None`. Link ends inside additions are indices
+    /// into the new list.
+    ///
+    /// Each edit must end at or before the index of the next, and inside the list. An empty map takes no memory. If it
+    /// runs out of memory, map and events stay as they were.
     pub fn consume(&mut self, events: &mut Vec<Event>) -> Result<(), AllocError>
         requires disjoint { AreDisjoint 0 self.old (length events.old.items) }
         requires links { All (EndsBelow (length events.old.items)) events.old.items }

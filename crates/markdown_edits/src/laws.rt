@@ -1,4 +1,4 @@
-//! Laws of changes of a list of events, of which edits are one kind.
+//! Laws about changes of a list of events. Edits are one kind of changes.
 //!
 //! Each is a function that does nothing, whose contract is the law.
 
@@ -9,7 +9,7 @@ ghost use Rattle.markdown_edits.specs.Edits.{Edit};
 ghost use Rattle.markdown_edits.specs.Survivors.{AreNew, KeepsLinks, KeepsOrder, StaysAsItWas, StaysUnlessRemoved};
 ghost use Rattle.markdown_edits.specs.Woven.{Change};
 
-/// What edits add is new: no event of the list is among it. So the laws hold of edits.
+/// The events that edits add are new: none of them is an event of the list. So the laws below hold for edits.
 pub fn additions_are_new()
     ensures { (es : List Edit) → AreNew (map as_change es) }
 {}

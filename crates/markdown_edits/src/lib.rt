@@ -1,4 +1,4 @@
-//! Lists of events, by what is done to them: edits that are all made at once, links, and walks across spans.
+//! What is done to lists of events: edits that are all made at once, links, and walks across spans.
 #![tactic(auto)]
 
 pub mod edit_map;

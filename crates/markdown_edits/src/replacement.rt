@@ -15,8 +15,8 @@ pub(crate) struct Replacement {
 }
 
 impl Replacement {
-    /// Makes one edit of this and a second one at its index, whose additions come in front if `before` is set, and else
-    /// behind.
+    /// Makes one edit of this and a second one at its index. If `before` is set, the second one's additions come first,
+    /// and else last.
     ///
     /// If it runs out of memory, the edit means what it meant.
     pub(crate) fn add(
@@ -37,7 +37,7 @@ impl Replacement {
         }
     }
 
-    /// Makes one edit of this and a second one at its index, whose additions come behind.
+    /// Makes one edit of this and a second one at its index, whose additions come last.
     ///
     /// If it runs out of memory, the edit means what it meant.
     fn append(&mut self, remove: usize, additions: &[Event]) -> Result<(), AllocError>
@@ -51,7 +51,7 @@ impl Replacement {
         Ok(())
     }
 
-    /// Makes one edit of this and a second one at its index, whose additions come in front.
+    /// Makes one edit of this and a second one at its index, whose additions come first.
     ///
     /// If it runs out of memory, the edit means what it meant.
     fn prepend(&mut self, remove: usize, additions: Vec<Event>) -> Result<(), AllocError>

@@ -1,4 +1,4 @@
-//! How far edits move what stands behind them.
+//! How far edits move the events behind them.
 
 ghost use Rattle.std.specs.Prelude.{◌≡◌, IfOk};
 ghost use Rattle.markdown_edits.specs.Edits.{AreDisjoint};
@@ -9,12 +9,12 @@ use crate::replacement::Replacement;
 use std::alloc::{AllocError, Global};
 use std::collections::BTreeMap;
 
-/// What an edit and all in front of it do to an event behind them.
+/// How far an edit, and all edits before it, move an event behind them.
 #[derive(Clone, Copy)]
 pub(crate) struct Shift {
-    /// Where the edit stands, an index into the events.
+    /// The edit's index into the events.
     pub(crate) index: usize,
-    /// Where what it removes ends, an index into the events.
+    /// The index into the events at which its removal ends.
     pub(crate) end: usize,
     /// How many events they remove.
     pub(crate) removed: usize,
@@ -52,7 +52,8 @@ pub(crate) fn shifts_of(
     Ok(shifts)
 }
 
-/// Where the event at an index comes to stand, unless an edit removes it: the last edit that begins at or before it says so.
+/// The index in the new list of the event at an index. `None` if an edit removes it. The last edit that begins at or before
+/// the event decides.
 pub(crate) fn place_after(shifts: &[Shift], index: usize) -> Option<usize>
     requires { AreShifts index 0 shifts.now }
     ensures { result ≡ place_by shifts.now 0 0 index }

@@ -1,7 +1,7 @@
 //! Move across lists of events.
 //!
-//! A span is an enter, what stands inside it, and its exit. Each walk takes an index into the events and answers
-//! another; an index past the end (at least the length) is answered as it is.
+//! A span is an enter, the events inside it, and its exit. Each walk takes an index into the events and returns
+//! another. An index past the end (at least the length) is returned as it is.
 
 ghost use Rattle.std.specs.Prelude.{◌≡◌, ℕ, ◌+◌, ◌≤◌, ◌<◌, ◌-◌, length, drop, take, Any};
 ghost use Rattle.markdown_base.specs.Events.{IsBalanced};
@@ -69,7 +69,7 @@ pub fn to_back(events: &[Event], index: usize, names: &[Name]) -> usize
     last
 }
 
-/// Where the longest run from `index` on ends.
+/// The index at which the longest run from `index` on ends.
 fn run_end(events: &[Event], index: usize, names: &[Name]) -> usize
     requires { index ≤ length events.now }
     ensures { result ≡ index + run_len names.now 0 (drop index events.now) }
@@ -90,7 +90,7 @@ fn run_end(events: &[Event], index: usize, names: &[Name]) -> usize
     at
 }
 
-/// Where the longest run begins whose last event is at `index`.
+/// The index at which the longest run begins whose last event is at `index`.
 fn run_start(events: &[Event], index: usize, names: &[Name]) -> usize
     requires { index < length events.now }
     ensures { result + run_len names.now 0 (mirror (take (index + 1) events.now)) ≡ index + 1 }
@@ -125,7 +125,7 @@ fn is_wanted(names: &[Name], name: Name) -> bool
     names.contains(&name)
 }
 
-/// The event seen from behind: what enters, exits.
+/// The event as a walk backwards sees it: an enter is an exit.
 fn flipped(event: Event) -> Event
     ensures { result ≡ flip event }
 {

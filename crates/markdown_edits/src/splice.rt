@@ -1,4 +1,4 @@
-//! The list of events that edits give.
+//! The list of events after edits.
 
 ghost use Rattle.std.specs.Prelude.{◌≡◌, ◌-◌, ◌≤◌, ◌++◌, length, take, drop, OnOk, IfOk, IfSome, All, option_and_then};
 ghost use Rattle.markdown_base.specs.Events.{EndsBelow, relinked};
@@ -13,7 +13,7 @@ use markdown_base::event::{Event, Link};
 use std::alloc::{AllocError, Global};
 use std::collections::BTreeMap;
 
-/// Where a link end points in the new list, an index into it; `None` if its event is removed.
+/// The index in the new list to which a link end points; `None` if its event is removed.
 fn moved_end(shifts: &[Shift], end: Option<usize>) -> Option<usize>
     requires { IfSome end (λ n. AreShifts n 0 shifts.now) }
     ensures { result ≡ option_and_then (place_by shifts.now 0 0) end }
@@ -24,7 +24,7 @@ fn moved_end(shifts: &[Shift], end: Option<usize>) -> Option<usize>
     }
 }
 
-/// An event of the list as the new list holds it: with both ends of its link moved.
+/// An event with both ends of its link moved to indices of the new list.
 fn moved_event(shifts: &[Shift], event: Event) -> Event
     requires { EndsFit shifts.now event }
     ensures { result ≡ relinked (place_by shifts.now 0 0) event }
@@ -83,7 +83,7 @@ fn push_spliced(
 
 /// The events after the edits.
 ///
-/// The end of the list comes to stand where the new list ends: so many events there will be.
+/// The place of the old list's end is the new list's length, so that memory is taken once.
 pub(crate) fn spliced_events(
     alloc: Global,
     edits: &BTreeMap<usize, Replacement>,

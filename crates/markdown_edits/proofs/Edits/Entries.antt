@@ -133,7 +133,7 @@ remove-le-removal_at k (e ∷ es) v h = ⊎_elim
     counted true t m = omega arith
     counted false t m = cc
 
--- the additions of two edits at one index, those of the second in front or behind
+-- the additions of two edits at one index, the second one's first or last
 abbrev pub joined : Bool → List Event → List Event → List Event
 joined before there more = cond before (more ++ there) (there ++ more)
 
@@ -142,7 +142,7 @@ pub added-put : (before : Bool) (es : List Edit) (d : Edit) → is_no_edit d ≡
 added-put true es d e = rw e refl
 added-put false es d e = rw e refl
 
--- each edit stands before the next
+-- each edit has a smaller index than the next
 abbrev pub IsAscending : List Edit → Type 0
 IsAscending [] = Unit {0}
 IsAscending (e ∷ es) = AllByRecursion (λ (d : Edit). e.index < d.index) es × IsAscending es
@@ -167,7 +167,7 @@ head-of : (P : Edit → Type 0) (es : List Edit) (d : Edit) (ds : List Edit) →
 head-of P [] d ds h = h.0
 head-of P (e ∷ es) d ds h = head-of P es d ds h.1
 
--- what stands in front of one of them stands before it
+-- the edits before one of them have smaller indices
 pub below-next : (es : List Edit) (d : Edit) (ds : List Edit) → IsAscending (es ++ d ∷ ds) → AllByRecursion (λ (e : Edit). e.index < d.index) es
 below-next [] d ds h = tt
 below-next (e ∷ es) d ds h = (head-of (λ (x : Edit). e.index < x.index) es d ds h.0, below-next es d ds h.1)

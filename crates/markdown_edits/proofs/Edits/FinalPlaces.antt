@@ -1,4 +1,4 @@
--- Where the events of a list stand after disjoint changes.
+-- The places of the events of a list after disjoint changes.
 use Rattle.std.proofs.Common.{◌≡◌, ℕ, suc, ◌+◌, ◌-◌, ◌<◌, ◌≤◌, Bool, true, false, cond, eqb, ltb, List, [], ◌∷◌, ◌++◌, length, take, drop, Option, Some, None, refl, sym, ap, subst, ⊎_elim, arith, length-drop}
 use Rattle.std.specs.List.{AllByRecursion}
 use Rattle.std.specs.Option.{option_map}
@@ -35,7 +35,7 @@ length-olds i (x ∷ xs) = ap suc (length-olds (i + 1) xs)
 abbrev pub HasNo : Identity → List Change → Type 0
 HasNo b ws = AllByRecursion (λ w. place_in b w.events ≡ None) ws
 
--- where the event at n comes to stand, by prefix sums
+-- the new place of the event at n, by prefix sums
 abbrev pub old_place : List Change → ℕ → ℕ → ℕ → Option ℕ
 old_place [] removed added n = Some (n - removed + added)
 old_place (e ∷ es) removed added n =

@@ -11,7 +11,7 @@ abbrev pub olds : ℕ → List Event → List Tagged
 olds i [] = []
 olds i (x ∷ xs) = as_listed i x ∷ olds (i + 1) xs
 
--- the events before each change, those that come, then what stands behind its end
+-- the events before each change, the events that come, then the events after its end
 abbrev pub pass : List Change → ℕ → List Event → List Tagged
 pass [] i xs = olds i xs
 pass (e ∷ es) i xs =
@@ -55,7 +55,7 @@ woven-inside e es n (suc r) i (x ∷ xs) d l m f =
     let here : i + 1 + r ≡ i + suc r = omega arith in
     rw (ne, yes, in', none, more, here) refl
 
--- at a change's index: the events that come, then what stands behind its end
+-- at a change's index: the events that come, then the events after its end
 pub woven-at : (e : Change) (es : List Change) (n r : ℕ) (xs : List Event) → AreApart (e.index + e.remove) es n → e.remove ≡ r → r ≤ length xs → woven (e ∷ es) e.index xs ≡ e.events ++ woven es (e.index + r) (drop r xs)
 woven-at e es n zero [] d m f =
     let yes : eqb e.index e.index ≡ true = eq-eqb e.index e.index refl in

@@ -105,7 +105,7 @@ place_in-woven es xs d k l =
     ∙ old_place-pass (map as_change es) k 0 0 0 xs (HasNo-edits k es) d' (omega arith) (omega arith) (omega arith)
     ∙ old_place-edits es 0 0 k)
 
--- where the events of a list come to stand after edits, by the table of their shifts
+-- the new places of the events of a list after edits, by the table of their shifts
 abbrev pub place_after : List Edit → ℕ → Option ℕ
 place_after es = place_by (shifts 0 0 es) 0 0
 

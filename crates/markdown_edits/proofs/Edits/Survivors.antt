@@ -21,7 +21,7 @@ place_in-events_at b (w ∷ ws) i h = here (eqb w.index i) (place_in-events_at b
     here true none = rw (place_in-append b w.events (events_at ws i), h.0, none) refl
     here false none = none
 
--- the place in the list from the next index on, behind what stands for this one
+-- the place in the list from the next index on, counted after the events at this one
 abbrev behind : ℕ → Bool → Bool → Option ℕ → Option ℕ
 behind n gone here o = option_map (λ p. n + p) (cond gone o (cond here (Some 0) (option_map suc o)))
 
@@ -35,7 +35,7 @@ place_in-woven_cons ws n i x xs h =
     shape true ts = refl
     shape false ts = refl
 
--- a place is that of the event at this index, or one behind
+-- a place is the place of the event at this index, or a later one
 record Here (ws : List Change) (n i p : ℕ) : Type 0 where
   same : n ≡ i
   stays : is_removed ws i ≡ false
@@ -59,7 +59,7 @@ woven_cases ws n i p x xs h e =
     told false false None g a f q = absurd (none-some p q)
     told false false (Some k) g a f q = inr (record { place = k; found = f; sum = rw g (omega (arith, same_Some (length (events_at ws i) + suc k) p q)) })
 
--- no event stands where none of its kind is left
+-- no event has a place if none of its kind is left
 le_of_place : (ws : List Change) (n i p : ℕ) (xs : List Event) → HasNo (of_list n) ws → place_in (of_list n) (woven ws i xs) ≡ Some p → i ≤ n
 le_of_place ws n i p [] h e = absurd (none-some p (sym (place_in-events_at (of_list n) ws i h) ∙ e))
 le_of_place ws n i p (x ∷ xs) h e = ⊎_elim
@@ -116,7 +116,7 @@ pub slice_get-behind : {X : Type 0} (xs ys : List X) (k : ℕ) → slice_get (xs
 slice_get-behind [] ys k = let z : 0 + k ≡ k = omega arith in ap (slice_get ys) z
 slice_get-behind (x ∷ xs) ys k = let z : suc (length xs) + k ≡ suc (length xs + k) = omega arith in ap (slice_get (x ∷ (xs ++ ys))) z ∙ slice_get-behind xs ys k
 
--- what stands at an event's place
+-- the event at an event's place
 same_event : (ws : List Change) (n i p : ℕ) (xs : List Event) → HasNo (of_list n) ws → place_in (of_list n) (woven ws i xs) ≡ Some p
     → slice_get (woven ws i xs) p ≡ option_map (as_listed n) (slice_get xs (n - i))
 same_event ws n i p [] h e = absurd (none-some p (sym (place_in-events_at (of_list n) ws i h) ∙ e))
@@ -183,7 +183,7 @@ previous_moved f (Some e) = link e.link
     link None = refl
     link (Some l) = refl
 
--- no two events come to stand at one place
+-- no two events have the same new place
 one_place : (ws : List Change) (xs : List Event) → AreNew ws → (n m p : ℕ) → place_after ws xs n ≡ Some p → place_after ws xs m ≡ Some p → n ≡ m
 one_place ws xs new n m p e f = ⊎_elim
     (λ (s : n ≡ m). s)

@@ -9,7 +9,7 @@ pub AreDisjoint-le : (es : List Edit) (from n : ℕ) → AreDisjoint from es n �
 AreDisjoint-le [] from n d = d
 AreDisjoint-le (e ∷ es) from n d = let a : from ≤ e.index = d.0 in omega (arith, AreDisjoint-le es (e.index + e.remove) n d.1)
 
--- what stands of an edit where it and the rest are disjoint from `from` on
+-- what holds for an edit if it and the rest are disjoint from `from` on
 pub record Next (from : ℕ) (e : ℕ × Replacement) (rest : List (ℕ × Replacement)) (n : ℕ) : Type 0 where
   pub starts : from ≤ e.0
   pub ends : e.0 + e.1.remove ≤ n

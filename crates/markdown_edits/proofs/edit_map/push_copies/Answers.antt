@@ -21,7 +21,7 @@ push_copy-requires c =
     let parted : old ++ more ≡ here ++ next ∷ edits_of c.next.new.self = sym c.loop-index.invariant.built ∙ ap (λ es. here ++ edits_of es) turn in
     below-next here next (edits_of c.next.new.self) (subst IsAscending parted all)
 
--- one edit more, behind those of the loop
+-- one edit more, after the edits of the loop
 step : (len : ℕ) (es fs rest mores : List (ℕ × Replacement)) (e : ℕ × Replacement) (old more : List Edit) → mores ≡ e ∷ rest → edits_of fs ≡ edits_of es ++ as_edit e ∷ []
     → edits_of es ++ edits_of mores ≡ old ++ more → take len (edits_of es) ≡ old → len ≤ length es
     → (edits_of fs ++ edits_of rest ≡ old ++ more) × (take len (edits_of fs) ≡ old) × (len ≤ length fs)

@@ -8,7 +8,7 @@ use Rattle.markdown_edits.specs.declared.shift.Shift.{Shift}
 use Rattle.markdown_edits.proofs.Edits.Shifts.{IsNonDecreasingBy-shifts, place_at, place_by-front, place_by-row, row_fits}
 use Rattle.markdown_edits.proofs.shift.place_after.Goals as goal
 
--- the rows that begin at or before an index stand in front of the others
+-- the rows that begin at or before an index are before the others
 abbrev IsParted : List Shift → ℕ → ℕ → Type 0
 IsParted ss n i = IsPartitionPoint (λ (s : Shift). leb s.index n ≡ true) (λ (s : Shift). leb s.index n ≡ false) ss i
 
@@ -17,7 +17,7 @@ front ss n i z p =
     let same : n - 0 + 0 ≡ n = omega arith in
     sym (place_by-front ss 0 0 n (λ d l. leb-false (get_or ss 0 d).index n (p.1 0 d (omega arith) l)) ∙ ap Some same)
 
--- the last of them says where the index comes to stand
+-- the last of them decides the new place of the index
 behind : (ss : List Shift) (n i : ℕ) (d : Shift) → (i ≡ 0 → ⊥) → i ≤ length ss → AreShifts n 0 ss → IsParted ss n i → place_by ss 0 0 n ≡ place_at (get_or ss (i - 1) d) n
 behind ss n i d some l h p =
     let s : Shift = get_or ss (i - 1) d in
