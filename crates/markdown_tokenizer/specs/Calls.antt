@@ -1,4 +1,4 @@
--- What the calls on a tokenizer do to a configuration.
+-- What the calls of a tokenizer do to a configuration.
 use Rattle.std.specs.Prelude.{◌≡◌, ℕ, ◌+◌, ◌-◌, ◌<◌, ◌++◌, ◌∷◌, [], List, Bool, true, false, if◌then◌else◌, Option, Some, None, IfSome, All, take, length}
 use Rattle.std.specs.List.{last_or, list_any}
 use Rattle.markdown_base.specs.declared.event.Event.{Event}
@@ -42,7 +42,7 @@ linked previous next k = record k { events = linked_to previous next k.events }
 abbrev pub with_local : {R D : Type 0} → Configuration R D → Local R D → Configuration R D
 with_local k local = record k { local = local }
 
--- other events stand there
+-- other events are there
 abbrev pub with_events : {R D : Type 0} → Configuration R D → List Event → Configuration R D
 with_events k events = record k { events = events }
 
@@ -50,15 +50,15 @@ with_events k events = record k { events = events }
 abbrev pub with_resolvers : {R D : Type 0} → Configuration R D → List R → Configuration R D
 with_resolvers k resolvers = record k { local = record k.local { resolvers = resolvers } }
 
--- resolvers with one more behind them, unless it is there
+-- resolvers with one more after them, unless it is there
 abbrev pub registered : {R : Type 0} → (R → R → Bool) → R → List R → List R
 registered same r rs = if list_any (λ q. same q r) rs then rs else rs ++ r ∷ []
 
--- resolvers with one more in front of them, unless it is there
+-- resolvers with one more before them, unless it is there
 abbrev pub registered_before : {R : Type 0} → (R → R → Bool) → R → List R → List R
 registered_before same r rs = if list_any (λ q. same q r) rs then rs else r ∷ rs
 
--- where the innermost open span begins
+-- the enter of the innermost open span
 abbrev pub innermost : List Event → Option Event
 innermost events = last_or None (open_events events)
 
@@ -70,8 +70,8 @@ with_enter name link t = at_configuration t (entered name link (sight_of t).ente
 abbrev pub with_exit : {M R D : Type 0} → Name → TokenizerValue M R D → TokenizerValue M R D
 with_exit name t = at_configuration t (exited name (sight_of t).exit_place t.configuration)
 
--- The innermost span may end under this name: it is its name, a byte was consumed since it began, a void span holds no other
--- event, and the span began after the last waiting choice that would put the stack back
+-- The innermost span may end under this name. It is the span's name; a byte was consumed since it began; a void span holds no other event;
+-- and the span began after the last waiting choice that would restore the stack
 pub record CanExit {M R D : Type 0} (name : Name) (t : TokenizerValue M R D) : Type 0 where
   pub top : last_or None t.configuration.stack ≡ Some name
   pub read : (enter : Event) → innermost t.configuration.events ≡ Some enter
@@ -79,7 +79,7 @@ pub record CanExit {M R D : Type 0} (name : Name) (t : TokenizerValue M R D) : T
   pub void : is_void name ≡ true → (e : Event) × (last_or None t.configuration.events ≡ Some e) × (e.kind ≡ Enter)
   pub above : All (λ c. IfSome c.saved (λ s. length s.stack < length t.configuration.stack)) t.choices
 
--- a choice may go on with this
+-- a choice may go on with this state: `Next`, `Ok` or `Nok`
 abbrev pub CanGoOn : State → Type 0
 CanGoOn (Next name) = Unit {0}
 CanGoOn (Retry name) = ⊥
@@ -87,11 +87,11 @@ CanGoOn Ok = Unit {0}
 CanGoOn Nok = Unit {0}
 CanGoOn (Error message) = ⊥
 
--- what a choice saves where it is made
+-- what a choice saves when it is made
 abbrev pub saved_at : {R D : Type 0} → Configuration R D → Saved
 saved_at k = record { position = k.position; ended = k.ended; events = length k.events; stack = k.stack }
 
--- an attempt that fails with Nok saves nothing: the choice around it puts back
+-- an attempt that goes on with Nok when it fails saves nothing: the enclosing choice fails too, and restores its own save
 abbrev pub saved_for_attempt : {R D : Type 0} → State → Configuration R D → Option Saved
 saved_for_attempt Nok k = None
 saved_for_attempt _ k = Some (saved_at k)

@@ -13,7 +13,7 @@ use Rattle.markdown_tokenizer.specs.declared.waiting.AttemptKind.{AttemptKind}
 use Rattle.markdown_tokenizer.specs.Text.{Given, Text}
 use Rattle.markdown_edits.specs.Edits.{Edit}
 
--- What states may write, beside events and stack
+-- What states may write, other than events and stack
 pub record Local (R D : Type 0) : Type 0 where
   pub tokenize_state : TokenizeState D
   pub map : List Edit
@@ -23,7 +23,7 @@ pub record Local (R D : Type 0) : Type 0 where
   pub pierce : Bool
   pub lazy : Bool
 
--- How many bytes of the text were read, what waits, whether the end was fed there, and what was made of it
+-- How many bytes of the text were read, what waits, whether the end was fed there, and what the states made
 pub record Configuration (R D : Type 0) : Type 0 where
   pub position : ℕ
   pub waiting : Waits
@@ -39,21 +39,21 @@ pub record Saved : Type 0 where
   pub events : ℕ
   pub stack : List Name
 
--- A waiting choice: what it goes on with when it ended well or not, and what it puts back
+-- A waiting choice: what it goes on with after Ok and after Nok, and what it puts back
 pub record Choice : Type 0 where
   pub kind : AttemptKind
   pub ok : State
   pub nok : State
   pub saved : Option Saved
 
--- What the call of a state gives: the configuration, the choices that it pushed, the last first, and its answer
+-- The result of the call of a state: the configuration, the choices that it pushed, the last first, and the state that it returns
 pub record Step (R D : Type 0) : Type 0 where
   pub configuration : Configuration R D
   pub choices : List Choice
   pub answer : State
 
--- What a contract sees of a tokenizer. The calls are counted for contracts alone; where it is closed nothing more is pushed;
--- the phase says whether a flush resolves, or has resolved
+-- What a contract sees of a tokenizer. Only contracts see the count of calls; if it is closed, nothing more is pushed; the phase says
+-- whether a flush resolves, or has resolved
 pub record TokenizerValue (M R D : Type 0) : Type 0 where
   pub given : Given
   pub machine : M

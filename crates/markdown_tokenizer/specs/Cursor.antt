@@ -1,4 +1,4 @@
--- What stands at a place, in the bytes and in the virtual text. An inner file: no public clause names what stands here.
+-- What is at a place, in the bytes and in the virtual text. An inner file: no public clause cites it.
 use Rattle.std.specs.List.{AllByRecursion}
 use Rattle.std.specs.Prelude.{◌≡◌, ℕ, suc, ◌+◌, ◌*◌, ◌%◌, ◌≤◌, ◌<◌, ◌==◌, nat_lt, ◌&&◌, ◌||◌, not, Bool, true, false, cond, ◌⊎◌, slice_index, List, [], ◌∷◌, ◌++◌, drop, length, Option, Some, None}
 use Rattle.markdown_base.specs.declared.event.Point.{Point}
@@ -21,7 +21,7 @@ pub record Bounds (t : ℕ) (bytes : List ℕ) (p : Point) : Type 0 where
   pub spaces : p.vs < t
   pub tab : 0 < p.vs → p.index < length bytes
 
--- a point is that of a place: the virtual text from there on is what its numbers say, and all before stands before it
+-- a point is the point of a place: the virtual text from there on is as its numbers say, and all earlier virtual bytes are before it
 pub record IsPlace (t : ℕ) (bytes : List ℕ) (p : Point) : Type 0 where
   pub before : List Seat
   pub splits : virtual t bytes ≡ before ++ rest_at t bytes p
@@ -37,7 +37,7 @@ pub record IsSeatAt (t : ℕ) (bytes : List ℕ) (p : Point) (seat : Seat) : Typ
   pub later : stands_before seat.point p ≡ false
   pub inside : seat.point.index < length bytes
 
--- what the search for the next virtual byte tells
+-- what the search for the next virtual byte returns
 abbrev pub IsNextSeat : (t : ℕ) → List ℕ → Point → Option (ℕ × Point) → Type 0
 IsNextSeat t bytes p None = rest_at t bytes p ≡ []
 IsNextSeat t bytes p (Some r) = (end : Point) × IsSeatAt t bytes p (record { byte = r.0; point = r.1; end = end })
@@ -50,7 +50,7 @@ is_before_pair p place = nat_lt p.index place.0 || ((p.index == place.0) && nat_
 abbrev pub is_after_pair : Point → ℕ × ℕ → Bool
 is_after_pair p place = nat_lt place.0 p.index || ((place.0 == p.index) && nat_lt place.1 p.vs)
 
--- what the search for the next virtual byte before an end tells
+-- what the search for the next virtual byte before an end returns
 abbrev pub IsNextByte : (t : ℕ) → List ℕ → Point → ℕ × ℕ → Option ℕ → Type 0
 IsNextByte t bytes p end None = (rest_at t bytes p ≡ [])
     ⊎ ((seat : Seat) × IsSeatAt t bytes p seat × (is_before_pair seat.point end ≡ false))

@@ -21,28 +21,28 @@ use Rattle.markdown_tokenizer.specs.Reading.{Reading, EndsIn}
 use Rattle.markdown_tokenizer.specs.Resolving.{IsResolved, IsResolvingRefused, IsInShape}
 
 module _ {M R D : Type 0} (rules : Rules R D) where
-  -- the calls made, and those that a state and the waiting choices may still take on a text
+  -- the calls made, and the calls that a state and the waiting choices may still take on a text
   abbrev pub budget : Text → TokenizerValue M R D → State → ℕ
   budget text t state = t.calls + (rules.cost text t.configuration state + sum_by (rules.reserve text) t.choices)
 
-  -- the invariant holds of a tokenizer and the state at hand
+  -- the invariant holds for a tokenizer and its current state
   abbrev pub HoldsOf : TokenizerValue M R D → State → Type 0
   HoldsOf t state = rules.holds t.text t.configuration t.choices state
 
 module _ {M R D : Type 0} (g : Given) (rules : Rules R D) where
-  -- read on from this tokenizer and state, the text ends in r; the calls of r are those made and those to come
+  -- reading the text on from this tokenizer and state ends in r; the calls of r are the calls made and the calls to come
   abbrev pub ReadsTo : Text → TokenizerValue M R D → State → Reading R D → Type 0
   ReadsTo text t state r = EndsIn g rules.step text t.calls t.configuration t.choices state r
 
-  -- On a text, the one tokenizer with its state comes to the same end as the other with its own, calls included; the invariant
-  -- holds, and the calls made and still to come are no more than before
+  -- On a text, the new tokenizer with its state comes to the same end as the old one with its own, with as many calls in all; the invariant
+  -- holds, and the calls made and still allowed are no more than before
   pub record LeadsOn (text : Text) (old : TokenizerValue M R D) (state : State) (new : TokenizerValue M R D) (answer : State) : Type 0 where
     pub kept : rules.holds text new.configuration new.choices answer
     pub same : (r : Reading R D) → ReadsTo text new answer r ↔ ReadsTo text old state r
     pub paid : budget rules text new answer ≤ budget rules text old state
 
-  -- For every rest that can follow the new text, reading on from the new tokenizer and its answer comes to the same end as
-  -- reading on from the old one and its state
+  -- For every rest that can follow the new text: reading on from the new tokenizer and the state returned ends as reading on from the old
+  -- one and its state
   abbrev pub KeepsOutcome : TokenizerValue M R D → State → TokenizerValue M R D → State → Type 0
   KeepsOutcome old state new answer =
       (rest : List Piece) → CanFollow g new.text rest → LeadsOn (followed_by_all g new.text rest) old state new answer
@@ -58,13 +58,13 @@ abbrev pub CanPush : Given → Text → (from to : ℕ × ℕ) → Type 0
 CanPush g text from to = (f : Point) × (t : Point)
     × (point_at g.tab g.bytes from ≡ Some f) × (point_at g.tab g.bytes to ≡ Some t) × FitsAfter g text (pushed f t)
 
--- what holds of the points of two places
+-- the property holds for the points of two places
 abbrev pub ForPoints : Given → (from to : ℕ × ℕ) → (Point → Point → Type 0) → Type 0
 ForPoints g from to P = (f t : Point) → point_at g.tab g.bytes from ≡ Some f → point_at g.tab g.bytes to ≡ Some t → P f t
 
 module _ {M R D : Type 0} (rules : Rules R D) where
-  -- What a push of a range leaves if it succeeds: the range, given by the places of its ends, is at the end of the text, the outcome is
-  -- the same for every rest, and all was read, or a message ended it
+  -- What a push of a range leaves if it succeeds: the range, given by the places of its ends, is at the end of the text; the outcome is the
+  -- same for every rest; and all was read, or a message ended it
   pub record IsPushed (old : TokenizerValue M R D) (from to : ℕ × ℕ) (state : State)
       (new : TokenizerValue M R D) (answer : State) : Type 0 where
     pub given : new.given ≡ old.given
@@ -77,12 +77,12 @@ module _ {M R D : Type 0} (rules : Rules R D) where
         × (new.configuration.waiting ≡ Nothing)
     pub answers : ((name : Name) × (answer ≡ Next name)) ⊎ ((m : Message) × (answer ≡ Error m))
     pub counted : old.calls ≤ new.calls
-    -- a message is answered again, and nothing is read
+    -- a message is returned again, and nothing is read
     pub message : (m : Message) → state ≡ Error m → (answer ≡ Error m) × (new ≡ record old { text = new.text })
 
-  -- What a flush leaves, where it succeeds: what resolving makes of the configuration in which the reading ends, and its answer.
-  -- Without resolving that is the configuration without the definitions, which are answered. The events are well formed before
-  -- resolvers, and balanced with their links in shape after them.
+  -- What a flush leaves and returns if it succeeds: what resolving makes of the configuration in which the reading ends. Without resolving
+  -- that is the configuration without the definitions, which are returned. The events are well formed before resolvers, and in shape
+  -- (`IsInShape`) after them.
   pub record IsFlushed (resolve : Bool) (old : TokenizerValue M R D) (state : State)
       (new : TokenizerValue M R D) (sub : Subresult) : Type 0 where
     pub given : new.given ≡ old.given
@@ -100,7 +100,7 @@ module _ {M R D : Type 0} (rules : Rules R D) where
     pub well_formed : resolve ≡ false → IsWellFormed old.given.bytes new.configuration
     pub in_shape : resolve ≡ true → IsInShape new.configuration.events
 
-  -- A flush was refused with this message, in which the reading ends, or a resolver after it
+  -- A flush returns this message: the reading ends in it, or a resolver after the reading
   pub record IsRefused (resolve : Bool) (old : TokenizerValue M R D) (state : State) (new : TokenizerValue M R D)
       (m : Message) : Type 0 where
     pub given : new.given ≡ old.given
@@ -122,11 +122,11 @@ module _ {R D : Type 0} (g : Given) (rules : Rules R D) where
       × ((q : Reading R D) → EndsIn g rules.step text calls k choices state q → q ≡ r)
       × (r.calls ≤ calls + (rules.cost text k state + sum_by (rules.reserve text) choices))
 
--- what a machine may read of a document: tab stops stand where the options say
+-- what a machine may read of a document; the options give the tab size
 abbrev pub given_by : List ℕ → ParseOptions → Given
 given_by bytes options = record { bytes = bytes; options = options; tab = options.tab_size }
 
--- and of the document of a parse state
+-- the same for a parse state
 abbrev pub given_of : {M : Type 0} → ParseState M → Given
 given_of p = given_by p.bytes.now p.options.now
 
@@ -134,7 +134,7 @@ given_of p = given_by p.bytes.now p.options.now
 abbrev pub whole_text : Given → Text
 whole_text g = record { start = point 1 1 0 0; seats = virtual g.tab g.bytes; end = document_end g.tab g.bytes }
 
--- places of the document, given by index and number in a tab, none before the one in front of it, and the first not before this place
+-- places of the document, given by index and number in a tab; none is before the one in front of it, and the first is not before this place
 abbrev pub FollowInOrder : (t : ℕ) → List ℕ → Point → List (ℕ × ℕ) → Type 0
 FollowInOrder t bytes p [] = Unit {0}
 FollowInOrder t bytes p (place ∷ places) =
@@ -149,8 +149,8 @@ module _ {R D : Type 0} (g : Given) (rules : Given → Rules R D) where
   abbrev pub StartEndsIn : Name → Reading R D → Type 0
   StartEndsIn start r = EndsIn g (rules g).step (whole_text g) 0 (start_configuration false) [] (Next start) r
 
-  -- What a run answers: events and definitions of the one reading of the whole text, which takes no more calls than its cost, and
-  -- then of its resolvers
+  -- What a run returns: the events and definitions of the one reading of the whole text, within its cost of calls, and then of its
+  -- resolvers
   pub record IsRun (resolve : Bool) (start : Name) (list : List Event) (sub : Subresult) : Type 0 where
     pub result : Reading R D
     pub ends : StartEndsIn start result
@@ -162,11 +162,11 @@ module _ {R D : Type 0} (g : Given) (rules : Given → Rules R D) where
     pub in_shape : resolve ≡ true → IsInShape list
     pub within : result.calls ≤ (rules g).cost (whole_text g) (start_configuration false) (Next start)
 
-  -- the events of a tokenizer are what a run answers
+  -- the events of a tokenizer are what a run returns
   abbrev pub IsRunOf : {M : Type 0} → Bool → Name → TokenizerValue M R D → Subresult → Type 0
   IsRunOf resolve start t sub = IsRun resolve start t.configuration.events sub
 
-  -- A run was refused with this message, in which the reading of the whole text ends, within its cost, or a resolver after it
+  -- A run returns this message: the reading of the whole text ends in it, within its cost, or a resolver after the reading
   pub record IsRunRefused (resolve : Bool) (start : Name) (m : Message) : Type 0 where
     pub result : Reading R D
     pub ends : StartEndsIn start result

@@ -11,6 +11,6 @@ fault_text Memory = codes "out of memory"
 fault_text Failed = codes "tokenizer has failed"
 fault_text (Message m) = message_text m
 
--- what holds of the message with which a call refuses the document, if it does
+-- if a call refuses the document with a message, the property holds for it
 abbrev pub IfMessage : {T : Type 0} → Result T Fault → (MessageOf → Type 0) → Type 0
 IfMessage result P = (m : MessageOf) → IsErrOf result (Message m) → P m

@@ -1,4 +1,4 @@
--- Gaps: beginnings of lines that are passed and never read. An inner file: no public clause names what stands here.
+-- Gaps: beginnings of lines that are passed and never read. An inner file: no public clause cites it.
 use Rattle.std.specs.List.{AllByRecursion}
 use Rattle.std.specs.Prelude.{◌≡◌, ℕ, ◌<◌, ◌==◌, not, Bool, true, false, cond, List, [], ◌∷◌, Option, Some, None, find, filter, unwrap_or, ◌⊎◌}
 use Rattle.markdown_base.specs.declared.event.Point.{Point}
@@ -11,7 +11,7 @@ use Rattle.markdown_tokenizer.specs.Cursor.{IsPlace}
 abbrev pub skip_of : List Point → ℕ → Option Point
 skip_of skips line = find (λ p. p.line == line) skips
 
--- the places stand in one line each, sorted by line
+-- the places are in different lines, sorted by line
 abbrev pub AreSorted : List Point → Type 0
 AreSorted [] = Unit {0}
 AreSorted (p ∷ ps) = AllByRecursion (λ (q : Point). p.line < q.line) ps × AreSorted ps
@@ -24,7 +24,7 @@ is_kept_by (Some p) s = not (stands_before s.point p)
 abbrev pub is_kept : List Point → Seat → Bool
 is_kept skips s = is_kept_by (skip_of skips s.point.line) s
 
--- where the next byte is looked for: at the beginning of a line, after its gap
+-- where the next byte is looked for: at the place, or, at the beginning of a line, after its gap
 abbrev pub resumed : List Point → Point → Point
 resumed skips p = cond (p.column == 1) (unwrap_or (skip_of skips p.line) p) p
 

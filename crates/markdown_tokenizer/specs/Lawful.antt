@@ -1,4 +1,4 @@
--- What a lawful machine keeps. Each law speaks of one call, one feeding, one settled choice or one piece added.
+-- What a lawful machine keeps. Each law is about one call, one feeding, one settled choice or one piece added.
 use Rattle.std.specs.Prelude.{◌≡◌, ◌≢◌, ◌+◌, ◌≤◌, ◌⊎◌, List, [], ◌∷◌, ◌++◌, Bool, true, false, Option, IfSome, All, Contains, length, take, sum_by}
 use Rattle.markdown_base.specs.declared.event.Point.{Point}
 use Rattle.markdown_base.specs.declared.state.Name.{Name}
@@ -31,7 +31,7 @@ abbrev pub IsAsFar : {R D : Type 0} → Configuration R D → Configuration R D 
 IsAsFar a b = (a.position ≡ b.position) × (a.waiting ≡ b.waiting) × (a.ended ≡ b.ended)
 
 module _ {M R D : Type 0} (rules : Given → Rules R D) (t : TokenizerValue M R D) where
-  -- what a tokenizer's call of the state of this name gives
+  -- the step of a tokenizer's call of the state of this name
   abbrev pub step_of : Name → Step R D
   step_of name = (rules t.given).step (sight_of t) t.configuration name
 
@@ -44,35 +44,35 @@ module _ {M R D : Type 0} (rules : Given → Rules R D) (t : TokenizerValue M R 
   resolver_of r = (rules t.given).resolver (sight_of t) t.configuration r
 
 module _ {R D : Type 0} (g : Given) (rules : Rules R D) where
-  -- the step of a state where the invariant holds
+  -- the property holds for each step of a state at which the invariant holds
   abbrev pub ForEachCall : (Text → Configuration R D → List Choice → Name → Step R D → Type 0) → Type 0
   ForEachCall P = (text : Text) (k : Configuration R D) (choices : List Choice) (name : Name)
       → IsText g text → rules.holds text k choices (Retry name) → P text k choices name (rules.step (sight g text k) k name)
 
-  -- a call consumes at most one byte, and never the end: Next is answered only where it consumed one, Retry only where it consumed none
+  -- a call consumes at most one byte, and never the end: it returns Next only if it consumed one, and Retry only if it did not
   abbrev pub ConsumesOnce : Type 0
   ConsumesOnce = ForEachCall (λ text k choices name s.
       (IsAsFar s.configuration k × ((n : Name) → s.answer ≢ Next n))
       ⊎ ((k.waiting ≡ Byte) × IsAsFar s.configuration (consumed k) × ((n : Name) → s.answer ≢ Retry n)))
 
-  -- a call keeps the events, but for the ends of their links, and adds its own after them; it keeps the stack as far as a waiting
-  -- choice saved it
+  -- a call keeps the events, but for the ends of their links, and adds its own after them; it keeps the part of the stack that a waiting
+  -- choice saved
   pub record OnlyAdds : Type 0 where
     pub events : ForEachCall (λ text k choices name s. HasFrontUpToLinkEnds s.configuration.events k.events)
     pub stack : ForEachCall (λ text k choices name s.
         All (λ c. IfSome c.saved (λ saved. take (length saved.stack) s.configuration.stack ≡ take (length saved.stack) k.stack)) choices)
 
-  -- with no choice waiting the invariant never holds of Nok, and holds of Ok only once the end was fed, with each span ended
+  -- with no choice waiting the invariant never holds for Nok, and for Ok only once the end was fed, with each span ended
   pub record EndsWhenRead : Type 0 where
     pub nok : (text : Text) (k : Configuration R D) → IsText g text → rules.holds text k [] Nok → ⊥
     pub ok : (text : Text) (k : Configuration R D) → IsText g text → rules.holds text k [] Ok → (k.ended ≡ true) × (k.stack ≡ [])
 
-  -- The invariant holds at each start, at every place of a document, and is kept by feeding, by a call, where a choice ends, and where
-  -- a piece is added before the end is fed
+  -- The invariant holds at each start, at every place of a document. Feeding, a call, the end of a choice, and a piece added before the end
+  -- is fed keep it
   pub record KeepsInvariant : Type 0 where
     pub at_starts : (p : Point) (flag : Bool) (name : Name) → IsText g (empty_text p) → Contains rules.starts name
         → rules.holds (empty_text p) (start_configuration flag) [] (Next name)
-    -- a byte, or the end, is fed where nothing waits, and a state is called where something does
+    -- a byte, or the end, is fed if nothing waits, and a state is called if something does
     pub unfed : (text : Text) (k : Configuration R D) (choices : List Choice) (name : Name) → IsText g text
         → rules.holds text k choices (Next name) → k.waiting ≡ Nothing
     pub waits : (text : Text) (k : Configuration R D) (choices : List Choice) (name : Name) → IsText g text
@@ -89,8 +89,8 @@ module _ {R D : Type 0} (g : Given) (rules : Rules R D) where
         → FitsAfter g text piece → k.ended ≡ false → rules.holds text k choices state
         → rules.holds (followed_by g text piece) k choices state
 
-  -- A call is paid for, with the cost of its answer and the reserves of the choices that it pushes; feeding costs nothing; and
-  -- what a choice goes on with costs at most its reserve
+  -- The cost before a call is at least one more than the cost of the state that it returns and the reserves of the choices that it pushes;
+  -- feeding costs nothing; and what a choice goes on with costs at most its reserve
   pub record CostPays : Type 0 where
     pub for_calls : ForEachCall (λ text k choices name s.
         1 + (rules.cost text s.configuration s.answer + sum_by (rules.reserve text) s.choices) ≤ rules.cost text k (Retry name))
@@ -103,9 +103,9 @@ module _ {R D : Type 0} (g : Given) (rules : Rules R D) where
         → rules.holds text k (choice ∷ choices) Nok
         → rules.cost text (settled_at choice.kind choice.saved Nok k) choice.nok ≤ rules.reserve text choice
 
-  -- The invariant of resolvers holds of those that are registered once all was read, with the definitions and the list taken out.
-  -- Each resolver keeps it for those that are left, and keeps how far was read and the stack. When none is left the edits can be
-  -- made, and leave the events in shape.
+  -- Once all was read, the invariant of resolvers holds for the registered ones, with the definitions and the list taken out. Each resolver
+  -- keeps it for the ones that are left, and keeps the position and the stack. When none is left, the edits can be made, and leave the
+  -- events in shape.
   pub record ResolversKeep : Type 0 where
     pub at_end : (text : Text) (k : Configuration R D) → IsText g text → IsWellFormed g.bytes k → rules.holds text k [] Ok
         → rules.resolves text k.local.resolvers (with_resolvers (taken k) [])

@@ -1,4 +1,4 @@
--- What a tokenizer ends as, where a `&mut` to its events is returned.
+-- What a tokenizer becomes after a `&mut` to its events is returned.
 use Rattle.std.specs.Borrow.{RattleType, Lends, Fml, MutBor}
 use Rattle.std.specs.Prelude.{[]}
 use Rattle.std.specs.Global.{Vec}
@@ -17,7 +17,7 @@ use Rattle.markdown_tokenizer.specs.Calls.{with_events}
 abbrev pub events_row : RattleType
 events_row = vec.the_row event.the_row global.the_row ghosts
 
--- once the borrow r ends, the tokenizer has the events last written through r, and is else as it was. Its lifetime is the second of the
+-- once the borrow r ends, the tokenizer has the events last written through r, and is otherwise as it was; r has the second lifetime of the
 -- signature
 abbrev pub LendsEvents : (M R D : RattleType) (same : Ghosts R.Denot) → MutBor (TokenizerValue M.Denot R.Denot D.Denot)
     → MutBor (Vec Event) → Fml

@@ -1,4 +1,4 @@
--- Machines without resolvers and links: what holds of them, beside their own invariant.
+-- Machines without resolvers and links: what holds for them, in addition to their own invariant.
 use Rattle.std.specs.Prelude.{◌≡◌, List, [], ◌∷◌, None}
 use Rattle.markdown_base.specs.declared.event.Event.{Event}
 use Rattle.markdown_base.specs.declared.state.Name.{Name}
@@ -19,7 +19,7 @@ module _ {R D : Type 0} where
   abbrev pub IsPlain : Configuration R D → Type 0
   IsPlain k = (k.local.resolvers ≡ []) × (k.local.map ≡ []) × HaveNoLinks k.events
 
-  -- calls keep that
+  -- calls keep `IsPlain`
   abbrev pub KeepsPlain : (Sight → Configuration R D → Name → Step R D) → Type 0
   KeepsPlain step = (s : Sight) (k : Configuration R D) (name : Name) → IsPlain k → IsPlain (step s k name).configuration
 
@@ -27,11 +27,11 @@ module _ {R D : Type 0} where
   abbrev pub finds_nothing : Sight → Configuration R D → R → Resolved R D
   finds_nothing s k r = done k None
 
-  -- nothing is there to resolve
+  -- there is nothing to resolve
   abbrev pub NothingResolves : Text → List R → Configuration R D → Type 0
   NothingResolves text rs k = IsPlain k × IsBalanced k.events
 
-  -- the rules of such a machine, from those that speak of its states
+  -- the rules of such a machine, from the rules for its states
   abbrev pub plain : Rules R D → Rules R D
   plain rules = record rules {
     holds = λ text k choices state. IsPlain k × rules.holds text k choices state;

@@ -1,13 +1,13 @@
--- Ranges of a document that a caller pushes one after another, each after its gap, if it passes one.
+-- Ranges of a document that a caller pushes one after another, each after its gap, if it has one.
 use Rattle.std.specs.Prelude.{◌≡◌, ◌⊎◌, ℕ, List, [], ◌∷◌, Option, Some, None, true, cond}
 use Rattle.markdown_base.specs.declared.event.Point.{Point}
 use Rattle.markdown_base.specs.Places.{point_at, is_upto, denotes_same, stands_before}
 
--- a range, from a place to another one, and the place up to which a gap is passed in front of it, if one is
+-- a range, from a place to another one, and the place at which a gap before it ends, if there is one
 abbrev pub AfterGap : Type 0
 AfterGap = Option Point × (ℕ × ℕ) × (ℕ × ℕ)
 
--- A gap leads nowhere, or from the beginning of a line to a later place of it
+-- A gap is empty, or goes from the beginning of a line to a later place of it
 pub record IsGapFrom (t : ℕ) (bytes : List ℕ) (p w : Point) : Type 0 where
   pub at : point_at t bytes (w.index, w.vs) ≡ Some w
   pub leads : (denotes_same t bytes w p ≡ true) ⊎ ((p.column ≡ 1) × (w.line ≡ p.line) × (stands_before p w ≡ true))
@@ -16,7 +16,7 @@ pub record IsGapFrom (t : ℕ) (bytes : List ℕ) (p w : Point) : Type 0 where
 abbrev pub after_gap : (t : ℕ) → List ℕ → Point → Point → Point
 after_gap t bytes p w = cond (denotes_same t bytes w p) p w
 
--- the gap, if there is one, leads on from a place
+-- the gap, if there is one, begins at a place
 abbrev pub LeadsFrom : (t : ℕ) → List ℕ → Point → Option Point → Type 0
 LeadsFrom t bytes p None = Unit {0}
 LeadsFrom t bytes p (Some w) = IsGapFrom t bytes p w

@@ -1,4 +1,4 @@
--- What a text is read as: the one reading with ordered choices, by recursion on whole texts and whole configurations.
+-- The one reading of a text, with ordered choices, by recursion on whole texts and whole configurations.
 use Rattle.std.specs.Prelude.{ℕ, zero, suc, ◌≡◌, ◌+◌, nat_lt, ◌∷◌, [], List, true, cond, Option, Some, None, take, length}
 use Rattle.markdown_base.specs.declared.state.Name.{Name}
 use Rattle.markdown_base.specs.declared.state.State.{State}
@@ -30,13 +30,13 @@ module _ {R D : Type 0} where
     stack = saved.stack;
   }
 
-  -- where a choice goes on from, by the answer that ended it. A check always goes back, an attempt only where it failed.
+  -- the configuration from which a choice goes on, by the state that ended it. A check always goes back, an attempt only after Nok.
   abbrev pub settled_at : AttemptKind → Option Saved → State → Configuration R D → Configuration R D
   settled_at Check saved answer k = restored saved k
   settled_at Attempt saved Nok k = restored saved k
   settled_at Attempt saved _ k = unfed k
 
--- The result of a reading: the last configuration, the last answer, and how many states were called
+-- The result of a reading: the last configuration, the last state returned, and how many states were called
 pub record Reading (R D : Type 0) : Type 0 where
   pub configuration : Configuration R D
   pub answer : State
@@ -47,7 +47,7 @@ more_calls n None = None
 more_calls n (Some r) = Some (record r { calls = n + r.calls })
 
 module _ {R D : Type 0} where
-  -- a choice is settled by the answer so far, and what it goes on with is read. A message ends all at once.
+  -- the last state returned settles a choice, and the reading goes on with what the choice says. A message ends all choices at once.
   abbrev pub settle : (Configuration R D → State → Option (Reading R D)) → Choice → Reading R D → Option (Reading R D)
   settle reads choice r =
       elim r.answer [
@@ -62,7 +62,7 @@ module _ {R D : Type 0} where
   after_choices reads (choice ∷ choices) None = None
   after_choices reads (choice ∷ choices) (Some r) = after_choices reads choices (settle reads choice r)
 
-  -- one call: what it answers is read to its end, and then each choice that it pushed, the last first, is settled
+  -- one call: the state that it returns is read to its end, and then each choice that it pushed, the last first, is settled
   abbrev pub read_step : (Configuration R D → State → Option (Reading R D)) → Step R D → Option (Reading R D)
   read_step reads s = more_calls 1 (after_choices reads s.choices (reads s.configuration s.answer))
 

@@ -1,4 +1,4 @@
--- What resolvers make of what a reading ends in.
+-- What resolvers make of the configuration in which a reading ends.
 use Rattle.std.specs.Prelude.{◌≡◌, List, [], ◌∷◌, ◌++◌, Bool, true, false, Option, Some, None, All, length}
 use Rattle.markdown_base.specs.declared.event.Event.{Event}
 use Rattle.markdown_base.specs.declared.message.Message.{Message}
@@ -12,12 +12,12 @@ use Rattle.markdown_edits.specs.Edits.{AreDisjoint}
 use Rattle.markdown_edits.specs.Edited.{edited}
 use Rattle.markdown_edits.specs.Links.{AreMutual}
 
--- What a resolver gives: the configuration after it, with the definitions that it found, or a message that refuses the document
+-- The result of a resolver: the configuration after it, with the definitions that it found, or a message with which the document is refused
 pub data Resolved (R D : Type 0) : Type 0 where
   done : Configuration R D → Option Subresult → Resolved R D
   refused : Message → Resolved R D
 
--- definitions with more of them behind, of both kinds
+-- definitions followed by more of them, of both kinds
 abbrev pub with_more : Subresult → Option Subresult → Subresult
 with_more sub None = sub
 with_more sub (Some more) = record {
@@ -43,19 +43,19 @@ module _ {R D : Type 0} where
   abbrev pub edits_made : Configuration R D → Configuration R D
   edits_made k = record k { events = edited k.local.map k.events; local = record k.local { map = [] } }
 
-  -- the edits that wait can be made: each ends before the next begins, and link ends stand inside the list
+  -- the edits that wait can be made: each ends before the next begins, and link ends are indices into the list
   abbrev pub CanBeEdited : Configuration R D → Type 0
   CanBeEdited k = AreDisjoint 0 k.local.map (length k.events) × All (EndsBelow (length k.events)) k.events
 
--- What resolvers leave: a balanced list, whose link ends stand inside it, and whose chains are mutual
+-- What resolvers leave: a balanced list, whose link ends are indices into it, and whose links are mutual
 pub record IsInShape (events : List Event) : Type 0 where
   pub balanced : IsBalanced events
   pub inside : All (EndsBelow (length events)) events
   pub chained : AreMutual events
 
 module _ {R D : Type 0} (resolver : Sight → Configuration R D → R → Resolved R D) (g : Given) (text : Text) where
-  -- Resolvers one after another, each on what the one before it left. What they find comes behind what was found; the first
-  -- message ends it; and when none is left the edits are made.
+  -- Resolvers one after another, each on what the one before it left. The definitions that they find come after the earlier ones; the first
+  -- message ends it; when none is left, the edits are made.
   abbrev pub resolved_by : List R → Configuration R D → Subresult → Resolved R D
   resolved_by [] k sub = done (edits_made k) (Some sub)
   resolved_by (r ∷ rs) k sub =
@@ -64,17 +64,17 @@ module _ {R D : Type 0} (resolver : Sight → Configuration R D → R → Resolv
         | refused message ↦ refused message
       ]
 
-  -- what resolving gives: the definitions and the registered resolvers are taken out, and these resolve
+  -- the result of resolving: the definitions and the registered resolvers are taken out, and these resolvers run
   abbrev pub resolving : Configuration R D → Resolved R D
   resolving k = resolved_by k.local.resolvers (with_resolvers (taken k) []) (found k)
 
-  -- what is left of the configuration in which a reading ends, and what is answered. Without resolving, the definitions are
-  -- taken out and answered, and all else stays.
+  -- what is left of the configuration in which a reading ends, and what is returned. Without resolving, the definitions are taken out and
+  -- returned, and all else stays.
   abbrev pub IsResolved : Bool → (k new : Configuration R D) → Subresult → Type 0
   IsResolved false k new sub = (new ≡ taken k) × (sub ≡ found k)
   IsResolved true k new sub = resolving k ≡ done new (Some sub)
 
-  -- a resolver refuses with this message
+  -- a resolver refuses the document with this message
   abbrev pub IsResolvingRefused : Bool → Configuration R D → Message → Type 0
   IsResolvingRefused false k m = ⊥
   IsResolvingRefused true k m = resolving k ≡ refused m

@@ -1,4 +1,4 @@
--- The rules of a machine on one document: what its laws speak of.
+-- The rules of a machine on one document, about which its laws are.
 use Rattle.std.specs.Prelude.{ℕ, List}
 use Rattle.markdown_base.specs.declared.state.Name.{Name}
 use Rattle.markdown_base.specs.declared.state.State.{State}
@@ -7,9 +7,9 @@ use Rattle.markdown_tokenizer.specs.Configuration.{Configuration, Choice, Step}
 use Rattle.markdown_tokenizer.specs.Sight.{Sight}
 use Rattle.markdown_tokenizer.specs.Resolving.{Resolved}
 
--- What the call of a state gives, from what it may see; the invariant, of a text, a configuration, the waiting choices and the state at
--- hand; how many calls a state, and a waiting choice, may still take; with which states a reading may start; what a resolver gives;
--- and what holds before the resolvers of a list resolve
+-- `step`: the result of the call of a state, from what it may see. `holds`: the invariant, of a text, a configuration, the waiting choices
+-- and the current state. `cost`, `reserve`: how many calls a state, and a waiting choice, may still take. `starts`: with which states a
+-- reading may start. `resolver`: the result of a resolver. `resolves`: what holds before a list of resolvers runs
 pub record Rules (R D : Type 0) : Type 1 where
   pub step : Sight → Configuration R D → Name → Step R D
   pub holds : Text → Configuration R D → List Choice → State → Type 0

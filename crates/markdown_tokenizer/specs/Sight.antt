@@ -8,8 +8,8 @@ use Rattle.markdown_tokenizer.specs.declared.waiting.Waits.TheVariants.{Nothing,
 use Rattle.markdown_tokenizer.specs.Text.{Given, Text}
 use Rattle.markdown_tokenizer.specs.Configuration.{Configuration, TokenizerValue}
 
--- The byte before, the byte that waits, what `point` answers, where an enter stands, where an exit stands, and where both
--- stand once what waits is consumed: where nothing can be consumed, that is where an exit stands
+-- The previous byte; the byte that waits; what `point` returns; the place of an enter; the place of an exit; and the place of both once the
+-- byte that waits is consumed (if none waits, the place of an exit)
 pub record Sight : Type 0 where
   pub previous : Option ℕ
   pub current : Option ℕ
@@ -35,11 +35,11 @@ abbrev pub point_or : Point → Option Seat → Point
 point_or p None = p
 point_or p (Some s) = s.point
 
--- the end place of the byte before position p, or the start
+-- the place after the byte before position p, or the start
 abbrev pub end_place : Text → ℕ → Point
 end_place text p = end_or text.start (seat_before text p)
 
--- the place where one stands: at the byte that waits, at the text's end where that waits, else after the byte before
+-- the current place: at the byte that waits; at the text's end if that waits; else after the previous byte
 abbrev pub point_of : Text → ℕ → Waits → Point
 point_of text p Nothing = end_place text p
 point_of text p Byte = point_or text.end (slice_get text.seats p)

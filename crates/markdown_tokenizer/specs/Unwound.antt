@@ -1,4 +1,4 @@
--- Choices that end, the last first, as the code keeps them. An inner file: no public clause names what stands here.
+-- Choices that end, the last first, as the code keeps them. An inner file: no public clause cites it.
 use Rattle.std.specs.Prelude.{List, [], ◌∷◌, Bool, true, false, Option, None, unwrap_or}
 use Rattle.markdown_tokenizer.specs.declared.waiting.GoesOn.{GoesOn}
 use Rattle.markdown_tokenizer.specs.declared.waiting.GoesOn.TheVariants.{Next, Ok, Nok}
@@ -6,12 +6,12 @@ use Rattle.markdown_tokenizer.specs.declared.waiting.KeptChoice.{KeptChoice}
 use Rattle.markdown_tokenizer.specs.declared.waiting.Progress.{Progress}
 use Rattle.markdown_tokenizer.specs.declared.waiting.AttemptKind.TheVariants.{Attempt, Check}
 
--- what a choice goes on with, by its answer
+-- what a choice goes on with, after Ok or Nok
 abbrev pub continuation_of : KeptChoice → Bool → GoesOn
 continuation_of choice true = choice.ok
 continuation_of choice false = choice.nok
 
--- what a choice puts back, by its answer
+-- what a choice puts back, after Ok or Nok
 abbrev pub saved_for : KeptChoice → Bool → Option Progress
 saved_for choice true = elim choice.kind [ Attempt ↦ None | Check ↦ choice.saved ]
 saved_for choice false = choice.saved
@@ -20,7 +20,7 @@ abbrev pub ended_by : Bool → GoesOn
 ended_by true = Ok
 ended_by false = Nok
 
--- The choices that still wait, what is gone on with, and from where
+-- The choices that still wait, what to go on with, and from where
 pub record Unwinding : Type 0 where
   pub kept_choices : List KeptChoice
   pub goal : GoesOn

@@ -1,4 +1,4 @@
--- What the fields of a tokenizer mean. An inner file: no public clause names what stands here.
+-- What the fields of a tokenizer mean. An inner file: no public clause cites it.
 use Rattle.std.specs.List.{AllByRecursion, IsDistinct}
 use Rattle.std.specs.Prelude.{◌≡◌, ℕ, ◌≤◌, List, [], ◌∷◌, Bool, true, false, cond, nat_lt, ◌||◌, Option, None, Some, length, map, take, reverse, unwrap_or, IfSome, Result}
 use Rattle.std.specs.declared.result.Result.TheVariants as result
@@ -34,7 +34,7 @@ state_of (goal.Next name) = Next name
 state_of goal.Ok = Ok
 state_of goal.Nok = Nok
 
--- a name to go on with, or the answer at which the work ends
+-- a name to go on with, or the state in which the work ends
 abbrev pub taken_continuation : Result StateName GoesOn → Result StateName State
 taken_continuation (result.Ok name) = result.Ok name
 taken_continuation (result.Err end) = result.Err (state_of end)
@@ -43,7 +43,7 @@ taken_continuation (result.Err end) = result.Err (state_of end)
 abbrev pub choice_at : {R D : Type 0} → AttemptKind → (ok nok : State) → (saves : Bool) → Configuration R D → Choice
 choice_at kind ok nok saves k = record { kind = kind; ok = ok; nok = nok; saved = cond saves (Some (saved_at k)) None }
 
--- at how many columns tab stops stand: what the options say
+-- the tab size of the options
 abbrev pub tab_of : {M : Type 0} → ParseState M → ℕ
 tab_of p = p.options.now.tab_size
 
@@ -55,11 +55,11 @@ end_point tab bytes place = unwrap_or (point_at tab bytes place) (point 1 1 0 0)
 abbrev pub seats_between : (tab : ℕ) → List ℕ → List Point → Point → Point → List Seat
 seats_between tab bytes skips from to = kept_between tab bytes skips from to
 
--- how many virtual bytes of the text stand before a place
+-- how many virtual bytes of the text are before a place
 abbrev pub position_from : (tab : ℕ) → List ℕ → List Point → Point → Point → ℕ
 position_from tab bytes skips start p = length (seats_between tab bytes skips start p)
 
--- what the code saved of a choice, with `position` as the number of bytes before a place, and the stack
+-- what a choice saved, from what the code keeps of it; `position` gives the number of bytes before a place
 abbrev pub saved_at_place : (Point → ℕ) → List Name → Progress → Saved
 saved_at_place position stack p =
     record { position = position p.after_previous; ended = p.ended; events = p.events_len; stack = take p.stack_len stack }
@@ -110,7 +110,7 @@ seen t =
 abbrev pub text_within : {M R D : Type 0} → Inside M R D → Text
 text_within t = (seen t).text
 
--- A text was read up to a place: it is where the byte before ends, or the start, and that byte is known
+-- A text was read up to a place: the place is where the previous byte ends, or the start, and that byte is known
 pub record IsReadTo (tab : ℕ) (bytes : List ℕ) (skips : List Point) (text : Text) (after_previous : Point)
     (previous : Option ℕ) : Type 0 where
   pub place : IsPlace tab bytes after_previous
@@ -127,7 +127,7 @@ pub record ByteWaits (tab : ℕ) (bytes : List ℕ) (skips : List Point) (after_
   pub before : stands_before seat.point end ≡ true
   pub is : current ≡ Some seat.byte
 
--- What waits is the end of the text, all of which was read
+-- What waits is the end of the text, and all of it was read
 pub record EndWaits (current : Option ℕ) (closed : Bool) (position size : ℕ) : Type 0 where
   pub none : current ≡ None
   pub closed_too : closed ≡ true
@@ -140,17 +140,17 @@ IsWhatWaits tab bytes skips text after_previous current closed Byte = ByteWaits 
 IsWhatWaits tab bytes skips text after_previous current closed End =
     EndWaits current closed (position_from tab bytes skips text.start after_previous) (length text.seats)
 
--- where an enter stands: after what is passed of a line, once something waits there
+-- the place of an enter: after the gap of a line, once something waits there
 abbrev pub standing : List Point → Point → Waits → Point
 standing skips after_previous Nothing = after_previous
 standing skips after_previous Byte = resumed skips after_previous
 standing skips after_previous End = resumed skips after_previous
 
--- the furthest place at which an enter may stand before more is read: after what is passed of a line, where more can be fed
+-- the furthest place that an enter may have before more is read: after the gap of a line, if more can be fed
 abbrev pub reach : List Point → Point → Bool → Point
 reach skips after_previous more = cond more (resumed skips after_previous) after_previous
 
--- more can be fed than was read up to a place: a byte, or the end
+-- after a position something can still be fed: a byte, or the end
 abbrev pub can_feed : (position size : ℕ) → (closed : Bool) → Bool
 can_feed position size closed = nat_lt position size || closed
 
@@ -170,15 +170,15 @@ abbrev pub stack_of : ℕ → Option Progress → ℕ
 stack_of n None = n
 stack_of n (Some p) = p.stack_len
 
--- what choices saved, the last first: each no more events and open spans than the one after it
+-- what choices saved, the last first: each saved no more events and open spans than the one made after it
 abbrev pub AreNested : (Progress → Type 0) → (events stack : ℕ) → List KeptChoice → Type 0
 AreNested P events stack [] = Unit {0}
 AreNested P events stack (choice ∷ kept_choices) =
     IfSome choice.saved (λ p. (p.events_len ≤ events) × (p.stack_len ≤ stack) × P p)
     × AreNested P (events_of events choice.saved) (stack_of stack choice.saved) kept_choices
 
--- Where a tokenizer is in its text: up to where lines are passed, how far it has read, and what waits. The end is fed to a closed one
--- only, and an open one reads.
+-- The position of a tokenizer in its text: its gaps, how far it has read, and what waits. The end is fed only to a closed one, and an open
+-- one reads.
 pub record IsPlaced (g : Given) (size : ℕ) (passes : List Point) (within : Text) (last : ℕ × ℕ) (after_previous : Point)
     (previous current : Option ℕ) (waits : Waits) (end_fed closed : Bool) (phase : Phase) : Type 0 where
   pub tab : size ≡ g.tab
@@ -190,8 +190,8 @@ pub record IsPlaced (g : Given) (size : ℕ) (passes : List Point) (within : Tex
   pub ended : end_fed ≡ true → closed ≡ true
   pub reads : closed ≡ false → phase ≡ Reading
 
--- What holds of the fields: where it is, what it made, what its choices saved, and that no resolver is there twice. Of the events it
--- holds until a flush resolves, as resolvers may change them freely.
+-- What holds for the fields: the position, the events, what choices saved, and that no resolver is there twice. For the events it holds
+-- until a flush resolves, as resolvers may change them freely.
 pub record IsSound {M R D : Type 0} (same : R → R → Bool) (t : Inside M R D) : Type 0 where
   pub placed : IsPlaced (seen t).given t.tab_size t.skips (text_within t) t.end
       t.after_previous t.previous t.current t.waits t.ended t.closed t.phase

@@ -1,11 +1,11 @@
-//! How many states were called. The count takes no bytes, and contracts alone see it.
+//! How many states were called. The count takes no bytes, and only contracts see it.
 
 ghost use Rattle.std.specs.Prelude.{◌≡◌, ◌+◌, ℕ};
 ghost use Rattle.std.specs.Borrow.{ftrue};
 
 use std::marker::Model;
 
-/// A count of calls, which exists in proofs alone.
+/// A count of calls, which exists only in proofs.
 #[derive(Drop)]
 pub struct Calls {
     pub ghost made: { ℕ },

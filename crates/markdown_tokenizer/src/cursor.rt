@@ -1,4 +1,4 @@
-//! The cursor: where a reader stands in the virtual text of a document.
+//! The cursor: the place of a reader in the virtual text of a document.
 
 ghost use Rattle.markdown_tokenizer.specs.Cursor.{goes_on, begins_pair, IsPlace, IsSeatAt, IsNextSeat, IsNextByte, is_before_pair, is_after_pair};
 ghost use Rattle.markdown_tokenizer.specs.Gaps.{skip_of, resumed};
@@ -18,8 +18,8 @@ fn is_pair(bytes: &[u8], index: usize) -> bool
     index + 1 < bytes.len() && bytes[index] == b'\r' && bytes[index + 1] == b'\n'
 }
 
-/// The next virtual byte from a place on, and its seat: of a CR LF that of the LF.
-/// `None` at the document's end. How many columns tab stops stand apart plays no part.
+/// The next virtual byte from a place on, and its seat. The seat of a CR LF is its LF. Returns `None` at the document's
+/// end. The tab size does not matter.
 pub(crate) fn seat_at(bytes: &[u8], point: Point) -> Option<(u8, Point)>
     requires within { 0 < point.vs → point.index < length bytes.now }
     ensures { (t : ℕ) → 0 < t → IsNextSeat t bytes.now point result }
@@ -48,7 +48,7 @@ pub(crate) fn seat_at(bytes: &[u8], point: Point) -> Option<(u8, Point)>
     Some((b'\n', point))
 }
 
-/// The next virtual byte from a place on, where it stands before the end of a text.
+/// The next virtual byte from a place on. Returns `None` if it is not before the end of the text.
 pub(crate) fn next_byte(bytes: &[u8], point: Point, end: (usize, usize)) -> Option<u8>
     requires within { 0 < point.vs → point.index < length bytes.now }
     ensures { (t : ℕ) → 0 < t → IsNextByte t bytes.now point end result }
@@ -65,7 +65,7 @@ pub(crate) fn next_byte(bytes: &[u8], point: Point, end: (usize, usize)) -> Opti
     }
 }
 
-/// Where the next byte is looked for: at the beginning of a line, after what is passed of it.
+/// Where the next byte is looked for: at the place itself, or, at the beginning of a line, after its gap.
 #[inline(always)]
 pub(crate) fn resumed<'a>(skips: &'a Skips, place: &'a Point) -> &'a Point
     ensures { result.now ≡ resumed skips.now place.now }
@@ -77,7 +77,7 @@ pub(crate) fn resumed<'a>(skips: &'a Skips, place: &'a Point) -> &'a Point
     }
 }
 
-/// Whether the next byte is looked for at a place itself: it is in mid-line, or no line is passed.
+/// Whether the next byte is looked for at a place itself: it is in mid-line, or there are no gaps.
 #[inline(always)]
 pub(crate) fn is_where_more_is(skips: &Skips, place: &Point) -> bool
     ensures { OnTrue result (resumed skips.now place.now ≡ place.now) }
@@ -85,10 +85,10 @@ pub(crate) fn is_where_more_is(skips: &Skips, place: &Point) -> bool
     skips.is_empty() || place.column != 1
 }
 
-/// Moves a place at the beginning of a line to after what is passed of it.
+/// Moves a place at the beginning of a line to after the line's gap.
 ///
-/// It is apart from `resume`, and cold: nearly every byte is in mid-line, or of a document without gaps. `resume` is then a test in
-/// the loop of bytes, without the search for a gap.
+/// It is a cold function of its own. Nearly every byte is in mid-line, or in a document without gaps; for these the loop over bytes
+/// has only the test in `resume`, and not the search for a gap.
 #[cold]
 #[inline(never)]
 fn pass_skip(skips: &Skips, place: &mut Point)
@@ -107,8 +107,8 @@ pub(crate) fn resume(skips: &Skips, place: &mut Point)
     }
 }
 
-/// Whether the tab at a place goes on after its next virtual byte, which is this one. Tab stops stand at every `t`
-/// columns; at every 4, as nearly always, it is told without a division. `t` is read where a tab asks for it.
+/// Whether `byte`, the next virtual byte from a place on, is in a tab that goes on after it. There is a tab stop at
+/// every `t` columns. If `t` is 4, as nearly always, no division is needed. `t` is read only for a tab.
 #[inline(always)]
 fn goes_on(t: &usize, point: &Point, byte: u8) -> bool
     requires some { 0 < t.now }
@@ -124,8 +124,8 @@ fn goes_on(t: &usize, point: &Point, byte: u8) -> bool
     }
 }
 
-/// Whether no tab stop stands behind a column, where they stand at every `t` columns. It is apart so that tabs of 4
-/// columns, which never come here, are read by tight code.
+/// Whether there is no tab stop after a column, with a tab stop at every `t` columns. It is a function of its own so
+/// that the code for tabs of 4 columns, which never come here, stays small.
 #[cold]
 #[inline(never)]
 fn goes_on_by(t: usize, column: usize) -> bool
@@ -135,8 +135,8 @@ fn goes_on_by(t: usize, column: usize) -> bool
     column % t != 0
 }
 
-/// Moves a place over the next virtual byte, which is this one: of a CR LF over both bytes. Tab stops stand at every
-/// `t` columns.
+/// Moves a place over `byte`, the next virtual byte: for a CR LF over both bytes. There is a tab stop at every `t`
+/// columns.
 #[inline(always)]
 pub(crate) fn pass(bytes: &[u8], t: &usize, point: &mut Point, byte: u8)
     requires some { 0 < t.now }
@@ -164,7 +164,7 @@ pub(crate) fn pass(bytes: &[u8], t: &usize, point: &mut Point, byte: u8)
     }
 }
 
-/// Where a place is shown: at itself, but the LF of a CR LF at its CR.
+/// Where a place is shown: at itself, except that the LF of a CR LF is shown at its CR.
 #[inline(always)]
 pub(crate) fn shown(bytes: &[u8], point: Point) -> Point
     ensures { result ≡ Places.shown bytes.now point }
@@ -178,7 +178,7 @@ pub(crate) fn shown(bytes: &[u8], point: Point) -> Point
     point
 }
 
-/// A place, given by its point, is before another, given by byte index and number in a tab.
+/// Whether a place, given by its point, is before another, given by byte index and number in a tab.
 #[inline(always)]
 pub(crate) fn is_before(point: Point, place: (usize, usize)) -> bool
     ensures { result ≡ is_before_pair point place }
@@ -186,7 +186,7 @@ pub(crate) fn is_before(point: Point, place: (usize, usize)) -> bool
     point.index < place.0 || is_before_in_byte(point, place)
 }
 
-/// As `is_before`, where the place is not before by its byte. It is apart as nearly every place is.
+/// As `is_before`, if the byte indices do not decide. It is a function of its own because they nearly always do.
 #[cold]
 #[inline(never)]
 fn is_before_in_byte(point: Point, place: (usize, usize)) -> bool
@@ -195,7 +195,7 @@ fn is_before_in_byte(point: Point, place: (usize, usize)) -> bool
     point.index == place.0 && point.vs < place.1
 }
 
-/// A place, given by its point, is after another, given by byte index and number in a tab.
+/// Whether a place, given by its point, is after another, given by byte index and number in a tab.
 pub(crate) fn is_after(point: Point, place: (usize, usize)) -> bool
     ensures { result ≡ is_after_pair point place }
 {

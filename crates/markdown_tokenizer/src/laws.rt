@@ -1,4 +1,4 @@
-//! Laws of texts, of choices and of readings.
+//! Laws about texts, choices and readings.
 //!
 //! Each is a function that does nothing, whose contract is the law.
 
@@ -7,19 +7,19 @@ ghost use Rattle.markdown_tokenizer.specs.Laws.{CutsLeaveNoTrace, PushesAreOne, 
 
 use crate::state::Machine;
 
-/// A range that is pushed in two parts is the range pushed at once, also if the second part begins at the LF of a CR LF
-/// at whose CR the first one ends.
+/// A range that is pushed in two parts makes the same text as the range pushed at once. The first part may end at the
+/// CR of a CR LF and the second begin at its LF.
 pub fn cuts_leave_no_trace()
     ensures { CutsLeaveNoTrace }
 {}
 
-/// Pushing a range in two parts is allowed only if pushing it at once is, and leaves what that leaves: the outcome is the same.
+/// Pushing a range in two parts is allowed only if pushing it at once is, and then the outcome is the same.
 pub fn pushes_are_one<M: Machine>()
     ensures { PushesAreOne M.rules }
 {}
 
-/// Whatever was read meanwhile, what goes on after a choice was put back sees what was there when it was made, with the same
-/// spans open and the same events up to the ends of their links; what states share stays as it is now.
+/// After a choice goes back, reading goes on from where the choice was made, whatever was read meanwhile. The same spans are
+/// open, and the events are the same up to the ends of their links. The state that machine states share is not put back.
 pub fn choices_put_back<R, D>()
     ensures { ChoicesPutBack R D }
 {}

@@ -1,4 +1,4 @@
-//! The tokenizer engine: a machine of states reads a document, in ranges, and gives a list of events.
+//! The tokenizer engine: a machine of states reads a document, range by range, and makes a list of events.
 #![tactic(auto)]
 
 mod count;

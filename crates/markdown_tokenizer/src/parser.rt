@@ -1,4 +1,4 @@
-//! What everything that reads one document shares.
+//! What all tokenizers of one document share.
 
 ghost use Rattle.std.specs.Prelude.{◌≡◌, IsNone, IfSome};
 ghost use Rattle.markdown_base.specs.Virtual.{IsTabSize, IsWithinLimit};
@@ -8,7 +8,7 @@ use markdown_base::configuration::ParseOptions;
 /// A document, how it is read, and the machine that reads it.
 ///
 /// The document is within the limit: the tab size times its length, and one more, fits `usize`. Then its virtual columns can be
-/// counted. [`ParseState::new`] tests that.
+/// counted. [`ParseState::new`] checks it.
 #[derive(Drop)]
 pub struct ParseState<'a, M> {
     /// The document's bytes.

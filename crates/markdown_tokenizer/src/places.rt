@@ -11,22 +11,21 @@ use markdown_base::configuration::TabSize;
 use markdown_base::event::Point;
 use std::alloc::{AllocError, Global};
 
-/// A document's bytes are below 256: a law, told by their type.
+/// A law: a document's bytes are below 256, by their type.
 pub fn bytes_are_below_256(bytes: &[u8])
     ensures { All (λ b. b < 256) bytes.now }
 {}
 
-/// A point is at a place, given by byte index and number in a tab.
+/// Whether a point is at a place, given by byte index and number in a tab.
 fn is_at(point: Point, place: (usize, usize)) -> bool
     ensures { result ≡ ((point.index == place.0) && (point.vs == place.1)) }
 {
     point.index == place.0 && point.vs == place.1
 }
 
-/// The point of a place of a document, given by byte index and number in a tab:
-/// of a virtual byte, of the CR of a CR LF, or of the document's end.
-/// `None` where there is no such place. Line and virtual column are counted from the document's start, with tab stops
-/// at every `tab_size` columns.
+/// The point of a place of a document. The place is a byte index and a number in a tab: of a virtual byte, of the CR of
+/// a CR LF, or of the document's end. Returns `None` if there is no such place. Line and virtual column are counted
+/// from the document's start, with a tab stop at every `tab_size` columns.
 pub fn point_at(bytes: &[u8], tab_size: TabSize, place: (usize, usize)) -> Option<Point>
     requires fits { IsWithinLimit tab_size bytes.now }
     ensures { result ≡ Places.point_at tab_size bytes.now place }
@@ -50,8 +49,9 @@ pub fn point_at(bytes: &[u8], tab_size: TabSize, place: (usize, usize)) -> Optio
     }
 }
 
-/// The places (byte index, number in a tab) of the virtual bytes number `n`, `2n`, `3n`, .., numbered from 0:
-/// a document can be cut there (`run`). Tab stops stand at every `tab_size` columns.
+/// The places (byte index, number in a tab) of the virtual bytes number `n`, `2n`, `3n`, .., numbered from 0: a
+/// document can be cut there (`run`). There is a tab stop at every `tab_size` columns. Returns `AllocError` if it runs
+/// out of memory.
 pub fn cuts_every(
     alloc: Global,
     bytes: &[u8],

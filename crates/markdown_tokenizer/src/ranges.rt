@@ -10,7 +10,8 @@ use crate::places::point_at;
 use markdown_base::configuration::TabSize;
 use markdown_base::event::Point;
 
-/// A range of a document, from a place to another one, and the place up to which a gap is passed before it, if one is.
+/// A range of a document, and the point at which a gap before it ends, if there is one. The range is two places, each a
+/// byte index and a number in a tab.
 pub type AfterGap = (Option<Point>, (usize, usize), (usize, usize));
 
 /// Whether ranges follow on a text that ends at a place. Then, and only then, each can be pushed after its gap is passed

@@ -1,4 +1,4 @@
-//! Up to where beginnings of lines are passed.
+//! Gaps: the places up to which beginnings of lines are passed.
 
 ghost use Rattle.markdown_tokenizer.specs.Gaps.{skip_of};
 ghost use Rattle.std.specs.List.{AllByRecursion};
@@ -45,7 +45,7 @@ impl Skips {
         self.places.is_empty()
     }
 
-    /// One more place, in a line behind those of all others. Where memory is refused, nothing changes.
+    /// Adds a place, in a later line than all others. If it runs out of memory, nothing changes.
     pub(crate) fn push(&mut self, place: Point) -> Result<(), AllocError>
         requires { AllByRecursion (λ (p : Point). p.line < place.line) self.old }
         ensures ok { OnOk result (self.new ≡ self.old ++ place ∷ []) }
@@ -55,9 +55,9 @@ impl Skips {
         Ok(())
     }
 
-    /// Where the next byte is looked for from the beginning of a line on: after what is passed of it.
+    /// Where the next byte is looked for at the beginning of a line: after the line's gap, if it has one.
     ///
-    /// The line is looked for by halves.
+    /// The line is found by binary search.
     #[cold]
     #[inline(never)]
     pub(crate) fn after<'a>(&'a self, place: &'a Point) -> &'a Point

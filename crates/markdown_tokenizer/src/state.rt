@@ -10,15 +10,15 @@ pub trait MachineTypes {
     /// The name of a resolver, which goes over the events once all was read.
     type Resolver: Copy + Eq;
 
-    /// What the machine keeps of a document beside the text that is read.
+    /// What the machine keeps about a document, other than the text that is read.
     type Document: Drop;
 }
 
 /// A machine of states, which reads a text.
 ///
-/// Its rules say what the call of each state gives (`step`), what holds at each call (`holds`), how many calls it may still
-/// take (`cost`, `reserve`) and with which states it may start (`starts`); what a resolver gives (`resolver`), and what holds before
-/// those of a list resolve (`resolves`). It proves six laws of them.
+/// Its rules say what the call of each state does (`step`), and what holds at each call (`holds`). They say how many calls it
+/// may still take (`cost`, `reserve`), and with which states it may start (`starts`). They also say what a resolver does
+/// (`resolver`), and what holds before a list of resolvers runs (`resolves`). The machine proves six laws about them.
 pub trait Machine: MachineTypes + Sized {
     ghost use Rattle.std.specs.Prelude.{◌≡◌, ◌≢◌, [], IfOk, IfErr};
     ghost use Rattle.markdown_base.specs.declared.state.State.TheVariants.{Retry};
@@ -35,13 +35,13 @@ pub trait Machine: MachineTypes + Sized {
     /// Its rules on a document.
     ghost rules: { Self → Given → Rules Self.Resolver Self.Document };
 
-    /// Calls the state of this name, once something waits.
+    /// Calls the state of this name. It is called only while a byte, or the end, waits.
     ///
-    /// The state counts its call by one `tick`, and consumes at most the byte that waits: it answers `Next` where it
-    /// consumed one, and `Retry` only where it did not. `AllocError` is answered only where memory was refused.
+    /// The state counts its call by one `tick`, and consumes at most the byte that waits. It returns `Next` only if it
+    /// consumed a byte, and `Retry` only if it did not. It returns `AllocError` only if it runs out of memory.
     ///
-    /// A state that returns `Retry` after it consumed, in place of `Next`, would be called again with nothing that waits. If the proof
-    /// of `call_is_step` or `consumes_once` fails, look for such a return first.
+    /// A state that consumed a byte and returns `Retry` in place of `Next` would be called again while nothing waits. If the proof of
+    /// `call_is_step` or `consumes_once` fails, look for such a return first.
     fn call<'a>(
         &self,
         alloc: Global,
@@ -54,11 +54,11 @@ pub trait Machine: MachineTypes + Sized {
         requires invariant { HoldsOf (rules self.now t.old.given) t.old (Retry name) }
         ensures call_is_step { IfOk result (DidStep t.old t.new (step_of (rules self.now) t.old name)) };
 
-    /// Goes over the events as the resolver of this name, once all was read, while a flush resolves.
+    /// Runs the resolver of this name over the events. A flush that resolves calls it once all was read.
     ///
     /// It may change the events (`events_mut`, `link`, `link_to`), `map`, `tokenize_state` and the flags, and register resolvers, which
-    /// this flush does not run. It answers the definitions that it found. `Message` refuses the document; `Memory` is answered
-    /// only where memory was refused.
+    /// this flush does not run. It returns the definitions that it found. `Message` means that the document is refused; `Memory` is
+    /// returned only if it runs out of memory.
     fn resolve<'a>(
         &self,
         alloc: Global,
@@ -77,6 +77,7 @@ pub trait Machine: MachineTypes + Sized {
     /// It is lawful on every document: a call consumes at most one byte, and never the end (`consumes_once`); it keeps the events, but
     /// for the ends of their links, and the spans that waiting choices saved (`only_adds`); if no choice waits, `Nok` is never
     /// returned, and `Ok` only once the end was fed, with each span ended (`ends_when_read`); the invariant holds at each start and is
-    /// kept (`invariant_kept`); calls are paid for (`cost_pays`); and resolvers leave a balanced list (`resolvers_keep`).
+    /// kept (`invariant_kept`); calls stay within their stated cost (`cost_pays`); and resolvers leave a balanced list
+    /// (`resolvers_keep`).
     ghost lawful: { (m : Self) (g : Given) → IsLawful g (rules m g) };
 }

@@ -1,6 +1,6 @@
 //! Chains of events, whose text is read once more.
 //!
-//! A chain links the enters of some void spans of a list of events. Their text together is content of its own.
+//! A chain links the enters of some void spans of a list of events. Their joined text is content of its own.
 
 ghost use Rattle.std.specs.Prelude.{◌≡◌, ◌++◌, Some, IfOk};
 ghost use Rattle.markdown_tokenizer.specs.Resolving.{with_more};
@@ -9,7 +9,7 @@ use markdown_base::owned::{Items, OwnedText};
 pub use markdown_edits::links::{link, link_to};
 use std::alloc::AllocError;
 
-/// What reading content gave beside events.
+/// What reading content returns, other than events.
 #[derive(Debug, Drop)]
 pub struct Subresult {
     /// Whether nothing was left to read.
@@ -20,9 +20,9 @@ pub struct Subresult {
     pub definitions: Items<OwnedText>,
 }
 
-/// Definitions, and behind them those that were found later; `done` stays as it was.
+/// Definitions, followed by later ones; `done` stays as it was.
 ///
-/// Where memory is refused, both are dropped.
+/// If it runs out of memory, both are dropped.
 pub fn joined(sub: Subresult, more: Subresult) -> Result<Subresult, AllocError>
     ensures { IfOk result (λ all. all ≡ with_more sub (Some more)) }
 {
@@ -38,7 +38,7 @@ pub fn joined(sub: Subresult, more: Subresult) -> Result<Subresult, AllocError>
     })
 }
 
-/// The one list, and behind it the other.
+/// The first list, followed by the second.
 fn joined_items(
     items: Items<OwnedText>,
     more: Items<OwnedText>,

@@ -1,7 +1,7 @@
 //! The tokenizer: it feeds the virtual bytes of a document to the states of a machine.
 //!
-//! Here are the tokenizer itself and the calls that states make. `running` calls the states, `resolve` is about resolvers, `look` has the
-//! calls that only read, and `state` what states share.
+//! This module has the tokenizer and the calls that states make. `running` calls the states, `resolve` runs resolvers, `look` has the
+//! calls that only read, and `state` has what states share.
 
 mod fault;
 mod look;
@@ -31,14 +31,15 @@ use std::marker::Model;
 
 /// The tokenizer.
 ///
-/// It is given ranges of a document and a state of its machine, and reads until a range is used up; the end
-/// of the input is fed once it is flushed. Contracts see it as what a reading sees: the text, how much of it was
-/// read, the events and what else states share.
+/// It is given ranges of a document and a state of its machine, and reads until a range is used up. When it is flushed,
+/// the end of the input is fed. Contracts see what a reading sees: the text, how much of it was read, the events, and
+/// what else states share.
 #[derive(Drop)]
 pub struct Tokenizer<'a, M: MachineTypes> {
-    /// Whether this may interrupt something.
+    /// Whether what is read may interrupt another construct, as a list item a paragraph. Machines write it; the engine
+    /// does not.
     pub interrupt: bool,
-    /// Whether what is read cannot be interrupted.
+    /// Whether what is read cannot be interrupted, as fenced code. Machines write it; the engine does not.
     pub concrete: bool,
     /// Whether a lazy line is pierced.
     pub pierce: bool,
@@ -50,7 +51,7 @@ pub struct Tokenizer<'a, M: MachineTypes> {
     start: Point,
     /// Where the text ends: byte index and number in a tab.
     end: (usize, usize),
-    /// Up to where lines are passed.
+    /// The gaps: up to where beginnings of lines are passed.
     skips: Skips,
     /// The place after the byte before, or the start.
     after_previous: Point,
@@ -70,15 +71,15 @@ pub struct Tokenizer<'a, M: MachineTypes> {
     resolvers: Vec<M::Resolver>,
     /// The waiting choices, the last one last.
     kept_choices: Vec<KeptChoice>,
-    /// At how many columns tab stops stand, as the options say: each byte that is consumed asks for it.
+    /// The tab size of the options, copied here as each byte that is consumed needs it.
     tab_size: usize,
-    /// Whether nothing more is pushed: memory was refused, or the end was fed.
+    /// Whether nothing more can be pushed: it ran out of memory, or the end was fed.
     closed: bool,
     /// Whether a flush resolves, or has resolved.
     phase: Phase,
-    /// How many states were called, which contracts alone see.
+    /// How many states were called. Only contracts see it.
     calls: Calls,
-    // The longest types stand last: where a proof speaks of a field that is lent, it spells out those in front of it.
+    // The fields with the longest types are last: a proof about a borrowed field spells out the fields before it.
     /// The document, the options and the machine.
     parse_state: &'a ParseState<'a, M>,
     /// What states share.
@@ -114,8 +115,8 @@ fn link_items(events: &mut Vec<Event>, previous: usize, next: usize)
     subtokenize::link_to(events.as_mut_slice(), previous, next);
 }
 
-/// Makes room for an event. Events grow by a quarter, so that little of their memory waits unused; if so much is refused, by one event.
-/// If memory runs out, nothing changes.
+/// Makes room for an event. Events grow by a quarter, so that little of their memory is unused. If there is not so much memory, they
+/// grow by one event. If it runs out of memory, nothing changes.
 #[cold]
 #[inline(never)]
 fn make_room(events: &mut Vec<Event>) -> Result<(), AllocError>
@@ -176,7 +177,7 @@ fn put_exit(events: &mut Vec<Event>, stack: &mut Vec<Name>, name: Name, point: P
 impl<'a, M: MachineTypes> Tokenizer<'a, M> {
     /// A tokenizer that has read nothing, from this place of the document on. Takes no memory.
     ///
-    /// The point is that of a place. What is read is a document that there can be; the type of the bytes and the parse state say so.
+    /// The point must be the point of a place of the document.
     pub fn new(alloc: Global, point: Point, parse_state: &'a ParseState<'a, M>) -> Self
         requires place { IsPointOf parse_state.now.options.now.tab_size parse_state.now.bytes.now point }
         ensures start { result ≡ start_seen (given_of parse_state.now) parse_state.now.machine.now (empty_text point) }
@@ -219,7 +220,7 @@ impl<'a, M: MachineTypes> Tokenizer<'a, M> {
         }
     }
 
-    /// Counts a call. The count takes no bytes, and contracts alone see it.
+    /// Counts a call. The count takes no bytes, and only contracts see it.
     pub fn tick(&mut self)
         ensures { self.new ≡ record self.old { calls = self.old.calls + 1 } }
     {
@@ -228,8 +229,8 @@ impl<'a, M: MachineTypes> Tokenizer<'a, M> {
 
     /// Consumes the byte that waits. Takes no memory.
     ///
-    /// Bytes are virtual: a line ending is one LF, and a tab is the tab byte and then spaces, as many as it has columns,
-    /// told apart by `point().vs`.
+    /// Bytes are virtual: a line ending is one LF, and a tab is the tab byte and then spaces, one virtual byte for each
+    /// of its columns. `point().vs` is the number of one of them.
     #[inline(always)]
     pub fn consume(&mut self)
         requires { self.old.configuration.waiting ≡ Waits.Byte }
@@ -252,7 +253,8 @@ impl<'a, M: MachineTypes> Tokenizer<'a, M> {
         self.waits = Waits::Nothing;
     }
 
-    /// Begins a span: an enter at the place where one stands. Where memory is refused, events and stack stay as they were.
+    /// Begins a span: adds an enter at the current place (`point`). If it runs out of memory, events and stack stay as
+    /// they were.
     pub fn enter(&mut self, name: Name) -> Result<(), AllocError>
         ensures ok { OnOk result (self.new ≡ with_enter name None self.old) }
         ensures err { OnErr result (self.new ≡ self.old) }
@@ -260,7 +262,7 @@ impl<'a, M: MachineTypes> Tokenizer<'a, M> {
         self.enter_with(name, None)
     }
 
-    /// As `enter`, with a link. Where memory is refused, events and stack stay as they were.
+    /// As `enter`, with a link. If it runs out of memory, events and stack stay as they were.
     pub fn enter_link(&mut self, name: Name, link: Link) -> Result<(), AllocError>
         ensures ok { OnOk result (self.new ≡ with_enter name (Some link) self.old) }
         ensures err { OnErr result (self.new ≡ self.old) }
@@ -268,9 +270,10 @@ impl<'a, M: MachineTypes> Tokenizer<'a, M> {
         self.enter_with(name, Some(link))
     }
 
-    /// Begins a span, with a link if one is given: what `enter` and `enter_link` do. If memory runs out, events and stack are as before.
+    /// Begins a span, with a link if one is given: what `enter` and `enter_link` do. If it runs out of memory, events and stack stay as
+    /// they were.
     ///
-    /// Nearly always there is room, and no gap to look for. What else may come is apart, and is left to as a whole.
+    /// Nearly always there is room, and no gap to look for. The other cases are in a cold function, called last.
     fn enter_with(&mut self, name: Name, link: Option<Link>) -> Result<(), AllocError>
         ensures ok { OnOk result (self.new ≡ with_enter name link self.old) }
         ensures err { OnErr result (self.new ≡ self.old) }
@@ -286,7 +289,7 @@ impl<'a, M: MachineTypes> Tokenizer<'a, M> {
         self.enter_apart(name, link)
     }
 
-    /// As `enter_with`, where there may be no room, or a gap.
+    /// As `enter_with`, if there may be no room, or a gap.
     #[cold]
     #[inline(never)]
     fn enter_apart(&mut self, name: Name, link: Option<Link>) -> Result<(), AllocError>
@@ -303,8 +306,8 @@ impl<'a, M: MachineTypes> Tokenizer<'a, M> {
 
     /// Ends the innermost span: an exit at the place after the byte before.
     ///
-    /// The name is that of the innermost span, a byte was consumed since it began, and a void span holds no event. Where
-    /// memory is refused, events and stack stay as they were.
+    /// `name` must be the name of the innermost span, and a byte was consumed since it began. A void span holds no
+    /// event. If it runs out of memory, events and stack stay as they were.
     pub fn exit(&mut self, name: Name) -> Result<(), AllocError>
         requires { CanExit name self.old }
         ensures ok { OnOk result (self.new ≡ with_exit name self.old) }
@@ -318,7 +321,7 @@ impl<'a, M: MachineTypes> Tokenizer<'a, M> {
         Ok(())
     }
 
-    /// As `exit`, where there may be no room.
+    /// As `exit`, if there may be no room.
     #[cold]
     #[inline(never)]
     fn exit_apart(&mut self, name: Name) -> Result<(), AllocError>
@@ -343,7 +346,8 @@ impl<'a, M: MachineTypes> Tokenizer<'a, M> {
 
     /// Links two events, given by their indices: `next` becomes the next of `previous`, and that one its previous. Takes no memory.
     ///
-    /// Both are enters of void spans with links of one content, and `previous` is before `next` and directly followed by its exit.
+    /// Both are enters of void spans with links of the same content. `previous` is before `next`, and directly followed by its
+    /// exit.
     pub fn link_to(&mut self, previous: usize, next: usize)
         requires can_link { CanLink self.old.configuration.events previous next }
         ensures { self.new ≡ at_configuration self.old (linked previous next self.old.configuration) }
@@ -351,13 +355,14 @@ impl<'a, M: MachineTypes> Tokenizer<'a, M> {
         link_items(&mut self.events, previous, next);
     }
 
-    /// Begins a choice: what is read from here on may be given up.
+    /// Begins a choice: what is read from here on may be taken back.
     ///
-    /// The first state that answers `Ok` or `Nok` ends the last choice that waits. After `Ok` this one goes on with
-    /// `ok`, from where one then is; after `Nok` with `nok`, from here: as much is read, as many events are there and
-    /// the same spans are open as now, while what states share stays as it is. Where `nok` is [`State::Nok`] nothing is
-    /// put back, as the choice around this one fails with it and puts back what it saved. `ok` and `nok` are each
-    /// `Next`, `Ok` or `Nok`. Where memory is refused, nothing changes.
+    /// A state that returns `Ok` or `Nok` ends the last choice that waits. After `Ok` this choice goes on with `ok`,
+    /// from the place reached. After `Nok` it goes back to this place and goes on with `nok`: the position, the number
+    /// of events and the open spans are as now. `tokenize_state`, `map` and the flags are not put back.
+    ///
+    /// If `nok` is [`State::Nok`], nothing is saved: the enclosing choice then fails too, and restores its own save.
+    /// `ok` and `nok` are each `Next`, `Ok` or `Nok`. If it runs out of memory, nothing changes.
     pub fn attempt(&mut self, ok: State, nok: State) -> Result<(), AllocError>
         requires ok { CanGoOn ok }
         requires nok { CanGoOn nok }
@@ -369,7 +374,7 @@ impl<'a, M: MachineTypes> Tokenizer<'a, M> {
         self.push_choice(AttemptKind::Attempt, GoesOn::of(ok), nok, saves)
     }
 
-    /// As `attempt`, for a look ahead: after `Ok` too it goes on from here, as after `Nok`, and with `ok`.
+    /// As `attempt`, but only looks ahead: it goes back to this place after `Ok` too, and goes on with `ok`.
     pub fn check(&mut self, ok: State, nok: State) -> Result<(), AllocError>
         requires ok { CanGoOn ok }
         requires nok { CanGoOn nok }
@@ -379,7 +384,7 @@ impl<'a, M: MachineTypes> Tokenizer<'a, M> {
         self.push_choice(AttemptKind::Check, GoesOn::of(ok), GoesOn::of(nok), true)
     }
 
-    /// One more choice waits.
+    /// Adds a waiting choice. If it runs out of memory, nothing changes.
     fn push_choice(
         &mut self,
         kind: AttemptKind,
@@ -410,11 +415,11 @@ impl<'a, M: MachineTypes> Tokenizer<'a, M> {
         Ok(())
     }
 
-    /// Passes a gap: where the text ends at the beginning of a line, what comes before this later place of the line is
-    /// never read.
+    /// Passes a gap. If the text ends at the beginning of a line, the bytes from there to `point`, a later place of the
+    /// line, are never read.
     ///
-    /// Where the point denotes the text's end nothing changes, and no other point is allowed. `point` stays at the
-    /// beginning of the line until a byte, or the end, is fed. Where memory is refused, nothing changes.
+    /// A point that denotes the text's end changes nothing. No other point is allowed. The call `point` returns the
+    /// beginning of the line until a byte, or the end, is fed. If it runs out of memory, nothing changes.
     pub fn define_skip(&mut self, point: Point) -> Result<(), AllocError>
         requires { FitsAfter self.old.given self.old.text (passed point) }
         ensures ok { OnOk result (self.new ≡ record self.old { text = followed_by self.old.given self.old.text (passed point) }) }

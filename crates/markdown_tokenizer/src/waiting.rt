@@ -16,12 +16,12 @@ pub enum Waits {
     End,
 }
 
-/// Whether a choice goes back where it ended well.
+/// Whether a choice goes back after `Ok`.
 #[derive(Clone, Copy, Debug, PartialEq, Eq)]
 pub enum AttemptKind {
-    /// It goes back only where it failed.
+    /// It goes back only after `Nok`.
     Attempt,
-    /// It always goes back.
+    /// It goes back after `Ok` and after `Nok`.
     Check,
 }
 
@@ -36,15 +36,14 @@ pub enum Phase {
     Resolved,
 }
 
-/// What a choice goes on with: of a state's answers those with which one can go on, and no others. Contracts see the answer
-/// (`state_of`).
+/// What a choice goes on with: `Next`, `Ok` or `Nok`. Contracts see the [`State`] (`state_of`).
 #[derive(Clone, Copy)]
 pub(crate) enum GoesOn {
     /// This state, with the next byte.
     Next(Name),
-    /// It ends well, and with it what is around it.
+    /// The enclosing choice ends with `Ok`.
     Ok,
-    /// It fails, and with it what is around it.
+    /// The enclosing choice ends with `Nok`.
     Nok,
 }
 
@@ -53,7 +52,7 @@ impl GoesOn {
     ghost use Rattle.markdown_tokenizer.specs.Calls.{CanGoOn};
     ghost use Rattle.markdown_tokenizer.specs.View.{state_of};
 
-    /// What goes on with this state.
+    /// Makes it of a state that is `Next`, `Ok` or `Nok`.
     pub(crate) fn of(state: State) -> GoesOn
         requires { CanGoOn state }
         ensures { state_of result ≡ state }
@@ -67,7 +66,7 @@ impl GoesOn {
         }
     }
 
-    /// The state's answer that goes on so.
+    /// The state that means the same.
     pub(crate) fn state(self) -> State
         ensures { result ≡ state_of self }
     {
@@ -94,13 +93,17 @@ pub(crate) struct Progress {
     pub(crate) stack_len: usize,
 }
 
-/// A waiting choice as the tokenizer keeps it. Contracts see the choice that it means (`choice_of`), which puts back a number
-/// of bytes read and a list of open spans, where this one keeps a place and a length of the stack.
+/// A waiting choice as the tokenizer keeps it. Contracts see the choice that it means (`choice_of`): that one has a number of
+/// bytes read and a list of open spans, and this one a place and a length of the stack.
 #[derive(Clone, Copy)]
 pub(crate) struct KeptChoice {
+    /// Whether it goes back after `Ok`.
     pub(crate) kind: AttemptKind,
+    /// What it goes on with after `Ok`.
     pub(crate) ok: GoesOn,
+    /// What it goes on with after `Nok`.
     pub(crate) nok: GoesOn,
+    /// What it puts back, if it saved something.
     pub(crate) saved: Option<Progress>,
 }
 
@@ -131,7 +134,8 @@ ghost use Rattle.std.specs.Prelude.{◌≡◌, reverse};
 ghost use Rattle.markdown_tokenizer.specs.View.{standing};
 ghost use Rattle.markdown_tokenizer.specs.Unwound.{unwound, ended_by, unwinding};
 
-/// Where an enter stands: after the byte before, or after what is passed of a line, once something waits there.
+/// The place of an enter: after the previous byte. At the beginning of a line, while something waits, it is after the
+/// line's gap.
 pub(crate) fn standing(skips: &Skips, after_previous: Point, waits: Waits) -> Point
     ensures { result ≡ standing skips.now after_previous waits }
 {
@@ -141,8 +145,8 @@ pub(crate) fn standing(skips: &Skips, after_previous: Point, waits: Waits) -> Po
     }
 }
 
-/// Choices end, the last first, until one goes on with a state, or none is left. A choice that goes back does so to what
-/// it saved: the answer is what is gone on with, and from where.
+/// Ends choices, the last first, until one goes on with a state, or none is left. A choice that goes back restores what
+/// it saved. Returns what to go on with, and from where.
 pub(crate) fn unwind(
     kept_choices: &mut Vec<KeptChoice>,
     ok: bool,

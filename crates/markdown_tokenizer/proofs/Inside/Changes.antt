@@ -181,7 +181,7 @@ module _ {M R D : Type 0} {same : R → R → Bool} (t : Inside M R D) (sound : 
     passed-place : IsPlace tab_in bytes_in q
     passed-place = place-of-point tab_in bytes_in wide_in q fits.0
 
-    -- what the test of the code tells
+    -- what the test of the code means
     after-end : is_after_pair (shown bytes_in q) t.end ≡ stands_before end_in (shown bytes_in q)
     after-end = let at = point_at-is tab_in bytes_in t.end end_in sound.placed.end_at in let i = at.index in let v = at.vs in rw (i, v) refl
 

@@ -107,11 +107,11 @@ module _ (tab : ℕ) (wide : 0 < tab) (bytes : List ℕ) (skips : List Point) (s
       omega (arith, ap length same, ap length looks.same)
 
   module _ (seat : Seat) (n : IsSeatAt tab bytes here seat) where
-    -- where the next byte is shown an enter stands
+    -- the place of an enter is where the next byte is shown
     pub next-shown : shown bytes seat.point ≡ shown bytes here
     next-shown = (next-begins tab bytes wide here seat looks.place n).shown_is ∙ sym looks.place.stands
 
-    -- the next byte of the text is the next of the document, where that stands in the text
+    -- the next byte of the text is the next byte of the document, if that is in the text
     pub next-seat : stands_before seat.point end ≡ true → slice_get (seats_between tab bytes skips start end) (position_from tab bytes skips start after_previous) ≡ Some seat
     next-seat lt =
         let read_here = seats_between tab bytes skips start here in
@@ -151,7 +151,7 @@ module _ (tab : ℕ) (wide : 0 < tab) (bytes : List ℕ) (skips : List Point) (s
           previous_is = rw (number, is) refl;
         }
 
-  -- where the document ends all was read
+  -- at the document's end all was read
   pub next-none-left : rest_at tab bytes here ≡ [] → length (seats_between tab bytes skips start end) ≤ position_from tab bytes skips start after_previous
   next-none-left e = here-all (rest-none tab bytes here end looks.place e)
 
@@ -160,7 +160,7 @@ module _ (tab : ℕ) (wide : 0 < tab) (bytes : List ℕ) (skips : List Point) (s
     past-end seat n true e = let more = next-more seat n e in absurd (omega arith)
     past-end seat n false e = end-upto tab bytes here seat looks.place n end e
 
-    -- where all was read an enter stands at the end
+    -- if all was read, the place of an enter is the end
     pub ends-here : is_upto tab bytes end here ≡ true
     ends-here = elim (empty-or-first (rest_at tab bytes here)) [
       | inl e ↦ rest-none tab bytes here end looks.place e
@@ -242,7 +242,7 @@ module _ (tab : ℕ) (wide : 0 < tab) (bytes : List ℕ) (skips : List Point) (s
         previous_is = read.previous_is ∙ ap byte_of (sym e);
       }
 
-  -- an enter stands where it did, or after the gap
+  -- the place of an enter is the same, or after the gap
   pub passed-shown : stands_before (shown bytes (resumed added after_previous)) (shown bytes (resumed skips after_previous)) ≡ false
   passed-shown = added-shown tab bytes wide skips start end q are place to first line before other after_previous read.place read.upto
 
@@ -253,7 +253,7 @@ module _ (tab : ℕ) (wide : 0 < tab) (bytes : List ℕ) (skips : List Point) (s
     | inr e ↦ (let same = kept-same tab wide bytes skips start after_previous start end (same-self tab bytes start) e.0 in absurd (omega (arith, ap length same)))
   ]
 
--- a byte that waits stands before a later end
+-- a byte that waits is before a later end
 module _ (tab : ℕ) (wide : 0 < tab) (bytes : List ℕ) (skips : List Point) (start end to after_previous : Point) (previous : Option ℕ) (are : AllByRecursion (IsSkip tab bytes end) skips)
     (read : IsReadTo tab bytes skips (text_between tab bytes skips start end) after_previous previous) (seat : Seat) (at : IsSeatAt tab bytes (resumed skips after_previous) seat) (later : is_upto tab bytes end to ≡ true) where
   still-before-by : (b : Bool) → stands_before seat.point end ≡ true → stands_before seat.point to ≡ b → stands_before seat.point to ≡ true
@@ -269,7 +269,7 @@ module _ (tab : ℕ) (wide : 0 < tab) (bytes : List ℕ) (skips : List Point) (s
   pub still-before : stands_before seat.point end ≡ true → stands_before seat.point to ≡ true
   still-before h = still-before-by (stands_before seat.point to) h refl
 
--- more can be fed: an enter may stand later
+-- more can be fed: an enter may have a later place
 pub or-true : (a : Bool) → (a || true) ≡ true
 or-true true = refl
 or-true false = refl
@@ -283,7 +283,7 @@ module _ (tab : ℕ) (wide : 0 < tab) (bytes : List ℕ) (skips : List Point) (s
   abbrev MadeUpto : Point → Type 0
   MadeUpto p = IsMade bytes events stack (shown bytes after_previous) (shown bytes p)
 
-  -- an enter may stand after a gap
+  -- an enter may be after a gap
   pub made-later : MadeUpto after_previous → MadeUpto (resumed skips after_previous)
   made-later m =
       let r = looks tab wide bytes skips start end after_previous previous are read in

@@ -147,7 +147,7 @@ ended-state : (b : Bool) → state_of (ended_by b) ≡ answer_of b
 ended-state true = refl
 ended-state false = refl
 
--- where no span is open each event is up to where an exit would stand
+-- if no span is open, each event is at or before the place that an exit would have
 exit-last : (events : List Event) → open_events events ≡ [] → last_kind Exit events ≡ Exit
 exit-last events e = cases (last_view events)
   where

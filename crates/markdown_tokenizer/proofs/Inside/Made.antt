@@ -147,7 +147,7 @@ upto_enter bytes events after_previous order enters before = cases (last_view ev
         subst (AreUpto after_previous) (sym p.2) (All-push (λ d. stands_before after_previous d.point ≡ false) p.0 p.1 (AreUpto-later p.1.point after_previous p.0 upto front) upto)
 
 module _ (bytes : List ℕ) (events : List Event) (stack : List Name) (after_previous bound : Point) where
-  -- an enter, at the place where one would stand
+  -- an enter, at its place
   pub made-enter : IsMade bytes events stack after_previous bound → (e : Event) → e.kind ≡ Enter → stands_before e.point bound ≡ false → stands_before bound e.point ≡ false → IsShown bytes e.point
       → IsMade bytes (events ++ e ∷ []) (stack ++ e.name ∷ []) after_previous bound
   made-enter m e k from upto is = record {
@@ -162,7 +162,7 @@ module _ (bytes : List ℕ) (events : List Event) (stack : List Name) (after_pre
     bound_shown = m.bound_shown;
   }
 
-  -- where the last open enter is before an exit's place, each event is up to it
+  -- if the last open enter is before an exit's place, each event is at or before it
   upto_left : IsMade bytes events stack after_previous bound → ((o : Event) → last_or None (open_events events) ≡ Some o → stands_before o.point after_previous ≡ true) → AreUpto after_previous events
   upto_left m before = cases (last_kind Exit events) refl
     where
@@ -170,7 +170,7 @@ module _ (bytes : List ℕ) (events : List Event) (stack : List Name) (after_pre
       cases Enter e = upto_enter bytes events after_previous m.in_order e before
       cases Exit e = m.read e
 
-  -- an exit of the last open name, at the place where one stands
+  -- an exit of the last open name, at its place
   pub made-exit : IsMade bytes events stack after_previous bound → (e : Event) → e.kind ≡ Exit → e.point ≡ after_previous → last_or None stack ≡ Some e.name
       → ((o : Event) → last_or None (open_events events) ≡ Some o → stands_before o.point after_previous ≡ true)
       → (is_void e.name ≡ true → (o : Event) × (last_or None events ≡ Some o) × (o.kind ≡ Enter))
@@ -199,7 +199,7 @@ module _ (bytes : List ℕ) (events : List Event) (stack : List Name) (after_pre
       follows : (o : Event) × (last_or None events ≡ Some o) × (o.kind ≡ Enter) → last_kind Exit events ≡ Enter
       follows p = ap (last_kind Exit) (push_from_last events p.0 p.1) ∙ last_kind-append Exit (take (length events - 1) events) (p.0 ∷ []) ∙ p.2
 
-  -- a byte is consumed: an exit stands at its end, and no event after
+  -- a byte is consumed: the place of an exit is its end, and no event is after that
   pub made-consume : IsMade bytes events stack after_previous bound → (after_previous' bound' : Point) → stands_before after_previous' bound ≡ false → stands_before bound' after_previous' ≡ false → IsShown bytes after_previous' → IsShown bytes bound'
       → IsMade bytes events stack after_previous' bound'
   made-consume m after_previous' bound' after upto l b = record {
@@ -214,7 +214,7 @@ module _ (bytes : List ℕ) (events : List Event) (stack : List Name) (after_pre
     bound_shown = b;
   }
 
-  -- an enter would stand later
+  -- an enter would have a later place
   pub made-bound : IsMade bytes events stack after_previous bound → (bound' : Point) → stands_before bound' bound ≡ false → IsShown bytes bound' → IsMade bytes events stack after_previous bound'
   made-bound m bound' later b = record {
     names = m.names;
@@ -228,7 +228,7 @@ module _ (bytes : List ℕ) (events : List Event) (stack : List Name) (after_pre
     bound_shown = b;
   }
 
--- an enter at the place where one stands
+-- an enter at the current place
 pub made-enter-at : (bytes : List ℕ) (events : List Event) (stack : List Name) (after_previous bound : Point) → IsMade bytes events stack after_previous bound → (name : Name) (link : Option Link)
     → IsMade bytes (events ++ record { kind = Enter; name = name; point = bound; link = link } ∷ []) (stack ++ name ∷ []) after_previous bound
 made-enter-at bytes events stack after_previous bound m name link =
@@ -302,7 +302,7 @@ module _ (void : Name → Bool) where
       first-followed e.name es (subst (λ (y : Event). y.kind ≡ Enter → void y.name ≡ true → IsFollowed y.name es) same h.0 en v)
   followed-at (x ∷ es) h (suc k) e is en v = let n : suc k + 1 ≡ suc (k + 1) = omega arith in rw n (followed-at es h.1 k e is en v)
 
--- what was made is balanced, void-tight and in order, where no enter is left open
+-- if no enter is left open, the events are balanced, void-tight and in order
 pub made-end : (bytes : List ℕ) (events : List Event) (after_previous bound : Point) → IsMade bytes events [] after_previous bound → IsBalanced events × IsVoidTight events × IsInOrder bytes events
 made-end bytes events after_previous bound m =
     let balanced : IsBalanced events = balanced_from_open events m.nested in
@@ -365,7 +365,7 @@ module _ (xs ys : List Event) (same : map unlinked xs ≡ map unlinked ys) where
     bound_shown = m.bound_shown;
   }
 
--- what was made of a front stays, where events are added and links are changed
+-- what holds for a front of the events still holds after events are added and links are changed
 pub made-kept : (bytes : List ℕ) (old new : List Event) (n : ℕ) (stack : List Name) (after_previous bound : Point) → n ≤ length old → HasFrontUpToLinkEnds new old
     → IsMade bytes (take n old) stack after_previous bound → IsMade bytes (take n new) stack after_previous bound
 made-kept bytes old new n stack after_previous bound le front m =

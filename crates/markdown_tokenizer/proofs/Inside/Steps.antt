@@ -75,7 +75,7 @@ module _ {M R D : Type 0} {same : R → R → Bool} (t : Inside M R D) (sound : 
   end-waits : t.waits ≡ End → EndWaits t.current t.closed position_in (length (seats_between tab_in bytes_in skips_in t.start end_in))
   end-waits e = ends-wait t.waits sound.placed.waiting e
 
-  -- where all was read one stands at the end of the text, after what is passed
+  -- if all was read, the current place is the end of the text, after its gap
   end-is : length (seen t).text.seats ≤ (seen t).configuration.position → record { line = here_in.line; column = here_in.column; index = t.end.0; vs = t.end.1 } ≡ end_in
   end-is all =
       let at = point_at-is tab_in bytes_in t.end end_in sound.placed.end_at in
@@ -114,7 +114,7 @@ module _ {M R D : Type 0} {same : R → R → Bool} (t : Inside M R D) (sound : 
       ∙ ap (λ (o : Option Seat). shown bytes_in (point_or end_in o)) (sym (next-seat tab_in wide_in bytes_in skips_in t.start end_in t.after_previous t.previous sound.placed.skips sound.placed.read h.seat h.at h.before))
   here-by End h = sym (end-shown tab_in wide_in bytes_in skips_in t.start end_in t.after_previous t.previous sound.placed.skips sound.placed.read h.all end-place-in)
 
-  -- where an enter stands
+  -- the place of an enter
   pub here-is : shown bytes_in (standing skips_in t.after_previous t.waits) ≡ (sight (seen t).given (seen t).text (seen t).configuration).enter_place
   here-is = here-by t.waits sound.placed.waiting
 
@@ -155,7 +155,7 @@ module _ {M R D : Type 0} {same : R → R → Bool} (t : Inside M R D) (sound : 
   pub before-end : (q : Point) → stands_before q end_in ≡ is_before_pair q t.end
   before-end q = let at = point_at-is tab_in bytes_in t.end end_in sound.placed.end_at in let i = at.index in let v = at.vs in rw (i, v) refl
 
-  -- an enter may stand after what is passed
+  -- an enter may be after the gap
   abbrev MadeHere : Type 0
   MadeHere = IsMade bytes_in t.events.items t.stack.items (shown bytes_in t.after_previous) (shown bytes_in here_in)
 
@@ -267,7 +267,7 @@ module _ {M R D : Type 0} {same : R → R → Bool} (t : Inside M R D) (sound : 
   pub byte-of-seat : (waits : ByteWaits tab_in bytes_in skips_in t.after_previous end_in t.current) (byte : ℕ) → t.current ≡ Some byte → waits.seat.byte ≡ byte
   byte-of-seat waits byte e = let same : Some waits.seat.byte ≡ Some byte = sym waits.is ∙ e in cc
 
-  -- the place is that of a byte, or at the end of the document
+  -- the place is the place of a byte, or the end of the document
   pub here-within : 0 < here_in.vs → here_in.index < length bytes_in
   here-within = looks_in.place.bounds.tab
 

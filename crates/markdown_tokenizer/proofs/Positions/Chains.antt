@@ -64,7 +64,7 @@ tab-ends t c d h w =
     let is : suc m ≡ c = omega arith in
     ap (λ (k : ℕ). k % t) (sym is) ∙ up
 
--- a place is shown at itself where no LF stands, and where the byte before is no CR
+-- a place is shown at itself if there is no LF at it, or if the byte before is no CR
 pub shown-other : (bytes : List ℕ) (p : Point) → slice_index bytes p.index ≢ 10 → IsShown bytes p
 shown-other bytes p h = let e = not-number (slice_index bytes p.index) 10 h in rw e refl
 

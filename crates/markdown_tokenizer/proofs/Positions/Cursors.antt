@@ -120,7 +120,7 @@ module _ (t : ℕ) (bytes : List ℕ) where
       (every-map (λ s. stands_before s.point p ≡ true) (Leads q p) (λ s h k. h) place.before place.behind)
       (subst (AllByRecursion (Leads q p)) e (every-map (λ s. stands_before s.point q ≡ false) (Leads q p) (λ s h k. absurd (cc)) (rest_at t bytes q) (rest-later t bytes q)))))
 
-  -- where nothing is left, every place is no further
+  -- if nothing is left at a place, no place is after it
   pub rest-none : (p q : Point) → IsPlace t bytes p → rest_at t bytes p ≡ [] → is_upto t bytes q p ≡ true
   rest-none p q place e = leads-upto q p (subst (AllByRecursion (Leads q p)) (sym (place.splits ∙ ap (λ (ys : List Seat). place.before ++ ys) e ∙ append-nil place.before))
       (every-map (λ s. stands_before s.point p ≡ true) (Leads q p) (λ s h k. h) place.before place.behind))
@@ -153,7 +153,7 @@ module _ (t : ℕ) (bytes : List ℕ) where
       ap (filter f) whole ∙ filter-append f place.before rest ∙ ap (λ (xs : List Seat). xs ++ filter f rest) front
       ∙ ap (λ (ys : List Seat). filter g place.before ++ ys) back ∙ ap (λ (xs : List Seat). xs ++ left_of p end) (sym read)
 
-  -- nothing stands from a place on before that place
+  -- no virtual byte is between a place and itself
   pub range-empty : (p : Point) → filter (in_range p p) (virtual t bytes) ≡ []
   range-empty p = filter-none (in_range p p) (virtual t bytes) (every-all (λ s. in_range p p s ≡ false) (λ s. not-and (stands_before s.point p)) (virtual t bytes))
 
@@ -195,7 +195,7 @@ module _ (t : ℕ) (bytes : List ℕ) (p : Point) (seat : Seat) (place : IsPlace
     pub upto-after : is_upto t bytes p seat.end ≡ true
     upto-after = upto-order t bytes p seat.end (seat-passes t bytes d p seat place n)
 
-    -- it alone stands from the place on before its end
+    -- it is the only one between the place and its end
     pub next-only : left_of t bytes p seat.end ≡ seat ∷ []
     next-only =
         let begins = next-begins t bytes d p seat place n in

@@ -1,4 +1,4 @@
--- Laws of gaps: where places lie in lines and columns, and what a gap leaves to be read.
+-- Laws about gaps: places in lines and columns, and what a gap leaves to be read.
 use Rattle.std.specs.List.{AllByRecursion}
 use Rattle.std.proofs.Common.{◌≡◌, ℕ, suc, ◌≤◌, ◌<◌, ◌==◌, List, [], ◌∷◌, ◌++◌, Bool, true, false, cond, Option, Some, None, refl, sym, ap, ◌∙◌, subst, arith, append_assoc, ◌⊎◌, inl, inr}
 use Rattle.std.specs.Prelude.{filter, unwrap_or, nat_lt, not, ◌&&◌, ◌||◌}
@@ -119,7 +119,7 @@ module _ (t : ℕ) (bytes : List ℕ) where
             (λ r h. (later-later r.point.line r.point.column s.end.line s.end.column p.line p.column h.0 upto, h.1)) ss (chain-between s.end ss ys c.2),
       )
 
-  -- what stands from a place on before a second, which is not before the first
+  -- the virtual bytes between a place and a second one, which is not before the first
   module _ (d : 0 < t) (a b : Point) (first : IsPlace t bytes a) (second : IsPlace t bytes b) (upto : is_upto t bytes a b ≡ true) where
     before-grows : second.before ≡ first.before ++ left_of t bytes a b
     before-grows =
@@ -166,7 +166,7 @@ module _ (t : ℕ) (bytes : List ℕ) where
     between-below : (s : Seat) → lies_before s.point (end_after (shown bytes a) (left_of t bytes a b)) ≡ true → lies_before s.point b ≡ true
     between-below s h = lies-alike s.point b (shown bytes b) (sym (shown-line bytes b)) (sym (shown-column bytes b)) ∙ ap (lies_before s.point) way-ends ∙ h
 
-    -- and what stands between them lies between them
+    -- their places are between the two
     pub between-lies : AllByRecursion (LiesIn a b) (left_of t bytes a b)
     between-lies =
         let p = shown bytes a in
@@ -193,7 +193,7 @@ skip-cases : (P : Point → Type 0) (x : Point) (xs : List Point) (line : ℕ) (
 skip-cases P x xs line p true e h k f = let is : x ≡ p = cc in subst (λ (y : Point). (y.line ≡ line) × P y) is (eqb-true x.line line e, h)
 skip-cases P x xs line p false e h k f = k f
 
--- the place up to which a line is passed is in that line, and one of those listed
+-- the place at which a line's gap ends is in that line, and in the list
 skip-is : (P : Point → Type 0) (skips : List Point) (line : ℕ) (p : Point) → AllByRecursion P skips → skip_of skips line ≡ Some p → (p.line ≡ line) × P p
 skip-is P [] line p h e = absurd (cc)
 skip-is P (x ∷ xs) line p h e = skip-cases P x xs line p (x.line == line) refl h.0 (skip-is P xs line p h.1) e
@@ -429,7 +429,7 @@ module _ (t : ℕ) (bytes : List ℕ) (d : 0 < t) where
   chain-columns p [] ys c = tt
   chain-columns p (s ∷ ss) ys c = (c.1.seat_bounds.first, chain-columns s.end ss ys c.2)
 
-  -- what stands before the beginning of a line is in earlier lines
+  -- places before the beginning of a line are in earlier lines
   module _ (e : Point) (at : IsPlace t bytes e) (first : e.column ≡ 1) where
     behind-chain : IsChain t bytes (point 1 1 0 0) (at.before ++ rest_at t bytes e)
     behind-chain = subst (IsChain t bytes (point 1 1 0 0)) at.splits (whole-chain t bytes d)
@@ -548,7 +548,7 @@ module _ (t : ℕ) (bytes : List ℕ) (d : 0 < t) where
             ∙ upto-shown t bytes d after_previous q place to (upto-upto t bytes after_previous e q upto added-upto)
       ]
 
-  -- whether a place denotes the same as one that it stands after, by where it is shown
+  -- whether a place denotes the same as an earlier one, by where it is shown
   pub same-not_before : (p e : Point) → IsPlace t bytes p → IsPlace t bytes e → denotes_same t bytes p e ≡ true → stands_before e (shown bytes p) ≡ false
   same-not_before p e a b h = ap (stands_before e) (same-shown t bytes p e a b h) ∙ shown-upto t bytes e
 

@@ -65,7 +65,7 @@ find-or f x xs false e h =
     let q = r.1 in
     (r.0, record { found = rw e q.found; passes = q.passes; among = contains-later x r.0 xs q.among })
 
--- a search finds something, where an element passes
+-- a search finds something if an element passes
 pub find-first : (f : Point → Bool) (xs : List Point) (p : Point) → Contains xs p → f p ≡ true → (q : Point) × IsFound f xs q
 find-first f [] p (k, lt, is) e = absurd (omega arith)
 find-first f (x ∷ xs) p (zero, lt, is) e = find-or f x xs true (ap f is ∙ e) (λ h. absurd (cc))

@@ -1,4 +1,4 @@
--- Which virtual byte stands at a place, read from the bytes.
+-- The virtual byte at a place, read from the bytes.
 use Rattle.std.specs.List.{AllByRecursion}
 use Rattle.std.proofs.Common.{◌≡◌, ◌≢◌, ℕ, zero, suc, ◌+◌, ◌-◌, ◌≤◌, ◌<◌, ◌==◌, List, [], ◌∷◌, ◌++◌, Bool, true, false, cond, length, drop, Some, ◌⊎◌, inl, inr, refl, sym, ap, ◌∙◌, arith, drop-cons, add-one, rules}
 use Rattle.std.specs.Prelude.{slice_index, nat_lt, ◌&&◌}
@@ -37,7 +37,7 @@ virtual-index t line column index (b ∷ bs) =
     (every-append P _ _ (every-map (λ s. (s.point.index ≡ index) × (0 ≤ s.point.vs)) P (λ s h. omega (arith, h.0)) _ (tab-index 9 (tab_width t column) line column index 0)) (next line (column + tab_width t column)))
     (here, next line (suc column))))
 
--- what follows a place does not stand before it
+-- the virtual bytes from a place on are not before it
 rest-later-at : (t : ℕ) (bytes : List ℕ) (p : Point) (b : Bool) → (p.vs == 0) ≡ b → AllByRecursion (λ s. stands_before s.point p ≡ false) (rest_at t bytes p)
 rest-later-at t bytes p true e = rw e
     (every-map (FromIndex p.index) (λ s. stands_before s.point p ≡ false) (λ s h. not-before s.point.index s.point.vs p.index p.vs h (eq-zero p.vs e))
@@ -84,7 +84,7 @@ seat-none t bytes p h i =
     let none : drop p.index bytes ≡ [] = drop_all p.index bytes i in
     rw (h, none) refl
 
--- the first virtual byte of some bytes, where they do not begin with CR LF
+-- the first virtual byte of some bytes that do not begin with CR LF
 abbrev FirstIs : ℕ → ℕ → ℕ → ℕ → ℕ → List ℕ → Type 0
 FirstIs t l c i b bs = (end : Point) × (after : List Seat) × (virtual_from t l c i (b ∷ bs) ≡ record { byte = cond (b == 13) 10 b; point = point l c i 0; end = end } ∷ after)
 
@@ -118,7 +118,7 @@ seat-plain t bytes p b d h i is alone =
       },
     )
 
--- the seat of a CR before LF is that of the LF
+-- the seat of a CR before LF is the LF's seat
 pub seat-crlf : (t : ℕ) (bytes : List ℕ) (p : Point) → p.vs ≡ 0 → suc p.index < length bytes → slice_index bytes p.index ≡ 13 → slice_index bytes (suc p.index) ≡ 10
     → IsNextSeat t bytes p (Some (10, point p.line p.column (suc p.index) p.vs))
 seat-crlf t bytes p h i cr lf =
@@ -180,7 +180,7 @@ no-pair-is bytes i cr h l lf =
     let f : begins_pair bytes i ≡ true = rw (e, cr, lf) refl in
     let g = sym f ∙ h in absurd cc
 
--- The next virtual byte from a place on stands there, or it is the LF of a CR LF there
+-- The next virtual byte from a place on is at the place, or it is the LF of a CR LF there
 abbrev pub StandsThere : List ℕ → Point → Seat → Type 0
 StandsThere bytes p seat =
     ((seat.point ≡ p) × (seat.byte ≡ 10 → begins_pair bytes p.index ≡ false)) ⊎ ((begins_pair bytes p.index ≡ true) × (seat.byte ≡ 10) × (seat.point ≡ point p.line p.column (suc p.index) p.vs))
@@ -213,7 +213,7 @@ module _ (t : ℕ) (bytes : List ℕ) (p : Point) (seat : Seat) (d : 0 < t) (tab
       let s = same-seat 10 p (seat-cr t bytes p d h (within-bytes h) cr (λ l. absurd (omega arith))) in
       inl (s.1, λ _. rw e refl)
 
-  -- by whether the place is in a tab, and whether CR stands there
+  -- by whether the place is in a tab, and whether a CR is there
   there-at : (b c : Bool) → (p.vs == 0) ≡ b → (slice_index bytes p.index == 13) ≡ c → StandsThere bytes p seat
   there-at true true e f = there-cr (eqb-true p.vs 0 e) (eqb-true (slice_index bytes p.index) 13 f) (nat_lt (p.index + 1) (length bytes)) (slice_index bytes (p.index + 1) == 10) refl refl
   there-at true false e f =

@@ -31,7 +31,7 @@ pub AreSorted-push : (xs : List Point) (p : Point) → AreSorted xs → AllByRec
 AreSorted-push [] p h l = (tt, tt)
 AreSorted-push (x ∷ xs) p h l = (below-push xs p x.line h.0 l.0, AreSorted-push xs p h.1 l.1)
 
--- what stands at the place where a line would stand, if it is there
+-- the element at the position that a line would have, if it is there
 abbrev pub found : Option Point → ℕ → Option Point
 found None line = None
 found (Some p) line = cond (p.line == line) (Some p) None
@@ -47,7 +47,7 @@ here-by : (b : Bool) (x : Point) (o : Option Point) → (b ≡ false → o ≡ N
 here-by true x o h = refl
 here-by false x o h = h refl
 
--- so many places stand in lines in front of one, and no others
+-- this many places are in earlier lines than one, and no others
 pub found-by : (xs : List Point) (i line : ℕ) → AreSorted xs → ((k : ℕ) (d : Point) → k < i → k < length xs → (get_or xs k d).line < line) → ((d : Point) → i < length xs → line ≤ (get_or xs i d).line)
     → skip_of xs line ≡ found (slice_get xs i) line
 found-by [] i line h a b = refl

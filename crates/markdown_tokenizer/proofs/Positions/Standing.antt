@@ -29,7 +29,7 @@ module _ (t : ℕ) (bytes : List ℕ) where
   chain-split p [] ys c = c
   chain-split p (s ∷ ss) ys c = chain-split s.end ss ys c.2
 
-  -- what a chain has passed is not after where it stands
+  -- what a chain has passed is not after its place
   pub chain-upto : (p : Point) (xs ys : List Seat) → IsChain t bytes p (xs ++ ys) → stands_before (end_after p xs) p ≡ false
   chain-upto p [] ys c = before-self p.index p.vs
   chain-upto p (s ∷ ss) ys c =
@@ -73,7 +73,7 @@ module _ (t : ℕ) (bytes : List ℕ) where
   shown-again p true false e f = let is : shown bytes p ≡ p = rw (e, f) refl in subst (IsShown bytes) (sym is) is
   shown-again p false c e f = let is : shown bytes p ≡ p = rw e refl in subst (IsShown bytes) (sym is) is
 
-  -- where a place is shown is shown at itself
+  -- the place at which a place is shown is shown at itself
   pub shown-shown : (p : Point) → IsShown bytes (shown bytes p)
   shown-shown p = shown-again p (slice_index bytes p.index == 10) (follows_cr bytes p.index) refl refl
 
@@ -216,7 +216,7 @@ module _ (t : ℕ) (bytes : List ℕ) (d : 0 < t) (p : Point) (seat : Seat) (pla
   pub seat-passes : stands_before seat.end p ≡ false
   seat-passes = later-later seat.end.index seat.end.vs seat.point.index seat.point.vs p.index p.vs (after-before seat.point.index seat.point.vs seat.end.index seat.end.vs next-begins.ends) n.later
 
-  -- where the next virtual byte ends, read from the bytes
+  -- the place at which the next virtual byte ends, read from the bytes
   there : StandsThere bytes p seat
   there = stands-there t bytes p seat d place.bounds.tab n
 

@@ -1,4 +1,4 @@
--- The virtual bytes of a text stand in order: each begins before it ends, and none begins before the one before it ends.
+-- The virtual bytes of a text are in order: each begins before it ends, and none begins before the previous one ends.
 use Rattle.std.specs.List.{AllByRecursion}
 use Rattle.std.proofs.Common.{◌≡◌, ◌≢◌, ℕ, zero, suc, ◌+◌, ◌<◌, ◌≤◌, List, [], ◌∷◌, ◌++◌, Bool, true, false, cond, Some, length, refl, sym, ap, ◌∙◌, subst, arith, inl, inr}
 use Rattle.std.specs.Prelude.{slice_get, slice_index, drop, ◌==◌, nat_lt, not, ◌&&◌, ◌||◌, filter}
@@ -220,7 +220,7 @@ module _ (t : ℕ) (bytes : List ℕ) where
       (λ r f later. f (before-upto s.point.index s.point.vs to.index to.vs r.point.index r.point.vs inside later)) (virtual t bytes) k)
       (virtual t bytes) virtual-compared)
 
-  -- what holds of all virtual bytes that are not before a place holds of those of a range from there
+  -- what holds for all virtual bytes that are not before a place holds for a range from there
   range-all : (P : Seat → Type 0) (from to : Point) → AllByRecursion (λ r. stands_before r.point from ≡ false → P r) (virtual t bytes) → AllByRecursion P (filter (in_range from to) (virtual t bytes))
   range-all P from to h =
       every-given P (in_range from to) (virtual t bytes)

@@ -20,7 +20,7 @@ use Rattle.markdown_tokenizer.proofs.Positions.Order.{upto-before}
 use Rattle.markdown_tokenizer.proofs.Positions.Chains.{IsChain, whole-chain}
 use Rattle.markdown_tokenizer.proofs.Positions.Standing.{place-after, after-rest}
 
--- a walk stands at a place, and has passed these virtual bytes
+-- a walk is at a place, and has passed these virtual bytes
 pub record IsWalk (t : ℕ) (bytes : List ℕ) (p : Point) (passed : List Seat) : Type 0 where
   pub splits : virtual t bytes ≡ passed ++ rest_at t bytes p
   pub stands : end_after (point 1 1 0 0) passed ≡ p
@@ -128,7 +128,7 @@ module _ (t : ℕ) (bytes : List ℕ) (d : 0 < t) (place : ℕ × ℕ) where
             ∙ ap (λ (o : Option Point). option_or o (find (is_place place) (shown bytes seat.point ∷ seat.point ∷ []))) search.none ∙ (rw (e, f) refl);
       }
 
--- the cuts among these virtual bytes, the first of which has this number
+-- the cuts among these virtual bytes; the first of them has this number
 abbrev pub cuts_of : ℕ → ℕ → List Seat → List (ℕ × ℕ)
 cuts_of n first xs = map (λ x. place_of x.1) (filter (λ x. is_cut n x.0) (enumerate_from first xs))
 
@@ -178,7 +178,7 @@ module _ (t : ℕ) (bytes : List ℕ) (d : 0 < t) (n : ℕ) where
             ∙ sym (cuts-put n cutting.passed seat);
       }
 
--- what the tests of a number tell
+-- what the tests of a number mean
 rest-of-cut : (n m r : ℕ) → 0 < m → r ≡ 0 → (nat_lt 0 m && (r == 0)) ≡ true
 rest-of-cut n m r h e = grind (arith, nat_tests)
 

@@ -1,4 +1,4 @@
--- The laws of machines without resolvers and links, from those of their states.
+-- The laws of machines without resolvers and links, from the laws of their states.
 use Rattle.std.proofs.Common.{◌≡◌, ℕ, zero, suc, ◌+◌, ◌≤◌, List, [], ◌∷◌, ◌++◌, Bool, true, false, cond, Option, Some, None, length, refl, sym, ap, ◌∙◌, subst, arith, take}
 use Rattle.std.specs.Prelude.{nat_lt, All}
 use Rattle.markdown_base.specs.declared.event.Event.{Event}

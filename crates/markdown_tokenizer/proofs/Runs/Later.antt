@@ -19,7 +19,7 @@ front-front (z ∷ l) (y ∷ m) (x ∷ s) h k =
     let below : take (length s) m ≡ s = cc in
     ap (λ w. w ∷ take (length s) l) first ∙ ap (λ r. x ∷ r) (front-front l m s above below)
 
--- a front, told by the events without their link ends
+-- a front, by the events without their link ends
 bare-front : (longer shorter : List Event) → HasFrontUpToLinkEnds longer shorter → take (length (map unlinked shorter)) (map unlinked longer) ≡ map unlinked shorter
 bare-front longer shorter h = ap (λ n. take n (map unlinked longer)) (length-map shorter unlinked) ∙ take-map unlinked (length shorter) longer ∙ h
 

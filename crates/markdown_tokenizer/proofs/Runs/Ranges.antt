@@ -1,5 +1,5 @@
--- An open tokenizer, from its start over ranges and gaps: what a caller owes at each call, and what stands after it. `StandsAt` is for a caller that finds its
--- ranges as it goes, `HasRanges` for one that has them in a list.
+-- An open tokenizer, from its start over ranges and gaps: what a caller must prove at each call, and what holds after it. `StandsAt` is for
+-- a caller that finds its ranges as it goes, `HasRanges` for one that has them in a list.
 use Rattle.std.proofs.Common.{◌≡◌, ◌+◌, ◌<◌, ◌⊎◌, inl, inr, ℕ, length, List, [], ◌∷◌, Option, Some, None, Bool, true, false, cond, drop, get_or, refl, sym, ap, ◌∙◌, subst}
 use Rattle.std.specs.Prelude.{Contains}
 use Rattle.std.proofs.lemmas.List.{drop_more}
@@ -35,7 +35,7 @@ module _ {M R D : Type 0} (rules : M → Given → Rules R D) where
     pub end : t.text.end ≡ place
     pub held : Held t.machine t.given t state
 
-  -- a new tokenizer stands at the document's start
+  -- a new tokenizer is at the document's start
   pub stands-start : (bytes : List ℕ) (options : ParseOptions) (m : M) → IsDocument (given_by bytes options) → KeepsInvariant (given_by bytes options) (rules m (given_by bytes options))
       → (start : Name) → Contains (rules m (given_by bytes options)).starts start → (t : TokenizerValue M R D) → t ≡ start_seen (given_by bytes options) m (empty_text (point 1 1 0 0)) → StandsAt bytes options (point 1 1 0 0) t (Next start)
   stands-start bytes options m document keeps start starts_so t e =
@@ -49,18 +49,18 @@ module _ {M R D : Type 0} (rules : M → Given → Rules R D) where
       })
 
   module _ (bytes : List ℕ) (options : ParseOptions) (p : Point) (t : TokenizerValue M R D) (state : State) (s : StandsAt bytes options p t state) where
-    -- the state is the one that waits: what `push` and `flush` ask of it
+    -- the state is the one that waits: what `push` and `flush` require of it
     pub stands-holds : HoldsOf (rules t.machine t.given) t state
     stands-holds = s.held [] tt
 
-    -- a gap that leads on from the place fits: what `define_skip` asks
+    -- a gap that begins at the place fits: what `define_skip` requires
     pub stands-gap : (w : Point) → IsGapFrom options.tab_size bytes p w → FitsAfter t.given t.text (passed w)
     stands-gap w gap =
         let e = s.given in
         let leads = subst (λ (x : Point). (denotes_same options.tab_size bytes w x ≡ true) ⊎ ((x.column ≡ 1) × (w.line ≡ x.line) × (stands_before x w ≡ true))) (sym s.end) gap.leads in
         rw e (found-place options.tab_size bytes (w.index, w.vs) w gap.at, leads)
 
-    -- after `define_skip` the tokenizer stands where the gap leads
+    -- after `define_skip` the tokenizer is where the gap ends
     pub stands-passed : (w : Point) → IsGapFrom options.tab_size bytes p w → (u : TokenizerValue M R D) → u ≡ extended t (followed_by t.given t.text (passed w)) → StandsAt bytes options (after_gap options.tab_size bytes p w) u state
     stands-passed w gap u e =
         let fits = stands-gap w gap in
@@ -70,14 +70,14 @@ module _ {M R D : Type 0} (rules : M → Given → Rules R D) where
         rw e (record { given = s.given; end = end; held = λ rest can. s.held (passed w ∷ rest) (fits, can) })
 
     module _ (from to : ℕ × ℕ) (r : IsRangeFrom options.tab_size bytes p from to) where
-      -- a range that begins at the place fits: what `push` asks of it
+      -- a range that begins at the place fits: what `push` requires of it
       pub stands-range : CanPush t.given t.text from to
       stands-range =
           let e = s.given in
           let same = subst (λ (x : Point). denotes_same options.tab_size bytes r.first x ≡ true) (sym s.end) r.begins in
           rw e (r.first, r.last, r.from_is, r.to_is, (found-place options.tab_size bytes from r.first r.from_is, found-place options.tab_size bytes to r.last r.to_is, same, r.upto))
 
-      -- after `push` the tokenizer stands at the range's end
+      -- after `push` the tokenizer is at the range's end
       pub stands-pushed : (u : TokenizerValue M R D) (answer : State) → IsPushed (rules t.machine t.given) t from to state u answer → StandsAt bytes options r.last u answer
       stands-pushed u answer h =
           let first_here = subst (λ (x : Given). point_at x.tab x.bytes from ≡ Some r.first) (sym s.given) r.from_is in
@@ -114,7 +114,7 @@ module _ {M R D : Type 0} (rules : M → Given → Rules R D) where
     follow = subst (λ (xs : List AfterGap). FollowOn options.tab_size bytes r.place xs) (drop_more ranges n d lt) r.follow;
   }
 
-  -- the state is the one that waits: what `push` and `flush` ask of it
+  -- the state is the one that waits: what `push` and `flush` require of it
   pub ranges-holds : (bytes : List ℕ) (options : ParseOptions) (ranges : List AfterGap) (t : TokenizerValue M R D) (state : State) → HasRanges bytes options ranges t state → HoldsOf (rules t.machine t.given) t state
   ranges-holds bytes options ranges t state r = stands-holds bytes options r.place t state r.stands
 
@@ -123,7 +123,7 @@ module _ {M R D : Type 0} (rules : M → Given → Rules R D) where
       → HasRanges bytes options (x ∷ ranges) t state → HasRanges bytes options ((gap, x.1, x.2) ∷ ranges) t state
   with-gap bytes options (o, from, to) gap ranges t state e r = subst (λ (q : Option Point). HasRanges bytes options ((q, from, to) ∷ ranges) t state) e r
 
-  -- the gap in front of the next range fits: what `define_skip` asks
+  -- the gap before the next range fits: what `define_skip` requires
   pub ranges-gap : (bytes : List ℕ) (options : ParseOptions) (x : AfterGap) (w : Point) (ranges : List AfterGap) (t : TokenizerValue M R D) (state : State) → x.0 ≡ Some w
       → HasRanges bytes options (x ∷ ranges) t state → FitsAfter t.given t.text (passed w)
   ranges-gap bytes options x w ranges t state is r = let q = with-gap bytes options x (Some w) ranges t state is r in stands-gap bytes options q.place t state q.stands w q.follow.0
@@ -136,14 +136,14 @@ module _ {M R D : Type 0} (rules : M → Given → Rules R D) where
     follow = (tt, r.follow.1, r.follow.2);
   }
 
-  -- after `define_skip`, or with no gap to pass, the next range has none in front of it
+  -- after `define_skip`, or with no gap to pass, the next range has none before it
   pub ranges-passed : (bytes : List ℕ) (options : ParseOptions) (x : AfterGap) (ranges : List AfterGap) (t u : TokenizerValue M R D) (state : State) → HasRanges bytes options (x ∷ ranges) t state
       → ((w : Point) × (x.0 ≡ Some w) × (u ≡ extended t (followed_by t.given t.text (passed w)))) ⊎ ((x.0 ≡ None) × (u ≡ t)) → HasRanges bytes options ((None, x.1, x.2) ∷ ranges) u state
   ranges-passed bytes options x ranges t u state r (inl (w, is, e)) = over-gap bytes options w x.1 x.2 ranges t u state (with-gap bytes options x (Some w) ranges t state is r) e
   ranges-passed bytes options x ranges t u state r (inr (is, e)) = rw e (with-gap bytes options x None ranges t state is r)
 
   module _ (bytes : List ℕ) (options : ParseOptions) (from to : ℕ × ℕ) (ranges : List AfterGap) (t : TokenizerValue M R D) (state : State) (r : HasRanges bytes options ((None, from, to) ∷ ranges) t state) where
-    -- the next range fits: what `push` asks of it
+    -- the next range fits: what `push` requires of it
     pub ranges-range : CanPush t.given t.text from to
     ranges-range = stands-range bytes options r.place t state r.stands from to r.follow.1
 

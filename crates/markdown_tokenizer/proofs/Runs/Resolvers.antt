@@ -34,7 +34,7 @@ unfolding IsDistinct
 none-twice same = tt
 
 module _ {R : Type 0} (same : R → R → Bool) (laws : IsEquivalence same) where
-  -- a resolver that none of a list is, is none of it
+  -- a resolver that equals none of a list is not in it
   turned : (r : R) (rs : List R) → list_any (λ q. same q r) rs ≡ list_any (same r) rs
   turned r [] = refl
   turned r (q ∷ rs) = let e = laws.symm q r in let f = turned r rs in rw (e, f) refl

@@ -1,4 +1,4 @@
--- The work from the start to a turn: what stands at a call, and after it.
+-- The work from the start to a turn: what holds at a call, and after it.
 use Rattle.std.proofs.Common.{◌≡◌, ◌≢◌, ◌-◌, ◌<◌, Bool, false, refl, sym, ap, subst, ◌∙◌, arith}
 use Rattle.std.specs.declared.result.Result.TheVariants as result
 use Rattle.markdown_base.specs.declared.state.Name.{Name}
@@ -60,7 +60,7 @@ module _ {M R D : Type 0} (rules : M → Given → Rules R D) (laws : (m : M) (g
       kept-turn rules t.machine t.given (laws t.machine t.given) flush t u v a s n
       (text-worked t.given t u is k.same) (sym k.same.machine) (sym k.same.given) within called k
 
-  -- and it answered this
+  -- and it returned this
   pub kept-answer : (flush : Bool) (t u v : TokenizerValue M R D) (a s answer : State) (n : Name) → answer ≡ s → IsText t.given t.text → IsInText u
       → DidStep u v ((rules u.machine u.given).step (sight u.given u.text u.configuration) u.configuration n) answer → KeptFrom flush t a u (Retry n) → KeptFrom flush t a v s
   kept-answer flush t u v a s answer n e is within called k =
@@ -85,7 +85,7 @@ module _ {M R D : Type 0} (rules : M → Given → Rules R D) (laws : (m : M) (g
       (kept-calls rules t.machine t.given flush t w a (Retry next) (kept-next flush t v w a s next is k takes))
       (taken-calls flush (settled_to v e) w e.answer next takes ∙ ap (λ q. q.calls) called.became)
 
--- where the work ends
+-- the work ends
 pub stops-at : {M R D : Type 0} (flush : Bool) (u v : TokenizerValue M R D) (s answer : State)
     → (let e = settled_all u.configuration u.choices s in TakesUp flush (settled_to u e) v e.answer (result.Err answer)) → Stops flush v answer
 stops-at flush u v s answer takes =

@@ -1,4 +1,4 @@
--- A run over the whole document: where it begins and ends, and what it leads on to at each cut.
+-- A run over the whole document: how it begins and ends, and what holds at each cut.
 use Rattle.std.specs.List.{AllByRecursion}
 use Rattle.std.proofs.Common.{◌≡◌, ◌≢◌, ◌+◌, ◌≤◌, ◌<◌, ◌==◌, ◌-◌, ℕ, zero, suc, List, [], ◌∷◌, ◌++◌, Bool, true, false, cond, Some, length, ◌⊎◌, inl, inr, refl, sym, ap, ◌∙◌, arith, subst}
 use Rattle.std.specs.Prelude.{filter, find, slice_index, nat_lt, ◌&&◌, ◌||◌, drop, get_or, Contains, Result, IsErrAnd, IfErr, IfOk}
@@ -33,7 +33,7 @@ use Rattle.markdown_tokenizer.proofs.Positions.Standing.{end-place, place-of-poi
 use Rattle.markdown_tokenizer.proofs.Positions.Cursors.{upto-order, same-self, range-empty, range-extended}
 use Rattle.markdown_tokenizer.proofs.Runs.Working.{leads-trans, leads-refl, holds-on}
 
--- where a search comes to, among places of seats that it does not want
+-- a search goes on over places of seats that it does not want
 abbrev is_at : ℕ × ℕ → Point → Bool
 is_at place p = (p.index == place.0) && (p.vs == place.1)
 
@@ -89,7 +89,7 @@ rest-comes t wide bytes p true y e f v lt none =
 tab-comes : (t : ℕ) (wide : 0 < t) (bytes : List ℕ) (p : Point) → Bounds t bytes p → 0 < p.vs → rest_at t bytes p ≡ [] → ⊥
 tab-comes t wide bytes p b v none = some-seat t wide bytes p (32, p) (seat-in-tab t bytes p wide v (b.tab v)) none
 
--- where nothing is left, a place is at the end of the bytes
+-- if nothing is left at a place, it is at the end of the bytes
 nothing-left : (t : ℕ) (wide : 0 < t) (bytes : List ℕ) (p : Point) → Bounds t bytes p → rest_at t bytes p ≡ [] → (p.index ≡ length bytes) × (p.vs ≡ 0)
 nothing-left t wide bytes p b none =
     let flat : p.vs ≡ 0 = elim (cases_lt 0 p.vs) [ inl v ↦ absurd (tab-comes t wide bytes p b v none) | inr v ↦ omega arith ] in
@@ -201,7 +201,7 @@ pub ok-if : {T E : Type 0} (r : Result T E) (P Q : T → Type 0) → ((v : T) �
 ok-if (result.Ok v) P Q f h = f v h
 ok-if (result.Err e) P Q f h = tt
 
--- where a run stands, with which cuts to come
+-- the place of a run, and the cuts to come
 pub record Runs {M R D : Type 0} (bytes : List ℕ) (options : ParseOptions) (m : M) (rules : Rules R D) (start : Name) (from : ℕ × ℕ) (cuts : List (ℕ × ℕ)) (t : TokenizerValue M R D) (state : State) : Type 0 where
   pub same_given : t.given ≡ given_by bytes options
   pub wide : 0 < options.tab_size
@@ -369,7 +369,7 @@ module _ {M R D : Type 0} (rules : M → Given → Rules R D) where
         subst (λ (x : Text). EndsIn given (rules m given).step x 0 (start_configuration false) [] (Next start) q) run-whole
         (run-ends bytes options m start (length bytes, 0) [] t state r q e)
 
-    -- what holds of the tokenizer's machine, document and text holds of those of the run
+    -- what holds for the tokenizer's machine, document and text holds for the run's
     run-moved : (P : M → Given → Text → Type 0) → P t.machine t.given t.text → P m (given_by bytes options) (whole_text (given_by bytes options))
     run-moved P h =
         subst (λ (x : Text). P m (given_by bytes options) x) run-whole (subst (λ (x : Given). P m x t.text) r.same_given (subst (λ (x : M). P x t.given t.text) r.machine h))

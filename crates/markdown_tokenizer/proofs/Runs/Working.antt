@@ -96,7 +96,7 @@ module _ (text w : Text) (c : Continues text w) where
   before-same zero h = refl
   before-same (suc q) h = ap (λ (s : List Seat). slice_get s q) c.seats ∙ get-front text.seats c.more q (omega arith)
 
-  -- where no end waits, a state sees the same of both
+  -- if the end does not wait, a state sees the same of both
   sight-same : (given : Given) (p : ℕ) (waits : Waits) → p ≤ length text.seats → (waits ≡ Byte → p < length text.seats) → waits ≢ End
       → sight_in given w p waits ≡ sight_in given text p waits
   sight-same given p Nothing h b e =
@@ -184,7 +184,7 @@ module _ {M R D : Type 0} (given : Given) (rules : Rules R D) (laws : IsLawful g
       let e = settled_all (settled_at c.kind c.saved Nok k) cs c.nok in
       leads-trans given rules w now (settled now c cs Nok) (settled_to t e) Nok c.nok e.answer first (leads-settled w is t (settled_at c.kind c.saved Nok k) cs c.nok first.kept)
 
--- where the reading ends no choice is left
+-- if the reading ends, no choice is left
 pub settled-ends : {R D : Type 0} (k : Configuration R D) (cs : List Choice) (s : State) → IsSome (answer_in (settled_all k cs s).answer) → (settled_all k cs s).choices ≡ []
 settled-ends k cs (Next name) h = absurd cc
 settled-ends k cs (Retry name) h = absurd cc
@@ -237,7 +237,7 @@ settled-message t s m e = rw e (refl, refl)
 fed-byte : {R D : Type 0} (text : Text) (k : Configuration R D) → k.position < length text.seats → (fed text k).waiting ≡ End → Byte ≡ End
 fed-byte text k h e = let lt = lt-ltb k.position (length text.seats) h in rw lt at e
 
--- a text followed by more is fed and seen like the text alone, where no end is fed, and else nothing follows
+-- if the end is not fed, a text followed by more is fed and seen like the text itself; if it is, nothing follows
 fed-agrees : {R D : Type 0} (given : Given) (text : Text) (rest : List Piece) (flush : Bool) (k : Configuration R D)
     → (flush ≡ true → rest ≡ []) → (flush ≡ false → k.position < length text.seats) → fed (followed_by_all given text rest) k ≡ fed text k
 fed-agrees given text rest true k only more = rw (only refl) refl
@@ -315,7 +315,7 @@ module _ {M R D : Type 0} (rules : M → Given → Rules R D) where
   abbrev pub LeadsBy : M → Given → Text → TokenizerValue M R D → State → TokenizerValue M R D → State → Type 0
   LeadsBy m given = LeadsOn given (rules m given)
 
-  -- what a change of choices alone leads on to, on each text
+  -- what a change of only the choices leads on to, on each text
   abbrev pub LeadsFor : M → Given → TokenizerValue M R D → State → TokenizerValue M R D → State → Type 0
   LeadsFor m given u s v next = (w : Text) → IsText given w → (rules m given).holds w u.configuration u.choices s → LeadsBy m given w u s v next
 
@@ -327,7 +327,7 @@ module _ {M R D : Type 0} (rules : M → Given → Rules R D) where
       → let e = settled_all t.configuration t.choices s in LeadsFor m given t s (settled_to t e) e.answer
   leads-for-settled m given laws t s w is h = leads-settled given (rules m given) laws w is t t.configuration t.choices s h
 
-  -- where the reading ends no span is open
+  -- if the reading ends, no span is open
   pub settled-closes : (m : M) (given : Given) → LawsBy m given → (t : TokenizerValue M R D) (s : State) → IsText given t.text → (rules m given).holds t.text t.configuration t.choices s
       → EndsClosed (settled_all t.configuration t.choices s)
   settled-closes m given laws t s is h some =
@@ -404,7 +404,7 @@ module _ {M R D : Type 0} (rules : M → Given → Rules R D) where
       let paid' = rw e at paid in
       omega (arith, paid')
 
--- where the work ends
+-- the work ends
 pub stops-there : {M R D : Type 0} (flush : Bool) (u v : TokenizerValue M R D) (s answer : State) → (IsSome (answer_in s) → u.choices ≡ []) → TakesUp flush u v s (result.Err answer) → Stops flush v answer
 stops-there flush u v (Next n) answer none h = rw (h.0, h.1) (h.2, h.3)
 stops-there flush u v (Retry n) answer none h = absurd h
@@ -422,7 +422,7 @@ taken-calls flush u v Ok n h = absurd h
 taken-calls flush u v Nok n h = absurd h
 taken-calls flush u v (Error e) n h = absurd h
 
--- a text stands where only work was done
+-- the text stays if only work was done
 pub text-worked : {M R D : Type 0} (given : Given) (t u : TokenizerValue M R D) → IsText given t.text → OnlyWorked t u → IsText given u.text
 text-worked given t u is only = subst (λ (q : Text). IsText given q) (sym only.text) is
 

@@ -1,4 +1,4 @@
-//! Why a push or a flush failed: how that is made of a refused allocation, and shown.
+//! Why a push or a flush failed, how an `AllocError` becomes a fault, and how a fault is shown.
 
 ghost use Rattle.std.specs.Prelude.{◌≡◌, Some};
 ghost use Rattle.markdown_tokenizer.specs.Fault.{fault_text};
@@ -11,9 +11,9 @@ use std::fmt;
 /// Why a push or a flush failed. Each is shown as one line.
 #[derive(Debug, Drop)]
 pub enum Fault {
-    /// Memory was refused; the tokenizer has failed.
+    /// It ran out of memory; the tokenizer has failed.
     Memory,
-    /// The tokenizer had failed, or was flushed, before; nothing changed.
+    /// The tokenizer had failed or was flushed before this call; nothing changed.
     Failed,
     /// The document is refused, with this message; the tokenizer has failed.
     Message(Message),
@@ -22,6 +22,7 @@ pub enum Fault {
 impl fmt::Display for Fault {
     ghost output = { λ fault. Some (fault_text fault) };
 
+    /// Writes the fault as one line.
     fn fmt<W: fmt::Write>(&self, f: &mut fmt::Formatter<W>) -> fmt::Result {
         match self {
             Fault::Memory => write!(f, "out of memory"),
@@ -34,6 +35,7 @@ impl fmt::Display for Fault {
 impl From<AllocError> for Fault {
     ghost from_gives = { λ _ fault. fault ≡ Memory };
 
+    /// A failed allocation is `Memory`.
     fn from(_error: AllocError) -> Fault {
         Self::Memory
     }

@@ -29,7 +29,7 @@ impl<'a, M: MachineTypes> Tokenizer<'a, M> {
         self.stack.as_slice()
     }
 
-    /// The place of the byte that waits, of the text's end while that waits, and else the place after the byte before.
+    /// The place of the byte that waits; the text's end while that waits; else the place after the previous byte.
     pub fn point(&self) -> Point
         ensures { result ≡ (sight_of self.now).point }
     {
@@ -50,14 +50,14 @@ impl<'a, M: MachineTypes> Tokenizer<'a, M> {
         }
     }
 
-    /// The byte before, if one was read: a virtual byte. A byte that a gap passes is never there.
+    /// The previous virtual byte, if one was read. It is never a byte in a gap.
     pub fn previous(&self) -> Option<u8>
         ensures { result ≡ (sight_of self.now).previous }
     {
         self.previous
     }
 
-    /// The byte that waits, if one does: a virtual byte, so 10 for each line ending, and for a tab 9 and then 32.
+    /// The virtual byte that waits, if one does: 10 for each line ending, and for a tab 9 and then 32.
     pub fn current(&self) -> Option<u8>
         ensures { result ≡ (sight_of self.now).current }
     {

@@ -21,9 +21,10 @@ use std::alloc::AllocError;
 use std::mem::replace;
 
 impl<'a, M: MachineTypes> Tokenizer<'a, M> {
-    /// Registers a resolver behind those that are there. One that is there stays where it is.
+    /// Registers a resolver, after the ones that are there. The list never has duplicates: a resolver that is already
+    /// there keeps its position.
     ///
-    /// A flush that resolves runs those that are registered once all was read. Where memory is refused, nothing changes.
+    /// A flush that resolves runs the registered resolvers once all was read. If it runs out of memory, nothing changes.
     pub fn register_resolver(&mut self, name: M::Resolver) -> Result<(), AllocError>
         ensures ok { OnOk result (self.new ≡ with_resolver M.Resolver.eq name self.old) }
         ensures err { OnErr result (self.new ≡ self.old) }
@@ -35,7 +36,7 @@ impl<'a, M: MachineTypes> Tokenizer<'a, M> {
         Ok(())
     }
 
-    /// As `register_resolver`, in front of those that are there.
+    /// As `register_resolver`, but before the ones that are there.
     pub fn register_resolver_before(&mut self, name: M::Resolver) -> Result<(), AllocError>
         ensures ok { OnOk result (self.new ≡ with_resolver_before M.Resolver.eq name self.old) }
         ensures err { OnErr result (self.new ≡ self.old) }
@@ -57,7 +58,7 @@ impl<'a, M: MachineTypes> Tokenizer<'a, M> {
         replace(&mut self.resolvers, none)
     }
 
-    /// The edits that wait are made. Where memory is refused, nothing changes.
+    /// Makes the edits that wait. If it runs out of memory, nothing changes.
     fn make_edits(&mut self) -> Result<(), AllocError>
         requires resolving { self.old.phase ≡ Resolving }
         requires alone { self.old.choices ≡ [] }
@@ -80,7 +81,8 @@ impl<'a, M: MachineTypes> Tokenizer<'a, M> {
 impl<'a, M: MachineTypes> Tokenizer<'a, M> {
     ghost use Rattle.markdown_tokenizer.specs.Lent.{LendsEvents};
 
-    /// The events, for a resolver to change, while a flush resolves and no choice waits. Takes no memory.
+    /// The events, for a resolver to change. It is called only while a flush resolves and no choice waits. Takes no
+    /// memory.
     pub fn events_mut(&mut self) -> &mut Vec<Event>
         requires resolving { self.old.phase ≡ Resolving }
         requires alone { self.old.choices ≡ [] }
@@ -92,7 +94,7 @@ impl<'a, M: MachineTypes> Tokenizer<'a, M> {
 }
 
 impl<'a, M: Machine> Tokenizer<'a, M> {
-    /// One resolver goes over the events; what it finds comes behind what was found.
+    /// Runs one resolver over the events. The definitions that it finds come after `sub`.
     fn resolve_next(&mut self, name: M::Resolver, sub: Subresult) -> Result<Subresult, Fault>
         requires resolving { self.old.phase ≡ Resolving }
         requires alone { self.old.choices ≡ [] }
@@ -109,7 +111,7 @@ impl<'a, M: Machine> Tokenizer<'a, M> {
         }
     }
 
-    /// Resolvers go over the events, in order, and the edits that wait are made.
+    /// Runs resolvers over the events, in order, and makes the edits that wait.
     fn resolve_each(&mut self, names: &[M::Resolver], sub: Subresult) -> Result<Subresult, Fault>
         requires text { IsText self.old.given self.old.text }
         requires resolving { self.old.phase ≡ Resolving }

@@ -1,4 +1,4 @@
-//! The work of a tokenizer: states are called until a range is used up, or until the reading has ended.
+//! The work of a tokenizer: it calls states until a range is used up, or until the reading has ended.
 
 ghost use Rattle.std.specs.Prelude.{◌≡◌, ◌≢◌, ◌≤◌, ◌<◌, Contains, length, [], Option, false, true, IfOk, IfErr, IsErrOf, IsTrue};
 ghost use Rattle.std.specs.Bool.{OnTrue, OnFalse};
@@ -25,12 +25,14 @@ use markdown_base::owned::Items;
 use std::alloc::{AllocError, Global};
 use std::mem::replace;
 
-/// Reads a whole document, cut at these places: pushes one range up to each, and one up to the end, and flushes.
+/// Reads a whole document, cut at these places: pushes a range up to each cut, and one up to the end, and flushes.
 ///
-/// `start` is a state with which the machine may start. The cuts are places, each an index and a number in a tab, in an
-/// order that never decreases. Where `resolve` is true, the registered resolvers then go over the events, as in a flush. The
-/// answer has no trace of the cuts. `Message` is answered exactly where the reading, or a resolver, ends in that message;
-/// `Failed` never.
+/// `start` is a state with which the machine may start. The cuts are places, each a byte index and a number in a tab, in an
+/// order that never decreases. If `resolve` is true, the registered resolvers then run over the events, as in a flush. The
+/// result does not depend on the cuts.
+///
+/// Returns `Message` exactly if the reading, or a resolver, ends in that message. Returns `Memory` if it runs out of memory,
+/// and never `Failed`.
 pub fn run<M: Machine>(
     alloc: Global,
     parse_state: &ParseState<M>,
@@ -52,8 +54,8 @@ pub fn run<M: Machine>(
 
 /// Pushes one range up to each cut, and one up to the end, to a tokenizer that has read nothing, and flushes it.
 ///
-/// It is apart from [`run`], which owns the tokenizer: what owns one drops all of its fields at each way out, and each drop is
-/// followed in the proof. So `run` has one way out, and the ways out by `?` are here.
+/// The early returns by `?` are here and not in [`run`]. `run` owns the tokenizer: each of its returns drops all fields, and
+/// the proof follows every drop.
 fn read_cut<M: Machine>(
     tokenizer: &mut Tokenizer<M>,
     parse_state: &ParseState<M>,
@@ -81,7 +83,7 @@ fn read_cut<M: Machine>(
 }
 
 impl<'a, M: MachineTypes> Tokenizer<'a, M> {
-    /// The next byte waits, if there is one.
+    /// Feeds the next byte of the text. Returns whether there is one.
     fn feed(&mut self) -> bool
         ensures fed { OnTrue result (self.new ≡ at_configuration self.old (fed self.old.text self.old.configuration)) }
         ensures more { OnTrue result (self.old.configuration.position < length self.old.text.seats) }
@@ -99,7 +101,7 @@ impl<'a, M: MachineTypes> Tokenizer<'a, M> {
         }
     }
 
-    /// The end waits.
+    /// Feeds the end.
     fn feed_end(&mut self)
         requires read { length self.old.text.seats ≤ self.old.configuration.position }
         requires closed { self.old.closed ≡ true }
@@ -110,7 +112,7 @@ impl<'a, M: MachineTypes> Tokenizer<'a, M> {
         self.ended = true;
     }
 
-    /// The next byte waits; or the end, where there is none and this is a flush. Returns whether one of them does.
+    /// Feeds the next byte; or the end, if there is none and this is a flush. Returns whether it fed one of them.
     #[inline(always)]
     fn feed_next(&mut self, flush: bool) -> bool
         requires closed { self.old.closed ≡ flush }
@@ -125,10 +127,10 @@ impl<'a, M: MachineTypes> Tokenizer<'a, M> {
         flush
     }
 
-    /// Choices end, the last first, until one goes on with a state, which is fed; or none is left, and then no span is open.
-    /// If the work ends, its answer is returned.
+    /// Ends choices, the last first, until one goes on with a state, which is fed. If no choice is left, no span is open. If
+    /// the work ends, returns the state in which it ends.
     ///
-    /// This is one step. Between its parts an enter could be put before an event that is there.
+    /// This must be one step: between its parts an enter could be put before an event that is there.
     #[inline(never)]
     fn go_on(&mut self, flush: bool, ok: bool) -> Result<Name, GoesOn>
         requires closed { self.old.closed ≡ flush }
@@ -184,21 +186,21 @@ impl<'a, M: MachineTypes> Tokenizer<'a, M> {
         let _ = &self.after_previous;
     }
 
-    /// Where no span is open, the events are well formed, until a flush resolves.
+    /// If no span is open, the events are well formed, until a flush resolves.
     fn shows_events(&self)
         ensures { let t = self.now in t.phase ≡ Phase.Reading → t.configuration.stack ≡ [] → IsWellFormed t.given.bytes t.configuration }
     {
         let _ = &self.after_previous;
     }
 
-    /// Nothing more is pushed.
+    /// From now on nothing more can be pushed.
     fn close(&mut self)
         ensures { self.new ≡ record self.old { closed = true } }
     {
         self.closed = true;
     }
 
-    /// Whether nothing more is pushed.
+    /// Whether nothing more can be pushed.
     fn is_closed(&self) -> bool
         ensures { result ≡ self.now.closed }
     {
@@ -210,7 +212,7 @@ impl<'a, M: MachineTypes> Tokenizer<'a, M> {
         *self.events.allocator()
     }
 
-    /// The text ends later.
+    /// Puts a range at the end of the text.
     fn extend(&mut self, from: (usize, usize), to: (usize, usize))
         requires range { CanPush self.old.given self.old.text from to }
         requires open_still { self.old.closed ≡ false }
@@ -220,7 +222,7 @@ impl<'a, M: MachineTypes> Tokenizer<'a, M> {
         self.end = to;
     }
 
-    /// The definitions that states found are taken out. Takes no memory.
+    /// Takes out the definitions that states found. Takes no memory.
     fn take_definitions(&mut self) -> Subresult
         ensures answer { result ≡ found self.old.configuration }
         ensures rest { self.new ≡ at_configuration self.old (taken self.old.configuration) }
@@ -238,18 +240,19 @@ impl<'a, M: MachineTypes> Tokenizer<'a, M> {
         }
     }
 
-    /// The events, and no tokenizer any more. Takes no memory.
+    /// The events; the tokenizer is dropped. Takes no memory.
     pub fn into_events(self) -> Vec<Event>
         ensures { result.items ≡ self.entry.configuration.events }
     {
         let mut tokenizer = self;
         let events = tokenizer.take_events();
-        // As a whole and by a call: taken apart, each of its fields is followed through the proof.
+        // Dropped as a whole, by a call: else the proof follows each of its fields.
         drop(tokenizer);
         events
     }
 
-    /// The events are taken out: a tokenizer is left that has none, and so neither open spans nor choices. Takes no memory.
+    /// Takes out the events. The tokenizer that is left has no events, and so neither open spans nor choices. Takes no
+    /// memory.
     fn take_events(&mut self) -> Vec<Event>
         ensures { result.items ≡ self.old.configuration.events }
     {
@@ -261,7 +264,8 @@ impl<'a, M: MachineTypes> Tokenizer<'a, M> {
 }
 
 impl<'a, M: Machine> Tokenizer<'a, M> {
-    /// Feeds the state that is called next and returns its name. Returns `None` if the work ends; then `state` is its answer.
+    /// Feeds the state that is called next, and returns its name. Returns `None` if the work ends; then `state` is the state
+    /// in which it ends.
     #[inline(always)]
     fn next_call(&mut self, flush: bool, state: &mut State) -> Option<Name>
         requires closed { self.old.closed ≡ flush }
@@ -291,7 +295,7 @@ impl<'a, M: Machine> Tokenizer<'a, M> {
         }
     }
 
-    /// One state is called.
+    /// Calls one state.
     fn call_state(&mut self, name: Name) -> Result<State, AllocError>
         requires reading { self.old.phase ≡ Phase.Reading }
         requires waits { self.old.configuration.waiting ≢ Nothing }
@@ -302,7 +306,7 @@ impl<'a, M: Machine> Tokenizer<'a, M> {
         self.parse_state().machine.call(alloc, self, name)
     }
 
-    /// States are called until the text is used up, or until the reading has ended.
+    /// Calls states until the text is used up, or until the reading has ended.
     fn run_states(&mut self, flush: bool, state: State) -> Result<State, AllocError>
         requires text { IsText self.old.given self.old.text }
         requires holds { HoldsAll (M.rules self.old.machine self.old.given) flush self.old state }
@@ -319,11 +323,12 @@ impl<'a, M: Machine> Tokenizer<'a, M> {
             Some(name) => name,
             None => return Ok(state),
         };
-        // By a call: dropped in place, its fields are spelled out in the proof at each way out.
+        // By a call: dropped in place, its fields are in the proof at each return.
         drop(state);
         loop {
             self.shows_in_text();
-            // Each answer is known where it is made. Put together again, or looked at through a reference, it would stand in memory.
+            // Each variant is made again where it is known. A state that is joined again, or read through a reference, would be kept
+            // in memory.
             let answer = match self.call_state(name) {
                 Ok(answer) => answer,
                 Err(error) => return Err(error),
@@ -352,10 +357,12 @@ impl<'a, M: Machine> Tokenizer<'a, M> {
 
     /// Puts a range of the document at the end of the text, and reads until it is used up.
     ///
-    /// `from` and `to` are places, each an index and a number in a tab. `from` denotes the text's end, and `to` is not before it.
-    /// The state is one with which the machine may start, or what the last push answered. The answer is the state that
-    /// waits for the next byte, or a message, which later pushes answer again. After `Memory` the tokenizer has failed;
-    /// `Failed` is answered where it had before, or was flushed, and then nothing changes.
+    /// `from` and `to` are places, each a byte index and a number in a tab. `from` denotes the text's end, and `to` is not before
+    /// it. `state` is one with which the machine may start, or what the last push returned. Returns the state that waits for the
+    /// next byte, or `State::Error` with a message, which later pushes return again.
+    ///
+    /// If it runs out of memory, it returns `Memory`, and the tokenizer has failed. It returns `Failed` if the tokenizer had
+    /// failed, or was flushed, before; then nothing changes.
     pub fn push(
         &mut self,
         from: (usize, usize),
@@ -388,11 +395,14 @@ impl<'a, M: Machine> Tokenizer<'a, M> {
 
     /// Feeds the end, and reads until the reading has ended.
     ///
-    /// The state is as for `push`. What is answered are the definitions that states found; `done` is false. Where `resolve` is
-    /// true, the resolvers that are registered then are taken out and go over the events, in order, the definitions that they
-    /// find are answered too, and the edits of `map` are made. One that is registered meanwhile stays registered, and is not
-    /// run. `Message` is answered exactly where the reading, or a resolver, ends in that message. Afterwards, in each case,
-    /// nothing more is pushed or flushed.
+    /// `state` is as for `push`. Returns the definitions that states found, with `done` false.
+    ///
+    /// If `resolve` is true, the registered resolvers are then taken out and run over the events, in order. The definitions
+    /// that they find are returned too, and the edits of `map` are made. A resolver that is registered meanwhile stays
+    /// registered, and is not run.
+    ///
+    /// Returns `Message` exactly if the reading, or a resolver, ends in that message. Returns `Memory` if it runs out of
+    /// memory, and `Failed` as `push` does. After any of these, nothing more can be pushed or flushed.
     pub fn flush(&mut self, state: State, resolve: bool) -> Result<Subresult, Fault>
         requires holds { self.old.closed ≡ false → HoldsOf (M.rules self.old.machine self.old.given) self.old state }
         ensures failed { IsTrue self.old.closed → IsErrOf result Fault.Failed × (self.new ≡ self.old) }
@@ -424,7 +434,8 @@ impl<'a, M: Machine> Tokenizer<'a, M> {
                 State::Retry(_) => unreachable!(),
             },
             Err(_) => {
-                // Once more: a state has the whole tokenizer in its hands, and could have put an open one in its place.
+                // Closed once more: a state has a `&mut` to the whole tokenizer, and could have put an open one in its
+                // place.
                 self.close();
                 Err(Fault::Memory)
             }

@@ -68,7 +68,7 @@ pub struct Label {
 /// What states share. Each state may read and write it; a choice that goes back leaves it as it is.
 #[derive(Drop)]
 pub struct TokenizeState<D: Drop> {
-    /// What the machine keeps of the document.
+    /// What the machine keeps about the document.
     pub document: Option<D>,
     /// The state at which the document's content goes on.
     pub document_child_state: Option<State>,
@@ -94,9 +94,9 @@ pub struct TokenizeState<D: Drop> {
     pub space_or_tab_connect: bool,
     /// What white space is read as, once more.
     pub space_or_tab_content: Option<Content>,
-    /// At least so many virtual columns of white space.
+    /// White space must have at least this many virtual columns.
     pub space_or_tab_min: usize,
-    /// At most so many virtual columns of white space.
+    /// White space may have at most this many virtual columns.
     pub space_or_tab_max: usize,
     /// How many virtual columns of white space there are.
     pub space_or_tab_size: usize,
@@ -116,9 +116,9 @@ pub struct TokenizeState<D: Drop> {
     pub connect: bool,
     /// A marker, as a byte, of the construct that is being read.
     pub marker: u8,
-    /// Another marker of it.
+    /// Another marker of the construct.
     pub marker_b: u8,
-    /// The markers of which it may consist.
+    /// The markers that the construct may have.
     pub markers: StaticBytes,
     /// Whether the construct that is being read has what it needs.
     pub seen: bool,
@@ -128,9 +128,9 @@ pub struct TokenizeState<D: Drop> {
     pub size_b: usize,
     /// Third slot for a size.
     pub size_c: usize,
-    /// Where it starts: an index into the events or the bytes, as it needs.
+    /// Where the construct starts: an index into the events or the bytes, as the machine decides.
     pub start: usize,
-    /// Where it ends: an index into the events or the bytes, as it needs.
+    /// Where the construct ends: an index into the events or the bytes, as the machine decides.
     pub end: usize,
     /// First slot for an event name; a machine gives it its meaning.
     pub token_1: Name,

@@ -7,7 +7,7 @@ use Rattle.markdown_tokenizer.proofs.Positions.Standing.{end-of-pair, end-of-lin
 use Rattle.markdown_tokenizer.proofs.cursor.pass.Goals as goal
 use Rattle.markdown_tokenizer.proofs.cursor.pass.Goals.{else-point-eq0-via-then-point-eq0+else-byte-eq10, else-point-eq0-via-else-point-eq0}
 
--- in a tab stands a space, and no line ending
+-- the virtual bytes in a tab are spaces, and no line endings
 space-in-tab : (t : ℕ) (bytes : List ℕ) (p : Point) (seat : Seat) → 0 < t → IsPlace t bytes p → IsSeatAt t bytes p seat → p.vs ≢ 0 → seat.byte ≢ 10
 space-in-tab t bytes p seat some place n h e =
     let inside : 0 < p.vs = omega (arith, h) in

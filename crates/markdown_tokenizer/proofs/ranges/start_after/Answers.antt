@@ -5,7 +5,7 @@ use Rattle.markdown_tokenizer.proofs.Positions.Cursors.{same-self}
 use Rattle.markdown_tokenizer.specs.Ranges.{after_gap}
 use Rattle.markdown_tokenizer.proofs.ranges.start_after.Goals as goal
 
--- a gap that leads to the same byte leaves the text's end as it is
+-- a gap that ends at the same byte leaves the text's end as it is
 either : (t : ℕ) (bytes : List ℕ) (p w : Point) (b : Bool) → denotes_same t bytes w p ≡ b → denotes_same t bytes w (cond b p w) ≡ true
 either t bytes p w true e = e
 either t bytes p w false e = same-self t bytes w

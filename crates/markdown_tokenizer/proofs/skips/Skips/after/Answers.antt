@@ -8,7 +8,7 @@ use Rattle.markdown_tokenizer.specs.Gaps.{skip_of, AreSorted}
 use Rattle.markdown_tokenizer.proofs.Positions.Skips.{IsNonDecreasingBy-lines, found, found-by, found-there, found-other, or-else, or-found, nothing-there, something-there}
 use Rattle.markdown_tokenizer.proofs.skips.Skips.after.Goals as goal
 
--- the places in earlier lines stand in front of the others
+-- the places in earlier lines come before the others
 abbrev IsParted : List Point → ℕ → ℕ → Type 0
 IsParted xs line i = IsPartitionPoint (λ (p : Point). ltb p.line line ≡ true) (λ (p : Point). ltb p.line line ≡ false) xs i
 
