@@ -1,4 +1,4 @@
--- Inner: where each byte of a document begins, to tell its places. No public contract speaks of it.
+-- Inner: where each byte of a document begins. No public contract cites this file.
 use Rattle.std.specs.Prelude.{ℕ, zero, suc, ◌+◌, ◌-◌, ◌==◌, nat_le, nat_lt, ◌&&◌, Bool, false, cond, List, Option, None, Some, map, length, slice_index}
 use Rattle.std.specs.List.{range_with_len}
 use Rattle.markdown_base.specs.declared.event.Point.{Point}
@@ -7,11 +7,11 @@ use Rattle.markdown_base.specs.Lines.{is_lf, ends_line}
 use Rattle.markdown_base.specs.Places.{follows_cr}
 use Rattle.markdown_children.specs.declared.byte_starts.ByteStart.{ByteStart}
 
--- how many places of the byte at an index are shown: a tab has one a column, and the LF of a CR LF none
+-- how many places of the byte at an index are shown: one for each column of a tab, none for the LF of a CR LF, else one
 abbrev pub width_at : (t : ℕ) → List ℕ → (column i : ℕ) → ℕ
 width_at t bytes column i = cond (slice_index bytes i == 9) (tab_width t column) (cond (is_lf bytes i && follows_cr bytes i) 0 1)
 
--- line and column after the byte at an index, which has these: of a CR LF they move on after the LF
+-- line and column after the byte at an index, from its own; for a CR LF they move on after the LF
 abbrev pub line_after : List ℕ → (line i : ℕ) → ℕ
 line_after bytes line i = cond (ends_line bytes i) (suc line) line
 
@@ -45,7 +45,7 @@ abbrev pub is_of_byte : Point → ByteStart → Bool
 is_of_byte p start = ((start.line == p.line) && nat_le start.column p.column)
     && ((p.column - start.column == p.vs) && nat_lt p.vs start.width)
 
--- the same, for an index that may lie behind the end
+-- the same, for an index that may be past the end
 abbrev pub is_of_some_byte : Point → Option ByteStart → Bool
 is_of_some_byte p None = false
 is_of_some_byte p (Some start) = is_of_byte p start

@@ -1,7 +1,7 @@
 -- Chains: the enters of some void spans of a list of events, joined by links.
 --
--- A linked enter and the exit behind it are a chunk, which is named by the enter's index. The text of a chain's chunks
--- together is content of its own (the crate's comments on `subtokenize`).
+-- A linked enter and the exit after it are a chunk. The enter's index names it. The joined text of a chain's chunks is content of its own
+-- (the crate's comments on `subtokenize`).
 use Rattle.std.specs.Prelude.{ℕ, zero, suc, Bool, true, false, ◌&&◌, List, [], ◌∷◌, length, filter, Option, Some, None, option_map, unwrap_or, is_none}
 use Rattle.std.specs.List.{range_with_len}
 use denote.Enum.Bare.{sameb}
@@ -11,7 +11,7 @@ use Rattle.markdown_base.specs.declared.event.Event.{Event}
 pub use Rattle.markdown_edits.specs.Links.{content_at}
 use Rattle.markdown_edits.specs.Links.{next_of, previous_of}
 
--- no filter lets each content through, and a filter its own
+-- a filter lets its own content through; no filter lets each content through
 abbrev pub lets_through : Option Content → Content → Bool
 lets_through None c = true
 lets_through (Some wanted) c = sameb the_type wanted c
@@ -42,6 +42,6 @@ chain_of events i = chain_from (length events) events i
 abbrev pub fitting_chunks : Option Content → List Event → List ℕ
 fitting_chunks wanted events = filter (fits wanted events) (range_with_len 0 (length events))
 
--- where the chains that fit begin, in order
+-- the first chunks of the chains that fit, in order
 abbrev pub fitting_starts : Option Content → List Event → List ℕ
 fitting_starts wanted events = filter (begins wanted events) (range_with_len 0 (length events))

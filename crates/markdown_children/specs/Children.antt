@@ -6,12 +6,12 @@ use Rattle.markdown_edits.specs.Woven.{of_child, Tagged, Change, changed}
 use Rattle.markdown_children.specs.Chains.{fitting_starts}
 use Rattle.markdown_children.specs.Parts.{Divided, divided_over}
 
--- the events from the j-th on of the child of the chain that begins at c
+-- the events of a child from the j-th on; its chain begins at c
 abbrev pub tagged_child : ℕ → ℕ → List Event → List Tagged
 tagged_child c j [] = []
 tagged_child c j (e ∷ es) = record { identity = of_child c j; event = e } ∷ tagged_child c (j + 1) es
 
--- each chunk's two events go, and its part comes
+-- each chunk's two events are removed, and its part is added
 abbrev pub part_changes : ℕ → ℕ → List ℕ → List (List Event) → List Change
 part_changes c j [] ps = []
 part_changes c j (k ∷ ks) [] = []
@@ -25,11 +25,11 @@ first_chunk (c ∷ cs) = c
 abbrev pub chain_changes : Divided → List Change
 chain_changes d = part_changes (first_chunk d.chunks) 0 d.chunks d.parts
 
--- what children of the chains that fit change, where each chunk gives way to its part
+-- the changes that children of the chains that fit make: each chunk is replaced by its part
 abbrev pub child_changes : Option Content → List Event → List (List Event) → List Change
 child_changes wanted events children = flat_map chain_changes (divided_over events (fitting_starts wanted events) children)
 
--- the list with each chunk of the chains that fit replaced by its part, all chains at once. Events are told by their identities,
--- those of the list and of the children together
+-- the list with each chunk of the chains that fit replaced by its part, all chains at once. Events of the list and of the children have
+-- identities (`Identity`)
 abbrev pub with_children : Option Content → List Event → List (List Event) → List Event
 with_children wanted events children = changed (child_changes wanted events children) events

@@ -32,8 +32,8 @@ use Rattle.markdown_children.specs.Ready.{place_at}
 use Rattle.markdown_children.specs.Laws.{NoneTorn}
 use Rattle.markdown_children.specs.Children.{first_chunk, child_changes, with_children}
 
--- the event at an index is the first paragraph of a list item: task list items are on, the paragraph is entered directly before, and what
--- stands in front of that, but for blank lines, definitions and white space, is the prefix of a list item
+-- the event at an index is the first paragraph of a list item: task list items are on, and the paragraph is entered directly before; before
+-- that, not counting blank lines, definitions and white space, is the prefix of a list item
 pub record IsAtFirstParagraph (events : List Event) (index : ℕ) (constructs : Constructs) : Type 0 where
   pub on : constructs.gfm_task_list_item ≡ true
   pub above : 2 < index
@@ -42,7 +42,7 @@ pub record IsAtFirstParagraph (events : List Event) (index : ℕ) (constructs : 
   pub run : IsLongestRunTo (BlankLineEnding ∷ Definition ∷ LineEnding ∷ SpaceOrTab ∷ []) events (index - 2) start
   pub item : IsSomeAnd (slice_get events (start - 1)) (λ e. (e.kind ≡ Exit) × (e.name ≡ ListItemPrefix))
 
--- the state with which content is read; that of blocks is not read here
+-- the state with which content is read; Flow is not read here
 abbrev pub start_name : Content → Option Name
 start_name Flow = None
 start_name content.Content = Some ContentDefinitionBefore
@@ -52,7 +52,7 @@ start_name Text = Some TextStart
 abbrev pub start_at : List Event → ℕ → Option Name
 start_at events i = option_and_then start_name (content_at events i)
 
--- each chunk's range is pushed, and the gap in front of it passed
+-- each chunk's range is pushed, after the gap before it is passed
 abbrev pub pieces_behind : List Event → List ℕ → List Piece
 pieces_behind events [] = []
 pieces_behind events (k ∷ ks) = passed (place_at events k) ∷ pushed (place_at events k) (place_at events (k + 1)) ∷ pieces_behind events ks
@@ -73,18 +73,18 @@ text_from g events c = text_of_chain g events (chain_of events c)
 abbrev pub CanReadChain : Given → List Event → ℕ → Type 0
 CanReadChain g events c = CanFollow g (empty_text (place_at events c)) (pieces_of events (chain_of events c))
 
--- and so can those of each chain that fits, whatever the options
+-- the pieces of each chain that fits can be read, whatever the other options
 abbrev pub CanReadChains : (tab : ℕ) → List ℕ → Option Content → List Event → Type 0
 CanReadChains tab bytes wanted events =
     (options : ParseOptions) (c : ℕ) → begins wanted events c ≡ true
     → CanReadChain (record { bytes = bytes; options = options; tab = tab }) events c
 
--- What reading a chain gave
+-- The result of reading a chain
 pub record Child : Type 0 where
   pub events : List Event
   pub found : Subresult
 
--- the events of each
+-- the events of each child
 abbrev pub lists : List Child → List (List Event)
 lists children = map (λ (c : Child). c.events) children
 
@@ -98,8 +98,8 @@ module _ {R D : Type 0} (g : Given) (rules : Given → Rules R D) where
     pub ends : EndsIn g (rules g).step (text_from g events c) 0 (start_configuration flag) [] (Next start) r
     pub within : r.calls ≤ (rules g).cost (text_from g events c) (start_configuration flag) (Next start)
 
-  -- The child of the chain that begins at c: what resolvers make of its reading. The events are well formed before resolvers, and
-  -- balanced with their links in shape after them
+  -- The child of the chain that begins at c: what resolvers make of its reading. The events are well formed before resolvers, and in shape
+  -- (`IsInShape`) after them
   pub record IsChild (events : List Event) (c : ℕ) (child : Child) : Type 0 where
     pub result : Reading R D
     pub read : IsRead events c result
@@ -110,14 +110,14 @@ module _ {R D : Type 0} (g : Given) (rules : Given → Rules R D) where
     pub well_formed : IsWellFormed g.bytes result.configuration
     pub in_shape : IsInShape child.events
 
-  -- The chain that begins at c is refused with a message, in which its reading ends, or a resolver after it
+  -- The reading of the chain that begins at c, or a resolver after it, ends in this message
   pub record IsChildRefused (events : List Event) (c : ℕ) (m : Message) : Type 0 where
     pub result : Reading R D
     pub read : IsRead events c result
     pub message : (result.answer ≡ Error m)
         ⊎ ((result.answer ≡ Ok) × IsResolvingRefused (rules g).resolver g (text_from g events c) true result.configuration m)
 
-  -- why there is no child of the chain that begins at c: memory was refused, or the chain with a message
+  -- why the chain that begins at c has no child: it ran out of memory, or the chain was refused with a message
   abbrev pub IsChildFault : List Event → ℕ → Fault → Type 0
   IsChildFault events c Memory = Unit {0}
   IsChildFault events c Failed = ⊥
@@ -127,8 +127,8 @@ module _ {R D : Type 0} (g : Given) (rules : Given → Rules R D) where
   abbrev pub AreChildren : List Event → List ℕ → List Child → Type 0
   AreChildren events cs children = AllZip (IsChild events) cs children
 
-  -- What `subtokenize` leaves: the list with the children of all chains that fit. It is balanced, its links are in shape, and its void
-  -- spans are empty, where those of the old list and of the children are, and no chunks tear one
+  -- What `subtokenize` leaves: the list with the children of all chains that fit. It is balanced, and its links are in shape. Its void
+  -- spans are empty if they are in the old list and in the children, and no chunks tear one
   pub record IsSubtokenized (wanted : Option Content) (old new : List Event) (sub : Subresult) : Type 0 where
     pub children : List Child
     pub read : AreChildren old (fitting_starts wanted old) children
@@ -141,7 +141,7 @@ module _ {R D : Type 0} (g : Given) (rules : Given → Rules R D) where
     pub definitions : sub.definitions ≡ flat_map (λ (c : Child). c.found.definitions) children
     pub footnotes : sub.gfm_footnote_definitions ≡ flat_map (λ (c : Child). c.found.gfm_footnote_definitions) children
 
-  -- `subtokenize` is refused with a message: that of the first chain whose reading, or a resolver after it, ends in one
+  -- `subtokenize` returns a message: the first chain whose reading, or a resolver after it, ends in one has this message
   pub record IsSubtokenizeRefused (wanted : Option Content) (events : List Event) (m : Message) : Type 0 where
     pub front : List ℕ
     pub chain : ℕ
@@ -151,14 +151,13 @@ module _ {R D : Type 0} (g : Given) (rules : Given → Rules R D) where
     pub read : AreChildren events front children
     pub refused : IsChildRefused events chain m
 
-  -- why `subtokenize` fails: memory was refused, or a chain with a message
+  -- why `subtokenize` fails: it ran out of memory, or a chain was refused with a message
   abbrev pub IsSubtokenizeFault : Option Content → List Event → Fault → Type 0
   IsSubtokenizeFault wanted events Memory = Unit {0}
   IsSubtokenizeFault wanted events Failed = ⊥
   IsSubtokenizeFault wanted events (fault.Message m) = IsSubtokenizeRefused wanted events m
 
-  -- A list is given its children in one way: what is left of it, and what was found, is one; it is not refused too; and one message
-  -- refuses it
+  -- A list gets its children in one way: there is one new list with one result, or one message, and not both
   pub record HasOneAnswer (wanted : Option Content) (events : List Event) : Type 0 where
     pub list : (new other : List Event) (sub more : Subresult) → IsSubtokenized wanted events new sub
         → IsSubtokenized wanted events other more → (new ≡ other) × (sub ≡ more)
@@ -166,14 +165,14 @@ module _ {R D : Type 0} (g : Given) (rules : Given → Rules R D) where
         → IsSubtokenizeRefused wanted events m → ⊥
     pub message : (m n : Message) → IsSubtokenizeRefused wanted events m → IsSubtokenizeRefused wanted events n → m ≡ n
 
--- the chains that fit are read from start names among these
+-- the start names of the chains that fit are among these
 abbrev pub StartAmong : List Name → Option Content → List Event → Type 0
 StartAmong starts wanted events = (c : ℕ) (name : Name) → begins wanted events c ≡ true → start_at events c ≡ Some name
     → Contains starts name
 
--- The machine of a parse state reads its document; `rules` are those of the machines of its kind
+-- The machine of a parse state reads its document; `rules` are the rules of its type of machines
 module _ {M R D : Type 0} (rules : M → Given → Rules R D) (p : ParseState M) where
-  -- the chains that fit are read from start names of the machine
+  -- the machine may start with the start names of the chains that fit
   abbrev pub MayStart : Option Content → List Event → Type 0
   MayStart wanted events = StartAmong (rules p.machine.now (given_of p)).starts wanted events
 

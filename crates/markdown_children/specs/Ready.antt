@@ -12,7 +12,7 @@ pub use Rattle.markdown_edits.specs.Links.{IsChunk}
 use Rattle.markdown_edits.specs.Links.{next_of, AreMutual}
 use Rattle.markdown_children.specs.Chains.{content_at, fits}
 
--- where the event at an index stands
+-- the place of the event at an index
 abbrev pub place_at : List Event → ℕ → Point
 place_at events i = unwrap_or (option_map (λ (e : Event). e.point) (slice_get events i)) (point 1 1 0 0)
 
@@ -36,7 +36,7 @@ pub record IsGap (events : List Event) (k d : ℕ) : Type 0 where
   pub balanced : IsBalanced (between (k + 2) d events)
   pub no_link : (m : ℕ) → k + 2 ≤ m → m < d → content_at events m ≡ None
 
--- The chains of a list can be read where they fit the filter; tab stops stand at every t columns
+-- The chains of a list that fit the filter can be read; there is a tab stop at every t columns
 pub record IsReady (t : ℕ) (bytes : List ℕ) (wanted : Option Content) (events : List Event) : Type 0 where
   pub balanced : IsBalanced events
   pub chunks : (k : ℕ) (c : Content) → content_at events k ≡ Some c → IsChunk events k

@@ -1,4 +1,4 @@
--- Inner: whether a list is ready, told event by event. No public contract speaks of it.
+-- Inner: whether a list is ready, event by event. No public contract cites this file.
 use Rattle.std.specs.Prelude.{ℕ, ◌+◌, ◌<◌, ◌≡◌, ◌==◌, nat_le, nat_lt, ◌&&◌, ◌||◌, not, is_none, Bool, true, false, cond, List, [], ◌∷◌, Option, None, Some, option_and_then, slice_get}
 use Rattle.std.specs.List.{list_all, between}
 use denote.Enum.Bare.{sameb}
@@ -45,27 +45,27 @@ is_void_span (Some e) (Some f) = (sameb kinds e.kind Enter && is_void e.name) &&
 abbrev pub is_chunk : List Event → ℕ → Bool
 is_chunk events k = is_void_span (slice_get events k) (slice_get events (k + 1))
 
--- the link leads back to an event of this content
+-- the link's previous event is at this index, and its content is this one
 abbrev pub leads_back_to : ℕ → Content → Option Link → Bool
 leads_back_to k c None = false
 leads_back_to k c (Some l) = is_number l.previous k && sameb contents l.content c
 
--- where an event's link leads on to, a link leads back
+-- the next event, if there is one, links back
 abbrev pub is_joined_on : List Event → ℕ → Content → Option ℕ → Bool
 is_joined_on events k c None = true
 is_joined_on events k c (Some d) = nat_lt k d && leads_back_to k c (link_at events d)
 
--- the link leads on to an event
+-- the link's next event is at this index
 abbrev pub leads_on_to : ℕ → Option Link → Bool
 leads_on_to k None = false
 leads_on_to k (Some l) = is_number l.next k
 
--- where an event's link leads back to, a link leads on
+-- the previous event, if there is one, links on
 abbrev pub is_joined_back : List Event → ℕ → Option ℕ → Bool
 is_joined_back events k None = true
 is_joined_back events k (Some p) = leads_on_to k (link_at events p)
 
--- what is asked of an event with this link
+-- what is required of an event with this link
 abbrev pub is_sound : List Event → ℕ → Option Link → Bool
 is_sound events k None = true
 is_sound events k (Some l) = is_chunk events k && (is_joined_on events k l.content l.next && is_joined_back events k l.previous)
@@ -73,7 +73,7 @@ is_sound events k (Some l) = is_chunk events k && (is_joined_on events k l.conte
 abbrev pub is_sound_at : List Event → ℕ → Bool
 is_sound_at events k = is_sound events k (link_at events k)
 
--- two points are one
+-- two points are equal
 abbrev pub is_same_point : Point → Point → Bool
 is_same_point p q = ((p.line == q.line) && (p.column == q.column)) && ((p.index == q.index) && (p.vs == q.vs))
 
@@ -85,7 +85,7 @@ is_in_line p q = not (stands_before q p) && (is_same_point p q || ((p.column == 
 abbrev pub has_no_link : List Event → Bool
 has_no_link events = list_all (λ (e : Event). is_none e.link) events
 
--- between the chunk at k and the next one at d is a gap
+-- there is a gap between the chunk at k and the next one at d
 abbrev pub is_gap : List Event → ℕ → ℕ → Bool
 is_gap events k d =
     (nat_le (k + 2) d && is_in_line (place_at events (k + 1)) (place_at events d))
@@ -95,13 +95,13 @@ abbrev pub is_gap_on : List Event → ℕ → Option ℕ → Bool
 is_gap_on events k None = true
 is_gap_on events k (Some d) = is_gap events k d
 
--- the chunk has text, which does not run backwards, where a test tells the places of the document
+-- the chunk's text begins and ends at places that pass the test, and does not run backwards
 abbrev pub is_readable : (Point → Bool) → List Event → ℕ → Content → Bool
 is_readable place events k c =
     (not (sameb contents c Flow) && not (stands_before (place_at events (k + 1)) (place_at events k)))
     && (place (place_at events k) && place (place_at events (k + 1)))
 
--- what is asked of a chunk with this link
+-- what is required of a chunk with this link
 abbrev pub can_be_read : (Point → Bool) → Option Content → List Event → ℕ → Option Link → Bool
 can_be_read place wanted events k None = true
 can_be_read place wanted events k (Some l) =

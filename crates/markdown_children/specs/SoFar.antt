@@ -1,4 +1,4 @@
--- Inner: what the loop of `subtokenize` knows before it looks at the event at an index. No public contract speaks of it.
+-- Inner: what the loop of `subtokenize` knows before it looks at the event at an index. No public contract cites this file.
 use Rattle.std.specs.Prelude.{◌≡◌, ◌↔◌, ℕ, Bool, true, List, [], length, filter, flat_map, Option}
 use Rattle.std.specs.List.{range_with_len}
 use Rattle.markdown_base.specs.declared.event.Content.{Content}
@@ -12,12 +12,12 @@ use Rattle.markdown_children.specs.Chains.{begins}
 use Rattle.markdown_children.specs.Parts.{divided_over, all_edits}
 use Rattle.markdown_children.specs.Reads.{Child, lists, AreChildren}
 
--- where the chains that fit begin, below an index
+-- the first chunks of the chains that fit, below an index
 abbrev pub starts_below : Option Content → List Event → ℕ → List ℕ
 starts_below wanted events i = filter (begins wanted events) (range_with_len 0 i)
 
 module _ {R D : Type 0} (g : Given) (rules : Given → Rules R D) (wanted : Option Content) (events : List Event) where
-  -- the chains that begin below i were read; the map holds their edits, and the sums are those of the map
+  -- the chains that begin below i were read; the map holds their edits, and the sums are the map's
   pub record SoFar (i : ℕ) (es : List Edit) (sums : ℕ × ℕ) (sub : Subresult) : Type 0 where
     pub children : List Child
     pub read : AreChildren g rules events (starts_below wanted events i) children
@@ -28,11 +28,11 @@ module _ {R D : Type 0} (g : Given) (rules : Given → Rules R D) (wanted : Opti
     pub definitions : sub.definitions ≡ flat_map (λ (c : Child). c.found.definitions) children
     pub footnotes : sub.gfm_footnote_definitions ≡ flat_map (λ (c : Child). c.found.gfm_footnote_definitions) children
 
-  -- all chains were read: the map holds their edits, and this is what was found
+  -- all chains were read; the map holds their edits, and `sub` the definitions found
   abbrev pub HasGathered : List Edit → Subresult → Type 0
   HasGathered es sub = (sums : ℕ × ℕ) × SoFar (length events) es sums sub
 
--- a tokenizer that is told whether its text is in the first paragraph of a list item
+-- a tokenizer with the flag for the first paragraph of a list item set
 abbrev pub with_flag : {M R D : Type 0} → Bool → TokenizerValue M R D → TokenizerValue M R D
 with_flag flag t =
     let local = t.configuration.local in

@@ -1,4 +1,4 @@
--- Inner: the tests of chunks that look places of a document up. No public contract speaks of them.
+-- Inner: the tests of chunks that look up places of a document. No public contract cites this file.
 use Rattle.std.specs.Prelude.{ℕ, Bool, List, Option, slice_get}
 use Rattle.markdown_base.specs.declared.event.Content.{Content}
 use Rattle.markdown_base.specs.declared.event.Event.{Event}
@@ -7,7 +7,7 @@ use Rattle.markdown_children.specs.declared.byte_starts.ByteStart.{ByteStart}
 use Rattle.markdown_children.specs.ByteStarts.{is_of_some_byte}
 use Rattle.markdown_children.specs.ReadyTests.{can_be_read_at}
 
--- a place of the document whose bytes begin there
+-- the point is a place of the document whose bytes begin as listed
 abbrev pub is_place_of : List ByteStart → Point → Bool
 is_place_of starts p = is_of_some_byte p (slice_get starts p.index)
 

@@ -1,4 +1,4 @@
--- Inner: the chunks of a chain, with the bounds of their parts in the child. No public contract speaks of it.
+-- Inner: the chunks of a chain, with the bounds of their parts in the child. No public contract cites this file.
 use Rattle.std.specs.Prelude.{◌<◌, ℕ, ◌+◌, ◌-◌, ◌≤◌, nat_lt, List, [], ◌∷◌, length, map, drop, Option, Some, None, if◌then◌else◌}
 use Rattle.std.specs.List.{between, AllByRecursion}
 use Rattle.markdown_base.specs.declared.event.Event.{Event}
@@ -14,22 +14,22 @@ table [] ps j = []
 table (k ∷ ks) [] j = []
 table (k ∷ ks) (p ∷ ps) j = record { index = k; start = j; end = j + length p } ∷ table ks ps (j + length p)
 
--- the table of the chain from i on, of the child from its j-th event on
+-- the table of the chain from i on, for the child from its j-th event on
 abbrev pub rest_table : List Event → List Event → ℕ → ℕ → ℕ → List Chunk
 rest_table events es f i j =
     table (chain_from f events i) (parts (map (λ k. place_at events (k + 1)) (chain_from f events i)) (drop j es)) j
 
--- where event n of a child comes to stand, by the table
+-- the final place of event n of a child, by the table
 abbrev pub table_place : List Chunk → ℕ → ℕ → ℕ → Option ℕ
 table_place [] removed added n = None
 table_place (c ∷ cs) removed added n = if nat_lt n c.end then Some (c.index - removed + added + n) else table_place cs (removed + 2) added n
 
--- so many events that go stand before each chunk, two more before each next
+-- at least this many events are before each chunk, and two more before each next one
 abbrev pub AreAbove : ℕ → List Chunk → Type 0
 AreAbove removed [] = Unit {0}
 AreAbove removed (c ∷ cs) = (removed ≤ c.index) × AreAbove (removed + 2) cs
 
--- each chunk stands below the ones behind it
+-- each chunk has a smaller index than the ones behind it
 abbrev pub AreRising : List Chunk → Type 0
 AreRising [] = Unit {0}
 AreRising (c ∷ cs) = AllByRecursion (λ (d : Chunk). c.index < d.index) cs × AreRising cs

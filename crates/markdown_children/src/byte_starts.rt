@@ -1,4 +1,4 @@
-//! Where each byte of a document begins, to tell its places.
+//! Where each byte of a document begins. This decides whether a point is a place of the document.
 
 ghost use Rattle.std.specs.Prelude.{◌≡◌, ◌+◌, ◌*◌, ◌^◌, ◌<◌, ◌≤◌, length, slice_get, IfOk};
 ghost use Rattle.markdown_base.specs.Virtual.{IsWithinLimit};
@@ -11,13 +11,16 @@ use std::alloc::{AllocError, Global};
 /// The line and the column at which a byte, or the document's end, begins, and how many of its places are shown.
 #[derive(Clone, Copy)]
 pub(crate) struct ByteStart {
+    /// The line of the byte, from 1.
     pub(crate) line: usize,
+    /// The virtual column at which the byte begins, from 1.
     pub(crate) column: usize,
+    /// How many places of the byte are shown.
     pub(crate) width: usize,
 }
 
-/// Where each byte of a document begins, and where the document ends. There is a tab stop at every `t` columns. Room for all of them is
-/// taken at once, so that none of it waits unused.
+/// Where each byte of a document begins, and where the document ends. Returns `AllocError` if it runs out of memory. There is a tab
+/// stop at every `t` columns. Room for all of them is taken at once, so that none of it waits unused.
 pub(crate) fn byte_starts(
     alloc: Global,
     bytes: &[u8],
@@ -31,7 +34,7 @@ pub(crate) fn byte_starts(
     let mut line: usize = 1;
     let mut column: usize = 1;
     for index in 0..bytes.len() {
-        // Most bytes: neither a tab nor a line ending, all of which are at most a CR.
+        // Most bytes: neither a tab nor a line ending, as these are at most a CR.
         if bytes[index] > b'\r' {
             starts.push_reserved(ByteStart {
                 line,
@@ -60,7 +63,7 @@ pub(crate) fn byte_starts(
     Ok(starts)
 }
 
-/// Whether a point is that of a place of the document, and shown.
+/// Whether a point is the point of a place of the document, and shown.
 pub(crate) fn is_place(starts: &[ByteStart], point: Point) -> bool
     ensures { result ≡ is_of_some_byte point (slice_get starts.now point.index) }
 {
@@ -74,7 +77,7 @@ pub(crate) fn is_place(starts: &[ByteStart], point: Point) -> bool
     }
 }
 
-/// How many places of a byte are shown: a tab has one a column, and the LF of a CR LF none.
+/// How many places of a byte are shown: one for each column of a tab, none for the LF of a CR LF, else one.
 fn width_at(bytes: &[u8], t: usize, index: usize, column: usize) -> usize
     requires some { 0 < t }
     requires inside { index < length bytes.now }

@@ -34,7 +34,7 @@ pub(crate) fn stands_before(place: Point, other: Point) -> bool
     place.index < other.index || (place.index == other.index && place.vs < other.vs)
 }
 
-/// Whether a filter lets a content through. No filter lets all through.
+/// Whether a content passes a filter. Without a filter each content passes.
 pub(crate) fn lets_through(filter: Option<Content>, content: Content) -> bool
     ensures { result ≡ lets_through filter content }
 {

@@ -25,7 +25,7 @@ use markdown_tokenizer::tokenizer::{Fault, Tokenizer};
 use markdown_tokenizer::util::edit_map::EditMap;
 use std::alloc::Global;
 
-/// Reads the chains that fit, and adds the edits that put their children in their place to an empty map.
+/// Reads the chains that fit. Adds to an empty map the edits that replace each chain's chunks by its child.
 pub(crate) fn gather<M: Machine>(
     alloc: Global,
     map: &mut EditMap,
@@ -72,7 +72,7 @@ fn start_at(events: &[Event], index: usize) -> Option<Name>
     }
 }
 
-/// Reads the child of the chain that begins at `index`: its chunks are pushed, and the gaps between them passed.
+/// Reads the child of the chain that begins at `index`: pushes its chunks, and passes the gaps between them.
 fn read_child<M: Machine>(
     alloc: Global,
     events: &[Event],
@@ -99,8 +99,8 @@ fn read_child<M: Machine>(
     }
 }
 
-/// Reads the chain that begins at `index` with a tokenizer that has read nothing: the chunks are pushed, the gaps between
-/// them passed, and the end is fed.
+/// Reads the chain that begins at `index` with a tokenizer that has read nothing: pushes the chunks, passes the gaps
+/// between them, and feeds the end.
 fn read_chunks<M: Machine>(
     tokenizer: &mut Tokenizer<M>,
     events: &[Event],
@@ -133,7 +133,7 @@ fn read_chunks<M: Machine>(
     tokenizer.flush(state, true)
 }
 
-/// Tells a tokenizer whether its text is in the first paragraph of a list item.
+/// Sets in a tokenizer whether its text is in the first paragraph of a list item.
 fn set_first_paragraph<'a, M: Machine>(t: &mut Tokenizer<'a, M>, first: bool)
     ensures { t.new ≡ with_flag first t.old }
 {
@@ -151,7 +151,7 @@ fn range_of(events: &[Event], index: usize) -> ((usize, usize), (usize, usize))
     ((from.index, from.vs), (to.index, to.vs))
 }
 
-/// Divides a child as [`divide_events`] does. The error is `Memory` also if the lists together are too long.
+/// Divides a child as [`divide_events`] does. Returns `Memory` also if the lists together are too long.
 fn divide(
     alloc: Global,
     map: &mut EditMap,

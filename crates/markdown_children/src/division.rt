@@ -16,13 +16,16 @@ use markdown_base::event::{Event, Link, Point};
 use markdown_tokenizer::util::edit_map::EditMap;
 use std::alloc::{AllocError, Global};
 
-/// Adds to the map one edit for each chunk of a chain: its two events go, and its part of the child comes.
+/// Adds to the map one edit for each chunk of a chain: the chunk's two events are removed, and its part of the child is
+/// added.
 ///
 /// Child events are assigned in order. Event `j` goes to the first chunk that ends at or after it; the search starts at the chunk of
-/// event `j - 1`. If every chunk ends before the event, it goes to the last one. Links of child events lead to their final places.
-/// `link_index` is the chain's first chunk. Every edit in the map is before it, and `acc_before` counts the events that these edits
-/// remove and add. Returns both counts with the edits of the chain included. If it runs out of memory, the map and the child events
-/// stay as they were; else no child event is left.
+/// event `j - 1`. If every chunk ends before the event, it goes to the last one. Links of child events are changed to indices into
+/// the final list.
+///
+/// `link_index` is the index of the chain's first chunk. Every edit in the map is before it. `acc_before` is how many events these
+/// edits remove, and how many they add. Returns both counts with the edits of the chain included. If it runs out of memory, the map
+/// and the child events stay as they were; else no child event is left.
 pub fn divide_events(
     alloc: Global,
     map: &mut EditMap,
@@ -56,12 +59,16 @@ pub fn divide_events(
 /// A chunk, with the bounds of its part in the child.
 #[derive(Clone, Copy)]
 pub(crate) struct Chunk {
+    /// The index of its enter in the events.
     pub(crate) index: usize,
+    /// Where its part starts, an index into the child's events.
     pub(crate) start: usize,
+    /// Where its part ends, an index into the child's events.
     pub(crate) end: usize,
 }
 
-/// The end of the part that begins at an event of the child: the first event from there on that is behind the chunk's end.
+/// The end of the part that begins at an event of the child: the index of the first event from there on that is after the
+/// chunk's end.
 fn part_end(child: &[Event], start: usize, end: Point) -> usize
     requires { start ≤ length child.now }
     ensures { result ≡ start + length (front_until end (drop start child.now)) }
@@ -105,8 +112,8 @@ pub(crate) fn chunks_of(
     Ok(chunks)
 }
 
-/// The final place of an event of the child. Its chunk is the first that ends behind it. It is found by halves, as the ends rise: a walk
-/// along the chunks for each link would take the time of links times chunks.
+/// The index of a child event in the final list. Its chunk is the first that ends behind it. It is found by halves, as the ends rise: a
+/// walk along the chunks for each link would take the time of links times chunks.
 fn place_in(chunks: &[Chunk], acc: (usize, usize), index: usize) -> Option<usize>
     requires apart { AreAbove acc.0 chunks.now }
     requires ends { IsNonDecreasingBy (λ c. c.end) chunks.now }
@@ -120,7 +127,7 @@ fn place_in(chunks: &[Chunk], acc: (usize, usize), index: usize) -> Option<usize
     Some(chunk.index - removed + added + index)
 }
 
-/// The final place that a link end of an event of the child leads to.
+/// The index in the final list to which a link end of a child event leads.
 fn placed_end(chunks: &[Chunk], acc: (usize, usize), end: Option<usize>) -> Option<usize>
     requires apart { AreAbove acc.0 chunks.now }
     requires ends { IsNonDecreasingBy (λ c. c.end) chunks.now }
@@ -133,7 +140,7 @@ fn placed_end(chunks: &[Chunk], acc: (usize, usize), end: Option<usize>) -> Opti
     }
 }
 
-/// Leads the link of an event of the child to its final places. An event without a link is not written to.
+/// Changes the link ends of a child event to indices into the final list. An event without a link is not written to.
 fn place_link(chunks: &[Chunk], acc: (usize, usize), event: &mut Event)
     requires apart { AreAbove acc.0 chunks.now }
     requires ends { IsNonDecreasingBy (λ c. c.end) chunks.now }
@@ -149,7 +156,7 @@ fn place_link(chunks: &[Chunk], acc: (usize, usize), event: &mut Event)
     }
 }
 
-/// Leads the links of these events of the child to their final places.
+/// Changes the link ends of these child events to indices into the final list.
 fn place_links(chunks: &[Chunk], acc: (usize, usize), events: &mut [Event])
     requires apart { AreAbove acc.0 chunks.now }
     requires ends { IsNonDecreasingBy (λ c. c.end) chunks.now }
@@ -161,7 +168,8 @@ fn place_links(chunks: &[Chunk], acc: (usize, usize), events: &mut [Event])
     }
 }
 
-/// The part of a chunk, with its link ends at their final places: copied at once, as few events have a link.
+/// The part of a chunk, with link ends as indices into the final list. It is copied as a whole first, as few events
+/// have a link.
 fn placed_part(
     alloc: Global,
     chunks: &[Chunk],

@@ -1,4 +1,4 @@
-//! Laws of chains.
+//! Laws about chains.
 //!
 //! Each is a function that does nothing, whose contract is the law.
 
@@ -11,8 +11,8 @@ ghost use Rattle.markdown_base.specs.declared.event.Point.{Point};
 
 use markdown_tokenizer::state::Machine;
 
-/// In a list that is ready, the chains that fit follow one another, chunk by chunk; each chunk that fits belongs to one of
-/// them; and what children of them change is disjoint and inside the list.
+/// In a list that is ready, the chains that fit follow one another, chunk by chunk. Each chunk that fits belongs to
+/// exactly one of them. The changes that children make are disjoint and inside the list.
 pub fn a_ready_list_has_ordered_chains()
     ensures { ForReadyLists (λ tab bytes wanted events. HasOrderedChains wanted events) }
 {}
@@ -22,29 +22,29 @@ pub fn chunks_can_be_read()
     ensures { ForReadyLists CanReadChains }
 {}
 
-/// Balanced children keep such a list balanced, and each link between events that stay.
+/// Balanced children keep a ready list balanced, and keep each link between events that stay.
 pub fn children_fit()
     ensures { ForReadyLists (λ tab bytes wanted events. (children : List (List Event)) → ChildrenFit wanted events children) }
 {}
 
-/// Edits made chain by chain, each with sums of what the chains in front remove and add, give the list with children.
+/// The edits of `divide_events`, made chain by chain with the counts of the chains before, give the list with children.
 pub fn edits_give_children()
     ensures { ForReadyLists (λ tab bytes wanted events. (children : List (List Event)) → EditsGiveChildren wanted events children) }
 {}
 
-/// Each event of a child that is divided over its chain is, after all edits of the map, where the links to it lead, with its own
-/// link ends at their final places: whatever edits are before the chain, and behind it.
+/// After all edits of the map, links to a child event lead to its index. Its own link ends are indices into the final list too.
+/// Any edits may be before the chain and behind it.
 pub fn child_events_are_placed_well()
     ensures { (before behind : List Edit) (events : List Event) (c : ℕ) (child : List Event) → IsPlacedWell before behind events c child }
 {}
 
-/// Child events are assigned to chunks in order: each goes to the first chunk that ends at or after it, from the chunk of the event
-/// before it on, or to the last one if every chunk ends before it.
+/// Child events are assigned to chunks in order. Each goes to the first chunk that ends at or after it; the search starts at the
+/// chunk of the event before. If every chunk ends before the event, it goes to the last one.
 pub fn parts_are_by_chunk()
     ensures { (end : Point) → (ends : List Point) → (child : List Event) → AreByChunk (end ∷ ends) child }
 {}
 
-/// By the rules of a machine a list is given its children in one way, or refused with one message.
+/// The rules of a machine allow one list with children and one result, or one message, and not both.
 pub fn children_are_read_in_one_way<M: Machine>()
     ensures { (m : _) (g : _) (wanted : _) (events : _) → HasOneAnswer g (M.rules m) wanted events }
 {}

@@ -1,4 +1,5 @@
-//! Content in content: chains of chunks in a list of events, the parts of their children, and lists that are ready.
+//! Content in content: chains of chunks in a list of events, the parts of their children, and the check that a list is
+//! ready.
 #![tactic(auto)]
 
 mod byte_starts;

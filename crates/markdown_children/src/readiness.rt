@@ -15,13 +15,15 @@ use markdown_base::configuration::TabSize;
 use markdown_base::event::{Content, Event, Kind, Link, Name, Point};
 use std::alloc::{AllocError, Global};
 
-/// Whether the chains of a list can be read where they fit: `filter` is their content, or None for all.
+/// Whether the chains of a list that fit can be read. `filter` is their content; `None` means all chains.
 ///
 /// The list must be balanced, and each linked event must enter a void span whose exit follows it. The next event of a link must link
-/// back to it, and the previous one on to it; a chain goes forwards and has one content. In each chain that fits, that content is not
-/// Flow. Its chunks begin and end at places of the document that are shown, and none ends before it begins. Between two of its
-/// chunks are only whole spans without links, over no text, or over text that begins a line and ends in it. The list may be any,
-/// and its link ends may lead anywhere. There is a tab stop at every `tab_size` columns.
+/// back to it, and the previous one on to it. A chain goes forwards and has one content. In each chain that fits, that content is not
+/// Flow. Its chunks begin and end at places of the document that are shown, and none ends before it begins. Between two of its chunks
+/// are only whole spans without links. They cover no text, or text from the beginning of a line on, within that line.
+///
+/// The list may be any, and its link ends may be any numbers. There is a tab stop at every `tab_size` columns. Returns `AllocError`
+/// if it runs out of memory.
 pub fn ready(
     alloc: Global,
     events: &[Event],
@@ -61,7 +63,7 @@ fn closes(alloc: Global, events: &[Event]) -> Result<bool, AllocError>
     Ok(names.is_empty())
 }
 
-/// Ends the last open name. Returns whether it is this one.
+/// Takes the last name from the open names. Returns whether it is `name`.
 fn exits_last(names: &mut Vec<Name>, name: Name) -> bool
     ensures { names_after Exit name (reverse names.old.items) ≡ cond result (Some (reverse names.new.items)) None }
 {
@@ -139,7 +141,7 @@ fn is_joined_back(events: &[Event], index: usize, link: Link) -> bool
     }
 }
 
-/// Whether the event at an index has no link, or begins a chunk whose neighbours lead to it.
+/// Whether the event at an index has no link, or begins a chunk whose neighbours link to it.
 fn is_sound_at(events: &[Event], index: usize) -> bool
     requires inside { index < length events.now }
     ensures { result ≡ is_sound_at events.now index }
@@ -153,7 +155,7 @@ fn is_sound_at(events: &[Event], index: usize) -> bool
     }
 }
 
-/// Whether each linked event begins a chunk whose neighbours lead to it.
+/// Whether each linked event begins a chunk whose neighbours link to it.
 fn are_sound(events: &[Event]) -> bool
     ensures all { result ≡ true → AllBelow (length events.now) (is_sound_at events.now) }
     ensures some { result ≡ false → FailsSomewhere (length events.now) (is_sound_at events.now) }
@@ -166,7 +168,7 @@ fn are_sound(events: &[Event]) -> bool
     true
 }
 
-/// Whether two points are one.
+/// Whether two points are equal.
 fn is_same(place: Point, other: Point) -> bool
     ensures { result ≡ is_same_point place other }
 {
@@ -188,7 +190,7 @@ fn has_no_link(events: &[Event]) -> bool
     events.iter().all(|event| event.link.is_none())
 }
 
-/// Whether what is between the chunk at `index` and the next one is a gap, which a tokenizer can pass.
+/// Whether the events between the chunk at `index` and the next one are a gap, which a tokenizer can pass.
 fn is_gap(alloc: Global, events: &[Event], index: usize, next: usize) -> Result<bool, AllocError>
     requires inside { index + 1 < length events.now }
     requires end { next < length events.now }

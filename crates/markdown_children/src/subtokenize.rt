@@ -1,4 +1,4 @@
-//! Content in content: a child's events are put in the place of the chunks that it was read from.
+//! Content in content: a child's events replace the chunks from which it was read.
 
 ghost use Rattle.std.specs.Prelude.{◌≡◌, IfOk, IfErr, OnErr};
 ghost use Rattle.std.specs.Option.{option_copied};
@@ -17,14 +17,15 @@ use markdown_tokenizer::tokenizer::Fault;
 use markdown_tokenizer::util::edit_map::EditMap;
 use std::alloc::Global;
 
-/// Reads the chains that fit, and puts their children in their place, all at once.
+/// Reads the chains that fit, and replaces their chunks by their children, all at once.
 ///
-/// `filter` is the content of the chains, or None for all. The list is ready, and the machine may start with the states of its
-/// content. Each child is read from its chain's chunks, with the gaps between them passed, and resolved. Its tokenizer knows whether
-/// it is in the first paragraph of a list item. `done` is true exactly if no chain fits. The definitions of both kinds are those of
-/// the children, in order of chains. The error is `Message` exactly if reading a chain, or a resolver after it, ends in one: it is
-/// that of the first such chain. It is `Memory` if this runs out of memory, and never `Failed`. After an error the events are as they
-/// were.
+/// `filter` is the content of the chains; `None` means all chains. The list must be ready ([`ready`](crate::readiness::ready)), and
+/// the machine may start with the state of each content. Each child is read from its chain's chunks, with the gaps between them
+/// passed, and resolved. Its tokenizer has `first_paragraph_of_list_item` set if it is there.
+///
+/// Returns the definitions of both kinds that the children found, in order of chains; `done` is true exactly if no chain fits.
+/// Returns `Message` exactly if reading a chain, or a resolver after it, ends in one: the message of the first such chain. Returns
+/// `Memory` if it runs out of memory, and never `Failed`. After an error the events are as they were.
 pub fn subtokenize<M: Machine>(
     alloc: Global,
     events: &mut Vec<Event>,

@@ -58,7 +58,7 @@ module _ (tab : ℕ) (bytes : List ℕ) (wanted : Option Content) (events : List
   pub fits_back : (k d : ℕ) → Fits d → next_of events k ≡ Some d → Fits k
   fits_back k d h e = ap (some_fits wanted) (ready.one_content k d e) ∙ h
 
-  -- nothing that fits stands between two neighbours
+  -- no chunk that fits is between two neighbours
   none_between : (p d i : ℕ) → Fits p → next_of events p ≡ Some d → Fits i → p < i → i < d → ⊥
   none_between p d i h e m l r = ⊎_elim
       (λ (s : i ≡ p + 1). apart p h (ap (fits wanted events) (sym s) ∙ m))
@@ -92,7 +92,7 @@ module _ (tab : ℕ) (bytes : List ℕ) (wanted : Option Content) (events : List
 
   -- ---- the walk over the list
 
-  -- before the event at i the chain that goes on at o is open, and no other that fits
+  -- before the event at i, the chain that goes on at o is open, and no other one that fits
   record IsOpen (i : ℕ) (o : Option ℕ) : Type 0 where
     only : (p d : ℕ) → Fits p → next_of events p ≡ Some d → p < i → i ≤ d → o ≡ Some d
     is : (d : ℕ) → o ≡ Some d → (p : ℕ) × Fits p × (next_of events p ≡ Some d) × (p < i) × (i ≤ d)

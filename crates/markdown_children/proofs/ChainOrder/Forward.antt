@@ -1,4 +1,4 @@
--- The chains of a ready list that fit lead forward, and the edits of one of them.
+-- The chains of a ready list that fit go forward, and the edits of one of them.
 use Rattle.std.proofs.Common.{◌≡◌, ℕ, ◌+◌, ◌<◌, ◌≤◌, ⊎_elim, true, List, [], ◌∷◌, ◌++◌, length, Option, Some, None, refl, sym, ◌∙◌, ap, subst, arith, append-nil}
 use Rattle.std.specs.Prelude.{All, IfSome, slice_get, slice_index_or, is_none, option_and_then}
 use Rattle.std.specs.List.{AllByRecursion}

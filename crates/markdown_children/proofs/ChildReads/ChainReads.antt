@@ -23,7 +23,7 @@ abbrev pub flagged : {M R D : Type 0} → Given → M → Point → Bool → Tok
 flagged g m p flag = record (start_seen g m (empty_text p)) { configuration = start_configuration flag }
 
 module _ {M R D : Type 0} (g : Given) (rules : M → Given → Rules R D) (m : M) (p : Point) (flag : Bool) (start : Name) (text : Text) where
-  -- an open tokenizer is on the way from its start over the pieces of a text, these of which are left
+  -- an open tokenizer that reads the pieces of a text, from its start; these pieces are left
   pub record Reads (left : List Piece) (t : TokenizerValue M R D) (state : State) : Type 0 where
     pub same_given : t.given ≡ g
     pub machine : t.machine ≡ m

@@ -1,4 +1,4 @@
--- The children of a list are one: each chain has one reading, and what resolvers make of it is one.
+-- A list has one list of children: each chain has one reading, and resolvers make one result of it.
 use Rattle.std.proofs.Common.{◌≡◌, ◌⊎◌, inl, inr, ⊎_elim, ℕ, List, [], ◌∷◌, ◌++◌, Option, Some, None, Bool, true, false, refl, sym, ap, ◌∙◌, subst}
 use Rattle.std.specs.Prelude.{◌↔◌, flat_map}
 use Rattle.markdown_base.specs.declared.event.Content.{Content}

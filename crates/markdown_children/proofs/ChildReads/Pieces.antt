@@ -28,7 +28,7 @@ module _ (tab : ℕ) (bytes : List ℕ) (options : ParseOptions) (wanted : Optio
       let r = ready.readable k h in
       (r.from.0, r.to.0, same, upto-order tab bytes (place_at events k) (place_at events (k + 1)) r.forward)
 
-  -- where neither of two places is before the other, they denote the same
+  -- if neither of two places is before the other, they denote the same
   same-order : (p q : Point) → stands_before p q ≡ false → stands_before q p ≡ false → denotes_same tab bytes p q ≡ true
   same-order p q a b = upto-same tab bytes p q (upto-order tab bytes p q b) (upto-order tab bytes q p a)
 

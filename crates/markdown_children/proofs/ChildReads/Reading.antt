@@ -80,7 +80,7 @@ module _ {M R D : Type 0} (rules : M → Given → Rules R D) (m : M) (bytes : L
   abbrev On : ℕ → TokenizerValue M R D → State → Type 0
   On d t state = ReadsOn rules m bytes options wanted events c start d t state
 
-  -- where the chain begins
+  -- the place at which the chain begins
   pub chain-place : begins wanted events c ≡ true → IsPointOf options.tab_size bytes (place_at events c)
   chain-place b = (ready.readable c (begins-fits options.tab_size bytes wanted events ready c b)).from.0
 
@@ -125,7 +125,7 @@ module _ {M R D : Type 0} (rules : M → Given → Rules R D) (m : M) (bytes : L
     reads = reads-pushed g rules m (place_at events c) r.flag start (text_of_chain g events (chain_of events c)) t state r.wide (place_at events d) (place_at events (d + 1)) (pieces_behind events r.behind) r.reads u answer h;
   }
 
-  -- where a link leads on, the gap in front of the next chunk comes
+  -- if a link leads on, the gap before the next chunk comes
   pub chain-next : (at d : ℕ) (t : TokenizerValue M R D) (state : State) → Chain at t state → next_of events at ≡ Some d → To d t state
   chain-next at d t state r e = go r.behind r.lead r.reads
     where
@@ -160,7 +160,7 @@ module _ {M R D : Type 0} (rules : M → Given → Rules R D) (m : M) (bytes : L
         (pushed (place_at events d) (place_at events (d + 1)) ∷ pieces_behind events r.behind) r.reads u e;
   }
 
-  -- the next chunk stands further on, inside the list
+  -- the next chunk is further on, inside the list
   pub chain-rises : (at d : ℕ) (t : TokenizerValue M R D) (state : State) → Chain at t state → next_of events at ≡ Some d → (at < d) × (d + 1 < length events)
   chain-rises at d t state r e = (ready.forward at d e, inside options.tab_size bytes wanted events ready d (fits_next options.tab_size bytes wanted events ready at d r.fit e))
 
@@ -216,6 +216,6 @@ module _ {M R D : Type 0} (rules : M → Given → Rules R D) (m : M) (bytes : L
     chain-fault v Failed other told = absurd (other refl)
     chain-fault v (fault.Message message) other told = chain-refused v message (told message refl)
 
--- a chain is not read where memory is refused
+-- a chain is not read if it runs out of memory
 pub memory-child-fault : {R D : Type 0} (g : Given) (rules : Given → Rules R D) (events : List Event) (c : ℕ) (f : Fault) → f ≡ Memory → IsChildFault g rules events c f
 memory-child-fault g rules events c f e = subst (IsChildFault g rules events c) (sym e) tt

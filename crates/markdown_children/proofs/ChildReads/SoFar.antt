@@ -116,7 +116,7 @@ starts-split wanted events i l b =
           ∙ ap (λ ks. starts_below wanted events i ++ ks) (filter-yes (begins wanted events) i (range_with_len (i + 1) m) b),
     )
 
--- ---- what the calls ask
+-- ---- what the calls require
 
 spaced-front : (from n k : ℕ) (xs ys : List ℕ) → AreSpaced from (xs ++ k ∷ ys) n → AreSpaced from xs k
 spaced-front from n k [] ys h = h.0
@@ -137,7 +137,7 @@ below-all [] from n d h = tt
 below-all (e ∷ es) from n d h = (let two : e.remove ≡ 2 = h.0 in omega (arith, AreDisjoint-le es (e.index + e.remove) n d.1), below-all es (e.index + e.remove) n d.1 h.1)
 
 module _ (tab : ℕ) (bytes : List ℕ) (wanted : Option Content) (events : List Event) (ready : IsReady tab bytes wanted events) where
-  -- the edits of the chains that begin below a chain's first chunk stand before it
+  -- the edits of the chains that begin below a chain's first chunk are before it
   pub stand-before : (i : ℕ) (children : List (List Event)) → begins wanted events i ≡ true → StandBefore (all_edits 0 0 (divided_over events (starts_below wanted events i) children)) i
   stand-before i children b =
       let f = follow_one_another tab bytes wanted events ready in

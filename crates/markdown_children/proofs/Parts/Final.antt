@@ -1,4 +1,4 @@
--- Each event of a child is, after all edits, at the place that links to it lead to.
+-- After all edits, each child event is at the place to which links to it lead.
 use Rattle.std.proofs.Common.{◌≡◌, ℕ, ◌+◌, ◌-◌, ◌<◌, ◌≤◌, true, false, cond, List, [], ◌∷◌, ◌++◌, length, map, take, drop, Option, Some, None, option_map, refl, sym, ◌∙◌, ap, subst, arith, nat_lt, length-drop}
 use Rattle.std.specs.Prelude.{slice_get}
 use Rattle.std.proofs.lemmas.Option.{slice_get-map}
@@ -60,7 +60,7 @@ module _ (f : ℕ → Option ℕ) (more : List Edit) where
   behind-part : (p : List Event) (us : List Tagged) (q : ℕ) → slice_get (map as_addition (map (relinked f) p) ++ us) (length p + q) ≡ slice_get us q
   behind-part p us q = ap (λ k. slice_get (map as_addition (map (relinked f) p) ++ us) (k + q)) (sym (length-coming p)) ∙ slice_get-behind (map as_addition (map (relinked f) p)) us q
 
-  -- where an event of a child is among what is left from an index on
+  -- the place of a child event in the rest of the list from an index on
   abbrev IsAt : (ks : List ℕ) (ps : List (List Event)) (removed added i n : ℕ) → List Event → ℕ → Type 0
   IsAt ks ps removed added i n xs place =
       (q : ℕ) × (place ≡ i - removed + added + q) × (slice_get (pass (chain ks ps) i xs) q ≡ option_map coming (slice_get (joined ps) n))

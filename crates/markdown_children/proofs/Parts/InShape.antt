@@ -1,4 +1,4 @@
--- The list with children is in shape: link ends stand inside it, and its chains are mutual where those of the children are.
+-- The list with children is in shape: link ends are indices into it, and its links are mutual if the children's are.
 use Rattle.std.proofs.Common.{◌≡◌, ℕ, ◌+◌, ◌<◌, Bool, cond, eqb, List, [], ◌∷◌, ◌++◌, length, map, Option, Some, None, refl, sym, ◌∙◌, ap, subst, arith, true, false}
 use Rattle.std.specs.Prelude.{flat_map, slice_get, All, IfSome}
 use Rattle.std.specs.List.{AllByRecursion}
@@ -126,7 +126,7 @@ module _ (tab : ℕ) (bytes : List ℕ) (wanted : Option Content) (events : List
         (sourced-chains (child_at cs children) cs children (names-child_at cs children are-rising) f.whole)
         (λ k. let z : 0 + k ≡ k = omega arith in ap (slice_get events) z)
 
-    -- and stands there once
+    -- and is there once
     pub once : AreOnce ts
     once =
         let f = follow_one_another tab bytes wanted events ready in

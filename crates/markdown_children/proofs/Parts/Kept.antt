@@ -1,7 +1,7 @@
 -- Balanced children keep a list balanced.
 --
--- Between two chunks of a chain stands a balanced list, which leaves each stack of open names as it is; so the parts of a child act on it
--- one directly after another, as the child itself would, and that is balanced.
+-- Between two chunks of a chain is a balanced list, which leaves each stack of open names as it is. So the parts of a child act on the
+-- stack one directly after another, as the child itself would, and that is balanced.
 use Rattle.std.proofs.Common.{◌≡◌, ℕ, zero, suc, true, ◌+◌, ◌-◌, ◌≤◌, List, [], ◌∷◌, ◌++◌, length, map, drop, take, Option, Some, None, refl, sym, ◌∙◌, ap, subst, arith, append-nil, take-append-drop}
 use Rattle.std.specs.Prelude.{flat_map, slice_get}
 use Rattle.std.specs.List.{AllByRecursion, between, range_with_len}
@@ -68,7 +68,7 @@ names-leave b (Some st) = names_after_balanced b st
 names-three : (o : Option (List Name)) (xs ys zs : List Event) → names_after_all o (xs ++ (ys ++ zs)) ≡ names_after_all (names_after_all (names_after_all o xs) ys) zs
 names-three o xs ys zs = names_after_all-append o xs (ys ++ zs) ∙ names_after_all-append (names_after_all o xs) ys zs
 
--- the list from i on is what stands up to k, and from k on
+-- the list from i on is its events up to k, and from k on
 pub split-at : (events : List Event) (i k : ℕ) → i ≤ k → drop i events ≡ between i k events ++ drop k events
 split-at events i k l =
     let z : i + (k - i) ≡ k = omega arith in
@@ -110,7 +110,7 @@ module _ (tab : ℕ) (bytes : List ℕ) (wanted : Option Content) (events : List
   abbrev IsKeptBehind : List ℕ → List Change → Type 0
   IsKeptBehind more ws = (m : ℕ) → AreSpaced m more n → (o : Option (List Name)) → names_after_all o (after_changes ws m) ≡ names_after_all o (drop m events)
 
-  -- behind the chunk at k its chain's other parts act as if they stood together
+  -- behind the chunk at k its chain's other parts act as if they were adjacent
   through : (c j k : ℕ) (ks more : List ℕ) (ps : List (List Event)) (ws : List Change) → Fits k → LeadOnFrom events k ks → length ks ≡ length ps → AreSpaced (k + 2) (ks ++ more) n → IsKeptBehind more ws
       → (o : Option (List Name)) → names_after_all o (after_changes (part_changes c j ks ps ++ ws) (k + 2)) ≡ names_after_all (names_after_all o (joined ps)) (drop (k + 2) events)
   through c j k [] more [] ws h lead e sp kept o = kept (k + 2) sp o ∙ ap (λ p. names_after_all p (drop (k + 2) events)) (sym (names-none o))

@@ -1,4 +1,4 @@
--- Each event stands once in the list with children.
+-- Each event is in the list with children once.
 use Rattle.std.proofs.Common.{◌≡◌, ℕ, zero, suc, ◌+◌, ◌-◌, ◌<◌, ◌≤◌, Bool, true, false, eqb, List, [], ◌∷◌, ◌++◌, length, take, drop, Some, None, refl, sym, ◌∙◌, ap, subst, arith, length-drop}
 use Rattle.std.specs.Prelude.{◌&&◌, flat_map, slice_get}
 use Rattle.std.specs.List.{AllByRecursion}
@@ -14,7 +14,7 @@ use Rattle.markdown_children.specs.Children.{tagged_child, part_changes, first_c
 use Rattle.markdown_children.proofs.Parts.ChildPlaces.{place_in-child_olds}
 use Rattle.markdown_children.proofs.Parts.Placed.{has_no-chain, has_no-append}
 
--- no event stands again behind itself
+-- no event is there again behind itself
 abbrev pub AreOnce : List Tagged → Type 0
 AreOnce [] = Unit {0}
 AreOnce (t ∷ ts) = (place_in t.identity ts ≡ None) × AreOnce ts
@@ -40,7 +40,7 @@ is_same-true (of_child c i) (of_list j) e = cc
 is_same-true (of_child c i) of_addition e = cc
 is_same-true of_addition b e = cc
 
--- so an event that can be named stands where its name leads
+-- so an event that has a name is at the place of its name
 pub once-place : (ts : List Tagged) (p : ℕ) (u : Tagged) → AreOnce ts → is_same u.identity u.identity ≡ true → slice_get ts p ≡ Some u → place_in u.identity ts ≡ Some p
 once-place [] p u h s e = absurd (none-some u e)
 once-place (t ∷ ts) zero u h s e =

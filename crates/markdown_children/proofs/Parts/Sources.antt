@@ -1,4 +1,4 @@
--- Each event of the list with children is one of the list or of a child, and its link ends lead where those events went.
+-- Each event of the list with children is an event of the list or of a child, and its link ends lead to the new places of their events.
 use Rattle.std.proofs.Common.{◌≡◌, ℕ, suc, ◌+◌, ◌<◌, Bool, true, false, cond, eqb, List, [], ◌∷◌, ◌++◌, length, Option, Some, None, refl, sym, ◌∙◌, ap, arith}
 use Rattle.std.specs.Prelude.{slice_get}
 use Rattle.std.specs.List.{AllByRecursion}
@@ -16,7 +16,7 @@ use Rattle.markdown_children.specs.Children.{tagged_child, part_changes}
 use Rattle.markdown_children.proofs.Parts.Kept.{joined}
 use Rattle.markdown_children.proofs.Parts.Once.{AreOnce, is_same-true, once-place}
 
--- what a name leads to stands there
+-- the event of a name is at its place
 pub place_in-there : (b : Identity) (ts : List Tagged) (q : ℕ) → place_in b ts ≡ Some q → (v : Tagged) × (slice_get ts q ≡ Some v) × (v.identity ≡ b)
 place_in-there b [] q e = absurd (none-some q e)
 place_in-there b (t ∷ ts) q e = at (is_same b t.identity) refl (place_in b ts) refl e (λ p f. place_in-there b ts p f)
@@ -31,7 +31,7 @@ place_in-there b (t ∷ ts) q e = at (is_same b t.identity) refl (place_in b ts)
         (v.0, ap (slice_get (t ∷ ts)) (sym (same_Some (suc p) q g)) ∙ v.1, v.2)
 
 module _ (child : ℕ → List Event) (xs : List Event) where
-  -- the event with a name, where it is one of the list or of a child
+  -- the event with a name, if it is an event of the list or of a child
   abbrev pub source : Identity → Option Event
   source (of_list n) = slice_get xs n
   source (of_child c n) = slice_get (child c) n
@@ -86,7 +86,7 @@ module _ (child : ℕ → List Event) (xs : List Event) where
   module _ (ts : List Tagged) (sourced : AreSourced ts) (once : AreOnce ts) where
     module _ (on back : Event → Option ℕ) (on-moved : (f : ℕ → Option ℕ) (o : Option Event) → option_and_then on (option_map (relinked f) o) ≡ option_and_then f (option_and_then on o))
         (back-moved : (f : ℕ → Option ℕ) (o : Option Event) → option_and_then back (option_map (relinked f) o) ≡ option_and_then f (option_and_then back o)) where
-      -- where an end leads on, one leads back
+      -- if an end leads on, one leads back
       abbrev LeadsBack : List Event → Type 0
       LeadsBack list = (i j : ℕ) → option_and_then on (slice_get list i) ≡ Some j → option_and_then back (slice_get list j) ≡ Some i
 
@@ -135,7 +135,7 @@ module _ (child : ℕ → List Event) (xs : List Event) where
   -- ---- link ends
 
   module _ (ts : List Tagged) where
-    -- a link end stands inside the list, if it is one of an event that has a name
+    -- a link end of an event that has a name is an index into the list
     pub end-inside : (b : Identity) (e : Event) → source b ≡ Some e → (k q : ℕ) → placed_end ts b k ≡ Some q → q < length ts
     end-inside (of_list n) e h k q f = let r = place_in-there (of_list k) ts q f in slice_get_within ts q r.0 r.1
     end-inside (of_child c n) e h k q f = let r = place_in-there (of_child c k) ts q f in slice_get_within ts q r.0 r.1

@@ -1,4 +1,4 @@
--- The table of a chain's chunks tells the parts, and where their events come to stand.
+-- The table of a chain's chunks gives the parts, and the final places of their events.
 use Rattle.std.proofs.Common.{◌≡◌, ℕ, zero, suc, ◌+◌, ◌-◌, ◌*◌, ◌^◌, ◌<◌, ◌≤◌, true, false, ltb, List, [], ◌∷◌, ◌++◌, map, length, take, drop, Option, Some, None, refl, sym, ◌∙◌, ap, ⊎_elim, arith}
 use Rattle.std.specs.Prelude.{All, IfSome}
 use Rattle.std.specs.Option.{option_map, unwrap_or}
@@ -73,7 +73,7 @@ length-table (k ∷ ks) (p ∷ ps) j e = ap suc (length-table ks ps (j + length 
 -- ---- the chunks of a forward chain
 
 module _ (events : List Event) where
-  -- what holds of each chunk that stands at or behind an index, and inside
+  -- what holds for each chunk at or behind an index, and inside the list
   along : (P : ℕ → Type 0) → ((k d : ℕ) → P k → IsForward events k → next_of events k ≡ Some d → P d) → (f i j : ℕ) (ps : List (List Event)) → AllByRecursion (IsForward events) (chain_from f events i) → P i
       → AllByRecursion (λ (c : Chunk). P c.index × IsForward events c.index) (table (chain_from f events i) ps j)
   along P go zero i j ps h p = tt
@@ -211,7 +211,7 @@ module _ (events child : List Event) (i : ℕ) (forward : AllByRecursion (IsForw
   joined-is zero l = absurd (omega arith)
   joined-is (suc n) l = sym (joined-parts (place_at events (i + 1)) _ child)
 
-  -- the edits by the table are those of the chain
+  -- the edits by the table are the chain's
   pub table-edits : (removed added : ℕ) → i < length events → map (chunk_edit (table_place cs removed added) child) cs ≡ chain_edits removed added (divided events i child)
   table-edits removed added l =
       edits_by_table (table_place cs removed added) child ks ps 0 long (joined-is (length events) (omega arith))

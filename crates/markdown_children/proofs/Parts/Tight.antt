@@ -1,7 +1,8 @@
--- Void spans stay empty where children come in, unless a part ends inside one.
+-- Void spans stay empty when children are put in, unless a part ends inside one.
 --
--- Each event of the list is followed by what followed it, or by a part in the place of a chunk, whose enter follows no void enter. An event
--- of a child is followed by the next one of its part; and the last one of a part by the next one of its child, where nothing stands between.
+-- An event of the list is followed by the same event as before, or by a part in place of a chunk, whose enter follows no void enter. An
+-- event of a child is followed by the next one of its part. The last one of a part is followed by the next one of its child, if nothing is
+-- between.
 use Rattle.std.proofs.Common.{◌≡◌, ℕ, zero, suc, ◌+◌, ◌-◌, ◌≤◌, true, List, [], ◌∷◌, ◌++◌, length, map, drop, take, Option, Some, refl, sym, ◌∙◌, ap, subst, arith}
 use Rattle.std.specs.Prelude.{flat_map, slice_get}
 use Rattle.std.specs.List.{AllByRecursion, between, range_with_len}
@@ -66,7 +67,7 @@ last-exits [] ys h v = absurd v
 last-exits (e ∷ []) ys h v = (e, h.0 v.0 v.1)
 last-exits (e ∷ f ∷ xs) ys h v = last-exits (f ∷ xs) ys h.1 v
 
--- no void enter stands in front of an enter
+-- no void enter is directly before an enter
 before-enter : (xs ys zs : List Event) (f : Event) → slice_get ys 0 ≡ Some f → f.kind ≡ Enter → IsTightBefore xs ys → IsTightBefore xs zs
 before-enter xs ys zs f at enter h = tight-moved xs ys zs h (λ v.
     let l = last-exits xs ys h v in
@@ -74,7 +75,7 @@ before-enter xs ys zs f at enter h = tight-moved xs ys zs h (λ v.
     let no : Exit ≡ Enter = sym l.1.2 ∙ ap (λ (x : Event). x.kind) same ∙ enter in
     absurd (cc))
 
--- no void enter stands at the end
+-- no void enter is at the end
 at-end : (xs zs : List Event) → IsTightBefore xs [] → IsTightBefore xs zs
 at-end xs zs h = tight-moved xs [] zs h (λ v. let l = last-exits xs [] h v in absurd (none-some l.1.0 l.1.1))
 
@@ -117,7 +118,7 @@ module _ (tab : ℕ) (bytes : List ℕ) (wanted : Option Content) (events : List
   abbrev after : List Change → ℕ → List Event
   after ws i = after_changes tab bytes wanted events ready ws i
 
-  -- what stands in front of a chunk may be followed by anything
+  -- anything may follow the events before a chunk
   before-chunk : (i k : ℕ) (zs : List Event) → i ≤ k → Fits k → IsTightBefore (between i k events) zs
   before-chunk i k zs l h =
       let c = chunk tab bytes wanted events ready k h in
@@ -134,7 +135,7 @@ module _ (tab : ℕ) (bytes : List ℕ) (wanted : Option Content) (events : List
   between-none : (i d : ℕ) → d ≡ i → between i d events ≡ []
   between-none i d e = let z : d - i ≡ 0 = omega arith in ap (λ m. take m (drop i events)) z
 
-  -- where chunks stand side by side, the child goes on behind the one at k
+  -- if chunks are adjacent, the child goes on behind the one at k
   goes-on : (c j k : ℕ) (ks : List ℕ) (ps : List (List Event)) (ws : List Change) (f : Event) → slice_get (joined ps) 0 ≡ Some f → length ks ≡ length ps → StandSideBySide k ks ps
       → slice_get (joined ps) 0 ≡ slice_get (after (part_changes c j ks ps ++ ws) (k + 2)) 0
   goes-on c j k [] [] ws f at e s = absurd (none-some f at)
@@ -151,7 +152,7 @@ module _ (tab : ℕ) (bytes : List ℕ) (wanted : Option Content) (events : List
       part-after c j (k + 2) d ks (x ∷ p) ps ws (omega (arith, s)) ∙ ap (λ ys. ys ++ ((x ∷ p) ++ rest)) (between-none (k + 2) d s) in
       ap (λ ys. slice_get ys 0) (sym is)
 
-  -- a part, and all that stands behind the chunk at k
+  -- a part, and all events behind the chunk at k
   parts-tight : (c j k : ℕ) (p : List Event) (ks more : List ℕ) (ps : List (List Event)) (ws : List Change) → Fits k → LeadOnFrom events k ks → length ks ≡ length ps → AreSpaced (k + 2) (ks ++ more) n
       → ((m : ℕ) → AreSpaced m more n → IsTight (after ws m)) → IsTight (p ++ joined ps) → IsTornNowhere (k ∷ ks) (p ∷ ps)
       → IsTight (p ++ after (part_changes c j ks ps ++ ws) (k + 2))

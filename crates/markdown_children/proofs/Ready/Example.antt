@@ -67,7 +67,7 @@ readable (suc (suc (suc (suc k)))) e = absurd (cc)
 gap : IsGap two 0 2
 gap = record { forward = refl; in_line = inl refl; balanced = empty; no_link = λ m l r. absurd (omega arith) }
 
--- so what the contracts ask can be met
+-- so what the contracts require can be met
 pub ready : IsReady 4 bytes (Some Text) two
 ready = record {
   balanced = balanced;

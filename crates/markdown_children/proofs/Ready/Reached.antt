@@ -141,7 +141,7 @@ module _ (t : ℕ) (some : 0 < t) (bytes : List ℕ) where
       let same : column ≡ p.column = omega (arith, b, c, v) in
       (subst (IsPointOf t bytes) (λ j. point (a j) (same j) p.index (v j)) (begin-place line column p.index r), shown-if p f)
 
-  -- the test tells places that are shown
+  -- a point that passes the test is a place that is shown
   pub place-sound : (p : Point) → is_of_some_byte p (slice_get (byte_starts t bytes) p.index) ≡ true → IsShownPlace t bytes p
   place-sound p e = go (leb p.index (length bytes)) refl
     where

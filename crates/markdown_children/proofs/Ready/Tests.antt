@@ -157,7 +157,7 @@ leads-on k None e = absurd (cc)
 leads-on k (Some l) e = (l, refl, number-is l.next k e)
 
 module _ (events : List Event) (sound : AllBelow (length events) (is_sound_at events)) where
-  -- what is asked of a linked event
+  -- what is required of a linked event
   parts-of : (k : ℕ) (l : Link) → link_at events k ≡ Some l → (is_chunk events k ≡ true) × (is_joined_on events k l.content l.next ≡ true) × (is_joined_back events k l.previous ≡ true)
   parts-of k l e =
       let h : is_sound events k (Some l) ≡ true = ap (is_sound events k) (sym e) ∙ sound k (inside-link events k l e) in
@@ -213,7 +213,7 @@ content-no-link : (o : Option Link) → option_map (λ (l : Link). l.content) o 
 content-no-link None e = refl
 content-no-link (Some l) e = absurd (none-some l.content (sym e))
 
--- in the events between two indices no event has a link, told by their indices
+-- no event between two indices has a link, by index
 has_no_link-all : (es : List Event) → has_no_link es ≡ true → (m : ℕ) → link_at es m ≡ None
 has_no_link-all [] e zero = refl
 has_no_link-all [] e (suc m) = refl
@@ -254,7 +254,7 @@ point-same : (p q : Point) → p ≡ q → is_same_point p q ≡ true
 point-same p q e = ap (is_same_point p) (sym e) ∙ rw (eq-eqb p.line p.line refl, eq-eqb p.column p.column refl, eq-eqb p.index p.index refl, eq-eqb p.vs p.vs refl) refl
 
 module _ (events : List Event) where
-  -- the test tells gaps
+  -- what passes the test is a gap
   pub gap-of : (k d : ℕ) → is_gap events k d ≡ true → IsGap events k d
   gap-of k d e =
       let p = place_at events (k + 1) in
@@ -298,7 +298,7 @@ module _ (events : List Event) where
       ∙ content-no-link (link_at events (k + 2 + m)) (sym (content-link (slice_get events (k + 2 + m))) ∙ g.no_link (k + 2 + m) (omega arith) within)))
       (closes-balanced inside g.balanced))
 
--- ---- what the code tells
+-- ---- what the code's tests mean
 
 -- a number more passes
 pub all-more : (test : ℕ → Bool) (n : ℕ) → AllBelow n test → test n ≡ true → AllBelow (n + 1) test
@@ -307,7 +307,7 @@ all-more test n h e k l = ⊎_elim
     (λ (s : k ≡ n → ⊥). h k (omega arith))
     (cases_eq k n)
 
--- where a link leads on to is inside the list
+-- a link's next event is inside the list
 pub next-inside : (events : List Event) (k d : ℕ) (l : Link) → is_sound_at events k ≡ true → link_at events k ≡ Some l → l.next ≡ Some d → d < length events
 next-inside events k d l h e f =
     let g : is_sound events k (Some l) ≡ true = ap (is_sound events k) (sym e) ∙ h in

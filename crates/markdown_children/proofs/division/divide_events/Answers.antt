@@ -9,7 +9,7 @@ use Rattle.markdown_children.specs.declared.division.Chunk.{Chunk}
 use Rattle.markdown_children.proofs.Parts.Tabled.{length-chunks, chunks-above, chunks-rising, chunks-ends, chunks-within, chunks-room, chunks-fit, chunks-behind, table-edits, sums-le}
 use Rattle.markdown_children.proofs.division.divide_events.Goals as goal
 
--- two lists of chunks and events that are those of the contract
+-- equal lists of chunks and events have the same edits
 same-edits : (removed added : ℕ) (cs ds : List Chunk) (xs ys : List Event) → cs ≡ ds → xs ≡ ys → map (chunk_edit (table_place cs removed added) xs) cs ≡ map (chunk_edit (table_place ds removed added) ys) ds
 same-edits removed added cs ds xs ys e f = λ j. map (chunk_edit (table_place (e j) removed added) (f j)) (e j)
 
