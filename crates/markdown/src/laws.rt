@@ -1,4 +1,4 @@
-//! Laws of all four parts. Each is a function that does nothing; its contract is the law.
+//! The laws of all four parts. Each is a function that does nothing; its contract is the law.
 
 pub use markdown_base::laws::{
     characters_have_one_class, equal_events_are_one, equal_names_are_one, equal_places_are_one,

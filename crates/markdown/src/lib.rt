@@ -1,7 +1,8 @@
 //! The tokenizer engine, under the paths of the Rust crate `markdown`.
 //!
-//! There is no code here. The four parts are proved below: `markdown_base` (events, names, options, places), `markdown_edits` (lists
-//! of events), `markdown_tokenizer` (`Machine`, `Tokenizer`, `run`) and `markdown_children` (content in content).
+//! This crate has no code. It re-exports its four parts, which have the code and the proofs: `markdown_base` (events, names,
+//! options, places), `markdown_edits` (lists of events), `markdown_tokenizer` (`Machine`, `Tokenizer`, `run`) and
+//! `markdown_children` (content in content).
 #![tactic(auto)]
 
 pub mod laws;
