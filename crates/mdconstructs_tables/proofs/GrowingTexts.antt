@@ -33,7 +33,7 @@ pub last-more : {A : Type 0} → (o : Option A) (xs : List A) (x : A) → last_o
 last-more o [] x = refl
 last-more o (y ∷ ys) x = last-more (Some y) ys x
 
--- where the next byte is, the byte that waits ends
+-- the byte that waits ends where the next byte is
 pub next-left : (g : Given) (text : Text) (p : ℕ) (w : Waits) → p < length text.seats → (sight_in g text p Byte).next ≡ (sight_in g text (p + 1) w).exit_place
 next-left g text p w h = let (s, is) = seat-at text p h in rw (add-one, is) refl
 
@@ -80,7 +80,7 @@ sight-kept g text longer (suc q) e h =
     let (s, is) = seat-at text (suc q) h in
     rw (same, is, before, e.start) refl
 
--- where a piece is added before the end is fed, the same waits, and a state sees the same
+-- if a piece is added before the end is fed, the same waits, and a state sees the same
 pub waits-longer : (g : Given) (text longer : Text) (p : ℕ) (ended : Bool) (w : Waits) → Extends text longer → ended ≡ false → IsFed w p ended text
     → IsFed w p ended longer × (sight_in g longer p w ≡ sight_in g text p w)
 waits-longer g text longer p ended Nothing e fresh waits = absurd waits

@@ -32,7 +32,7 @@ module _ {R D : Type 0} (g : Given) (step : Sight → Configuration R D → Name
   abbrev HoldsOf : List Choice → Reading R D → Type 0
   HoldsOf cs r = HoldsIn cs r.configuration r.answer
 
-  -- where it holds before, what such a function reads leaves it
+  -- if it holds before, it holds after what such a function reads
   abbrev Keeps : (Configuration R D → State → Option (Reading R D)) → Type 0
   Keeps f = (k : Configuration R D) (s : State) (cs : List Choice) (r : Reading R D) → P k cs s → f k s ≡ Some r → HoldsOf cs r
 
@@ -82,7 +82,7 @@ module _ {R D : Type 0} (g : Given) (step : Sight → Configuration R D → Name
     ended : HoldsOf [] r
     ended = of-more calls [] (read g step text ends.bound k s) r (λ q e. reads ends.bound k s [] q h e) ends.is
 
-    -- where the reading ends well
+    -- if the reading ends in Ok
     pub kept-well : r.answer ≡ Ok → P r.configuration [] Ok
     kept-well well = subst (HoldsIn [] r.configuration) well ended
 

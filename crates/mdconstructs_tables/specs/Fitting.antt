@@ -1,4 +1,4 @@
--- Tables that fit: no state is a misfit, and costs of the machine's own are paid for.
+-- Tables that fit: no state is a misfit, and costs of the machine's own are enough for its calls.
 use Rattle.std.specs.Prelude.{◌≡◌, ℕ, ◌≤◌, List, [], ◌∷◌, Bool, true, false, Option, Some, None}
 use Rattle.markdown_base.specs.declared.state.Name.{Name}
 use Rattle.markdown_tokenizer.specs.Text.{Text}
@@ -6,7 +6,7 @@ use Rattle.mdconstructs_tables.specs.Rows.{Calls, StateRows, Table}
 use Rattle.mdconstructs_tables.specs.Misfits.{misfits}
 use Rattle.mdconstructs_tables.specs.RowInvariant.{ArePaid}
 
--- a state of a cost of its own costs less the more was read, if it is one of these
+-- if a state with a cost of its own is one of these, it costs less the more was read
 abbrev pub Falls : {W R D : Type 0} → (falling : Name → Bool) → StateRows W R D → Option Calls → Type 0
 Falls falling state (Some c) = Unit {0}
 Falls falling state None = falling state.name ≡ true → (text : Text) (p q : ℕ) → p ≤ q → state.own text q ≤ state.own text p
@@ -15,8 +15,8 @@ abbrev pub AllFall : {W R D : Type 0} → (falling : Name → Bool) → List (St
 AllFall falling [] = Unit {0}
 AllFall falling (state ∷ states) = Falls falling state state.calls × AllFall falling states
 
--- A table fits: the test names no state that does not, and the machine's own costs are paid for, where choices end well late or not. The more was
--- read, the less these states cost.
+-- A table fits: the test names no state as a misfit, and the machine's own costs are enough for its calls, with `late` for choices that end
+-- with Ok late. The states of `falling` cost less the more was read.
 pub record IsFitBy {W R D : Type 0} (table : Table W R D) (late : Bool) (falling : Name → Bool) : Type 0 where
   pub fits : (previous current : Option W) → misfits table previous current ≡ []
   pub paid : ArePaid table late table.states
@@ -26,6 +26,6 @@ pub record IsFitBy {W R D : Type 0} (table : Table W R D) (late : Bool) (falling
 abbrev pub every : Name → Bool
 every name = true
 
--- choices may end well at the place they were made at, and all states cost less later
+-- choices may end with Ok at the place where they were made, and all states cost less later
 abbrev pub IsFit : {W R D : Type 0} → Table W R D → Type 0
 IsFit table = IsFitBy table false every

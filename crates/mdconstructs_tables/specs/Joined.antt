@@ -1,4 +1,4 @@
--- Two machines in one. A name says to which of them its state belongs, and neither goes on with a state of the other.
+-- Two machines in one. A name decides to which of them its state belongs, and neither goes on with a state of the other.
 use Rattle.std.specs.Prelude.{◌≡◌, ℕ, ◌⊎◌, ◌++◌, List, [], Bool, true, false, cond}
 use Rattle.markdown_base.specs.declared.state.Name.{Name}
 use Rattle.markdown_base.specs.declared.state.State.{State}
@@ -14,13 +14,13 @@ abbrev pub has_state : {W R D : Type 0} → List (StateRows W R D) → Name → 
 has_state states name = is_some (named states name)
 
 module _ {R D : Type 0} (is_first : Name → Bool) (first second : Rules R D) where
-  -- a state costs what it costs in its machine, and an answer that goes on with no state nothing
+  -- a state costs what it costs in its machine; Ok, Nok and Error cost nothing
   abbrev pub joined_cost : Text → Configuration R D → State → ℕ
   joined_cost text k (Next name) = cond (is_first name) (first.cost text k (Next name)) (second.cost text k (Next name))
   joined_cost text k (Retry name) = cond (is_first name) (first.cost text k (Retry name)) (second.cost text k (Retry name))
   joined_cost text k _ = 0
 
-  -- The rules of both. The first makes no choice, so that what choices may still take is the second's; and the resolvers are those of both.
+  -- The rules of both. The first makes no choice, so the calls that choices may still take are the second's; both have the same resolvers.
   abbrev pub joined_rules : Rules R D
   joined_rules = record {
     step = λ s k name. cond (is_first name) (first.step s k name) (second.step s k name);
@@ -32,7 +32,7 @@ module _ {R D : Type 0} (is_first : Name → Bool) (first second : Rules R D) wh
     resolves = λ text rs k. first.resolves text rs k ⊎ second.resolves text rs k;
   }
 
--- Two machines can be one: the names at which they hold are each its own, the first makes no choice, and they share their resolvers
+-- Two machines can be one: they have no names of states in common, the first makes no choice, and they share their resolvers
 pub record AreApart {R D : Type 0} (is_first : Name → Bool) (first second : Rules R D) : Type 0 where
   pub first_fed : (text : Text) (k : Configuration R D) (choices : List Choice) (name : Name) → first.holds text k choices (Next name) → is_first name ≡ true
   pub first_called : (text : Text) (k : Configuration R D) (choices : List Choice) (name : Name) → first.holds text k choices (Retry name) → is_first name ≡ true

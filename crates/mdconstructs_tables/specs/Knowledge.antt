@@ -1,4 +1,4 @@
--- What a machine knows besides what its table says: of its events, of what states share, and of the choices that wait.
+-- What a machine knows that its table does not say: about its events, what states share, and the choices that wait.
 use Rattle.std.specs.Prelude.{◌≡◌, List, [], ◌∷◌, ◌++◌, Bool, true, false, Option, All}
 use Rattle.markdown_base.specs.declared.event.Event.{Event}
 use Rattle.markdown_base.specs.declared.state.Name.{Name}
@@ -20,19 +20,19 @@ use Rattle.mdconstructs_tables.specs.RowInvariant.{table_holds, table_rules}
 abbrev pub LeavesShape : {R D : Type 0} → Text → List R → Configuration R D → Type 0
 LeavesShape text rs k = CanBeEdited k × IsInShape (edited k.local.map k.events)
 
--- what holds of each of the rows, by the tests that pick it
+-- the property holds for each of the rows that the tests may pick
 module _ {R D : Type 0} (P : Row R D → Type 0) (g : Given) (s : Sight) (k : Configuration R D) where
   abbrev pub EachRow : Rows R D → Type 0
   EachRow (row acts answer) = P (record { acts = acts; answer = answer })
   EachRow (when test one other) = (test g s k ≡ true → EachRow one) × (test g s k ≡ false → EachRow other)
 
 module _ {W R D : Type 0} (table : Table W R D) (knows : List Event → Local R D → List Choice → State → Type 0) where
-  -- The invariant of the table holds, and what the machine knows at this answer
+  -- The invariant of the table holds, and what the machine knows holds at this state
   pub record HoldsKnowing (g : Given) (text : Text) (k : Configuration R D) (choices : List Choice) (state : State) : Type 0 where
     pub holds : table_holds table g text k choices state
     pub known : knows k.events k.local choices state
 
-  -- the rules of a table, with what the machine knows in the invariant. It registers no resolver.
+  -- the rules of a table; the invariant includes what the machine knows. The machine registers no resolver.
   abbrev pub knowing_rules : Given → Rules R D
   knowing_rules g = record (table_rules table g) { holds = HoldsKnowing g; resolves = LeavesShape }
 
@@ -40,7 +40,7 @@ module _ {W R D : Type 0} (table : Table W R D) (knows : List Event → Local R 
   abbrev pub KnownAfter : Step R D → List Choice → Type 0
   KnownAfter q choices = knows q.configuration.events q.configuration.local (q.choices ++ choices) q.answer
 
-  -- each row of a state leaves what is known at its answer
+  -- after each row of a state, what the machine knows holds at the state returned
   abbrev pub KeepsKnowing : StateRows W R D → Type 0
   KeepsKnowing state = (g : Given) (s : Sight) (k : Configuration R D) (choices : List Choice) (previous current : Option W) → knows k.events k.local choices (Retry state.name)
       → let k1 = with_local k (table.first k.local) in EachRow (λ r. KnownAfter (step_of r s k1) choices) g s k1 (state.rows previous current)
@@ -49,8 +49,8 @@ module _ {W R D : Type 0} (table : Table W R D) (knows : List Event → Local R 
   AllKeepKnowing [] = Unit {0}
   AllKeepKnowing (state ∷ states) = KeepsKnowing state × AllKeepKnowing states
 
-  -- What a machine knows is known at each start, and is kept by feeding, by the rows of each state, and where a choice ends. Where all was read it
-  -- knows that no resolver is registered, and that its edits can be made and leave the events in shape.
+  -- What a machine knows holds at each start. Feeding, the rows of each state, and the end of a choice keep it. Once all was read it says
+  -- that no resolver is registered, and that the edits can be made and leave the events in shape.
   pub record IsKnown : Type 0 where
     pub at_starts : (flag : Bool) → let k : Configuration R D = start_configuration flag in All (λ name. knows k.events k.local [] (Next name)) table.starts
     pub by_feeding : (events : List Event) (local : Local R D) (choices : List Choice) (name : Name) → knows events local choices (Next name) → knows events local choices (Retry name)

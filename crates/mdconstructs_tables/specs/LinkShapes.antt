@@ -5,14 +5,14 @@ use Rattle.markdown_base.specs.declared.event.Link.{Link}
 use Rattle.markdown_base.specs.Events.{EndsBelow}
 use Rattle.markdown_edits.specs.Links.{next_of, previous_of}
 
--- the index to which an event's link leads on, and back, if it does
+-- the indices of the next and the previous event in an event's chain, if there are any
 abbrev pub next_end : Event → Option ℕ
 next_end e = option_and_then (λ (l : Link). l.next) e.link
 
 abbrev pub previous_end : Event → Option ℕ
 previous_end e = option_and_then (λ (l : Link). l.previous) e.link
 
--- Links are in shape: their ends are inside the list, and a link leads on to an event exactly if that one's leads back
+-- Links are in shape: their ends are indices into the list, and an event links on to another exactly if that one links back
 pub record AreInShape (events : List Event) : Type 0 where
   pub inside : All (EndsBelow (length events)) events
   pub on : (i j : ℕ) → next_of events i ≡ Some j → previous_of events j ≡ Some i

@@ -1,4 +1,4 @@
--- The test of a table, as the author of a machine sees it: which of its states do not fit, and why.
+-- The test of a table, for the author of a machine: which of its states do not fit, and why.
 use Rattle.std.specs.Prelude.{◌&&◌, ◌||◌, not, List, [], ◌∷◌, ◌++◌, Bool, true, cond, Option, Some, None}
 use Rattle.std.specs.List.{flat_map}
 use Rattle.markdown_base.specs.declared.event.Name.{Name as EventName}
@@ -10,20 +10,20 @@ use Rattle.mdconstructs_tables.specs.RowTest.{Shape, same_names, needs_choice, i
 
 -- Why a state does not fit, or why no reading may start with a name
 pub data Reason : Type 0 where
-  -- an act is not allowed where it stands: as an exit of another span than the innermost, or a second consume
+  -- an act is not allowed at its position: for example an exit of a span that is not the innermost, or a second consume
   act : Reason
-  -- the state that the answer goes on with has other spans than are open
+  -- the row goes on with a state that has other spans than are open
   spans : Reason
-  -- a choice that is made cannot go on where it was made, or the answer needs one and none waits
+  -- a choice that is made cannot go on at its place, or the row goes on with a state that needs a choice and none waits
   choice : Reason
-  -- the answer is another than fits what was read, or names no state
+  -- the row returns what does not fit what was read, or names no state
   answer : Reason
-  -- a call, with what it goes on with, takes more calls than the state says
+  -- a call, and what it goes on with, takes more calls than the state says
   unpaid : Reason
   -- no state has the name that a reading starts with, or that state has open spans, or needs a choice or a byte
   start : Reason
 
--- a reason where a test is not passed, and else another
+-- this reason if the test fails, and else the other one
 abbrev pub unless : Bool → Reason → Option Reason → Option Reason
 unless passed reason other = cond passed other (Some reason)
 
@@ -33,12 +33,12 @@ with_reason name None = []
 with_reason name (Some reason) = (name, reason) ∷ []
 
 module _ {W R D : Type 0} (states : List (StateRows W R D)) where
-  -- the spans that are open are those of a state
+  -- the open spans are the state's
   abbrev pub are_its_spans : List EventName → Option (StateRows W R D) → Bool
   are_its_spans there None = true
   are_its_spans there (Some state) = same_names there state.spans
 
-  -- and of what an answer goes on with; none is open where it ends well
+  -- the open spans fit what a row returns; none is open if it returns Ok
   abbrev pub fits_spans : Shape → State → Bool
   fits_spans p (Next name) = are_its_spans p.spans (named states name)
   fits_spans p (Retry name) = are_its_spans p.spans (named states name)
@@ -50,7 +50,7 @@ module _ {W R D : Type 0} (states : List (StateRows W R D)) where
   has_its_choice within read None = true
   has_its_choice within read (Some state) = not (needs_choice state.needs read) || within
 
-  -- and so of what an answer goes on with; one waits where it ends, but for a good end of all
+  -- a choice waits if what a row returns needs one; Nok needs one, and Ok too unless all was read
   abbrev pub has_choice : (read : Bool) → Shape → State → Bool
   has_choice read p (Next name) = has_its_choice p.within true (named states name)
   has_choice read p (Retry name) = has_its_choice p.within read (named states name)
@@ -58,11 +58,11 @@ module _ {W R D : Type 0} (states : List (StateRows W R D)) where
   has_choice read p Nok = p.within
   has_choice read p (Error message) = true
 
-  -- the rows of a state pass a test of each row and of what is open after its acts
+  -- each row of a state, with what is open after its acts, passes a test
   abbrev pub rows_pass : (test : Shape → Row R D → Bool) → (previous current : Option W) → StateRows W R D → Bool
   rows_pass test b w state = all_rows (λ r. test (after_all r.acts (start_shape b w state)) r) (state.rows b w)
 
-  -- each of their acts is allowed, the answers fit the open spans, and the choices that are made or needed fit
+  -- each of the rows' acts is allowed; what they return fits the open spans; and the choices that are made or needed fit
   abbrev pub acts_fit : (previous current : Option W) → StateRows W R D → Bool
   acts_fit b w state = rows_pass (λ p r. allows_all r.acts (start_shape b w state)) b w state
 
@@ -85,10 +85,10 @@ module _ {W R D : Type 0} (states : List (StateRows W R D)) where
   abbrev pub named_misfit : (previous current : Option W) → StateRows W R D → List (Name × Reason)
   named_misfit b w state = with_reason state.name (cond (is_called states w state) (misfit b w state) None)
 
-  -- a start that may be none
+  -- a name with which no reading may start
   abbrev pub named_start : Name → List (Name × Reason)
   named_start name = cond (may_start states (named states name)) [] ((name, start) ∷ [])
 
--- the states that do not fit if this was read and this waits, and the starts that may be none, by their names, each with the first reason
+-- the names of the states that do not fit if this was read and this waits, and of the starts that do not fit, each with the first reason
 abbrev pub misfits : {W R D : Type 0} → Table W R D → (previous current : Option W) → List (Name × Reason)
 misfits table b w = flat_map (named_misfit table.states b w) table.states ++ flat_map (named_start table.states) table.starts

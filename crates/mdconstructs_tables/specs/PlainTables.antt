@@ -1,4 +1,4 @@
--- Tables without links and writes: with such a table nothing is there to resolve.
+-- Tables without links and writes: with such a table there is nothing to resolve.
 use Rattle.std.specs.Prelude.{◌≡◌, ◌&&◌, List, [], ◌∷◌, Bool, true, false, Option, Some, None}
 use Rattle.markdown_tokenizer.specs.Configuration.{Configuration, Local}
 use Rattle.markdown_tokenizer.specs.Calls.{with_local}

@@ -1,11 +1,11 @@
--- Tables without links whose writes keep that nothing is there to resolve.
+-- Tables without links whose writes leave nothing to resolve.
 use Rattle.std.specs.Prelude.{List, [], ◌∷◌, Option, Some, None}
 use Rattle.markdown_tokenizer.specs.Configuration.{Configuration}
 use Rattle.mdconstructs_tables.specs.Rows.{Act, enters, exit, consume, links, write, choose, Rows, row, when, StateRows, Table}
 use Rattle.mdconstructs_tables.specs.PlainTables.{IsPlainWrite}
 
 module _ {R D : Type 0} where
-  -- no act links, and each write is plain; and this holds too
+  -- no act links, each write is plain, and the given property holds
   abbrev pub WritePlain : List (Act R D) → Type 0 → Type 0
   WritePlain [] P = P
   WritePlain (enters name None ∷ acts) P = WritePlain acts P
@@ -25,7 +25,7 @@ module _ {W R D : Type 0} where
   StatesWritePlain [] previous current = Unit {0}
   StatesWritePlain (state ∷ states) previous current = RowsWritePlain (state.rows previous current) (StatesWritePlain states previous current)
 
-  -- no state links, its writes are plain, and so is what each call writes first
+  -- no state links, all writes are plain, and so is what each call writes first
   pub record WritesPlain (table : Table W R D) : Type 0 where
     pub first : IsPlainWrite (λ (k : Configuration R D). table.first k.local)
     pub rows : (previous current : Option W) → StatesWritePlain table.states previous current

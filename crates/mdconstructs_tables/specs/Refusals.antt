@@ -1,4 +1,4 @@
--- Machines that refuse no document: no state answers a message, no choice goes on with one, and no resolver ends in one.
+-- Machines that refuse no document: no state returns a message, no choice goes on with one, and no resolver ends in one.
 use Rattle.std.specs.Prelude.{◌≢◌, ◌||◌, ℕ, List, [], Bool, true, false, Option, filter, map}
 use Rattle.std.specs.List.{list_any}
 use Rattle.markdown_base.specs.declared.message.Message.{Message}
@@ -31,7 +31,7 @@ module _ {R D : Type 0} where
 abbrev pub refusing : {W R D : Type 0} → Table W R D → (previous current : Option W) → List Name
 refusing {W} {R} {D} table b w = map (λ (state : StateRows W R D). state.name) (filter (λ state. rows_refuse (state.rows b w)) table.states)
 
--- By these rules no document is refused: no reading ends in a message, whatever the text and the state it begins with, and no resolver does
+-- These rules refuse no document: no reading ends in a message, whatever the text and the state with which it begins, and no resolver does
 pub record RulesRefuseNothing {R D : Type 0} (rules : Given → Rules R D) : Type 0 where
   pub readings : (g : Given) (text : Text) (calls : ℕ) (k : Configuration R D) (name : Name) (r : Reading R D) (m : Message)
       → EndsIn g (rules g).step text calls k [] (Next name) r → r.answer ≢ Error m

@@ -1,4 +1,4 @@
--- What holds at the states of a table, and what their calls cost.
+-- The invariant at the states of a table, and the cost of their calls.
 use Rattle.std.specs.Prelude.{◌≡◌, ℕ, zero, suc, ◌+◌, ◌-◌, ◌*◌, ◌<◌, ◌≤◌, ◌⊎◌, List, [], ◌∷◌, ◌++◌, Bool, not, true, false, cond, Option, Some, None, IfSome, All, map, max, take, length, reverse, slice_get}
 use Rattle.std.specs.List.{last_or}
 use Rattle.markdown_base.specs.declared.event.Event.{Event}
@@ -39,13 +39,13 @@ abbrev pub upto : Bool → Point → Point → Bool
 upto false place q = stands_before q place
 upto true place q = not (stands_before place q)
 
--- where spans may have begun in a call: before the place where one stands; or, where they are fresh, before the byte that waits ends, or up to
--- that place
+-- where spans may have begun in a call: before the current place; or, if they are fresh, before the end of the byte that waits, or up to
+-- the current place
 abbrev pub since : Bool → Stage → Sight → Point → Bool
 since fresh byte_waits s q = stands_before q (cond fresh s.next s.exit_place)
 since fresh _ s q = upto fresh s.exit_place q
 
--- A byte that waits begins before it ends, and what began before it began before its end
+-- A byte that waits begins before it ends, and what began before the byte began before its end
 pub record SightIsInOrder (waits : Waits) (s : Sight) : Type 0 where
   pub begins : waits ≡ Byte → stands_before s.enter_place s.next ≡ true
   pub later : waits ≡ Byte → (q : Point) → stands_before q s.exit_place ≡ true → stands_before q s.next ≡ true
@@ -56,7 +56,7 @@ IsFed Nothing position ended text = ⊥
 IsFed Byte position ended text = position < length text.seats
 IsFed End position ended text = (ended ≡ true) × (length text.seats ≤ position)
 
--- the place of an exit after so many bytes
+-- the place of an exit after this many bytes
 abbrev pub exit_place_at : Given → Text → ℕ → Point
 exit_place_at g text position = shown g.bytes (end_place text position)
 
@@ -74,8 +74,8 @@ abbrev pub AnyWait : List Choice → Type 0
 AnyWait [] = ⊥
 AnyWait (c ∷ cs) = Unit {0}
 
--- What a choice saved: the stack that was there, a position up to this one, events within these, with the spans as they were then, and the
--- byte that waited
+-- What a choice saved: the stack at that time, a position up to this one, events that are a front of these, with the spans as they were
+-- then, and the byte that waited
 pub record IsSavedIn {W : Type 0} (class : ℕ → W) (g : Given) (text : Text) (position : ℕ) (events : List Event) (stack : List EventName) (f : Frame W) (saved : Saved) : Type 0 where
   pub stack_is : saved.stack ≡ stack
   pub behind : saved.position ≤ position
@@ -97,12 +97,12 @@ abbrev pub events_saved : Option Saved → List Event → List Event
 events_saved None events = events
 events_saved (Some saved) events = take saved.events events
 
--- what a choice saved of the stack is no longer than this
+-- the stack that a choice saved is no longer than this one
 abbrev pub IsBelow : List EventName → Choice → Type 0
 IsBelow stack c = IfSome c.saved (λ saved. length saved.stack ≤ length stack)
 
 module _ {W R D : Type 0} (class : ℕ → W) (states : List (StateRows W R D)) where
-  -- A choice that waits fits at the place it was made at, above these spans
+  -- A choice that waits fits at the place where it was made, above these spans
   pub record IsWaiting (g : Given) (text : Text) (position : ℕ) (events : List Event) (stack : List EventName) (c : Choice) (cs : List Choice) : Type 0 where
     pub frame : Frame W
     pub below : List EventName
@@ -122,26 +122,26 @@ abbrev pub Stands : {W : Type 0} → Option W → Text → ℕ → Type 0
 Stands None text p = length text.seats ≤ p
 Stands (Some w) text p = p < length text.seats
 
--- what a state costs, by the calls that it says are left, or else by the machine's own cost
+-- the cost of a state: by the calls that it says are left, or else by the machine's own cost
 abbrev pub price_by : Option Calls → ℕ → (Calls → ℕ) → ℕ
 price_by None own counted = own
 price_by (Some c) own counted = counted c
 
--- where what is late stands: behind a position
+-- the position from which on a late choice can end: one later if `late`
 abbrev pub behind : (late : Bool) → ℕ → ℕ
 behind false p = p
 behind true p = p + 1
 
--- the calls with so many bytes left
+-- how many calls that is, with this many bytes left
 abbrev pub at_most : Calls → ℕ → ℕ
 at_most c n = c.per_byte * n + c.more
 
--- where the spans of a state may have begun, by what waits, or if nothing does
+-- where the spans of a state may have begun, by what waits, if anything does
 abbrev pub began_at : {W R D : Type 0} → Option W → StateRows W R D → Sight → Point → Bool
 began_at w state s = since (fresh_at state.begun w) (first_stage w) s
 
--- Spans of a state are open above others: each began at a place that passes this test, and if the innermost is void nothing came since it
--- began. What must wait for the state is next.
+-- Spans of a state are open above others: each began at a place that passes this test, and if the innermost is void, no event came since it
+-- began. What must wait for the state is next in the text.
 pub record IsOpen {W R D : Type 0} (class : ℕ → W) (state : StateRows W R D) (base : List EventName) (where_to : Point → Bool) (text : Text) (k : Configuration R D) (choices : List Choice) : Type 0 where
   pub stack : k.stack ≡ base ++ state.spans
   pub began : Began where_to (outline k)
@@ -150,16 +150,16 @@ pub record IsOpen {W R D : Type 0} (class : ℕ → W) (state : StateRows W R D)
   pub needs : needs_choice state.needs (is_read k.position) ≡ true → AnyWait choices
   pub called : is_called_at state.called (class_in class text k.position) ≡ true
 
--- A call began: it is counted, and the machine's own fields are others
+-- A call began: it is counted, and the machine's own fields were written
 abbrev pub begun : {M R D : Type 0} → (Local R D → Local R D) → TokenizerValue M R D → TokenizerValue M R D
 begun first t = record t { configuration = with_local t.configuration (first t.configuration.local); calls = t.calls + 1 }
 
--- A state did a step: this is its answer, the step's choices wait above the old ones, and the configuration is the step's
+-- A state did a step: it returned the step's state, the step's choices wait above the old ones, and the configuration is the step's
 pub record DoesAll {M R D : Type 0} (s : Step R D) (old new : TokenizerValue M R D) (answer : State) : Type 0 where
   pub answered : answer ≡ s.answer
   pub became : new ≡ record old { configuration = s.configuration; choices = s.choices ++ old.choices }
 
--- A state is called: something waits, and open spans and choices are those of the state
+-- A state is called: something waits, and open spans and choices are as the state says
 pub record IsAtState {M W R D : Type 0} (class : ℕ → W) (state : StateRows W R D) (t : TokenizerValue M R D) : Type 0 where
   pub inside : t.configuration.position ≤ length t.text.seats
   pub fed : IsFed t.configuration.waiting t.configuration.position t.configuration.ended t.text
@@ -176,13 +176,13 @@ abbrev pub CanEnd : {M R D : Type 0} → List EventName → TokenizerValue M R D
 CanEnd [] t = Unit {0}
 CanEnd (name ∷ names) t = CanExit name t × CanEnd names (at_configuration t (exited name (sight_of t).exit_place t.configuration))
 
--- what a state that is called begins with passes the test of acts
+-- the acts at the beginning of a state that is called pass the test of acts
 abbrev pub are_allowed : {M W R D : Type 0} → (ℕ → W) → StateRows W R D → TokenizerValue M R D → List (Act R D) → Bool
 are_allowed class state t acts = allows_all acts (start_shape (class_of class (sight_of t).previous) (class_of class (sight_of t).current) state)
 
--- A state can be called. What follows for its code from the spans that are open is said as code asks for it: a byte waits where the state
--- is never called at the end; once that is consumed, an exit stands where its end was seen; it can be a span of its own; and all spans of the state may end,
--- before it or behind it, where the test allows that.
+-- A state can be called. The fields are what its code needs to know. A byte waits if the state is never called at the end. Once the byte is
+-- consumed, the place of an exit is its end. The byte can be a span of its own. And all spans of the state may end, before the byte or
+-- after it, if the test allows that.
 pub record IsCallable {M W R D : Type 0} (class : ℕ → W) (state : StateRows W R D) (t : TokenizerValue M R D) : Type 0 where
   pub called : IsAtState class state t
   pub byte : is_called_at state.called None ≡ false → t.configuration.waiting ≡ Byte
@@ -191,12 +191,12 @@ pub record IsCallable {M W R D : Type 0} (class : ℕ → W) (state : StateRows 
   pub ends : are_allowed class state t (map exit (reverse state.spans)) ≡ true → CanEnd (reverse state.spans) t
   pub ends_read : are_allowed class state t (consume ∷ map exit (reverse state.spans)) ≡ true → CanEnd (reverse state.spans) (once_read t)
 
--- what a state does in a tokenizer
+-- the step of a state in a tokenizer
 abbrev pub step_in : {M W R D : Type 0} → (class : ℕ → W) → StateRows W R D → TokenizerValue M R D → Step R D
 step_in class state t = step_of (row_at class state t.given (sight_of t) t.configuration) (sight_of t) t.configuration
 
 module _ {W R D : Type 0} (table : Table W R D) where
-  -- Open spans and choices are those of a state
+  -- Open spans and choices are as a state says
   pub record IsAt (g : Given) (text : Text) (state : StateRows W R D) (where_to : Point → Bool) (k : Configuration R D) (choices : List Choice) : Type 0 where
     pub base : List EventName
     pub spans : IsOpen table.class state base where_to text k choices
@@ -206,7 +206,7 @@ module _ {W R D : Type 0} (table : Table W R D) where
   IsStateAt g text None where_to k choices = ⊥
   IsStateAt g text (Some state) where_to k choices = IsAt g text state (where_to state) k choices
 
-  -- What ends well: no span is open since the last choice, and one waits, or the end was fed
+  -- Ok: no span is open since the last choice, and a choice waits, or the end was fed
   pub record IsDone (g : Given) (text : Text) (k : Configuration R D) (choices : List Choice) : Type 0 where
     pub base : List EventName
     pub stack : k.stack ≡ base
@@ -214,13 +214,13 @@ module _ {W R D : Type 0} (table : Table W R D) where
     pub waiting : AreWaiting table.class table.states g text k.position (outline k) base choices
     pub ended : AnyWait choices ⊎ (k.ended ≡ true)
 
-  -- What ends not: a choice waits
+  -- Nok: a choice waits
   pub record IsFailing (g : Given) (text : Text) (k : Configuration R D) (choices : List Choice) : Type 0 where
     pub base : List EventName
     pub waiting : AreWaiting table.class table.states g text k.position (outline k) base choices
     pub any : AnyWait choices
 
-  -- the invariant at an answer
+  -- the invariant at a state that a call returned
   abbrev pub HoldsAt : Given → Text → Configuration R D → List Choice → State → Type 0
   HoldsAt g text k choices (Next name) = (k.waiting ≡ Nothing) × IsStateAt g text (named table.states name) (λ state. upto (fresh_fed state.begun) (exit_place_at g text k.position)) k choices
   HoldsAt g text k choices (Retry name) =
@@ -230,27 +230,28 @@ module _ {W R D : Type 0} (table : Table W R D) where
   HoldsAt g text k choices Nok = IsFailing g text k choices
   HoldsAt g text k choices (Error message) = Unit {0}
 
-  -- the invariant: no more was read than there is, and spans and choices are those of the answer
+  -- the invariant: no more was read than there is, and spans and choices are as the current state says
   abbrev pub table_holds : Given → Text → Configuration R D → List Choice → State → Type 0
   table_holds g text k choices state = (k.position ≤ length text.seats) × HoldsAt g text k choices state
 
-  -- how many calls a state may take that is fed first, if so many bytes were read
+  -- how many calls a state may take that is fed first, if this many bytes were read
   abbrev pub next_price : Text → ℕ → Option (StateRows W R D) → ℕ
   next_price text p None = 0
   next_price text p (Some state) = price_by state.calls (state.own text p) (λ c. at_most c (length text.seats - p))
 
-  -- and one that is called when this waits
+  -- the same for a state that is called while this waits
   abbrev pub retry_price : (previous current : Option W) → Text → ℕ → Option (StateRows W R D) → ℕ
   retry_price b w text p None = 0
   retry_price b w text p (Some state) =
       price_by state.calls (state.own text p) (λ c. at_most (calls_at table.states table.states b w (Some state)) (length text.seats - p - 1))
 
-  -- what a choice goes on with
+  -- how many calls a choice may take with what it goes on with
   abbrev pub state_price : Text → ℕ → State → ℕ
   state_price text p (Next name) = next_price text p (named table.states name)
   state_price text p _ = 0
 
-  -- A choice goes on from what it saved, or later; and where choices end well late, behind that. One that saved nothing goes on from anywhere.
+  -- A choice goes on from what it saved, or later; if choices end with Ok late, from a later position. A choice that saved nothing goes on
+  -- from anywhere.
   abbrev pub choice_price : (late : Bool) → Text → ℕ → AttemptKind → State → State → ℕ
   choice_price late text p kind ok nok = cond (saves kind nok) (max (state_price text (behind late p) ok) (state_price text p nok)) (state_price text 0 ok)
 
@@ -260,13 +261,13 @@ module _ {W R D : Type 0} (table : Table W R D) where
   chosen_price late text p (consume ∷ acts) = chosen_price late text (p + 1) acts
   chosen_price late text p (act ∷ acts) = chosen_price late text p acts
 
-  -- what an answer goes on with, if so many bytes were read at the beginning of the call
+  -- how many calls the state that a call returns may take, if this many bytes were read at the beginning of the call
   abbrev pub answer_price : (previous current : Option W) → Text → ℕ → State → ℕ
   answer_price b w text p (Next name) = next_price text (p + 1) (named table.states name)
   answer_price b w text p (Retry name) = retry_price b w text p (named table.states name)
   answer_price b w text p _ = 0
 
-  -- a call, with what its answer and its choices go on with
+  -- how many calls a row may take: itself, the state that it returns, and its choices
   abbrev pub row_price : (late : Bool) → (previous current : Option W) → Text → ℕ → Row R D → ℕ
   row_price late b w text p r = 1 + (answer_price b w text p r.answer + chosen_price late text p r.acts)
 
@@ -279,7 +280,7 @@ module _ {W R D : Type 0} (table : Table W R D) where
   abbrev pub class_at : Text → ℕ → Option W
   class_at text p = class_in table.class text p
 
-  -- a state of the machine's own cost is paid for by it, if this waits
+  -- if a state has the machine's own cost, that is enough for each of its rows, if this waits
   abbrev pub PaysRows : (late : Bool) → StateRows W R D → Option Calls → Type 0
   PaysRows late state (Some c) = Unit {0}
   PaysRows late state None =

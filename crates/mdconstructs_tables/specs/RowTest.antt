@@ -1,4 +1,5 @@
--- The test of a table: its acts are allowed in their order, its answers and choices fit the states that they name, and its calls are paid for.
+-- The test of a table: its acts are allowed in their order, what rows return and choices go on with fits the states named, and stated calls
+-- are enough.
 use Rattle.std.specs.Prelude.{◌+◌, ◌-◌, ◌&&◌, ◌||◌, not, List, [], ◌∷◌, ◌++◌, Bool, true, false, cond, Option, Some, None, nat_le, max, take, length}
 use Rattle.std.specs.List.{last_or}
 use Rattle.markdown_base.specs.declared.event.Name.{Name as EventName}
@@ -21,8 +22,8 @@ pub data Stage : Type 0 where
   byte_waits : Stage
   byte_read : Stage
 
--- What is open in a call: the spans since the last choice was made, whether one of them may have begun at the byte that waits or where one
--- stands, whether the last event is the innermost's enter, and whether a choice waits
+-- What is open in a call: the spans since the last choice was made; whether one of them may have begun at the byte that waits or at the
+-- current place; whether the last event is the innermost one's enter; and whether a choice waits
 pub record Shape : Type 0 where
   pub stage : Stage
   pub spans : List EventName
@@ -42,12 +43,12 @@ abbrev pub is_last : EventName → Option EventName → Bool
 is_last name None = false
 is_last name (Some last) = same_name last name
 
--- whether a choice saves what it may put back
+-- whether a choice saves what it may restore
 abbrev pub saves : AttemptKind → State → Bool
 saves Attempt Nok = false
 saves _ _ = true
 
--- whether a span may have begun at the place of the call, by what waits, or if nothing does
+-- whether a span may have begun at the place of the call, by what waits, if anything does
 abbrev pub fresh_at : {W : Type 0} → Begun W → Option W → Bool
 fresh_at before w = false
 fresh_at (at_byte test) None = false
@@ -58,7 +59,7 @@ abbrev pub fresh_fed : {W : Type 0} → Begun W → Bool
 fresh_fed here = true
 fresh_fed _ = false
 
--- whether a state may be called where this waits; None is the end, and also what is not known
+-- whether a state may be called while this waits; None is the end, and also what is not known
 abbrev pub is_called_at : {W : Type 0} → Called W → Option W → Bool
 is_called_at anywhere w = true
 is_called_at at_a_byte None = false
@@ -72,12 +73,12 @@ needs_choice nothing read = false
 needs_choice a_choice read = true
 needs_choice a_choice_once_read read = read
 
--- nothing came since a void span began
+-- no event came since a void span began
 abbrev pub is_bare : Shape → Bool
 is_bare p = not (is_void_last (last_or None p.spans)) || p.bare
 
--- whether an act is allowed: an enter before the end, a consume where a byte waits; an exit of the innermost span, if it began before the
--- place of the exit, and, where it is void, nothing came since; and a choice where nothing began at the place where one stands
+-- whether an act is allowed: an enter before the end; a consume if a byte waits; an exit of the innermost span, if it began before the
+-- place of the exit and, if it is void, no event came since; a choice if no span began at the current place
 abbrev pub allows : {R D : Type 0} → Act R D → Shape → Bool
 allows (enters name link) p = not (is_end p.stage)
 allows (exit name) p = is_last name (last_or None p.spans) && (not p.fresh && (not (is_void name) || p.bare))
@@ -125,7 +126,7 @@ start_shape b w state = record {
   within = needs_choice state.needs (is_some b);
 }
 
--- Where a choice is made: the spans since the one before it, the byte that waits there, if that is known, and whether a choice waits
+-- Where a choice is made: the spans since the previous choice, the byte that waits there, if that is known, and whether a choice waits
 pub record Frame (W : Type 0) : Type 0 where
   pub spans : List EventName
   pub waits : Option W
@@ -169,20 +170,20 @@ most_calls count (row acts answer) = count (record { acts = acts; answer = answe
 most_calls count (when by one other) = larger (most_calls count one) (most_calls count other)
 
 module _ {W R D : Type 0} (states : List (StateRows W R D)) where
-  -- the spans, and what is known of choices and of what waits, are those of a state
+  -- the spans, and what is known of choices and of what waits, are as a state says
   abbrev pub is_at : List EventName → (within : Bool) → (waits : Option W) → (read : Bool) → Option (StateRows W R D) → Bool
   is_at spans within waits read None = false
   is_at spans within waits read (Some state) =
       same_names spans state.spans && ((not (needs_choice state.needs read) || within) && is_called_at state.called waits)
 
-  -- what a choice goes on with fits at the place it was made at
+  -- what a choice goes on with fits at the place where it was made
   abbrev pub may_go_on : Frame W → (waits : Option W) → State → Bool
   may_go_on f waits (Next name) = is_at f.spans f.within waits true (named states name)
   may_go_on f waits Ok = same_names f.spans [] && f.within
   may_go_on f waits Nok = f.within
   may_go_on f waits _ = false
 
-  -- a choice fits: it goes on at its place, or, if it ended well, with the same spans open later on
+  -- a choice fits: it goes on at its place, or, after Ok, with the same spans open later on
   abbrev pub fits_choice : Frame W → AttemptKind → (ok nok : State) → Bool
   fits_choice f Check ok nok = may_go_on f f.waits ok && may_go_on f f.waits nok
   fits_choice f Attempt ok nok = may_go_on f None ok && (not (is_void_last (last_or None f.spans)) && may_go_on f f.waits nok)
@@ -200,8 +201,8 @@ module _ {W R D : Type 0} (states : List (StateRows W R D)) where
   is_fresh_fed None = false
   is_fresh_fed (Some state) = fresh_fed state.begun
 
-  -- The answer fits how far the call is, and what is open. Spans may have begun at the place of the call only if the next state says so.
-  -- It ends well only if no span is open, and a choice waits or the end; and it ends badly only if a choice waits.
+  -- What a row returns fits how far the call is, and what is open. Spans may have begun at the place of the call only if the next state
+  -- says so. It is Ok only if no span is open, and a choice waits or the end; and Nok only if a choice waits.
   abbrev pub fits_answer : Stage → (previous current : Option W) → Shape → State → Bool
   fits_answer stage b w p Ok = same_names p.spans [] && (not p.fresh && (p.within || is_end stage))
   fits_answer stage b w p Nok = p.within
@@ -219,7 +220,7 @@ module _ {W R D : Type 0} (states : List (StateRows W R D)) where
       let p = after_all r.acts (start_shape b w state) in
       allows_all r.acts (start_shape b w state) && (fits_choices w r.acts (start_shape b w state) && fits_answer p.stage b w p r.answer)
 
-  -- how many calls a state says that are left, if it does
+  -- how many calls a state says are left, if it does
   abbrev pub calls_or : Option Calls → Calls
   calls_or None = no_calls
   calls_or (Some c) = c
@@ -228,7 +229,7 @@ module _ {W R D : Type 0} (states : List (StateRows W R D)) where
   fed_calls None = no_calls
   fed_calls (Some state) = calls_or state.calls
 
-  -- what a choice may go on with
+  -- how many calls a choice may take with what it goes on with
   abbrev pub next_calls : State → Calls
   next_calls (Next name) = fed_calls (named states name)
   next_calls _ = no_calls
@@ -236,19 +237,19 @@ module _ {W R D : Type 0} (states : List (StateRows W R D)) where
   abbrev pub choice_calls : AttemptKind → State → State → Calls
   choice_calls kind ok nok = cond (saves kind nok) (larger (next_calls ok) (next_calls nok)) no_calls
 
-  -- what the choices that are made go on with
+  -- how many calls the choices that are made may take
   abbrev pub chosen_calls : Stage → List (Act R D) → Calls
   chosen_calls stage [] = no_calls
   chosen_calls stage (choose kind ok nok ∷ acts) = plus (at_stage stage (choice_calls kind ok nok)) (chosen_calls stage acts)
   chosen_calls stage (consume ∷ acts) = chosen_calls byte_read acts
   chosen_calls stage (_ ∷ acts) = chosen_calls stage acts
 
-  -- how many calls an answer goes on with; `retried` counts those of a state that is called at once
+  -- how many calls the state that a row returns may take; `retried` counts the calls of a state that is called at once
   abbrev pub answer_calls : (retried : Name → Calls) → State → Calls
   answer_calls retried (Retry name) = retried name
   answer_calls retried a = next_calls a
 
-  -- a call, with those of its answer and its choices
+  -- how many calls a row may take: itself, the state that it returns, and its choices
   abbrev pub row_calls : (retried : Name → Calls) → Option W → Row R D → Calls
   row_calls retried w r = plus (record { per_byte = 0; more = 1 }) (plus (answer_calls retried r.answer) (chosen_calls (first_stage w) r.acts))
 
@@ -263,13 +264,13 @@ module _ {W R D : Type 0} (states : List (StateRows W R D)) where
   is_counted None = true
   is_counted (Some state) = is_some state.calls
 
-  -- and so do those of an answer, and of the choices
+  -- the state that a row returns says how many calls are left, and so do the ones of choices
   abbrev pub counts_answer : State → Bool
   counts_answer (Next name) = is_counted (named states name)
   counts_answer (Retry name) = is_counted (named states name)
   counts_answer _ = true
 
-  -- what an attempt that saves nothing goes on with is not known to cost less than at the start
+  -- a choice that goes on with a state after Ok must save; the states of a choice say how many calls are left
   abbrev pub counts_choice : AttemptKind → State → State → Bool
   counts_choice kind (Next name) nok = saves kind nok && (is_counted (named states name) && counts_answer nok)
   counts_choice kind _ nok = counts_answer nok
@@ -279,22 +280,22 @@ module _ {W R D : Type 0} (states : List (StateRows W R D)) where
   counts_choices (choose kind ok nok ∷ acts) = counts_choice kind ok nok && counts_choices acts
   counts_choices (act ∷ acts) = counts_choices acts
 
-  -- a call is paid for
+  -- the calls that a state says are left are enough for a row
   abbrev pub pays_row : (previous current : Option W) → StateRows W R D → Row R D → Bool
   pays_row b w state r =
       counts_answer r.answer && (counts_choices r.acts && calls_le (row_calls (λ name. calls_at states b w (named states name)) w r) (calls_at states b w (Some state)))
 
-  -- feeding costs nothing: a byte that waits is one that was left
+  -- feeding costs nothing: a byte that waits is one of the bytes left
   abbrev pub feeds : (previous current : Option W) → StateRows W R D → Calls → Bool
   feeds b None state c = nat_le (calls_at states b None (Some state)).more c.more
   feeds b (Some w) state c = calls_le (calls_at states b (Some w) (Some state)) (at_stage byte_waits c)
 
-  -- if a state says how many calls are left, it is right
+  -- if a state says how many calls are left, they are enough
   abbrev pub fits_calls : (previous current : Option W) → StateRows W R D → Option Calls → Bool
   fits_calls b w state None = true
   fits_calls b w state (Some c) = all_rows (pays_row b w state) (state.rows b w) && feeds b w state c
 
-  -- a state is called where this waits
+  -- a state may be called while this waits
   abbrev pub is_called : Option W → StateRows W R D → Bool
   is_called w state = is_called_at state.called w
 

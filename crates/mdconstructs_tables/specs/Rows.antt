@@ -12,7 +12,7 @@ use Rattle.markdown_tokenizer.specs.Configuration.{Configuration, Local, Choice,
 use Rattle.markdown_tokenizer.specs.Sight.{Sight}
 use Rattle.markdown_tokenizer.specs.Calls.{consumed, entered, exited, linked, with_local, attempt_at, check_at}
 
--- What a state does in a call, one after another. A choice has its kind, and what it goes on with if it ends well and if not.
+-- What a state does in a call, one after another. A choice has its kind, and what it goes on with after Ok and after Nok.
 pub data Act (R D : Type 0) : Type 0 where
   enters : EventName → Option Link → Act R D
   exit : EventName → Act R D
@@ -38,13 +38,13 @@ pub record Row (R D : Type 0) : Type 0 where
   pub acts : List (Act R D)
   pub answer : State
 
--- How many calls are left at most: so many for each byte that is left, and so many more
+-- How many calls are left at most: a number for each byte that is left, and a number more
 pub record Calls : Type 0 where
   pub per_byte : ℕ
   pub more : ℕ
 
--- Where the spans of a state may have begun: before the place of the call; at the byte that waits, if it is one of these;
--- or where the byte before ended, and so at whatever waits
+-- Where the spans of a state may have begun: before the place of the call; at the byte that waits, if it is one of these; or where the
+-- previous byte ended, and so at whatever waits
 pub data Begun (W : Type 0) : Type 0 where
   before : Begun W
   at_byte : (W → Bool) → Begun W
@@ -56,16 +56,16 @@ pub data Needs : Type 0 where
   a_choice : Needs
   a_choice_once_read : Needs
 
--- What must wait where a state is called: anything, the end too; a byte; or one of these bytes
+-- What must wait when a state is called: a byte or the end; a byte; or one of these bytes
 pub data Called (W : Type 0) : Type 0 where
   anywhere : Called W
   at_a_byte : Called W
   at_bytes : (W → Bool) → Called W
 
--- A state: its name, and its rows by the class of the byte before and of what waits; None is the start and the end. What else is said of
--- it is tested: the spans that are open when it is called, the outermost first, since the last choice was made; where they may
--- have begun; which choices it needs; what must wait; and how many calls are left before what waits is fed, or
--- else a cost of its own, by the text and the number of bytes read.
+-- A state: its name, and its rows by the class of the previous byte and of what waits; None is the start and the end. The other fields are
+-- tested: the spans that are open when it is called, since the last choice was made, the outermost first; where they may have begun; which
+-- choices it needs; what must wait; and how many calls are left before the next byte is fed, or else a cost of its own, by the text and the
+-- number of bytes read.
 pub record StateRows (W R D : Type 0) : Type 0 where
   pub name : Name
   pub rows : (previous current : Option W) → Rows R D
@@ -76,7 +76,7 @@ pub record StateRows (W R D : Type 0) : Type 0 where
   pub calls : Option Calls
   pub own : Text → ℕ → ℕ
 
--- A machine: the class of a byte, what each call writes first, its states, and those with which it may start
+-- A machine: the class of a byte, what each call writes first, its states, and the names with which it may start
 pub record Table (W R D : Type 0) : Type 0 where
   pub class : ℕ → W
   pub first : Local R D → Local R D
@@ -87,12 +87,13 @@ pub record Table (W R D : Type 0) : Type 0 where
 abbrev pub no_cost : Text → ℕ → ℕ
 no_cost text position = 0
 
--- How many calls come from a state, if they are not so many for each byte: by the text, and how many of its bytes were read. It is found from
--- the end: where a state ends, it costs one call; else one more than what it goes on with, and than what its choices go on with.
+-- A cost of a state's own, if it is not a number of calls for each byte: by the text, and how many of its bytes were read. To find it,
+-- begin at the end: a state that ends costs one call. Any other costs one more than the state that it goes on with and its choices
+-- together.
 abbrev pub costs : {W R D : Type 0} → (Text → ℕ → ℕ) → StateRows W R D → StateRows W R D
 costs own state = record state { calls = None; own = own }
 
--- at most so many calls for each byte, and so many more
+-- at most this many calls for each byte, and this many more
 abbrev pub calls : (per_byte more : ℕ) → Option Calls
 calls per_byte more = Some (record { per_byte = per_byte; more = more })
 
@@ -100,11 +101,11 @@ calls per_byte more = Some (record { per_byte = per_byte; more = more })
 abbrev pub state : {W R D : Type 0} → Name → ((previous current : Option W) → Rows R D) → List EventName → Option Calls → StateRows W R D
 state name rows spans calls = record { name = name; rows = rows; spans = spans; begun = before; needs = nothing; called = anywhere; calls = calls; own = no_cost }
 
--- what is seen once the byte that waited is consumed: enters and exits come after it
+-- what is seen once the byte that waited is consumed: the place of enters and exits is after it
 abbrev pub past : Sight → Sight
 past s = record { previous = s.current; current = None; point = s.next; enter_place = s.next; exit_place = s.next; next = s.next }
 
--- the class of what waits, or of the byte before; None is the end, or the start
+-- the class of what waits, or of the previous byte; None is the end, or the start
 abbrev pub class_of : {W : Type 0} → (ℕ → W) → Option ℕ → Option W
 class_of class None = None
 class_of class (Some byte) = Some (class byte)
@@ -128,7 +129,7 @@ module _ {R D : Type 0} where
   choice_made_at Attempt ok nok k = attempt_at ok nok k
   choice_made_at Check ok nok k = check_at ok nok k
 
-  -- and which choices wait
+  -- which choices wait after it
   abbrev pub with_choice_of : Act R D → Configuration R D → List Choice → List Choice
   with_choice_of (choose kind ok nok) k choices = choice_made_at kind ok nok k ∷ choices
   with_choice_of _ k choices = choices
@@ -166,6 +167,6 @@ module _ {W R D : Type 0} where
   step_at table g None s k = record { configuration = k; choices = []; answer = Nok }
   step_at table g (Some state) s k = step_of (row_at table.class state g s k) s k
 
-  -- what the call of a name gives
+  -- the step of the call of a name
   abbrev pub table_step : Table W R D → Given → Sight → Configuration R D → Name → Step R D
   table_step table g s k name = step_at table g (named table.states name) s (with_local k (table.first k.local))

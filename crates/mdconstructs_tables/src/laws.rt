@@ -1,4 +1,4 @@
-//! Laws of tables. Each is a function that does nothing; its contract is the law.
+//! Laws about tables. Each is a function that does nothing; its contract is the law.
 
 ghost use Rattle.std.specs.Prelude.{Bool, List, Option};
 ghost use Rattle.markdown_base.specs.declared.event.Event.{Event};
@@ -16,10 +16,11 @@ ghost use Rattle.mdconstructs_tables.specs.PlainWrites.{WritesPlain};
 ghost use Rattle.mdconstructs_tables.specs.RowInvariant.{table_rules};
 ghost use Rattle.mdconstructs_tables.specs.Rows.{Table};
 
-/// If a table has no misfits, its own costs are paid, and no state links or writes, its rules are lawful on every document.
-/// A state may write what leaves nothing to resolve. And choices may end well late, behind where they were made.
+/// A table's rules are lawful on every document if the table has no misfits, its own costs are enough, and no state links
+/// or writes. They are lawful too if states write only what leaves nothing to resolve, or if choices end with `Ok` late:
+/// behind the place where they were made.
 ///
-/// `W` is the class of a byte, `R` a resolver and `D` what a document adds.
+/// `W` is the type of classes of bytes, `R` of resolvers, and `D` of what the machine keeps about a document.
 pub fn fitting_tables_are_lawful<W, R, D>()
     ensures plain { (table : Table W R D) → IsFit table → IsPlainTable table → (g : Given) → IsLawful g (plain (table_rules table g)) }
     ensures writing { (table : Table W R D) → IsFit table → WritesPlain table → (g : Given) → IsLawful g (plain (table_rules table g)) }
@@ -27,15 +28,15 @@ pub fn fitting_tables_are_lawful<W, R, D>()
         → IsLate table early falling → WritesPlain table → (g : Given) → IsLawful g (plain (late_rules table early falling g)) }
 {}
 
-/// A table, and what its machine knows besides what the table says.
+/// A table, and what its machine knows that the table does not say.
 pub trait Knowledge {
-    /// The class of a byte.
+    /// The type of classes of bytes.
     type Class;
 
-    /// A resolver.
+    /// The type of resolvers.
     type Resolver;
 
-    /// What a document adds.
+    /// What the machine keeps about a document.
     type Document;
 
     ghost table: { Table Self.Class Self.Resolver Self.Document };
@@ -43,8 +44,8 @@ pub trait Knowledge {
     ghost knows: { List Event → Local Self.Resolver Self.Document → List Choice → State → Type 0 };
 }
 
-/// If a table has no misfits, its own costs are paid, and its rows keep what the machine knows, its rules are lawful on every
-/// document.
+/// A table's rules are lawful on every document if the table has no misfits, its own costs are enough, and its rows keep what
+/// the machine knows.
 pub fn knowing_tables_are_lawful<K: Knowledge>()
     ensures { IsFit K.table → IsKnown K.table K.knows → (g : Given) → IsLawful g (knowing_rules K.table K.knows g) }
 {}

@@ -1,4 +1,4 @@
-//! Machines as tables: rows of data say what each state does, and the laws of a machine follow from a test of its rows.
+//! Machines as tables: rows of data say what each state does. The laws of a machine follow from a test of its rows.
 #![tactic(auto)]
 
 ghost use Rattle.std.specs.Prelude.{◌≡◌, OnOk};
@@ -11,9 +11,9 @@ use markdown_tokenizer::state::MachineTypes;
 use markdown_tokenizer::tokenizer::Tokenizer;
 use std::alloc::AllocError;
 
-/// Reads the byte that waits as a span of its own: enters it, consumes the byte and exits it.
+/// Reads the byte that waits as a span of its own: enters the span, consumes the byte, and exits the span.
 ///
-/// If memory runs out, the span may have begun, and the byte may be consumed.
+/// If it runs out of memory, the span may have begun, and the byte may be consumed.
 pub fn marker<'a, M: MachineTypes>(t: &mut Tokenizer<'a, M>, name: Name) -> Result<(), AllocError>
     requires { IsMarkable t.old }
     ensures { OnOk result (t.new ≡ marked name t.old) }

@@ -53,7 +53,7 @@ above-one base spans stack (Some saved) same some h = omega (arith, ap length sa
 above-all : (base spans stack : List EventName) (cs : List Choice) → stack ≡ base ++ spans → 1 ≤ length spans → All (IsBelow base) cs → All (λ c. IfSome c.saved (λ s. length s.stack < length stack)) cs
 above-all base spans stack cs same some h = All-weaker (IsBelow base) (λ c. IfSome c.saved (λ s. length s.stack < length stack)) (λ c. above-one base spans stack c.saved same some) cs h
 
--- where a byte still waits, nothing was read
+-- if a byte still waits, nothing was read
 still-waiting : {R D : Type 0} (stage : Stage) (k k' : Configuration R D) → IsAsFar k' (reached stage k) → k'.waiting ≡ Byte → (k'.position ≡ k.position) × (k'.waiting ≡ k.waiting)
 still-waiting end_waits k k' far is = (far.0, far.1)
 still-waiting byte_waits k k' far is = (far.0, far.1)
@@ -90,7 +90,7 @@ module _ {M W R D : Type 0} (class : ℕ → W) (state : StateRows W R D) (b w :
   abbrev pub are_allowed : List (Act R D) → Bool
   are_allowed acts = allows_all acts (start_shape b w state)
 
-  -- a table of which only the class of bytes matters
+  -- a table; only its class of bytes matters
   abbrev classes : Table W R D
   classes = record { class = class; first = λ local. local; states = []; starts = [] }
 
@@ -176,7 +176,7 @@ module _ {M W R D : Type 0} (class : ℕ → W) (state : StateRows W R D) (b w :
           below = stack-below base p.spans (acted acts).configuration.stack (acted acts).choices h.stack h.below;
         })
 
--- where a state is called that is never called at the end, a byte waits
+-- if a state is called that is never called at the end, a byte waits
 never-at-end : {W : Type 0} (class : ℕ → W) (called : Called W) (w : Waits) (p : ℕ) (ended : Bool) (text : Text) → IsFed w p ended text → is_called_at called None ≡ false
     → is_called_at called (class_in class text p) ≡ true → w ≡ Byte
 never-at-end class called Nothing p ended text h never at = absurd h
@@ -185,7 +185,7 @@ never-at-end class called End p ended text h never at =
     let past = subst (λ o. is_called_at called (class_of class (byte_of o)) ≡ true) (slice_get_past text.seats p h.1) at in
     absurd (let e : true ≡ false = sym past ∙ never in cc)
 
--- where a byte ends, an exit stands once it is consumed
+-- once a byte is consumed, the place of an exit is its end
 stands-past : {M R D : Type 0} (t : TokenizerValue M R D) → IsFed t.configuration.waiting t.configuration.position t.configuration.ended t.text → t.configuration.waiting ≡ Byte
     → (sight_of (once_read t)).exit_place ≡ (sight_of t).next
 stands-past t fed waits = let inside = rw waits at fed in rw waits (sym (next-left t.given t.text t.configuration.position Nothing inside))
@@ -206,7 +206,7 @@ allowed class state t can =
       ends_read = λ fit. can-end class state before waits t can refl refl (consume ∷ []) names (once_read t) fit refl;
     }
 
--- what holds where a machine is called is what its state asks for
+-- what holds when a machine is called is what its state requires
 pub callable : {M W R D : Type 0} (table : Table W R D) (first : Local R D → Local R D) (name : Name) (state : StateRows W R D) (t t' : TokenizerValue M R D) → name.number ≡ state.name.number
     → named table.states state.name ≡ Some state → table_holds table t.given t.text t.configuration t.choices (Retry name) → t' ≡ begun first t → IsCallable table.class state t'
 callable table first name state t t' same is h began =

@@ -84,7 +84,7 @@ abbrev pub reached : {R D : Type 0} → Stage → Configuration R D → Configur
 reached byte_read k = consumed k
 reached _ k = k
 
--- What is known of places in a call: spans may begin where an enter stands, and those that began before are among those that may have
+-- What is known of places in a call: spans may begin at the place of an enter, and earlier spans are among the ones that may have begun
 pub record IsSeenAhead (stage : Stage) (s : Sight) : Type 0 where
   pub begins : is_end stage ≡ false → since true stage s s.enter_place ≡ true
   pub later : (q : Point) → since false stage s q ≡ true → since true stage s q ≡ true
@@ -131,7 +131,7 @@ to-before false end_waits s q fit h = h
 to-before false byte_waits s q fit h = h
 to-before false byte_read s q fit h = h
 
--- where each open span began by one test, it began by another
+-- if each open span began by one test, it began by another
 pub began-on : (from to : Point → Bool) (events : List Event) → ((q : Point) → from q ≡ true → to q ≡ true) → Began from events → Began to events
 began-on from to events f h = All-weaker (λ e. from e.point ≡ true) (λ e. to e.point ≡ true) (λ e. f e.point) (open_events events) h
 
@@ -163,13 +163,13 @@ still-before true stage s q fit h = absurd (cc)
 still-before false stage s q fit h = h
 
 module _ {R D : Type 0} (g : Given) (text : Text) (old : Configuration R D) where
-  -- where an exit stands, by how far a call is
+  -- the place of an exit, by how far a call is
   pub left-at : (stage : Stage) (k : Configuration R D) → IsAsFar k (reached stage old) → Waited stage text old → (sight g text k).exit_place ≡ (sight_at stage (sight g text old)).exit_place
   left-at end_waits k far waited = rw far.0 refl
   left-at byte_waits k far waited = rw far.0 refl
   left-at byte_read k far waited = let byte = waited.0 in rw (far.0, byte) (sym (next-left g text old.position k.waiting waited.1))
 
-  -- where an enter stands before the end
+  -- the place of an enter before the end
   pub here-at : (stage : Stage) (k : Configuration R D) → IsAsFar k (reached stage old) → Waited stage text old → (sight g text k).enter_place ≡ (sight_at stage (sight g text old)).enter_place
   here-at end_waits k far waited = rw (far.0, far.1) refl
   here-at byte_waits k far waited = rw (far.0, far.1) refl
@@ -285,7 +285,7 @@ module _ {R D : Type 0} where
       has-after-all acts (after act p) (below_after act p base) (seen_after act s) g text old (done act s k) (with_choice_of act k choices) rest (sees-after act p s sees) (sight-after act p (sight g text old) s one e)
       (has-after g text old act p base s k choices one sees h)
 
-  -- one more act is done where those before it lead
+  -- one more act is done on what the acts before it leave
   pub does-then : (acts : List (Act R D)) (act : Act R D) (p : Shape) (first s : Sight) (k : Configuration R D) → allows_all acts p ≡ true → s ≡ sight_at p.stage first
       → does (acts ++ act ∷ []) s k ≡ done act (sight_at (after_all acts p).stage first) (does acts s k)
   does-then [] act p first s k can e = ap (λ s. done act s k) e

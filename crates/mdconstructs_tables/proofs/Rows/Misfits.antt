@@ -22,7 +22,7 @@ module _ {W R D : Type 0} (test : StateRows W R D → Bool) where
   picked-out true x state rest t f is = let e : x ≡ state = cc in subst (λ y. test y ≡ false) e t
   picked-out false x state rest t f is = f is
 
-  -- a test that no state passes is not passed by that of a name
+  -- a test that no state passes is not passed by the state of a name
   pub named-out : (states : List (StateRows W R D)) (name : Name) (state : StateRows W R D) → filter test states ≡ [] → named states name ≡ Some state → test state ≡ false
   named-out [] name state h is = absurd (cc)
   named-out (x ∷ xs) name state h is =
@@ -39,7 +39,7 @@ pub named-same : {W R D : Type 0} (states : List (StateRows W R D)) (name : Name
 named-same [] name state is = absurd (cc)
 named-same (x ∷ xs) name state is = same-or (name.number == x.name.number) name x state (named xs name) (λ e. grind (arith, nat_tests)) (λ e. named-same xs name state e) is
 
--- where a list of lists has nothing, none of them has
+-- if a list of lists has no elements in all, none of the lists has any
 module _ {A : Type 0} where
   pub none-made : {B : Type 0} (f : B → List A) (xs : List B) → flat_map f xs ≡ [] → All (λ x. f x ≡ []) xs
   none-made f [] h = All-nil (λ x. f x ≡ [])

@@ -61,7 +61,7 @@ right-most c d n =
 max-most : (x y : ℕ) (c d : Calls) (n : ℕ) → x ≤ at_most c n → y ≤ at_most d n → max x y ≤ at_most (larger c d) n
 max-most x y c d n h k = omega (arith, h, k, left-most c d n, right-most c d n)
 
--- how many bytes are left at a stage, where so many are once what waits was read
+-- how many bytes are left at a stage, if this many are left once what waits was read
 abbrev bound : Stage → ℕ → ℕ
 bound byte_waits n = n + 1
 bound _ n = n
@@ -80,7 +80,7 @@ read-left byte_waits n total p left = omega arith
 read-left byte_read n total p left = omega arith
 
 module _ {W R D : Type 0} (table : Table W R D) (g : Given) (late : Bool) where
-  -- where a state says how many calls are left, it costs those
+  -- if a state says how many calls are left, that is its cost
   counted-next : (o : Option (StateRows W R D)) (text : Text) (p : ℕ) → is_counted table.states o ≡ true → next_price table text p o ≤ at_most (fed_calls table.states o) (length text.seats - p)
   counted-next None text p h = omega arith
   counted-next (Some state) text p h =
@@ -194,7 +194,7 @@ module _ {W R D : Type 0} (table : Table W R D) (g : Given) (late : Bool) where
   picked-within b w text p price (when by one other) s k h =
       one-within b w text p price (by g s k) (picked one g s k) (picked other g s k) (picked-within b w text p price one s k h.0) (picked-within b w text p price other s k h.1)
 
-  -- what holds of all states, by their calls, holds of the one of a name
+  -- what holds for all states, by their calls, holds for the state of a name
   found : (P : StateRows W R D → Type 0) (x state : StateRows W R D) (b : Bool) (rest : Option (StateRows W R D)) → P x → (rest ≡ Some state → P state) → cond b (Some x) rest ≡ Some state → P state
   found P x state true rest one more is = let e : x ≡ state = cc in subst P e one
   found P x state false rest one more is = more is
@@ -219,7 +219,7 @@ module _ {W R D : Type 0} (table : Table W R D) (g : Given) (late : Bool) where
             (picked-passes (pays_row table.states b w state) (state.rows b w) g s k (and_parts (all_rows (pays_row table.states b w state) (state.rows b w)) (feeds table.states b w state c) fit).0)
       ] own fit
 
-  -- the answer of a call costs what was counted for it
+  -- the state that a call returns costs what was counted for it
   answer-costs : (st : Stage) (b w : Option W) (p : Shape) (a : State) (text : Text) (k k' : Configuration R D) → fits_answer table.states st b w p a ≡ true → IsAsFar k' (reached st k)
       → table_cost table g text k' a ≤ answer_price table (before_class table g text k) (of_class table g text k) text k.position a
   answer-costs st b w p Ok text k k' fit far = omega arith
@@ -230,7 +230,7 @@ module _ {W R D : Type 0} (table : Table W R D) (g : Given) (late : Bool) where
   answer-costs end_waits b None p (Retry name) text k k' fit far = rw (far.0, far.1) (omega arith)
   answer-costs st b w p a text k k' fit far = absurd (cc)
 
-  -- what a choice goes on with, where it saved this
+  -- what a choice goes on with, if it saved this
   abbrev reserved : Text → Choice → ℕ
   reserved text c = reserve_of table late text c c.saved
 
@@ -290,7 +290,7 @@ module _ {W R D : Type 0} (table : Table W R D) (g : Given) (late : Bool) where
       abbrev IsFarBehind : Option Saved → Type 0
       IsFarBehind saved = IfSome saved (λ saved. behind late saved.position ≤ k.position)
 
-      -- what a choice goes on with, where it ended well or not, costs at most its reserve
+      -- what a choice goes on with, after Ok and after Nok, costs at most its reserve
       well-costs : (kind : AttemptKind) (b : Bool) (saved : Option Saved) → saves kind c.nok ≡ b → fits_choice table.states f kind c.ok c.nok ≡ true → IsSaved table.class g text k.position (outline k) stack f b saved
           → falls_on falling c.ok ≡ true → IsFarBehind saved → CanGoBack late kind → table_cost table g text (settled_at kind saved Ok k) c.ok ≤ reserve_of table late text c saved
       well-costs Attempt true (Some saved) is fit h may far back =
@@ -417,7 +417,7 @@ every-falls Ok = refl
 every-falls Nok = refl
 every-falls (Error message) = refl
 
--- what was saved is not behind where one stands
+-- what was saved is not after the current position
 is-behind : {W : Type 0} (class : ℕ → W) (g : Given) (text : Text) (p : ℕ) (events : List Event) (stack : List EventName) (f : Frame W) (b : Bool) (saved : Option Saved) → IsSaved class g text p events stack f b saved
     → IfSome saved (λ saved. behind false saved.position ≤ p)
 is-behind class g text p events stack f true (Some saved) h = h.behind

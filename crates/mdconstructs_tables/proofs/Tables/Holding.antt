@@ -1,4 +1,5 @@
--- The invariant of a table: if it holds before a call it holds at the answer, once that is fed, when a choice ends, and when the text goes on.
+-- The invariant of a table: if it holds before a call, it holds at the state returned, once that is fed, when a choice ends, and when the
+-- text goes on.
 use Rattle.std.proofs.Common.{◌≡◌, ◌≢◌, ℕ, zero, suc, ◌<◌, ◌≤◌, ◌&&◌, ◌||◌, not, List, [], ◌∷◌, ◌++◌, Bool, true, false, Option, Some, None, length, map, refl, sym, ap, ◌∙◌, subst, arith, ◌⊎◌, inl, inr, take, drop}
 use Rattle.std.specs.Prelude.{All, IfSome, nat_lt}
 use Rattle.std.specs.List.{last_or}
@@ -114,13 +115,13 @@ module _ {W R D : Type 0} (table : Table W R D) (g : Given) where
   called-more (at_bytes test) None there same h = absurd (cc)
   called-more (at_bytes test) (Some w) there same h = rw (same w refl) h
 
-  -- where something waits, it is what is next in the text
+  -- if something waits, it is what is next in the text
   pub waits-at : (w : Waits) (text : Text) (p : ℕ) (ended : Bool) → IsFed w p ended text → class_in table.class text p ≡ class_of table.class (current_of text p w)
   waits-at Nothing text p ended h = absurd h
   waits-at Byte text p ended h = refl
   waits-at End text p ended h = let none = slice_get_past text.seats p h.1 in rw none refl
 
-  -- if the test says that spans, choices and what waits are those of a state, they are
+  -- if the test says that spans, choices and what waits fit a state, they do
   at-state : (spans : List EventName) (within : Bool) (waits : Option W) (read : Bool) (o : Option (StateRows W R D)) (where_to : StateRows W R D → Point → Bool) (text : Text) (k : Configuration R D) (base : List EventName)
       (choices : List Choice) → is_at table.states spans within waits read o ≡ true → k.stack ≡ base ++ spans → ((state : StateRows W R D) → o ≡ Some state → Began (where_to state) (outline k))
       → (is_void_last (last_or None spans) ≡ true → EndsWithEnter (outline k)) → AreWaiting table.class table.states g text k.position (outline k) base choices → (within ≡ true → AnyWait choices)
@@ -156,7 +157,7 @@ module _ {W R D : Type 0} (table : Table W R D) (g : Given) where
   abbrev pub shape_of : Text → Configuration R D → StateRows W R D → Shape
   shape_of text k state = after_all (row_of text k state).acts (start_shape (before_class text k) (of_class text k) state)
 
-  -- A call is that of a state of the table, its row fits, and its acts leave the shape after them
+  -- A call runs a state of the table, its row fits, and its acts leave the shape after them
   pub record IsCall (text : Text) (k : Configuration R D) (choices : List Choice) (name : Name) : Type 0 where
     pub state : StateRows W R D
     pub is : named table.states name ≡ Some state
@@ -201,7 +202,7 @@ module _ {W R D : Type 0} (table : Table W R D) (g : Given) where
   any-or-ended true end choices ended h any at = inl (any refl)
   any-or-ended false end choices ended h any at = inr (at h)
 
-  -- the invariant holds of the answer
+  -- the invariant holds for the state returned
   pub answered : (st : Stage) (b w : Option W) (p : Shape) (above : List EventName) (a : State) (text : Text) (k k' : Configuration R D) (choices : List Choice) → is_some b ≡ is_read k.position
       → IsFed k.waiting k.position k.ended text → SightIsInOrder k.waiting (sight g text k) → of_class text k ≡ w → Waited (first_stage w) text k
       → fits_answer table.states st b w p a ≡ true → p.stage ≡ st → HasShape p above (sight_at p.stage (sight g text k)) g text k k' choices
@@ -270,7 +271,7 @@ module _ {W R D : Type 0} (table : Table W R D) (g : Given) where
   answered byte_waits b w p above a text k k' choices read waits order class met fit at h waiting = absurd (cc)
   answered end_waits b w p above a text k k' choices read waits order class met fit at h waiting = absurd (cc)
 
-  -- if the text goes on the invariant at an answer still holds
+  -- if the text goes on, the invariant at a state returned still holds
   state-longer : (o : Option (StateRows W R D)) (where_to : StateRows W R D → Point → Bool) (text more : Text) (k : Configuration R D) (choices : List Choice) → Extends text more → k.position ≤ length text.seats
       → IsStateAt table g text o where_to k choices → IsStateAt table g more o where_to k choices
   state-longer None where_to text more k choices e inside h = h

@@ -1,4 +1,4 @@
--- The laws of two machines in one, from those of each.
+-- The laws of two machines in one, from the laws of each.
 use Rattle.std.proofs.Common.{◌≡◌, ◌+◌, ◌≤◌, inl, inr, List, [], ◌∷◌, ◌++◌, Bool, true, false, cond, Option, Some, None, refl, sym, ap, ◌∙◌, subst, arith, ◌==◌}
 use Rattle.std.specs.Prelude.{sum_by}
 use Rattle.std.proofs.lemmas.Bool.Decides.{nat_tests}
@@ -39,7 +39,7 @@ module _ {R D : Type 0} (is_first : Name → Bool) (g : Given) (first second : R
   of-second text k choices name e (inl h) = absurd (either (is_first name) (apart.first_called text k choices name h) e)
   of-second text k choices name e (inr h) = h
 
-  -- a law of each call of either is one of both
+  -- a law about each call of either machine is a law about both
   each-call : (P : Text → Configuration R D → List Choice → Name → Step R D → Type 0)
       → ((text : Text) (k : Configuration R D) (choices : List Choice) (name : Name) → IsText g text → first.holds text k choices (Retry name) → P text k choices name (first.step (sight g text k) k name))
       → ((text : Text) (k : Configuration R D) (choices : List Choice) (name : Name) → IsText g text → second.holds text k choices (Retry name) → P text k choices name (second.step (sight g text k) k name))
@@ -170,7 +170,7 @@ module _ {V W R D : Type 0} where
       other-or (name.number == state.name.number) name state (named states name) others (λ e. grind (arith, nat_tests)) apart.0 (other-name states others name apart.1) h
 
 module _ {W R D : Type 0} (table : Table W R D) (g : Given) (text : Text) (k : Configuration R D) (choices : List Choice) where
-  -- where a table holds, the name is one of its states'
+  -- if a table's invariant holds, the name is one of its states'
   at-state : (o : Option (StateRows W R D)) (where_to : StateRows W R D → Point → Bool) → IsStateAt table g text o where_to k choices → is_some o ≡ true
   at-state None where_to h = absurd h
   at-state (Some state) where_to h = refl

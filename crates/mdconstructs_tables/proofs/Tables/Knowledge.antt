@@ -1,4 +1,4 @@
--- The laws of a machine that knows more than its table says, from those of the table and from what each row keeps of it.
+-- The laws of a machine that knows more than its table says, from the table's laws and from what each row keeps.
 use Rattle.std.proofs.Common.{◌≡◌, List, [], ◌∷◌, Bool, true, false, cond, Option, Some, refl, sym, subst, ◌==◌, arith}
 use Rattle.std.specs.Prelude.{nat_lt, length}
 use Rattle.std.proofs.lemmas.List.Elements.{All-contains}

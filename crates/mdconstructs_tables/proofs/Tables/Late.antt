@@ -1,4 +1,4 @@
--- The laws of a machine whose choices end well late, from the test of its table.
+-- The laws of a machine whose choices end with Ok late, from the test of its table.
 use Rattle.std.proofs.Common.{◌≡◌, ℕ, ◌+◌, ◌<◌, ◌≤◌, ◌||◌, not, List, [], ◌∷◌, ◌++◌, Bool, true, false, Option, Some, refl, sym, ap, subst, arith, inl, inr}
 use Rattle.std.specs.Prelude.{filter, IfSome}
 use Rattle.std.proofs.lemmas.Bool.{and_parts, not-false}
@@ -25,7 +25,7 @@ use Rattle.mdconstructs_tables.proofs.Tables.Laws.{is-call, picked-passes, table
 use Rattle.mdconstructs_tables.proofs.Tables.Costs.{calls-pay, feeding-pays, ok-pays, nok-pays}
 
 module _ {W R D : Type 0} (table : Table W R D) (early : Name → Option W → Bool) (falling : Name → Bool) where
-  -- what stands behind the last choice may be asked to stand there or behind
+  -- what is behind the last choice is at the choice or behind it
   may-stay : (at_last : Bool) (p : ℕ) (choices : List Choice) → AreFallingBehind table early falling false p choices → AreFallingBehind table early falling at_last p choices
   may-stay at_last p [] h = tt
   may-stay at_last p (c ∷ cs) h = (h.0, h.1, h.2, h.3, h.4, (λ e. h.5 refl), h.6)
@@ -35,12 +35,12 @@ module _ {W R D : Type 0} (table : Table W R D) (early : Name → Option W → B
   stays-or true false p choices e h = absurd (cc)
   stays-or false early_now p choices e h = may-stay early_now p choices h
 
-  -- behind a byte more one stands behind the last choice
+  -- after one more byte the position is behind the last choice
   read-on : (at_last : Bool) (p : ℕ) (choices : List Choice) → AreFallingBehind table early falling at_last p choices → AreFallingBehind table early falling false (p + 1) choices
   read-on at_last p [] h = tt
   read-on at_last p (c ∷ cs) h = let near = h.4 in (h.0, h.1, h.2, h.3, omega (arith, near), (λ e. omega (arith, near)), h.6)
 
-  -- what stood behind the choices where one was made stands further behind them later
+  -- a position behind the choices is still behind them later
   further : (at_last : Bool) (p q : ℕ) (choices : List Choice) → p < q → AreFallingBehind table early falling at_last p choices → AreFallingBehind table early falling false q choices
   further at_last p q [] less h = tt
   further at_last p q (c ∷ cs) less h = let near = h.4 in (h.0, h.1, h.2, h.3, omega (arith, near, less), (λ e. omega (arith, near, less)), h.6)
@@ -71,14 +71,14 @@ module _ {W R D : Type 0} (table : Table W R D) (early : Name → Option W → B
       acts-behind acts true s k (choice_made_at kind ok nok k ∷ choices) rest (chosen-behind at_last k kind ok nok choices one h)
 
   module _ (g : Given) (is_late : IsLate table early falling) where
-    -- a state of the table ends no choice well where it was made
+    -- a state of the table ends no choice with Ok at the place where the choice was made
     state-late : (b w : Option W) (name : Name) (state : StateRows W R D) → named table.states name ≡ Some state → is_late_state table early falling b w state ≡ true
     state-late b w name state is =
         let test = λ (state : StateRows W R D). not (is_late_state table early falling b w state) in
         let none = none-mapped (λ (state : StateRows W R D). state.name) (filter test table.states) (is_late.late b w) in
         not-false (is_late_state table early falling b w state) (named-out test table.states name state none is)
 
-    -- where an answer calls a state at once, the same waits
+    -- if a call returns Retry, the same waits
     answer-behind : (a : State) (at_last : Bool) (w w' : Option W) (p : ℕ) (choices : List Choice) → ((n : Name) → a ≡ Retry n → w' ≡ w) → (not at_last || is_early early w a) ≡ true
         → AreFallingBehind table early falling at_last p choices → AreFallingBehind table early falling (is_early early w' a) p choices
     answer-behind (Retry name) at_last w w' p choices same e h =
@@ -152,7 +152,7 @@ module _ {W R D : Type 0} (table : Table W R D) (early : Name → Option W → B
     end-behind Nok w p choices h = h
     end-behind (Error message) w p choices h = h
 
-    -- more of the document changes nothing of what is called, or waits
+    -- more of the document does not change what is called, or what waits
     longer-behind : (a : State) (text more : Text) (k : Configuration R D) (choices : List Choice) → Extends text more → k.ended ≡ false → table_holds table g text k choices a
         → AreFallingBehind table early falling (is_early early (of_class table g text k) a) k.position choices → AreFallingBehind table early falling (is_early early (of_class table g more k) a) k.position choices
     longer-behind (Retry name) text more k choices e fresh h behind =

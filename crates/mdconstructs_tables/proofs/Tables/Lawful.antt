@@ -1,4 +1,4 @@
--- Rules of tables are lawful: of one that is plain, of one whose choices end well late, of one that knows more, and of two in one.
+-- Rules of tables are lawful: of a plain table, of one whose choices end with Ok late, of one that knows more, and of two in one.
 use Rattle.markdown_base.specs.declared.event.Event.{Event}
 use Rattle.std.specs.Prelude.{Bool, List, Option}
 use Rattle.markdown_base.specs.declared.state.Name.{Name}

@@ -49,7 +49,7 @@ module _ {R D : Type 0} where
       (picked-plain other g s at k P (rows-beside one (RowsWritePlain other P) h) plain)
 
 module _ {W R D : Type 0} where
-  -- what is said of the rows of a state, if there is one
+  -- what is required of the rows of a state, if there is one
   abbrev IsPlainState : Option (StateRows W R D) → (previous current : Option W) → Type 1
   IsPlainState None previous current = Unit {1}
   IsPlainState (Some state) previous current = (P : Type 0) × RowsWritePlain (state.rows previous current) P

@@ -1,4 +1,5 @@
--- Three tests of a table at once, for a machine that links and writes nothing and refuses no document: one answer for each class of what waits.
+-- Three tests of a table at once, for a machine that links and writes nothing and refuses no document: one equation for each class of what
+-- waits.
 use Rattle.std.proofs.Common.{◌≡◌, List, [], Bool, true, Option, ap}
 use Rattle.markdown_base.specs.declared.state.Name.{Name}
 use Rattle.mdconstructs_tables.specs.Rows.{Table}
