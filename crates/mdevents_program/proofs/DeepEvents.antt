@@ -1,6 +1,7 @@
 -- What is read with the children of chains of text: it is refused nowhere where rules refuse nothing, its chains can be read, and by the
 -- machine of texts the children are the texts.
 use Rattle.std.proofs.Common.{ℕ, List, ⊎_elim, false, true}
+use Rattle.markdown.specs.declared.configuration.ParseOptions.{ParseOptions}
 use Rattle.markdown.specs.declared.event.Event.{Event}
 use Rattle.markdown.specs.declared.message.Message.{Message}
 use Rattle.markdown.specs.declared.state.Name.{Name}
@@ -23,15 +24,15 @@ module _ {R D : Type 0} (rules : Given → Rules R D) (nothing : RulesRefuseNoth
   no-child-refused g events c m h =
       none-refused rules nothing g (text_of_chain g events (chain_of events c)) true 0 (start_configuration h.read.flag) h.read.start h.result m h.read.ends h.message
 
-  pub none-refused-deep : (start : Name) (t : ℕ) (bytes : List ℕ) (m : Message) → ¬ IsRefusedDeep rules start t bytes m
-  none-refused-deep start t bytes m h =
-      ⊎_elim (λ (run : IsRunRefused (document t bytes) rules false start m). no-run-refused rules nothing (document t bytes) false start m run)
-      (λ (child : (flat : List Event) × Gives rules start t bytes flat × HasRefusedChild rules t bytes flat m). no-child-refused (document t bytes) child.0 child.2.1.chain m child.2.1.refused) h
+  pub none-refused-deep : (start : Name) (options : ParseOptions) (bytes : List ℕ) (m : Message) → ¬ IsRefusedDeep rules start options bytes m
+  none-refused-deep start options bytes m h =
+      ⊎_elim (λ (run : IsRunRefused (document options bytes) rules false start m). no-run-refused rules nothing (document options bytes) false start m run)
+      (λ (child : (flat : List Event) × Gives rules start options bytes flat × HasRefusedChild rules options bytes flat m). no-child-refused (document options bytes) child.0 child.2.1.chain m child.2.1.refused) h
 
 -- a run from the start of paragraphs has chains that can be read
-pub all-ready : (rules : Given → Rules Unit Unit) → HasReadableChains rules FlowStart → (t : ℕ) (bytes : List ℕ) → IsDocument (document t bytes) → ¬ GivesUnready rules FlowStart t bytes
-all-ready rules readable t bytes is h = h.2 (readable (document t bytes) h.0 h.1.0 is h.1.1)
+pub all-ready : (rules : Given → Rules Unit Unit) → HasReadableChains rules FlowStart → (options : ParseOptions) (bytes : List ℕ) → IsDocument (document options bytes) → ¬ GivesUnready rules FlowStart options bytes
+all-ready rules readable options bytes is h = h.2 (readable (document options bytes) h.0 h.1.0 is h.1.1)
 
 -- the children that the machine of texts read are the texts
-pub with-texts : (t : ℕ) (bytes : List ℕ) → IsDocument (document t bytes) → (events : List Event) → GivesDeep text_rules FlowStart t bytes events → GivesTexts t bytes events
-with-texts t bytes is events h = (h.0, h.1, h.2, texts-of-chains (document t bytes) h.0 is h.2.0 events h.2.1.0 h.2.1.1)
+pub with-texts : (options : ParseOptions) (bytes : List ℕ) → IsDocument (document options bytes) → (events : List Event) → GivesDeep text_rules FlowStart options bytes events → GivesTexts options bytes events
+with-texts options bytes is events h = (h.0, h.1, h.2, texts-of-chains (document options bytes) h.0 is h.2.0 events h.2.1.0 h.2.1.1)

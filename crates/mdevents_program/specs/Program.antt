@@ -2,12 +2,13 @@
 use Rattle.std.specs.Prelude.{[], ◌≡◌, ◌⊎◌, ℕ, Bool, List, true, false, Option, Some, Result, Ok, take}
 use Rattle.std.specs.Option.{option_map_or}
 use Rattle.std.specs.Io.KnownBytes.{Consumes, IsAtEnd, Appends}
+use Rattle.markdown.specs.declared.configuration.Constructs.{Constructs}
 use Rattle.markdown.specs.declared.configuration.ParseOptions.{ParseOptions}
 use Rattle.markdown.specs.declared.event.Event.{Event}
 use Rattle.markdown.specs.declared.message.Message.{Message}
 use Rattle.markdown.specs.declared.state.Name.{Name}
 use Rattle.markdown.specs.StateConstants.Name.{FlowStart, TextStart, StringStart}
-use Rattle.markdown.specs.Presets.{default_parse_options}
+use Rattle.markdown.specs.Presets.{default_constructs, default_parse_options}
 use Rattle.markdown.specs.declared.subtokenize.Subresult.{Subresult}
 use Rattle.markdown.specs.Text.{Given}
 use Rattle.markdown.specs.Rules.{Rules}
@@ -31,49 +32,49 @@ use Rattle.mdconstructs.specs.TextRules.{text_rules}
 use Rattle.mdevents_program.specs.Printed.{printed_events}
 use Rattle.markdown.specs.Virtual.{IsWithinLimit}
 
--- the default options, with tab stops at every `t` columns
-abbrev pub options_with : (t : ℕ) → ParseOptions
-options_with t = record default_parse_options { tab_size = t }
+-- the default options, but for the constructs, and with tab stops at every `t` columns
+abbrev pub options_with : Constructs → (t : ℕ) → ParseOptions
+options_with constructs t = record default_parse_options { constructs = constructs; tab_size = t }
 
 -- a document, read with these options
-abbrev pub document : (t : ℕ) → List ℕ → Given
-document t bytes = given_by bytes (options_with t)
+abbrev pub document : ParseOptions → List ℕ → Given
+document options bytes = given_by bytes options
 
 -- a machine
-module _ {R D : Type 0} (rules : Given → Rules R D) (t : ℕ) (bytes : List ℕ) where
+module _ {R D : Type 0} (rules : Given → Rules R D) (options : ParseOptions) (bytes : List ℕ) where
   -- events of a document, whose chains of text can be read, with the children of these in place of the chunks, all read by the machine
   abbrev pub HasChildren : List Event → List Event → Type 0
-  HasChildren old new = IsReady t bytes (Some TextContent) old × ((sub : Subresult) × IsSubtokenized (document t bytes) rules (Some TextContent) old new sub)
+  HasChildren old new = IsReady options.tab_size bytes (Some TextContent) old × ((sub : Subresult) × IsSubtokenized (document options bytes) rules (Some TextContent) old new sub)
 
   -- the first of these children that does not end well ends in a message
   abbrev pub HasRefusedChild : List Event → Message → Type 0
-  HasRefusedChild old m = IsReady t bytes (Some TextContent) old × IsSubtokenizeRefused (document t bytes) rules (Some TextContent) old m
+  HasRefusedChild old m = IsReady options.tab_size bytes (Some TextContent) old × IsSubtokenizeRefused (document options bytes) rules (Some TextContent) old m
 
 -- a machine with a start
-module _ {R D : Type 0} (rules : Given → Rules R D) (start : Name) (t : ℕ) (bytes : List ℕ) where
+module _ {R D : Type 0} (rules : Given → Rules R D) (start : Name) (options : ParseOptions) (bytes : List ℕ) where
   -- a run of the machine over a document returns these events
   abbrev pub Gives : List Event → Type 0
-  Gives events = (sub : Subresult) × IsRun (document t bytes) rules false start events sub
+  Gives events = (sub : Subresult) × IsRun (document options bytes) rules false start events sub
 
   -- a run returns events, and these are they with the children of its chains of text
   abbrev pub GivesDeep : List Event → Type 0
-  GivesDeep events = (flat : List Event) × Gives flat × HasChildren rules t bytes flat events
+  GivesDeep events = (flat : List Event) × Gives flat × HasChildren rules options bytes flat events
 
   -- the run, or a child of its chains of text, ends in a message
   abbrev pub IsRefusedDeep : Message → Type 0
-  IsRefusedDeep m = IsRunRefused (document t bytes) rules false start m ⊎ ((flat : List Event) × Gives flat × HasRefusedChild rules t bytes flat m)
+  IsRefusedDeep m = IsRunRefused (document options bytes) rules false start m ⊎ ((flat : List Event) × Gives flat × HasRefusedChild rules options bytes flat m)
 
   -- a run returns events whose chains of text cannot be read
   abbrev pub GivesUnready : Type 0
-  GivesUnready = (flat : List Event) × Gives flat × ¬ IsReady t bytes (Some TextContent) flat
+  GivesUnready = (flat : List Event) × Gives flat × ¬ IsReady options.tab_size bytes (Some TextContent) flat
 
 -- a run of the machine of texts returns events, and these are they with the texts of their chains in place of the chunks: each text by
 -- its items, by a definition without states
-abbrev pub GivesTexts : (t : ℕ) → List ℕ → List Event → Type 0
-GivesTexts t bytes events = (flat : List Event) × Gives text_rules FlowStart t bytes flat × HasChildren text_rules t bytes flat events × (events ≡ with_texts (document t bytes) flat)
+abbrev pub GivesTexts : ParseOptions → List ℕ → List Event → Type 0
+GivesTexts options bytes events = (flat : List Event) × Gives text_rules FlowStart options bytes flat × HasChildren text_rules options bytes flat events × (events ≡ with_texts (document options bytes) flat)
 
 -- the events of a document are those that its machine gives, and with `--deep` those with children; only two machines link
-abbrev pub AreEventsOf : (deep : Bool) → Which → (t : ℕ) → List ℕ → List Event → Type 0
+abbrev pub AreEventsOf : (deep : Bool) → Which → ParseOptions → List ℕ → List Event → Type 0
 AreEventsOf deep Lines = Gives lines_rules FlowStart
 AreEventsOf false Paragraphs = Gives paragraphs_rules FlowStart
 AreEventsOf true Paragraphs = GivesDeep paragraphs_rules FlowStart
@@ -99,7 +100,7 @@ pub record ArePrintedEvents (choice : Choice) (old new : Option (List ℕ)) (tex
   pub bytes : List ℕ
   pub read : IsReadToEnd choice.tab old new bytes
   pub events : List Event
-  pub are : AreEventsOf choice.deep choice.machine choice.tab bytes events
+  pub are : AreEventsOf choice.deep choice.machine (options_with default_constructs choice.tab) bytes events
   pub lines : text ≡ printed_events events
 
 module _ {A B : Type 0} (choice : Choice) (remaining : A → Option (List ℕ)) (reader_old reader_new : A) (contents : B → Option (List ℕ)) (writer_old writer_new : B) where

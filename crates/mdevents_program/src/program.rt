@@ -16,7 +16,7 @@ use crate::arguments::{Choice, Which};
 use crate::failure::Failure;
 use crate::read::read_to_end;
 use crate::write::write_lines;
-use markdown::configuration::{ParseOptions, TabSize};
+use markdown::configuration::{Constructs, ParseOptions, TabSize};
 use markdown::event::{Content, Event};
 use markdown::parser::ParseState;
 use markdown::state::{Machine, Name};
@@ -49,69 +49,76 @@ pub fn write_events<R: Read, W: Write>(
     ensures nothing { IfErr result (λ failure. failure ≢ Failure.Write → Keeps (W.contents writer.old) (W.contents writer.new)) }
 {
     let bytes = read_to_end(alloc, reader, choice.tab)?;
-    let events = events_of(alloc, bytes.as_slice(), choice)?;
+    let events = events_of(alloc, bytes.as_slice(), Constructs::default(), choice)?;
     write_lines(writer, events.as_slice())
 }
 
-/// The events of a document, which have no trace of the cuts.
-fn events_of(alloc: Global, bytes: &[u8], choice: &Choice) -> Result<Vec<Event>, Failure>
+/// The events of a document, read by the machine that the choice names, with these constructs. They have no trace of the cuts.
+///
+/// The only failure that comes is `Memory`.
+pub fn events_of(
+    alloc: Global,
+    bytes: &[u8],
+    constructs: Constructs,
+    choice: &Choice,
+) -> Result<Vec<Event>, Failure>
     requires limit { IsWithinLimit choice.now.tab bytes.now }
     requires cut { CanCut choice.now }
-    ensures events { IfOk result (λ events. AreEventsOf choice.now.deep choice.now.machine choice.now.tab bytes.now events.items) }
+    ensures events { IfOk result (λ events. AreEventsOf choice.now.deep choice.now.machine (options_with constructs choice.now.tab) bytes.now events.items) }
     ensures never_refused { (m : _) → ¬ IsErrOf result (Failure.Message m) }
     ensures ready { ¬ IsErrOf result Failure.NotReady }
     ensures cause { IfErr result IsOfMaking }
 {
     let cuts = cuts_of(alloc, bytes, choice)?;
     let cuts = cuts.as_slice();
-    let tab = choice.tab;
+    let options = &options_with(constructs, choice.tab);
     match choice.machine {
-        Which::Lines => read_by(alloc, &Lines {}, Name::FlowStart, bytes, tab, cuts),
+        Which::Lines => read_by(alloc, &Lines {}, Name::FlowStart, bytes, options, cuts),
         Which::Paragraphs if choice.deep => {
-            read_deep_by(alloc, &Paragraphs {}, Name::FlowStart, bytes, tab, cuts)
+            read_deep_by(alloc, &Paragraphs {}, Name::FlowStart, bytes, options, cuts)
         }
-        Which::Paragraphs => read_by(alloc, &Paragraphs {}, Name::FlowStart, bytes, tab, cuts),
-        Which::Peek => read_by(alloc, &Peek {}, Name::TextStart, bytes, tab, cuts),
-        Which::Deep => read_by(alloc, &Deep {}, Name::StringStart, bytes, tab, cuts),
-        Which::Back => read_by(alloc, &Back {}, Name::TextStart, bytes, tab, cuts),
-        Which::Save => read_by(alloc, &Save {}, Name::TextStart, bytes, tab, cuts),
+        Which::Paragraphs => read_by(alloc, &Paragraphs {}, Name::FlowStart, bytes, options, cuts),
+        Which::Peek => read_by(alloc, &Peek {}, Name::TextStart, bytes, options, cuts),
+        Which::Deep => read_by(alloc, &Deep {}, Name::StringStart, bytes, options, cuts),
+        Which::Back => read_by(alloc, &Back {}, Name::TextStart, bytes, options, cuts),
+        Which::Save => read_by(alloc, &Save {}, Name::TextStart, bytes, options, cuts),
         Which::Text if choice.deep => {
-            read_deep_by(alloc, &Text {}, Name::FlowStart, bytes, tab, cuts)
+            read_deep_by(alloc, &Text {}, Name::FlowStart, bytes, options, cuts)
         }
-        Which::Text => read_by(alloc, &Text {}, Name::FlowStart, bytes, tab, cuts),
+        Which::Text => read_by(alloc, &Text {}, Name::FlowStart, bytes, options, cuts),
     }
 }
 
-/// The default options, with tab stops at every so many columns.
-fn options_with(tab: TabSize) -> ParseOptions
-    ensures { result ≡ options_with tab }
+/// The default options, but for the constructs, and with tab stops at every so many columns.
+pub fn options_with(constructs: Constructs, tab: TabSize) -> ParseOptions
+    ensures { result ≡ options_with constructs tab }
 {
     ParseOptions {
+        constructs,
         tab_size: tab,
         ..ParseOptions::default()
     }
 }
 
-/// The events of a document, as a machine reads it from this start, with the default options but for the size of tabs.
+/// The events of a document, as a machine reads it from this start.
 fn read_by<M: Machine>(
     alloc: Global,
     machine: &M,
     start: Name,
     bytes: &[u8],
-    tab: TabSize,
+    options: &ParseOptions,
     cuts: &[(usize, usize)],
 ) -> Result<Vec<Event>, Failure>
-    requires limit { IsWithinLimit tab bytes.now }
-    requires start { Contains (M.rules machine.now (document tab bytes.now)).starts start }
-    requires cuts { AreCuts tab bytes.now cuts.now }
-    ensures events { IfOk result (λ events. Gives (M.rules machine.now) start tab bytes.now events.items) }
-    ensures message { (m : _) → IsErrOf result (Failure.Message m) → IsRunRefused (document tab bytes.now) (M.rules machine.now) false start m }
+    requires limit { IsWithinLimit options.now.tab_size bytes.now }
+    requires start { Contains (M.rules machine.now (document options.now bytes.now)).starts start }
+    requires cuts { AreCuts options.now.tab_size bytes.now cuts.now }
+    ensures events { IfOk result (λ events. Gives (M.rules machine.now) start options.now bytes.now events.items) }
+    ensures message { (m : _) → IsErrOf result (Failure.Message m) → IsRunRefused (document options.now bytes.now) (M.rules machine.now) false start m }
     ensures ready { ¬ IsErrOf result Failure.NotReady }
     ensures cause { IfErr result IsOfMaking }
-    ensures document { IsDocument (document tab bytes.now) }
+    ensures document { IsDocument (document options.now bytes.now) }
 {
-    let options = options_with(tab);
-    let Some(parse_state) = ParseState::new(bytes, &options, machine) else {
+    let Some(parse_state) = ParseState::new(bytes, options, machine) else {
         unreachable!();
     };
     match run(alloc, &parse_state, start, cuts, false) {
@@ -128,21 +135,21 @@ fn read_deep_by<M: Machine>(
     machine: &M,
     start: Name,
     bytes: &[u8],
-    tab: TabSize,
+    options: &ParseOptions,
     cuts: &[(usize, usize)],
 ) -> Result<Vec<Event>, Failure>
-    requires limit { IsWithinLimit tab bytes.now }
-    requires start { Contains (M.rules machine.now (document tab bytes.now)).starts start }
-    requires text { Contains (M.rules machine.now (document tab bytes.now)).starts Name.TextStart }
-    requires cuts { AreCuts tab bytes.now cuts.now }
-    ensures events { IfOk result (λ events. GivesDeep (M.rules machine.now) start tab bytes.now events.items) }
-    ensures message { (m : _) → IsErrOf result (Failure.Message m) → IsRefusedDeep (M.rules machine.now) start tab bytes.now m }
-    ensures unready { IsErrOf result Failure.NotReady → GivesUnready (M.rules machine.now) start tab bytes.now }
+    requires limit { IsWithinLimit options.now.tab_size bytes.now }
+    requires start { Contains (M.rules machine.now (document options.now bytes.now)).starts start }
+    requires text { Contains (M.rules machine.now (document options.now bytes.now)).starts Name.TextStart }
+    requires cuts { AreCuts options.now.tab_size bytes.now cuts.now }
+    ensures events { IfOk result (λ events. GivesDeep (M.rules machine.now) start options.now bytes.now events.items) }
+    ensures message { (m : _) → IsErrOf result (Failure.Message m) → IsRefusedDeep (M.rules machine.now) start options.now bytes.now m }
+    ensures unready { IsErrOf result Failure.NotReady → GivesUnready (M.rules machine.now) start options.now bytes.now }
     ensures cause { IfErr result IsOfMaking }
-    ensures document { IsDocument (document tab bytes.now) }
+    ensures document { IsDocument (document options.now bytes.now) }
 {
-    let events = read_by(alloc, machine, start, bytes, tab, cuts)?;
-    with_children(alloc, machine, bytes, tab, events)
+    let events = read_by(alloc, machine, start, bytes, options, cuts)?;
+    with_children(alloc, machine, bytes, options, events)
 }
 
 /// The events with the children of their chains of text in place of the chunks, each read from its start by the same machine.
@@ -150,21 +157,26 @@ fn with_children<M: Machine>(
     alloc: Global,
     machine: &M,
     bytes: &[u8],
-    tab: TabSize,
+    options: &ParseOptions,
     mut events: Vec<Event>,
 ) -> Result<Vec<Event>, Failure>
-    requires limit { IsWithinLimit tab bytes.now }
-    requires start { Contains (M.rules machine.now (document tab bytes.now)).starts Name.TextStart }
-    ensures events { IfOk result (λ new. HasChildren (M.rules machine.now) tab bytes.now events.items new.items) }
-    ensures message { (m : _) → IsErrOf result (Failure.Message m) → HasRefusedChild (M.rules machine.now) tab bytes.now events.items m }
-    ensures unready { IsErrOf result Failure.NotReady → ¬ IsReady tab bytes.now (Some Content.Text) events.items }
+    requires limit { IsWithinLimit options.now.tab_size bytes.now }
+    requires start { Contains (M.rules machine.now (document options.now bytes.now)).starts Name.TextStart }
+    ensures events { IfOk result (λ new. HasChildren (M.rules machine.now) options.now bytes.now events.items new.items) }
+    ensures message { (m : _) → IsErrOf result (Failure.Message m) → HasRefusedChild (M.rules machine.now) options.now bytes.now events.items m }
+    ensures unready { IsErrOf result Failure.NotReady → ¬ IsReady options.now.tab_size bytes.now (Some Content.Text) events.items }
     ensures cause { IfErr result IsOfMaking }
 {
-    if !ready(alloc, events.as_slice(), bytes, tab, Some(&Content::Text))? {
+    if !ready(
+        alloc,
+        events.as_slice(),
+        bytes,
+        options.tab_size,
+        Some(&Content::Text),
+    )? {
         return Err(Failure::NotReady);
     }
-    let options = options_with(tab);
-    let Some(parse_state) = ParseState::new(bytes, &options, machine) else {
+    let Some(parse_state) = ParseState::new(bytes, options, machine) else {
         unreachable!();
     };
     match subtokenize(alloc, &mut events, &parse_state, Some(&Content::Text)) {

@@ -12,7 +12,7 @@ use std::alloc::Global;
 use std::io::Read;
 
 /// The most bytes that are read: the size of tabs times as many, and one more, fit `usize`.
-fn limit_of(tab: TabSize) -> usize
+pub fn limit_of(tab: TabSize) -> usize
     ensures { (n : _) → (n ≤ result) ↔ (tab * n + 1 < 2 ^ 64) }
 {
     (usize::MAX - 1) / tab.get()

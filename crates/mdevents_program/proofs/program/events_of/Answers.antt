@@ -15,34 +15,36 @@ use Rattle.mdevents_program.proofs.DeepEvents.{none-refused-deep, all-ready, wit
 use Rattle.mdevents_program.proofs.program.events_of.Goals as goal
 
 pub returns-in-Lines-clause-events : goal.returns-in-Lines-clause-events
-returns-in-Lines-clause-events c = let e = c.in-Lines.is in rw e c.read_by.ensures.events
+returns-in-Lines-clause-events c = let e = c.in-Lines.is in rw e (rw c.options_with.ensures at c.read_by.ensures.events)
 
 pub returns-in-Paragraphs-clause-events : goal.returns-in-Paragraphs-clause-events
-returns-in-Paragraphs-clause-events c = let e = c.in-Paragraphs.is in let d = c.if-choice.true in rw (e, d) c.read_deep_by.ensures.events
+returns-in-Paragraphs-clause-events c = let e = c.in-Paragraphs.is in let d = c.if-choice.true in rw (e, d) (rw c.options_with.ensures at c.read_deep_by.ensures.events)
 
 pub returns-in-Paragraphs-2-clause-events : goal.returns-in-Paragraphs-2-clause-events
-returns-in-Paragraphs-2-clause-events c = let e = c.in-Paragraphs-2.is in let d = c.if-choice.false in rw (e, d) c.read_by-in-Paragraphs-2.ensures.events
+returns-in-Paragraphs-2-clause-events c = let e = c.in-Paragraphs-2.is in let d = c.if-choice.false in rw (e, d) (rw c.options_with.ensures at c.read_by-in-Paragraphs-2.ensures.events)
 
 pub returns-in-Peek-clause-events : goal.returns-in-Peek-clause-events
-returns-in-Peek-clause-events c = let e = c.in-Peek.is in rw e c.read_by-in-Peek.ensures.events
+returns-in-Peek-clause-events c = let e = c.in-Peek.is in rw e (rw c.options_with.ensures at c.read_by-in-Peek.ensures.events)
 
 pub returns-in-Deep-clause-events : goal.returns-in-Deep-clause-events
-returns-in-Deep-clause-events c = let e = c.in-Deep.is in rw e c.read_by-in-Deep.ensures.events
+returns-in-Deep-clause-events c = let e = c.in-Deep.is in rw e (rw c.options_with.ensures at c.read_by-in-Deep.ensures.events)
 
 pub returns-in-Back-clause-events : goal.returns-in-Back-clause-events
-returns-in-Back-clause-events c = let e = c.in-Back.is in rw e c.read_by-in-Back.ensures.events
+returns-in-Back-clause-events c = let e = c.in-Back.is in rw e (rw c.options_with.ensures at c.read_by-in-Back.ensures.events)
 
 pub returns-in-Save-clause-events : goal.returns-in-Save-clause-events
-returns-in-Save-clause-events c = let e = c.in-Save.is in rw e c.read_by-in-Save.ensures.events
+returns-in-Save-clause-events c = let e = c.in-Save.is in rw e (rw c.options_with.ensures at c.read_by-in-Save.ensures.events)
 
 pub returns-in-Text-clause-events : goal.returns-in-Text-clause-events
 returns-in-Text-clause-events c =
     let e = c.in-Text.is in
     let d = c.if-choice-2.true in
-    rw (e, d) (IfOk-weaker c.read_deep_by-in-Text.result _ _ (λ events h. with-texts c.args.choice.now.tab c.args.bytes.now c.read_deep_by-in-Text.ensures.document events.items h) c.read_deep_by-in-Text.ensures.events)
+    let document = rw c.options_with.ensures at c.read_deep_by-in-Text.ensures.document in
+    let deep = rw c.options_with.ensures at c.read_deep_by-in-Text.ensures.events in
+    rw (e, d) (IfOk-weaker c.read_deep_by-in-Text.result _ _ (λ events h. with-texts _ c.args.bytes.now document events.items h) deep)
 
 pub returns-clause-events : goal.returns-clause-events
-returns-clause-events c = let e = c.in-Text-2.is in let d = c.if-choice-2.false in rw (e, d) c.read_by-in-Text-2.ensures.events
+returns-clause-events c = let e = c.in-Text-2.is in let d = c.if-choice-2.false in rw (e, d) (rw c.options_with.ensures at c.read_by-in-Text-2.ensures.events)
 
 pub returns-in-Lines-clause-never_refused : goal.returns-in-Lines-clause-never_refused
 returns-in-Lines-clause-never_refused c = λ m e. no-run-refused lines_rules lines-refuse-nothing _ false _ m (c.read_by.ensures.message m e)
