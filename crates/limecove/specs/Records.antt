@@ -1,0 +1,57 @@
+-- Events as records of numbers.
+use Rattle.std.specs.Prelude.{ℕ, ◌≡◌, ◌-◌, ◌^◌, List, ◌++◌, map, take, drop, length, Option, None, Some, unwrap_or}
+use Rattle.std.specs.Option.{option_and_then, option_map_or}
+use Rattle.markdown.specs.declared.event.Content.{Content}
+use Rattle.markdown.specs.declared.event.Content.TheVariants.{Flow, Content as ContentOfContent, String, Text}
+use Rattle.markdown.specs.declared.event.Event.{Event}
+use Rattle.markdown.specs.declared.event.Kind.{Kind}
+use Rattle.markdown.specs.declared.event.Kind.TheVariants.{Enter, Exit}
+use Rattle.mdevents_program.specs.declared.arguments.Choice.{Choice}
+use Rattle.mdevents_program.specs.Program.{AreEventsOf, options_with}
+use Rattle.limecove.specs.declared.choose.Options.{Options}
+use Rattle.limecove.specs.declared.record.Record.{Record}
+use Rattle.limecove.specs.Choices.{choice_of, constructs_of}
+use Rattle.limecove.specs.Names.{number_of}
+
+-- the number of a kind
+abbrev pub kind_number : Kind → ℕ
+kind_number Enter = 0
+kind_number Exit = 1
+
+-- the number of what a chain is read as; 0 is left for an event that is not linked
+abbrev pub content_number : Content → ℕ
+content_number Flow = 1
+content_number ContentOfContent = 2
+content_number String = 3
+content_number Text = 4
+
+-- what a record has for an index of no event: `usize::MAX`
+abbrev pub no_index : ℕ
+no_index = 18446744073709551615
+
+-- the record of an event
+abbrev pub record_of : Event → Record
+record_of event = record {
+  kind = kind_number event.kind;
+  content = option_map_or (λ link. content_number link.content) event.link 0;
+  name = number_of event.name;
+  line = event.point.line;
+  column = event.point.column;
+  index = event.point.index;
+  vs = event.point.vs;
+  previous = unwrap_or (option_and_then (λ link. link.previous) event.link) no_index;
+  next = unwrap_or (option_and_then (λ link. link.next) event.link) no_index;
+}
+
+-- records, over the first of which those of events were written, as many as fit
+abbrev pub filled : List Record → List Event → List Record
+filled old events = take (length old) (map record_of events) ++ drop (length events) old
+
+-- Records, over the first of which those of the events of a document were written, as the options choose them
+pub record HoldsEventsOf (options : Options) (bytes : List ℕ) (n : ℕ) (old new : List Record) : Type 0 where
+  pub choice : Choice
+  pub chosen : choice_of options ≡ Some choice
+  pub events : List Event
+  pub are : AreEventsOf choice.deep choice.machine (options_with (constructs_of options.text) choice.tab) bytes events
+  pub count : n ≡ length events
+  pub written : new ≡ filled old events

@@ -1,0 +1,126 @@
+//! What programs in C and in Rust call: functions over bytes, numbers and records, in a static library.
+//!
+//! Nothing checks what such a caller does, so no function here requires anything. What the types do not say is tested, and a code
+//! is returned for it. The caller owns all memory that is passed. What a call takes for itself, it gives back before it returns.
+#![tactic(auto)]
+
+mod choose;
+mod record;
+#[cfg(test)]
+mod tests;
+
+ghost use Rattle.std.specs.Prelude.{◌≡◌, ◌≢◌, ◌≤◌, ◌↔◌, length, None, IsSomeAnd};
+ghost use Rattle.markdown.specs.Engine.{whole_text};
+ghost use Rattle.markdown.specs.Virtual.{IsWithinLimit};
+ghost use Rattle.mdconstructs.specs.TextEvents.{text_events};
+ghost use Rattle.limecove.specs.Choices.{choice_of, tab_of, text_document};
+ghost use Rattle.limecove.specs.Records.{filled, HoldsEventsOf};
+
+use crate::choose::{Options, TextOptions, choose, constructs_of, tab_of};
+use crate::record::{Record, write_records};
+use mdconstructs::read_text;
+use mdevents_program::program::{events_of, options_with};
+use mdevents_program::read::limit_of;
+use std::alloc::Global;
+
+/// The version of the functions, options and records. It changes with each of their layouts and meanings.
+pub const VERSION: u32 = 1;
+
+/// The document was read.
+pub const READ: u32 = 0;
+/// The call ran out of memory.
+pub const OUT_OF_MEMORY: u32 = 1;
+/// The size of tabs times the length of the document, and one more, do not fit `usize`.
+pub const TOO_LONG: u32 = 2;
+/// The options choose nothing: there is no such machine or size of tabs, or `deep` is on for a machine that links no text.
+pub const NO_SUCH_OPTIONS: u32 = 3;
+
+/// How a call ended, and how many events there are.
+#[repr(C)]
+#[derive(Clone, Copy, Debug, PartialEq, Eq)]
+pub struct Answer {
+    /// [`READ`], or why the document was not read.
+    pub code: u32,
+    /// [`VERSION`].
+    pub version: u32,
+    /// How many events the document has. If there are more than records, the first events were written, as many as fit.
+    pub count: usize,
+}
+
+/// Reads a whole document as text, and writes its events over the first records, as many as fit.
+#[unsafe(no_mangle)]
+pub extern "C" fn limecove_read_text(
+    alloc: Global,
+    bytes: &[u8],
+    options: &TextOptions,
+    records: &mut [Record],
+) -> Answer
+    ensures count { result.code ≡ READ → let g = text_document options.now bytes.now in result.count ≡ length (text_events g (whole_text g)) }
+    ensures written { result.code ≡ READ → let g = text_document options.now bytes.now in records.new ≡ filled records.old (text_events g (whole_text g)) }
+    ensures kept { result.code ≢ READ → records.new ≡ records.old }
+    ensures options { (result.code ≡ NO_SUCH_OPTIONS) ↔ (tab_of options.now.tab_size ≡ None) }
+    ensures too_long { (result.code ≡ TOO_LONG) ↔ IsSomeAnd (tab_of options.now.tab_size) (λ tab. ¬ IsWithinLimit tab bytes.now) }
+    ensures codes { result.code ≤ NO_SUCH_OPTIONS }
+    ensures version { result.version ≡ VERSION }
+{
+    let Some(tab) = tab_of(options.tab_size) else {
+        return not_read(NO_SUCH_OPTIONS);
+    };
+    if bytes.len() > limit_of(tab) {
+        return not_read(TOO_LONG);
+    }
+    let options = options_with(constructs_of(options), tab);
+    match read_text(alloc, bytes, &options, &[]) {
+        Ok(events) => read(write_records(records, events.as_slice())),
+        Err(_) => not_read(OUT_OF_MEMORY),
+    }
+}
+
+/// Reads a whole document as the options say, and writes its events over the first records, as many as fit.
+#[unsafe(no_mangle)]
+pub extern "C" fn limecove_read(
+    alloc: Global,
+    bytes: &[u8],
+    options: &Options,
+    records: &mut [Record],
+) -> Answer
+    ensures read { result.code ≡ READ → HoldsEventsOf options.now bytes.now result.count records.old records.new }
+    ensures kept { result.code ≢ READ → records.new ≡ records.old }
+    ensures options { (result.code ≡ NO_SUCH_OPTIONS) ↔ (choice_of options.now ≡ None) }
+    ensures too_long { (result.code ≡ TOO_LONG) ↔ IsSomeAnd (choice_of options.now) (λ choice. ¬ IsWithinLimit choice.tab bytes.now) }
+    ensures codes { result.code ≤ NO_SUCH_OPTIONS }
+    ensures version { result.version ≡ VERSION }
+{
+    let Some(choice) = choose(options) else {
+        return not_read(NO_SUCH_OPTIONS);
+    };
+    if bytes.len() > limit_of(choice.tab) {
+        return not_read(TOO_LONG);
+    }
+    match events_of(alloc, bytes, constructs_of(&options.text), &choice) {
+        Ok(events) => read(write_records(records, events.as_slice())),
+        Err(_) => not_read(OUT_OF_MEMORY),
+    }
+}
+
+/// The answer that a document of so many events was read.
+fn read(count: usize) -> Answer
+    ensures { result ≡ record { code = READ; version = VERSION; count = count } }
+{
+    Answer {
+        code: READ,
+        version: VERSION,
+        count,
+    }
+}
+
+/// The answer that a document was not read.
+fn not_read(code: u32) -> Answer
+    ensures { result ≡ record { code = code; version = VERSION; count = 0 } }
+{
+    Answer {
+        code,
+        version: VERSION,
+        count: 0,
+    }
+}

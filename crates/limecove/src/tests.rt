@@ -1,0 +1,203 @@
+//! Calls of the functions, as a program in C makes them.
+
+use crate::choose::{Options, TextOptions};
+use crate::record::{NO_INDEX, Record};
+use crate::{
+    Answer, NO_SUCH_OPTIONS, OUT_OF_MEMORY, READ, VERSION, limecove_read, limecove_read_text,
+};
+use markdown::event::Name;
+use std::alloc::Global;
+
+/// What was in a record before a call.
+const OLD: Record = Record {
+    kind: 9,
+    content: 9,
+    name: 999,
+    line: 9,
+    column: 9,
+    index: 9,
+    vs: 9,
+    previous: 9,
+    next: 9,
+};
+
+/// A record without a link, of a place without parts of a tab.
+fn at(kind: u16, name: Name, line: usize, column: usize, index: usize) -> Record {
+    Record {
+        kind,
+        content: 0,
+        name: name as u32,
+        line,
+        column,
+        index,
+        vs: 0,
+        previous: NO_INDEX,
+        next: NO_INDEX,
+    }
+}
+
+/// Text with all three constructs, and tab stops at every 4 columns.
+const TEXT: TextOptions = TextOptions {
+    tab_size: 4,
+    code_text: 1,
+    autolink: 1,
+    character_escape: 1,
+};
+
+/// The options of a machine's number.
+fn by(machine: u32, deep: u32) -> Options {
+    Options {
+        machine,
+        deep,
+        cut: 0,
+        text: TEXT,
+    }
+}
+
+/// Of `a\r\nb`, as the machine of lines reads it.
+fn two_lines() -> [Record; 10] {
+    [
+        at(0, Name::Paragraph, 1, 1, 0),
+        at(0, Name::Data, 1, 1, 0),
+        at(1, Name::Data, 1, 2, 1),
+        at(1, Name::Paragraph, 1, 2, 1),
+        at(0, Name::LineEnding, 1, 2, 1),
+        at(1, Name::LineEnding, 2, 1, 3),
+        at(0, Name::Paragraph, 2, 1, 3),
+        at(0, Name::Data, 2, 1, 3),
+        at(1, Name::Data, 2, 2, 4),
+        at(1, Name::Paragraph, 2, 2, 4),
+    ]
+}
+
+/// Of `a\nb`, as the machine of paragraphs reads it: two chunks of text, linked to each other.
+fn two_chunks() -> [Record; 6] {
+    [
+        at(0, Name::Paragraph, 1, 1, 0),
+        Record {
+            content: 4,
+            next: 3,
+            ..at(0, Name::Data, 1, 1, 0)
+        },
+        at(1, Name::Data, 2, 1, 2),
+        Record {
+            content: 4,
+            previous: 1,
+            ..at(0, Name::Data, 2, 1, 2)
+        },
+        at(1, Name::Data, 2, 2, 3),
+        at(1, Name::Paragraph, 2, 2, 3),
+    ]
+}
+
+/// Of `` `a` ``, as text.
+fn code() -> [Record; 8] {
+    [
+        at(0, Name::CodeText, 1, 1, 0),
+        at(0, Name::CodeTextSequence, 1, 1, 0),
+        at(1, Name::CodeTextSequence, 1, 2, 1),
+        at(0, Name::CodeTextData, 1, 2, 1),
+        at(1, Name::CodeTextData, 1, 3, 2),
+        at(0, Name::CodeTextSequence, 1, 3, 2),
+        at(1, Name::CodeTextSequence, 1, 4, 3),
+        at(1, Name::CodeText, 1, 4, 3),
+    ]
+}
+
+/// Of `` `a` ``, as text without code spans.
+fn plain_code() -> [Record; 2] {
+    [at(0, Name::Data, 1, 1, 0), at(1, Name::Data, 1, 4, 3)]
+}
+
+/// Whether a call answered that a document of so many events was read, and these are the records with which it left the first
+/// ones, as many as fit below `room`, and nothing was written after them. A call may also run out of memory, and writes nothing.
+fn holds(answer: Answer, events: &[Record], room: usize, records: &[Record]) -> bool {
+    if answer.code == OUT_OF_MEMORY {
+        return answer.count == 0 && records.iter().all(|record| *record == OLD);
+    }
+    let written = events.len().min(room);
+    answer
+        == Answer {
+            code: READ,
+            version: VERSION,
+            count: events.len(),
+        }
+        && written <= records.len()
+        && records[..written] == events[..written]
+        && records[written..].iter().all(|record| *record == OLD)
+}
+
+/// Whether a document is read by these options, with every room from none to 12 records.
+fn reads(alloc: Global, document: &[u8], options: &Options, events: &[Record]) -> bool {
+    for room in 0..=12 {
+        let mut records = [OLD; 12];
+        let answer = limecove_read(alloc, document, options, &mut records[..room]);
+        if !holds(answer, events, room, &records) {
+            return false;
+        }
+    }
+    true
+}
+
+/// Whether a document is read as text by these options, with every room from none to 12 records.
+fn reads_text(alloc: Global, document: &[u8], options: &TextOptions, events: &[Record]) -> bool {
+    for room in 0..=12 {
+        let mut records = [OLD; 12];
+        let answer = limecove_read_text(alloc, document, options, &mut records[..room]);
+        if !holds(answer, events, room, &records) {
+            return false;
+        }
+    }
+    true
+}
+
+#[test]
+fn documents_are_read(rt: HostRuntime) {
+    assert!(rt; reads(rt.alloc(), b"a\r\nb", &by(0, 0), &two_lines()));
+    assert!(rt; reads(rt.alloc(), b"a\nb", &by(1, 0), &two_chunks()));
+    let cut = Options { cut: 1, ..by(0, 0) };
+    assert!(rt; reads(rt.alloc(), b"a\r\nb", &cut, &two_lines()));
+    assert!(rt; reads(rt.alloc(), b"", &by(6, 1), &[]));
+}
+
+#[test]
+fn documents_are_read_as_text(rt: HostRuntime) {
+    assert!(rt; reads_text(rt.alloc(), b"`a`", &TEXT, &code()));
+    let no_code = TextOptions {
+        code_text: 0,
+        ..TEXT
+    };
+    assert!(rt; reads_text(rt.alloc(), b"`a`", &no_code, &plain_code()));
+    assert!(rt; reads_text(rt.alloc(), b"", &TEXT, &[]));
+}
+
+/// The options of the machine of texts, with this size of tabs.
+fn tabs(tab_size: usize) -> Options {
+    Options {
+        text: TextOptions { tab_size, ..TEXT },
+        ..by(6, 0)
+    }
+}
+
+const NOT_READ: Answer = Answer {
+    code: NO_SUCH_OPTIONS,
+    version: VERSION,
+    count: 0,
+};
+
+#[test]
+fn options_that_choose_nothing_are_refused(rt: HostRuntime) {
+    let mut records = [OLD; 12];
+    // no machine, a machine that links no text, and no sizes of tabs
+    for options in &[by(7, 0), by(0, 1), tabs(0), tabs(17)] {
+        let answer = limecove_read(rt.alloc(), b"a", options, &mut records);
+        assert!(rt; answer == NOT_READ);
+    }
+    let no_tabs = TextOptions {
+        tab_size: 0,
+        ..TEXT
+    };
+    let answer = limecove_read_text(rt.alloc(), b"a", &no_tabs, &mut records);
+    assert!(rt; answer == NOT_READ);
+    assert!(rt; records.iter().all(|record| *record == OLD));
+}
