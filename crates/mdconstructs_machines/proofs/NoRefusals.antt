@@ -1,4 +1,4 @@
--- The machines whose tables refuse nothing, by the test of their rows.
+-- The machines whose tables refuse no document, by the test of their rows.
 use Rattle.std.proofs.Common.{◌≡◌, [], Option, Some, None, refl}
 use Rattle.mdconstructs_tables.specs.Refusals.{refusing, RulesRefuseNothing}
 use Rattle.mdconstructs_tables.proofs.Tables.Refusals.{table-steps, refuse-nothing, nothing-found}

@@ -1,4 +1,4 @@
--- Two tables without misfits that are not lawful are not what the law of tables asks for.
+-- Two tables without misfits that are not lawful do not meet the conditions of the law about tables.
 use Rattle.std.proofs.Common.{◌≡◌, [], true, false, Option, Some, None, refl, arith}
 use Rattle.mdconstructs_tables.specs.Fitting.{IsFit}
 use Rattle.mdconstructs_tables.specs.Misfits.{misfits}

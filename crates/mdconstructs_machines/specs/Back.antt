@@ -28,7 +28,7 @@ text_before_rows _ (Some other) = row (consume ∷ []) (Next TextBefore)
 abbrev pub text_before : StateRows LineByte Unit Unit
 text_before = record (state TextBefore text_before_rows (Data ∷ []) (calls 2 3)) { begun = at_byte is_any }
 
--- before the next line: the look begins, which goes on from here either way
+-- before the next line: the look begins; after it, reading goes on from here
 abbrev pub data_start_rows : (previous current : Option LineByte) → Rows Unit Unit
 data_start_rows _ None = row (exit Data ∷ []) Ok
 data_start_rows _ (Some _) = row (choose Check (Next DataAtBreak) (Next DataAtBreak) ∷ []) (Retry DataInside)

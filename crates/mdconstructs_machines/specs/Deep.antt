@@ -11,7 +11,7 @@ use Rattle.mdconstructs_tables.specs.RowInvariant.{table_rules}
 use Rattle.mdconstructs_machines.specs.Tables.{LineByte, line_byte, counts}
 use Rattle.mdconstructs_machines.specs.Reading.{data_start, data_inside}
 
--- at a byte to try something at, or at the end. What is tried at the first byte goes on with data, and later with reading the rest once more.
+-- at a byte to try something at, or at the end. If an attempt fails, data is read at the first byte, and later the rest is read once more.
 abbrev pub string_start_rows : (previous current : Option LineByte) → Rows Unit Unit
 string_start_rows None None = row [] Ok
 string_start_rows (Some _) None = row [] Nok
@@ -36,7 +36,7 @@ abbrev pub tries_cost : ℕ → ℕ → ℕ
 tries_cost zero n = triangle n + 4 * n + 1
 tries_cost (suc before_it) n = triangle n + 3 * n + 1
 
--- by the text
+-- the same, by the text
 abbrev pub deep_cost : Text → ℕ → ℕ
 deep_cost text position = tries_cost position (length text.seats - position)
 

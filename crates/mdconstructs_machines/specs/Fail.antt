@@ -1,4 +1,4 @@
--- The machine that fails: it passes each byte, and refuses the document at the call before which so many were counted.
+-- The machine that fails: it passes each byte, and refuses the document at a stated call.
 use Rattle.std.specs.Prelude.{ℕ, ◌==◌, ◌∷◌, [], Option, Some, None}
 use Rattle.markdown_base.specs.declared.state.TheConstants.Name.{TextStart}
 use Rattle.markdown_base.specs.declared.state.State.TheVariants.{Next, Ok, Error}
@@ -15,12 +15,12 @@ use Rattle.mdconstructs_machines.specs.Messages.{refusal}
 abbrev pub counted : Configuration Unit Unit → Local Unit Unit
 counted k = counts k.local
 
--- a byte is passed, and at the end all is well
+-- a byte is passed; at the end it returns Ok
 abbrev pub pass_rows : (current : Option LineByte) → Rows Unit Unit
 pass_rows None = row (write counted ∷ []) Ok
 pass_rows (Some _) = row (write counted ∷ consume ∷ []) (Next TextStart)
 
--- the document is refused if as many calls were counted before this one as stated
+-- the document is refused if this many calls were counted before this one
 abbrev pub text_start_rows : ℕ → (previous current : Option LineByte) → Rows Unit Unit
 text_start_rows at _ current = when (λ g s k. k.local.tokenize_state.size == at) (row (write counted ∷ []) (Error refusal)) (pass_rows current)
 

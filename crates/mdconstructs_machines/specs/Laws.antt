@@ -1,4 +1,4 @@
--- Laws of the machines.
+-- Laws about the machines.
 pub mod Back
 pub mod Deep
 pub mod Fail

@@ -1,4 +1,4 @@
--- The message of the machines that refuse.
+-- The message of the machines that refuse documents.
 use Rattle.std.specs.Prelude.{Some, codes}
 use Rattle.markdown_base.specs.declared.message.Message.{Message}
 use Rattle.markdown_base.specs.declared.message.Place.TheVariants as place

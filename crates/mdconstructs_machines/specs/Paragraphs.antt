@@ -1,5 +1,5 @@
--- The machine of paragraphs: lines that follow one another are a paragraph, in which each line is a chunk of text, linked to the one before; a line may
--- begin with a quote mark.
+-- The machine of paragraphs: adjacent lines are a paragraph. Each line is a chunk of text, linked to the chunk before. A line may begin
+-- with a quote mark.
 use Rattle.std.specs.Prelude.{◌≡◌, ℕ, ◌-◌, ◌==◌, ◌∷◌, ◌++◌, [], List, Bool, true, false, Option, Some, None, length}
 use Rattle.markdown_base.specs.declared.event.Content.TheVariants.{Text as TextContent}
 use Rattle.markdown_base.specs.declared.event.Event.{Event}
@@ -36,7 +36,7 @@ is_connected g s k = k.local.tokenize_state.connect
 abbrev pub alone : {R D : Type 0} → Configuration R D → Local R D
 alone k = record k.local { tokenize_state = record k.local.tokenize_state { connect = false } }
 
--- the last event, and the chunk that came before
+-- the index of the last event
 abbrev pub last_event : {R D : Type 0} → Configuration R D → ℕ
 last_event k = length k.events - 1
 
@@ -51,11 +51,11 @@ connected k = record k.local { tokenize_state = record k.local.tokenize_state { 
 abbrev pub text_link : Link
 text_link = record { previous = None; next = None; content = TextContent }
 
--- the chunk that the last event begins is linked to the one that came before
+-- the chunk that the last event begins is linked to the previous chunk
 abbrev pub chained : {R D : Type 0} → Configuration R D → Configuration R D
 chained k = linked (chunk_before k) (last_event k) k
 
--- a chunk that begins here can be linked to the one that came before, if one did
+-- a chunk that begins here can be linked to the previous chunk, if there is one in the paragraph
 abbrev pub CanLinkChunk : {M R D : Type 0} → TokenizerValue M R D → Type 0
 CanLinkChunk t =
     let k = entered Data (Some text_link) (sight_of t).enter_place t.configuration in
@@ -114,7 +114,7 @@ paragraphs = record {
   starts = FlowStart ∷ TextStart ∷ [];
 }
 
--- An event begins a chunk, which none follows yet
+-- An event begins a chunk that has no next chunk yet
 pub record BeginsChunk (e : Event) : Type 0 where
   pub linked : IsLinkedEnter e
   pub named : e.name ≡ Data
@@ -140,7 +140,7 @@ pub record HasChunk (events : List Event) (index : ℕ) : Type 0 where
   pub begins : BeginsChunk first
   pub ended : IsEndedBy first last
 
--- in a chunk the last event begins it; elsewhere the chunk before, if there is one, is at the index that is kept for it
+-- inside a chunk, the last event begins it; elsewhere the previous chunk, if there is one, is at the index that is kept for it
 abbrev pub KnowsChunk : (inside : Bool) → List Event → Local Unit Unit → Type 0
 KnowsChunk true events local = EndsWithChunk events local.tokenize_state.start
 KnowsChunk false events local = local.tokenize_state.connect ≡ true → HasChunk events local.tokenize_state.start
@@ -151,15 +151,15 @@ is_inside (Next name) = name.number == ParagraphInside.number
 is_inside (Retry name) = name.number == ParagraphInside.number
 is_inside _ = false
 
--- What the machine knows besides its table: the index of the chunk before, that the links of all chunks are in shape, and that no resolver is
--- registered and no edit waits
+-- What the machine knows that its table does not say: the index of the previous chunk; the links of all chunks are in shape; no resolver is
+-- registered, and no edit waits
 pub record Knows (inside : Bool) (events : List Event) (local : Local Unit Unit) : Type 0 where
   pub chunk : KnowsChunk inside events local
   pub shape : AreInShape events
   pub resolvers : local.resolvers ≡ []
   pub edits : local.map ≡ []
 
--- at an answer. It makes no choice.
+-- the same, at a state returned; the machine makes no choice
 abbrev pub knows_chunk : List Event → Local Unit Unit → List Choice → State → Type 0
 knows_chunk events local [] state = Knows (is_inside state) events local
 knows_chunk events local (choice ∷ choices) state = ⊥

@@ -11,7 +11,7 @@ use Rattle.mdconstructs_tables.specs.RowInvariant.{table_rules}
 use Rattle.mdconstructs_machines.specs.Tables.{LineByte, line_byte, counts}
 use Rattle.mdconstructs_machines.specs.Reading.{data_start, data_inside}
 
--- before the look: a check begins, which goes on with data either way
+-- before the look: a check begins, which goes on with data after Ok and after Nok
 abbrev pub text_start_rows : (previous current : Option LineByte) → Rows Unit Unit
 text_start_rows _ _ = row (choose Check (Next DataStart) (Next DataStart) ∷ []) (Retry TextBefore)
 

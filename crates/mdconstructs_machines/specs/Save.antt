@@ -1,4 +1,5 @@
--- The machine that saves its place: it passes the first line, tries to go on in vain, goes back to where that line ended, and reads the rest as data.
+-- The machine that saves its place: it passes the first line, makes an attempt there, which fails, goes back to the end of that line, and
+-- reads the rest as data.
 use Rattle.std.specs.Prelude.{◌∷◌, [], Option, Some, None}
 use Rattle.markdown_base.specs.declared.state.TheConstants.Name.{DataStart, TextStart, TextBefore}
 use Rattle.markdown_base.specs.declared.state.State.TheVariants.{Next, Ok, Nok}
@@ -11,7 +12,7 @@ use Rattle.mdconstructs_tables.specs.RowInvariant.{table_rules}
 use Rattle.mdconstructs_machines.specs.Tables.{LineByte, line_ending, other, line_byte, counts}
 use Rattle.mdconstructs_machines.specs.Reading.{data_start, data_inside}
 
--- in the first line: each byte is passed, and after the line ending an attempt begins, which goes on with data either way
+-- in the first line: each byte is passed, and after the line ending an attempt begins, which goes on with data after Ok and after Nok
 abbrev pub text_start_rows : (previous current : Option LineByte) → Rows Unit Unit
 text_start_rows _ None = row [] Ok
 text_start_rows _ (Some line_ending) = row (consume ∷ choose Attempt (Next DataStart) (Next DataStart) ∷ []) (Next TextBefore)

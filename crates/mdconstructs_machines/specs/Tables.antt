@@ -1,4 +1,4 @@
--- Words of the tables that define machines.
+-- Classes of bytes and writes that the tables of machines have in common.
 use Rattle.std.specs.Prelude.{ℕ, ◌+◌, ◌-◌, ◌^◌, ◌==◌, Bool, true, false, cond, min}
 use Rattle.markdown_tokenizer.specs.Configuration.{Local}
 
@@ -18,6 +18,6 @@ is_other other = true
 abbrev pub is_any : LineByte → Bool
 is_any _ = true
 
--- one more call is counted in `size`, up to the greatest number there is
+-- one more call is counted in `size`, up to the greatest `usize`
 abbrev pub counts : {R D : Type 0} → Local R D → Local R D
 counts local = record local { tokenize_state = record local.tokenize_state { size = min (local.tokenize_state.size + 1) (2 ^ 64 - 1) } }

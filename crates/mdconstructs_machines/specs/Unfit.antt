@@ -1,5 +1,5 @@
--- Tables that do not fit, each for one reason, and two that pass the test of rows and yet are not lawful. All but the last are those of lines with one
--- thing changed.
+-- Tables that do not fit, each for one reason, and two that pass the test of rows and yet are not lawful. All but the last are the table of
+-- lines with one thing changed.
 use Rattle.std.specs.Prelude.{◌∷◌, [], Option, Some, None}
 use Rattle.markdown_base.specs.declared.event.Name.TheVariants.{Paragraph, LineEnding}
 use Rattle.markdown_base.specs.declared.state.TheConstants.Name.{FlowStart, ParagraphInside}
@@ -24,12 +24,12 @@ abbrev pub enters_no_data : (previous current : Option LineByte) → Rows Unit U
 enters_no_data previous (Some other) = row (enter Paragraph ∷ []) (Retry ParagraphInside)
 enters_no_data previous current = flow_start_rows previous current
 
--- `choice`: a line ending is refused, where no choice waits
+-- `choice`: Nok is returned at a line ending, and no choice waits
 abbrev pub gives_up : (previous current : Option LineByte) → Rows Unit Unit
 gives_up previous (Some line_ending) = row [] Nok
 gives_up previous current = flow_start_rows previous current
 
--- `answer`: the next byte is asked for, and none was consumed
+-- `answer`: Next is returned, and no byte was consumed
 abbrev pub consumes_nothing : (previous current : Option LineByte) → Rows Unit Unit
 consumes_nothing previous (Some line_ending) = row [] (Next FlowStart)
 consumes_nothing previous current = flow_start_rows previous current

@@ -1,5 +1,5 @@
--- The machine of words: each word is data, and each run of blanks white space; a word behind a number sign is a tag. A third blank in a row and a sign
--- without a word are refused, and an edit drops the blanks before the first word.
+-- The machine of words: each word is data, and each run of blanks white space; a word after a number sign is a tag. A document with a third
+-- blank in a row, or with a sign without a word, is refused. An edit drops the blanks before the first word.
 use Rattle.std.specs.Prelude.{◌≡◌, ◌⊎◌, ℕ, ◌+◌, ◌-◌, ◌^◌, ◌==◌, ◌∷◌, [], List, Bool, true, false, cond, min, Option, Some, None, codes}
 use Rattle.markdown_base.specs.declared.event.Event.{Event}
 use Rattle.markdown_base.specs.declared.event.Kind.TheVariants.{Enter, Exit}
@@ -38,7 +38,7 @@ at_sign g s k = is_sign s.current
 abbrev pub refusal_of : List ℕ → Message
 refusal_of reason = record { place = None; reason = reason; rule_id = codes "words"; source = codes "limecove" }
 
--- the first span goes once edits are made
+-- an edit that removes the first span waits
 abbrev pub first_dropped : Configuration Unit Unit → Local Unit Unit
 first_dropped k = record k.local { map = added_after k.local.map (edit_at 0 2 []) }
 
@@ -78,7 +78,7 @@ word_start_rows _ _ =
 abbrev pub word_start : StateRows WordByte Unit Unit
 word_start = record (state DataStart word_start_rows [] (calls 2 1)) { called = at_a_byte }
 
--- behind a sign: the word of a tag begins
+-- after a sign: the word of a tag begins
 abbrev pub tag_rows : (previous current : Option WordByte) → Rows Unit Unit
 tag_rows _ None = row [] (Error (refusal_of (codes "a tag without a word")))
 tag_rows _ (Some blank) = row [] (Error (refusal_of (codes "a tag without a word")))
@@ -129,7 +129,7 @@ pub record KnowsEdits (events : List Event) (local : Local Unit Unit) (state : S
   pub at_start : is_start state ≡ true → (events ≡ []) × (local.map ≡ [])
   pub edits : DropNoMoreThanBlanks (blanks_may_be_open state) events local.map
 
--- what the machine knows besides its table. It makes no choice.
+-- what the machine knows that its table does not say; it makes no choice
 abbrev pub knows_edits : List Event → Local Unit Unit → List Choice → State → Type 0
 knows_edits events local [] state = KnowsEdits events local state
 knows_edits events local (choice ∷ choices) state = ⊥

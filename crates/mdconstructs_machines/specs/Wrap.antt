@@ -27,11 +27,11 @@ use Rattle.mdconstructs_machines.specs.Tables.{LineByte, line_byte, counts}
 use Rattle.mdconstructs_machines.specs.Reading.{data_start, data_inside}
 use Rattle.mdconstructs_machines.specs.Messages.{refusal}
 
--- whether two names of resolvers are one
+-- whether two names of resolvers are equal
 abbrev pub same_resolver : Resolver → Resolver → Bool
 same_resolver a b = sameb the_type a b
 
--- A is registered, B in front of it, and A in front of that, which changes nothing
+-- A is registered, then B before it, then A before that, which changes nothing
 abbrev pub registers : Configuration Resolver Unit → Local Resolver Unit
 registers k =
     let first = registered same_resolver A k.local.resolvers in
@@ -47,7 +47,7 @@ text_start = state TextStart text_start_rows [] (calls 2 2)
 abbrev pub wrap : Table LineByte Resolver Unit
 wrap = record { class = line_byte; first = counts; states = text_start ∷ data_start ∷ data_inside ∷ []; starts = TextStart ∷ [] }
 
--- data is called data of a code span
+-- data is renamed to data of a code span
 abbrev pub renamed : Event → Event
 renamed e = cond (same_name e.name Data) (record e { name = CodeTextData }) e
 
@@ -71,15 +71,15 @@ with_edit k edit = record k { local = record k.local { map = added_after k.local
 abbrev pub one_definition : Subresult
 one_definition = record { done = false; gfm_footnote_definitions = []; definitions = codes "A" ∷ [] }
 
--- B renames data, and has a paragraph begin in front of all events
+-- B renames data, and adds the edit by which a paragraph begins before all events
 abbrev pub begins_paragraph : Sight → Configuration Resolver Unit → Configuration Resolver Unit
 begins_paragraph s k = with_edit (with_events k (map renamed k.events)) (edit_at 0 0 (begin_event (first_place s.point k.events) ∷ []))
 
--- A registers C, and has the paragraph end behind all events
+-- A registers C, and adds the edit by which the paragraph ends after all events
 abbrev pub ends_paragraph : Sight → Configuration Resolver Unit → Configuration Resolver Unit
 ends_paragraph s k = with_edit (with_resolvers k (registered same_resolver C k.local.resolvers)) (edit_at (length k.events) 0 (end_event s.point ∷ []))
 
--- What the resolvers give. A refuses the document, or finds a definition; C does nothing, and is never run.
+-- The results of the resolvers. A refuses the document, or finds a definition; C does nothing, and is never run.
 abbrev pub wrap_resolver : Bool → Sight → Configuration Resolver Unit → Resolver → Resolved Resolver Unit
 wrap_resolver refuse s k A = cond refuse (refused refusal) (done (ends_paragraph s k) (Some one_definition))
 wrap_resolver refuse s k B = done (begins_paragraph s k) None
@@ -103,7 +103,7 @@ IsUnwrapped k choices state = (choices ≡ []) × IsUnedited (registered_at stat
 abbrev pub IsFlat : List Event → Type 0
 IsFlat events = HaveNoLinks events × IsBalanced events
 
--- what holds before the resolvers that are left: the edits of those that ran wait
+-- what holds before the resolvers that are left: the edits of the ones that ran wait
 abbrev pub wrap_resolves : Text → List Resolver → Configuration Resolver Unit → Type 0
 wrap_resolves text (B ∷ A ∷ []) k = (k.local.map ≡ []) × IsFlat k.events
 wrap_resolves text (A ∷ []) k = (p : Point) × (k.local.map ≡ edit_at 0 0 (begin_event p ∷ []) ∷ []) × IsFlat k.events

@@ -1,4 +1,5 @@
-//! The machine that goes back: it reads the first line as data, looks over the next line, goes back, and reads the rest as one more data.
+//! The machine that goes back. It reads the first line as data and looks over the next line. Then it goes back, and reads the rest as one
+//! more data.
 
 ghost use Rattle.std.specs.Prelude.{IfOk};
 ghost use Rattle.mdconstructs_tables.specs.RowInvariant.{DoesAll, IsCallable, step_in};
@@ -12,8 +13,8 @@ use markdown_tokenizer::subtokenize::Subresult;
 use markdown_tokenizer::tokenizer::{Fault, Tokenizer};
 use std::alloc::{AllocError, Global};
 
-/// Reads the first line as data, with its line ending. Then it looks over the next line and that one's line ending, goes
-/// back to where that line began, and reads all the rest as one more data. A text of one line is one data.
+/// Reads the first line as data, with its line ending. Then it looks over the next line with its line ending, goes back
+/// to the start of that line, and reads the rest as one more data. A text of one line is one data.
 ///
 /// It takes at most 2 n + 4 calls for n virtual bytes.
 #[derive(Drop)]
@@ -32,7 +33,7 @@ impl Machine for Back {
 
     ghost rules = { λ _. back_rules };
 
-    /// Counts the call, and does what the state of this name does.
+    /// Counts the call, and runs the state of this name.
     fn call<'a>(
         &self,
         alloc: Global,
@@ -101,7 +102,7 @@ fn text_before<'a>(t: &mut Tokenizer<'a, Back>) -> Result<State, AllocError>
     }
 }
 
-/// Before the next line: the look begins, which goes on from here either way.
+/// Before the next line: the look begins. After it, reading goes on from here.
 fn data_start<'a>(t: &mut Tokenizer<'a, Back>) -> Result<State, AllocError>
     requires { IsCallable line_byte data_start t.old }
     ensures { IfOk result (DoesAll (step_in line_byte data_start t.old) t.old t.new) }

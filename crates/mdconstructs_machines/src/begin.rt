@@ -7,7 +7,8 @@ ghost use Rattle.mdconstructs_machines.specs.Tables.{counts};
 use markdown_tokenizer::state::MachineTypes;
 use markdown_tokenizer::tokenizer::Tokenizer;
 
-/// Counts a call, as each state of these machines does first: it ticks, and `size` is one more, if it can be.
+/// Counts a call: ticks, and adds one to `size`, up to the greatest `usize`. Each call of these machines begins with
+/// it.
 pub fn begin<'a, M: MachineTypes>(t: &mut Tokenizer<'a, M>)
     ensures { t.new ≡ begun counts t.old }
 {

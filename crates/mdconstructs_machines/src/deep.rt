@@ -1,5 +1,5 @@
-//! The machine of nested attempts: it tries something at every byte, one attempt inside the other. All fail at the end,
-//! and the text is read as data.
+//! The machine of nested attempts: it tries something at every byte, each attempt inside the one before. All fail at
+//! the end, and the text is read as data.
 
 ghost use Rattle.std.specs.Prelude.{IfOk};
 ghost use Rattle.mdconstructs_tables.specs.RowInvariant.{DoesAll, IsCallable, step_in};
@@ -13,7 +13,7 @@ use markdown_tokenizer::subtokenize::Subresult;
 use markdown_tokenizer::tokenizer::{Fault, Tokenizer};
 use std::alloc::{AllocError, Global};
 
-/// Tries something at every byte, in vain, and then reads each line as data.
+/// Tries something at every byte, which always fails, and then reads each line as data.
 ///
 /// It takes at most n (n - 1) / 2 + 4 n + 1 calls for n virtual bytes.
 #[derive(Drop)]
@@ -32,7 +32,7 @@ impl Machine for Deep {
 
     ghost rules = { λ _. deep_rules };
 
-    /// Counts the call, and does what the state of this name does.
+    /// Counts the call, and runs the state of this name.
     fn call<'a>(
         &self,
         alloc: Global,
@@ -84,7 +84,7 @@ fn string_start<'a>(t: &mut Tokenizer<'a, Deep>) -> Result<State, AllocError>
     }
 }
 
-/// In what an attempt that failed goes on with, which fails at the end too.
+/// The state with which a failed attempt goes on. It fails at the end too.
 fn string_before<'a>(t: &mut Tokenizer<'a, Deep>) -> Result<State, AllocError>
     requires { IsCallable line_byte string_before t.old }
     ensures { IfOk result (DoesAll (step_in line_byte string_before t.old) t.old t.new) }

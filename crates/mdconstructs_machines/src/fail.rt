@@ -1,4 +1,4 @@
-//! The machine that fails: it passes each byte, and refuses the document at a call of a stated number.
+//! The machine that fails: it passes each byte, and refuses the document at a stated call.
 
 ghost use Rattle.std.specs.Prelude.{◌≡◌, ◌==◌, IfOk};
 ghost use Rattle.markdown_tokenizer.specs.Calls.{with_local};
@@ -13,12 +13,12 @@ use markdown_tokenizer::subtokenize::Subresult;
 use markdown_tokenizer::tokenizer::{Fault, Tokenizer};
 use std::alloc::{AllocError, Global};
 
-/// Passes each byte, and refuses the document at the call before which `at` calls were counted.
+/// Passes each byte. If `at` calls were counted before a call, that call refuses the document.
 ///
 /// It takes at most n + 1 calls for n virtual bytes. The message is `1:2: x (markdown:r)`.
 #[derive(Drop)]
 pub struct Fail {
-    /// How many calls are counted in `size` before the one that refuses.
+    /// How many calls are counted in `size` before the call that refuses the document.
     pub at: usize,
 }
 
@@ -35,7 +35,7 @@ impl Machine for Fail {
 
     ghost rules = { λ m. fail_rules m.at };
 
-    /// Counts the call, and does what the state of this name does.
+    /// Counts the call, and runs the state of this name.
     fn call<'a>(
         &self,
         alloc: Global,
@@ -62,7 +62,7 @@ impl Machine for Fail {
     ghost lawful = { λ m g. writing-lawful (fail m.at) g (fail-fit m.at) (fail-plain m.at) };
 }
 
-/// A byte is passed, and at the end all is well, unless this is the call that refuses.
+/// Passes a byte, or returns `Ok` at the end, unless this is the call that refuses the document.
 fn text_start<'a>(
     alloc: Global,
     t: &mut Tokenizer<'a, Fail>,
@@ -85,7 +85,7 @@ fn text_start<'a>(
     }
 }
 
-/// Whether this call refuses the document: as many were counted before it as stated.
+/// Whether this call refuses the document: `at` calls were counted before it.
 fn is_refused<'a>(t: &Tokenizer<'a, Fail>, at: usize) -> bool
     ensures { result ≡ (t.now.configuration.local.tokenize_state.size == at) }
 {

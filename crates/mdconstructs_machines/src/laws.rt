@@ -1,4 +1,4 @@
-//! Laws of the machines. Each is a function that does nothing; its contract is the law.
+//! Laws about the machines. Each is a function that does nothing; its contract is the law.
 
 ghost use Rattle.std.specs.Prelude.{◌≡◌, ◌+◌, ◌-◌, ◌*◌, ◌/◌, [], ◌∷◌, Some, None};
 ghost use Rattle.markdown_base.specs.declared.state.TheConstants.Name.{FlowStart, ParagraphInside, TextStart, StringStart};
@@ -20,8 +20,8 @@ ghost use Rattle.mdconstructs_machines.specs.Words.{words_rules};
 ghost use Rattle.mdconstructs_machines.specs.Fail.{fail_rules};
 ghost use Rattle.mdconstructs_machines.specs.Wrap.{wrap_rules};
 
-/// Each machine starts with one state, and from it takes at most so many calls on a text of n virtual bytes. The machine of
-/// paragraphs starts with one of two.
+/// With which states each machine may start, and how many calls it takes at most from each, on a text of n virtual bytes.
+/// The machine of paragraphs has two such states, and the others one.
 pub fn costs_at_the_start()
     ensures lines { StartsAt lines_rules FlowStart (λ n. 2 * n + 1) }
     ensures paragraphs { StartsAmong paragraphs_rules (FlowStart ∷ TextStart ∷ []) FlowStart (λ n. 4 * n + 3) }
@@ -35,8 +35,8 @@ pub fn costs_at_the_start()
     ensures wrap { (refuse : _) → StartsAt (wrap_rules refuse) TextStart (λ n. 2 * n + 2) }
 {}
 
-/// No reading by these machines ends in a message, whatever the text and the state it begins with: they make events of every
-/// document. Words, Fail and Wrap refuse some.
+/// No reading by these machines ends in a message, whatever the text and the state with which it begins: they make events of
+/// every document. `Words`, `Fail` and `Wrap` are not among them; they refuse some documents.
 pub fn no_document_is_refused()
     ensures lines { RulesRefuseNothing lines_rules }
     ensures paragraphs { RulesRefuseNothing paragraphs_rules }
@@ -46,7 +46,8 @@ pub fn no_document_is_refused()
     ensures save { RulesRefuseNothing save_rules }
 {}
 
-/// The test of a table names each state that does not fit, with the reason: here tables of lines with one thing changed.
+/// The test of a table names each state that does not fit, with the reason. The tables here are the table of lines with
+/// one thing changed.
 pub fn misfits_have_reasons()
     ensures act { misfits (lines_with consumes_twice) None (Some line_ending) ≡ (FlowStart, act) ∷ [] }
     ensures spans { misfits (lines_with enters_no_data) None (Some other) ≡ (FlowStart, spans) ∷ [] }
@@ -56,8 +57,9 @@ pub fn misfits_have_reasons()
     ensures start { misfits starts_inside None (Some other) ≡ (ParagraphInside, start) ∷ [] }
 {}
 
-/// A table without misfits may be unlawful: one whose states say nothing of their calls, where the machine's own cost does not
-/// pay, and one that writes an edit of an event that is not there. Neither is what `fitting_tables_are_lawful` asks for.
+/// A table without misfits may be unlawful. In one table here no state says how many calls are left, and the machine's own
+/// cost is too small. The other writes an edit of an event that is not there. Neither meets the conditions of
+/// `fitting_tables_are_lawful`.
 pub fn misfits_are_not_all()
     ensures uncounted { (previous current : _) → misfits uncounted_lines previous current ≡ [] }
     ensures unpaid { ¬ IsFit uncounted_lines }

@@ -32,7 +32,7 @@ impl Machine for Lines {
 
     ghost rules = { λ _. lines_rules };
 
-    /// Counts the call, and does what the state of this name does.
+    /// Counts the call, and runs the state of this name.
     fn call<'a>(
         &self,
         alloc: Global,

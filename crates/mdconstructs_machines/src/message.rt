@@ -1,4 +1,4 @@
-//! The message of the machines that refuse, and what it is made of.
+//! The message of the machines that refuse documents, and its parts.
 
 ghost use Rattle.std.specs.Prelude.{◌≡◌, IfOk};
 ghost use Rattle.mdconstructs_machines.specs.Messages.{refusal};

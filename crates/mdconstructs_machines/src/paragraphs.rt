@@ -1,5 +1,5 @@
-//! The machine of paragraphs: lines that follow one another are a paragraph, in which each line is a chunk of text, linked to
-//! the one before; a line may begin with a quote mark.
+//! The machine of paragraphs: adjacent lines are a paragraph. Each line is a chunk of text, linked to the chunk before. A
+//! line may begin with a quote mark.
 
 ghost use Rattle.std.specs.Prelude.{◌≡◌, IfOk};
 ghost use Rattle.markdown_tokenizer.specs.Calls.{with_local};
@@ -18,16 +18,16 @@ use markdown_tokenizer::tokenizer::{Fault, Tokenizer};
 use mdconstructs_tables::marker;
 use std::alloc::{AllocError, Global};
 
-/// What a chunk is read as, before its neighbours in the chain are known.
+/// The link of a chunk before its neighbours in the chain are known.
 const CHUNK: Link = Link {
     previous: None,
     next: None,
     content: Content::Text,
 };
 
-/// Reads lines that follow one another as a paragraph. Each line of it, after a quote mark that it may begin with, is a chunk
-/// of text: data that holds the line ending too, linked to the chunk of the line before. From `TextStart` it reads each line
-/// as data, which is what the chunks of a paragraph are read as together.
+/// Reads adjacent lines as a paragraph. Each line, without a quote mark at its beginning, is a chunk of text: data that holds
+/// the line ending too, linked to the chunk of the line before. From `TextStart` it reads each line as data; so it reads the
+/// joined text of a paragraph's chunks.
 ///
 /// It takes at most 4 n + 3 calls for n virtual bytes, and 2 n + 2 from `TextStart`.
 #[derive(Drop)]
@@ -46,7 +46,7 @@ impl Machine for Paragraphs {
 
     ghost rules = { λ _. paragraphs_rules };
 
-    /// Counts the call, and does what the state of this name does.
+    /// Counts the call, and runs the state of this name.
     fn call<'a>(
         &self,
         alloc: Global,
@@ -79,7 +79,7 @@ impl Machine for Paragraphs {
     ghost lawful = { λ _ g. knowing-lawful paragraphs knows_chunk g paragraphs-fit paragraphs-known };
 }
 
-/// Before a paragraph: a blank line is passed, and at another one the paragraph begins.
+/// Before a paragraph: passes a blank line; at any other line the paragraph begins.
 pub fn flow_start<'a, M: MachineTypes>(t: &mut Tokenizer<'a, M>) -> Result<State, AllocError>
     requires { IsCallable line_byte flow_start t.old }
     ensures { IfOk result (DoesAll (step_in line_byte flow_start t.old) t.old t.new) }
@@ -122,7 +122,7 @@ pub fn paragraph_line_start<'a, M: MachineTypes>(
     }
 }
 
-/// Before the chunk of a line, which is linked to the one before it in the paragraph.
+/// Before the chunk of a line. The chunk is linked to the previous one of the paragraph.
 pub fn paragraph_start<'a, M: MachineTypes>(t: &mut Tokenizer<'a, M>) -> Result<State, AllocError>
     requires called { IsCallable line_byte paragraph_start t.old }
     requires chunk { CanLinkChunk t.old }
@@ -177,7 +177,7 @@ fn is_connected<'a, M: MachineTypes>(t: &Tokenizer<'a, M>) -> bool
     t.tokenize_state.connect
 }
 
-/// The chunk that the last event begins is linked to the one that came before.
+/// Links the chunk that the last event begins to the previous chunk, if there is one in the paragraph.
 fn link_chunk<'a, M: MachineTypes>(t: &mut Tokenizer<'a, M>)
     requires { CanLink t.old.configuration.events (chunk_before t.old.configuration) (last_event t.old.configuration) }
     ensures { t.new ≡ at_configuration t.old (chained t.old.configuration) }
@@ -186,14 +186,14 @@ fn link_chunk<'a, M: MachineTypes>(t: &mut Tokenizer<'a, M>)
     t.link_to(before, last_event(t));
 }
 
-/// No chunk came before in the paragraph.
+/// Notes that no chunk came before in the paragraph.
 fn disconnect<'a, M: MachineTypes>(t: &mut Tokenizer<'a, M>)
     ensures { t.new ≡ at_configuration t.old (with_local t.old.configuration (alone t.old.configuration)) }
 {
     t.tokenize_state.connect = false;
 }
 
-/// The last event is the chunk that came before.
+/// Notes the last event as the chunk that came before.
 fn connect<'a, M: MachineTypes>(t: &mut Tokenizer<'a, M>)
     ensures { t.new ≡ at_configuration t.old (with_local t.old.configuration (connected t.old.configuration)) }
 {

@@ -31,7 +31,7 @@ impl Machine for Peek {
 
     ghost rules = { λ _. peek_rules };
 
-    /// Counts the call, and does what the state of this name does.
+    /// Counts the call, and runs the state of this name.
     fn call<'a>(
         &self,
         alloc: Global,
@@ -61,7 +61,7 @@ impl Machine for Peek {
     ghost lawful = { λ _ g. plain-lawful peek g peek-fit peek-plain };
 }
 
-/// Before the look: a check begins, which goes on with data either way.
+/// Before the look: a check begins, which goes on with data after `Ok` and after `Nok`.
 fn text_start<'a>(t: &mut Tokenizer<'a, Peek>) -> Result<State, AllocError>
     requires { IsCallable line_byte text_start t.old }
     ensures { IfOk result (DoesAll (step_in line_byte text_start t.old) t.old t.new) }
@@ -70,7 +70,7 @@ fn text_start<'a>(t: &mut Tokenizer<'a, Peek>) -> Result<State, AllocError>
     Ok(State::Retry(Name::TextBefore))
 }
 
-/// In the look: each byte is passed, and at the end the look fails.
+/// In the look: passes each byte, and fails at the end.
 fn text_before<'a>(t: &mut Tokenizer<'a, Peek>) -> Result<State, AllocError>
     requires { IsCallable line_byte text_before t.old }
     ensures { IfOk result (DoesAll (step_in line_byte text_before t.old) t.old t.new) }

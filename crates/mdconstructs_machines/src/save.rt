@@ -1,5 +1,5 @@
-//! The machine that saves its place: it passes the first line, tries to go on in vain, goes back to where that line ended,
-//! and reads the rest as data.
+//! The machine that saves its place. It passes the first line, and makes an attempt there, which fails. It goes back to
+//! the end of that line, and reads the rest as data.
 
 ghost use Rattle.std.specs.Prelude.{IfOk};
 ghost use Rattle.mdconstructs_tables.specs.RowInvariant.{DoesAll, IsCallable, step_in};
@@ -13,8 +13,8 @@ use markdown_tokenizer::subtokenize::Subresult;
 use markdown_tokenizer::tokenizer::{Fault, Tokenizer};
 use std::alloc::{AllocError, Global};
 
-/// Passes the first line, saves its place right after the line ending, and tries something there, in vain. It goes back to
-/// that place, and reads each line of the rest as data.
+/// Passes the first line, and makes an attempt directly after the line ending, which fails. It goes back to that place,
+/// and reads each line of the rest as data.
 ///
 /// It takes at most 2 n + 1 calls for n virtual bytes.
 #[derive(Drop)]
@@ -33,7 +33,7 @@ impl Machine for Save {
 
     ghost rules = { λ _. save_rules };
 
-    /// Counts the call, and does what the state of this name does.
+    /// Counts the call, and runs the state of this name.
     fn call<'a>(
         &self,
         alloc: Global,
@@ -63,7 +63,8 @@ impl Machine for Save {
     ghost lawful = { λ _ g. plain-lawful save g save-fit save-plain };
 }
 
-/// In the first line: each byte is passed, and after the line ending an attempt begins, which goes on with data either way.
+/// In the first line: passes each byte. After the line ending an attempt begins, which goes on with data after `Ok` and
+/// after `Nok`.
 fn text_start<'a>(t: &mut Tokenizer<'a, Save>) -> Result<State, AllocError>
     requires { IsCallable line_byte text_start t.old }
     ensures { IfOk result (DoesAll (step_in line_byte text_start t.old) t.old t.new) }

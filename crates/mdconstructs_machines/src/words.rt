@@ -1,4 +1,4 @@
-//! The machine of words: each word is data, and each run of blanks white space; a word behind a number sign is a tag.
+//! The machine of words: each word is data, and each run of blanks white space. A word after a number sign is a tag.
 
 ghost use Rattle.std.specs.Prelude.{◌≡◌, ◌==◌, [], IfOk, OnOk};
 ghost use Rattle.markdown_tokenizer.specs.Calls.{with_local};
@@ -23,9 +23,9 @@ const THIRD_BLANK: &str = "a third blank in a row";
 /// Why a document is refused: no word follows a sign.
 const NO_WORD: &str = "a tag without a word";
 
-/// Reads each word as data, and each run of blanks as white space. A word behind a number sign is a tag, whose sign is a span
-/// of its own. A third blank in a row, and a sign without a word, are refused. Blanks before the first word are dropped once
-/// edits are made.
+/// Reads each word as data, and each run of blanks as white space. A word after a number sign is a tag, whose sign is a span
+/// of its own. A document with a third blank in a row, or with a sign without a word, is refused. Blanks before the first
+/// word are dropped when edits are made.
 ///
 /// It takes at most 2 n + 1 calls for n virtual bytes.
 #[derive(Drop)]
@@ -44,7 +44,7 @@ impl Machine for Words {
 
     ghost rules = { λ _. words_rules };
 
-    /// Counts the call, and does what the state of this name does.
+    /// Counts the call, and runs the state of this name.
     fn call<'a>(
         &self,
         alloc: Global,
@@ -75,7 +75,7 @@ impl Machine for Words {
     ghost lawful = { λ _ g. knowing-lawful words knows_edits g words-fit words-known };
 }
 
-/// Before the text: blanks there are to be dropped.
+/// Before the text: blanks here will be dropped.
 fn text_start<'a>(alloc: Global, t: &mut Tokenizer<'a, Words>) -> Result<State, AllocError>
     requires called { IsCallable word_byte text_start t.old }
     requires no_edits { t.old.configuration.local.map ≡ [] }
@@ -94,7 +94,7 @@ fn text_start<'a>(alloc: Global, t: &mut Tokenizer<'a, Words>) -> Result<State, 
     }
 }
 
-/// In blanks, of which there are two in a row at most.
+/// In blanks: at most two in a row.
 fn blanks<'a>(alloc: Global, t: &mut Tokenizer<'a, Words>) -> Result<State, AllocError>
     requires { IsCallable word_byte blanks t.old }
     ensures { IfOk result (DoesAll (step_in word_byte blanks t.old) t.old t.new) }
@@ -138,7 +138,7 @@ fn word_start<'a>(t: &mut Tokenizer<'a, Words>) -> Result<State, AllocError>
     }
 }
 
-/// Behind a sign, where the word of a tag begins.
+/// After a sign: the word of a tag begins.
 fn tag<'a>(alloc: Global, t: &mut Tokenizer<'a, Words>) -> Result<State, AllocError>
     requires { IsCallable word_byte tag t.old }
     ensures { IfOk result (DoesAll (step_in word_byte tag t.old) t.old t.new) }
@@ -177,7 +177,7 @@ fn word<'a>(t: &mut Tokenizer<'a, Words>) -> Result<State, AllocError>
     }
 }
 
-/// The first span goes once edits are made.
+/// Adds the edit that removes the first span.
 fn drop_first<'a>(alloc: Global, t: &mut Tokenizer<'a, Words>) -> Result<(), AllocError>
     requires { t.old.configuration.local.map ≡ [] }
     ensures { OnOk result (t.new ≡ at_configuration t.old (with_local t.old.configuration (first_dropped t.old.configuration))) }
@@ -185,14 +185,14 @@ fn drop_first<'a>(alloc: Global, t: &mut Tokenizer<'a, Words>) -> Result<(), All
     t.map.add(0, 2, Vec::new(alloc))
 }
 
-/// There is one blank.
+/// Sets the count of blanks to one.
 fn count_one<'a>(t: &mut Tokenizer<'a, Words>)
     ensures { t.new ≡ at_configuration t.old (with_local t.old.configuration (one_blank t.old.configuration)) }
 {
     t.tokenize_state.size_b = 1;
 }
 
-/// There is one blank more.
+/// Adds one to the count of blanks.
 fn count_one_more<'a>(t: &mut Tokenizer<'a, Words>)
     ensures { t.new ≡ at_configuration t.old (with_local t.old.configuration (one_blank_more t.old.configuration)) }
 {

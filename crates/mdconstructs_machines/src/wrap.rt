@@ -23,16 +23,16 @@ use std::alloc::{AllocError, Global};
 /// The resolvers of the machine that wraps.
 #[derive(Clone, Copy, Debug, PartialEq, Eq)]
 pub enum Resolver {
-    /// Has the paragraph end, or refuses the document.
+    /// Makes the paragraph end, or refuses the document.
     A,
-    /// Has the paragraph begin.
+    /// Makes the paragraph begin.
     B,
     /// Registered by `A`, and never run.
     C,
 }
 
-/// Reads each line as data, and then puts all of it into one paragraph, as data of a code span; or refuses the document
-/// once all was read.
+/// Reads each line as data. Then its resolvers put all data into one paragraph, as data of a code span, or refuse the
+/// document.
 ///
 /// It takes at most 2 n + 2 calls for n virtual bytes. The message is `1:2: x (markdown:r)`.
 #[derive(Drop)]
@@ -53,7 +53,7 @@ impl Machine for Wrap {
 
     ghost rules = { λ m. wrap_rules m.refuse };
 
-    /// Counts the call, and does what the state of this name does.
+    /// Counts the call, and runs the state of this name.
     fn call<'a>(
         &self,
         alloc: Global,
@@ -69,7 +69,7 @@ impl Machine for Wrap {
         }
     }
 
-    /// `B` goes first, and then `A`.
+    /// Runs the resolver of this name: `B` is first, and then `A`.
     fn resolve<'a>(
         &self,
         alloc: Global,
@@ -94,7 +94,7 @@ impl Machine for Wrap {
     ghost lawful = { λ m. wrap-lawful m.refuse };
 }
 
-/// Resolvers are registered, and then data is read.
+/// Registers the resolvers, and goes on with reading data.
 fn text_start<'a>(t: &mut Tokenizer<'a, Wrap>) -> Result<State, AllocError>
     requires { IsCallable line_byte text_start t.old }
     ensures { IfOk result (DoesAll (step_in line_byte text_start t.old) t.old t.new) }
@@ -105,7 +105,7 @@ fn text_start<'a>(t: &mut Tokenizer<'a, Wrap>) -> Result<State, AllocError>
     Ok(State::Retry(Name::DataStart))
 }
 
-/// Data is called data of a code span.
+/// Renames data to data of a code span.
 fn rename(event: &mut Event)
     ensures { event.new ≡ renamed event.old }
 {
@@ -114,7 +114,7 @@ fn rename(event: &mut Event)
     }
 }
 
-/// Each event is renamed.
+/// Renames each event.
 fn rename_each(events: &mut [Event])
     ensures { events.new ≡ map renamed events.old }
 {
@@ -123,14 +123,14 @@ fn rename_each(events: &mut [Event])
     }
 }
 
-/// All events of a list are renamed.
+/// Renames all events of a list.
 fn rename_all(events: &mut Vec<Event>)
     ensures { events.new.items ≡ map renamed events.old.items }
 {
     rename_each(events.as_mut_slice());
 }
 
-/// Data is renamed, and a paragraph is to begin in front of all events.
+/// Renames data, and adds the edit by which a paragraph begins before all events.
 fn begin_paragraph<'a>(alloc: Global, t: &mut Tokenizer<'a, Wrap>) -> Result<(), AllocError>
     requires resolving { t.old.phase ≡ Resolving }
     requires alone { t.old.choices ≡ [] }
@@ -151,7 +151,7 @@ fn begin_paragraph<'a>(alloc: Global, t: &mut Tokenizer<'a, Wrap>) -> Result<(),
     add_one(alloc, &mut t.map, 0, enter)
 }
 
-/// A paragraph is to end behind all events, and a definition is found.
+/// Adds the edit by which the paragraph ends after all events. Returns one definition as found.
 fn end_paragraph<'a>(alloc: Global, t: &mut Tokenizer<'a, Wrap>) -> Result<Subresult, AllocError>
     requires resolving { t.old.phase ≡ Resolving }
     ensures same { t.new ≡ at_configuration t.old t.new.configuration }
@@ -169,14 +169,14 @@ fn end_paragraph<'a>(alloc: Global, t: &mut Tokenizer<'a, Wrap>) -> Result<Subre
     one_definition(alloc)
 }
 
-/// One event is to come at an index.
+/// Adds the edit that puts one event at an index.
 fn add_one(alloc: Global, map: &mut EditMap, index: usize, event: Event) -> Result<(), AllocError>
     ensures { OnOk result (map.new ≡ added_after map.old (edit_at index 0 (event ∷ []))) }
 {
     map.add(index, 0, vec![in alloc; event]?)
 }
 
-/// The definition that is found, of the label `A`.
+/// The definition that is found; its label is `A`.
 fn one_definition(alloc: Global) -> Result<Subresult, AllocError>
     ensures { IfOk result (λ sub. sub ≡ one_definition) }
 {

@@ -1,4 +1,4 @@
--- The table of the machine passes the test and its own cost pays, so that the machine is lawful.
+-- The table of the machine passes the test and its own cost is enough, so that the machine is lawful.
 use Rattle.std.proofs.Common.{◌≡◌, ℕ, zero, suc, ◌+◌, ◌-◌, ◌*◌, ◌≤◌, [], Option, Some, None, length, refl, ap, arith, true, false}
 use Rattle.mdconstructs_tables.specs.PlainTables.{IsPlainTable}
 use Rattle.mdconstructs_tables.specs.Refusals.{refusing}

@@ -58,7 +58,7 @@ more-chunk events e index h = record {
   ended = h.ended;
 }
 
--- one that was begun is a chunk once it is ended
+-- a chunk that was begun is a chunk once it is ended
 ended-chunk : (events : List Event) (e : Event) (index : ℕ) → e.kind ≡ Exit → e.name ≡ Data → EndsWithChunk events index → HasChunk (events ++ e ∷ []) index
 ended-chunk events e index exits named h = record {
   before = h.before;
@@ -116,7 +116,7 @@ can-link events place index next h last =
       one_content = rw (first, second) h.begins.text;
     }
 
--- and where it does, it is the last event
+-- and if it does, it is the last event
 linked-last : (events : List Event) (place : Point) (index next : ℕ) → HasChunk events index → next ≡ length events
     → linked_to index next (events ++ chunk_at place ∷ []) ≡ updated_at index (with_next next) events ++ with_previous index (chunk_at place) ∷ []
 linked-last events place index next h last =
@@ -214,7 +214,7 @@ data-more g s k [] b (Some line_ending) h = known-on _ _ _ _ _ _ h refl refl (λ
 data-more g s k [] b (Some other) h = known-on _ _ _ _ _ _ h refl refl h.chunk h.shape
 data-more g s k (c ∷ cs) b w h = absurd h
 
--- no chunk is there at the start
+-- there is no chunk at the start
 at-starts : (flag : Bool) → let k : Configuration Unit Unit = start_configuration flag in All (λ name. knows_chunk k.events k.local [] (Next name)) paragraphs.starts
 at-starts flag =
     let k : Configuration Unit Unit = start_configuration flag in

@@ -41,7 +41,7 @@ module _ (may_be_open : Bool) where
   still-begin (x ∷ []) h = let e : false ≡ true = h.0 in absurd (cc)
   still-begin (x ∷ y ∷ xs) h = h
 
-  -- one more event comes behind them
+  -- one more event comes after them
   one-more : (xs : List Event) (e : Event) → BeginWithBlanks false xs → BeginWithBlanks may_be_open (xs ++ e ∷ [])
   one-more [] e h = absurd h
   one-more (x ∷ []) e h = let e : false ≡ true = h.0 in absurd (cc)
@@ -113,7 +113,7 @@ keeps-word g s k [] b (Some blank) h =
 keeps-word g s k [] b (Some other) h = later refl h.no_resolver h.no_links h.edits
 keeps-word g s k (c ∷ cs) b w h = absurd h
 
--- nothing is there at the start
+-- there is nothing at the start
 at-starts : (flag : Bool) → let k : Configuration Unit Unit = start_configuration flag in All (λ name. knows_edits k.events k.local [] (Next name)) words.starts
 at-starts flag =
     let k : Configuration Unit Unit = start_configuration flag in
@@ -136,7 +136,7 @@ known-before events local (c ∷ cs) n e h = absurd h
 abbrev Ends : List Event → List Edit → Type 0
 Ends events map = (AreDisjoint 0 map (length events) × All (EndsBelow (length events)) events) × IsInShape (edited map events)
 
--- without its first two events a list without links is what is behind them
+-- a list without links, without its first two events, is the rest of it
 behind-two : (x y : Event) (rest : List Event) → HaveNoLinks rest → edited (edit_at 0 2 [] ∷ []) (x ∷ y ∷ rest) ≡ rest
 behind-two x y rest h = ap placed (woven-past (as_change (edit_at 0 2 [])) [] 2 rest (omega arith) (omega arith)) ∙ woven-same (woven [] 2 rest) 2 rest h
 

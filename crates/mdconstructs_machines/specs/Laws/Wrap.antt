@@ -1,4 +1,4 @@
--- The table of the machine passes the test, and its resolvers keep what those that are left need, so that the machine is lawful.
+-- The table of the machine passes the test, and its resolvers keep what the ones that are left need, so that the machine is lawful.
 use Rattle.std.proofs.Common.{◌≡◌, ◌==◌, ℕ, zero, suc, ◌+◌, ◌<◌, List, [], ◌∷◌, ◌++◌, Bool, true, false, cond, Option, Some, None, length, map, refl, sym, ap, ◌∙◌, subst, arith}
 use Rattle.std.specs.Prelude.{◌&&◌, ◌||◌, nat_lt, nat_le, Contains, All}
 use Rattle.std.proofs.lemmas.Bool.Decides.{nat_tests}
@@ -61,7 +61,7 @@ inside-left (Some other) g s k h = (refl, h)
 first-left : (g : Given) (s : Sight) (k : Configuration Resolver Unit) → IsUnedited [] k → IsLeft (step_of (picked (text_start.rows None None) g s k) s k)
 first-left g s k h = (refl, (ap (λ rs. registered_before same_resolver A (registered_before same_resolver B (registered same_resolver A rs))) h.0, h.1, h.2))
 
--- the state of any name does
+-- the state of any name leaves that
 step-left : (one two three : Bool) (g : Given) (s : Sight) (k : Configuration Resolver Unit) → IsUnedited (cond one [] (B ∷ A ∷ [])) k
     → IsLeft (step_at wrap g (cond one (Some text_start) (cond two (Some data_start) (cond three (Some data_inside) None))) s (with_local k (counts k.local)))
 step-left true two three g s k h = first-left g s (with_local k (counts k.local)) h
@@ -122,7 +122,7 @@ cost_pays refuse g =
       for_nok = λ text k choice choices is h. law.for_nok text k choice choices is h.1;
     }
 
--- renamed events have the same links and kinds, and what was balanced is
+-- renamed events have the same links and kinds, and a balanced list stays balanced
 renamed-link : (b : Bool) (e : Event) → (cond b (record e { name = CodeTextData }) e).link ≡ e.link
 renamed-link true e = refl
 renamed-link false e = refl
@@ -161,7 +161,7 @@ both-apart : (p q : Point) (n : ℕ) → AreDisjoint 0 (both-edits p q n) n
 both-apart p q zero = (omega arith, omega arith)
 both-apart p q (suc n) = (omega arith, (omega arith, omega arith))
 
--- the list after them has the paragraph's enter in front, and its exit behind
+-- the list after them has the paragraph's enter first, and its exit last
 abbrev two : Point → Point → ℕ → List Change
 two p q n = as_change (edit_at 0 0 (begin_event p ∷ [])) ∷ as_change (edit_at n 0 (end_event q ∷ [])) ∷ []
 
