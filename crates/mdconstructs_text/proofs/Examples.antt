@@ -27,7 +27,7 @@ begins_at name line column index = record { kind = Enter; name = name; point = p
 abbrev ends_at : Name → (line column index : ℕ) → Event
 ends_at name line column index = record { kind = Exit; name = name; point = point line column index 0; link = None }
 
--- events in the first line, by their byte index, where no tab stands before
+-- events in the first line, by their byte index, without a tab before them
 abbrev begins : Name → ℕ → Event
 begins name index = begins_at name 1 (index + 1) index
 
@@ -115,7 +115,7 @@ carriage-return = refl
 pub nothing : by_default [] ≡ []
 nothing = refl
 
--- A chain of text: two chunks of a paragraph, and before the second one a quote mark, which is none of it
+-- A chain of text: two chunks of a paragraph, and before the second one a quote mark, which is not part of it
 abbrev chunk_at : (previous next : Option ℕ) → (line column index : ℕ) → Event
 chunk_at previous next line column index =
     record { kind = Enter; name = Data; point = point line column index 0; link = Some (record { previous = previous; next = next; content = Text }) }

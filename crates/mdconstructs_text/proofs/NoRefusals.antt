@@ -1,4 +1,4 @@
--- The table of texts and that of paragraphs refuse nothing, by the test of their rows.
+-- The tables of texts and of paragraphs refuse no document, by the test of their rows.
 use Rattle.std.proofs.Common.{◌≡◌, [], Option, Some, None, refl}
 use Rattle.mdconstructs_tables.specs.Joined.{has_state}
 use Rattle.mdconstructs_tables.specs.Refusals.{refusing, RulesRefuseNothing}

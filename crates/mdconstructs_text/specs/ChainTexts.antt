@@ -1,4 +1,4 @@
--- The events that chains of text are read as: the text of a paragraph is what its lines have together.
+-- The events of chains of text: the text of a paragraph is the joined text of its lines.
 use Rattle.std.specs.Prelude.{◌≡◌, ℕ, List, Some, false, map}
 use Rattle.markdown_base.specs.declared.event.Content.TheVariants.{Text}
 use Rattle.markdown_base.specs.declared.event.Event.{Event}
@@ -27,6 +27,6 @@ module _ (g : Given) (events : List Event) where
   abbrev pub AreReadAsTexts : Type 0
   AreReadAsTexts = (new : List Event) (sub : Subresult) → IsSubtokenized g text_rules (Some Text) events new sub → new ≡ with_texts
 
--- what the machine reads of a document from this start has chains of text that can be read
+-- the events that the machine makes of a document from this start have chains of text that can be read
 abbrev pub HasReadableChains : (Given → Rules Unit Unit) → Name → Type 0
 HasReadableChains rules start = (g : Given) (events : List Event) (sub : Subresult) → IsDocument g → IsRun g rules false start events sub → IsReady g.tab g.bytes (Some Text) events

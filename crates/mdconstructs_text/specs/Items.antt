@@ -1,18 +1,18 @@
--- The constructs of CommonMark that are read here, each by the bytes it is made of at the front of a text.
+-- The constructs of CommonMark that are read here, each by its bytes at the front of a text.
 --
--- A text is cut into items from the front. A construct is there if its bytes are: nothing is said of states.
+-- A text is cut into items from the front. A construct is there if its bytes are. The definition has no states.
 use Rattle.std.specs.Prelude.{ℕ, ◌+◌, ◌==◌, ◌&&◌, ◌||◌, not, max, nat_le, Bool, false, cond, List, take, drop, length, Option, Some, None, find, slice_get, option_map}
 use Rattle.std.specs.List.{last_or, list_all, prefix_len, position_or_len, range_with_len}
 use Rattle.std.specs.Char.{is_ascii_alphabetic, is_ascii_alphanumeric, is_ascii_control, is_ascii_punctuation}
 use Rattle.markdown_base.specs.declared.configuration.Constructs.{Constructs}
 
--- A part of a text, or of a code span, that is no construct: a line ending, or a run of so many other bytes
+-- A part of a text, or of a code span, that is no construct: a line ending, or a run of this many other bytes
 pub data Part : Type 0 where
   line_ending : Part
   plain_run : ℕ → Part
 
--- An item: a code span, with how many backticks each of its two backtick strings has and how many bytes are between them; an autolink,
--- with how many bytes are between `<` and `>`; a backslash escape; or a part
+-- An item: a code span, with the length of its two backtick strings and of the bytes between them; an autolink, with the number of bytes
+-- between `<` and `>`; a backslash escape; or a part
 pub data Item : Type 0 where
   code_span : (backticks inside : ℕ) → Item
   autolink : (inside : ℕ) → Item
@@ -92,7 +92,7 @@ ends_with text test = passes test (last_or None text)
 abbrev pub is_backtick_string : (text : List ℕ) → (k p : ℕ) → Bool
 is_backtick_string text k p = not (ends_with (take p text) is_backtick) && (backticks (drop p text) == k)
 
--- how many bytes are in front of the first backtick string of k backticks
+-- how many bytes are before the first backtick string of k backticks
 abbrev pub before_backtick_string : (k : ℕ) → List ℕ → Option ℕ
 before_backtick_string k text = find (is_backtick_string text k) (range_with_len 0 (length text))
 
@@ -110,12 +110,12 @@ is_scheme_byte byte = is_ascii_alphanumeric byte || is_scheme_mark byte
 abbrev pub scheme_size_max : ℕ
 scheme_size_max = 32
 
--- Scheme: 2 to 32 of these characters, the first of which is an ASCII letter
+-- Scheme: 2 to 32 of these characters; the first is an ASCII letter
 abbrev pub is_scheme : List ℕ → Bool
 is_scheme name = nat_le 2 (length name) && (nat_le (length name) scheme_size_max && (has_byte_at name 0 is_ascii_alphabetic && list_all is_scheme_byte name))
 
 -- the characters of an absolute URI after its scheme and colon: all but ASCII control characters, space, `<` and `>`. Bytes from 128 on are
--- no control characters, so each character beyond ASCII is allowed.
+-- no ASCII control characters, so each character beyond ASCII is allowed.
 abbrev pub is_allowed : ℕ → Bool
 is_allowed byte = not (is_ascii_control byte || (is_space byte || (is_less_than byte || is_greater_than byte)))
 
@@ -125,7 +125,7 @@ uri text =
     let n = prefix_len is_scheme_byte text in
     cond (is_scheme (take n text) && has_byte_at text n is_colon) (Some (n + 1 + prefix_len is_allowed (drop (n + 1) text))) None
 
--- an autolink around an absolute URI of so many bytes: `>` follows it
+-- an autolink around an absolute URI of this many bytes: `>` follows it
 abbrev pub autolink_to : List ℕ → Option ℕ → Option Item
 autolink_to text None = None
 autolink_to text (Some n) = cond (has_byte_at text (n + 1) is_greater_than) (Some (autolink n)) None
@@ -138,11 +138,11 @@ autolink_at text = cond (has_byte_at text 0 is_less_than) (autolink_to text (uri
 abbrev pub escape_at : List ℕ → Option Item
 escape_at text = cond (has_byte_at text 0 is_backslash && has_byte_at text 1 is_ascii_punctuation) (Some escape) None
 
--- how many bytes are plain whatever they are: a whole backtick string, or else one byte
+-- how many bytes at the front are plain in any case: a whole backtick string, or else one byte
 abbrev pub first_plain : List ℕ → ℕ
 first_plain text = max 1 (backticks text)
 
--- how long plain text is: these, and all up to the next byte that ends it
+-- the length of plain text: these bytes, and all up to the next byte that ends it
 abbrev pub plain_length : (ends : ℕ → Bool) → List ℕ → ℕ
 plain_length ends text = first_plain text + position_or_len ends (drop (first_plain text) text)
 
@@ -150,7 +150,7 @@ plain_length ends text = first_plain text + position_or_len ends (drop (first_pl
 abbrev pub part_at : (ends : ℕ → Bool) → List ℕ → Part
 part_at ends text = cond (has_byte_at text 0 is_line_feed) line_ending (plain_run (plain_length ends text))
 
--- a construct that the options turn off is nowhere
+-- a construct that the options turn off is never there
 abbrev pub if_on : Bool → Option Item → Option Item
 if_on on item = cond on item None
 

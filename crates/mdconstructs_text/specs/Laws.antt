@@ -1,4 +1,4 @@
--- Laws of the machine of texts.
+-- Laws about the machine of texts.
 pub mod Costs
 pub mod Rules
 pub mod Table

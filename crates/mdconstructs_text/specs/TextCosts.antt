@@ -7,7 +7,8 @@ use Rattle.markdown_tokenizer.specs.Sight.{byte_of}
 use Rattle.mdconstructs_tables.specs.Rows.{class_of}
 use Rattle.mdconstructs_text.specs.Items.{is_line_feed, is_backtick, is_less_than, is_greater_than, is_backslash, is_colon, is_scheme_mark}
 
--- The classes of bytes. Letters, digits and marks are the characters of schemes; a blank is a space, or an ASCII control character but a line feed.
+-- The classes of bytes. Letters, digits and marks are the characters of schemes; a blank is a space, or an ASCII control character that is
+-- no line feed.
 pub data TextByte : Type 0 where
   line_feed : TextByte
   backtick : TextByte
@@ -29,7 +30,7 @@ text_byte b =
     (cond (is_ascii_alphabetic b) letter (cond (is_ascii_alphanumeric b) digit (cond (is_scheme_mark b) mark
     (cond (is_ascii_punctuation b) punctuation (cond (nat_lt b 33 || (b == 127)) blank other))))))))))
 
--- the class is that of a backtick
+-- the class is a backtick's
 abbrev pub is_tick : Option TextByte → Bool
 is_tick (Some backtick) = true
 is_tick _ = false
@@ -46,7 +47,8 @@ abbrev pub leading : List Seat → ℕ
 leading [] = 0
 leading (s ∷ ss) = cond (is_backtick s.byte) (suc (leading ss)) 0
 
--- How many calls come between constructs, if so many bytes are left: each byte may begin a construct that is read to the end in vain
+-- How many calls may come between constructs, if this many bytes are left: each byte may begin a construct that is read to the end and
+-- fails
 abbrev pub outside : ℕ → ℕ
 outside left = 4 * (left * left) + 9 * left + 1
 
@@ -62,7 +64,7 @@ ticks text position = leading (drop position text.seats)
 abbrev pub waits_at : Text → ℕ → Option TextByte
 waits_at text position = class_of text_byte (byte_of (slice_get text.seats position))
 
--- how many calls come from a state, by how many bytes are left
+-- how many calls a state may take, by how many bytes are left
 abbrev pub by_left : (ℕ → ℕ) → Text → ℕ → ℕ
 by_left f text position = f (left text position)
 
@@ -70,6 +72,6 @@ by_left f text position = f (left text position)
 abbrev pub at_tick : (tick rest : ℕ → ℕ) → Text → ℕ → ℕ
 at_tick tick rest text position = cond (is_tick (waits_at text position)) (tick (left text position)) (rest (left text position))
 
--- how many calls trying a construct in vain, and reading data after it, may take
+-- how many calls a construct that fails, and reading data after it, may take
 abbrev pub before_data : ℕ → ℕ
 before_data n = max 1 (4 * (n * n) + n)

@@ -1,7 +1,7 @@
 -- The events of a text, by its items.
 --
--- Places come only from the virtual bytes: a span begins at its first byte, and ends where its last byte ends, which after a line ending is
--- the start of the next line. So a gap that was passed there changes nothing: what follows it begins at its own byte.
+-- Places come only from the virtual bytes: a span begins at its first byte, and ends where its last byte ends. After a line ending, that is
+-- the start of the next line. So a gap there changes nothing: the next span begins at its own first byte.
 use Rattle.std.specs.Prelude.{ℕ, zero, suc, ◌+◌, List, [], ◌∷◌, ◌++◌, map, take, drop, length, None}
 use Rattle.std.specs.List.{flat_map, between}
 use Rattle.markdown_base.specs.declared.configuration.Constructs.{Constructs}
@@ -20,7 +20,7 @@ use Rattle.mdconstructs_text.specs.Items.{Part, line_ending, plain_run, Item, co
 abbrev pub bytes_of : List Seat → List ℕ
 bytes_of seats = map (λ s. s.byte) seats
 
--- Virtual bytes, cut from the front: what is at the front each time, and its virtual bytes. The bound is their number.
+-- Virtual bytes, cut from the front: each time the element at the front, with its virtual bytes. The bound is their number.
 abbrev pub cut : {A : Type 0} → (front : List ℕ → A) → (size : A → ℕ) → ℕ → List Seat → List (A × List Seat)
 cut front size zero seats = []
 cut front size (suc bound) [] = []

@@ -1,4 +1,4 @@
--- The rules of the machine of texts: paragraphs, and the texts in them. It has a start for each.
+-- The rules of the machine of texts: for paragraphs, and for the texts in them. It has a start for each.
 use Rattle.std.specs.Prelude.{[], ◌∷◌}
 use Rattle.markdown_base.specs.declared.state.TheConstants.Name.{FlowStart}
 use Rattle.markdown_tokenizer.specs.Text.{Given}
@@ -12,7 +12,7 @@ use Rattle.mdconstructs_machines.specs.Tables.{LineByte}
 use Rattle.mdconstructs_machines.specs.Paragraphs.{flow_start, paragraph_line_start, paragraph_start, paragraph_inside, paragraphs, knows_chunk}
 use Rattle.mdconstructs_text.specs.TextTable.{texts, begins_construct, follows_construct}
 
--- the states of the machine of paragraphs, but not those of its texts
+-- the states of the machine of paragraphs, without the states of its texts
 abbrev pub flow : Table LineByte Unit Unit
 flow = record paragraphs { states = flow_start ∷ paragraph_line_start ∷ paragraph_start ∷ paragraph_inside ∷ []; starts = FlowStart ∷ [] }
 
@@ -20,7 +20,7 @@ flow = record paragraphs { states = flow_start ∷ paragraph_line_start ∷ para
 abbrev pub flow_rules : Given → Rules Unit Unit
 flow_rules = knowing_rules flow knows_chunk
 
--- the rules of a text: no resolver is registered, no edit is made, and nothing is linked; and no construct is empty
+-- the rules of a text: no resolver is registered, no edit is made, nothing is linked, and no construct is empty
 abbrev pub inline_rules : Given → Rules Unit Unit
 inline_rules g = without_links (late_rules texts begins_construct follows_construct g)
 

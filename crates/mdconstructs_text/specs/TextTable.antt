@@ -65,7 +65,7 @@ tries is_on name = when is_on (row (choose Attempt (Next TextBefore) (Next TextB
 abbrev pub line_ending_then : Name → Rows Unit Unit
 line_ending_then name = row (enter LineEnding ∷ consume ∷ exit LineEnding ∷ []) (Next name)
 
--- In front of a text
+-- Before a text
 abbrev pub text_start_rows : (previous current : Option TextByte) → Rows Unit Unit
 text_start_rows _ _ = row [] (Retry TextBefore)
 
@@ -95,7 +95,7 @@ abbrev pub text_before_data_rows : (previous current : Option TextByte) → Rows
 text_before_data_rows _ (Some backtick) = row (enter Data ∷ []) (Retry DataAtBreak)
 text_before_data_rows _ _ = row (enter Data ∷ consume ∷ []) (Next DataInside)
 
--- its state: no span is open, and a byte is there
+-- its state: no span is open, and a byte waits
 abbrev pub text_before_data : StateRows TextByte Unit Unit
 text_before_data =
     costs (by_left before_data)
@@ -139,7 +139,7 @@ tried state = record state { needs = a_choice }
 abbrev pub raw_text_start_rows : (previous current : Option TextByte) → Rows Unit Unit
 raw_text_start_rows _ _ = row (enter CodeText ∷ enter CodeTextSequence ∷ write (size_b_is 0) ∷ []) (Retry RawTextSequenceOpen)
 
--- its state: it is called at a backtick only, and no span is open yet
+-- its state: it is called only at a backtick, and no span is open yet
 abbrev pub raw_text_start : StateRows TextByte Unit Unit
 raw_text_start =
     costs (by_left (λ n. 7 * n - 3))
@@ -198,7 +198,7 @@ raw_text_sequence_close =
     costs (λ text p. ticks text p + 1)
     (tried (record (state RawTextSequenceClose raw_text_sequence_close_rows (CodeTextSequence ∷ []) None) { begun = at_byte is_backtick_class }))
 
--- behind that backtick string the code span ends
+-- after that backtick string the code span ends
 abbrev pub raw_flow_after_rows : (previous current : Option TextByte) → Rows Unit Unit
 raw_flow_after_rows _ _ = row (exit CodeText ∷ []) Ok
 
@@ -212,7 +212,7 @@ raw_flow_after =
 abbrev pub raw_flow_before_content_chunk_rows : (previous current : Option TextByte) → Rows Unit Unit
 raw_flow_before_content_chunk_rows _ _ = row (enter CodeTextData ∷ []) (Retry RawFlowContentChunk)
 
--- its state: it is called at a backtick only, and a code span is open
+-- its state: it is called only at a backtick, and a code span is open
 abbrev pub raw_flow_before_content_chunk : StateRows TextByte Unit Unit
 raw_flow_before_content_chunk =
     costs (λ text p. 7 * left text p - 6 * ticks text p + 4)
@@ -238,7 +238,7 @@ abbrev pub is_less_class : TextByte → Bool
 is_less_class less = true
 is_less_class _ = false
 
--- its state: it is called at `<` only, and no span is open yet
+-- its state: it is called only at `<`, and no span is open yet
 abbrev pub autolink_start : StateRows TextByte Unit Unit
 autolink_start =
     costs (by_left (λ n. n + 1))
@@ -297,7 +297,7 @@ abbrev pub is_backslash_class : TextByte → Bool
 is_backslash_class backslash = true
 is_backslash_class _ = false
 
--- its state: it is called at a backslash only, and no span is open yet
+-- its state: it is called only at a backslash, and no span is open yet
 abbrev pub escape_start : StateRows TextByte Unit Unit
 escape_start =
     costs (by_left (λ n. n + 1))
@@ -335,7 +335,7 @@ text_states =
 abbrev pub texts : Table TextByte Unit Unit
 texts = record { class = text_byte; first = counts; states = text_states; starts = TextStart ∷ [] }
 
--- the states that begin a construct: they are called only if it was chosen to try the construct
+-- the states that begin a construct: they are called only if the construct is tried
 abbrev pub begins_construct : Name → Option TextByte → Bool
 begins_construct name w =
     (name.number == AutolinkStart.number) || ((name.number == CharacterEscapeStart.number)

@@ -1,4 +1,4 @@
-//! Laws of the machine of texts: functions that do nothing, each with a contract that states one.
+//! Laws about the machine of texts. Each is a function that does nothing; its contract is the law.
 
 ghost use Rattle.std.specs.Prelude.{◌+◌, ◌*◌, [], ◌∷◌, List, Some};
 ghost use Rattle.markdown_base.specs.declared.event.Event.{Event};
@@ -13,26 +13,26 @@ ghost use Rattle.mdconstructs_text.specs.TextRules.{text_rules};
 
 use markdown_tokenizer::event::Content;
 
-/// The machine has two starts, one for documents and one for texts. From each it takes at most so many calls on a text of n
-/// virtual bytes.
+/// The machine has two starts, one for documents and one for texts. This is how many calls it takes at most from each, on a
+/// text of n virtual bytes.
 pub fn cost_at_the_start()
     ensures paragraphs { StartsAmong text_rules (FlowStart ∷ TextStart ∷ []) FlowStart (λ n. 4 * n + 3) }
     ensures text { StartsAmong text_rules (FlowStart ∷ TextStart ∷ []) TextStart (λ n. 4 * n * n + 9 * n + 2) }
 {}
 
-/// The machine makes events of each document: no reading by it ends in a message, of whatever text and from whatever state.
+/// No reading by the machine ends in a message, whatever the text and the state: it makes events of every document.
 pub fn no_document_is_refused()
     ensures { RulesRefuseNothing text_rules }
 {}
 
-/// If the chains of text of a list can be read, `subtokenize` by `Text` replaces each chunk by its part of the events of the
-/// chain's text. The definition of these events has no states.
+/// If the chains of text of a list can be read, `subtokenize` with `Text` replaces each chunk by its part of the events of
+/// the chain's text. The definition of these events has no states.
 pub fn chains_are_read_as_texts()
     ensures { (g : Given) (events : List Event) → IsDocument g → IsReady g.tab g.bytes (Some Content.Text) events → AreReadAsTexts g events }
 {}
 
-/// What `Paragraphs` or `Text` reads of a document, from the start of paragraphs, has chains of text that can be read: `ready`
-/// returns true for it, and `subtokenize` may be called.
+/// The events that `Paragraphs` or `Text` makes of a document, from the start of paragraphs, have chains of text that can be
+/// read: `ready` returns true for them, and `subtokenize` may be called.
 pub fn chains_of_paragraphs_can_be_read()
     ensures paragraphs { HasReadableChains paragraphs_rules FlowStart }
     ensures text { HasReadableChains text_rules FlowStart }

@@ -1,4 +1,5 @@
-//! The machine of texts, and what a text is read as: code spans, autolinks, escapes, line endings and plain data.
+//! The machine of texts, and the definition of a text's events: code spans, autolinks, escapes, line endings and plain
+//! data.
 #![tactic(auto)]
 
 pub mod laws;

@@ -13,11 +13,12 @@ use markdown_tokenizer::state::Name;
 use markdown_tokenizer::tokenizer::{Fault, run};
 use std::alloc::Global;
 
-/// Reads a whole document as text, cut at these places: code spans, autolinks and backslash escapes if the options have them on,
-/// line endings, and all else as data. The definition of these events has no states, and the events have no trace of the cuts.
+/// Reads a whole document as text, cut at these places. Code spans, autolinks and backslash escapes are read if the options have
+/// them on, line endings always, and all else is data (CommonMark, "Inlines"). The definition of these events has no states. The
+/// events do not depend on the cuts.
 ///
-/// The cuts are places, each an index and a number in a tab, in an order that never decreases. The only fault is that memory
-/// runs out.
+/// The cuts are places, each a byte index and a number in a tab, in an order that never decreases. The only fault is
+/// `Memory`: it runs out of memory.
 pub fn read_text(
     alloc: Global,
     bytes: &[u8],

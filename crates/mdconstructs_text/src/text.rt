@@ -25,7 +25,7 @@ use mdconstructs_tables::marker;
 use std::alloc::{AllocError, Global};
 
 /// Reads paragraphs as `Paragraphs` does. From `TextStart` it reads code spans, autolinks and backslash escapes if they are on,
-/// line endings, and all else as data. The chunks of a paragraph are read so together.
+/// line endings, and all else as data. So it reads the joined text of a paragraph's chunks.
 ///
 /// It takes at most 4 n + 3 calls for n virtual bytes, and 4 n n + 9 n + 2 from `TextStart`.
 #[derive(Drop)]
@@ -50,8 +50,9 @@ impl Machine for Text {
         name: Name,
     ) -> Result<State, AllocError> {
         begin(t);
-        // The names are the Rust crate's, which has none for what comes in a code span after a run of backticks: the three names
-        // `RawFlowAfter`, `RawFlowBeforeContentChunk` and `RawFlowContentChunk` of fenced code, which is not read here, serve.
+        // The names are the Rust crate's. It has none for the states of a code span after a backtick string that may close it.
+        // Three names of fenced code, which is not read here, are used: `RawFlowAfter`, `RawFlowBeforeContentChunk` and
+        // `RawFlowContentChunk`.
         match name {
             Name::FlowStart => flow_start(t),
             Name::ParagraphLineStart => paragraph_line_start(t),
@@ -93,7 +94,7 @@ impl Machine for Text {
     ghost lawful = { λ _. text-lawful };
 }
 
-/// In front of a text.
+/// Before a text.
 fn text_start<'a>(t: &mut Tokenizer<'a, Text>) -> Result<State, AllocError>
     requires { IsCallable text_byte text_start t.old }
     ensures { IfOk result (DoesAll (step_in text_byte text_start t.old) t.old t.new) }
@@ -101,7 +102,7 @@ fn text_start<'a>(t: &mut Tokenizer<'a, Text>) -> Result<State, AllocError>
     Ok(State::Retry(Name::TextBefore))
 }
 
-/// Between constructs: one is tried if it is on, or data is read.
+/// Between constructs: tries one if it is on, or reads data.
 fn text_before<'a>(t: &mut Tokenizer<'a, Text>) -> Result<State, AllocError>
     requires { IsCallable text_byte text_before t.old }
     ensures { IfOk result (DoesAll (step_in text_byte text_before t.old) t.old t.new) }
@@ -280,7 +281,7 @@ fn raw_text_sequence_close<'a>(t: &mut Tokenizer<'a, Text>) -> Result<State, All
     }
 }
 
-/// Behind the backtick string that closed a code span.
+/// After the backtick string that closed a code span.
 fn raw_flow_after<'a>(t: &mut Tokenizer<'a, Text>) -> Result<State, AllocError>
     requires { IsCallable text_byte raw_flow_after t.old }
     ensures { IfOk result (DoesAll (step_in text_byte raw_flow_after t.old) t.old t.new) }
@@ -358,7 +359,7 @@ fn autolink_scheme<'a>(t: &mut Tokenizer<'a, Text>) -> Result<State, AllocError>
     }
 }
 
-/// In an autolink, behind its scheme.
+/// In an autolink, after its scheme.
 fn autolink_url<'a>(t: &mut Tokenizer<'a, Text>) -> Result<State, AllocError>
     requires { IsCallable text_byte autolink_url t.old }
     ensures { IfOk result (DoesAll (step_in text_byte autolink_url t.old) t.old t.new) }
@@ -388,7 +389,7 @@ fn escape_start<'a>(t: &mut Tokenizer<'a, Text>) -> Result<State, AllocError>
     Ok(State::Next(Name::CharacterEscapeInside))
 }
 
-/// Behind the backslash of a backslash escape.
+/// After the backslash of a backslash escape.
 fn escape_inside<'a>(t: &mut Tokenizer<'a, Text>) -> Result<State, AllocError>
     requires { IsCallable text_byte escape_inside t.old }
     ensures { IfOk result (DoesAll (step_in text_byte escape_inside t.old) t.old t.new) }
@@ -407,7 +408,7 @@ fn escape_inside<'a>(t: &mut Tokenizer<'a, Text>) -> Result<State, AllocError>
     }
 }
 
-/// Behind the backtick string that opens a code span.
+/// After the backtick string that opens a code span.
 fn after_opening<'a>(t: &mut Tokenizer<'a, Text>) -> Result<State, AllocError>
     requires called { IsCallable text_byte raw_text_sequence_open t.old }
     requires other { is_tick (class_of text_byte (sight_of t.old).current) ≡ false }
@@ -417,7 +418,7 @@ fn after_opening<'a>(t: &mut Tokenizer<'a, Text>) -> Result<State, AllocError>
     Ok(State::Retry(Name::RawTextBetween))
 }
 
-/// Behind a backtick string that may close a code span.
+/// After a backtick string that may close a code span.
 fn after_run<'a>(t: &mut Tokenizer<'a, Text>) -> Result<State, AllocError>
     requires called { IsCallable text_byte raw_text_sequence_close t.old }
     requires other { is_tick (class_of text_byte (sight_of t.old).current) ≡ false }
@@ -431,7 +432,7 @@ fn after_run<'a>(t: &mut Tokenizer<'a, Text>) -> Result<State, AllocError>
     }
 }
 
-/// At a byte of a scheme, which is read if the scheme is not too long.
+/// At a byte of a scheme: reads it if the scheme is not too long.
 fn go_on_in_scheme<'a>(t: &mut Tokenizer<'a, Text>) -> State
     requires { t.old.configuration.waiting ≡ Byte }
     ensures { DoesAll (step_of (picked scheme_goes_on t.old.given (sight_of t.old) t.old.configuration) (sight_of t.old) t.old.configuration) t.old t.new result }
@@ -473,7 +474,7 @@ fn add_to_size_c<'a>(t: &mut Tokenizer<'a, Text>)
     t.tokenize_state.size_c = t.tokenize_state.size_c.saturating_add(1);
 }
 
-/// Whether the two backtick strings are as long as each other.
+/// Whether the two backtick strings have equal length.
 fn sizes_are_equal<'a>(t: &Tokenizer<'a, Text>) -> bool
     ensures { result ≡ sizes_are_equal t.now.given (sight_of t.now) t.now.configuration }
 {

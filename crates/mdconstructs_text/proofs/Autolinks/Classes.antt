@@ -1,4 +1,4 @@
--- Which bytes an autolink begins with and goes on at, and which refuse it.
+-- The bytes at which an autolink begins and goes on, and the bytes at which it fails.
 use Rattle.std.proofs.Common.{◌≡◌, ℕ, ◌∷◌, [], true, false, refl, ap, Option, Some, None, arith, ◌==◌}
 use Rattle.std.proofs.lemmas.Bool.Decides.{nat_tests}
 use Rattle.std.specs.Char.{is_ascii_alphabetic}
@@ -75,7 +75,7 @@ no-link-class before b h i =
     (λ e. absurd (grind (arith, nat_tests))) (λ e. absurd (grind (arith, nat_tests))) (λ e. absurd (grind (arith, nat_tests))) (λ e f. absurd (grind (arith, nat_tests))) (λ e. absurd (grind (arith, nat_tests)))
     (λ o e. absurd (grind (arith, nat_tests, o))) (λ o e. refl) (λ o e. absurd (grind (arith, nat_tests, o)))
 
--- what refuses an autolink waits: another byte, or the end
+-- an autolink fails: another byte waits, or the end
 pub open-refused : (before : Option TextByte) (o : Option ℕ) → passes is_ascii_alphabetic o ≡ false → autolink_open_rows before (class_of text_byte o) ≡ row [] Nok
 open-refused before None h = refl
 open-refused before (Some b) h = no-open-class before b h

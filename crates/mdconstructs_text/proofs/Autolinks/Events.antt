@@ -1,4 +1,4 @@
--- The events that the machine of texts makes of an autolink are those of the item.
+-- The events that the machine of texts makes of an autolink are the item's.
 use Rattle.std.proofs.Common.{◌≡◌, ℕ, zero, suc, ◌+◌, ◌<◌, ◌∷◌, ◌++◌, [], List, false, refl, sym, ◌∙◌, ap, Option, Some, None, arith, length, take, drop, slice_get, ◌==◌}
 use Rattle.std.proofs.lemmas.List.{take_at, drop_at, length-take-le}
 use Rattle.std.proofs.lemmas.Option.{slice_get_within}
@@ -64,7 +64,7 @@ module _ (g : Given) (text : Text) where
       ∷ enters ∷ exits
       ∷ event g.bytes Enter AutolinkMarker (point_or text.end o') ∷ event g.bytes Exit AutolinkMarker (end_or text.end o') ∷ event g.bytes Exit Autolink (end_or text.end o') ∷ []
 
-  -- The events that an autolink leaves are those of the item
+  -- The events that an autolink leaves are the item's
   pub link-events : IsJoined g text → (events : List Event) (p n : ℕ) (s r x : Seat) (rs : List Seat) → drop p text.seats ≡ s ∷ r ∷ rs → (s.byte == 10) ≡ false → 0 < n
       → slice_get text.seats (p + 1 + n) ≡ Some x → ended_link g text (begun_link g text events p) (p + 1 + n) ≡ events ++ item_events g.bytes (autolink n, take (n + 2) (s ∷ r ∷ rs))
   link-events joined events p n s r x rs here plain some at_x =

@@ -85,7 +85,7 @@ module _ (t : ℕ) (bytes : List ℕ) where
     chain-in-line s.end ss c.2,
   )
 
-  -- those of a chain are joined, up to where they end
+  -- the virtual bytes of a chain are joined, up to its end
   chain-begins : (p : Point) (xs ys : List Seat) → IsChain t bytes p (xs ++ ys) → begin_or bytes xs (end_after p xs) ≡ p
   chain-begins p [] ys c = refl
   chain-begins p (s ∷ ss) ys c = c.1.shown_is

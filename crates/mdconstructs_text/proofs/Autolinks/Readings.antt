@@ -45,7 +45,7 @@ one-false : (a b : Bool) → (a && b) ≡ false → b ≡ true → a ≡ false
 one-false true b h e = absurd (cc)
 one-false false b h e = refl
 
--- and of four tests one of the other two
+-- and of four tests, one of the other two
 two-left : (a b c d : Bool) → ((a && (b && c)) && d) ≡ false → b ≡ true → c ≡ true → (a && d) ≡ false
 two-left true true true d h e f = h
 two-left true true false d h e f = absurd (cc)
@@ -84,7 +84,7 @@ module _ (g : Given) (text : Text) (joined : IsJoined g text) (p : ℕ) (ended :
   abbrev choices : List Choice
   choices = outer p ended events ∷ []
 
-  -- what is decided of it
+  -- the reading of an autolink, decided
   abbrev IsDecided : Configuration Unit Unit → State → Option Item → Type 0
   IsDecided k state o = Decided g text p ended events (s ∷ r ∷ rs) k state o
 
@@ -212,7 +212,7 @@ module _ (g : Given) (text : Text) (joined : IsJoined g text) (p : ℕ) (ended :
       ] refl)
 
 module _ (g : Given) (text : Text) where
-  -- Where an autolink may begin, with the construct on, it is read, or what was tried leaves nothing
+  -- If the construct is on, an autolink is read where it may begin, or the attempt leaves nothing
   from-marker : (p : ℕ) (ended : Bool) (events : List Event) (local : Local Unit Unit) (s : Seat) (ss : List Seat) → drop p text.seats ≡ s ∷ ss → s.byte ≡ 60 → g.options.constructs.autolink ≡ true
       → (o : Option Item) → Decided g text p ended events (s ∷ ss) (in_link (p + 1) false (begun_link g text events p) (counts (counts local))) (Next AutolinkOpen) o → Tried g text p ended events local (s ∷ ss) o
   from-marker p ended events local s ss here is on None d =

@@ -34,7 +34,7 @@ one-more n h = grind (arith, nat_tests)
 below-room : (n : ℕ) → nat_lt n 32 ≡ true → n < 32
 below-room n h = grind (arith, nat_tests)
 
--- so many bytes are enough for a scheme, and not too many, and the first is a letter
+-- this many bytes are enough for a scheme, and not too many, and the first is a letter
 abbrev pub is_long_enough : List ℕ → ℕ → Bool
 is_long_enough text n = nat_le 2 n && (nat_le n 32 && has_byte_at text 0 is_ascii_alphabetic)
 
@@ -48,7 +48,7 @@ all-scheme (b ∷ bs) = elim (is_scheme_byte b) as (λ t. is_scheme_byte b ≡ t
   | false ↦ λ e. refl
 ] refl
 
--- the first byte is that of the whole text
+-- the first byte is the whole text's
 first-of : (n : ℕ) (text : List ℕ) → is_long_enough (take n text) n ≡ is_long_enough text n
 first-of zero text = refl
 first-of (suc n) [] = refl
@@ -68,7 +68,7 @@ pub scheme-is : (r : Seat) (rs : List Seat) → is_ascii_alphabetic r.byte ≡ t
 scheme-is r rs h = ap (λ t. cond t (1 + prefix_len is_scheme_byte (bytes_of rs)) 0) (letter-scheme r.byte h)
 
 module _ (g : Given) (text : Text) where
-  -- so many bytes of a scheme were read
+  -- this many bytes of a scheme were read
   abbrev pub SchemeRead : (p n : ℕ) (ended : Bool) (events : List Event) (local : Local Unit Unit) (cs : List Choice) → Type 0
   SchemeRead p n ended events local cs =
       (ended_after : Bool) × (after : Local Unit Unit) × (after.tokenize_state.size_b ≡ local.tokenize_state.size_b + n)

@@ -83,11 +83,11 @@ module _ (g : Given) (text : Text) where
       leads-called g text (at_link p ended events local) cs AutolinkOpen es
       (subst (WithRows g text (at_link p ended events (counts local)) cs es) (sym rows) h)
 
-  -- one more byte of it, which is read if the scheme is not too long
+  -- one more byte of it is read if the scheme is not too long
   abbrev goes_on : Row Unit Unit
   goes_on = record { acts = write size_b_grows ∷ consume ∷ []; answer = Next AutolinkSchemeInsideOrEmailAtext }
 
-  -- a row that refuses
+  -- a row that fails
   abbrev pub refused : Row Unit Unit
   refused = record { acts = []; answer = Nok }
 

@@ -9,7 +9,7 @@ use Rattle.mdconstructs_text.specs.TextCosts.{TextByte, line_feed, backtick, les
 abbrev pub IsData : TextByte → Type 0
 IsData w = ends_code_data (Some w) ≡ false
 
--- a class that is not that of backticks
+-- a class that is not the class of backticks
 abbrev pub IsOther : TextByte → Type 0
 IsOther w = is_tick (Some w) ≡ false
 
@@ -23,7 +23,7 @@ module _ (P : TextByte → Type 0) where
   second true x y e i = absurd (cc)
   second false x y e i = i
 
-  -- what holds of all classes behind those of line endings and backticks
+  -- what holds for all classes other than line endings and backticks
   others : (b : ℕ) → P less → P greater → P backslash → P colon → P letter → P digit → P mark → P punctuation → P blank → P other
       → P (cond (b == 60) less (cond (b == 62) greater (cond (b == 92) backslash (cond (b == 58) colon
       (cond (is_ascii_alphabetic b) letter (cond (is_ascii_alphanumeric b) digit (cond ((b == 43) || ((b == 46) || (b == 45))) mark

@@ -1,4 +1,4 @@
--- How a code span begins and ends, as the machine of texts reads it: its two backtick strings, and what is put back if the second is missing.
+-- How the machine of texts reads the two backtick strings of a code span, and what is put back if the second is missing.
 use Rattle.std.proofs.Common.{◌≡◌, ℕ, ◌+◌, ◌^◌, ◌<◌, ◌∷◌, ◌++◌, [], List, Bool, true, false, cond, ◌==◌, refl, sym, ◌∙◌, ap, subst, Some, arith, length, take, drop, slice_get}
 use Rattle.std.proofs.lemmas.List.{append_assoc, take_at}
 use Rattle.std.proofs.lemmas.Bool.Decides.{nat_tests}
@@ -41,7 +41,7 @@ begins-run b bs h = elim (is_backtick b) as (λ t. 0 < cond t (1 + backticks bs)
 ] h
 
 module _ (g : Given) (text : Text) where
-  -- if the inner choice ended well, the code span ends
+  -- if the inner choice ended with Ok, the code span ends
   settles : (l : List Seat) (q q0 : ℕ) (events before : List Event) (local : Local Unit Unit) (cs : List Choice) → drop q text.seats ≡ l
       → Leads g text (shows l in_code q events local) (inner g text q0 before ∷ cs) Ok (shows l in_code q events local) cs (Retry RawFlowAfter)
   settles [] q q0 events before local cs at es h =

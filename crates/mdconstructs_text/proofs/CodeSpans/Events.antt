@@ -33,7 +33,7 @@ module _ (k m : ℕ) (l : List Seat) where
       let h : m ≤ m + k = omega arith in
       ap (λ n. take n (drop k (take (k + m + k) l))) size ∙ ap (λ n. take m (drop k (take n l))) all ∙ ap (take m) (drop-take k (m + k) l) ∙ take-take m (m + k) (drop k l) h
 
-  -- those of the last run
+  -- the events of the last run
   last-run : drop (k + m) (take (k + m + k) l) ≡ take k (drop (k + m) l)
   last-run = drop-take (k + m) k l
 
@@ -44,7 +44,7 @@ module _ (k m : ℕ) (l : List Seat) where
       ∙ cut-enough (part_at is_backtick_or_line_feed) part_length (piece-positive is_backtick_or_line_feed) (length (take m (drop k l))) bound (take m (drop k l)) (omega arith) h
 
 module _ (g : Given) (text : Text) where
-  -- The events of the first run, of the pieces and of the last run are those of the code span
+  -- The events of the first run, of the pieces and of the last run are the code span's
   pub code-span-events : (k m bound p : ℕ) (s : Seat) (ss : List Seat) (events : List Event) → drop p text.seats ≡ s ∷ ss → 0 < k → k + m + k ≤ suc (length ss) → length (drop k (s ∷ ss)) ≤ bound
       → ((events ++ enter_at g text CodeText p ∷ leaf g.bytes CodeTextSequence (take k (s ∷ ss))) ++ flat_map (part_events g.bytes CodeTextData) (cut_pieces bound (take m (drop k (s ∷ ss)))))
       ++ (leaf g.bytes CodeTextSequence (take k (drop (k + m) (s ∷ ss))) ++ exit_at g text CodeText (p + (k + m + k)) ∷ [])

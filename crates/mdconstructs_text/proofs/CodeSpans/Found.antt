@@ -75,7 +75,7 @@ no-tick b h = elim (b == 96) as (λ t. (is_line_feed b || t) ≡ false → t ≡
 line-feed-no-tick : (b : ℕ) → (b == 10) ≡ true → (b == 96) ≡ false
 line-feed-no-tick b h = grind (arith, nat_tests)
 
--- how many bytes stand between the runs
+-- how many bytes are between the runs
 inside : (k : ℕ) (o : Option ℕ) → option_map (λ p. code_span k (p - k)) (further k o) ≡ option_map (code_span k) o
 inside k None = refl
 inside k (Some m) = let e : k + m - k ≡ m = omega arith in ap (λ n. Some (code_span k n)) e

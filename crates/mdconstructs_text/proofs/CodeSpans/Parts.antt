@@ -45,7 +45,7 @@ chunk-length b bs e =
     let same : max 1 (backticks (b ∷ bs)) ≡ backticks (b ∷ bs) = omega (arith, some) in
     ap (λ r. r + data_length (drop r (b ∷ bs))) same
 
--- the bytes that are left are those of the virtual bytes that are
+-- the bytes that are left are the bytes of the virtual bytes that are left
 pub drop-bytes : (n : ℕ) (l : List Seat) → drop n (bytes_of l) ≡ bytes_of (drop n l)
 drop-bytes zero l = refl
 drop-bytes (suc n) [] = refl
@@ -122,7 +122,7 @@ module _ (g : Given) (text : Text) where
       leads-nok g text (held in_run q' Byte false (events ++ e ∷ []) local) (inner g text q events) cs es
       (subst (λ l. EndsWith g text (held in_code q Nothing false l local) cs (Next RawFlowBeforeContentChunk) es) (sym (take_at events (e ∷ []) (length events) refl)) h)
 
-  -- the size of a backtick string that was read, compared with that of the one that opened the code span
+  -- the size of a backtick string that was read, compared with the size of the one that opened the code span
   pub sizes-read : (l : List Seat) (local : Local Unit Unit) → backticks (bytes_of l) < 2 ^ 64
       → let read = passed is_backtick grows_c l (with_c 0 (counts local)) in (size_c read == size_b read) ≡ (backticks (bytes_of l) == size_b local)
   sizes-read l local short =
@@ -132,7 +132,7 @@ module _ (g : Given) (text : Text) where
       let all : size_c read ≡ backticks (bytes_of l) = omega (arith, counted) in
       ap (λ n. n == size_b read) all ∙ ap (λ n. backticks (bytes_of l) == n) (passed-keeps size_b grows_c (λ k. refl) is_backtick l begun)
 
-  -- a backtick string that does not close the code span, with the data behind it: the backtick string is tried, put back, and read once more
+  -- a backtick string that does not close the code span, with the data after it: it is tried, put back, and read once more
   reads-chunk : (q : ℕ) (s : Seat) (ss : List Seat) (events : List Event) (local : Local Unit Unit) (cs : List Choice) → drop q text.seats ≡ s ∷ ss → is_backtick s.byte ≡ true
       → (backticks (bytes_of (s ∷ ss)) == size_b local) ≡ false → backticks (bytes_of (s ∷ ss)) < 2 ^ 64
       → ReadsAs q s ss events local cs (plain_run (backticks (bytes_of (s ∷ ss)) + data_length (bytes_of (past is_backtick (s ∷ ss)))))

@@ -14,7 +14,7 @@ use Rattle.markdown_tokenizer.proofs.Positions.Cursors.{same-before}
 use Rattle.mdconstructs_text.proofs.CodeSpans.Walks.{RunsAreShort}
 use Rattle.mdconstructs_text.proofs.CodeSpans.Items.{runs-are-short}
 
--- if all that passes the first test passes the second, then what passes the first, and what passes only the second, is what passes the second
+-- if the first test implies the second, the elements that pass the first and those that pass only the second are all that pass the second
 add-step : (a b : Bool) (x : Seat) (f r h : List Seat) → (a ≡ true → b ≡ true) → length f + length r ≡ length h → length (cond a (x ∷ f) f) + length (cond (not a && b) (x ∷ r) r) ≡ length (cond b (x ∷ h) h)
 add-step true true x f r h i e = omega (arith, e)
 add-step true false x f r h i e = absurd (let c : false ≡ true = i refl in cc)
@@ -88,7 +88,7 @@ module _ (g : Given) where
   pieces-counted text [] h fits = h
   pieces-counted text (piece ∷ rest) h fits = pieces-counted (followed_by g text piece) rest (piece-counted text piece h fits.0) fits.1
 
--- a document has at most so many virtual bytes for each byte as tab stops have columns
+-- a document has at most as many virtual bytes for each byte as the tab size
 cond-le : (b : Bool) (x y : List Seat) (n : ℕ) → length x ≤ n → length y ≤ n → length (cond b x y) ≤ n
 cond-le true x y n h i = h
 cond-le false x y n h i = i
@@ -98,7 +98,7 @@ tab-length : (b n l c i v : ℕ) → length (in_tab b n l c i v) ≡ n
 tab-length b zero l c i v = refl
 tab-length b (suc n) l c i v = ap suc (tab-length 32 n l (suc c) i (suc v))
 
--- which is at most as many as tab stops stand apart
+-- it is at most the tab size
 narrow : (t n : ℕ) → t - n ≤ t
 narrow t n = omega arith
 

@@ -1,4 +1,4 @@
--- Where no backtick waits, a run of backticks has ended.
+-- If no backtick waits, a run of backticks has ended.
 use Rattle.std.proofs.Common.{◌≡◌, [], ◌∷◌, true, false, Option, Some, None, refl}
 use Rattle.markdown_base.specs.declared.event.Name.TheVariants.{CodeText, CodeTextSequence}
 use Rattle.markdown_base.specs.declared.state.State.TheVariants.{Retry, Ok, Nok}

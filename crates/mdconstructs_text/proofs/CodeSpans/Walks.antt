@@ -26,8 +26,8 @@ abbrev pub RunsAreShort : Text → Type 0
 RunsAreShort text = (q : ℕ) → backticks (bytes_of (drop q text.seats)) < 2 ^ 64
 
 module _ (g : Given) (text : Text) (k : ℕ) (cs : List Choice) where
-  -- From between two pieces: if a backtick string is found that closes the code span, the machine comes to it, with the events of the pieces before
-  -- it; if there is none, it comes to the end, and nothing that was there before is lost
+  -- From between two pieces: if a backtick string closes the code span, the machine comes to it, with the events of the pieces before it;
+  -- if there is none, it comes to the end, and nothing that was there before is lost
   abbrev pub Walks : (bound q : ℕ) (l : List Seat) (events : List Event) (local : Local Unit Unit) → Option ℕ → Type 0
   Walks bound q l events local None =
       (end : ℕ) × (added : List Event) × (after : Local Unit Unit)

@@ -1,4 +1,4 @@
--- Which classes of bytes may be escaped: those of ASCII punctuation.
+-- The classes of bytes that may be escaped: ASCII punctuation.
 use Rattle.std.proofs.Common.{◌≡◌, ℕ, [], Bool, true, false, cond, refl, sym, ◌∙◌, ap, Option, Some, arith, nat_lt, nat_le, ◌&&◌, ◌==◌, ◌||◌}
 use Rattle.std.proofs.lemmas.Bool.Decides.{nat_tests}
 use Rattle.std.specs.Char.{is_ascii_punctuation, is_ascii_alphabetic, is_ascii_alphanumeric}

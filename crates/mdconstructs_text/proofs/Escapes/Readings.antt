@@ -1,4 +1,5 @@
--- Backslash escapes, as the machine of texts reads them: if one is there, it is read whole, with its events; if not, what was tried leaves nothing.
+-- How the machine of texts reads a backslash escape: if one is there, it is read whole, with its events; if not, the attempt leaves
+-- nothing.
 use Rattle.std.proofs.Common.{◌≡◌, ℕ, ◌+◌, ◌<◌, ◌∷◌, ◌++◌, [], List, Bool, true, false, cond, refl, sym, ◌∙◌, ap, subst, Option, Some, None, nat_lt, length, take, slice_get}
 use Rattle.std.specs.Char.{is_ascii_punctuation}
 use Rattle.markdown_base.specs.declared.event.Event.{Event}
@@ -23,7 +24,7 @@ use Rattle.mdconstructs_text.proofs.Plain.Items.{outer, byte-rows, leads-tried}
 use Rattle.mdconstructs_text.proofs.Escapes.Classes.{escaped-class, refused-class}
 
 module _ (g : Given) (text : Text) where
-  -- If an escape is there, trying it ends well behind it, with its events
+  -- If an escape is there, the attempt ends with Ok after it, with its events
   abbrev pub TakesEscape : Type 0
   TakesEscape = (p : ℕ) (ended : Bool) (events : List Event) (local : Local Unit Unit) (cs : List Choice) (marker value : Seat)
       → slice_get text.seats p ≡ Some marker → slice_get text.seats (p + 1) ≡ Some value → p + 1 < length text.seats → is_ascii_punctuation value.byte ≡ true
@@ -35,7 +36,7 @@ module _ (g : Given) (text : Text) where
   abbrev pub NoneEscaped : ℕ → Type 0
   NoneEscaped p = (value : Seat) → slice_get text.seats p ≡ Some value → is_ascii_punctuation value.byte ≡ false
 
-  -- Between items, at a backslash, with the construct on: an escape is read whole, and the text goes on behind it; if none is there, it goes
+  -- Between items, at a backslash, with the construct on: an escape is read whole, and the text goes on after it; if none is there, it goes
   -- on with data at the backslash, and what was tried left nothing
   abbrev pub TriesEscape : Type 0
   TriesEscape = (p : ℕ) (ended : Bool) (events : List Event) (local : Local Unit Unit) (marker : Seat)

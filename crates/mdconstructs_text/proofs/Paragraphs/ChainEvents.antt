@@ -44,7 +44,7 @@ module _ (g : Given) (events : List Event) (document : IsDocument g) (ready : Is
   abbrev Begins : ℕ → Type 0
   Begins c = begins wanted events c ≡ true
 
-  -- the text of a chain is one
+  -- the text of a chain is a text
   is-text : (c : ℕ) → Begins c → IsText g (text c)
   is-text c b =
       let fit = begins-fits g.tab g.bytes wanted events ready c b in

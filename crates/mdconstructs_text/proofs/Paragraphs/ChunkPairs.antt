@@ -69,7 +69,7 @@ all-updated P p f [] keeps h = h
 all-updated P zero f (x ∷ xs) keeps h = (keeps x h.0, h.1)
 all-updated P (suc p) f (x ∷ xs) keeps h = (h.0, all-updated P p f xs keeps h.1)
 
--- an event that was linked leads on to where it was linked
+-- an event that was linked has the new next event
 set-next : (n d : ℕ) (o : Option Link) → option_and_then (λ (l : Link). l.next) (option_map (next_set n) o) ≡ Some d → d ≡ n
 set-next n d None is = absurd (cc)
 set-next n d (Some l) is = cc
@@ -84,7 +84,7 @@ pub record IsChunkStart (e : Event) : Type 0 where
   pub linked : IsLinkedEnter e
   pub text : content_of e ≡ Some Text
 
--- A span that is in no chain stands at an index, with nothing in it
+-- A span that is in no chain is at an index, with nothing in it
 pub record IsMark (es : List Event) (i : ℕ) : Type 0 where
   pub enter : Event
   pub exit : Event
@@ -96,17 +96,17 @@ pub record IsMark (es : List Event) (i : ℕ) : Type 0 where
   pub enter_alone : enter.link ≡ None
   pub exit_alone : exit.link ≡ None
 
--- the event at d follows the chunk at k: directly, where that ends; or behind a mark that begins a line and does not end it
+-- the event at d follows the chunk at k: directly at its end; or after a mark that begins a line and does not end it
 abbrev pub FollowsChunk : List Event → (k d : ℕ) → Type 0
 FollowsChunk es k d = ((d ≡ k + 2) × (place_at es d ≡ place_at es (k + 1)))
     ⊎ ((d ≡ k + 4) × IsMark es (k + 2) × ((place_at es (k + 1)).column ≡ 1) × ((place_at es d).line ≡ (place_at es (k + 1)).line))
 
--- The chunk at k leads on to the one at d
+-- The chunk at d is the next one of the chunk at k
 pub record IsPair (es : List Event) (k d : ℕ) : Type 0 where
   pub within : d < length es
   pub follows : FollowsChunk es k d
 
--- where its two events stand there too, it stands in another list
+-- if its two events are in another list too, the mark is there
 mark-kept : (es fs : List Event) (i : ℕ) (h : IsMark es i) → slice_get fs i ≡ Some h.enter → slice_get fs (i + 1) ≡ Some h.exit → IsMark fs i
 mark-kept es fs i h enter exit = record {
   enter = h.enter;
@@ -176,7 +176,7 @@ module _ (b n : ℕ) (es : List Event) where
   }
 
 module _ (t : ℕ) (bytes : List ℕ) where
-  -- an event is in no chain, or begins a chunk of text; and it stands at a place of the document
+  -- an event is in no chain, or begins a chunk of text; and it is at a place of the document
   abbrev pub IsPlaced : Event → Type 0
   IsPlaced e = ((e.link ≡ None) ⊎ IsChunkStart e) × IsPointOf t bytes e.point
 
@@ -205,7 +205,7 @@ module _ (t : ℕ) (bytes : List ℕ) where
   linked-placed : (f : Link → Link) → ((l : Link) → (f l).content ≡ l.content) → (x : Event) → IsPlaced x → IsPlaced (record x { link = option_map f x.link })
   linked-placed f same x h = (elim h.0 [ inl alone ↦ inl (ap (option_map f) alone) | inr chunk ↦ inr (begins-still f x x.link same refl chunk) ], h.1)
 
-  -- two chunks are linked of which the one follows the other
+  -- two chunks that follow each other are linked
   pub chunks-linked : (es : List Event) (b n : ℕ) → IsPair es b n → AreChunks es → AreChunks (linked_to b n es)
   chunks-linked es b n pair h = record {
     each = all-updated IsPlaced n (with_previous b) (updated_at b (with_next n) es) (linked-placed (previous_set b) (λ l. refl)) (all-updated IsPlaced b (with_next n) es (linked-placed (next_set n) (λ l. refl)) h.each);

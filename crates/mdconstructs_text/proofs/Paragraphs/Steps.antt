@@ -65,17 +65,17 @@ module _ (g : Given) (document : IsDocument g) where
     abbrev Connected : Type 0
     Connected = k.local.tokenize_state.connect ≡ true
 
-    -- its exit is the last event, here, where a line begins
+    -- its exit is the last event, here at the beginning of a line
     abbrev AtLine : Type 0
     AtLine = (length k.events ≡ chunk_before k + 2) × (place_at k.events (chunk_before k + 1) ≡ place g document k.position) × ((place g document k.position).column ≡ 1)
 
-    -- its exit is the last event, here; or a mark stands behind it, which begins a line and does not end it
+    -- its exit is the last event, here; or a mark is after it, which begins a line and does not end it
     abbrev InLine : Type 0
     InLine = ((length k.events ≡ chunk_before k + 2) × (place_at k.events (chunk_before k + 1) ≡ place g document k.position))
         ⊎ ((length k.events ≡ chunk_before k + 4) × IsMark k.events (chunk_before k + 2) × ((place_at k.events (chunk_before k + 1)).column ≡ 1)
         × ((place g document k.position).line ≡ (place_at k.events (chunk_before k + 1)).line))
 
-  -- What is known at the name of a state, where `ended` says that all was read
+  -- What is known at the name of a state; `ended` says that all was read
   abbrev InState : (ended : Type 0) → Configuration Unit Unit → Name → Type 0
   InState ended k name = Chunks k.events
       × ((name.number ≡ FlowStart.number)
@@ -94,7 +94,7 @@ module _ (g : Given) (document : IsDocument g) where
   Known k [] (Next name) = InState ⊥ k name
   Known k [] (Retry name) = InState (NoByte k) k name
 
-  -- what waits changes nothing of it
+  -- it does not depend on what waits
   fed-state : (ended : Type 0) (k : Configuration Unit Unit) (name : Name) (b : Bool) → InState ⊥ k name → InState ended (cond b (record k { waiting = Byte }) (record k { waiting = End; ended = true })) name
   fed-state ended k name b h =
       let r : (name.number ≡ FlowStart.number)

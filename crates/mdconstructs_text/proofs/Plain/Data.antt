@@ -140,7 +140,7 @@ module _ (g : Given) (text : Text) where
             (ran.2 es (break-ends (p + backticks (bytes_of (s ∷ ss))) ran.0 (entered_data events p) ran.1 [] (run-ends is_backtick text.seats (s ∷ ss) p here) es h))))),
       )
 
-  -- how much of it that is
+  -- the length of that
   first-is : (s : Seat) (ss : List Seat) (b : Bool) → is_backtick s.byte ≡ b → first_of_data (s ∷ ss) ≡ cond b (backticks (bytes_of (s ∷ ss))) 1
   first-is s ss true is =
       let r = backticks (bytes_of ss) in

@@ -64,7 +64,7 @@ module _ (text : Text) where
       let further : p + suc (suc m) ≡ p + 1 + suc m = omega arith in
       ap (end_place text) further ∙ end-behind m (p + 1) r rs (drop-next text.seats p s (r ∷ rs) h) (omega (arith, l))
 
-  -- a span that began at a byte, and ends with the byte before, is one over the bytes that were read
+  -- a span that began at a byte, and ends with the previous byte, is a span over the bytes that were read
   pub leaf-read : (bytes : List ℕ) (name : EventName) (n p : ℕ) (s : Seat) (ss : List Seat) → drop p text.seats ≡ s ∷ ss → 0 < n → n ≤ suc (length ss)
       → event bytes Enter name (point_or text.end (slice_get text.seats p)) ∷ event bytes Exit name (end_place text (p + n)) ∷ [] ≡ leaf bytes name (take n (s ∷ ss))
   leaf-read bytes name zero p s ss h l m = absurd (omega (arith, l))
@@ -85,7 +85,7 @@ abbrev pub seen : Bool → Configuration Unit Unit → Configuration Unit Unit
 seen b k = cond b (record k { waiting = Byte }) (record k { waiting = End; ended = true })
 
 module _ (g : Given) (text : Text) where
-  -- what is fed may as well be fed later
+  -- feeding may come later
   pub leads-unfed : (k : Configuration Unit Unit) (cs : List Choice) (n : Name) → Leads g text (fed text k) cs (Retry n) k cs (Next n)
   leads-unfed k cs n events h calls =
       let it = h calls in

@@ -22,7 +22,7 @@ not-special false false true d e f g h = absurd (cc)
 not-special false false false d e f g h = h
 
 module _ (g : Given) (text : Text) where
-  -- Where a code span may begin, with the construct on, it is read, or what was tried leaves nothing
+  -- If the construct is on, a code span is read where it may begin, or the attempt leaves nothing
   abbrev pub TriesCode : Type 0
   TriesCode = (p : ℕ) (ended : Bool) (events : List Event) (local : Local Unit Unit) (s : Seat) (ss : List Seat) → drop p text.seats ≡ s ∷ ss → s.byte ≡ 96 → g.options.constructs.code_text ≡ true
       → Tried g text p ended events local (s ∷ ss) (code_span_at (bytes_of (s ∷ ss)))

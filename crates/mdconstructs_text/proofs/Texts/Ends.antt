@@ -23,7 +23,7 @@ use Rattle.mdconstructs_text.proofs.CodeSpans.Short.{runs-of-text}
 use Rattle.mdconstructs_text.proofs.Texts.Steps.{text_step}
 use Rattle.mdconstructs_text.proofs.Texts.Items.{adds-each-item}
 
--- from a state of texts the machine keeps what texts keep, as none of their states goes on with one of paragraphs
+-- from a state of texts the machine keeps what texts keep, as none of their states goes on with a state of paragraphs
 module _ (g : Given) (text : Text) (is : IsText g text) where
   abbrev InTexts : Configuration Unit Unit → List Choice → State → Type 0
   InTexts k cs s = (inline_rules g).holds text k cs s
@@ -58,7 +58,7 @@ module _ (g : Given) (text : Text) (is : IsText g text) (flag : Bool) where
     there-same =
         let there = from-start g text flag (adds-each-item g text is (runs-of-text g text is)) 0 in one-end g (text_step g) text 0 (start_configuration flag) [] (Next TextStart) r there.0 ends there.1.0
 
-    -- it ends well
+    -- it ends in Ok
     pub reading-well : r.answer ≡ Ok
     reading-well = let there = from-start g text flag (adds-each-item g text is (runs-of-text g text is)) 0 in ap (λ (q : Reading Unit Unit). q.answer) there-same ∙ there.1.1
 

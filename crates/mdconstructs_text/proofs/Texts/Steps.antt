@@ -26,7 +26,7 @@ abbrev pub between_items : ℕ → Waits → Bool → List Event → Local Unit 
 between_items p waits ended events local = record { position = p; waiting = waits; ended = ended; events = events; stack = []; local = local }
 
 module _ (g : Given) (text : Text) where
-  -- reading on ends well with these events
+  -- reading on ends in Ok with these events
   abbrev pub EndsWith : Configuration Unit Unit → List Choice → State → List Event → Type 0
   EndsWith k cs s events = (calls : ℕ) → (r : Reading Unit Unit) × (EndsIn g (text_step g) text calls k cs s r × (r.answer ≡ Ok) × (r.configuration.events ≡ events))
 

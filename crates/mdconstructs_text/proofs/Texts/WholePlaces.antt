@@ -1,4 +1,4 @@
--- The places of a whole document, one after another: where one stands after the byte before is where the next byte is shown.
+-- The places of a whole document, one after another: the place after the previous byte is where the next byte is shown.
 use Rattle.std.proofs.Common.{◌≡◌, ℕ, zero, suc, ◌+◌, ◌<◌, ◌==◌, List, [], ◌∷◌, Bool, true, false, Option, Some, None, refl, sym, ap, ◌∙◌, subst, arith}
 use Rattle.std.specs.Prelude.{slice_get}
 use Rattle.std.proofs.lemmas.List.{append-nil}
@@ -57,7 +57,7 @@ module _ (g : Given) (document : IsDocument g) where
   abbrev pub place : ℕ → Point
   place p = end_place (whole_text g) p
 
-  -- it is one of the document, and shown
+  -- it is a place of the document, and shown
   of-seat : (o : Option Seat) (q : ℕ) → slice_get seats q ≡ o → IsPointOf g.tab g.bytes (end_or (point 1 1 0 0) o)
   of-seat None q e = (whole-is-text g document).starts
   of-seat (Some s) q e = end-of-is-point g.tab g.bytes some s (get-among seats q s e)
@@ -101,7 +101,7 @@ module _ (g : Given) (document : IsDocument g) where
         ap (λ (q : Point). q.line) (next-place ∙ sym seat-end) ∙ same-line g.tab g.bytes s.byte s.point (s.byte == 10) (goes_on g.tab s.byte s.point) refl refl b ∙ sym (shown-line g.bytes s.point)
         ∙ ap (λ (q : Point). q.line) seat-shown
 
-  -- where something is put, whatever waits, is a place of the document
+  -- the place of an enter, whatever waits, is a place of the document
   here-of : (p : ℕ) (o : Option Seat) → slice_get seats p ≡ o → IsPointOf g.tab g.bytes (shown g.bytes (point_or (document_end g.tab g.bytes) o))
   here-of p None e = subst (IsPointOf g.tab g.bytes) (sym end-shown) (end-is-point g.tab g.bytes)
   here-of p (Some s) e = subst (IsPointOf g.tab g.bytes) (sym (seat-shown p s e)) (place-is-point p)
@@ -125,7 +125,7 @@ module _ (g : Given) (document : IsDocument g) where
   next-is-point p Byte = next-of-seat p (slice_get seats p) refl
   next-is-point p End = behind-is-point p
 
-  -- A byte waits at a position: which it is, and where one stands before and behind it
+  -- A byte waits at a position: which byte it is, and the places before and after it
   pub record HasByte (p : ℕ) (w : Waits) (b : ℕ) : Type 0 where
     pub here : shown g.bytes (point_of (whole_text g) p w) ≡ place p
     pub next : shown g.bytes (next_place (whole_text g) p w) ≡ place (p + 1)

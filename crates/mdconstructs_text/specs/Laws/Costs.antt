@@ -1,4 +1,4 @@
--- What the states of the machine of texts cost, in numbers.
+-- The costs of the states of the machine of texts, in numbers.
 use Rattle.std.proofs.Common.{◌≡◌, ℕ, zero, suc, ◌+◌, ◌-◌, ◌*◌, ◌<◌, ◌≤◌, ◌==◌, ◌||◌, List, [], ◌∷◌, Bool, true, false, cond, Option, Some, None, length, drop, refl, sym, ap, ◌∙◌, arith, add-one, inl, inr, length-drop}
 use Rattle.std.specs.Prelude.{slice_get, max, nat_lt}
 use Rattle.std.specs.Char.{is_ascii_alphabetic, is_ascii_alphanumeric, is_ascii_punctuation}
@@ -108,7 +108,7 @@ at-other text p w h off = elim (slice_get_cases text.seats p).1 [
   | inr past ↦ let none : None ≡ Some w = sym (ap (λ o. class_of text_byte (byte_of o)) past.1) ∙ h in absurd (cc)
 ]
 
--- What states cost, in numbers: u bytes are left, v behind one, r backticks come first
+-- Costs of states, in numbers: u bytes are left, v after the next one, r backticks come first
 pub data-tick : (n p : ℕ) (w : Option TextByte) → p < n → w ≡ Some backtick → 1 + (cond (is_tick w) (4 * ((n - p) * (n - p)) + (n - p) - 1) (outside (n - p) + 2) + 0) ≤ max 1 (4 * ((n - p) * (n - p)) + (n - p))
 data-tick n p w h e = rw (e, next-left n p h) (omega arith)
 

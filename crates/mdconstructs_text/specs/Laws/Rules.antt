@@ -1,4 +1,4 @@
--- The paragraphs pass the test and keep what is known of their chunks, and their states are none of those of texts, so that the machine is lawful.
+-- The paragraphs pass the test and keep what is known of their chunks. None of their states is a state of texts. So the machine is lawful.
 use Rattle.std.proofs.Common.{◌≡◌, ℕ, List, [], ◌∷◌, Bool, true, false, Option, Some, None, refl, ap, ◌∙◌}
 use Rattle.std.specs.Prelude.{All}
 use Rattle.std.proofs.lemmas.List.Elements.{All-nil, All-cons, All-head}
@@ -51,7 +51,7 @@ flow-known = let rows = paragraphs-known.by_rows in record {
   at_end = paragraphs-known.at_end;
 }
 
--- no name is that of a state of both
+-- no name belongs to states of both
 other-names : HaveOtherNames flow.states texts.states
 other-names = (refl, (refl, (refl, (refl, tt))))
 

@@ -1,4 +1,4 @@
--- The table of the machine of texts passes the tests and its own cost pays, so that the machine is lawful.
+-- The table of the machine of texts passes the tests and its own cost is enough, so that the machine is lawful.
 use Rattle.std.proofs.Common.{◌≡◌, ℕ, ◌+◌, ◌-◌, ◌≤◌, ◌==◌, [], true, false, Option, Some, None, length, drop, refl, sym, ap, subst, arith}
 use Rattle.mdconstructs_tables.specs.Late.{hasty}
 use Rattle.mdconstructs_tables.specs.PlainTables.{IsPlainWrite}
@@ -311,7 +311,7 @@ pub texts-fit : IsFitBy texts true follows_construct
 texts-fit = record {
   fits = fits;
   paid = (text-start-pays, (text-before-pays, (text-before-data-pays, (data-at-break-pays, (data-inside-pays, (raw-text-start-pays, (raw-text-sequence-open-pays, (raw-text-between-pays, (raw-text-data-pays, (raw-text-sequence-close-pays, (raw-flow-after-pays, (raw-flow-before-content-chunk-pays, (raw-flow-content-chunk-pays, (autolink-start-pays, (autolink-open-pays, (autolink-scheme-pays, (autolink-url-pays, (escape-start-pays, (escape-inside-pays, tt)))))))))))))))))));
-  -- what follows a construct that was there costs less the more was read
+  -- a state after a construct costs less the more was read
   falls = (no-matter, ((λ is text p q h. outside-falls (length text.seats - p) (length text.seats - q) (omega (arith, h))), (no-matter, (no-matter, (no-matter, (no-matter, (no-matter, (no-matter, (no-matter, (no-matter, ((λ is text p q h. omega arith), (no-matter, (no-matter, (no-matter, (no-matter, (no-matter, (no-matter, (no-matter, (no-matter, tt)))))))))))))))))));
 }
 
