@@ -1,4 +1,4 @@
-//! Laws of the machines. Each is a function that does nothing; its contract is the law.
+//! The laws about machines and tables. Each is a function that does nothing; its contract is the law.
 
 pub use mdconstructs_machines::laws::{
     costs_at_the_start, misfits_are_not_all, misfits_have_reasons, no_document_is_refused,

@@ -1,7 +1,7 @@
-//! Machines of states, each proved lawful, `read_text`, and what the author of a machine needs.
+//! State machines, each proved lawful, `read_text`, and what the author of a machine needs.
 //!
-//! There is no code here. The three parts are proved below: `mdconstructs_tables` (machines as tables), `mdconstructs_machines` (the
-//! small machines) and `mdconstructs_text` (`Text` and its definition).
+//! This crate has no code. It re-exports its three parts, which have the code and the proofs: `mdconstructs_tables` (machines as
+//! tables), `mdconstructs_machines` (the small machines) and `mdconstructs_text` (`Text` and its definition).
 #![tactic(auto)]
 
 pub mod laws;
