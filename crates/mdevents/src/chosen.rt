@@ -1,10 +1,10 @@
-//! What the words choose that the program is called with.
+//! What command-line arguments choose.
 
 use markdown::configuration::TabSize;
 use mdevents_program::arguments::{Choice, Which, read_words};
 use std::alloc::{AllocError, Global};
 
-/// What the words of a text choose, which have spaces between them.
+/// What arguments choose. The text has them with spaces between them.
 fn choice_of(alloc: Global, text: &str) -> Result<Option<Choice>, AllocError> {
     let mut words = Vec::new(alloc);
     for word in text.split_whitespace() {
@@ -13,7 +13,7 @@ fn choice_of(alloc: Global, text: &str) -> Result<Option<Choice>, AllocError> {
     Ok(read_words(words.as_slice()))
 }
 
-/// Whether the words of a text choose this, which have spaces between them.
+/// Whether arguments choose this. The text has them with spaces between them.
 fn choose(alloc: Global, text: &str, want: Option<Choice>) -> bool {
     match choice_of(alloc, text) {
         Ok(choice) => choice == want,
@@ -21,7 +21,7 @@ fn choose(alloc: Global, text: &str, want: Option<Choice>) -> bool {
     }
 }
 
-/// Words, and what they choose: where to cut, whether to go deep, the machine, and the size of tabs.
+/// Arguments, and what they choose: where to cut, whether to go deep, the machine, and the tab size.
 const CHOSEN: &[(&str, Option<usize>, bool, Which, usize)] = &[
     ("", None, false, Which::Lines, 4),
     ("--cut 2", Some(2), false, Which::Lines, 4),
@@ -69,7 +69,7 @@ const CHOSEN: &[(&str, Option<usize>, bool, Which, usize)] = &[
     ),
 ];
 
-/// The choice of these; `None` if no tabs have that size.
+/// The choice of these; `None` if there is no such tab size.
 fn choice(cut: Option<usize>, deep: bool, machine: Which, tab: usize) -> Option<Choice> {
     let tab = TabSize::new(tab)?;
     Some(Choice {

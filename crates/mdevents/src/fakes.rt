@@ -1,4 +1,4 @@
-//! A reader and a writer for tests, which fail on request, a system with given words, and a message.
+//! A reader and a writer for tests, which fail on request, a system with given arguments, and a message.
 
 ghost use Rattle.std.specs.Prelude.{◌≡◌, IfOk};
 
@@ -15,23 +15,23 @@ use std::rt::Env;
 /// How a reader or a writer fails after its good calls.
 #[derive(Clone, Copy, PartialEq, Eq)]
 pub enum Fault {
-    /// One call returns an error, and those after it are good.
+    /// One call returns an error, and the calls after it are good.
     ErrorOnce,
     /// All calls return an error.
     ErrorFromThenOn,
-    /// One write takes nothing, and those after it are good.
+    /// One write takes 0 bytes, and the calls after it are good.
     NothingOnce,
-    /// All writes take nothing.
+    /// All writes take 0 bytes.
     NothingFromThenOn,
 }
 
 impl Fault {
-    /// Whether the calls after the first that fails do so too.
+    /// Whether the calls after the first one that fails fail too.
     fn lasts(self) -> bool {
         self == Fault::ErrorFromThenOn || self == Fault::NothingFromThenOn
     }
 
-    /// What a call that fails returns. The error is one that Rust's own loops try again after.
+    /// What a call that fails returns. The error is the one after which Rust's own loops try again.
     fn answer(self) -> io::Result<usize>
         ensures { IfOk result (λ count. count ≡ 0) }
     {
@@ -42,7 +42,7 @@ impl Fault {
     }
 }
 
-/// Counts good calls, and tells which ones fail.
+/// Counts good calls, and decides which ones fail.
 #[derive(Clone, Copy)]
 struct Turns {
     good: Option<usize>,
@@ -68,7 +68,7 @@ impl Turns {
     }
 }
 
-/// Gives a text by one byte a read, and fails after its good reads.
+/// Returns a text one byte a read, and fails after its good reads.
 #[derive(Drop)]
 pub struct FailingReader<'a> {
     rest: &'a [u8],
@@ -76,7 +76,7 @@ pub struct FailingReader<'a> {
 }
 
 impl<'a> FailingReader<'a> {
-    /// A reader of this text, whose first reads, so many, are good.
+    /// A reader of this text. Its first `good_reads` reads are good.
     pub fn new(rest: &'a [u8], good_reads: usize, fault: Fault) -> FailingReader<'a> {
         let good = Some(good_reads);
         FailingReader {
@@ -98,7 +98,7 @@ impl Read for FailingReader<'_> {
     }
 }
 
-/// Takes at most so many bytes a write, and fails after its good writes.
+/// Takes at most a number of bytes a write, and fails after its good writes.
 #[derive(Drop)]
 pub struct FailingWriter {
     pub written: Line,
@@ -107,7 +107,7 @@ pub struct FailingWriter {
 }
 
 impl FailingWriter {
-    /// A writer that takes at most so many bytes a write, and whose first writes, so many, are good.
+    /// A writer that takes at most `most` bytes a write. Its first `good_writes` writes are good.
     pub fn new(most: usize, good_writes: usize, fault: Fault) -> FailingWriter {
         let good = Some(good_writes);
         FailingWriter {
@@ -189,8 +189,8 @@ impl Write for Line {
     }
 }
 
-/// A system in which the program was called with these words, its name first, with a space between each two, and what
-/// it showed on standard error.
+/// A system in which the program was called with these arguments, its name first, with spaces between them. It keeps
+/// what the program showed on standard error.
 #[derive(Drop)]
 pub struct CalledWith<'a> {
     words: &'a [u8],
@@ -198,7 +198,7 @@ pub struct CalledWith<'a> {
 }
 
 impl<'a> CalledWith<'a> {
-    /// The program was called with these words, and has shown nothing.
+    /// The program was called with these arguments, and has shown nothing.
     pub fn new(words: &'a [u8]) -> CalledWith<'a> {
         CalledWith {
             words,

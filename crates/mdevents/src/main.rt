@@ -1,11 +1,12 @@
 //! Prints the events of a document: reads standard input to its end and writes a line for each event.
 //!
-//! `mdevents [--cut n] [--deep] [--machine name] [--tab n]`: with `--cut` the document is read in parts, cut after each n
-//! virtual bytes, which changes nothing in what is written; with `--machine` the machine of that name reads it, and else
-//! that of lines; with `--deep`, which goes only with `--machine paragraphs` and `--machine text`, the chunks of text that
-//! it links are read too, and their events are put in their place; with `--tab` tab stops are n columns apart, from 1 to
-//! 16, and else 4. The status is 0. If something fails, a line says what on standard error and the status is 1. For other
-//! words a line says how to call the program, and the status is 2.
+//! Usage: `mdevents [--cut n] [--deep] [--machine name] [--tab n]`. `--cut` reads the document in parts of n virtual
+//! bytes, which does not change what is written. `--machine` names the machine that reads it; the default is `lines`.
+//! `--deep` also reads the chunks of text that the machine links, and replaces them by their events; it is accepted only
+//! with `--machine paragraphs` and `--machine text`. `--tab` is the tab size, from 1 to 16; the default is 4.
+//!
+//! The status is 0 if all was written. If something fails, a line on standard error says what, and the status is 1. If the
+//! arguments are not accepted, the usage line is shown there, and the status is 2.
 #![tactic(auto)]
 
 ghost use Rattle.std.specs.Prelude.{◌≡◌, ◌≤◌, IfOk, IfSome, IsErr, IsOkUnless, Ok, None};
@@ -39,8 +40,8 @@ fn main(rt: HostRuntime) -> ExitCode {
     answer_call(&rt, &mut rt.stdin(), &mut rt.stdout())
 }
 
-/// Does what the words after the program's name choose: the status is 0 only if all of it was written, and 2 only if
-/// nothing was read or written. There is no other but 1.
+/// Does what the arguments choose. The status is 0 only if all was written, 2 only if nothing was read or written, and
+/// else 1.
 fn answer_call<R: Read, W: Write>(
     rt: &(impl Env + AllocGlobal + Eprint),
     reader: &mut R,
@@ -55,8 +56,8 @@ fn answer_call<R: Read, W: Write>(
     answer_choice(rt, choice, reader, writer)
 }
 
-/// Does what was chosen: the status is 0 only if all was written, and 1 if something failed, which a line on
-/// standard error says. If nothing was chosen the usage line is shown there, the status is 2, and nothing is read or
+/// Does what was chosen. The status is 0 only if all was written, and 1 if something failed; a line on standard error
+/// then says what. If nothing was chosen, the usage line is shown there, the status is 2, and nothing is read or
 /// written.
 fn answer_choice<R: Read, W: Write>(
     rt: &(impl AllocGlobal + Eprint),
@@ -94,7 +95,7 @@ fn failed(rt: &impl Eprint, failure: Failure) -> ExitCode
     ExitCode::FAILURE
 }
 
-/// What the words after the program's name choose. A word that is not UTF-8 chooses nothing.
+/// What the arguments after the program's name choose. An argument that is not UTF-8 is not accepted.
 fn choice_of(rt: &(impl Env + AllocGlobal)) -> Result<Option<Choice>, Failure>
     ensures cut { IfOk result (λ choice. IfSome choice CanCut) }
     ensures cause { IsOkUnless result Failure.Memory }
@@ -121,14 +122,14 @@ mod tests {
 
     const USAGE_SHOWN: &[u8] = b"usage: mdevents [--cut n] [--deep] [--machine name] [--tab n]\n";
 
-    /// Whether the words that the program is called with choose this, and nothing fails.
+    /// Whether the program's arguments choose this, and nothing fails.
     fn chooses(alloc: Global, words: &[u8], cut: usize, deep: bool, machine: Which) -> bool {
         let system = (CalledWith::new(words), alloc);
         let chosen = choice_of(&system);
         chosen == Ok(Some(choice(cut, deep, machine, TabSize::default())))
     }
 
-    /// Words, and what they choose: where to cut, whether to go deep, and the machine. The first word is the program's name.
+    /// Arguments, and what they choose: where to cut, whether to go deep, and the machine. The first is the program's name.
     const CHOSEN: &[(&[u8], usize, bool, Which)] = &[
         (b"--cut", 0, false, Which::Lines),
         (
@@ -179,7 +180,7 @@ mod tests {
         }
     }
 
-    /// Calls the program with these words, over a document of which so many reads are good, and so many writes.
+    /// Calls the program with these arguments, over a document, with this many good reads and writes.
     fn call(
         alloc: Global,
         words: &[u8],
@@ -198,7 +199,7 @@ mod tests {
         }
     }
 
-    /// Whether the program, called with these words over `ab`, ends so.
+    /// Whether the program, called with these arguments over `ab`, ends so.
     fn does(
         alloc: Global,
         words: &[u8],
@@ -213,7 +214,7 @@ mod tests {
         })
     }
 
-    /// Words, the status, what is written, and what is shown on standard error.
+    /// Arguments, the status, what is written, and what is shown on standard error.
     const DONE: &[(&[u8], u8, &[u8], &[u8])] = &[
         (b"mdevents", 0, PARAGRAPH, b""),
         (b"mdevents --machine deep", 0, SHORT_DATA, b""),
@@ -238,7 +239,7 @@ mod tests {
         }
     }
 
-    /// Whether a run over a document of two lines ends so, if the read and the write after so many good ones fail.
+    /// Whether a run over a document of two lines ends so, if the read and the write after this many good ones fail.
     fn fails(alloc: Global, good_reads: usize, good_writes: usize, want: Wanted) -> bool {
         call(alloc, b"mdevents", b"a\r\nb", good_reads, good_writes).is(want)
     }
@@ -273,7 +274,7 @@ mod tests {
         }
     }
 
-    /// Whether a failure to get the words is shown as this line, and nothing is read or written.
+    /// Whether a failure to get the arguments is shown as this line, and nothing is read or written.
     fn shows(alloc: Global, failure: Failure, line: &[u8]) -> bool {
         let system = (CalledWith::new(b"mdevents"), alloc);
         let mut reader = b"ab".as_slice();
@@ -305,7 +306,7 @@ mod tests {
         shown: b"",
     };
 
-    /// Also if there is no memory for some growth, which `rt try --test --fail-alloc N` does.
+    /// It passes also if an allocation fails, which `rt try --test --fail-alloc N` makes one do.
     #[test]
     fn memory_is_no_fault_of_the_reader(rt: HostRuntime) {
         let ended = call(rt.alloc(), b"mdevents --cut 1", b"ab", 99, 99);

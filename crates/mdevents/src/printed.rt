@@ -39,8 +39,8 @@ pub fn lines_of(alloc: Global, events: &[Event]) -> Result<Vec<u8>, AllocError> 
     }
 }
 
-/// Whether the line of an event of 26 bytes is written, or this much of it, if a writer that takes at most so many bytes a
-/// write takes nothing after its good ones.
+/// Whether the line of an event, of 26 bytes, is written, or this much of it. The writer takes at most `most` bytes a
+/// write, and nothing after its good writes.
 fn writes(most: usize, good_writes: usize, want: &[u8]) -> bool {
     let mut writer = FailingWriter::new(most, good_writes, Fault::NothingOnce);
     let is_ok = write_lines(&mut writer, &[ENTER]).is_ok();

@@ -1,4 +1,4 @@
-//! Reads and writes that fail, each in its turn. A body that tries again after one that failed ends well too early.
+//! Reads and writes that fail, each in its turn. A body that tries again after a failed one succeeds too early.
 
 use crate::expected::{PEEKED, TWO_LINES};
 use crate::fakes::{FailingReader, FailingWriter, Fault, Line};
@@ -22,7 +22,7 @@ enum Ended {
     Otherwise,
 }
 
-/// How a run ended that gave this.
+/// How a run ended that returned this.
 fn ending(answer: Result<(), Failure>) -> Ended {
     match answer {
         Ok(()) => Ended::Well,
@@ -32,13 +32,13 @@ fn ending(answer: Result<(), Failure>) -> Ended {
     }
 }
 
-/// Writes the events of what a reader gives.
+/// Writes the events of what a reader returns.
 fn run<R: Read, W: Write>(alloc: Global, reader: &mut R, writer: &mut W) -> Ended {
     let choice = choice(0, false, Which::Lines, TabSize::default());
     ending(write_events(alloc, reader, writer, &choice))
 }
 
-/// Runs over the document, whose read after so many good ones fails: how it ended, and what it wrote.
+/// Runs over the document; the read after `good_reads` good ones fails. Returns how it ended, and what it wrote.
 fn run_with_reads(alloc: Global, good_reads: usize, fault: Fault) -> (Ended, Line) {
     let mut reader = FailingReader::new(DOCUMENT, good_reads, fault);
     let mut written = Line::new();
@@ -46,8 +46,8 @@ fn run_with_reads(alloc: Global, good_reads: usize, fault: Fault) -> (Ended, Lin
     (ended, written)
 }
 
-/// Fails the read after each number of good ones, until a run ends well: how many good reads that takes. `None` if a run
-/// that failed wrote something, or did not fail by the reader.
+/// Fails the read after each number of good ones, until a run succeeds. Returns how many good reads that takes. Returns
+/// `None` if a run that failed wrote something, or did not fail by the reader.
 fn reads_of_a_run(alloc: Global, fault: Fault) -> Option<usize> {
     for good_reads in 0..100 {
         let (ended, written) = run_with_reads(alloc, good_reads, fault);
@@ -68,7 +68,7 @@ fn each_read_fails_in_turn(rt: HostRuntime) {
     }
 }
 
-/// Reads the document to its end, of which the read after so many good ones fails.
+/// Reads the document to its end; the read after `good_reads` good ones fails.
 fn read_all(alloc: Global, good_reads: usize) -> Ended {
     let mut reader = FailingReader::new(DOCUMENT, good_reads, Fault::ErrorOnce);
     match read_to_end(alloc, &mut reader, TabSize::default()) {
@@ -86,7 +86,8 @@ fn reads_to_the_end(rt: HostRuntime) {
     }
 }
 
-/// Runs over the document, and the write after so many good ones, of a byte each, fails: how it ended, and what it wrote.
+/// Runs over the document; the write after `good_writes` good ones, of a byte each, fails. Returns how it ended, and what
+/// it wrote.
 fn run_with_writes(alloc: Global, good_writes: usize, fault: Fault) -> (Ended, Line) {
     let mut reader = DOCUMENT;
     let mut writer = FailingWriter::new(1, good_writes, fault);
@@ -94,8 +95,9 @@ fn run_with_writes(alloc: Global, good_writes: usize, fault: Fault) -> (Ended, L
     (ended, writer.written)
 }
 
-/// Fails the write after each number of good ones, of a byte each, until a run ends well: how many good writes that takes.
-/// `None` if a run that failed wrote more or less than a beginning of that many bytes, or did not fail by the writer.
+/// Fails the write after each number of good ones, of a byte each, until a run succeeds. Returns how many good writes that
+/// takes. Returns `None` if a run that failed wrote more or less than a beginning of that many bytes, or did not fail by
+/// the writer.
 fn writes_of_a_run(alloc: Global, fault: Fault) -> Option<usize> {
     for good_writes in 0..400 {
         let (ended, written) = run_with_writes(alloc, good_writes, fault);
@@ -111,7 +113,7 @@ fn writes_of_a_run(alloc: Global, fault: Fault) -> Option<usize> {
     None
 }
 
-/// The first bytes of what is to be written, so many.
+/// The first `count` bytes of what is to be written.
 fn beginning(count: usize) -> &'static [u8] {
     TWO_LINES.get(..count).unwrap_or(TWO_LINES)
 }
@@ -129,7 +131,7 @@ fn each_write_fails_in_turn(rt: HostRuntime) {
     }
 }
 
-/// Whether a document, cut after each so many virtual bytes and looked at as a whole first, is written as these lines.
+/// Whether a document, cut after each `cut` virtual bytes and looked at as a whole first, is written as these lines.
 fn peeks(alloc: Global, cut: usize) -> bool {
     let choice = choice(cut, false, Which::Peek, TabSize::default());
     let mut reader = b"a\tb\r\n\tc".as_slice();

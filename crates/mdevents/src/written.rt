@@ -41,7 +41,7 @@ const DEEP_DATA: &[u8] = b"enter Data 1:1 (0+0)\nexit Data 1:2001 (2000+0)\n";
 
 const LONG_SECOND_LINE: &[u8] = b"enter Data 2:1 (1+0)\nexit Data 2:100000 (100000+0)\n";
 
-/// With tabs of three columns, of which the tab behind a quote mark has two.
+/// With tab stops at every three columns: the tab after a quote mark has two columns.
 const TWO_LINES_OF_TABS: &[u8] =
     b"enter Paragraph 1:1 (0+0)\nenter BlockQuoteMarker 1:1 (0+0)\nexit BlockQuoteMarker 1:2 (1+0)\nenter Data 1:2 (1+0)\nexit Data 1:5 (3+0)\nenter LineEnding 1:5 (3+0)\nexit LineEnding 2:1 (4+0)\nenter BlockQuoteMarker 2:1 (4+0)\nexit BlockQuoteMarker 2:2 (5+0)\nenter Data 2:2 (5+0)\nexit Data 2:5 (7+0)\nexit Paragraph 2:5 (7+0)\n";
 
@@ -60,7 +60,7 @@ const AFTER_TAB_OF_ONE: &[u8] =
 const AFTER_TAB_OF_SIXTEEN: &[u8] =
     b"enter Paragraph 1:1 (0+0)\nenter Data 1:1 (0+0)\nexit Data 1:18 (2+0)\nexit Paragraph 1:18 (2+0)\n";
 
-/// The choice of these: a cut after each so many virtual bytes, or none where there are none.
+/// The choice of these: a cut after each `cut` virtual bytes, or no cut if that is 0.
 pub fn choice(cut: usize, deep: bool, machine: Which, tab: TabSize) -> Choice
     ensures { CanCut result }
 {
@@ -102,7 +102,7 @@ fn writes(
     true
 }
 
-/// A document, the machine that reads it, whether its chunks are read too, how far apart tab stops stand, and what is written.
+/// A document, the machine that reads it, whether its chunks are read too, the tab size, and what is written.
 const WRITTEN: &[(&[u8], Which, bool, usize, &[u8])] = &[
     (b"a\r\nb", Which::Lines, false, 4, TWO_LINES),
     (b"", Which::Lines, false, 4, b""),
@@ -145,7 +145,7 @@ fn writes_the_events(rt: HostRuntime) {
     }
 }
 
-/// Whether this is written for a document of a byte, and then another one so often that there are so many in all.
+/// Whether this is written for a document of a first byte, and then another one up to a given length.
 fn writes_long(
     alloc: Global,
     first: u8,
@@ -177,7 +177,7 @@ fn writes_the_events_of_long_documents(rt: HostRuntime) -> Result<(), AllocError
     Ok(())
 }
 
-/// What is written for a line, so many times.
+/// What is written for a line, this many times.
 fn of_lines(
     alloc: Global,
     line: &[u8],
@@ -198,8 +198,8 @@ fn of_lines(
     }
 }
 
-/// A line, how many of it a document has, the machine that reads it, whether its chunks are read too, how many lines are written, and
-/// the first and the last of these.
+/// A line, how many times a document has it, the machine that reads it, and whether its chunks are read too. Then how many lines are
+/// written, and the first and the last of these.
 const MANY: &[(&[u8], usize, Which, bool, usize, &[u8], &[u8])] = &[
     (
         b"\n",
