@@ -1,4 +1,5 @@
--- The machine of headings: a line that begins with a number sign is a heading, of up to six signs and the rest of the line; any other line is data.
+-- The machine of headings: a line that begins with a number sign is a heading, of up to six signs and the rest of the line; any other line
+-- is data.
 use Rattle.std.specs.Prelude.{ℕ, ◌+◌, ◌-◌, ◌^◌, ◌==◌, nat_lt, min, cond, Bool, ◌∷◌, [], Option, Some, None}
 use Rattle.markdown.specs.declared.event.Name.TheVariants.{Data, HeadingAtx, HeadingAtxSequence, LineEnding}
 use Rattle.markdown.specs.StateConstants.Name.{FlowStart, HeadingAtxSequenceOpen, HeadingAtxData, DataInside}
@@ -21,7 +22,7 @@ pub data HeadingByte : Type 0 where
 abbrev pub heading_byte : ℕ → HeadingByte
 heading_byte byte = cond (byte == 10) line_feed (cond (byte == 35) sign other)
 
--- how many number signs there are
+-- the count of number signs is n
 abbrev pub signs_are : ℕ → Configuration Unit Unit → Local Unit Unit
 signs_are n k = record k.local { tokenize_state = record k.local.tokenize_state { size_b = n } }
 
@@ -31,7 +32,7 @@ one_sign k = signs_are 1 k
 abbrev pub one_sign_more : Configuration Unit Unit → Local Unit Unit
 one_sign_more k = signs_are (min (k.local.tokenize_state.size_b + 1) (2 ^ 64 - 1)) k
 
--- there are fewer than six
+-- there are fewer than six number signs
 abbrev pub has_room : Given → Sight → Configuration Unit Unit → Bool
 has_room g s k = nat_lt k.local.tokenize_state.size_b 6
 
@@ -59,7 +60,7 @@ sequence_rows _ (Some other) = data_begins
 abbrev pub sequence : StateRows HeadingByte Unit Unit
 sequence = state HeadingAtxSequenceOpen sequence_rows (HeadingAtx ∷ HeadingAtxSequence ∷ []) (calls 2 1)
 
--- in its data
+-- in the data of a heading
 abbrev pub heading_data_rows : (previous current : Option HeadingByte) → Rows Unit Unit
 heading_data_rows _ None = row (exit Data ∷ exit HeadingAtx ∷ []) Ok
 heading_data_rows _ (Some line_feed) = row (exit Data ∷ exit HeadingAtx ∷ []) (Retry FlowStart)

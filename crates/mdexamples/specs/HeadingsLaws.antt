@@ -15,7 +15,7 @@ fits previous (Some other) = refl
 pub headings-fit : IsFit headings
 headings-fit = record { fits = fits; paid = (tt, (tt, (tt, (tt, tt)))); falls = (tt, (tt, (tt, (tt, tt)))) }
 
--- what it writes leaves nothing to resolve
+-- its writes leave nothing to resolve
 one-plain : IsPlainWrite one_sign
 one-plain k h = h
 

@@ -1,4 +1,4 @@
--- The machine of labels: `[`, bytes of one line and `]` are a label; a `[` without its `]`, and all else but line endings, is data.
+-- The machine of labels: `[`, bytes of one line and `]` are a label; a `[` without its `]`, and all else except line endings, is data.
 use Rattle.std.specs.Prelude.{ℕ, ◌+◌, ◌-◌, ◌*◌, ◌==◌, cond, Bool, true, false, ◌∷◌, [], Option, Some, None, length}
 use Rattle.markdown.specs.declared.event.Name.TheVariants.{Data, Label, LabelMarker, LineEnding}
 use Rattle.markdown.specs.declared.state.Name.{Name}
@@ -22,11 +22,11 @@ pub data LabelByte : Type 0 where
 abbrev pub label_byte : ℕ → LabelByte
 label_byte byte = cond (byte == 10) line_feed (cond (byte == 91) opening (cond (byte == 93) closing other))
 
--- how many calls come from a state, by how many bytes are left
+-- how many calls a state may take, by how many bytes are left
 abbrev pub by_left : (ℕ → ℕ) → Text → ℕ → ℕ
 by_left f text position = f (length text.seats - position)
 
--- between labels: each byte may begin a label that is read to the end in vain
+-- between labels: each byte may begin a label that is read to the end of its line and fails
 abbrev pub outside : ℕ → ℕ
 outside n = n * n + 5 * n + 2
 
@@ -40,7 +40,7 @@ text_before_rows _ (Some _) = row [] (Retry TextBeforeData)
 abbrev pub text_before : StateRows LabelByte Unit Unit
 text_before = costs (by_left outside) (state TextBefore text_before_rows [] None)
 
--- before data, and so never at the end
+-- before data; never called at the end
 abbrev pub text_before_data_rows : (previous current : Option LabelByte) → Rows Unit Unit
 text_before_data_rows _ _ = row (enter Data ∷ consume ∷ []) (Next DataInside)
 
@@ -57,7 +57,7 @@ data_inside_rows _ (Some _) = row (consume ∷ []) (Next DataInside)
 abbrev pub data_inside : StateRows LabelByte Unit Unit
 data_inside = costs (by_left (λ n. outside n + 1)) (state DataInside data_inside_rows (Data ∷ []) None)
 
--- a label is tried, and so a choice waits, and `[`
+-- a label is tried: a choice waits, and `[`
 abbrev pub label_start_rows : (previous current : Option LabelByte) → Rows Unit Unit
 label_start_rows _ _ = row (enter Label ∷ enter LabelMarker ∷ consume ∷ exit LabelMarker ∷ []) (Next LabelInside)
 
@@ -78,7 +78,7 @@ label_inside_rows _ (Some _) = row (consume ∷ []) (Next LabelInside)
 abbrev pub label_inside : StateRows LabelByte Unit Unit
 label_inside = costs (by_left (λ n. n + 1)) (record (state LabelInside label_inside_rows (Label ∷ []) None) { needs = a_choice })
 
--- the state that may be where the attempt was made: the first of a label
+-- the state that may be called where the attempt was made: the first of a label
 abbrev pub begins_label : Name → Option LabelByte → Bool
 begins_label name w = name.number == LabelStart.number
 

@@ -1,4 +1,4 @@
--- The table of labels passes the tests and its cost pays, so that the machine is lawful.
+-- The table of labels passes the tests and its cost is enough, so that the machine is lawful.
 use Rattle.std.proofs.Common.{◌≡◌, ℕ, zero, suc, ◌+◌, ◌-◌, ◌*◌, ◌<◌, ◌≤◌, [], true, false, Option, Some, None, length, refl, arith}
 use Rattle.std.specs.Prelude.{max}
 use Rattle.mdconstructs.specs.Late.{hasty, IsLate}
@@ -78,7 +78,7 @@ inside-pays b (Some opening) text p read at seen called = omega (arith, at)
 inside-pays b (Some closing) text p read at seen called = omega arith
 inside-pays b (Some other) text p read at seen called = omega (arith, at)
 
--- the more was read, the fewer calls come between labels
+-- the more was read, the fewer calls may come between labels
 outside-falls : (u v : ℕ) → v ≤ u → outside v ≤ outside u
 outside-falls zero v h = let none : v ≡ 0 = omega (arith, h) in rw none (omega arith)
 outside-falls (suc u) zero h = omega arith

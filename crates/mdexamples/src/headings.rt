@@ -34,7 +34,7 @@ impl Machine for Headings {
 
     ghost rules = { λ _. headings_rules };
 
-    /// Counts the call, and does what the state of this name does.
+    /// Counts the call, and runs the state of this name.
     fn call<'a>(
         &self,
         alloc: Global,
@@ -90,7 +90,7 @@ fn flow_start<'a>(t: &mut Tokenizer<'a, Headings>) -> Result<State, AllocError>
     }
 }
 
-/// In the number signs of a heading, of which there are six at most.
+/// In the number signs of a heading. There are at most six.
 fn sequence<'a>(t: &mut Tokenizer<'a, Headings>) -> Result<State, AllocError>
     requires { IsCallable heading_byte sequence t.old }
     ensures { IfOk result (DoesAll (step_in heading_byte sequence t.old) t.old t.new) }
@@ -170,14 +170,14 @@ fn line_data<'a>(t: &mut Tokenizer<'a, Headings>) -> Result<State, AllocError>
     }
 }
 
-/// There is one number sign.
+/// Sets the count of number signs to one.
 fn count_one<'a>(t: &mut Tokenizer<'a, Headings>)
     ensures { t.new ≡ at_configuration t.old (with_local t.old.configuration (one_sign t.old.configuration)) }
 {
     t.tokenize_state.size_b = 1;
 }
 
-/// There is one number sign more.
+/// Adds one to the count of number signs.
 fn count_one_more<'a>(t: &mut Tokenizer<'a, Headings>)
     ensures { t.new ≡ at_configuration t.old (with_local t.old.configuration (one_sign_more t.old.configuration)) }
 {

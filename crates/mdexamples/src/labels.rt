@@ -12,7 +12,8 @@ use mdconstructs::begin::begin;
 use mdconstructs::marker;
 use std::alloc::{AllocError, Global};
 
-/// Reads `[`, bytes of one line and `]` as a label. A `[` without its `]` is data, and so is all else but line endings.
+/// Reads `[`, bytes of one line and `]` as a label. A `[` without its `]` is data, and so is all else except line
+/// endings.
 ///
 /// It takes at most n n + 5 n + 2 calls for n virtual bytes.
 #[derive(Drop)]
@@ -31,7 +32,7 @@ impl Machine for Labels {
 
     ghost rules = { λ _. labels_rules };
 
-    /// Counts the call, and does what the state of this name does.
+    /// Counts the call, and runs the state of this name.
     fn call<'a>(
         &self,
         alloc: Global,
@@ -62,7 +63,7 @@ impl Machine for Labels {
     ghost lawful = { λ _ g. late-lawful labels begins_label follows_label g labels-late labels-plain };
 }
 
-/// Between labels: at `[` one is tried. If it fails, the `[` is data.
+/// Between labels: tries one at `[`. If it fails, the `[` is data.
 fn text_before<'a>(t: &mut Tokenizer<'a, Labels>) -> Result<State, AllocError>
     requires { IsCallable label_byte text_before t.old }
     ensures { IfOk result (DoesAll (step_in label_byte text_before t.old) t.old t.new) }
@@ -94,7 +95,7 @@ fn text_before_data<'a>(t: &mut Tokenizer<'a, Labels>) -> Result<State, AllocErr
     Ok(State::Next(Name::DataInside))
 }
 
-/// In data, which ends before a line ending, and before a byte with which a label may begin.
+/// In data, which ends before a line ending, and before a `[`.
 fn data_inside<'a>(t: &mut Tokenizer<'a, Labels>) -> Result<State, AllocError>
     requires { IsCallable label_byte data_inside t.old }
     ensures { IfOk result (DoesAll (step_in label_byte data_inside t.old) t.old t.new) }

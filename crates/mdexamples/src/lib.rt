@@ -1,4 +1,4 @@
-//! Examples: a program's worth of calls of the engine, and two machines. The pages of `docs` show them.
+//! Examples: calls of the engine as a program makes them, and two machines. The pages of `docs` show them.
 #![tactic(auto)]
 
 pub mod headings;

@@ -1,4 +1,4 @@
-//! The code spans of a document, which is read range by range.
+//! The code spans of a document. The document is read range by range.
 
 ghost use Rattle.std.specs.Prelude.{◌≡◌, ◌<◌, length, All, Contains};
 ghost use Rattle.markdown.specs.Virtual.{point};
@@ -19,8 +19,8 @@ use mdconstructs::Text;
 use std::alloc::{AllocError, Global};
 
 /// The places of the code spans of a document, a line each, as `1:5 to 1:8`. The document is pushed in ranges of `size` virtual
-/// bytes, which leaves no trace. Returns `None` if the document is too long: the tab size times its length, and one more, must fit
-/// `usize`.
+/// bytes; the result does not depend on it. Returns `None` if the document is too long: the tab size times its length, and one
+/// more, must fit `usize`.
 pub fn code_spans(alloc: Global, bytes: &[u8], size: usize) -> Result<Option<String>, Fault>
     requires { 0 < size }
 {
@@ -35,7 +35,7 @@ pub fn code_spans(alloc: Global, bytes: &[u8], size: usize) -> Result<Option<Str
     Ok(Some(listed(alloc, events.as_slice())?))
 }
 
-/// The events of a document, which is cut at these places.
+/// The events of a document that is cut at these places.
 fn read<M: Machine>(
     alloc: Global,
     document: &ParseState<M>,
@@ -75,7 +75,7 @@ fn push_ranges<M: Machine>(
     tokenizer.flush(state, false)
 }
 
-/// Reads the chains of text, puts their events in place of the chunks, and drops the marker with which the first code span begins.
+/// Reads the chains of text, replaces their chunks by their events, and drops the marker with which the first code span begins.
 fn read_texts<M: Machine>(
     alloc: Global,
     events: &mut Vec<Event>,
@@ -93,7 +93,7 @@ fn read_texts<M: Machine>(
     Ok(())
 }
 
-/// Drops the first span of a name whose spans are void: two events. If there is none, nothing changes.
+/// Drops the first span of a void name: two events. If there is none, nothing changes.
 fn drop_first(alloc: Global, events: &mut Vec<Event>, name: event::Name) -> Result<(), AllocError>
     requires { All (EndsBelow (length events.old.items)) events.old.items }
 {

@@ -1,4 +1,4 @@
-//! What the examples do, against lines that were worked by hand.
+//! Tests of the examples, with expected lines worked by hand.
 
 ghost use Rattle.std.specs.Prelude.{◌<◌, Contains};
 ghost use Rattle.markdown.specs.Presets.{default_parse_options};
