@@ -1,11 +1,11 @@
--- Documents with tab stops at every so many columns.
+-- Documents with a given tab size.
 use Rattle.std.specs.Prelude.{ℕ, List}
 use Rattle.markdown.specs.declared.configuration.ParseOptions.{ParseOptions}
 use Rattle.markdown.specs.Presets.{default_parse_options}
 use Rattle.markdown.specs.Engine.{given_by}
 use Rattle.markdown.specs.Text.{Given}
 
--- the default options, but for tab stops at every `t` columns
+-- the default options with tab stops at every `t` columns
 abbrev pub options_in_tabs : (t : ℕ) → ParseOptions
 options_in_tabs t = record default_parse_options { tab_size = t }
 

@@ -1,5 +1,5 @@
--- The machine that runs out of memory: each byte is data of its own, from the start of each content. No step tells at which call there is
--- no memory.
+-- The machine that runs out of memory: each byte is data of its own, from the start of each content. No step says at which call there is no
+-- memory.
 use Rattle.std.specs.Prelude.{◌∷◌, [], Option, Some, None}
 use Rattle.markdown.specs.declared.event.Name.TheVariants.{Data}
 use Rattle.markdown.specs.StateConstants.Name.{ContentDefinitionBefore, StringStart, TextStart}

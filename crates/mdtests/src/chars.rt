@@ -7,7 +7,7 @@ use markdown::util::char::{
 };
 use std::alloc::{AllocError, Global};
 
-/// Holds of the ideographic comma alone.
+/// Is true only for the ideographic comma.
 fn is_comma(char: char) -> bool {
     char == '\u{3001}'
 }

@@ -91,7 +91,7 @@ pub(crate) const QUOTE: [Row; 8] = [
     Exit(Name::BlockQuote, (2, 4, 7, 0)),
 ];
 
-/// A paragraph of two lines in three chunks, the second of which has no text.
+/// A paragraph of two lines in three chunks. The second one has no text.
 pub(crate) const EMPTY_CHUNK: [Row; 5] = [
     Enter(Name::Paragraph, (1, 1, 0, 0)),
     Chunk((1, 1, 0, 0), (2, 1, 2, 0), Content::Text, None, Some(3)),

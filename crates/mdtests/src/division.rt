@@ -1,4 +1,4 @@
-//! A child's events in the place of the chunks that it was read from, with answers worked by hand.
+//! A child's events in place of the chunks from which it was read, with expected lists worked by hand.
 
 ghost use Rattle.markdown.specs.Virtual.{IsWithinLimit};
 ghost use Rattle.std.specs.Prelude.{◌≡◌, ◌+◌, ◌*◌, ◌^◌, ◌<◌, true, length, None, IfSome, IfOk, All};
@@ -27,7 +27,7 @@ fn begins_at(events: &[Event], index: usize) -> bool
     }
 }
 
-/// Whether an end of a link, where it has one, is below a number.
+/// Whether an end of a link, if it has one, is below a number.
 fn is_below(end: Option<usize>, limit: usize) -> bool
     ensures { result ≡ true → IfSome end (λ k. k < limit) }
 {
@@ -59,7 +59,8 @@ fn has_ends_within(events: &[Event]) -> bool
     true
 }
 
-/// The edits that put a child in the place of the chain that begins at an index; `None` where they cannot be asked for.
+/// The edits that put a child in place of the chain that begins at an index. Returns `None` if `divide_events` may not
+/// be called.
 fn edits_of(
     alloc: Global,
     events: &[Event],
@@ -157,8 +158,8 @@ const LINKED_DATA: [Row; 3] = [
     Chunk((2, 3, 6, 0), (2, 4, 7, 0), Content::String, Some(0), None),
 ];
 
-/// A list, its document, where the chain begins, its child, and what comes of them: a chunk without events becomes nothing,
-/// and links of a child lead to their places.
+/// A list, its document, where the chain begins, its child, and the expected list: a chunk without events is removed, and
+/// links of a child lead to their places.
 const PUT: &[(&[Row], &[u8], usize, &[Row], &str)] = &[
     (
         &THREE_LINES,

@@ -14,8 +14,8 @@ use markdown::subtokenize::Subresult;
 use markdown::tokenizer::{Fault, Tokenizer};
 use std::alloc::{AllocError, Global};
 
-/// Reads a document, cut at one place: pushes a range up to it and one up to the end, flushes, and pushes once more. Returns
-/// what was answered, a line for each call, and how the tokenizer was left: whether these resolvers are registered, and the events.
+/// Reads a document, cut at one place: pushes a range up to it and one up to the end, flushes, and pushes once more. Returns a line
+/// for the result of each call, and then how the tokenizer was left: whether these resolvers are registered, and the events.
 pub fn read<M: Machine>(
     alloc: Global,
     parse_state: &ParseState<M>,
@@ -43,7 +43,7 @@ pub fn read<M: Machine>(
     Ok(text)
 }
 
-/// Reads a document by a tokenizer that has read nothing. What owns no tokenizer is proved in less time.
+/// Reads a document with a tokenizer that has read nothing. A function that owns no tokenizer is proved in less time.
 fn read_new<M: Machine>(
     text: &mut String,
     tokenizer: &mut Tokenizer<M>,
@@ -125,7 +125,7 @@ fn push_pushed(text: &mut String, pushed: &Result<State, Fault>) -> Result<(), A
     }
 }
 
-/// Appends a state; of names only that of this start is told.
+/// Appends a state. Of names only this start is shown.
 fn push_state(text: &mut String, state: &State, start: Name) -> Result<(), AllocError> {
     match state {
         State::Error(message) => writeln!(text, "{message}"),

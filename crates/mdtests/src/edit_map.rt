@@ -1,4 +1,4 @@
-//! Edits of small lists, with answers worked by hand.
+//! Edits of small lists, with expected lists worked by hand.
 
 ghost use Rattle.markdown.specs.Edits.{AreDisjoint};
 ghost use Rattle.markdown.specs.Events.{EndsBelow};
@@ -9,7 +9,7 @@ use markdown::event::{Content, Event, Kind, Link, Name};
 use markdown::util::edit_map::EditMap;
 use std::alloc::{AllocError, Global};
 
-/// An event without a link, told by its column.
+/// An event without a link. Its column identifies it.
 fn event_at(column: usize) -> Event
     ensures { result.link ≡ None }
 {
@@ -37,7 +37,7 @@ fn linked(previous: Option<usize>, next: Option<usize>) -> Event
     }
 }
 
-/// Appends the columns of events, which tell them apart.
+/// Appends the columns of events, which identify them.
 fn push_columns(text: &mut String, events: &[Event]) -> Result<(), AllocError> {
     for event in events {
         let column = event.point.column;
@@ -54,7 +54,7 @@ fn columns(alloc: Global, made: Result<Vec<Event>, AllocError>) -> Result<String
     Ok(text)
 }
 
-/// Makes the edits; where memory is refused, once more, as map and events are as they were then.
+/// Makes the edits. If it runs out of memory, tries once more, as map and events are then as they were.
 fn make(map: &mut EditMap, events: &mut Vec<Event>) -> Result<(), AllocError>
     requires disjoint { AreDisjoint 0 map.old (length events.old.items) }
     requires links { All (EndsBelow (length events.old.items)) events.old.items }
@@ -138,7 +138,7 @@ fn chains_moved(alloc: Global) -> Result<Vec<Event>, AllocError> {
     Ok(events)
 }
 
-/// Two chunks in a chain, the second of which goes.
+/// Two chunks in a chain; the second one is removed.
 fn end_removed(alloc: Global) -> Result<Vec<Event>, AllocError> {
     let mut events = chain(alloc, 2)?;
     let mut map = EditMap::new(alloc);
@@ -173,7 +173,7 @@ fn enter_before(k: usize) -> Option<usize>
     if k > 0 { Some(2 * k - 2) } else { None }
 }
 
-/// The enter of the span behind span k, of so many.
+/// The enter of the span after span k, of `count` spans.
 fn enter_behind(k: usize, count: usize) -> Option<usize>
     requires fits { 2 * count < 2 ^ 64 }
     requires inside { k < count }
@@ -182,7 +182,7 @@ fn enter_behind(k: usize, count: usize) -> Option<usize>
     if k + 1 < count { Some(2 * k + 2) } else { None }
 }
 
-/// The spans of a chain, one behind the other: event 2 k enters span k, and is linked to the enters beside it.
+/// The spans of a chain, one after the other: event 2 k enters span k, and is linked to the enters of its neighbours.
 fn chain(alloc: Global, count: usize) -> Result<Vec<Event>, AllocError>
     requires { 2 * count < 2 ^ 64 }
     ensures len { IfOk result (λ v. length v.items ≡ 2 * count) }

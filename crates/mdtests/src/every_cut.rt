@@ -1,4 +1,4 @@
-//! Short documents, cut at every place and at every two places: what is read does not show the cuts.
+//! Short documents, cut at every place and at every two places: the events do not depend on the cuts.
 
 ghost use Rattle.markdown.specs.Virtual.{IsWithinLimit};
 ghost use Rattle.std.specs.Prelude.{◌+◌, ◌*◌, ◌^◌, ◌<◌, length, Contains};
@@ -11,7 +11,7 @@ use markdown::tokenizer::point_at;
 use mdconstructs::{Back, Deep, Lines, Paragraphs, Peek, Save, Text};
 use std::alloc::{AllocError, Global};
 
-/// Where a document is cut.
+/// The places at which a document is cut.
 type Cuts = Vec<(usize, usize)>;
 
 /// How many readings were compared with the uncut one, and how many of them gave other events, or took more calls or fewer.
@@ -45,7 +45,7 @@ fn places(alloc: Global, bytes: &[u8], tab: TabSize) -> Result<Cuts, AllocError>
     Ok(places)
 }
 
-/// Each cut at one of these places, and if it is to be cut twice at each two of them, in order.
+/// The lists of one of these places; and, if documents are cut twice, of each two of them, in order.
 fn lists_of(
     alloc: Global,
     places: &[(usize, usize)],
@@ -169,8 +169,8 @@ fn same_readings(
     Ok((compared.other == 0).then_some(compared.all))
 }
 
-/// Whether the machine of texts reads, how many columns apart tab stops are, how many starts there are, the size of the documents,
-/// how many of that size there are, and how many readings are made of them from each start.
+/// Whether the machine of texts reads; the tab size; the number of starts; the length of the documents; how many documents of that
+/// length there are; and how many readings of them are made from each start.
 const READINGS: &[(bool, usize, usize, usize, usize, usize)] = &[
     (false, 1, 7, 0, 1, 2),
     (false, 1, 7, 1, 4, 20),

@@ -1,4 +1,4 @@
-//! What machines read in whole documents, with answers worked by hand.
+//! The events that machines make of whole documents, with expected events worked by hand.
 
 ghost use Rattle.markdown.specs.Virtual.{IsWithinLimit};
 ghost use Rattle.std.specs.Prelude.{◌+◌, ◌*◌, ◌^◌, ◌≤◌, ◌<◌, length, Contains};
@@ -13,7 +13,7 @@ use markdown::tokenizer::{cuts_every, run};
 use mdconstructs::{Paragraphs, Text, Words, Wrap};
 use std::alloc::{AllocError, Global};
 
-/// The events of a document, which a machine reads from this start with the default options, or why it is refused.
+/// The events that a machine makes of a document, from this start and with the default options; or why it is refused.
 pub(crate) fn lines_of<M: Machine>(
     alloc: Global,
     machine: &M,
@@ -26,8 +26,8 @@ pub(crate) fn lines_of<M: Machine>(
     lines_by(alloc, machine, start, bytes, 1000, false)
 }
 
-/// The events of a document, which is cut after each so many virtual bytes, and the resolvers go over the events if they are to; or
-/// why it is refused.
+/// The events of a document that is cut after each given number of virtual bytes, with or without running resolvers; or why it is
+/// refused.
 pub(crate) fn lines_by<M: Machine>(
     alloc: Global,
     machine: &M,
@@ -53,7 +53,7 @@ pub(crate) fn lines_by<M: Machine>(
     }
 }
 
-/// Chunks of a paragraph are linked, also where the text of the chunks is no plain data; and the text of a chunk alone is data.
+/// Chunks of a paragraph are linked, also if their text is no plain data; and the text of a single chunk is data.
 #[test]
 fn paragraphs_are_chunks_of_text(rt: HostRuntime) -> Result<(), AllocError> {
     let alloc = rt.alloc();

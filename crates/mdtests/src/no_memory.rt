@@ -1,5 +1,5 @@
-//! Calls that take no memory. A test here takes none at all, or ends well where what it begins with is refused: so it passes
-//! whichever growth `rt try --test --fail-alloc N` refuses.
+//! Calls that take no memory. A test here takes none, or passes if its setup runs out of memory. So it passes whichever
+//! allocation `rt try --test --fail-alloc N` makes fail.
 
 ghost use Rattle.std.specs.Prelude.{◌+◌, ◌*◌, ◌^◌, ◌<◌, length};
 
@@ -28,7 +28,7 @@ fn edits_that_are_none_take_no_memory(rt: HostRuntime) {
     assert!(rt; map.consume(&mut events).is_ok());
 }
 
-/// Whether a document is read by a machine that passes each byte, and makes no event.
+/// Whether a machine that passes each byte reads a document, and makes no event.
 fn is_passed(alloc: Global) -> bool {
     let machine = Fail { at: 8 };
     match lines_by(alloc, &machine, Name::TextStart, b"a\r\n\tb", 9, true) {
@@ -66,7 +66,7 @@ fn reading_without_events_takes_no_memory(rt: HostRuntime) {
     assert!(rt; is_passed(rt.alloc()));
 }
 
-/// Whether a place is found in the lines of a document, where there was memory for these.
+/// Whether a place is found in the lines of a document, if there was memory for the lines.
 fn finds_lines(alloc: Global) -> bool {
     match Location::new(alloc, b"a\nb") {
         Ok(location) => {

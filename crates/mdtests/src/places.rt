@@ -1,4 +1,4 @@
-//! Places of small texts, their points and what lies between them, with tab stops at every 1 to 16 columns, worked by hand.
+//! Places of small texts, their points and the slices between them, with tab sizes from 1 to 16, worked by hand.
 
 ghost use Rattle.markdown.specs.Virtual.{IsWithinLimit};
 ghost use Rattle.std.specs.Prelude.{◌≡◌, ◌≤◌, ◌+◌, ◌*◌, ◌^◌, ◌<◌, length, None};
@@ -58,7 +58,7 @@ fn shown(point: Option<Point>) -> Option<Shown> {
     Some((point.line, point.column, point.index, point.vs))
 }
 
-/// A document, how far apart tab stops stand, a place, and its point.
+/// A document, the tab size, a place, and its point.
 const POINTS: &[(&[u8], usize, (usize, usize), Option<Shown>)] = &[
     (b"a\r\nb", 4, (1, 0), Some((1, 2, 1, 0))),
     (b"a\r\nb", 4, (2, 0), Some((1, 2, 2, 0))),
@@ -76,7 +76,7 @@ fn places_have_points(rt: HostRuntime) {
     }
 }
 
-/// The cuts of a text after each so many virtual bytes.
+/// The cuts of a text after each `n` virtual bytes.
 fn cuts(alloc: Global, bytes: &[u8], n: usize) -> Result<String, AllocError>
     requires limit { IsWithinLimit 4 bytes.now }
     requires some { 0 < n }
@@ -86,8 +86,8 @@ fn cuts(alloc: Global, bytes: &[u8], n: usize) -> Result<String, AllocError>
     format!(in alloc; "{cuts:?}")
 }
 
-/// Bytes, after how many virtual ones each they are cut, and where that is. The last one is of a tab before a stop, which is one
-/// byte.
+/// Bytes, after how many virtual bytes each they are cut, and the places of the cuts. The last row has a tab directly before a
+/// tab stop, which is one virtual byte.
 const CUTS: &[(&[u8], usize, &str)] = &[
     (
         b"a\tb\r\n\tc",
@@ -133,7 +133,7 @@ fn seen(alloc: Global, slice: &Slice) -> Result<String, AllocError> {
     format!(in alloc; "{before} and {after} of {len}: '{written}'")
 }
 
-/// The slice of a document between two places, with tab stops at every so many columns.
+/// The slice of a document between two places, with this tab size.
 fn between(
     alloc: Global,
     bytes: &[u8],
@@ -162,8 +162,8 @@ fn between(
     seen(alloc, &Slice::from_position(bytes, tab_size, &position))
 }
 
-/// A document, how far apart tab stops stand, two places, and what lies between them: a part that begins inside a tab, stays
-/// inside it, or ends inside it; and a tab that is one byte.
+/// A document, the tab size, two places, and the slice between them: one that begins inside a tab, stays inside it, or ends
+/// inside it; and a tab that is one byte.
 const BETWEEN: &[(&[u8], usize, (usize, usize), (usize, usize), &str)] = &[
     (b">    \tfoo", 4, (5, 1), (9, 0), "2 and 0 of 5: '  foo'"),
     (b">    \tfoo", 4, (5, 1), (5, 2), "1 and 0 of 1: ' '"),

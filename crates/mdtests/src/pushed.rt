@@ -33,7 +33,8 @@ pub struct Seen {
     pub events: Vec<Event>,
 }
 
-/// Reads a document with tabs of this size, cut at these places. `None` if they are no places of it, or in no order.
+/// Reads a document with this tab size, cut at these places. Returns `None` if they are no places of it, or not in
+/// order.
 pub fn read_cut<M: Machine>(
     alloc: Global,
     machine: &M,
@@ -49,7 +50,7 @@ pub fn read_cut<M: Machine>(
     read_ranges(alloc, machine, start, bytes, tab, ranges.as_slice())
 }
 
-/// The ranges between cuts, from the start of a document of so many bytes to its end.
+/// The ranges between cuts, from the start of a document of this length to its end.
 fn ranges_between(
     alloc: Global,
     size: usize,
@@ -141,8 +142,8 @@ fn drive<'a, M: Machine>(
     })
 }
 
-/// Over a new tokenizer: passes the gap before each range, if there is one, and pushes the range; and flushes at the end. What is
-/// seen after each push is added to the list.
+/// For a new tokenizer: passes the gap before each range, if there is one, and pushes the range. Flushes at the end. Adds to the
+/// list what is seen after each push.
 fn push_all<'a, M: Machine>(
     tokenizer: &mut Tokenizer<'a, M>,
     parse_state: &ParseState<'a, M>,

@@ -142,7 +142,7 @@ fn line_after_gap(number: usize, last: bool) -> AfterGap
     (Some(gap), (index, 0), (index + size, 0))
 }
 
-/// Lines `> a`, so many, with LF between each two, and their ranges without `> `.
+/// `count` lines `> a`, with LF between each two, and their ranges without `> `.
 fn quoted_lines(alloc: Global, count: usize) -> Result<(Vec<u8>, Vec<AfterGap>), AllocError> {
     let mut bytes = Vec::new(alloc);
     let mut ranges = Vec::new(alloc);
@@ -158,7 +158,7 @@ fn quoted_lines(alloc: Global, count: usize) -> Result<(Vec<u8>, Vec<AfterGap>),
     Ok((bytes, ranges))
 }
 
-/// What is read of quoted lines, so many.
+/// What is read of `count` quoted lines.
 fn read_quoted(alloc: Global, count: usize) -> Result<String, AllocError> {
     let (bytes, ranges) = quoted_lines(alloc, count)?;
     if bytes.len() > 9999 {
@@ -173,7 +173,7 @@ fn read_quoted(alloc: Global, count: usize) -> Result<String, AllocError> {
     )
 }
 
-/// How often a word stands in a text, between spaces.
+/// How often a word occurs in a text, between spaces.
 fn count_of(text: &str, word: &str) -> usize {
     text.split(' ').filter(|other| *other == word).count()
 }

@@ -53,7 +53,7 @@ fn chains_that_fit_can_be_read(rt: HostRuntime) -> Result<(), AllocError> {
     Ok(())
 }
 
-/// Spans of one name in one another, so many, and in the innermost a chunk without text.
+/// `depth` nested spans of one name, and in the innermost one a chunk without text.
 fn nested(alloc: Global, depth: usize) -> Result<Vec<Row>, AllocError> {
     let mut rows = Vec::new(alloc);
     for _ in 0..depth {
@@ -73,7 +73,8 @@ fn spans_may_be_deep(rt: HostRuntime) -> Result<(), AllocError> {
     Ok(())
 }
 
-/// Whether a chain is in the first paragraph of a list item; `None` where the list is not balanced, or ends before the index.
+/// Whether a chain is in the first paragraph of a list item. Returns `None` if the list is not balanced, or ends before the
+/// index.
 fn first_paragraph(
     alloc: Global,
     list: &[Row],

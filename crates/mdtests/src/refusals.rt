@@ -1,4 +1,4 @@
-//! A message ends the reading of a document: what each call answers then, and afterwards.
+//! A message ends the reading of a document: what each call returns then, and afterwards.
 
 use crate::driven::read;
 use crate::machines::lines_by;
@@ -9,7 +9,7 @@ use markdown::state::Name;
 use mdconstructs::Fail;
 use std::alloc::{AllocError, Global};
 
-/// Reads `ab` up to its second byte, and then to its end, by a machine that refuses at a call: what was answered.
+/// Reads `ab` up to its second byte, and then to its end, with a machine that refuses at a call. Returns the results.
 fn read_two(alloc: Global, at: usize, resolve: bool) -> Result<String, AllocError> {
     let options = ParseOptions::default();
     let machine = Fail { at };
@@ -21,7 +21,7 @@ fn read_two(alloc: Global, at: usize, resolve: bool) -> Result<String, AllocErro
     read(alloc, &parse_state, Name::TextStart, (1, 0), resolve, &[])
 }
 
-/// Reads `a` to its end, by a machine that refuses the first call: what was answered.
+/// Reads `a` to its end, with a machine that refuses at the first call. Returns the results.
 fn read_one(alloc: Global) -> Result<String, AllocError> {
     let options = ParseOptions::default();
     let machine = Fail { at: 0 };
@@ -33,7 +33,7 @@ fn read_one(alloc: Global) -> Result<String, AllocError> {
     read(alloc, &parse_state, Name::TextStart, (1, 0), true, &[])
 }
 
-/// What is answered where the first call refuses.
+/// The results if the first call refuses the document.
 const AT_ONCE: &str = "1:2: x (markdown:r)\n\
     1:2: x (markdown:r)\n\
     1:2: x (markdown:r)\n\
@@ -45,7 +45,7 @@ fn one_byte_is_refused(rt: HostRuntime) -> Result<(), AllocError> {
     assert_shown(&rt, read_one(rt.alloc()), AT_ONCE)
 }
 
-/// The numbers of calls before the one that refuses, and what is answered then.
+/// The numbers of calls before the one that refuses the document, and the results.
 const ANSWERS: &[(usize, &str)] = &[
     (0, AT_ONCE),
     (

@@ -1,4 +1,4 @@
-//! Resolvers go over the events once all was read.
+//! Resolvers run over the events once all was read.
 
 use crate::driven::read;
 use crate::shown::assert_shown;
@@ -9,8 +9,8 @@ use mdconstructs::Wrap;
 use mdconstructs::wrap::Resolver;
 use std::alloc::{AllocError, Global};
 
-/// Reads `a` up to its end, by the machine that wraps: what was answered, and how the tokenizer was left, where these resolvers
-/// are to be registered.
+/// Reads `a` up to its end, with the machine that wraps. Returns the results, and how the tokenizer was left: whether these
+/// resolvers are registered.
 fn read_one(
     alloc: Global,
     refuse: bool,
@@ -34,7 +34,8 @@ fn read_one(
     )
 }
 
-/// Whether the machine's resolvers refuse, whether they go over the events, those that stay registered, and what is answered.
+/// Whether the machine's resolvers refuse the document, whether they run over the events, the resolvers that stay registered,
+/// and the results.
 const ANSWERS: &[(bool, bool, &[Resolver], &str)] = &[
     (
         false,
@@ -72,7 +73,7 @@ const ANSWERS: &[(bool, bool, &[Resolver], &str)] = &[
     ),
 ];
 
-/// Resolvers wrap what was read; they stay where none resolves; or one refuses the document.
+/// Resolvers wrap what was read; they stay if no flush resolves; or one refuses the document.
 #[test]
 fn resolvers_go_over_what_was_read(rt: HostRuntime) -> Result<(), AllocError> {
     for (refuse, resolve, resolvers, want) in ANSWERS {

@@ -27,7 +27,7 @@ fn reads<M: Machine>(
     told(alloc, &read_cut(alloc, machine, start, bytes, tab, cuts))
 }
 
-/// Documents, where they are cut, and how the machine of lines reads them. Nothing is read in one call. Two cuts are at the one
+/// Documents, where they are cut, and how the machine of lines reads them. In one call nothing is read. Two cuts are at one
 /// byte of a CR LF, and one is inside a tab.
 const LINES: &[(&[u8], &[(usize, usize)], &str)] = &[
     (b"", &[], "1 calls: "),
@@ -91,7 +91,7 @@ fn bytes_before(alloc: Global, seen: &Option<Seen>) -> Result<Vec<u8>, AllocErro
     Ok(bytes)
 }
 
-/// What is seen as a document is read that is cut after each so many virtual bytes.
+/// What is seen while a document is read that is cut after each given number of virtual bytes.
 fn seen_by<M: Machine>(
     alloc: Global,
     machine: &M,

@@ -1,4 +1,4 @@
-//! Lists of events, answers and texts as tests compare them.
+//! Lists of events, results and texts as tests compare them.
 
 ghost use Rattle.std.specs.Prelude.{◌≡◌};
 
@@ -31,7 +31,8 @@ pub(crate) fn boxed(alloc: Global, text: &str) -> Result<Boxed<OwnedText>, Alloc
     Ok(Boxed::from_box(Box::new(alloc, owned(alloc, text)?)?))
 }
 
-/// Asserts that a text was made, and is this one. What owns a text and compares it is proved once so, and not in each test.
+/// Asserts that a text was made, and is this one. So the code that owns and compares a text is proved once, and not in each
+/// test.
 pub(crate) fn assert_shown(
     rt: &impl Abort,
     made: Result<String, AllocError>,
@@ -42,9 +43,9 @@ pub(crate) fn assert_shown(
     Ok(())
 }
 
-/// A list of events: `enter Paragraph 1:1 (0+0); Data 1:1 (0+0) to 1:2 (1+0); exit Paragraph 1:2 (1+0)`. So what enters a span
-/// and the event behind it, if that exits the span, are one. Behind an event stands its link, if it has one: content, previous and
-/// next, as in `Data 1:1 (0+0) Text None Some(4) to 1:2 (1+0)`.
+/// A list of events: `enter Paragraph 1:1 (0+0); Data 1:1 (0+0) to 1:2 (1+0); exit Paragraph 1:2 (1+0)`. An enter and the event
+/// after it are shown as one, if that exits the span. After an event comes its link, if it has one: content, previous and next, as
+/// in `Data 1:1 (0+0) Text None Some(4) to 1:2 (1+0)`.
 pub(crate) fn shown(alloc: Global, events: &[Event]) -> Result<String, AllocError> {
     let mut text = String::new(alloc);
     push_events(&mut text, events)?;

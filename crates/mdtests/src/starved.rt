@@ -102,7 +102,7 @@ fn refused_state_ends_a_run(rt: HostRuntime) -> Result<(), AllocError> {
     Ok(())
 }
 
-/// Reads all chains of a list, whatever their content, and appends what is answered.
+/// Reads all chains of a list, whatever their content, and appends the result.
 fn read_chains(
     alloc: Global,
     text: &mut String,
@@ -125,8 +125,8 @@ fn read_chains(
     pushed
 }
 
-/// Reads all chains of a list over a small document, with tab stops at every so many columns, by a machine that lacks memory at a
-/// call: what was answered, and then the list.
+/// Reads all chains of a list over a small document, with this tab size and a machine that runs out of memory at a call. Returns
+/// the result, and then the list.
 fn read(
     alloc: Global,
     list: &[Row],
@@ -187,7 +187,7 @@ const OF_EACH_CONTENT: [Row; 3] = [
 /// A chain of three columns of a tab.
 const TAB_OF_THREE: [Row; 1] = [Chunk((1, 1, 0, 0), (1, 4, 1, 0), Content::Text, None, None)];
 
-/// A list, its document, how far apart tab stops stand, and what comes of it: also of the text of a task, if it is one.
+/// A list, its document, the tab size, and the expected result: also for the text of a task, if it is one.
 const READS: &[(&[Row], &[u8], usize, &str)] = &[
     (
         &OF_EACH_CONTENT,

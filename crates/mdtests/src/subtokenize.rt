@@ -1,4 +1,4 @@
-//! Chains read by machines, and their children put in the list, with answers worked by hand.
+//! Chains read by machines, and their children put in the list, with expected lists worked by hand.
 
 ghost use Rattle.markdown.specs.Virtual.{IsWithinLimit};
 ghost use Rattle.std.specs.Prelude.{◌≡◌, ◌+◌, ◌*◌, ◌^◌, ◌<◌, length, Some, Contains};
@@ -17,7 +17,7 @@ use markdown::subtokenize::{ready, subtokenize};
 use mdconstructs::{Deep, Fail, Paragraphs, Wrap};
 use std::alloc::{AllocError, Global};
 
-/// Puts the children of the chains of one content, which are read from this start, in their place, and appends what was answered.
+/// Puts the children of the chains of one content in their place, read from this start, and appends the result.
 fn put_children<M: Machine>(
     alloc: Global,
     text: &mut String,
@@ -52,7 +52,8 @@ fn put_children<M: Machine>(
     pushed
 }
 
-/// Puts the children of the chains of one content in their place: what was answered, and then the list as it is afterwards.
+/// Puts the children of the chains of one content in their place. Returns the result, and then the list as it is
+/// afterwards.
 pub(crate) fn with_children<M: Machine>(
     alloc: Global,
     list: &[Row],
@@ -69,7 +70,8 @@ pub(crate) fn with_children<M: Machine>(
     told_children(alloc, &mut events, bytes, machine, content, start)
 }
 
-/// Puts the children of the chains of one content in their place: what was answered, and then the list as it is afterwards.
+/// Puts the children of the chains of one content in their place. Returns the result, and then the list as it is
+/// afterwards.
 fn told_children<M: Machine>(
     alloc: Global,
     events: &mut Vec<Event>,
@@ -122,9 +124,9 @@ const TWO_BYTES: [Row; 4] = [
     Exit(Name::Paragraph, (1, 3, 2, 0)),
 ];
 
-/// A list, its document, and what is answered where its chains of text are read as lines of data.
+/// A list, its document, and the result if its chains of text are read as lines of data.
 const OF_LINES: &[(&[Row], &[u8], &str)] = &[
-    // A child stands in the place of its chunks.
+    // A child is in place of its chunks.
     (
         &QUOTE,
         b"> a\n> b",
@@ -195,9 +197,9 @@ const AFTER_LF: [Row; 5] = [
     Exit(Name::Paragraph, (2, 4, 5, 0)),
 ];
 
-/// A list, its document, and what is answered where its chains of strings are read by attempts.
+/// A list, its document, and the result if its chains of strings are read by attempts.
 const OF_ATTEMPTS: &[(&[Row], &[u8], &str)] = &[
-    // Nothing is done where no chain fits.
+    // Nothing is done if no chain fits.
     (
         &QUOTE,
         b"> a\n> b",
@@ -235,7 +237,7 @@ const TWO_CHAINS: [Row; 2] = [
 const REFUSED: &str =
     "1:2: x (markdown:r)\nData 1:1 (0+0) Text None None to 1:2 (1+0); Data 1:2 (1+0) Text None None to 1:4 (3+0)";
 
-/// Reads two chains by a machine that refuses at a call.
+/// Reads two chains with a machine that refuses the document at a call.
 fn refused_at(alloc: Global, at: usize) -> Result<String, AllocError> {
     let machine = Fail { at };
     let start = state::Name::TextStart;
@@ -255,7 +257,7 @@ fn message_of_the_second_chain_leaves_the_first(rt: HostRuntime) -> Result<(), A
     Ok(())
 }
 
-/// Reads two chains by a machine whose resolvers wrap, or refuse.
+/// Reads two chains with a machine whose resolvers wrap the data, or refuse the document.
 fn wrapped(alloc: Global, refuse: bool) -> Result<String, AllocError> {
     let machine = Wrap { refuse };
     let start = state::Name::TextStart;

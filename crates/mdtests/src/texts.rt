@@ -1,4 +1,4 @@
-//! Texts: code spans, autolinks and escapes, with answers worked by hand.
+//! Texts: code spans, autolinks and escapes, with expected events worked by hand.
 
 ghost use Rattle.markdown.specs.Virtual.{IsWithinLimit};
 ghost use Rattle.std.specs.Prelude.{◌+◌, ◌*◌, ◌^◌, ◌<◌, length};
@@ -31,8 +31,8 @@ const ESCAPE: &str =
 const LONG_RUNS: &[u8] =
     b"````````````````````````````````````````a````````````````````````````````````````";
 
-/// A text, whether code spans are on, and its events: where runs are not of one length there is no code span; a backslash in one is
-/// data of it; and a scheme of one letter is none.
+/// A text, whether code spans are on, and its events. If runs are not of equal length, there is no code span; a backslash in a code
+/// span is data; and one letter is no scheme.
 const TEXTS: &[(&[u8], bool, &str)] = &[
     (b"`a`", true, CODE),
     (
@@ -57,7 +57,7 @@ const TEXTS: &[(&[u8], bool, &str)] = &[
     (LONG_RUNS, true, LONG_CODE),
 ];
 
-/// The events of a document that is read as text, cut after each so many virtual bytes.
+/// The events of a document that is read as text, cut after each `cut` virtual bytes.
 fn lines_of_text(alloc: Global, bytes: &[u8], code: bool, cut: usize) -> Result<String, AllocError>
     requires limit { IsWithinLimit 4 bytes.now }
     requires cut { 0 < cut }
@@ -83,7 +83,7 @@ fn texts_have_their_constructs(rt: HostRuntime) -> Result<(), AllocError> {
     Ok(())
 }
 
-/// Each byte alone is a line ending or data.
+/// Each single byte is a line ending or data.
 #[test]
 fn any_byte_is_text(rt: HostRuntime) -> Result<(), AllocError> {
     for byte in 0..=255u8 {

@@ -1,4 +1,4 @@
-//! Calls that take memory succeed where there is some.
+//! Calls that take memory succeed if there is memory.
 
 ghost use Rattle.std.specs.Prelude.{◌+◌, ◌*◌, ◌^◌, ◌<◌, length};
 
@@ -63,7 +63,7 @@ fn register(text: &mut String, t: &mut Tokenizer<Types>) -> Result<(), AllocErro
     writeln!(text, "; in order: {in_order}")
 }
 
-/// Spans begin in one another, so many: appends how many are open then.
+/// Begins `count` nested spans, and appends how many are open then.
 fn go_deep(text: &mut String, t: &mut Tokenizer<Types>, count: usize) -> Result<(), AllocError> {
     for _ in 0..count {
         t.enter(Name::BlockQuote)?;
@@ -92,7 +92,7 @@ fn begun(
     pushed
 }
 
-/// Spans and choices begin, and resolvers stand once, in order.
+/// Spans and choices begin, and each resolver is registered once, in order.
 #[test]
 fn spans_choices_and_resolvers_begin(rt: HostRuntime) -> Result<(), AllocError> {
     let options = ParseOptions::default();

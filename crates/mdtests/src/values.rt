@@ -118,7 +118,7 @@ fn push_label(text: &mut String, label: &Option<OwnedText>) -> Result<(), AllocE
     }
 }
 
-/// What is told apart in options for a document in HTML: line ending, flags, and each text.
+/// The options for HTML as a text: line ending, flags, and each text.
 fn told(alloc: Global, options: &CompileOptions) -> Result<String, AllocError> {
     let ending = options.default_line_ending;
     let html = options.allow_dangerous_html;
@@ -132,7 +132,7 @@ fn told(alloc: Global, options: &CompileOptions) -> Result<String, AllocError> {
     Ok(text)
 }
 
-/// What is told apart in a clone of options.
+/// A clone of options as a text.
 fn copy_told(alloc: Global, options: &CompileOptions) -> Result<String, AllocError> {
     told(alloc, &options.try_clone(alloc)?)
 }

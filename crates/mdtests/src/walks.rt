@@ -1,4 +1,4 @@
-//! Walks over small lists of events, and links in them, with answers worked by hand.
+//! Walks over small lists of events, and links in them, with expected results worked by hand.
 
 ghost use Rattle.std.specs.Prelude.{◌≡◌, [], ◌∷◌, take, Any};
 ghost use Rattle.markdown.specs.Events.{IsBalanced};
@@ -49,7 +49,7 @@ pub(crate) fn white_space_and_data() -> [Event; 4]
     ]
 }
 
-/// A line ending alone.
+/// A single line ending.
 fn line_ending() -> [Event; 2]
     ensures { IsBalanced result }
 {

@@ -4,7 +4,7 @@ use Rattle.markdown.specs.declared.event.Event.{Event}
 use Rattle.markdown.specs.Events.{EndsBelow}
 use Rattle.mdtests.proofs.division.has_ends_within.Goals as goal
 
--- inside a list it does not matter what stands for a missing element
+-- inside a list the default for a missing element does not matter
 any-default : (es : List Event) (k : ℕ) (d e : Event) → k < length es → get_or es k d ≡ get_or es k e
 any-default [] k d e h = absurd (omega arith)
 any-default (x ∷ es) zero d e h = refl

@@ -2,6 +2,6 @@ use Rattle.std.proofs.Common.{◌-◌, ◌*◌}
 use Rattle.markdown.specs.Edits.{AreDisjoint}
 use Rattle.mdtests.proofs.edit_map.chain_edited.Given as goal
 
--- the edits so far stand at the last spans
+-- the edits so far are at the last spans
 abbrev pub invariant-loop-step : goal.invariant-loop-step
 invariant-loop-step l = AreDisjoint (200 - 2 * l.step) l.map 200
