@@ -1,8 +1,8 @@
 //! Measures the edit map: `bench/run.sh` counts the instructions of its runs.
 //!
-//! Standard input has one byte for each span of a list of linked spans, and an edit for each span puts two events in front of
-//! it. If the first byte is `d` the edits are made at descending indices, and else at ascending ones. The number of events
-//! afterwards is printed.
+//! Standard input has one byte for each span of a list of linked spans. For each span there is an edit that puts two events
+//! before it. If the first byte is `d`, the edits are made at descending indices, and else at ascending ones. Prints the
+//! number of events afterwards.
 #![tactic(auto)]
 
 ghost use Rattle.std.specs.Prelude.{◌≡◌, ◌+◌, ◌*◌, ◌^◌, ◌<◌, length, All, None, IfOk, IfSome};
@@ -43,7 +43,7 @@ fn enter_before(k: usize) -> Option<usize>
     if k > 0 { Some(2 * k - 2) } else { None }
 }
 
-/// The enter of the span behind span `k`, of so many.
+/// The enter of the span after span `k`, of `count` spans.
 fn enter_behind(k: usize, count: usize) -> Option<usize>
     requires fits { 2 * count < 2 ^ 64 }
     requires inside { k < count }
@@ -52,7 +52,7 @@ fn enter_behind(k: usize, count: usize) -> Option<usize>
     if k + 1 < count { Some(2 * k + 2) } else { None }
 }
 
-/// The enter of span `k`, of so many, which is linked to those before and behind it.
+/// The enter of span `k`, of `count` spans. It is linked to the spans before and after it.
 fn linked_enter(k: usize, count: usize) -> Event
     requires fits { 2 * count < 2 ^ 64 }
     requires inside { k < count }
@@ -69,7 +69,7 @@ fn linked_enter(k: usize, count: usize) -> Event
     }
 }
 
-/// So many spans in one chain.
+/// `count` spans in one chain.
 fn chain(alloc: Global, count: usize) -> Result<Vec<Event>, AllocError>
     requires { 2 * count < 2 ^ 64 }
     ensures len { IfOk result (λ v. length v.items ≡ 2 * count) }
@@ -83,7 +83,7 @@ fn chain(alloc: Global, count: usize) -> Result<Vec<Event>, AllocError>
     Ok(events)
 }
 
-/// The span that is edited at a step, of so many.
+/// The span that is edited at a step, of `count` spans.
 fn span_at(step: usize, count: usize, descending: bool) -> usize
     requires { step < count }
     ensures { result < count }
@@ -91,7 +91,7 @@ fn span_at(step: usize, count: usize, descending: bool) -> usize
     if descending { count - 1 - step } else { step }
 }
 
-/// An edit in front of each span, from the first to the last, or from the last to the first.
+/// An edit before each span, from the first to the last, or from the last to the first.
 fn edits(alloc: Global, count: usize, descending: bool) -> Result<EditMap, AllocError>
     requires { 2 * count < 2 ^ 64 }
     ensures { IfOk result (λ map. AreDisjoint 0 map (2 * count)) }
@@ -105,7 +105,7 @@ fn edits(alloc: Global, count: usize, descending: bool) -> Result<EditMap, Alloc
     Ok(map)
 }
 
-/// The number of events of a chain of so many spans, once its edits are made.
+/// The number of events of a chain of `count` spans, after its edits.
 fn edited(alloc: Global, count: usize, descending: bool) -> Result<usize, AllocError> {
     if count >= usize::MAX / 2 {
         return Err(AllocError);

@@ -2,6 +2,6 @@ use Rattle.std.proofs.Common.{◌*◌}
 use Rattle.mdbench.proofs.Insertions.{AreInsertions}
 use Rattle.mdbench.proofs.edits.Given as goal
 
--- the edits so far remove nothing, and stand in the list
+-- the edits so far remove nothing, and are in the list
 abbrev pub invariant-loop-step : goal.invariant-loop-step
 invariant-loop-step l = AreInsertions 0 l.map (2 * l.count)
