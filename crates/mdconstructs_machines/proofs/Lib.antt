@@ -1,4 +1,6 @@
 -- The proof of each function is in a folder of its own, by its module.
+pub mod LineExamples
+pub mod LineReads
 pub mod Mapped
 pub mod RowSteps
 pub mod NoRefusals

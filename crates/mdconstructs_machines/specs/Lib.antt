@@ -2,12 +2,16 @@ pub mod Costs
 pub mod Back
 pub mod Deep
 pub mod Fail
+pub mod Innermost
+pub mod LineEvents
 pub mod Lines
 pub mod Messages
 pub mod Paragraphs
 pub mod Peek
+pub mod ReadAs
 pub mod Reading
 pub mod Save
+pub mod Spans
 pub mod Tables
 pub mod Unfit
 pub mod Words

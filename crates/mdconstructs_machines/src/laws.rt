@@ -1,13 +1,21 @@
 //! Laws about the machines. Each is a function that does nothing; its contract is the law.
 
-ghost use Rattle.std.specs.Prelude.{◌≡◌, ◌+◌, ◌-◌, ◌*◌, ◌/◌, [], ◌∷◌, Some, None};
+ghost use Rattle.std.specs.Prelude.{◌≡◌, ◌+◌, ◌-◌, ◌*◌, ◌/◌, [], ◌∷◌, List, Some, None, false};
+ghost use Rattle.markdown_base.specs.declared.event.Event.{Event};
 ghost use Rattle.markdown_base.specs.declared.state.TheConstants.Name.{FlowStart, ParagraphInside, TextStart, StringStart};
+ghost use Rattle.markdown_base.specs.Virtual.{virtual};
+ghost use Rattle.markdown_tokenizer.specs.declared.subtokenize.Subresult.{Subresult};
+ghost use Rattle.markdown_tokenizer.specs.Engine.{IsRun};
+ghost use Rattle.markdown_tokenizer.specs.Text.{Given, IsDocument};
 ghost use Rattle.mdconstructs_tables.specs.Fitting.{IsFit};
 ghost use Rattle.mdconstructs_tables.specs.Misfits.{act, spans, choice, answer, unpaid, start, misfits};
 ghost use Rattle.mdconstructs_tables.specs.PlainTables.{IsPlainTable};
 ghost use Rattle.mdconstructs_tables.specs.PlainWrites.{WritesPlain};
 ghost use Rattle.mdconstructs_tables.specs.Refusals.{RulesRefuseNothing};
 ghost use Rattle.mdconstructs_machines.specs.Costs.{StartsAt, StartsAmong};
+ghost use Rattle.mdconstructs_machines.specs.Innermost.{AccountFor};
+ghost use Rattle.mdconstructs_machines.specs.LineEvents.{line_events, data_events, save_events, back_events};
+ghost use Rattle.mdconstructs_machines.specs.ReadAs.{IsReadAs};
 ghost use Rattle.mdconstructs_machines.specs.Tables.{line_ending, other};
 ghost use Rattle.mdconstructs_machines.specs.Unfit.{lines_with, consumes_twice, enters_no_data, gives_up, consumes_nothing, unpaid_lines, starts_inside, uncounted_lines, editing};
 ghost use Rattle.mdconstructs_machines.specs.Lines.{lines_rules};
@@ -44,6 +52,21 @@ pub fn no_document_is_refused()
     ensures deep { RulesRefuseNothing deep_rules }
     ensures back { RulesRefuseNothing back_rules }
     ensures save { RulesRefuseNothing save_rules }
+{}
+
+/// What these machines read of each document is said by definitions without states: each line, or each line but the first, as data;
+/// or the first line and all the rest.
+pub fn documents_are_read_by_lines()
+    ensures lines { IsReadAs lines_rules FlowStart line_events }
+    ensures peek { IsReadAs peek_rules TextStart data_events }
+    ensures deep { IsReadAs deep_rules StringStart data_events }
+    ensures save { IsReadAs save_rules TextStart save_events }
+    ensures back { IsReadAs back_rules TextStart back_events }
+{}
+
+/// Each virtual byte of a document stands in exactly one innermost span of what `Lines` reads: its tokens account for the document.
+pub fn innermost_spans_account_for_documents()
+    ensures { (g : Given) (events : List Event) (sub : Subresult) → IsDocument g → IsRun g lines_rules false FlowStart events sub → AccountFor events g.bytes (virtual g.tab g.bytes) }
 {}
 
 /// The test of a table names each state that does not fit, with the reason. The tables here are the table of lines with

@@ -1,0 +1,13 @@
+-- What machines read line by line.
+pub mod Accounts
+pub mod Back
+pub mod Data
+pub mod Deep
+pub mod Events
+pub mod Lines
+pub mod Looks
+pub mod Peek
+pub mod Reads
+pub mod Rows
+pub mod Save
+pub mod Steps

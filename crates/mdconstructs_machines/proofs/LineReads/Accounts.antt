@@ -1,0 +1,71 @@
+-- What lines are read as accounts for each virtual byte.
+use Rattle.std.proofs.Common.{◌≡◌, ℕ, ◌∷◌, ◌++◌, [], List, true, false, cond, not, refl, sym, ◌∙◌, ap, subst}
+use Rattle.std.specs.List.{flat_map}
+use Rattle.std.proofs.lemmas.List.{append_assoc}
+use Rattle.markdown_base.specs.declared.event.Event.{Event}
+use Rattle.markdown_base.specs.declared.event.Name.{Name}
+use Rattle.markdown_base.specs.declared.event.Name.TheVariants.{Paragraph, Data, LineEnding}
+use Rattle.markdown_base.specs.declared.state.TheConstants.Name.{FlowStart}
+use Rattle.markdown_base.specs.Virtual.{Seat, virtual}
+use Rattle.markdown_tokenizer.specs.declared.subtokenize.Subresult.{Subresult}
+use Rattle.markdown_tokenizer.specs.Engine.{IsRun}
+use Rattle.markdown_tokenizer.specs.Text.{Given, IsDocument}
+use Rattle.mdconstructs_machines.specs.Innermost.{span_over, AccountFor}
+use Rattle.mdconstructs_machines.specs.LineEvents.{is_line_ending, joined, lines_in, line_text, ending_of, paragraph_line, line_events}
+use Rattle.mdconstructs_machines.specs.Lines.{lines_rules}
+use Rattle.mdconstructs_machines.specs.Spans.{span, leaf}
+use Rattle.mdconstructs_machines.proofs.LineReads.Lines.{lines-read}
+
+-- what stands in a line, and its ending
+abbrev both : List Seat → List Seat
+both line = line_text line ++ ending_of line
+
+joined-both : (s : Seat) (lines : List (List Seat)) → is_line_ending s ≡ false → flat_map both (joined s lines) ≡ s ∷ flat_map both lines
+joined-both s [] e = ap (λ b. (cond (not b) (s ∷ []) [] ++ cond b (s ∷ []) []) ++ []) e
+joined-both s (line ∷ lines) e = ap (λ b. (cond (not b) (s ∷ line_text line) (line_text line) ++ cond b (s ∷ ending_of line) (ending_of line)) ++ flat_map both lines) e
+
+-- the lines are all there is
+lines-are-all : (l : List Seat) → flat_map both (lines_in l) ≡ l
+lines-are-all [] = refl
+lines-are-all (s ∷ ss) = elim (is_line_ending s) as (λ t. is_line_ending s ≡ t → flat_map both (cond t ((s ∷ []) ∷ lines_in ss) (joined s (lines_in ss))) ≡ s ∷ ss) [
+  | true ↦ λ e. ap (λ b. (cond (not b) (s ∷ []) [] ++ cond b (s ∷ []) []) ++ flat_map both (lines_in ss)) e ∙ ap (λ l. s ∷ l) (lines-are-all ss)
+  | false ↦ λ e. joined-both s (lines_in ss) e ∙ ap (λ l. s ∷ l) (lines-are-all ss)
+] refl
+
+module _ (bytes : List ℕ) where
+  -- one more span with nothing in it
+  pub leaf-more : (name : Name) (l : List Seat) (events : List Event) (seats : List Seat) → AccountFor events bytes seats → AccountFor (leaf bytes name l ++ events) bytes (l ++ seats)
+  leaf-more name [] events seats h = h
+  leaf-more name (s ∷ ss) events seats h = record {
+    stretches = (s, ss) ∷ h.stretches;
+    are_all = ap (λ l. s ∷ (ss ++ l)) h.are_all;
+    are_innermost = ap (λ l. span_over bytes (s, ss) ∷ l) h.are_innermost;
+  }
+
+  -- a paragraph of data
+  paragraph-more : (l : List Seat) (events : List Event) (seats : List Seat) → AccountFor events bytes seats → AccountFor (span bytes Paragraph l (leaf bytes Data l) ++ events) bytes (l ++ seats)
+  paragraph-more [] events seats h = h
+  paragraph-more (s ∷ ss) events seats h = record {
+    stretches = (s, ss) ∷ h.stretches;
+    are_all = ap (λ l. s ∷ (ss ++ l)) h.are_all;
+    are_innermost = ap (λ l. span_over bytes (s, ss) ∷ l) h.are_innermost;
+  }
+
+  lines-account : (lines : List (List Seat)) → AccountFor (flat_map (paragraph_line bytes) lines) bytes (flat_map both lines)
+  lines-account [] = record { stretches = []; are_all = refl; are_innermost = refl }
+  lines-account (line ∷ lines) =
+      let t = line_text line in
+      let e = ending_of line in
+      let events = flat_map (paragraph_line bytes) lines in
+      let seats = flat_map both lines in
+      let more = paragraph-more t (leaf bytes LineEnding e ++ events) (e ++ seats) (leaf-more LineEnding e events seats (lines-account lines)) in
+      subst (λ es. AccountFor es bytes ((t ++ e) ++ seats)) (sym (append_assoc (span bytes Paragraph t (leaf bytes Data t)) (leaf bytes LineEnding e) events))
+      (subst (AccountFor (span bytes Paragraph t (leaf bytes Data t) ++ (leaf bytes LineEnding e ++ events)) bytes) (sym (append_assoc t e seats)) more)
+
+  pub events-account : (l : List Seat) → AccountFor (line_events bytes l) bytes l
+  events-account l = subst (AccountFor (line_events bytes l) bytes) (lines-are-all l) (lines-account (lines_in l))
+
+pub documents-account : (g : Given) (events : List Event) (sub : Subresult) → IsDocument g → IsRun g lines_rules false FlowStart events sub → AccountFor events g.bytes (virtual g.tab g.bytes)
+documents-account g events sub document run =
+    let seats = virtual g.tab g.bytes in
+    subst (λ es. AccountFor es g.bytes seats) (sym (lines-read g events sub document run)) (events-account g.bytes seats)

@@ -1,0 +1,93 @@
+-- The machine that tries something at every byte fails each time, and then reads data.
+use Rattle.std.proofs.Common.{◌≡◌, ℕ, ◌+◌, ◌∷◌, [], List, Bool, true, false, refl, ◌∙◌, ap, Some, None, drop, slice_get}
+use Rattle.markdown_base.proofs.Common.{drop-next}
+use Rattle.markdown_base.specs.declared.event.Event.{Event}
+use Rattle.markdown_base.specs.declared.state.Name.{Name}
+use Rattle.markdown_base.specs.declared.state.State.TheVariants.{Next, Retry}
+use Rattle.markdown_base.specs.declared.state.TheConstants.Name.{StringStart, StringBefore, DataStart}
+use Rattle.markdown_base.specs.Virtual.{Seat}
+use Rattle.markdown_tokenizer.specs.declared.waiting.AttemptKind.TheVariants.{Attempt}
+use Rattle.markdown_tokenizer.specs.declared.waiting.Waits.TheVariants.{Byte, End}
+use Rattle.markdown_tokenizer.specs.Text.{Given, Text}
+use Rattle.markdown_tokenizer.specs.Configuration.{Configuration, Local, Choice, Step, start_configuration}
+use Rattle.markdown_tokenizer.specs.Sight.{Sight, byte_of, seat_before}
+use Rattle.markdown_tokenizer.specs.Engine.{whole_text}
+use Rattle.mdconstructs_tables.specs.Rows.{class_of}
+use Rattle.mdconstructs_machines.specs.Deep.{deep_rules, string_start_rows, string_before_rows}
+use Rattle.mdconstructs_machines.specs.LineEvents.{data_events}
+use Rattle.mdconstructs_machines.specs.ReadAs.{IsReadAs}
+use Rattle.mdconstructs_machines.specs.Tables.{line_byte, counts}
+use Rattle.mdconstructs_machines.proofs.LineReads.Data.{ReadsData, data-read}
+use Rattle.mdconstructs_machines.proofs.LineReads.Looks.{Passes, FailsAtEnd, FailsTo, goes-back, looks-on, seat-behind}
+use Rattle.mdconstructs_machines.proofs.LineReads.Rows.{HasRows, leads-row, row_step, waits_class}
+use Rattle.mdconstructs_machines.proofs.LineReads.Steps.{EndsWith, held, shows, ended, goes-next, reads-as, leads-step, at-front}
+
+module _ (g : Given) (text : Text) where
+  abbrev step : Sight → Configuration Unit Unit → Name → Step Unit Unit
+  step = (deep_rules g).step
+
+  reads-data : ReadsData g text step
+  reads-data = record { start = λ k. refl; inside = λ k. refl }
+
+  start-rows : HasRows g text step StringStart string_start_rows
+  start-rows k = refl
+
+  again-rows : HasRows g text step StringBefore string_before_rows
+  again-rows k = refl
+
+  passes : Passes g text step StringBefore []
+  passes p b events local cs s at es h =
+      leads-row g text step StringBefore string_before_rows again-rows (held [] p Byte b events local) cs (Some (line_byte s.byte)) (ap (λ o. class_of line_byte (byte_of o)) at) es h
+
+  fails : FailsAtEnd g text step StringBefore []
+  fails p events local cs es h = leads-row g text step StringBefore string_before_rows again-rows (held [] p End true events local) cs None refl es h
+
+  -- the class of the byte at a position, and of the one before
+  class-at : (p : ℕ) (s : Seat) → slice_get text.seats p ≡ Some s → class_of line_byte (byte_of (slice_get text.seats p)) ≡ Some (line_byte s.byte)
+  class-at p s at = ap (λ o. class_of line_byte (byte_of o)) at
+
+  class-before : (p : ℕ) (r : Seat) → seat_before text p ≡ Some r → class_of line_byte (byte_of (seat_before text p)) ≡ Some (line_byte r.byte)
+  class-before p r behind = ap (λ o. class_of line_byte (byte_of o)) behind
+
+  -- from a byte on that is not the first, whatever waits
+  tries : (l : List Seat) (p : ℕ) (b : Bool) (local : Local Unit Unit) (r : Seat) → drop p text.seats ≡ l → seat_before text p ≡ Some r
+      → (cs : List Choice) (all : List Event) → FailsTo g text step cs [] all → EndsWith g text step (shows l [] p b [] local) cs (Retry StringStart) all
+  tries [] p b local r here behind cs all back =
+      let k = held [] p End true [] local in
+      leads-step g text step k cs StringStart (row_step g text k (string_start_rows (Some (line_byte r.byte)) None))
+      (start-rows k ∙ ap (λ c. row_step g text k (string_start_rows c None)) (class-before p r behind)) all
+      (back (held [] p End true [] (counts local)) refl)
+  tries (s ∷ ss) p b local r here behind cs all back =
+      let k = held [] p Byte b [] local in
+      let at = at-front text.seats p s ss here in
+      let next = drop-next text.seats p s ss here in
+      leads-step g text step k cs StringStart (row_step g text k (string_start_rows (Some (line_byte r.byte)) (Some (line_byte s.byte))))
+      (start-rows k ∙ ap (λ c. row_step g text k (string_start_rows c (waits_class g text k))) (class-before p r behind)
+      ∙ ap (λ c. row_step g text k (string_start_rows (Some (line_byte r.byte)) c)) (class-at p s at)) all
+      (goes-next g text step ss [] (p + 1) false [] (counts local) _ StringStart next all
+      (tries ss (p + 1) false (counts local) s next (seat-behind text p s at) _ all
+      (goes-back g text step Attempt (Next StringBefore) StringBefore p b 0 [] cs [] all
+      (λ local. goes-next g text step (s ∷ ss) [] p b [] local cs StringBefore here all (looks-on g text step StringBefore [] passes fails cs [] all back (s ∷ ss) p b local here)))))
+
+  -- from the start
+  from-start : (l : List Seat) (local : Local Unit Unit) → drop 0 text.seats ≡ l → EndsWith g text step (shows l [] 0 false [] local) [] (Retry StringStart) (data_events g.bytes l)
+  from-start [] local here =
+      let k = held [] 0 End true [] local in
+      leads-step g text step k [] StringStart (row_step g text k (string_start_rows None None)) (start-rows k) [] (ended g text step (held [] 0 End true [] (counts local)))
+  from-start (s ∷ ss) local here =
+      let k = held [] 0 Byte false [] local in
+      let all = data_events g.bytes (s ∷ ss) in
+      let at = at-front text.seats 0 s ss here in
+      let next = drop-next text.seats 0 s ss here in
+      leads-step g text step k [] StringStart (row_step g text k (string_start_rows None (Some (line_byte s.byte))))
+      (start-rows k ∙ ap (λ c. row_step g text k (string_start_rows None c)) (class-at 0 s at)) all
+      (goes-next g text step ss [] (0 + 1) false [] (counts local) _ StringStart next all
+      (tries ss (0 + 1) false (counts local) s next (seat-behind text 0 s at) _ all
+      (goes-back g text step Attempt (Next DataStart) DataStart 0 false 0 [] [] [] all
+      (λ local. data-read g text step reads-data (s ∷ ss) 0 false [] local here))))
+
+pub deep-reads : IsReadAs deep_rules StringStart data_events
+deep-reads = reads-as deep_rules StringStart data_events (λ g.
+    let text = whole_text g in
+    let k : Configuration Unit Unit = start_configuration false in
+    goes-next g text (deep_rules g).step text.seats [] 0 false [] k.local [] StringStart refl (data_events g.bytes text.seats) (from-start g text text.seats k.local refl))

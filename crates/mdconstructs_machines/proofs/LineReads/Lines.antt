@@ -1,0 +1,83 @@
+-- The machine of lines reads each line as a paragraph of data.
+use Rattle.std.proofs.Common.{◌≡◌, ℕ, ◌+◌, ◌∷◌, ◌++◌, [], List, true, false, refl, sym, ◌∙◌, ap, subst, Some, None, slice_get}
+use Rattle.markdown_base.specs.declared.event.Event.{Event}
+use Rattle.markdown_base.specs.declared.event.Kind.TheVariants.{Enter, Exit}
+use Rattle.markdown_base.specs.declared.event.Name.{Name as EventName}
+use Rattle.markdown_base.specs.declared.event.Name.TheVariants.{Paragraph, Data, LineEnding}
+use Rattle.markdown_base.specs.declared.event.Point.{Point}
+use Rattle.markdown_base.specs.declared.state.Name.{Name}
+use Rattle.markdown_base.specs.declared.state.State.TheVariants.{Next, Retry, Ok}
+use Rattle.markdown_base.specs.declared.state.TheConstants.Name.{FlowStart, ParagraphInside}
+use Rattle.markdown_base.specs.Virtual.{Seat}
+use Rattle.markdown_tokenizer.specs.declared.waiting.Waits.TheVariants.{Nothing, Byte, End}
+use Rattle.markdown_tokenizer.specs.Text.{Given, Text}
+use Rattle.markdown_tokenizer.specs.Configuration.{Configuration, Step, start_configuration}
+use Rattle.markdown_tokenizer.specs.Sight.{Sight, point_or}
+use Rattle.markdown_tokenizer.specs.Engine.{whole_text}
+use Rattle.mdconstructs_machines.specs.LineEvents.{line_events}
+use Rattle.mdconstructs_machines.specs.Lines.{lines_rules, flow_start_rows, paragraph_inside_rows}
+use Rattle.mdconstructs_machines.specs.ReadAs.{IsReadAs}
+use Rattle.mdconstructs_machines.specs.Spans.{event, span, leaf}
+use Rattle.mdconstructs_machines.specs.Tables.{line_ending, other, counts}
+use Rattle.mdconstructs_machines.proofs.LineReads.Events.{IsWritten}
+use Rattle.mdconstructs_machines.proofs.LineReads.Reads.{ReadsLines, from-start}
+use Rattle.mdconstructs_machines.proofs.LineReads.Rows.{HasRows, leads-row, is-class, line-ending-read, two}
+use Rattle.mdconstructs_machines.proofs.LineReads.Steps.{EndsWith, held, goes-next, reads-as}
+
+module _ (g : Given) (text : Text) where
+  abbrev step : Sight → Configuration Unit Unit → Name → Step Unit Unit
+  step = (lines_rules g).step
+
+  start-rows : HasRows g text step FlowStart flow_start_rows
+  start-rows k = refl
+
+  inside-rows : HasRows g text step ParagraphInside paragraph_inside_rows
+  inside-rows k = refl
+
+  -- the spans of a line
+  abbrev in_line : List EventName
+  in_line = Paragraph ∷ Data ∷ []
+
+  -- a paragraph of data begins and ends with these events
+  abbrev opening : Point → List Event
+  opening place = event g.bytes Enter Paragraph place ∷ event g.bytes Enter Data place ∷ []
+
+  abbrev closing : Point → List Event
+  closing place = event g.bytes Exit Data place ∷ event g.bytes Exit Paragraph place ∷ []
+
+  abbrev over : List Seat → List Event
+  over seats = span g.bytes Paragraph seats (leaf g.bytes Data seats)
+
+  written : IsWritten over (leaf g.bytes LineEnding) opening closing
+  written = record { none = refl; none_ends = refl; some = λ s ss. refl }
+
+  opened : (p : ℕ) (s : Seat) (events : List Event) → slice_get text.seats p ≡ Some s
+      → events ++ opening s.point
+      ≡ (events ++ event g.bytes Enter Paragraph (point_or text.end (slice_get text.seats p)) ∷ []) ++ event g.bytes Enter Data (point_or text.end (slice_get text.seats p)) ∷ []
+  opened p s events at = ap (λ o. events ++ opening (point_or text.end o)) (sym at) ∙ sym (two events _ _)
+
+  reads-lines : ReadsLines g text step FlowStart ParagraphInside in_line opening closing
+  reads-lines = record {
+    at_end = λ p events local es h. leads-row g text step FlowStart flow_start_rows start-rows (held [] p End true events local) [] None refl es h;
+    at_ending = λ p b events local s at e es h.
+        leads-row g text step FlowStart flow_start_rows start-rows (held [] p Byte b events local) [] (Some line_ending) (is-class g text p s true at e) es
+        (subst (λ l. EndsWith g text step (held [] (p + 1) Nothing false l (counts local)) [] (Next FlowStart) es) (sym (line-ending-read g text events p s at)) h);
+    begins = λ p b events local s at e es h.
+        leads-row g text step FlowStart flow_start_rows start-rows (held [] p Byte b events local) [] (Some other) (is-class g text p s false at e) es
+        (subst (λ l. EndsWith g text step (held in_line p Byte b l (counts local)) [] (Retry ParagraphInside) es) (opened p s events at) h);
+    ends_at_end = λ p events local es h.
+        leads-row g text step ParagraphInside paragraph_inside_rows inside-rows (held in_line p End true events local) [] None refl es
+        (subst (λ l. EndsWith g text step (held [] p End true l (counts local)) [] Ok es) (sym (two events _ _)) h);
+    ends_at_ending = λ p b events local s at e es h.
+        leads-row g text step ParagraphInside paragraph_inside_rows inside-rows (held in_line p Byte b events local) [] (Some line_ending) (is-class g text p s true at e) es
+        (subst (λ l. EndsWith g text step (held [] p Byte b l (counts local)) [] (Retry FlowStart) es) (sym (two events _ _)) h);
+    goes_on = λ p b events local s at e es h.
+        leads-row g text step ParagraphInside paragraph_inside_rows inside-rows (held in_line p Byte b events local) [] (Some other) (is-class g text p s false at e) es h;
+  }
+
+pub lines-read : IsReadAs lines_rules FlowStart line_events
+lines-read = reads-as lines_rules FlowStart line_events (λ g.
+    let text = whole_text g in
+    let k : Configuration Unit Unit = start_configuration false in
+    goes-next g text (lines_rules g).step text.seats [] 0 false [] k.local [] FlowStart refl (line_events g.bytes text.seats)
+    (from-start g text (lines_rules g).step FlowStart ParagraphInside (in_line g text) (opening g text) (closing g text) (reads-lines g text) (over g text) (written g text) text.seats 0 false [] k.local refl))

@@ -1,0 +1,123 @@
+-- A machine that reads each line between two states: what it reads from there on.
+use Rattle.std.proofs.Common.{◌≡◌, ℕ, suc, ◌+◌, ◌∷◌, ◌++◌, [], List, Bool, true, false, refl, sym, ◌∙◌, ap, subst, Some, arith, drop, slice_get}
+use Rattle.std.proofs.lemmas.List.{append_assoc, append-nil}
+use Rattle.markdown_base.proofs.Common.{drop-next}
+use Rattle.markdown_base.specs.declared.event.Event.{Event}
+use Rattle.markdown_base.specs.declared.event.Name.{Name as EventName}
+use Rattle.markdown_base.specs.declared.event.Name.TheVariants.{LineEnding}
+use Rattle.markdown_base.specs.declared.event.Point.{Point}
+use Rattle.markdown_base.specs.declared.state.Name.{Name}
+use Rattle.markdown_base.specs.declared.state.State.TheVariants.{Next, Retry, Ok}
+use Rattle.markdown_base.specs.Virtual.{Seat}
+use Rattle.markdown_tokenizer.specs.declared.waiting.Waits.TheVariants.{Nothing, Byte, End}
+use Rattle.markdown_tokenizer.specs.Text.{Given, Text}
+use Rattle.markdown_tokenizer.specs.Configuration.{Configuration, Local, Step}
+use Rattle.markdown_tokenizer.specs.Sight.{Sight, end_place, end_or}
+use Rattle.mdconstructs_machines.specs.LineEvents.{is_line_ending, lines_in}
+use Rattle.mdconstructs_machines.specs.Spans.{leaf}
+use Rattle.mdconstructs_machines.specs.Tables.{counts}
+use Rattle.mdconstructs_machines.proofs.LineReads.Events.{IsWritten, of_lines, rest_of, at-ending, rest-ending, at-other, rest-other}
+use Rattle.mdconstructs_machines.proofs.LineReads.Steps.{EndsWith, Leads, ended, held, shows, goes-next, at-front}
+
+module _ (g : Given) (text : Text) (step : Sight → Configuration Unit Unit → Name → Step Unit Unit) (start inside : Name) (stack : List EventName) (opening closing : Point → List Event) where
+  -- What the two states do: before a line, and in it, at the end, at a line ending and at another byte
+  pub record ReadsLines : Type 0 where
+    pub at_end : (p : ℕ) (events : List Event) (local : Local Unit Unit)
+        → Leads g text step (held [] p End true events local) [] (Retry start) (held [] p End true events (counts local)) [] Ok
+    pub at_ending : (p : ℕ) (b : Bool) (events : List Event) (local : Local Unit Unit) (s : Seat) → slice_get text.seats p ≡ Some s → is_line_ending s ≡ true
+        → Leads g text step (held [] p Byte b events local) [] (Retry start) (held [] (p + 1) Nothing false (events ++ leaf g.bytes LineEnding (s ∷ [])) (counts local)) [] (Next start)
+    pub begins : (p : ℕ) (b : Bool) (events : List Event) (local : Local Unit Unit) (s : Seat) → slice_get text.seats p ≡ Some s → is_line_ending s ≡ false
+        → Leads g text step (held [] p Byte b events local) [] (Retry start) (held stack p Byte b (events ++ opening s.point) (counts local)) [] (Retry inside)
+    pub ends_at_end : (p : ℕ) (events : List Event) (local : Local Unit Unit)
+        → Leads g text step (held stack p End true events local) [] (Retry inside) (held [] p End true (events ++ closing (end_place text p)) (counts local)) [] Ok
+    pub ends_at_ending : (p : ℕ) (b : Bool) (events : List Event) (local : Local Unit Unit) (s : Seat) → slice_get text.seats p ≡ Some s → is_line_ending s ≡ true
+        → Leads g text step (held stack p Byte b events local) [] (Retry inside) (held [] p Byte b (events ++ closing (end_place text p)) (counts local)) [] (Retry start)
+    pub goes_on : (p : ℕ) (b : Bool) (events : List Event) (local : Local Unit Unit) (s : Seat) → slice_get text.seats p ≡ Some s → is_line_ending s ≡ false
+        → Leads g text step (held stack p Byte b events local) [] (Retry inside) (held stack (p + 1) Nothing false events (counts local)) [] (Next inside)
+
+  module _ (reads : ReadsLines) (over : List Seat → List Event) (is : IsWritten over (leaf g.bytes LineEnding) opening closing) where
+    abbrev all : List Seat → List Event
+    all l = of_lines over (leaf g.bytes LineEnding) opening closing (lines_in l)
+
+    abbrev rest : Point → List Seat → List Event
+    rest place l = rest_of over (leaf g.bytes LineEnding) opening closing place (lines_in l)
+
+    -- what is read of the virtual bytes that are left, before a line and in it
+    abbrev pub FromStart : List Seat → Type 0
+    FromStart l = (p : ℕ) (b : Bool) (events : List Event) (local : Local Unit Unit) → drop p text.seats ≡ l
+        → EndsWith g text step (shows l [] p b events local) [] (Retry start) (events ++ all l)
+
+    abbrev FromInside : List Seat → Type 0
+    FromInside l = (p : ℕ) (b : Bool) (events : List Event) (local : Local Unit Unit) → drop p text.seats ≡ l
+        → EndsWith g text step (shows l stack p b events local) [] (Retry inside) (events ++ rest (end_place text p) l)
+
+    -- one byte on, the byte before ends where that byte does
+    place-next : (p : ℕ) (s : Seat) → slice_get text.seats p ≡ Some s → end_place text (p + 1) ≡ s.end
+    place-next p s at = let one : p + 1 ≡ suc p = omega arith in ap (end_place text) one ∙ ap (end_or text.start) at
+
+    module _ (s : Seat) (ss : List Seat) (from_start : FromStart ss) (from_inside : FromInside ss) where
+      -- at a line ending
+      start-ending : is_line_ending s ≡ true → FromStart (s ∷ ss)
+      start-ending e p b events local here =
+          let at = at-front text.seats p s ss here in
+          let next = drop-next text.seats p s ss here in
+          let es = events ++ leaf g.bytes LineEnding (s ∷ []) in
+          let same : es ++ all ss ≡ events ++ all (s ∷ ss) = append_assoc events _ _ ∙ ap (λ l. events ++ l) (sym (at-ending over (leaf g.bytes LineEnding) opening closing is s ss e)) in
+          subst (EndsWith g text step (held [] p Byte b events local) [] (Retry start)) same
+          (reads.at_ending p b events local s at e (es ++ all ss)
+          (goes-next g text step ss [] (p + 1) false es (counts local) [] start next (es ++ all ss) (from_start (p + 1) false es (counts local) next)))
+
+      inside-ending : is_line_ending s ≡ true → FromInside (s ∷ ss)
+      inside-ending e p b events local here =
+          let at = at-front text.seats p s ss here in
+          let place = end_place text p in
+          let es = events ++ closing place in
+          let same : es ++ all (s ∷ ss) ≡ events ++ rest place (s ∷ ss) =
+          append_assoc events _ _ ∙ ap (λ l. events ++ l) (sym (rest-ending over (leaf g.bytes LineEnding) opening closing is place s ss e)) in
+          subst (EndsWith g text step (held stack p Byte b events local) [] (Retry inside)) same
+          (reads.ends_at_ending p b events local s at e (es ++ all (s ∷ ss)) (start-ending e p b es (counts local) here))
+
+      -- at another byte
+      inside-other : is_line_ending s ≡ false → FromInside (s ∷ ss)
+      inside-other e p b events local here =
+          let at = at-front text.seats p s ss here in
+          let next = drop-next text.seats p s ss here in
+          let place = end_place text p in
+          let same : rest (end_place text (p + 1)) ss ≡ rest place (s ∷ ss) =
+          ap (λ q. rest q ss) (place-next p s at) ∙ sym (rest-other over (leaf g.bytes LineEnding) opening closing is place s ss e) in
+          subst (λ l. EndsWith g text step (held stack p Byte b events local) [] (Retry inside) (events ++ l)) same
+          (reads.goes_on p b events local s at e (events ++ rest (end_place text (p + 1)) ss)
+          (goes-next g text step ss stack (p + 1) false events (counts local) [] inside next (events ++ rest (end_place text (p + 1)) ss) (from_inside (p + 1) false events (counts local) next)))
+
+      start-other : is_line_ending s ≡ false → FromStart (s ∷ ss)
+      start-other e p b events local here =
+          let at = at-front text.seats p s ss here in
+          let place = end_place text p in
+          let es = events ++ opening s.point in
+          let same : es ++ rest place (s ∷ ss) ≡ events ++ all (s ∷ ss) =
+          append_assoc events _ _
+          ∙ ap (λ l. events ++ (opening s.point ++ l)) (rest-other over (leaf g.bytes LineEnding) opening closing is place s ss e)
+          ∙ ap (λ l. events ++ l) (sym (at-other over (leaf g.bytes LineEnding) opening closing is s ss e)) in
+          subst (EndsWith g text step (held [] p Byte b events local) [] (Retry start)) same
+          (reads.begins p b events local s at e (es ++ rest place (s ∷ ss)) (inside-other e p b es (counts local) here))
+
+    -- from both states, whatever is left
+    from-both : (l : List Seat) → FromStart l × FromInside l
+    from-both [] = (
+      λ p b events local here.
+          let same : events ≡ events ++ [] = sym (append-nil events) in
+          subst (EndsWith g text step (held [] p End true events local) [] (Retry start)) same
+          (reads.at_end p events local events (ended g text step (held [] p End true events (counts local)))),
+      λ p b events local here.
+          let es = events ++ closing (end_place text p) in
+          reads.ends_at_end p events local es (ended g text step (held [] p End true es (counts local))),
+    )
+    from-both (s ∷ ss) =
+        let then = from-both ss in
+        elim (is_line_ending s) as (λ t. is_line_ending s ≡ t → FromStart (s ∷ ss) × FromInside (s ∷ ss)) [
+          | true ↦ λ e. (start-ending s ss then.0 then.1 e, inside-ending s ss then.0 then.1 e)
+          | false ↦ λ e. (start-other s ss then.0 then.1 e, inside-other s ss then.0 then.1 e)
+        ] refl
+
+    pub from-start : (l : List Seat) → FromStart l
+    from-start l = (from-both l).0

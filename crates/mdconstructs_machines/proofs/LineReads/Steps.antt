@@ -1,0 +1,103 @@
+-- How a machine reads on, in small steps: to come to these events it is enough to come to them from further on.
+use Rattle.std.proofs.Common.{◌≡◌, ℕ, zero, suc, ◌+◌, ◌-◌, ◌≤◌, ◌∷◌, ◌++◌, [], List, Bool, true, false, cond, Some, refl, sym, ◌∙◌, ap, subst, arith, length, drop, slice_get}
+use Rattle.std.proofs.lemmas.Bool.{lt-ltb, le-ltb}
+use Rattle.std.proofs.lemmas.List.{length-drop}
+use Rattle.std.proofs.lemmas.Option.{slice_get_within}
+use Rattle.markdown_base.specs.declared.event.Event.{Event}
+use Rattle.markdown_base.specs.declared.event.Name.{Name as EventName}
+use Rattle.markdown_base.specs.declared.state.Name.{Name}
+use Rattle.markdown_base.specs.declared.state.State.{State}
+use Rattle.markdown_base.specs.declared.state.State.TheVariants.{Next, Retry, Ok, Nok}
+use Rattle.markdown_base.specs.Virtual.{Seat, virtual}
+use Rattle.markdown_tokenizer.specs.declared.waiting.Waits.{Waits}
+use Rattle.markdown_tokenizer.specs.declared.waiting.Waits.TheVariants.{Nothing, Byte, End}
+use Rattle.markdown_tokenizer.specs.Text.{Given, Text}
+use Rattle.markdown_tokenizer.specs.Configuration.{Configuration, Local, Choice, Step, start_configuration}
+use Rattle.markdown_tokenizer.specs.Sight.{Sight, sight}
+use Rattle.markdown_tokenizer.specs.Reading.{Reading, EndsIn, fed, settled_at}
+use Rattle.markdown_tokenizer.specs.Rules.{Rules}
+use Rattle.markdown_tokenizer.specs.Engine.{whole_text}
+use Rattle.markdown_tokenizer.proofs.Readings.Bounds.{called-ends, fed-ends, settled-nok-ends, one-end}
+use Rattle.mdconstructs_machines.specs.ReadAs.{IsReadAs}
+
+-- the element at a position
+pub at-front : {X : Type 0} (xs : List X) (p : ℕ) (x : X) (rest : List X) → drop p xs ≡ x ∷ rest → slice_get xs p ≡ Some x
+at-front [] zero x rest h = absurd (cc)
+at-front [] (suc p) x rest h = absurd (cc)
+at-front (y ∷ ys) zero x rest h = let e : y ≡ x = cc in ap Some e
+at-front (y ∷ ys) (suc p) x rest h = at-front ys p x rest h
+
+-- a position with nothing at it is past the end
+past-end : {X : Type 0} (xs : List X) (p : ℕ) → drop p xs ≡ [] → length xs ≤ p
+past-end xs p h = let none : length xs - p ≡ 0 = sym (length-drop p xs) ∙ ap length h in omega (arith, none)
+
+-- a configuration with these spans open
+abbrev pub held : List EventName → ℕ → Waits → Bool → List Event → Local Unit Unit → Configuration Unit Unit
+held stack p waits ended events local = record { position = p; waiting = waits; ended = ended; events = events; stack = stack; local = local }
+
+-- one in which the first of the bytes that are left waits, or the end
+abbrev pub shows : List Seat → List EventName → ℕ → Bool → List Event → Local Unit Unit → Configuration Unit Unit
+shows [] stack p ended events local = held stack p End true events local
+shows (s ∷ ss) stack p ended events local = held stack p Byte ended events local
+
+module _ (g : Given) (text : Text) (step : Sight → Configuration Unit Unit → Name → Step Unit Unit) where
+  -- reading on ends well with these events
+  abbrev pub EndsWith : Configuration Unit Unit → List Choice → State → List Event → Type 0
+  EndsWith k cs s events = (calls : ℕ) → (r : Reading Unit Unit) × (EndsIn g step text calls k cs s r × (r.answer ≡ Ok) × (r.configuration.events ≡ events))
+
+  -- what the second ends with the first does too
+  abbrev pub Leads : (k : Configuration Unit Unit) (cs : List Choice) (s : State) (k' : Configuration Unit Unit) (cs' : List Choice) (s' : State) → Type 0
+  Leads k cs s k' cs' s' = (events : List Event) → EndsWith k' cs' s' events → EndsWith k cs s events
+
+module _ (g : Given) (text : Text) (step : Sight → Configuration Unit Unit → Name → Step Unit Unit) where
+  -- with nothing left to do it ends
+  pub ended : (k : Configuration Unit Unit) → EndsWith g text step k [] Ok k.events
+  ended k calls = (record { configuration = k; answer = Ok; calls = calls }, (record { bound = 0; is = ap (λ n. Some (record { configuration = k; answer = Ok; calls = n })) (omega arith) }, refl, refl))
+
+  -- a call
+  pub leads-called : (k : Configuration Unit Unit) (cs : List Choice) (n : Name)
+      → let s = step (sight g text k) k n in Leads g text step k cs (Retry n) s.configuration (s.choices ++ cs) s.answer
+  leads-called k cs n events h calls =
+      let it = h (calls + 1) in
+      (it.0, ((called-ends g step text calls k cs n it.0).0 it.1.0, it.1.1, it.1.2))
+
+  -- one whose step is known
+  pub leads-step : (k : Configuration Unit Unit) (cs : List Choice) (n : Name) (q : Step Unit Unit) → step (sight g text k) k n ≡ q
+      → Leads g text step k cs (Retry n) q.configuration (q.choices ++ cs) q.answer
+  leads-step k cs n q is events h =
+      leads-called k cs n events (subst (λ (q : Step Unit Unit). EndsWith g text step q.configuration (q.choices ++ cs) q.answer events) (sym is) h)
+
+  -- a byte or the end that is fed
+  pub leads-fed : (k : Configuration Unit Unit) (cs : List Choice) (n : Name) → Leads g text step k cs (Next n) (fed text k) cs (Retry n)
+  leads-fed k cs n events h calls =
+      let it = h calls in
+      (it.0, ((fed-ends g step text calls k cs n it.0).0 it.1.0, it.1.1, it.1.2))
+
+  -- a choice that ends with Nok
+  pub leads-nok : (k : Configuration Unit Unit) (c : Choice) (cs : List Choice) → Leads g text step k (c ∷ cs) Nok (settled_at c.kind c.saved Nok k) cs c.nok
+  leads-nok k c cs events h calls =
+      let it = h calls in
+      (it.0, ((settled-nok-ends g step text calls k c cs it.0).0 it.1.0, it.1.1, it.1.2))
+
+  -- what is fed
+  pub stands : (l : List Seat) (stack : List EventName) (p : ℕ) (ended : Bool) (events : List Event) (local : Local Unit Unit) → drop p text.seats ≡ l
+      → fed text (held stack p Nothing ended events local) ≡ shows l stack p ended events local
+  stands [] stack p ended events local at =
+      ap (λ t. cond t (held stack p Byte ended events local) (held stack p End true events local)) (le-ltb p (length text.seats) (past-end text.seats p at))
+  stands (s ∷ ss) stack p ended events local at =
+      ap (λ t. cond t (held stack p Byte ended events local) (held stack p End true events local)) (lt-ltb p (length text.seats) (slice_get_within text.seats p s (at-front text.seats p s ss at)))
+
+  -- a state that is to come is called with what is fed
+  pub goes-next : (l : List Seat) (stack : List EventName) (p : ℕ) (ended : Bool) (events : List Event) (local : Local Unit Unit) (cs : List Choice) (name : Name) → drop p text.seats ≡ l
+      → Leads g text step (held stack p Nothing ended events local) cs (Next name) (shows l stack p ended events local) cs (Retry name)
+  goes-next l stack p ended events local cs name at es h =
+      leads-fed (held stack p Nothing ended events local) cs name es (subst (λ k. EndsWith g text step k cs (Retry name) es) (sym (stands l stack p ended events local at)) h)
+
+-- A machine whose reading of each whole document ends with these events reads them
+pub reads-as : (rules : Given → Rules Unit Unit) (start : Name) (events_of : List ℕ → List Seat → List Event)
+    → ((g : Given) → EndsWith g (whole_text g) (rules g).step (start_configuration false) [] (Next start) (events_of g.bytes (virtual g.tab g.bytes)))
+    → IsReadAs rules start events_of
+reads-as rules start events_of reads g events sub document run =
+    let there = reads g 0 in
+    let same = one-end g (rules g).step (whole_text g) 0 (start_configuration false) [] (Next start) run.result there.0 run.ends there.1.0 in
+    run.events ∙ ap (λ (k : Configuration Unit Unit). k.events) run.resolved.0 ∙ ap (λ r. r.configuration.events) same ∙ there.1.2
