@@ -15,12 +15,16 @@ pub use Rattle.mdconstructs_machines.specs.Costs
 pub use Rattle.mdconstructs_machines.specs.Back
 pub use Rattle.mdconstructs_machines.specs.Deep
 pub use Rattle.mdconstructs_machines.specs.Fail
+pub use Rattle.mdconstructs_machines.specs.Innermost
+pub use Rattle.mdconstructs_machines.specs.LineEvents
 pub use Rattle.mdconstructs_machines.specs.Lines
 pub use Rattle.mdconstructs_machines.specs.Messages
 pub use Rattle.mdconstructs_machines.specs.Paragraphs
 pub use Rattle.mdconstructs_machines.specs.Peek
+pub use Rattle.mdconstructs_machines.specs.ReadAs
 pub use Rattle.mdconstructs_machines.specs.Reading
 pub use Rattle.mdconstructs_machines.specs.Save
+pub use Rattle.mdconstructs_machines.specs.Spans
 pub use Rattle.mdconstructs_machines.specs.Tables
 pub use Rattle.mdconstructs_machines.specs.Unfit
 pub use Rattle.mdconstructs_machines.specs.Words

@@ -7,7 +7,7 @@ use Rattle.markdown_base.specs.Events.{is_enter}
 use Rattle.markdown_base.specs.Places.{shown}
 use Rattle.markdown_base.specs.Virtual.{Seat, end_after}
 
--- the place where an event stands, with that of the next event, if that is an exit
+-- the place of an event, with that of the next event, if the next one is an exit
 abbrev pub ended_next : Event → List Event → List (Point × Point)
 ended_next e [] = []
 ended_next e (f ∷ events) = cond (is_enter f.kind) [] ((e.point, f.point) ∷ [])
@@ -21,12 +21,12 @@ innermost_spans (e ∷ events) = cond (is_enter e.kind) (ended_next e events) []
 abbrev pub stretch_bytes : (Seat × List Seat) → List Seat
 stretch_bytes stretch = stretch.0 ∷ stretch.1
 
--- the places of the span over a stretch: where its first byte stands, and where its last one ends
+-- the places of the span over a stretch: of its first byte, and of the end of its last one
 abbrev pub span_over : List ℕ → (Seat × List Seat) → Point × Point
 span_over bytes stretch = (shown bytes stretch.0.point, shown bytes (end_after stretch.0.end stretch.1))
 
--- Each of these virtual bytes stands in exactly one innermost span of the events: they can be cut into stretches, one behind the other, and the
--- innermost spans are those over these stretches, in order
+-- Each of these virtual bytes is in exactly one innermost span of the events: the bytes can be cut into stretches, and the innermost spans
+-- are those over these stretches, in order
 pub record AccountFor (events : List Event) (bytes : List ℕ) (seats : List Seat) : Type 0 where
   pub stretches : List (Seat × List Seat)
   pub are_all : flat_map stretch_bytes stretches ≡ seats
