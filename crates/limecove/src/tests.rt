@@ -104,9 +104,14 @@ fn code() -> [Record; 8] {
     ]
 }
 
-/// Of `` `a` ``, as text without code spans.
-fn plain_code() -> [Record; 2] {
-    [at(0, Name::Data, 1, 1, 0), at(1, Name::Data, 1, 4, 3)]
+/// Of `` `a` ``, as text without code spans: data ends before a backtick.
+fn plain_code() -> [Record; 4] {
+    [
+        at(0, Name::Data, 1, 1, 0),
+        at(1, Name::Data, 1, 3, 2),
+        at(0, Name::Data, 1, 3, 2),
+        at(1, Name::Data, 1, 4, 3),
+    ]
 }
 
 /// Whether a call answered that a document of so many events was read, and these are the records with which it left the first

@@ -1,0 +1,13 @@
+#include "../limecove.h"
+#include <stdio.h>
+
+int main(void) {
+    static const uint8_t document[] = "a `code` <https://b.c> \\* d\n";
+    struct limecove_text_options options = LIMECOVE_DEFAULT_TEXT_OPTIONS;
+    struct limecove_record records[64];
+    struct limecove_answer answer = limecove_read_text(document, sizeof document - 1, &options, records, 64);
+    for (size_t i = 0; i < answer.count && i < 64; i++)
+        if (records[i].name == LIMECOVE_NAME_CODE_TEXT)
+            printf("%s code at line %zu, column %zu, byte %zu\n", records[i].kind ? "exit" : "enter", records[i].line, records[i].column, records[i].index);
+    return (int)answer.code;
+}

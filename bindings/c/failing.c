@@ -1,0 +1,83 @@
+/* Each allocation fails in turn. The call returns that it ran out of memory and writes no record, or it manages without and writes the
+ * same records. In both cases it gives back what it took.
+ * usage: failing COUNT   (so many random documents, each in every way). Link with -Wl,--wrap=malloc,--wrap=realloc,--wrap=free. */
+#include "cases.h"
+
+void *__real_malloc(size_t size);
+void *__real_realloc(void *block, size_t size);
+void __real_free(void *block);
+void *__wrap_malloc(size_t size);
+void *__wrap_realloc(void *block, size_t size);
+void __wrap_free(void *block);
+
+static long left = -1; /* how many allocations succeed before one fails; none fails below 0 */
+static long blocks;    /* how many blocks there are */
+static long failed;    /* how many allocations failed */
+
+static int fails(void) {
+    if (left < 0 || left-- > 0)
+        return 0;
+    failed++;
+    return 1;
+}
+
+void *__wrap_malloc(size_t size) {
+    if (fails())
+        return NULL;
+    blocks++;
+    return __real_malloc(size);
+}
+
+void *__wrap_realloc(void *block, size_t size) {
+    if (fails())
+        return NULL;
+    blocks += block == NULL;
+    return __real_realloc(block, size);
+}
+
+void __wrap_free(void *block) {
+    blocks -= block != NULL;
+    __real_free(block);
+}
+
+/* How many calls ran out of memory. */
+static long ended;
+
+static void each_in_turn(size_t way, const uint8_t *document, size_t len, struct limecove_text_options text, size_t cut) {
+    static struct limecove_record all[4096], records[4096];
+    size_t count = read_so(way, document, len, text, cut, all, 4096).count;
+    CHECK(count <= 4096);
+    for (long n = 0;; n++) {
+        long before = blocks;
+        memset(records, 0xa5, sizeof records);
+        failed = 0;
+        left = n;
+        struct limecove_answer answer = read_so(way, document, len, text, cut, records, 4096);
+        left = -1;
+        CHECK(blocks == before);
+        CHECK(answer.version == LIMECOVE_VERSION);
+        if (answer.code == LIMECOVE_READ) {
+            CHECK(answer.count == count);
+            for (size_t i = 0; i < count; i++)
+                CHECK(same_record(&records[i], &all[i]));
+            if (failed == 0)
+                return;
+            continue;
+        }
+        CHECK(failed > 0 && answer.code == LIMECOVE_OUT_OF_MEMORY && answer.count == 0);
+        CHECK(untouched(records, sizeof records));
+        ended++;
+    }
+}
+
+int main(int argc, char **argv) {
+    for (long n = argc > 1 ? atol(argv[1]) : 100; n > 0; n--) {
+        size_t len;
+        uint8_t *document = random_document(&len);
+        for (size_t way = 0; way < WAYS; way++)
+            each_in_turn(way, document, len, random_text_options(), below(5));
+        free(document);
+    }
+    printf("%ld calls ran out of memory\n", ended);
+    return ended == 0;
+}

@@ -1,0 +1,272 @@
+//! Safe calls of Limecove, the proved tokenizer engine.
+//!
+//! ```
+//! use limecove::{Name, Options, spans, tokenize};
+//!
+//! let document = b"a `code` b";
+//! let events = tokenize(document, &Options::default())?;
+//! let code: Vec<_> = spans(&events).filter(|span| span.name == Name::CodeText).collect();
+//! assert_eq!(&document[code[0].bytes()], b"`code`");
+//! # Ok::<(), limecove::Error>(())
+//! ```
+//!
+//! What is proved of the events, and what is not, is in `docs/BINDINGS.md`.
+
+mod event;
+mod foreign;
+mod names;
+
+pub use crate::event::{Content, Event, Kind, Link, Point, Span, Spans, spans};
+use crate::foreign::{Answer, Record};
+pub use crate::names::{Machine, Name};
+use std::alloc::{Layout, alloc_zeroed};
+use std::error;
+use std::fmt;
+use std::num::NonZeroUsize;
+
+/// How text is read. The default: code spans, autolinks and backslash escapes, and tab stops at every 4 columns.
+#[derive(Clone, Copy, Debug, PartialEq, Eq, Hash)]
+pub struct TextOptions {
+    /// How many columns tab stops are apart, from 1 to 16.
+    pub tab_size: usize,
+    /// Whether there are code spans.
+    pub code_text: bool,
+    /// Whether there are autolinks.
+    pub autolink: bool,
+    /// Whether there are backslash escapes.
+    pub character_escape: bool,
+}
+
+impl Default for TextOptions {
+    fn default() -> TextOptions {
+        TextOptions {
+            tab_size: 4,
+            code_text: true,
+            autolink: true,
+            character_escape: true,
+        }
+    }
+}
+
+/// How a document is read. The default: paragraphs, and text in them.
+#[derive(Clone, Copy, Debug, PartialEq, Eq, Hash)]
+pub struct Options {
+    /// The machine that reads.
+    pub machine: Machine,
+    /// Whether the chunks that [`Machine::Paragraphs`] and [`Machine::Text`] link are read too. The other machines link none.
+    pub deep: bool,
+    /// After how many virtual bytes the document is cut each time, which changes no event.
+    pub cut: Option<NonZeroUsize>,
+    /// How text is read. The size of tabs is that of each machine.
+    pub text: TextOptions,
+}
+
+impl Default for Options {
+    fn default() -> Options {
+        Options {
+            machine: Machine::Text,
+            deep: true,
+            cut: None,
+            text: TextOptions::default(),
+        }
+    }
+}
+
+/// Why a document was not read.
+#[derive(Clone, Copy, Debug, PartialEq, Eq, Hash)]
+#[non_exhaustive]
+pub enum Error {
+    /// The call ran out of memory.
+    OutOfMemory,
+    /// The size of tabs times the length of the document, and one more, do not fit `usize`.
+    TooLong,
+    /// A tab size of 0 or above 16, or `deep` with a machine that links nothing.
+    Options,
+}
+
+impl fmt::Display for Error {
+    fn fmt(&self, f: &mut fmt::Formatter<'_>) -> fmt::Result {
+        f.write_str(match self {
+            Error::OutOfMemory => "out of memory",
+            Error::TooLong => "document too long",
+            Error::Options => "no such options",
+        })
+    }
+}
+
+impl error::Error for Error {}
+
+/// Reads a whole document.
+///
+/// ```
+/// use limecove::{Machine, Options, tokenize};
+///
+/// let options = Options { machine: Machine::Lines, deep: false, ..Options::default() };
+/// let shown: Vec<String> = tokenize(b"ab", &options)?.iter().map(|event| event.to_string()).collect();
+/// assert_eq!(shown[1], "enter Data 1:1 (0+0)");
+/// # Ok::<(), limecove::Error>(())
+/// ```
+pub fn tokenize(document: &[u8], options: &Options) -> Result<Vec<Event>, Error> {
+    let options = foreign::Options {
+        machine: options.machine as u32,
+        deep: u32::from(options.deep),
+        cut: options.cut.map_or(0, NonZeroUsize::get),
+        text: foreign_text(&options.text),
+    };
+    read(document, |records| {
+        // SAFETY: the declaration is that of `crates/limecove/src/lib.rt`. Pointers and lengths are those of references that live
+        // for the call, and the records, which alone are written, share no byte with what is read. The function requires nothing.
+        unsafe {
+            foreign::limecove_read(
+                document.as_ptr(),
+                document.len(),
+                &raw const options,
+                records.as_mut_ptr().cast::<Record>(),
+                records.len(),
+            )
+        }
+    })
+}
+
+/// Reads a whole document as text, without paragraphs: code spans, autolinks and escapes, line endings, and all else as data.
+///
+/// ```
+/// use limecove::{Name, TextOptions, spans, tokenize_text};
+///
+/// let events = tokenize_text(b"\\*", &TextOptions::default())?;
+/// assert_eq!(spans(&events).last().unwrap().name, Name::CharacterEscape);
+/// # Ok::<(), limecove::Error>(())
+/// ```
+pub fn tokenize_text(document: &[u8], options: &TextOptions) -> Result<Vec<Event>, Error> {
+    let options = foreign_text(options);
+    read(document, |records| {
+        // SAFETY: as in `tokenize`.
+        unsafe {
+            foreign::limecove_read_text(
+                document.as_ptr(),
+                document.len(),
+                &raw const options,
+                records.as_mut_ptr().cast::<Record>(),
+                records.len(),
+            )
+        }
+    })
+}
+
+/// Options as numbers.
+fn foreign_text(options: &TextOptions) -> foreign::TextOptions {
+    foreign::TextOptions {
+        tab_size: options.tab_size,
+        code_text: u32::from(options.code_text),
+        autolink: u32::from(options.autolink),
+        character_escape: u32::from(options.character_escape),
+    }
+}
+
+/// The events that a call writes. It is made once if there is room for the events, and a second time if there is not.
+fn read(
+    document: &[u8],
+    mut call: impl FnMut(&mut [Event]) -> Answer,
+) -> Result<Vec<Event>, Error> {
+    let mut events = zeroed(guess(document))?;
+    loop {
+        let answer = call(&mut events);
+        assert_eq!(
+            answer.version,
+            foreign::VERSION,
+            "liblimecove.a has another version"
+        );
+        match answer.code {
+            0 if answer.count <= events.len() => {
+                events.truncate(answer.count);
+                events.shrink_to_fit();
+                return Ok(events);
+            }
+            0 => events = zeroed(answer.count)?,
+            1 => return Err(Error::OutOfMemory),
+            2 => return Err(Error::TooLong),
+            _ => return Err(Error::Options),
+        }
+    }
+}
+
+/// How many events there may be: ten for each byte at which a span may begin or end. Only what is written takes memory.
+fn guess(document: &[u8]) -> usize {
+    let makers = document
+        .iter()
+        .filter(|byte| matches!(byte, b'\n' | b'\r' | b'`' | b'<' | b'\\'))
+        .count();
+    makers.saturating_mul(10).saturating_add(16)
+}
+
+/// So many records of zeros. The system gives the pages of a large block only as they are written.
+fn zeroed(count: usize) -> Result<Vec<Event>, Error> {
+    let layout = Layout::array::<Event>(count).map_err(|_| Error::OutOfMemory)?;
+    if layout.size() == 0 {
+        return Ok(Vec::new());
+    }
+    // SAFETY: the layout has a size. The block is of that layout, and zeros are `count` records.
+    unsafe {
+        let block = alloc_zeroed(layout);
+        if block.is_null() {
+            return Err(Error::OutOfMemory);
+        }
+        Ok(Vec::from_raw_parts(block.cast::<Event>(), count, count))
+    }
+}
+
+#[cfg(test)]
+mod tests {
+    use super::*;
+
+    /// How often a document is read if it has so many events.
+    fn calls(document: &[u8], count: usize) -> usize {
+        let mut calls = 0;
+        let events = read(document, |_| {
+            calls += 1;
+            Answer {
+                code: 0,
+                version: foreign::VERSION,
+                count,
+            }
+        });
+        assert_eq!(events.unwrap().len(), count);
+        calls
+    }
+
+    #[test]
+    fn a_document_is_read_once_if_its_events_fit() {
+        assert_eq!(calls(b"", 0), 1);
+        assert_eq!(calls(b"", 16), 1);
+        assert_eq!(calls(b"", 17), 2);
+        assert_eq!(calls(b"a\n", 26), 1);
+        assert_eq!(calls(b"a\n", 27), 2);
+    }
+
+    #[test]
+    fn codes_are_errors() {
+        let code = |code| {
+            read(b"", |_| Answer {
+                code,
+                version: foreign::VERSION,
+                count: 0,
+            })
+        };
+        assert_eq!(code(1), Err(Error::OutOfMemory));
+        assert_eq!(code(2), Err(Error::TooLong));
+        assert_eq!(code(3), Err(Error::Options));
+    }
+
+    #[test]
+    fn room_that_no_memory_has_is_an_error() {
+        assert_eq!(zeroed(usize::MAX), Err(Error::OutOfMemory));
+        assert_eq!(zeroed(isize::MAX as usize / size_of::<Event>()), Err(Error::OutOfMemory));
+    }
+
+    /// Events can be sent to other threads, and shared.
+    #[test]
+    fn events_are_send_and_sync() {
+        fn is<T: Send + Sync>() {}
+        is::<(Event, Span, Options, Error)>();
+    }
+}

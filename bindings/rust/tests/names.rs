@@ -1,0 +1,60 @@
+//! The names here and in the header, against the numbers that records and options are proved to have.
+
+use limecove::{Machine, Name};
+use std::fmt::Display;
+use std::fs;
+use std::path::Path;
+
+fn text(path: &str) -> String {
+    let top = Path::new(env!("CARGO_MANIFEST_DIR")).join("../..");
+    fs::read_to_string(top.join(path)).unwrap()
+}
+
+/// A name as the header has it: `CodeText` as `CODE_TEXT`.
+fn upper(name: &str) -> String {
+    let mut upper = String::new();
+    for (i, letter) in name.chars().enumerate() {
+        if i > 0 && letter.is_uppercase() {
+            upper.push('_');
+        }
+        upper.push(letter.to_ascii_uppercase());
+    }
+    upper
+}
+
+/// Whether these are the proved names, each at its number, and are all that the header has with this prefix.
+fn compare<T: Display>(proved: &[(String, usize)], here: &[T], prefix: &str) {
+    let header = text("bindings/limecove.h");
+    assert_eq!(proved.len(), here.len());
+    for (name, number) in proved {
+        assert_eq!(here[*number].to_string(), *name);
+        let line = format!("    {prefix}{} = {number},\n", upper(name));
+        assert!(header.contains(&line), "{line}");
+    }
+}
+
+#[test]
+fn names_of_spans_have_their_proved_numbers() {
+    let proved: Vec<_> = text("crates/limecove/specs/Names.antt")
+        .lines()
+        .filter_map(|line| line.strip_prefix("number_of ")?.split_once(" = "))
+        .map(|(name, number)| (name.to_string(), number.parse().unwrap()))
+        .collect();
+    assert_eq!(proved.len(), 142);
+    compare(&proved, &Name::ALL, "LIMECOVE_NAME_");
+}
+
+#[test]
+fn machines_have_their_proved_numbers() {
+    let proved: Vec<_> = text("crates/limecove/specs/Choices.antt")
+        .split("(nat_eq n ")
+        .skip(1)
+        .filter_map(|rest| {
+            let (number, rest) = rest.split_once(") (Some ")?;
+            let (name, _) = rest.split_once(')')?;
+            Some((name.to_string(), number.parse().ok()?))
+        })
+        .collect();
+    assert_eq!(proved.len(), 7);
+    compare(&proved, &Machine::ALL, "LIMECOVE_");
+}
