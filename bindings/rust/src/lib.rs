@@ -243,6 +243,42 @@ mod tests {
         assert_eq!(calls(b"a\n", 27), 2);
     }
 
+    /// Documents of 100 KB of each kind: prose, tabs, short lines, quotes, constructs, and bytes that each begin or end something.
+    #[test]
+    fn the_guess_is_enough_for_documents_of_each_kind() {
+        let lines: [&[u8]; 9] = [
+            b"The quick brown fox jumps over the lazy dog, and does so once more, slowly.\n",
+            b"a\tbc\t\tdef\t\t\tg\th\n",
+            b"ab\n",
+            b">The quick brown fox jumps over the lazy dog.\n",
+            b"Some `code` and <https://example.com/a?b=c> with \\* and \\_ escapes, and ``two ` ticks`` here.\n",
+            b"\n",
+            b"`a",
+            b"<a:>",
+            b"\\*",
+        ];
+        for line in lines {
+            let document = line.repeat(100_000 / line.len());
+            for machine in Machine::ALL {
+                if machine == Machine::Deep {
+                    continue; // it takes a time that grows with the square of the document
+                }
+                for deep in [false, true] {
+                    let options = Options {
+                        machine,
+                        deep,
+                        ..Options::default()
+                    };
+                    if let Ok(events) = tokenize(&document, &options) {
+                        assert!(events.len() <= guess(&document), "{line:?} {machine}");
+                    }
+                }
+            }
+            let events = tokenize_text(&document, &TextOptions::default()).unwrap();
+            assert!(events.len() <= guess(&document), "{line:?}");
+        }
+    }
+
     #[test]
     fn codes_are_errors() {
         let code = |code| {
@@ -260,7 +296,10 @@ mod tests {
     #[test]
     fn room_that_no_memory_has_is_an_error() {
         assert_eq!(zeroed(usize::MAX), Err(Error::OutOfMemory));
-        assert_eq!(zeroed(isize::MAX as usize / size_of::<Event>()), Err(Error::OutOfMemory));
+        assert_eq!(
+            zeroed(isize::MAX as usize / size_of::<Event>()),
+            Err(Error::OutOfMemory)
+        );
     }
 
     /// Events can be sent to other threads, and shared.

@@ -119,13 +119,18 @@ fn text_is_read_without_paragraphs() {
     );
 }
 
+/// A document that is one construct, the name of the construct's span, and what turns it off.
+type Construct = (&'static [u8], &'static str, fn(&mut TextOptions));
+
 /// With a construct off, the bytes of it are data, in both functions.
 #[test]
 fn constructs_can_be_off() {
-    let constructs: [(&[u8], &str, fn(&mut TextOptions)); 3] = [
+    let constructs: [Construct; 3] = [
         (b"`a`", "CodeText", |text| text.code_text = false),
         (b"<ab:c>", "Autolink", |text| text.autolink = false),
-        (b"\\*", "CharacterEscape", |text| text.character_escape = false),
+        (b"\\*", "CharacterEscape", |text| {
+            text.character_escape = false
+        }),
     ];
     for (document, name, turn_off) in constructs {
         let on = TextOptions::default();

@@ -21,8 +21,30 @@ impl Random {
     /// A document of up to 40 pieces that the machines tell apart.
     fn document(&mut self) -> Vec<u8> {
         const PIECES: [&[u8]; 24] = [
-            b"a", b"bc", b" ", b"\t", b"\n", b"\n", b"\r", b"\r\n", b"`", b"``", b"<", b">", b"<ab:c>",
-            b"http:", b"\\", b"\\*", b"\\\\", b"\0", b"\xc3\xa9", b"\xff", b"*", b"> ", b".", b"+",
+            b"a",
+            b"bc",
+            b" ",
+            b"\t",
+            b"\n",
+            b"\n",
+            b"\r",
+            b"\r\n",
+            b"`",
+            b"``",
+            b"<",
+            b">",
+            b"<ab:c>",
+            b"http:",
+            b"\\",
+            b"\\*",
+            b"\\\\",
+            b"\0",
+            b"\xc3\xa9",
+            b"\xff",
+            b"*",
+            b"> ",
+            b".",
+            b"+",
         ];
         (0..self.below(40))
             .flat_map(|_| PIECES[self.below(PIECES.len() as u64) as usize])
@@ -33,7 +55,10 @@ impl Random {
 
 /// The ways in which the program reads: each machine, and two with their texts.
 fn ways() -> Vec<(Machine, bool)> {
-    let mut ways: Vec<_> = Machine::ALL.iter().map(|machine| (*machine, false)).collect();
+    let mut ways: Vec<_> = Machine::ALL
+        .iter()
+        .map(|machine| (*machine, false))
+        .collect();
     ways.extend([(Machine::Paragraphs, true), (Machine::Text, true)]);
     ways
 }
