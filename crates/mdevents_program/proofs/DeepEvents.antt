@@ -1,5 +1,5 @@
--- What is read with the children of chains of text: it is refused nowhere where rules refuse nothing, its chains can be read, and by the
--- machine of texts the children are the texts.
+-- Events with the children of chains of text. Rules that refuse nothing refuse no child, the chains can be read, and with the machine of
+-- texts the children are the texts.
 use Rattle.std.proofs.Common.{ℕ, List, ⊎_elim, false, true}
 use Rattle.markdown.specs.declared.configuration.ParseOptions.{ParseOptions}
 use Rattle.markdown.specs.declared.event.Event.{Event}

@@ -1,4 +1,4 @@
--- The words that the program is called with.
+-- The program's command-line arguments, each a list of bytes.
 use Rattle.std.specs.Prelude.{ℕ, ◌≤◌, IfSome, ◌^◌, ◌&&◌, not, Bool, true, false, List, [], ◌∷◌, Option, Some, None, unwrap_or, codes, nat_lt, cond, filter_map}
 use Rattle.std.specs.Char.{is_ascii_digit}
 use Rattle.std.specs.List.{list_all}
@@ -9,7 +9,7 @@ use Rattle.mdevents_program.specs.declared.arguments.Choice.{Choice}
 use Rattle.mdevents_program.specs.declared.arguments.Which.{Which}
 use Rattle.mdevents_program.specs.declared.arguments.Which.TheVariants.{Lines, Paragraphs, Peek, Deep, Back, Save, Text}
 
--- the number of a word of decimal digits, if it is above 0 and fits `usize`
+-- the number of an argument of decimal digits, if it is above 0 and fits `usize`
 abbrev pub decimal_of : List ℕ → Option ℕ
 decimal_of word = cond (list_all is_ascii_digit word && (nat_lt 0 (digits_value 10 word) && nat_lt (digits_value 10 word) (2 ^ 64))) (Some (digits_value 10 word)) None
 
@@ -22,7 +22,7 @@ which_of name =
     (cond (bytes_eq name (codes "deep")) (Some Deep) (cond (bytes_eq name (codes "back")) (Some Back) (cond (bytes_eq name (codes "save")) (Some Save)
     (cond (bytes_eq name (codes "text")) (Some Text) None))))))
 
--- the size of tabs that a word has: its number, if that is at most 16
+-- the tab size of an argument: its number, if that is at most 16
 abbrev pub tab_size_of : List ℕ → Option ℕ
 tab_size_of word = option_and_then (λ n. cond (nat_lt 16 n) None (Some n)) (decimal_of word)
 
@@ -33,13 +33,13 @@ pub data Spelled : Type 0 where
   machine : Which → Spelled
   tab : ℕ → Spelled
 
--- the option that two words spell, if they spell one: `--cut` and a number, `--machine` and a name, or `--tab` and a size of tabs
+-- the option that two arguments spell, if they spell one: `--cut` and a number, `--machine` and a name, or `--tab` and a tab size
 abbrev pub option_of : List ℕ → List ℕ → Option Spelled
 option_of name value =
     cond (bytes_eq name (codes "--cut")) (option_map cut (decimal_of value))
     (cond (bytes_eq name (codes "--machine")) (option_map machine (which_of value)) (cond (bytes_eq name (codes "--tab")) (option_map tab (tab_size_of value)) None))
 
--- the options that words spell, in order, if they spell options: a word is `--deep`, or two words are an option with its value
+-- the options that arguments spell, in order, if they spell options: one argument is `--deep`, or two are an option with its value
 abbrev pub options_of : List (List ℕ) → Option (List Spelled)
 options_of [] = Some []
 options_of (word ∷ []) = cond (bytes_eq word (codes "--deep")) (Some (deep ∷ [])) None
@@ -68,14 +68,14 @@ machine_in deep = None
 machine_in (machine which) = Some which
 machine_in (tab n) = None
 
--- the size of tabs of an option that gives one
+-- the tab size of an option that gives one
 abbrev pub tab_in : Spelled → Option ℕ
 tab_in (cut n) = None
 tab_in deep = None
 tab_in (machine which) = None
 tab_in (tab n) = Some n
 
--- what a list of at most one has, if it has it; nothing for a longer list
+-- the element of a list of at most one, if there is one; None for a longer list
 abbrev pub at_most_one : {A : Type 0} → List A → Option (Option A)
 at_most_one [] = Some None
 at_most_one (x ∷ []) = Some (Some x)
@@ -91,19 +91,18 @@ links_text Back = false
 links_text Save = false
 links_text Text = true
 
--- the choice of a cut, of `--deep`, of a machine and of a size of tabs, if they are taken together: `--deep` goes only with a machine that
--- links
+-- the choice of a cut, of `--deep`, of a machine and of a tab size, if they are accepted together: `--deep` only with a machine that links
 abbrev pub choice_together : Option ℕ → Bool → Which → ℕ → Option Choice
 choice_together n is_deep which t = cond (is_deep && not (links_text which)) None (Some (record { cut = n; deep = is_deep; machine = which; tab = t }))
 
--- what options choose, if there is at most one of each: without a machine's name, that of lines, and without a size of tabs, 4
+-- what options choose, if there is at most one of each; the default machine is `lines`, and the default tab size 4
 abbrev pub chosen_by : List Spelled → Option Choice
 chosen_by options =
     option_and_then (λ n. option_and_then (λ is_deep. option_and_then (λ which. option_and_then (λ t. choice_together n (unwrap_or is_deep false) (unwrap_or which Lines) (unwrap_or t 4))
     (at_most_one (filter_map tab_in options))) (at_most_one (filter_map machine_in options))) (at_most_one (filter_map deep_in options)))
     (at_most_one (filter_map cut_in options))
 
--- what words choose, if they choose anything: what the options that they spell choose
+-- what arguments choose, if they are accepted: what the options that they spell choose
 abbrev pub choice_of_words : List (List ℕ) → Option Choice
 choice_of_words words = option_and_then chosen_by (options_of words)
 

@@ -1,4 +1,4 @@
--- Inner: what words choose, word by word, as private functions speak of it. No public clause cites this file.
+-- Inner: what arguments choose, one after another, for private functions. No public clause cites this file.
 use Rattle.std.specs.Prelude.{ℕ, true, List, [], ◌∷◌, Option, Some, None, unwrap_or, codes, cond}
 use Rattle.std.specs.Option.{option_and_then, option_map}
 use Rattle.std.specs.Str.{bytes_eq}
@@ -12,7 +12,7 @@ abbrev pub once : {A : Type 0} → Option A → Option A → Option A
 once None value = value
 once (Some x) value = None
 
--- what came so far and an option with its value: `--cut` and a number, `--machine` and a name, or `--tab` and a size of tabs
+-- what came so far and an option with its value: `--cut` and a number, `--machine` and a name, or `--tab` and a tab size
 abbrev pub with_value : SoFar → List ℕ → List ℕ → Option SoFar
 with_value so_far option value =
     cond (bytes_eq option (codes "--cut")) (option_map (λ n. record { cut = Some n; deep = so_far.deep; machine = so_far.machine; tab = so_far.tab }) (once so_far.cut (decimal_of value)))
@@ -23,7 +23,7 @@ with_value so_far option value =
 abbrev pub taken_of : SoFar → Option Choice
 taken_of so_far = choice_together so_far.cut so_far.deep (unwrap_or so_far.machine Lines) (unwrap_or so_far.tab 4)
 
--- what words choose after what came so far: `--deep`, if it did not come before, or an option with its value
+-- what arguments choose after what came so far: `--deep`, if it did not come before, or an option with its value
 abbrev pub chosen_after : SoFar → List (List ℕ) → Option Choice
 chosen_after so_far [] = taken_of so_far
 chosen_after so_far (option ∷ []) =

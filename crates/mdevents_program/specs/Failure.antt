@@ -13,7 +13,7 @@ failure_text TooLong = codes "input too long"
 failure_text NotReady = codes "events are not ready"
 failure_text (Message m) = message_text m
 
--- reading can fail so: by memory, by the reader, or by the limit
+-- the failures of reading: memory, the reader, or the limit
 abbrev pub IsOfReading : Failure → Type 0
 IsOfReading Memory = ⊤
 IsOfReading Read = ⊤
@@ -22,7 +22,7 @@ IsOfReading TooLong = ⊤
 IsOfReading NotReady = ⊥
 IsOfReading (Message m) = ⊥
 
--- making the events can fail so: by memory, by links that cannot be followed, or by a message
+-- the failures of making the events: memory, links that cannot be followed, or a message
 abbrev pub IsOfMaking : Failure → Type 0
 IsOfMaking Memory = ⊤
 IsOfMaking Read = ⊥

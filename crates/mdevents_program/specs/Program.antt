@@ -46,7 +46,7 @@ module _ {R D : Type 0} (rules : Given → Rules R D) (options : ParseOptions) (
   abbrev pub HasChildren : List Event → List Event → Type 0
   HasChildren old new = IsReady options.tab_size bytes (Some TextContent) old × ((sub : Subresult) × IsSubtokenized (document options bytes) rules (Some TextContent) old new sub)
 
-  -- the first of these children that does not end well ends in a message
+  -- the first of these children that does not end in Ok ends in a message
   abbrev pub HasRefusedChild : List Event → Message → Type 0
   HasRefusedChild old m = IsReady options.tab_size bytes (Some TextContent) old × IsSubtokenizeRefused (document options bytes) rules (Some TextContent) old m
 
@@ -56,7 +56,7 @@ module _ {R D : Type 0} (rules : Given → Rules R D) (start : Name) (options : 
   abbrev pub Gives : List Event → Type 0
   Gives events = (sub : Subresult) × IsRun (document options bytes) rules false start events sub
 
-  -- a run returns events, and these are they with the children of its chains of text
+  -- a run returns events, and with the children of their chains of text they are these
   abbrev pub GivesDeep : List Event → Type 0
   GivesDeep events = (flat : List Event) × Gives flat × HasChildren rules options bytes flat events
 
@@ -68,12 +68,12 @@ module _ {R D : Type 0} (rules : Given → Rules R D) (start : Name) (options : 
   abbrev pub GivesUnready : Type 0
   GivesUnready = (flat : List Event) × Gives flat × ¬ IsReady options.tab_size bytes (Some TextContent) flat
 
--- a run of the machine of texts returns events, and these are they with the texts of their chains in place of the chunks: each text by
--- its items, by a definition without states
+-- a run of the machine of texts returns events; with the texts of their chains in place of the chunks they are these. Each text's events
+-- are defined by its items, without states
 abbrev pub GivesTexts : ParseOptions → List ℕ → List Event → Type 0
 GivesTexts options bytes events = (flat : List Event) × Gives text_rules FlowStart options bytes flat × HasChildren text_rules options bytes flat events × (events ≡ with_texts (document options bytes) flat)
 
--- the events of a document are those that its machine gives, and with `--deep` those with children; only two machines link
+-- the events of a document are the events that its machine makes, with `--deep` with children; only two machines link
 abbrev pub AreEventsOf : (deep : Bool) → Which → ParseOptions → List ℕ → List Event → Type 0
 AreEventsOf deep Lines = Gives lines_rules FlowStart
 AreEventsOf false Paragraphs = Gives paragraphs_rules FlowStart

@@ -1,4 +1,4 @@
-//! The words that the program is called with.
+//! The program's command-line arguments.
 
 ghost use Rattle.std.specs.Prelude.{◌≡◌, ◌≤◌, IfSome, map, string_bytes};
 ghost use Rattle.std.specs.Char.{is_ascii_digit};
@@ -6,15 +6,15 @@ ghost use Rattle.std.specs.List.{list_all};
 
 use markdown::configuration::TabSize;
 
-/// The line that is shown if the words choose nothing.
+/// The usage line. It is shown if the arguments are not accepted.
 pub const USAGE: &str = "usage: mdevents [--cut n] [--deep] [--machine name] [--tab n]";
 
-/// A machine, by the name that the program has for it.
+/// A machine that the program offers, by its name on the command line.
 #[derive(Clone, Copy, Debug, PartialEq, Eq)]
 pub enum Which {
     /// `lines`: each line is a paragraph of data.
     Lines,
-    /// `paragraphs`: lines that follow one another are a paragraph, in which each line is a chunk of text, linked to the one before.
+    /// `paragraphs`: adjacent lines are a paragraph. Each line is a chunk of text, linked to the chunk before.
     Paragraphs,
     /// `peek`: looks at the whole text first, and then reads each line as data.
     Peek,
@@ -28,26 +28,27 @@ pub enum Which {
     Text,
 }
 
-/// What the words choose.
+/// What the arguments choose.
 #[derive(Clone, Copy, Debug, PartialEq, Eq)]
 pub struct Choice {
-    /// After how many virtual bytes the text is cut each time, if it is; at least 1.
+    /// The document is cut after each this many virtual bytes, at least 1. `None`: it is not cut.
     pub cut: Option<usize>,
-    /// Whether the chunks of text that the machine links are read too, and their events put in their place. The machines of
-    /// paragraphs and of texts are the only ones that link any.
+    /// Whether the chunks of text that the machine links are read too, and replaced by their events. Only the machines
+    /// `paragraphs` and `text` link any.
     pub deep: bool,
     /// The machine that reads.
     pub machine: Which,
-    /// How many columns tab stops are apart.
+    /// The distance from one tab stop to the next, in columns.
     pub tab: TabSize,
 }
 
 ghost use Rattle.mdevents_program.specs.Arguments.{choice_of_words, links_text, which_of, decimal_of, tab_size_of, CanCut};
 ghost use Rattle.mdevents_program.specs.ArgumentsInner.{once, with_value, taken_of, chosen_after};
 
-/// What the words after the program's name choose: `--cut` with a number, `--deep`, `--machine` with a name, and `--tab` with a
-/// number from 1 to 16, in any order, each at most once. If no machine is named it is that of lines, and if no size is given tab
-/// stops are at every 4 columns. `--deep` is taken only with the machines of paragraphs and of texts. `None` asks for [`USAGE`].
+/// Reads the arguments after the program's name: `--cut` with a number, `--deep`, `--machine` with a name, and `--tab` with a
+/// number from 1 to 16. They come in any order, each at most once. The default machine is `lines`, and the default tab size 4.
+/// `--deep` is accepted only with the machines `paragraphs` and `text`. Returns `None` if the arguments are not accepted;
+/// [`USAGE`] is then shown.
 pub fn read_words(words: &[String]) -> Option<Choice>
     ensures chosen { result ≡ choice_of_words (map string_bytes words.now) }
     ensures cut { IfSome result CanCut }
@@ -70,7 +71,7 @@ struct SoFar {
     tab: Option<TabSize>,
 }
 
-/// What is chosen by the rest of the words, if these options came before.
+/// What the remaining arguments choose, after these options. Returns `None` if they are not accepted.
 fn read_options(words: &[String], so_far: SoFar) -> Option<Choice>
     requires cut { IfSome so_far.cut (λ n. 1 ≤ n) }
     ensures chosen { result ≡ chosen_after so_far (map string_bytes words.now) }
@@ -95,7 +96,7 @@ fn read_options(words: &[String], so_far: SoFar) -> Option<Choice>
     read_options(rest, so_far)
 }
 
-/// What came so far and an option with its value, if there is such an option and it did not come before.
+/// Adds an option with its value. Returns `None` if there is no such option, or if it came before.
 fn with_value(so_far: SoFar, option: &str, value: &str) -> Option<SoFar>
     requires cut { IfSome so_far.cut (λ n. 1 ≤ n) }
     ensures value { result ≡ with_value so_far option.now value.now }
@@ -134,7 +135,7 @@ fn once<T: Copy>(before: Option<T>, value: Option<T>) -> Option<T>
     }
 }
 
-/// The choice of these options, if they are taken together.
+/// The choice of these options. Returns `None` if they are not accepted together.
 fn taken(so_far: SoFar) -> Option<Choice>
     requires cut { IfSome so_far.cut (λ n. 1 ≤ n) }
     ensures taken { result ≡ taken_of so_far }
@@ -166,7 +167,7 @@ fn links_text(machine: Which) -> bool
     }
 }
 
-/// The machine of a name.
+/// The machine with this name.
 fn read_which(name: &str) -> Option<Which>
     ensures { result ≡ which_of name.now }
 {
@@ -189,7 +190,7 @@ fn read_which(name: &str) -> Option<Which>
     }
 }
 
-/// The number of a word of decimal digits, if it is at least 1 and fits.
+/// The number of an argument of decimal digits, if it is at least 1 and fits `usize`.
 fn read_number(word: &str) -> Option<usize>
     ensures number { result ≡ decimal_of word.now }
     ensures some { IfSome result (λ n. 1 ≤ n) }
@@ -203,7 +204,7 @@ fn read_number(word: &str) -> Option<usize>
     }
 }
 
-/// The size of tabs that a word of decimal digits has, if its number is from 1 to 16.
+/// The tab size of an argument of decimal digits, if its number is from 1 to 16.
 fn read_tab(word: &str) -> Option<TabSize>
     ensures { result ≡ tab_size_of word.now }
 {
@@ -211,7 +212,7 @@ fn read_tab(word: &str) -> Option<TabSize>
     TabSize::new(number)
 }
 
-/// Whether a word has no bytes but decimal digits.
+/// Whether all bytes of an argument are decimal digits.
 fn is_decimal(word: &str) -> bool
     ensures { result ≡ list_all is_ascii_digit word.now }
 {

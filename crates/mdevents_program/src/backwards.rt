@@ -4,10 +4,11 @@ ghost use Rattle.std.specs.Prelude.{◌≡◌, ◌+◌, ◌∷◌, ◌++◌, ◌
 
 use std::marker::Model;
 
-/// The most bytes of such a text: those of a point, four numbers of 20 digits and five bytes between and behind them.
+/// The greatest length of such a text: a point's, with four numbers of 20 digits, and five bytes between and after
+/// them.
 pub(crate) const MOST: usize = 85;
 
-/// A text that grows at its front: at most [`MOST`] bytes, which take no memory but their own.
+/// A text that grows at its front: at most [`MOST`] bytes, in an array.
 #[derive(Drop)]
 pub(crate) struct Backwards {
     bytes: [u8; MOST],
@@ -41,14 +42,14 @@ impl Backwards {
         &self.bytes[self.start..]
     }
 
-    /// The text is empty again.
+    /// Makes the text empty.
     pub(crate) fn clear(&mut self)
         ensures { self.new ≡ [] }
     {
         self.start = MOST;
     }
 
-    /// A byte comes in front of the text.
+    /// Puts a byte before the text.
     pub(crate) fn push_front(&mut self, byte: u8)
         requires { length self.old < MOST }
         ensures bytes { self.new ≡ byte ∷ self.old }
@@ -58,7 +59,7 @@ impl Backwards {
         self.bytes[self.start] = byte;
     }
 
-    /// The decimal digits of a number, at most 20, come in front of the text.
+    /// Puts the decimal digits of a number, at most 20, before the text.
     pub(crate) fn push_front_number(&mut self, number: usize)
         requires { length self.old + 20 ≤ MOST }
         ensures bytes { self.new ≡ decimal number ++ self.old }

@@ -7,7 +7,7 @@ use std::marker::Model;
 /// The most bytes that wait.
 pub(crate) const SIZE: usize = 4096;
 
-/// Bytes that wait to be written, in order: at most [`SIZE`], which take no memory but their own.
+/// Bytes that wait to be written, in order: at most [`SIZE`], in an array.
 #[derive(Drop)]
 pub(crate) struct Buffer {
     bytes: [u8; SIZE],
@@ -23,7 +23,7 @@ impl Model for Buffer {
 }
 
 impl Buffer {
-    /// Nothing waits.
+    /// An empty buffer.
     pub(crate) fn new() -> Buffer
         ensures { result ≡ [] }
     {
@@ -48,14 +48,14 @@ impl Buffer {
         &self.bytes[..self.count]
     }
 
-    /// Nothing waits any more.
+    /// Makes the buffer empty.
     pub(crate) fn clear(&mut self)
         ensures { self.new ≡ [] }
     {
         self.count = 0;
     }
 
-    /// A byte comes behind those that wait.
+    /// Puts a byte after the bytes that wait.
     pub(crate) fn push(&mut self, byte: u8)
         requires { length self.old < SIZE }
         ensures bytes { self.new ≡ self.old ++ byte ∷ [] }
@@ -65,7 +65,7 @@ impl Buffer {
         self.count += 1;
     }
 
-    /// A text comes behind the bytes that wait.
+    /// Puts a text after the bytes that wait.
     pub(crate) fn push_text(&mut self, text: &[u8])
         requires { length self.old + length text.now ≤ SIZE }
         ensures bytes { self.new ≡ self.old ++ text.now }

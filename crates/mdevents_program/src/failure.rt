@@ -8,26 +8,28 @@ use markdown::message::Message;
 use std::alloc::AllocError;
 use std::fmt;
 
-/// Why nothing, or not all, was written. Each is shown as one line.
+/// Why not all was written. Each is shown as one line on standard error.
 #[derive(Debug, PartialEq, Eq, Drop)]
 pub enum Failure {
-    /// There was no memory.
+    /// It ran out of memory.
     Memory,
     /// The reader failed.
     Read,
-    /// The writer failed, or took nothing.
+    /// The writer failed, or wrote 0 bytes.
     Write,
-    /// The size of tabs times the length of the input, and one more, do not fit `usize`.
+    /// The tab size times the length of the input, and one more, does not fit `usize`.
     TooLong,
-    /// The events have chains of text that cannot be read. Those of a machine that the program offers all can.
+    /// The events have chains of text that cannot be read. This never happens with the machines that the program
+    /// offers.
     NotReady,
-    /// The document is refused, by a state or a resolver. No machine that the program offers does that.
+    /// The document is refused, by a state or a resolver. No machine that the program offers refuses one.
     Message(Message),
 }
 
 impl fmt::Display for Failure {
     ghost output = { λ failure. Some (failure_text failure) };
 
+    /// Writes the failure as one line.
     fn fmt<W: fmt::Write>(&self, f: &mut fmt::Formatter<W>) -> fmt::Result {
         match self {
             Failure::Memory => write!(f, "out of memory"),
@@ -43,6 +45,7 @@ impl fmt::Display for Failure {
 impl From<AllocError> for Failure {
     ghost from_gives = { λ _ failure. failure ≡ Memory };
 
+    /// A failed allocation is `Memory`.
     fn from(_error: AllocError) -> Failure {
         Failure::Memory
     }

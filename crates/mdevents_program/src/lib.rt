@@ -1,4 +1,5 @@
-//! All of the program but its call: it reads a document, makes its events and writes their lines, over any reader and writer.
+//! All of the program but its `main`: it reads a document, makes its events and writes their lines, for any reader and
+//! writer.
 #![tactic(auto)]
 
 pub mod arguments;

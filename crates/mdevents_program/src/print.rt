@@ -11,10 +11,10 @@ use crate::buffer::{Buffer, SIZE};
 use markdown::event::{Event, Kind, Name, Point};
 use std::marker::Model;
 
-/// The most bytes that the line of an event has.
+/// No line of an event has more bytes than this.
 pub(crate) const LONGEST: usize = 128;
 
-/// A point and its text: many events are at the point of the event before them, so the text is made once for all of them.
+/// A point and its text. Many events are at the point of the event before them, so the text is made once for all of them.
 #[derive(Drop)]
 pub(crate) struct LastPoint {
     point: Point,
@@ -40,7 +40,7 @@ impl LastPoint {
         LastPoint { point, text }
     }
 
-    /// The text of a point, made anew if it is not that of the last one.
+    /// The text of a point. It is made anew if the point is not the last one.
     fn text_for(&mut self, point: Point) -> &[u8]
         ensures text { result.now ≡ printed_point point }
         ensures most { length result.now ≤ 85 }

@@ -1,4 +1,4 @@
-//! What the program does, over any reader and writer.
+//! What the program does, for any reader and writer.
 
 ghost use Rattle.std.specs.Prelude.{◌≡◌, ◌≢◌, Contains, IfOk, IfErr, OnOk, IsErrOf, Some, false};
 ghost use Rattle.std.specs.Io.KnownBytes.{Keeps};
@@ -26,13 +26,15 @@ use mdconstructs::{Back, Deep, Lines, Paragraphs, Peek, Save, Text};
 use std::alloc::{AllocError, Global};
 use std::io::{Read, Write};
 
-/// Reads a document to its end and writes its events, a line for each, once all are there. The lines go through a buffer of
-/// fixed size, so no memory is taken but for the document and the events.
+/// Reads a document to its end, makes its events, and then writes them, a line for each. The lines go through a buffer of
+/// fixed size, so only the document and the events take memory.
 ///
-/// Tab stops are at the columns that the choice says. A cut in it is at least 1. It returns the first failure, in the order of
-/// reading, length, making the events, and writing. If that is not the writer's, nothing was written; if it is, a beginning of the
-/// lines. But for `TooLong`, what was read is within the limit. Two failures never come: `Message`, as no machine that can be
-/// chosen refuses a document, and `NotReady`, as the chains of text in what such a machine reads can be read.
+/// A cut in the choice must be at least 1. Returns the first failure, in the order of reading, length, making the events, and
+/// writing. After `Write`, a beginning of the lines was written, and after any other failure nothing. Unless it returns `TooLong`,
+/// what was read is within the limit.
+///
+/// Two failures never come. `Message`: no machine that can be chosen refuses a document. `NotReady`: the chains of text that such
+/// a machine makes can be read.
 pub fn write_events<R: Read, W: Write>(
     alloc: Global,
     reader: &mut R,
@@ -53,9 +55,9 @@ pub fn write_events<R: Read, W: Write>(
     write_lines(writer, events.as_slice())
 }
 
-/// The events of a document, read by the machine that the choice names, with these constructs. They have no trace of the cuts.
+/// The events of a document, read by the machine that the choice names, with these constructs. The cuts leave no trace in them.
 ///
-/// The only failure that comes is `Memory`.
+/// It fails only with `Memory`.
 pub fn events_of(
     alloc: Global,
     bytes: &[u8],
@@ -89,7 +91,7 @@ pub fn events_of(
     }
 }
 
-/// The default options, but for the constructs, and with tab stops at every so many columns.
+/// The default options, but with these constructs and this size of tabs.
 pub fn options_with(constructs: Constructs, tab: TabSize) -> ParseOptions
     ensures { result ≡ options_with constructs tab }
 {
@@ -129,7 +131,7 @@ fn read_by<M: Machine>(
     }
 }
 
-/// The events of a document, as a machine reads it from this start, with the children of their chains of text.
+/// The events that a machine makes of a document, from this start, with the children of their chains of text.
 fn read_deep_by<M: Machine>(
     alloc: Global,
     machine: &M,
@@ -152,7 +154,7 @@ fn read_deep_by<M: Machine>(
     with_children(alloc, machine, bytes, options, events)
 }
 
-/// The events with the children of their chains of text in place of the chunks, each read from its start by the same machine.
+/// The events with the children of their chains of text in place of the chunks. The same machine reads each child.
 fn with_children<M: Machine>(
     alloc: Global,
     machine: &M,

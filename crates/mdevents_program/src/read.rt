@@ -11,17 +11,18 @@ use markdown::configuration::TabSize;
 use std::alloc::Global;
 use std::io::Read;
 
-/// The most bytes that are read: the size of tabs times as many, and one more, fit `usize`.
+/// The greatest length that is read: the tab size times this number, and one more, fits `usize`.
 pub fn limit_of(tab: TabSize) -> usize
     ensures { (n : _) → (n ≤ result) ↔ (tab * n + 1 < 2 ^ 64) }
 {
     (usize::MAX - 1) / tab.get()
 }
 
-/// Reads to the end: to a read that gives nothing. Any error of the reader is `Failure::Read`, and it is
-/// `Failure::TooLong` as soon as what was read is past the limit, which depends on the size of tabs, so it ends over every reader.
+/// Reads to the end: until a read returns 0 bytes. Returns `Failure::Read` for any error of the reader. Returns `Failure::TooLong`
+/// as soon as what was read is past the limit, which depends on the tab size; so it ends for every reader. Returns
+/// `Failure::Memory` if it runs out of memory.
 ///
-/// If it fails, the reader has lost what was read so far.
+/// After a failure, what was read so far is lost.
 pub fn read_to_end<R: Read>(alloc: Global, reader: &mut R, tab: TabSize) -> Result<Vec<u8>, Failure>
     ensures all { IfOk result (λ bytes. Consumes (R.remaining reader.old) (R.remaining reader.new) bytes.items) }
     ensures end { OnOk result (IsAtEnd (R.remaining reader.new)) }
@@ -36,7 +37,7 @@ pub fn read_to_end<R: Read>(alloc: Global, reader: &mut R, tab: TabSize) -> Resu
     Ok(bytes)
 }
 
-/// Reads once, and appends what came. Whether anything came.
+/// Reads once, and appends the bytes. Returns whether there were any.
 fn read_more<R: Read>(reader: &mut R, bytes: &mut Vec<u8>, tab: TabSize) -> Result<bool, Failure>
     requires { IsWithinLimit tab bytes.old.items }
     ensures appends { OnOk result ((piece : List ℕ) × (bytes.new.items ≡ bytes.old.items ++ piece)

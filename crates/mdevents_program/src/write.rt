@@ -10,8 +10,8 @@ use crate::print::{LONGEST, LastPoint, push_line};
 use markdown::event::Event;
 use std::io::Write;
 
-/// Writes a line for each event and nothing else, through a buffer of [`SIZE`] bytes, and takes no memory. Any error of
-/// the writer, and a write that takes nothing, is `Failure::Write`; what was written is then a beginning of the lines.
+/// Writes a line for each event and nothing else, through a buffer of [`SIZE`] bytes. Takes no memory. Returns
+/// `Failure::Write` for any error of the writer, and for a write of 0 bytes; a beginning of the lines was then written.
 pub fn write_lines<W: Write>(writer: &mut W, events: &[Event]) -> Result<(), Failure>
     ensures all { OnOk result (Appends (W.contents writer.old) (W.contents writer.new) (printed_events events.now)) }
     ensures failed { OnErr result ((count : ℕ) × Appends (W.contents writer.old) (W.contents writer.new) (take count (printed_events events.now))) }
@@ -42,8 +42,8 @@ fn make_room<W: Write>(buffer: &mut Buffer, writer: &mut W) -> Result<(), Failur
     Ok(())
 }
 
-/// Writes all of a text and nothing else. Any error of the writer, and a write that takes nothing, is
-/// `Failure::Write`; what was written is then a beginning of the text. An empty one is written whole.
+/// Writes all of a text and nothing else. Returns `Failure::Write` for any error of the writer, and for a write of 0
+/// bytes; a beginning of the text was then written. An empty text needs no write.
 fn write_all<W: Write>(writer: &mut W, text: &[u8]) -> Result<(), Failure>
     ensures all { OnOk result (Appends (W.contents writer.old) (W.contents writer.new) text.now) }
     ensures failed { OnErr result ((count : ℕ) × Appends (W.contents writer.old) (W.contents writer.new) (take count text.now)) }

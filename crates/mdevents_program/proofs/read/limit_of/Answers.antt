@@ -3,7 +3,7 @@ use Rattle.std.specs.Prelude.{◌↔◌}
 use Rattle.std.proofs.Math.Nat.{le-div_iff_mul-le, mul_comm}
 use Rattle.mdevents_program.proofs.read.limit_of.Goals as goal
 
--- what fits into a number so many times
+-- a number that fits into another one this many times
 fits : (t k n : ℕ) → k ≡ t → 0 < k → (n ≤ 18446744073709551614 / k) ↔ (t * n + 1 < 2 ^ 64)
 fits t k n e some =
     let both = le-div_iff_mul-le {k = k} {x = n} {y = 18446744073709551614} some in

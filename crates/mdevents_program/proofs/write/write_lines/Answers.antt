@@ -17,7 +17,7 @@ beginning text waited rest all count e =
     ∙ sym (append_assoc text waited rest) ∙ e in
     ap (λ x. take (length front) x) (sym split) ∙ take_at front (drop count waited ++ rest) (length front) refl
 
--- the lines of the first events begin those of all
+-- the lines of the first events are a beginning of the lines of all events
 lines-split : (events : List Event) (n : ℕ) → printed_events (take n events) ++ printed_events (drop n events) ≡ printed_events events
 lines-split events n = sym (flat_map-append event_line (take n events) (drop n events)) ∙ ap printed_events (take-append-drop n events)
 
@@ -25,7 +25,7 @@ lines-split events n = sym (flat_map-append event_line (take n events) (drop n e
 next-line : (events : List Event) (n : ℕ) (e : Event) → take (n + 1) events ≡ take n events ++ e ∷ [] → printed_events (take (n + 1) events) ≡ printed_events (take n events) ++ event_line e
 next-line events n e more = ap printed_events more ∙ flat_map-append event_line (take n events) (e ∷ []) ∙ ap (λ x. printed_events (take n events) ++ x) (append-nil (event_line e))
 
--- a line comes behind what still waits where a part of it was written
+-- a line comes after what still waits, if a part of that was written
 joined : (text more waited left line all : List ℕ) → text ++ waited ≡ all → more ++ left ≡ waited → (text ++ more) ++ (left ++ line) ≡ all ++ line
 joined text more waited left line all e f = sym (append_assoc (text ++ more) left line) ∙ ap (λ x. x ++ line) (append_assoc text more left ∙ ap (λ x. text ++ x) f ∙ e)
 

@@ -3,7 +3,7 @@ use Rattle.std.proofs.Math.Nat.{lt_trans}
 use Rattle.std.proofs.lemmas.Fmt.{decimal_digit, decimal_step, length-decimal-le}
 use Rattle.mdevents_program.proofs.backwards.Backwards.push_front_number.Goals as goal
 
--- where digits with a last one have room, that one has it, and the others in front of it
+-- if digits have room, the last one has room, and the others have room before it
 has-room : (front : List ℕ) (last behind most : ℕ) → length (front ++ last ∷ []) + behind ≤ most → length front + (behind + 1) ≤ most
 has-room front last behind most room = let e = length-append front (last ∷ []) in omega (arith, e, room)
 
