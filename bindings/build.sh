@@ -1,5 +1,5 @@
 #!/bin/sh
-# Proves and builds the static library, and puts it with what it needs of the kit into bindings/out: liblimecove.a alone is linked.
+# Proves and builds the static library, and puts it with what it needs of the kit into bindings/out: only liblimecove.a is to be linked.
 # usage: bindings/build.sh [WORD..]. The words are passed to `rt lib`, as --jobs 2.
 set -eu
 for tool in rt ar; do

@@ -21,7 +21,7 @@ MAP = "docs/maintaining/MAP.md"
 # Words in backticks that are of Rust, of the system or of the prover
 FOREIGN = set("unsafe debug_assert unwrap respects_eq allocate cap ptr grep steal Lts rattle-kit-13b _rows NAME_in".split())
 FENCE = re.compile(r"^```(\w+) (\S+)((?: \S+)*)\n(.*?)^```$", flags=re.S | re.M)
-FILE = re.compile(r"[\w./+-]+\.(?:rt|antt|md|py|sh|edit|txt)|(?:crates|docs|tools|bench|wrong-bodies|specs|proofs|src)/[\w./+-]*")
+FILE = re.compile(r"[\w./+-]+\.(?:rt|antt|md|py|sh|edit|txt)|(?:crates|docs|tools|bench|bindings|wrong-bodies|specs|proofs|src)/[\w./+-]*")
 PATH = re.compile(r"(?:\w+::)+\{?\w+\}?")  # markdown::tokenizer
 LEMMAS = re.compile(r"[A-Z]\w+\.[A-Z]\w+")  # Runs.Whole
 CITED = re.compile(r"Rattle\.(\w+)\.(specs|proofs)((?:\.\w+)*)")
@@ -161,7 +161,7 @@ def definitions():
 
 
 def main():
-    code = "\n".join(read(f) for f in FILES if re.match(r"(crates|bench|tools|wrong-bodies)/.*\.(rt|antt|py|sh)$", f) and f != "tools/docs.py")
+    code = "\n".join(read(f) for f in FILES if re.match(r"(crates|bench|bindings|tools|wrong-bodies)/.*\.(rt|antt|py|sh|rs|c|h)$", f) and f != "tools/docs.py")
     source = {"std", "core"} | set(re.findall(r"\w+", code)) | set(re.findall(r"[\w'-]+", code))
     source |= {part for p in PATHS for part in re.findall(r"[\w-]+", os.path.basename(p))} | set(re.findall(r"\w+", " ".join(PATHS)))
     for page in PAGES:

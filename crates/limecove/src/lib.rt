@@ -64,15 +64,15 @@ pub extern "C" fn limecove_read_text(
     ensures version { result.version ≡ VERSION }
 {
     let Some(tab) = tab_of(options.tab_size) else {
-        return not_read(NO_SUCH_OPTIONS);
+        return ended(NO_SUCH_OPTIONS, 0);
     };
     if bytes.len() > limit_of(tab) {
-        return not_read(TOO_LONG);
+        return ended(TOO_LONG, 0);
     }
     let options = options_with(constructs_of(options), tab);
     match read_text(alloc, bytes, &options, &[]) {
-        Ok(events) => read(write_records(records, events.as_slice())),
-        Err(_) => not_read(OUT_OF_MEMORY),
+        Ok(events) => ended(READ, write_records(records, events.as_slice())),
+        Err(_) => ended(OUT_OF_MEMORY, 0),
     }
 }
 
@@ -92,35 +92,24 @@ pub extern "C" fn limecove_read(
     ensures version { result.version ≡ VERSION }
 {
     let Some(choice) = choose(options) else {
-        return not_read(NO_SUCH_OPTIONS);
+        return ended(NO_SUCH_OPTIONS, 0);
     };
     if bytes.len() > limit_of(choice.tab) {
-        return not_read(TOO_LONG);
+        return ended(TOO_LONG, 0);
     }
     match events_of(alloc, bytes, constructs_of(&options.text), &choice) {
-        Ok(events) => read(write_records(records, events.as_slice())),
-        Err(_) => not_read(OUT_OF_MEMORY),
+        Ok(events) => ended(READ, write_records(records, events.as_slice())),
+        Err(_) => ended(OUT_OF_MEMORY, 0),
     }
 }
 
-/// The answer that a document of so many events was read.
-fn read(count: usize) -> Answer
-    ensures { result ≡ record { code = READ; version = VERSION; count = count } }
-{
-    Answer {
-        code: READ,
-        version: VERSION,
-        count,
-    }
-}
-
-/// The answer that a document was not read.
-fn not_read(code: u32) -> Answer
-    ensures { result ≡ record { code = code; version = VERSION; count = 0 } }
+/// The answer of a call that ended so.
+fn ended(code: u32, count: usize) -> Answer
+    ensures { result ≡ record { code = code; version = VERSION; count = count } }
 {
     Answer {
         code,
         version: VERSION,
-        count: 0,
+        count,
     }
 }
