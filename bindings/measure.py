@@ -18,9 +18,10 @@ RUST = Path(__file__).resolve().parent / "rust"
 SIZE = 100_000
 PLAIN = "The quick brown fox jumps over the lazy dog, and does so once more, slowly.\n"
 MARKUP = "Some `code` and <https://example.com/a?b=c> with \\* and \\_ escapes, and ``two ` ticks`` here.\n"
-KINDS = {"plain": PLAIN, "tabs": "a\tbc\t\tdef\t\t\tg\th\n", "short": "ab\n", "quoted": ">" + PLAIN, "markup": MARKUP}
+KINDS = {"plain": PLAIN, "columns": "name\tvalue\tother\tlast\n", "tabs": "a\tbc\t\tdef\t\t\tg\th\n", "short": "ab\n", "quoted": ">" + PLAIN, "markup": MARKUP}
 WAYS = [
     ("lines", "plain"),
+    ("lines", "columns"),
     ("lines", "tabs"),
     ("lines", "short"),
     ("lines", "markup"),
