@@ -1,11 +1,11 @@
 """Prints what a run of mdevents needs, for each machine and several documents, as the rows of a table, and then how it grows with
-the document, its chunks, its gaps and the edits. Where a third program is given, a table compares mdevents with it.
+the document, its chunks, its gaps and the edits. If a third program is given, a table compares mdevents with it.
 
-Instructions are callgrind's counts, the same in each run, less those of a run over nothing; the engine's are those of the
-functions of the crates markdown_tokenizer and markdown_edits. Peak memory is the most that stood on the heap at once (massif), the
-same in each run too. Page faults are those for which nothing is read, so a page of memory each that a run touches, less those of a
-run over nothing: the greatest resident set of a process that this one starts would be this one's. The bytes per second are those of
-the fastest of five runs.
+Instructions are callgrind's counts, the same in each run, less the count of a run over nothing. The engine's are the counts of the
+functions of the crates markdown_tokenizer and markdown_edits. Peak memory is the most that was on the heap at once (massif), the
+same in each run too. Page faults are the ones for which nothing is read, less the ones of a run over nothing: each is a page of
+memory that a run touches. (The greatest resident set of a process that this one starts would be this one's.) The bytes per second
+are from the fastest of five runs.
 
 usage: measure.py MDEVENTS MDBENCH [OTHER]. OTHER reads a document from standard input and writes the events of the machine of
 lines, as mdevents does without options.
@@ -94,7 +94,7 @@ def peak(program, options, document, counts):
 
 
 def instructions(program, options, document, counts):
-    """The instructions of a run, and those of the engine in it."""
+    """The instructions of a run, and the engine's part of them."""
     valgrind("callgrind", [f"--callgrind-out-file={counts}"], program, options, document)
     listed = subprocess.run(["callgrind_annotate", "--threshold=100", counts], capture_output=True, text=True, check=True)
     whole = engine = 0
@@ -146,7 +146,7 @@ def main(program, folder):
 
 
 def compare(program, other, folder):
-    """Prints the table of mdevents beside another program, on documents of 100,000 bytes."""
+    """Prints the table of mdevents and another program, on documents of 100,000 bytes."""
     counts = os.path.join(folder, "counts")
     document = os.path.join(folder, "document")
     size = 100000

@@ -10,7 +10,7 @@ for tool in rt valgrind callgrind_annotate python3; do
 done
 here=$(cd "$(dirname "$0")" && pwd)
 
-# proves and builds a program, which stands in the crate's folder out/
+# proves and builds a program; it is then in the crate's folder out/
 build() {
     if ! (cd "$here/../crates/$1" && rt run </dev/null >/dev/null 2>"$log"); then
         cat "$log" >&2
@@ -21,7 +21,7 @@ build() {
 
 log=$(mktemp)
 trap 'rm -f "$log"' EXIT
-# a further program is built so, and measured by a script beside measure.py that prints a table of its own
+# another program is built so, and measured by a script next to measure.py that prints a table of its own
 build mdevents
 build mdbench
 python3 "$here/measure.py" "$here/../crates/mdevents/out/mdevents" "$here/../crates/mdbench/out/mdbench" "$@"

@@ -1,7 +1,7 @@
 #!/usr/bin/env python3
-"""Holds README.md and docs/ against the files that they speak of. Prints what fails, and ends with 1 if something does.
+"""Checks README.md and docs/ against the files that they name. Prints what fails, and ends with 1 if something does.
 
-usage: tools/docs.py [--take]        with --take each code block is first written anew from the items that it names
+usage: tools/docs.py [--take]        with --take each code block is first rewritten from the items that it names
 
 A fence names its file behind the language, and the items that it shows: ```rust crates/C/src/f.rt item item. `*` is the whole
 file. With no item each stretch between blank lines is text of the file. A block of code that names no file fails. Shown with items are the `use` lines that they need.

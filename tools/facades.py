@@ -1,5 +1,5 @@
 #!/usr/bin/env python3
-"""Writes specs/Lib.antt and proofs/Lib.antt of the two facades, `markdown` and `mdconstructs`, from those of their parts.
+"""Writes specs/Lib.antt and proofs/Lib.antt of the two facades, `markdown` and `mdconstructs`, from the ones of their parts.
 
 usage: tools/facades.py [--check]        with --check it writes nothing, and ends with 1 if a file is not as it would be written
 

@@ -1,10 +1,10 @@
 #!/usr/bin/env python3
 """Runs the gate, or another command at the top, and lists what its checks took in seconds of processor time.
 
-usage: tools/gate.py [-C FOLDER] [COMMAND..]        `rt ci` where no command is given, in this checkout or that of FOLDER
+usage: tools/gate.py [-C FOLDER] [COMMAND..]        `rt ci` if no command is given; in this checkout or in FOLDER
 
 Each second it looks at the prover's processes that the command has started, so the last second of each is not counted.
-An edit's check is told by the texts of the copy that it works on. The time in all is that of the command and of each process
+An edit's check is recognized by the texts of the copy that it works on. The total is the time of the command and of each process
 that it has waited for, as the system counts it: the prover, the tests, the programs and rt itself.
 """
 

@@ -1,10 +1,10 @@
 #!/usr/bin/env python3
-"""Refuses a growth in each test of mdtests and mdevents: the first one, then the second, and so on, up to the number that is given
-(20 where none is). Prints a row for each: how many tests passed, and how many ended for want of memory.
+"""Makes one allocation fail in each test of mdtests and mdevents: the first one, then the second, and so on, up to a given number
+(default 20). Prints a row for each: how many tests passed, and how many ended as memory ran out.
 
-Some tests have to pass whichever growth is refused: in mdtests those of the module no_memory, and in mdevents the one that shows
-that want of memory is no fault of the reader. Another test of mdtests passes, ends in AllocError, or shows "out of memory" in what it
-compares. Another one of mdevents may fail, as it compares without showing. The status is 1 where anything else is seen. Needs rt.
+Some tests must pass whichever allocation fails: in mdtests the module no_memory, and in mdevents the test that memory is no fault of
+the reader. Any other test of mdtests passes, ends in AllocError, or shows "out of memory" in what it compares. Any other test of
+mdevents may fail, as it compares without showing. The status is 1 if anything else is seen. Needs rt.
 """
 
 import os

@@ -1,7 +1,7 @@
 #!/usr/bin/env python3
-"""Runs the gates of two checkouts in turns of half a minute, so that each is alone and both meet the same machine.
+"""Runs the gates of two checkouts in turns of half a minute, so that both have the same machine to themselves.
 
-usage: tools/turns.py OTHER [LOG]        this checkout's gate, and that of the folder OTHER; as LOG.this and LOG.other (gate)
+usage: tools/turns.py OTHER [LOG]        this checkout's gate, and the gate of the folder OTHER; logs are LOG.this and LOG.other (default: gate)
 
 What a check takes depends on what else the machine does, and that changes within minutes. So while one gate runs, each process
 of the other one is held still (SIGSTOP). tools/gate.py counts what each takes. A line for each turn says how long the

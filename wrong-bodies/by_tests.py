@@ -1,8 +1,8 @@
 #!/usr/bin/env python3
-"""Tries the wrong bodies that meet their contracts, since they give up for want of memory where there is some: no proof can
-reject them, so a test must; and those of the status of the program. by-tests/LIST has a line for each: the edit, the crate of the
-test, and the test. In place of that stands "refusals" where it is seen only if a growth is refused (tools/refusals.py), and "call"
-where it is seen only in a call of the program with the words "--cut 0", which has status 2.
+"""Tries the wrong bodies that meet their contracts, as they return that memory ran out although there is some. No proof can reject
+them, so a test must. Also tries the ones of the program's status. by-tests/LIST has a line for each: the edit, the crate of the test,
+and the test. In place of the test it has "refusals" if only a failing allocation shows it (tools/refusals.py), and "call" if only
+a call of the program with the arguments "--cut 0" shows it, which has status 2.
 
 Works on a copy of the repository, from which it takes the other tests, and runs "rt try --test", once for edits that have different
 tests. Prints a row for each edit. The status is 1 if the test passes over one. usage: wrong-bodies/by_tests.py [WORD], for the edits
@@ -49,7 +49,7 @@ def apply(edit, crate):
 
 
 def keep(crate, wanted):
-    """Takes all tests from a crate but those of these names."""
+    """Removes all tests from a crate except the ones with these names."""
     for folder, _, names in os.walk(os.path.join(crate, "src")):
         for name in names:
             path = os.path.join(folder, name)
@@ -59,7 +59,7 @@ def keep(crate, wanted):
 
 
 def groups(word):
-    """The edits that are tried together: those with different tests of one crate. Each is then met by its own test alone."""
+    """The edits that are tried together: edits of one crate with different tests. Each is then met only by its own test."""
     found = []
     for line in open(os.path.join(HERE, "by-tests", "LIST")):
         if word not in line:

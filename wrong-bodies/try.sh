@@ -1,6 +1,6 @@
 #!/usr/bin/env bash
-# Tries the wrong bodies of this folder: further ones of functions that have one in the gate, and those of private functions.
-# The prover must reject each. Those of by-tests meet their contracts: by_tests.py tries these by the tests.
+# Tries the wrong bodies of this folder: more of functions that have one in the gate, and wrong bodies of private functions.
+# The prover must reject each. The bodies in by-tests meet their contracts: by_tests.py tries these by the tests.
 # usage: wrong-bodies/try.sh [CRATE..]. It works on a copy of the repository, and takes some 40 seconds an edit.
 set -eu
 here=$(cd "$(dirname "$0")" && pwd)
