@@ -253,8 +253,8 @@ impl<'a, M: MachineTypes> Tokenizer<'a, M> {
         self.waits = Waits::Nothing;
     }
 
-    /// Begins a span: adds an enter at the current place (`point`). If it runs out of memory, events and stack stay as
-    /// they were.
+    /// Begins a span: adds an enter at the current place, as it is shown (a CR LF at its CR). If it runs out of memory,
+    /// events and stack stay as they were.
     pub fn enter(&mut self, name: Name) -> Result<(), AllocError>
         ensures ok { OnOk result (self.new ≡ with_enter name None self.old) }
         ensures err { OnErr result (self.new ≡ self.old) }
@@ -359,7 +359,8 @@ impl<'a, M: MachineTypes> Tokenizer<'a, M> {
     ///
     /// A state that returns `Ok` or `Nok` ends the last choice that waits. After `Ok` this choice goes on with `ok`,
     /// from the place reached. After `Nok` it goes back to this place and goes on with `nok`: the position, the number
-    /// of events and the open spans are as now. `tokenize_state`, `map` and the flags are not put back.
+    /// of events and the open spans are as now. `tokenize_state`, `map`, the flags, the registered resolvers and link
+    /// ends of events are not put back.
     ///
     /// If `nok` is [`State::Nok`], nothing is saved: the enclosing choice then fails too, and restores its own save.
     /// `ok` and `nok` are each `Next`, `Ok` or `Nok`. If it runs out of memory, nothing changes.
