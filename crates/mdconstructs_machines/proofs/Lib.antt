@@ -1,7 +1,10 @@
 -- The proof of each function is in a folder of its own, by its module.
+pub mod BlockReads
+pub mod Innermost
 pub mod LineExamples
 pub mod LineReads
 pub mod Mapped
+pub mod ParagraphExamples
 pub mod RowSteps
 pub mod NoRefusals
 pub mod Unfit

@@ -1,5 +1,5 @@
 -- The machine that goes back: it reads the first line as data, looks over the next line, goes back, and reads the rest as one more data.
-use Rattle.std.specs.Prelude.{◌∷◌, [], Option, Some, None, true}
+use Rattle.std.specs.Prelude.{◌∷◌, [], Option, Some, None}
 use Rattle.markdown_base.specs.declared.event.Name.TheVariants.{Data}
 use Rattle.markdown_base.specs.declared.state.TheConstants.Name.{TextStart, TextBefore, DataStart, DataInside, StringStart, DataAtBreak, StringBefore}
 use Rattle.markdown_base.specs.declared.state.State.TheVariants.{Next, Retry, Ok, Nok}

@@ -1,11 +1,16 @@
 -- The innermost spans of events, and that they account for virtual bytes.
-use Rattle.std.specs.Prelude.{◌≡◌, ℕ, List, [], ◌∷◌, ◌++◌, cond, map}
+use Rattle.std.specs.Prelude.{◌≡◌, ℕ, List, [], ◌∷◌, ◌++◌, false, cond, map}
 use Rattle.std.specs.List.{flat_map}
 use Rattle.markdown_base.specs.declared.event.Event.{Event}
 use Rattle.markdown_base.specs.declared.event.Point.{Point}
 use Rattle.markdown_base.specs.Events.{is_enter}
 use Rattle.markdown_base.specs.Places.{shown}
-use Rattle.markdown_base.specs.Virtual.{Seat, end_after}
+use Rattle.markdown_base.specs.Virtual.{Seat, end_after, virtual}
+use Rattle.markdown_base.specs.declared.state.Name.{Name}
+use Rattle.markdown_tokenizer.specs.declared.subtokenize.Subresult.{Subresult}
+use Rattle.markdown_tokenizer.specs.Engine.{IsRun}
+use Rattle.markdown_tokenizer.specs.Rules.{Rules}
+use Rattle.markdown_tokenizer.specs.Text.{Given, IsDocument}
 
 -- the place of an event, with that of the next event, if the next one is an exit
 abbrev pub ended_next : Event → List Event → List (Point × Point)
@@ -31,3 +36,8 @@ pub record AccountFor (events : List Event) (bytes : List ℕ) (seats : List Sea
   pub stretches : List (Seat × List Seat)
   pub are_all : flat_map stretch_bytes stretches ≡ seats
   pub are_innermost : innermost_spans events ≡ map (span_over bytes) stretches
+
+-- Of each document, what a run of these rules from this start returns accounts for each virtual byte
+abbrev pub AccountsForDocuments : {R D : Type 0} → (rules : Given → Rules R D) → (start : Name) → Type 0
+AccountsForDocuments rules start =
+    (g : Given) (events : List Event) (sub : Subresult) → IsDocument g → IsRun g rules false start events sub → AccountFor events g.bytes (virtual g.tab g.bytes)

@@ -6,6 +6,7 @@ pub mod Innermost
 pub mod LineEvents
 pub mod Lines
 pub mod Messages
+pub mod ParagraphEvents
 pub mod Paragraphs
 pub mod Peek
 pub mod ReadAs

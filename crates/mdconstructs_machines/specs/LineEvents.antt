@@ -1,4 +1,4 @@
--- The events of documents that are read line by line. Each definition says what stands in the text, and has no states.
+-- The events of documents that are read line by line. Each definition is about the text, and has no states.
 use Rattle.std.specs.Prelude.{ℕ, ◌==◌, Bool, not, List, [], ◌∷◌, ◌++◌, cond, filter, take, drop}
 use Rattle.std.specs.List.{flat_map}
 use Rattle.markdown_base.specs.declared.event.Event.{Event}
@@ -10,7 +10,7 @@ use Rattle.mdconstructs_machines.specs.Spans.{span, leaf}
 abbrev pub is_line_ending : Seat → Bool
 is_line_ending s = s.byte == 10
 
--- the lines of virtual bytes that begin with this one, from the lines of what follows it
+-- the lines of virtual bytes that begin with this one, from the lines of the bytes after it
 abbrev pub joined : Seat → List (List Seat) → List (List Seat)
 joined s [] = (s ∷ []) ∷ []
 joined s (line ∷ lines) = (s ∷ line) ∷ lines
@@ -20,7 +20,7 @@ abbrev pub lines_in : List Seat → List (List Seat)
 lines_in [] = []
 lines_in (s ∷ ss) = cond (is_line_ending s) ((s ∷ []) ∷ lines_in ss) (joined s (lines_in ss))
 
--- what stands in a line before its line ending
+-- the virtual bytes of a line before its line ending
 abbrev pub line_text : List Seat → List Seat
 line_text line = filter (λ s. not (is_line_ending s)) line
 
@@ -28,12 +28,12 @@ line_text line = filter (λ s. not (is_line_ending s)) line
 abbrev pub ending_of : List Seat → List Seat
 ending_of line = filter is_line_ending line
 
--- all that stands in lines
+-- all virtual bytes of lines
 abbrev pub all_of : List (List Seat) → List Seat
 all_of lines = flat_map (λ line. line) lines
 
 module _ (bytes : List ℕ) where
-  -- data over what stands in a line, and its line ending
+  -- data over a line before its line ending, and the line ending
   abbrev pub data_line : List Seat → List Event
   data_line line = leaf bytes Data (line_text line) ++ leaf bytes LineEnding (ending_of line)
 
@@ -41,7 +41,7 @@ module _ (bytes : List ℕ) where
   abbrev pub data_events : List Seat → List Event
   data_events seats = flat_map data_line (lines_in seats)
 
-  -- a paragraph of data over what stands in a line, and its line ending
+  -- a paragraph of data over a line before its line ending, and the line ending
   abbrev pub paragraph_line : List Seat → List Event
   paragraph_line line = span bytes Paragraph (line_text line) (leaf bytes Data (line_text line)) ++ leaf bytes LineEnding (ending_of line)
 

@@ -1,4 +1,4 @@
--- What a machine reads of each document, as a definition without states.
+-- The events that a machine makes of each document, by a definition without states.
 use Rattle.std.specs.Prelude.{◌≡◌, ℕ, List, false}
 use Rattle.markdown_base.specs.declared.event.Event.{Event}
 use Rattle.markdown_base.specs.declared.state.Name.{Name}
@@ -8,7 +8,7 @@ use Rattle.markdown_tokenizer.specs.Engine.{IsRun}
 use Rattle.markdown_tokenizer.specs.Rules.{Rules}
 use Rattle.markdown_tokenizer.specs.Text.{Given, IsDocument}
 
--- Of each document, a run of these rules from this start returns the events that the document's bytes and virtual bytes have
+-- For each document, a run of these rules from this start returns the events that are defined for the document's bytes and virtual bytes
 abbrev pub IsReadAs : {R D : Type 0} → (rules : Given → Rules R D) → (start : Name) → (events_of : List ℕ → List Seat → List Event) → Type 0
 IsReadAs rules start events_of =
     (g : Given) (events : List Event) (sub : Subresult) → IsDocument g → IsRun g rules false start events sub

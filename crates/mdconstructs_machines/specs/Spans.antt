@@ -1,7 +1,7 @@
--- Spans over virtual bytes: the events that enter and exit them, and what is in them.
+-- Spans over virtual bytes: what enters and exits them, and what stands in them.
 --
--- Places come only from the virtual bytes: a span begins at its first byte, and ends where its last byte ends. After a line ending, that is
--- the start of the next line. So a gap there changes nothing: the next span begins at its own first byte.
+-- Places come only from the virtual bytes: a span begins at its first byte, and ends where its last byte ends, which after a line ending is
+-- the start of the next line. So a gap that was passed there changes nothing: what follows it begins at its own byte.
 use Rattle.std.specs.Prelude.{ℕ, List, [], ◌∷◌, ◌++◌, None}
 use Rattle.markdown_base.specs.declared.event.Event.{Event}
 use Rattle.markdown_base.specs.declared.event.Kind.{Kind}

@@ -1,19 +1,14 @@
 //! Laws about the machines. Each is a function that does nothing; its contract is the law.
 
-ghost use Rattle.std.specs.Prelude.{◌≡◌, ◌+◌, ◌-◌, ◌*◌, ◌/◌, [], ◌∷◌, List, Some, None, false};
-ghost use Rattle.markdown_base.specs.declared.event.Event.{Event};
+ghost use Rattle.std.specs.Prelude.{◌≡◌, ◌+◌, ◌-◌, ◌*◌, ◌/◌, [], ◌∷◌, Some, None};
 ghost use Rattle.markdown_base.specs.declared.state.TheConstants.Name.{FlowStart, ParagraphInside, TextStart, StringStart};
-ghost use Rattle.markdown_base.specs.Virtual.{virtual};
-ghost use Rattle.markdown_tokenizer.specs.declared.subtokenize.Subresult.{Subresult};
-ghost use Rattle.markdown_tokenizer.specs.Engine.{IsRun};
-ghost use Rattle.markdown_tokenizer.specs.Text.{Given, IsDocument};
 ghost use Rattle.mdconstructs_tables.specs.Fitting.{IsFit};
 ghost use Rattle.mdconstructs_tables.specs.Misfits.{act, spans, choice, answer, unpaid, start, misfits};
 ghost use Rattle.mdconstructs_tables.specs.PlainTables.{IsPlainTable};
 ghost use Rattle.mdconstructs_tables.specs.PlainWrites.{WritesPlain};
 ghost use Rattle.mdconstructs_tables.specs.Refusals.{RulesRefuseNothing};
 ghost use Rattle.mdconstructs_machines.specs.Costs.{StartsAt, StartsAmong};
-ghost use Rattle.mdconstructs_machines.specs.Innermost.{AccountFor};
+ghost use Rattle.mdconstructs_machines.specs.Innermost.{AccountsForDocuments};
 ghost use Rattle.mdconstructs_machines.specs.LineEvents.{line_events, data_events, save_events, back_events};
 ghost use Rattle.mdconstructs_machines.specs.ReadAs.{IsReadAs};
 ghost use Rattle.mdconstructs_machines.specs.Tables.{line_ending, other};
@@ -54,8 +49,8 @@ pub fn no_document_is_refused()
     ensures save { RulesRefuseNothing save_rules }
 {}
 
-/// What these machines read of each document is said by definitions without states: each line, or each line but the first, as data;
-/// or the first line and all the rest.
+/// The events that these machines make of each document have definitions without states: each line is data, or each line but the
+/// first; or the first line is data, and all the rest.
 pub fn documents_are_read_by_lines()
     ensures lines { IsReadAs lines_rules FlowStart line_events }
     ensures peek { IsReadAs peek_rules TextStart data_events }
@@ -64,9 +59,9 @@ pub fn documents_are_read_by_lines()
     ensures back { IsReadAs back_rules TextStart back_events }
 {}
 
-/// Each virtual byte of a document stands in exactly one innermost span of what `Lines` reads: its tokens account for the document.
+/// Each virtual byte of a document is in exactly one innermost span of the events of `Lines`: its tokens account for the document.
 pub fn innermost_spans_account_for_documents()
-    ensures { (g : Given) (events : List Event) (sub : Subresult) → IsDocument g → IsRun g lines_rules false FlowStart events sub → AccountFor events g.bytes (virtual g.tab g.bytes) }
+    ensures { AccountsForDocuments lines_rules FlowStart }
 {}
 
 /// The test of a table names each state that does not fit, with the reason. The tables here are the table of lines with

@@ -8,7 +8,7 @@ use markdown_tokenizer::owned::{Boxed, OwnedText};
 use markdown_tokenizer::unist::Point;
 use std::alloc::{AllocError, Global};
 
-/// The message `1:2: x (markdown:r)`.
+/// The message `1:2: x (markdown:r)`. Returns `AllocError` if it runs out of memory.
 pub(crate) fn refusal(alloc: Global) -> Result<Message, AllocError>
     ensures { IfOk result (λ message. message ≡ refusal) }
 {
@@ -24,7 +24,7 @@ pub(crate) fn refusal(alloc: Global) -> Result<Message, AllocError>
     })
 }
 
-/// A copy of a text, in a box.
+/// A copy of a text, in a box. Returns `AllocError` if it runs out of memory.
 pub(crate) fn boxed(alloc: Global, text: &str) -> Result<Boxed<OwnedText>, AllocError>
     ensures { IfOk result (λ boxed. boxed ≡ text.now) }
 {

@@ -79,7 +79,8 @@ impl Machine for Paragraphs {
     ghost lawful = { λ _ g. knowing-lawful paragraphs knows_chunk g paragraphs-fit paragraphs-known };
 }
 
-/// Before a paragraph: passes a blank line; at any other line the paragraph begins.
+/// State before a paragraph: passes a blank line; at any other line the paragraph begins. Returns `AllocError` if it
+/// runs out of memory, as each state.
 pub fn flow_start<'a, M: MachineTypes>(t: &mut Tokenizer<'a, M>) -> Result<State, AllocError>
     requires { IsCallable line_byte flow_start t.old }
     ensures { IfOk result (DoesAll (step_in line_byte flow_start t.old) t.old t.new) }
@@ -98,7 +99,7 @@ pub fn flow_start<'a, M: MachineTypes>(t: &mut Tokenizer<'a, M>) -> Result<State
     }
 }
 
-/// Before a line of a paragraph: a blank line ends it.
+/// State before a line of a paragraph: a blank line ends the paragraph.
 pub fn paragraph_line_start<'a, M: MachineTypes>(
     t: &mut Tokenizer<'a, M>,
 ) -> Result<State, AllocError>
@@ -122,7 +123,7 @@ pub fn paragraph_line_start<'a, M: MachineTypes>(
     }
 }
 
-/// Before the chunk of a line. The chunk is linked to the previous one of the paragraph.
+/// State before the chunk of a line. The chunk is linked to the previous one of the paragraph.
 pub fn paragraph_start<'a, M: MachineTypes>(t: &mut Tokenizer<'a, M>) -> Result<State, AllocError>
     requires called { IsCallable line_byte paragraph_start t.old }
     requires chunk { CanLinkChunk t.old }
@@ -141,7 +142,7 @@ pub fn paragraph_start<'a, M: MachineTypes>(t: &mut Tokenizer<'a, M>) -> Result<
     }
 }
 
-/// In a chunk, which ends with its line ending.
+/// State in a chunk, which ends with its line ending.
 pub fn paragraph_inside<'a, M: MachineTypes>(t: &mut Tokenizer<'a, M>) -> Result<State, AllocError>
     requires { IsCallable line_byte paragraph_inside t.old }
     ensures { IfOk result (DoesAll (step_in line_byte paragraph_inside t.old) t.old t.new) }

@@ -11,7 +11,7 @@ use markdown_tokenizer::tokenizer::Tokenizer;
 use mdconstructs_tables::marker;
 use std::alloc::AllocError;
 
-/// A line begins.
+/// State at the beginning of a line. Returns `AllocError` if it runs out of memory.
 pub(crate) fn data_start<'a, M: MachineTypes>(t: &mut Tokenizer<'a, M>) -> Result<State, AllocError>
     requires { IsCallable line_byte data_start t.old }
     ensures { IfOk result (DoesAll (step_in line_byte data_start t.old) t.old t.new) }
@@ -29,7 +29,7 @@ pub(crate) fn data_start<'a, M: MachineTypes>(t: &mut Tokenizer<'a, M>) -> Resul
     }
 }
 
-/// In a line.
+/// State in a line. Returns `AllocError` if it runs out of memory.
 pub(crate) fn data_inside<'a, M: MachineTypes>(
     t: &mut Tokenizer<'a, M>,
 ) -> Result<State, AllocError>

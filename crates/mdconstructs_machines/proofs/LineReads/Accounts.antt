@@ -1,22 +1,23 @@
--- What lines are read as accounts for each virtual byte.
+-- The events of lines account for each virtual byte.
 use Rattle.std.proofs.Common.{◌≡◌, ℕ, ◌∷◌, ◌++◌, [], List, true, false, cond, not, refl, sym, ◌∙◌, ap, subst}
 use Rattle.std.specs.List.{flat_map}
 use Rattle.std.proofs.lemmas.List.{append_assoc}
 use Rattle.markdown_base.specs.declared.event.Event.{Event}
-use Rattle.markdown_base.specs.declared.event.Name.{Name}
+use Rattle.markdown_base.specs.declared.event.Kind.TheVariants.{Exit}
 use Rattle.markdown_base.specs.declared.event.Name.TheVariants.{Paragraph, Data, LineEnding}
 use Rattle.markdown_base.specs.declared.state.TheConstants.Name.{FlowStart}
-use Rattle.markdown_base.specs.Virtual.{Seat, virtual}
+use Rattle.markdown_base.specs.Virtual.{Seat, virtual, end_after}
 use Rattle.markdown_tokenizer.specs.declared.subtokenize.Subresult.{Subresult}
 use Rattle.markdown_tokenizer.specs.Engine.{IsRun}
 use Rattle.markdown_tokenizer.specs.Text.{Given, IsDocument}
-use Rattle.mdconstructs_machines.specs.Innermost.{span_over, AccountFor}
+use Rattle.mdconstructs_machines.specs.Innermost.{AccountFor}
 use Rattle.mdconstructs_machines.specs.LineEvents.{is_line_ending, joined, lines_in, line_text, ending_of, paragraph_line, line_events}
 use Rattle.mdconstructs_machines.specs.Lines.{lines_rules}
-use Rattle.mdconstructs_machines.specs.Spans.{span, leaf}
+use Rattle.mdconstructs_machines.specs.Spans.{event, span, leaf}
+use Rattle.mdconstructs_machines.proofs.Innermost.{enter-more, exit-more, leaf-more}
 use Rattle.mdconstructs_machines.proofs.LineReads.Lines.{lines-read}
 
--- what stands in a line, and its ending
+-- the virtual bytes of a line before its ending, and its ending
 abbrev both : List Seat → List Seat
 both line = line_text line ++ ending_of line
 
@@ -33,23 +34,11 @@ lines-are-all (s ∷ ss) = elim (is_line_ending s) as (λ t. is_line_ending s �
 ] refl
 
 module _ (bytes : List ℕ) where
-  -- one more span with nothing in it
-  pub leaf-more : (name : Name) (l : List Seat) (events : List Event) (seats : List Seat) → AccountFor events bytes seats → AccountFor (leaf bytes name l ++ events) bytes (l ++ seats)
-  leaf-more name [] events seats h = h
-  leaf-more name (s ∷ ss) events seats h = record {
-    stretches = (s, ss) ∷ h.stretches;
-    are_all = ap (λ l. s ∷ (ss ++ l)) h.are_all;
-    are_innermost = ap (λ l. span_over bytes (s, ss) ∷ l) h.are_innermost;
-  }
-
   -- a paragraph of data
   paragraph-more : (l : List Seat) (events : List Event) (seats : List Seat) → AccountFor events bytes seats → AccountFor (span bytes Paragraph l (leaf bytes Data l) ++ events) bytes (l ++ seats)
   paragraph-more [] events seats h = h
-  paragraph-more (s ∷ ss) events seats h = record {
-    stretches = (s, ss) ∷ h.stretches;
-    are_all = ap (λ l. s ∷ (ss ++ l)) h.are_all;
-    are_innermost = ap (λ l. span_over bytes (s, ss) ∷ l) h.are_innermost;
-  }
+  paragraph-more (s ∷ ss) events seats h =
+      enter-more bytes _ _ _ ((s ∷ ss) ++ seats) refl refl (leaf-more bytes Data (s ∷ ss) _ seats (exit-more bytes (event bytes Exit Paragraph (end_after s.end ss)) events seats refl h))
 
   lines-account : (lines : List (List Seat)) → AccountFor (flat_map (paragraph_line bytes) lines) bytes (flat_map both lines)
   lines-account [] = record { stretches = []; are_all = refl; are_innermost = refl }
@@ -58,7 +47,7 @@ module _ (bytes : List ℕ) where
       let e = ending_of line in
       let events = flat_map (paragraph_line bytes) lines in
       let seats = flat_map both lines in
-      let more = paragraph-more t (leaf bytes LineEnding e ++ events) (e ++ seats) (leaf-more LineEnding e events seats (lines-account lines)) in
+      let more = paragraph-more t (leaf bytes LineEnding e ++ events) (e ++ seats) (leaf-more bytes LineEnding e events seats (lines-account lines)) in
       subst (λ es. AccountFor es bytes ((t ++ e) ++ seats)) (sym (append_assoc (span bytes Paragraph t (leaf bytes Data t)) (leaf bytes LineEnding e) events))
       (subst (AccountFor (span bytes Paragraph t (leaf bytes Data t) ++ (leaf bytes LineEnding e ++ events)) bytes) (sym (append_assoc t e seats)) more)
 

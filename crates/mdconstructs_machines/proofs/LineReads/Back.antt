@@ -53,7 +53,7 @@ others-joined : (s : Seat) (lines : List (List Seat)) → all_of (drop 1 (joined
 others-joined s [] = refl
 others-joined s (line ∷ lines) = refl
 
--- what is still written in the first line, where the byte before ended here, and in the rest
+-- the events still to come in the first line, if the previous byte ended here, and in the rest
 module _ (bytes : List ℕ) where
   abbrev in_first : Point → List Seat → List Event
   in_first place l = event bytes Exit Data (end_after place (first_line l)) ∷ leaf bytes Data (other_lines l)

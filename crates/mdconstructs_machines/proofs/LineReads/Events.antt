@@ -7,7 +7,7 @@ use Rattle.markdown_base.specs.declared.event.Point.{Point}
 use Rattle.markdown_base.specs.Virtual.{Seat, end_after}
 use Rattle.mdconstructs_machines.specs.LineEvents.{is_line_ending, joined, lines_in, line_text, ending_of}
 
--- How a line is read: what is written over what stands in it, which begins and ends with these events, and what is over a line ending
+-- How a line is read: the events over its text, which begin and end with these, and the events over a line ending
 module _ (over ending : List Seat → List Event) (opening closing : Point → List Event) where
   abbrev pub of_line : List Seat → List Event
   of_line line = over (line_text line) ++ ending (ending_of line)
@@ -15,7 +15,7 @@ module _ (over ending : List Seat → List Event) (opening closing : Point → L
   abbrev pub of_lines : List (List Seat) → List Event
   of_lines lines = flat_map of_line lines
 
-  -- in a line, where the byte before ended here: what is still written
+  -- in a line, if the previous byte ended here: the events still to come
   abbrev pub rest_of : Point → List (List Seat) → List Event
   rest_of place [] = closing place
   rest_of place (line ∷ lines) = closing (end_after place (line_text line)) ++ (ending (ending_of line) ++ of_lines lines)
@@ -33,7 +33,7 @@ module _ (over ending : List Seat → List Event) (opening closing : Point → L
   abbrev rest : Point → List (List Seat) → List Event
   rest place lines = rest_of over ending opening closing place lines
 
-  -- a line that is its ending alone
+  -- a line that is only its ending
   ending-alone : (s : Seat) → is_line_ending s ≡ true → of_line over ending opening closing (s ∷ []) ≡ ending (s ∷ [])
   ending-alone s e = ap (λ b. over (cond (not b) (s ∷ []) []) ++ ending (cond b (s ∷ []) [])) e ∙ ap (λ es. es ++ ending (s ∷ [])) is.none
 
@@ -41,7 +41,7 @@ module _ (over ending : List Seat → List Event) (opening closing : Point → L
   pub at-ending : (s : Seat) (ss : List Seat) → is_line_ending s ≡ true → all (lines_in (s ∷ ss)) ≡ ending (s ∷ []) ++ all (lines_in ss)
   at-ending s ss e = ap (λ b. all (cond b ((s ∷ []) ∷ lines_in ss) (joined s (lines_in ss)))) e ∙ ap (λ es. es ++ all (lines_in ss)) (ending-alone s e)
 
-  -- behind the last byte of a line
+  -- after the last byte of a line
   pub rest-ending : (place : Point) (s : Seat) (ss : List Seat) → is_line_ending s ≡ true → rest place (lines_in (s ∷ ss)) ≡ closing place ++ all (lines_in (s ∷ ss))
   rest-ending place s ss e =
       ap (λ b. rest place (cond b ((s ∷ []) ∷ lines_in ss) (joined s (lines_in ss)))) e

@@ -33,7 +33,7 @@ abbrev pub saved_here : ℕ → Bool → ℕ → List EventName → Saved
 saved_here p b n stack = record { position = p; ended = b; events = n; stack = stack }
 
 module _ (g : Given) (text : Text) (step : Sight → Configuration Unit Unit → Name → Step Unit Unit) where
-  -- where choices fail with these events, the machine ends with those
+  -- if choices fail with these events, the machine ends with those
   abbrev pub FailsTo : List Choice → (events all : List Event) → Type 0
   FailsTo cs events all = (k : Configuration Unit Unit) → k.events ≡ events → EndsWith g text step k cs Nok all
 

@@ -1,4 +1,4 @@
--- The machine that peeks looks over the whole text in vain, and then reads data.
+-- The machine that peeks looks over the whole text, fails, and then reads data.
 use Rattle.std.proofs.Common.{◌≡◌, ◌∷◌, [], List, true, false, refl, ap, Some, None, drop}
 use Rattle.markdown_base.specs.declared.state.Name.{Name}
 use Rattle.markdown_base.specs.declared.state.State.TheVariants.{Next, Retry}

@@ -1,4 +1,4 @@
--- A machine that reads each line between two states: what it reads from there on.
+-- A machine that reads each line with two states: the events that it makes from there on.
 use Rattle.std.proofs.Common.{◌≡◌, ℕ, suc, ◌+◌, ◌∷◌, ◌++◌, [], List, Bool, true, false, refl, sym, ◌∙◌, ap, subst, Some, arith, drop, slice_get}
 use Rattle.std.proofs.lemmas.List.{append_assoc, append-nil}
 use Rattle.markdown_base.proofs.Common.{drop-next}

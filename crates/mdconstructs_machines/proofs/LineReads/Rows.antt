@@ -48,7 +48,7 @@ module _ (g : Given) (text : Text) where
       two events _ _ ∙ ap (λ o. events ++ event g.bytes Enter LineEnding (point_or text.end o) ∷ event g.bytes Exit LineEnding (end_or text.end o) ∷ []) at
 
 module _ (g : Given) (text : Text) (step : Sight → Configuration Unit Unit → Name → Step Unit Unit) where
-  -- the step of this name is that of these rows
+  -- the step of this name is the step of these rows
   abbrev pub HasRows : Name → ((previous current : Option LineByte) → Rows Unit Unit) → Type 0
   HasRows name rows = (k : Configuration Unit Unit) → step (sight g text k) k name ≡ row_step g text k (rows (class_of line_byte (sight g text k).previous) (waits_class g text k))
 

@@ -22,7 +22,7 @@ use Rattle.mdconstructs_machines.proofs.LineReads.Looks.{goes-back, shows-events
 use Rattle.mdconstructs_machines.proofs.LineReads.Rows.{HasRows, leads-row, waits_class, is-class}
 use Rattle.mdconstructs_machines.proofs.LineReads.Steps.{EndsWith, held, shows, ended, goes-next, reads-as, at-front}
 
--- the lines behind the first are those of what stands behind its ending
+-- the lines after the first are the lines of the virtual bytes after its ending
 first-ends : (bytes : List ℕ) (s : Seat) (ss : List Seat) → is_line_ending s ≡ true → save_events bytes (s ∷ ss) ≡ data_events bytes ss
 first-ends bytes s ss e = ap (λ b. flat_map (data_line bytes) (drop 1 (cond b ((s ∷ []) ∷ lines_in ss) (joined s (lines_in ss))))) e
 
@@ -47,7 +47,7 @@ module _ (g : Given) (text : Text) where
   tried-rows : HasRows g text step TextBefore text_before_rows
   tried-rows k = refl
 
-  -- behind the line ending something is tried, in vain
+  -- after the line ending an attempt is made, which fails
   behind-first : (l : List Seat) (p : ℕ) (local : Local Unit Unit) → drop p text.seats ≡ l
       → EndsWith g text step (held [] p Nothing false [] local) (record { kind = Attempt; ok = Next DataStart; nok = Next DataStart; saved = Some (record { position = p; ended = false; events = 0; stack = [] }) } ∷ []) (Next TextBefore) (data_events g.bytes l)
   behind-first l p local here =

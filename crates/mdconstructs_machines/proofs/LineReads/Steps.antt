@@ -41,7 +41,7 @@ shows [] stack p ended events local = held stack p End true events local
 shows (s ∷ ss) stack p ended events local = held stack p Byte ended events local
 
 module _ (g : Given) (text : Text) (step : Sight → Configuration Unit Unit → Name → Step Unit Unit) where
-  -- reading on ends well with these events
+  -- reading on ends in Ok with these events
   abbrev pub EndsWith : Configuration Unit Unit → List Choice → State → List Event → Type 0
   EndsWith k cs s events = (calls : ℕ) → (r : Reading Unit Unit) × (EndsIn g step text calls k cs s r × (r.answer ≡ Ok) × (r.configuration.events ≡ events))
 

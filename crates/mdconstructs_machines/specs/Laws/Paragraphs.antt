@@ -1,6 +1,6 @@
 -- The table of the machine passes the test, and its rows keep what it knows of its chunks, so that the machine is lawful.
 use Rattle.std.proofs.Common.{◌≡◌, ℕ, zero, suc, ◌+◌, ◌-◌, ◌<◌, List, [], ◌∷◌, ◌++◌, ◌==◌, false, Option, Some, None, length, refl, sym, ap, ◌∙◌, subst, arith, append_assoc, length-append}
-use Rattle.std.specs.Prelude.{All, Bool, IsSome, option_and_then, slice_get, slice_index_or}
+use Rattle.std.specs.Prelude.{All, Bool, IsSome, option_and_then, slice_get}
 use Rattle.std.proofs.lemmas.List.Elements.{All-nil, All-cons}
 use Rattle.markdown_base.specs.declared.event.Event.{Event}
 use Rattle.markdown_base.specs.declared.event.Kind.TheVariants.{Enter, Exit}
@@ -13,7 +13,7 @@ use Rattle.markdown_base.specs.declared.state.State.TheVariants.{Next, Retry, Ok
 use Rattle.markdown_base.specs.declared.state.TheConstants.Name.{FlowStart, TextStart, ParagraphStart, ParagraphInside}
 use Rattle.markdown_tokenizer.specs.Configuration.{Configuration, Local, Choice, TokenizerValue, start_configuration}
 use Rattle.markdown_tokenizer.specs.Sight.{sight_of}
-use Rattle.markdown_edits.specs.Links.{IsLinkedEnter, IsEndedBy, CanLink, content_of, updated_at, with_next, with_previous, linked_to, next_of, previous_of}
+use Rattle.markdown_edits.specs.Links.{CanLink, updated_at, with_next, with_previous, linked_to, next_of, previous_of}
 use Rattle.markdown_edits.specs.Edited.{edited}
 use Rattle.markdown_tokenizer.specs.Resolving.{CanBeEdited, IsInShape}
 use Rattle.markdown_edits.proofs.Edits.Splices.{edited-none}

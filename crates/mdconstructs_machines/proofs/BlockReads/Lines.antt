@@ -1,0 +1,108 @@
+-- The lines of a text, one by one, and the blocks that they are in.
+use Rattle.std.proofs.Common.{◌≡◌, suc, ◌≤◌, ◌∷◌, ◌++◌, [], List, true, false, cond, refl, sym, ◌∙◌, ap, arith, length}
+use Rattle.std.proofs.lemmas.List.{append_assoc}
+use Rattle.markdown_base.specs.Virtual.{Seat}
+use Rattle.mdconstructs_machines.specs.LineEvents.{is_line_ending, joined, lines_in, all_of}
+use Rattle.mdconstructs_machines.specs.ParagraphEvents.{blank, paragraph, is_blank, continued, blocks_of}
+
+-- the line at the front
+abbrev pub first_line : List Seat → List Seat
+first_line [] = []
+first_line (s ∷ ss) = cond (is_line_ending s) (s ∷ []) (s ∷ first_line ss)
+
+-- and what is behind it
+abbrev pub after_line : List Seat → List Seat
+after_line [] = []
+after_line (s ∷ ss) = cond (is_line_ending s) ss (after_line ss)
+
+pub splits : (l : List Seat) → l ≡ first_line l ++ after_line l
+splits [] = refl
+splits (s ∷ ss) = let then = splits ss in elim (is_line_ending s) as (λ b. s ∷ ss ≡ cond b (s ∷ []) (s ∷ first_line ss) ++ cond b ss (after_line ss)) [
+  | true ↦ refl
+  | false ↦ ap (λ l. s ∷ l) then
+]
+
+-- a line that begins with another byte than a line ending goes on behind it
+pub line-on : (s : Seat) (ss : List Seat) → is_line_ending s ≡ false → first_line (s ∷ ss) ≡ s ∷ first_line ss
+line-on s ss other = ap (λ b. cond b (s ∷ []) (s ∷ first_line ss)) other
+
+pub behind-on : (s : Seat) (ss : List Seat) → is_line_ending s ≡ false → after_line (s ∷ ss) ≡ after_line ss
+behind-on s ss other = ap (λ b. cond b ss (after_line ss)) other
+
+-- what is behind a line is shorter
+pub after-shorter : (l : List Seat) → length (after_line l) ≤ length l
+after-shorter [] = omega arith
+after-shorter (s ∷ ss) = let then : length (after_line ss) ≤ length ss = after-shorter ss in elim (is_line_ending s) as (λ b. length (cond b ss (after_line ss)) ≤ suc (length ss)) [
+  | true ↦ omega arith
+  | false ↦ omega (arith, then)
+]
+
+pub after-less : (s : Seat) (ss : List Seat) → length (after_line (s ∷ ss)) ≤ length ss
+after-less s ss = let then : length (after_line ss) ≤ length ss = after-shorter ss in elim (is_line_ending s) as (λ b. length (cond b ss (after_line ss)) ≤ length ss) [
+  | true ↦ omega arith
+  | false ↦ then
+]
+
+-- the lines are the first, and those behind it
+pub lines-are : (s : Seat) (ss : List Seat) → lines_in (s ∷ ss) ≡ first_line (s ∷ ss) ∷ lines_in (after_line (s ∷ ss))
+lines-are s [] = elim (is_line_ending s) as (λ b. cond b ((s ∷ []) ∷ []) (joined s []) ≡ cond b (s ∷ []) (s ∷ []) ∷ lines_in (cond b [] [])) [ true ↦ refl | false ↦ refl ]
+lines-are s (r ∷ rs) =
+    let then = lines-are r rs in
+    elim (is_line_ending s) as (λ b. cond b ((s ∷ []) ∷ lines_in (r ∷ rs)) (joined s (lines_in (r ∷ rs))) ≡ cond b (s ∷ []) (s ∷ first_line (r ∷ rs)) ∷ lines_in (cond b (r ∷ rs) (after_line (r ∷ rs)))) [
+      | true ↦ refl
+      | false ↦ ap (joined s) then
+    ]
+
+-- a line ending that begins a line is a blank line
+pub blank-block : (s : Seat) (ss : List Seat) → is_line_ending s ≡ true → blocks_of (lines_in (s ∷ ss)) ≡ blank (s ∷ []) ∷ blocks_of (lines_in ss)
+blank-block s ss is =
+    ap (λ b. blocks_of (cond b ((s ∷ []) ∷ lines_in ss) (joined s (lines_in ss)))) is
+    ∙ ap (λ b. cond b (blank (s ∷ []) ∷ blocks_of (lines_in ss)) (continued (s ∷ []) (blocks_of (lines_in ss)))) is
+
+-- another line goes on with what is behind it
+pub other-block : (s : Seat) (ss : List Seat) → is_line_ending s ≡ false → blocks_of (lines_in (s ∷ ss)) ≡ continued (first_line (s ∷ ss)) (blocks_of (lines_in (after_line (s ∷ ss))))
+other-block s ss other =
+    let line = first_line (s ∷ ss) in
+    let rest = blocks_of (lines_in (after_line (s ∷ ss))) in
+    let no : is_blank line ≡ false = ap is_blank (line-on s ss other) ∙ other in
+    ap blocks_of (lines-are s ss) ∙ ap (λ b. cond b (blank line ∷ rest) (continued line rest)) no
+
+-- no line of a paragraph begins here: it is the end, or a blank line
+abbrev pub Stops : List Seat → Type 0
+Stops [] = Unit {0}
+Stops (s ∷ ss) = is_line_ending s ≡ true
+
+-- The lines at the front of a text that are not blank, all of them, and what is behind them
+pub record Run (l : List Seat) : Type 0 where
+  pub lines : List (List Seat)
+  pub rest : List Seat
+  pub splits : l ≡ all_of lines ++ rest
+  pub goes_on : (line : List Seat) → continued line (blocks_of (lines_in l)) ≡ paragraph (line ∷ lines) ∷ blocks_of (lines_in rest)
+  pub stops : Stops rest
+  pub shorter : length rest ≤ length l
+
+abbrev pub run_end : Run []
+run_end = record { lines = []; rest = []; splits = refl; goes_on = λ line. refl; stops = tt; shorter = omega arith }
+
+abbrev pub run_blank : (s : Seat) (ss : List Seat) → is_line_ending s ≡ true → Run (s ∷ ss)
+run_blank s ss is = record {
+  lines = [];
+  rest = s ∷ ss;
+  splits = refl;
+  goes_on = λ line. ap (continued line) (blank-block s ss is) ∙ ap (λ bs. paragraph (line ∷ []) ∷ bs) (sym (blank-block s ss is));
+  stops = is;
+  shorter = omega arith;
+}
+
+abbrev pub run_on : (s : Seat) (ss : List Seat) → is_line_ending s ≡ false → Run (after_line (s ∷ ss)) → Run (s ∷ ss)
+run_on s ss other run =
+    let line = first_line (s ∷ ss) in
+    let less = after-less s ss in
+    let then = run.shorter in record {
+      lines = line ∷ run.lines;
+      rest = run.rest;
+      splits = splits (s ∷ ss) ∙ ap (λ l. line ++ l) run.splits ∙ sym (append_assoc line (all_of run.lines) run.rest);
+      goes_on = λ before. ap (continued before) (other-block s ss other ∙ run.goes_on line);
+      stops = run.stops;
+      shorter = omega (arith, less, then);
+    }

@@ -1,0 +1,360 @@
+-- Marked events, one more at a time: how their links change.
+use Rattle.std.specs.List.{AllByRecursion}
+use Rattle.std.proofs.Common.{◌≡◌, ℕ, zero, suc, ◌+◌, ◌<◌, ◌≤◌, ◌==◌, ◌∷◌, ◌++◌, [], List, Bool, true, false, cond, Option, Some, None, ◌⊎◌, inl, inr, refl, sym, ◌∙◌, ap, subst, arith, length, length-append}
+use Rattle.std.specs.Prelude.{◌&&◌, map, position, nat_lt, not}
+use Rattle.std.specs.List.{position_or_len}
+use Rattle.std.proofs.lemmas.Bool.{lt-ltb, le-ltb}
+use Rattle.std.proofs.lemmas.Bool.Decides.{nat_tests}
+use Rattle.std.proofs.lemmas.List.{append_assoc, map-append, length-map}
+use Rattle.markdown_base.proofs.Common.{every-map, every-append}
+use Rattle.markdown_base.specs.declared.event.Content.TheVariants.{Text}
+use Rattle.markdown_base.specs.declared.event.Event.{Event}
+use Rattle.markdown_edits.specs.Links.{updated_at, with_next, with_previous, linked_to}
+use Rattle.mdconstructs_machines.specs.Paragraphs.{text_link}
+use Rattle.mdconstructs_machines.specs.ParagraphEvents.{Marked, begins, chunk_at, chunk_before, as_linked, with_links}
+
+-- a marked event begins no chunk, or one that stands before the chunk of this line of this block
+abbrev pub IsBefore : (b n : ℕ) → Marked → Type 0
+IsBefore b n (e, None) = Unit {0}
+IsBefore b n (e, Some (c, m)) = (c < b) ⊎ ((c ≡ b) × (m < n))
+
+-- it begins none
+abbrev pub IsPlain : Marked → Type 0
+IsPlain (e, None) = Unit {0}
+IsPlain (e, Some c) = ⊥
+
+and-no : (t : Bool) → (t && false) ≡ false
+and-no true = refl
+and-no false = refl
+
+-- two chunks that are not the same
+other-block : (b c k m : ℕ) → (b == c) ≡ false → ((b == c) && (k == m)) ≡ false
+other-block b c k m h = ap (λ t. t && (k == m)) h
+
+other-line : (b c k m : ℕ) → (k == m) ≡ false → ((b == c) && (k == m)) ≡ false
+other-line b c k m h = ap (λ t. (b == c) && t) h ∙ and-no (b == c)
+
+self : (b n : ℕ) (e : Event) → begins (b, n) (e, Some (b, n)) ≡ true
+self b n e = let one : (b == b) ≡ true = grind (arith, nat_tests) in let two : (n == n) ≡ true = grind (arith, nat_tests) in ap (λ t. t && (n == n)) one ∙ two
+
+-- what is before a chunk begins none from there on in that block
+away : (b n : ℕ) (x : Marked) → IsBefore b n x → (k : ℕ) → n ≤ k → begins (b, k) x ≡ false
+away b n (e, None) h k l = refl
+away b n (e, Some (c, m)) h k l = elim h [
+  | inl less ↦ let no : (b == c) ≡ false = grind (arith, nat_tests) in other-block b c k m no
+  | inr same ↦ let less = same.1 in let no : (k == m) ≡ false = grind (arith, nat_tests) in other-line b c k m no
+]
+
+all-away : (b n : ℕ) (xs : List Marked) → AllByRecursion (IsBefore b n) xs → (k : ℕ) → n ≤ k → AllByRecursion (λ x. begins (b, k) x ≡ false) xs
+all-away b n xs h k l = every-map (IsBefore b n) (λ x. begins (b, k) x ≡ false) (λ x before. away b n x before k l) xs h
+
+plain-away : (b k : ℕ) (x : Marked) → IsPlain x → begins (b, k) x ≡ false
+plain-away b k (e, None) h = refl
+plain-away b k (e, Some c) h = absurd h
+
+-- Positions in lists
+module _ (p : Marked → Bool) where
+  abbrev Fails : Marked → Type 0
+  Fails x = p x ≡ false
+
+  len-none : (xs : List Marked) → AllByRecursion Fails xs → position_or_len p xs ≡ length xs
+  len-none [] h = refl
+  len-none (x ∷ xs) h =
+      let then : position_or_len p xs ≡ length xs = len-none xs h.1 in
+      let one : 1 + position_or_len p xs ≡ suc (length xs) = omega (arith, then) in
+      ap (λ t. cond (not t) (1 + position_or_len p xs) 0) h.0 ∙ one
+
+  len-first : (front : List Marked) (x : Marked) (tail : List Marked) → AllByRecursion Fails front → p x ≡ true → position_or_len p (front ++ x ∷ tail) ≡ length front
+  len-first [] x tail h is = ap (λ t. cond (not t) (1 + position_or_len p tail) 0) is
+  len-first (y ∷ front) x tail h is =
+      let then : position_or_len p (front ++ x ∷ tail) ≡ length front = len-first front x tail h.1 is in
+      let one : 1 + position_or_len p (front ++ x ∷ tail) ≡ suc (length front) = omega (arith, then) in
+      ap (λ t. cond (not t) (1 + position_or_len p (front ++ x ∷ tail)) 0) h.0 ∙ one
+
+  -- among events of which none passes, and at the first that does
+  at-none : (xs : List Marked) → AllByRecursion Fails xs → position p xs ≡ None
+  at-none xs h =
+      let n = position_or_len p xs in
+      let is : n ≡ length xs = len-none xs h in
+      let no : nat_lt n (length xs) ≡ false = le-ltb n (length xs) (omega (arith, is)) in
+      ap (λ t. cond t (Some n) None) no
+
+  at-first : (front : List Marked) (x : Marked) (tail : List Marked) → AllByRecursion Fails front → p x ≡ true → position p (front ++ x ∷ tail) ≡ Some (length front)
+  at-first front x tail h is =
+      let n = position_or_len p (front ++ x ∷ tail) in
+      let first : n ≡ length front = len-first front x tail h is in
+      let long : length (front ++ x ∷ tail) ≡ length front + suc (length tail) = length-append front (x ∷ tail) in
+      let yes : nat_lt n (length (front ++ x ∷ tail)) ≡ true = lt-ltb n (length (front ++ x ∷ tail)) (omega (arith, first, long)) in
+      ap (λ t. cond t (Some n) None) yes ∙ ap (λ m. Some m) first
+
+  -- The first that passes
+  record First (xs : List Marked) : Type 0 where
+    pub front : List Marked
+    pub event : Marked
+    pub tail : List Marked
+    pub are : xs ≡ front ++ event ∷ tail
+    pub fail : AllByRecursion Fails front
+    pub passes : p event ≡ true
+
+  -- none passes, or a first one does
+  first-of : (xs : List Marked) → AllByRecursion Fails xs ⊎ First xs
+  first-of [] = inl tt
+  first-of (x ∷ xs) =
+      let then = first-of xs in
+      elim (p x) as (λ t. p x ≡ t → AllByRecursion Fails (x ∷ xs) ⊎ First (x ∷ xs)) [
+        | true ↦ λ is. inr (record { front = []; event = x; tail = xs; are = refl; fail = tt; passes = is })
+        | false ↦ λ fails. elim then [
+          | inl none ↦ inl (fails, none)
+          | inr first ↦ inr (record { front = x ∷ first.front; event = first.event; tail = first.tail; are = ap (λ l. x ∷ l) first.are; fail = (fails, first.fail); passes = first.passes })
+        ]
+      ] refl
+
+  -- an event more that does not pass changes nothing
+  at-more : (xs : List Marked) (y : Marked) → p y ≡ false → position p (xs ++ y ∷ []) ≡ position p xs
+  at-more xs y fails = elim (first-of xs) [
+    | inl none ↦ at-none (xs ++ y ∷ []) (every-append Fails xs (y ∷ []) none (fails, tt)) ∙ sym (at-none xs none)
+    | inr first ↦
+        let again : xs ++ y ∷ [] ≡ first.front ++ first.event ∷ (first.tail ++ y ∷ []) = ap (λ l. l ++ y ∷ []) first.are ∙ append_assoc first.front (first.event ∷ first.tail) (y ∷ []) in
+        ap (position p) again
+        ∙ at-first first.front first.event (first.tail ++ y ∷ []) first.fail first.passes
+        ∙ sym (at-first first.front first.event first.tail first.fail first.passes)
+        ∙ ap (position p) (sym first.are)
+  ]
+
+-- the event, linked to these
+abbrev link_of : Event → (previous next : Option ℕ) → Event
+link_of e previous next = record e { link = Some (record { previous = previous; next = next; content = Text }) }
+
+link-same : (e : Event) (p q n m : Option ℕ) → p ≡ q → n ≡ m → link_of e p n ≡ link_of e q m
+link-same e p q n m before after = ap (λ o. link_of e o n) before ∙ ap (λ o. link_of e q o) after
+
+-- the chunk of the line before, and that of the line after, are not the one that an event begins
+abbrev NoNeighbour : Marked → Marked → Type 0
+NoNeighbour y (e, None) = Unit {0}
+NoNeighbour y (e, Some (b, n)) = (begins (b, suc n) y ≡ false) × ((j : ℕ) → suc j ≡ n → begins (b, j) y ≡ false)
+
+-- so its link stays the same
+same-before : (ms : List Marked) (y : Marked) (b n : ℕ) → ((j : ℕ) → suc j ≡ n → begins (b, j) y ≡ false) → chunk_before (ms ++ y ∷ []) (b, n) ≡ chunk_before ms (b, n)
+same-before ms y b zero h = refl
+same-before ms y b (suc n) h = at-more (begins (b, n)) ms y (h n refl)
+
+same-link : (ms : List Marked) (y x : Marked) → NoNeighbour y x → as_linked (ms ++ y ∷ []) x ≡ as_linked ms x
+same-link ms y (e, None) h = refl
+same-link ms y (e, Some (b, n)) h =
+    link-same e (chunk_before (ms ++ y ∷ []) (b, n)) (chunk_before ms (b, n)) (chunk_at (ms ++ y ∷ []) (b, suc n)) (chunk_at ms (b, suc n))
+    (same-before ms y b n h.1) (at-more (begins (b, suc n)) ms y h.0)
+
+map-same : (f k : Marked → Event) (xs : List Marked) → AllByRecursion (λ x. f x ≡ k x) xs → map f xs ≡ map k xs
+map-same f k [] h = refl
+map-same f k (x ∷ xs) h = λ i. h.0 i ∷ map-same f k xs h.1 i
+
+same-links : (ms : List Marked) (y : Marked) (xs : List Marked) → AllByRecursion (NoNeighbour y) xs → map (as_linked (ms ++ y ∷ [])) xs ≡ map (as_linked ms) xs
+same-links ms y xs h = map-same (as_linked (ms ++ y ∷ [])) (as_linked ms) xs (every-map (NoNeighbour y) (λ x. as_linked (ms ++ y ∷ []) x ≡ as_linked ms x) (same-link ms y) xs h)
+
+-- which hold of a plain event; and where a chunk begins, of events before the chunk of the line before
+no-plain : (e : Event) (x : Marked) → NoNeighbour (e, None) x
+no-plain e (f, None) = tt
+no-plain e (f, Some (b, n)) = (refl, λ j is. refl)
+
+every : (P : Marked → Type 0) (xs : List Marked) → ((x : Marked) → P x) → AllByRecursion P xs
+every P [] h = tt
+every P (x ∷ xs) h = (h x, every P xs h)
+
+no-first : (e : Event) (b : ℕ) (x : Marked) → IsBefore b 0 x → NoNeighbour (e, Some (b, 0)) x
+no-first e b (f, None) h = tt
+no-first e b (f, Some (c, m)) h = elim h [
+  | inl less ↦ let apart : (c == b) ≡ false = grind (arith, nat_tests) in (other-block c b (suc m) 0 apart, λ j is. other-block c b j 0 apart)
+  | inr same ↦ absurd (omega (arith, same.1))
+]
+
+no-next : (e : Event) (b n : ℕ) (x : Marked) → IsBefore b n x → NoNeighbour (e, Some (b, suc n)) x
+no-next e b n (f, None) h = tt
+no-next e b n (f, Some (c, m)) h = elim h [
+  | inl less ↦ let apart : (c == b) ≡ false = grind (arith, nat_tests) in (other-block c b (suc m) (suc n) apart, λ j is. other-block c b j (suc n) apart)
+  | inr same ↦
+      let less = same.1 in
+      let apart : (suc m == suc n) ≡ false = grind (arith, nat_tests) in
+      (other-line c b (suc m) (suc n) apart, λ j is. let apart : (j == suc n) ≡ false = grind (arith, nat_tests) in other-line c b j (suc n) apart)
+]
+
+plain-no : (y x : Marked) → IsPlain x → NoNeighbour y x
+plain-no y (e, None) h = tt
+plain-no y (e, Some c) h = absurd h
+
+-- An event that begins no chunk: nothing else changes
+pub links-plain : (ms : List Marked) (e : Event) → with_links (ms ++ (e, None) ∷ []) ≡ with_links ms ++ e ∷ []
+links-plain ms e =
+    let y : Marked = (e, None) in
+    map-append (as_linked (ms ++ y ∷ [])) ms (y ∷ []) ∙ ap (λ l. l ++ e ∷ []) (same-links ms y ms (every (NoNeighbour y) ms (no-plain e)))
+
+-- as it is entered, a chunk is linked to none
+abbrev pub alone : Event → Event
+alone e = record e { link = Some text_link }
+
+-- The first chunk of a paragraph: nothing else changes
+pub links-first : (ms : List Marked) (e : Event) (b : ℕ) → AllByRecursion (IsBefore b 0) ms → with_links (ms ++ (e, Some (b, 0)) ∷ []) ≡ with_links ms ++ alone e ∷ []
+links-first ms e b before =
+    let y : Marked = (e, Some (b, 0)) in
+    let apart : (1 == 0) ≡ false = refl in
+    let none : chunk_at (ms ++ y ∷ []) (b, 1) ≡ None = at-none (begins (b, 1)) (ms ++ y ∷ []) (every-append (λ x. begins (b, 1) x ≡ false) ms (y ∷ []) (all-away b 0 ms before 1 (omega arith)) (other-line b b 1 0 apart, tt)) in
+    map-append (as_linked (ms ++ y ∷ [])) ms (y ∷ [])
+    ∙ ap (λ l. l ++ as_linked (ms ++ y ∷ []) y ∷ []) (same-links ms y ms (every-map (IsBefore b 0) (NoNeighbour y) (no-first e b) ms before))
+    ∙ ap (λ o. with_links ms ++ link_of e None o ∷ []) none
+
+-- The chunk of this line of this block is the last that begins among these, at this index
+pub record EndsIn (b n : ℕ) (ms : List Marked) (index : ℕ) : Type 0 where
+  pub front : List Marked
+  pub event : Event
+  pub tail : List Marked
+  pub are : ms ≡ front ++ (event, Some (b, n)) ∷ tail
+  pub before : AllByRecursion (IsBefore b n) front
+  pub plain : AllByRecursion IsPlain tail
+  pub at : index ≡ length front
+
+-- Lists with one event changed
+updated-mid : (f : Event → Event) (xs : List Event) (e : Event) (ys : List Event) (i : ℕ) → i ≡ length xs → updated_at i f (xs ++ e ∷ ys) ≡ xs ++ f e ∷ ys
+updated-mid f [] e ys zero h = refl
+updated-mid f [] e ys (suc i) h = absurd (omega (arith, h))
+updated-mid f (x ∷ xs) e ys zero h = absurd (omega (arith, h))
+updated-mid f (x ∷ xs) e ys (suc i) h = ap (λ l. x ∷ l) (updated-mid f xs e ys i (omega (arith, h)))
+
+-- The list that ends with a chunk behind another: the links of both change, and nothing else
+module _ (e : Event) (b n : ℕ) (front : List Marked) (f : Event) (tail : List Marked) (before : AllByRecursion (IsBefore b n) front) (plain : AllByRecursion IsPlain tail) where
+  abbrev last : Marked
+  last = (f, Some (b, n))
+
+  abbrev new : Marked
+  new = (e, Some (b, suc n))
+
+  abbrev olds : List Marked
+  olds = front ++ last ∷ tail
+
+  abbrev more : List Marked
+  more = olds ++ new ∷ []
+
+  -- no chunk from this line on begins elsewhere
+  elsewhere : (k : ℕ) → n < k → AllByRecursion (λ x. begins (b, k) x ≡ false) olds
+  elsewhere k h =
+      let apart : (k == n) ≡ false = grind (arith, nat_tests) in
+      every-append (λ x. begins (b, k) x ≡ false) front (last ∷ tail) (all-away b n front before k (omega (arith, h)))
+      (other-line b b k n apart, every-map IsPlain (λ x. begins (b, k) x ≡ false) (plain-away b k) tail plain)
+
+  new-at : chunk_at more (b, suc n) ≡ Some (length olds)
+  new-at = at-first (begins (b, suc n)) olds new [] (elsewhere (suc n) (omega arith)) (self b (suc n) e)
+
+  last-at : chunk_at more (b, n) ≡ Some (length front)
+  last-at =
+      ap (position (begins (b, n))) (append_assoc front (last ∷ tail) (new ∷ []))
+      ∙ at-first (begins (b, n)) front last (tail ++ new ∷ []) (all-away b n front before n (omega arith)) (self b n f)
+
+  none-at : chunk_at more (b, suc (suc n)) ≡ None
+  none-at =
+      let apart : (suc (suc n) == suc n) ≡ false = grind (arith, nat_tests) in
+      at-none (begins (b, suc (suc n))) more
+      (every-append (λ x. begins (b, suc (suc n)) x ≡ false) olds (new ∷ []) (elsewhere (suc (suc n)) (omega arith)) (other-line b b (suc (suc n)) (suc n) apart, tt))
+
+  last-next : as_linked more last ≡ with_next (length olds) (as_linked olds last)
+  last-next =
+      let line : (j : ℕ) → suc j ≡ n → begins (b, j) new ≡ false = λ j is. (let apart : (j == suc n) ≡ false = grind (arith, nat_tests) in other-line b b j (suc n) apart) in
+      link-same f (chunk_before more (b, n)) (chunk_before olds (b, n)) (chunk_at more (b, suc n)) (Some (length olds)) (same-before olds new b n line) new-at
+
+  new-previous : as_linked more new ≡ with_previous (length front) (alone e)
+  new-previous = link-same e (chunk_at more (b, n)) (Some (length front)) (chunk_at more (b, suc (suc n))) None last-at none-at
+
+  front-same : map (as_linked more) front ≡ map (as_linked olds) front
+  front-same = same-links olds new front (every-map (IsBefore b n) (NoNeighbour new) (no-next e b n) front before)
+
+  tail-same : map (as_linked more) tail ≡ map (as_linked olds) tail
+  tail-same = same-links olds new tail (every-map IsPlain (NoNeighbour new) (plain-no new) tail plain)
+
+  abbrev old_front : List Event
+  old_front = map (as_linked olds) front
+
+  abbrev old_tail : List Event
+  old_tail = map (as_linked olds) tail
+
+  split : with_links more ≡ (old_front ++ with_next (length olds) (as_linked olds last) ∷ old_tail) ++ with_previous (length front) (alone e) ∷ []
+  split =
+      map-append (as_linked more) olds (new ∷ [])
+      ∙ ap (λ l. l ++ as_linked more new ∷ []) (map-append (as_linked more) front (last ∷ tail))
+      ∙ (λ i. (front-same i ++ last-next i ∷ tail-same i) ++ new-previous i ∷ [])
+
+  old-split : with_links olds ≡ old_front ++ as_linked olds last ∷ old_tail
+  old-split = map-append (as_linked olds) front (last ∷ tail)
+
+  linked-is : linked_to (length front) (length olds) (with_links olds ++ alone e ∷ []) ≡ with_links more
+  linked-is =
+      let i = length front in
+      let m = length olds in
+      let x = as_linked olds last in
+      let many : length old_front ≡ i = length-map front (as_linked olds) in
+      let all : length (old_front ++ with_next m x ∷ old_tail) ≡ m =
+      length-append old_front (with_next m x ∷ old_tail) ∙ sym (length-append old_front (x ∷ old_tail)) ∙ ap length (sym old-split) ∙ length-map olds (as_linked olds) in
+      ap (λ l. linked_to i m (l ++ alone e ∷ [])) old-split
+      ∙ ap (λ l. updated_at m (with_previous i) (updated_at i (with_next m) l)) (append_assoc old_front (x ∷ old_tail) (alone e ∷ []))
+      ∙ ap (updated_at m (with_previous i)) (updated-mid (with_next m) old_front x (old_tail ++ alone e ∷ []) i (sym many))
+      ∙ ap (updated_at m (with_previous i)) (sym (append_assoc old_front (with_next m x ∷ old_tail) (alone e ∷ [])))
+      ∙ updated-mid (with_previous i) (old_front ++ with_next m x ∷ old_tail) (alone e) [] m (sym all)
+      ∙ sym split
+
+-- A chunk behind another: the two are linked
+pub links-next : (ms : List Marked) (e : Event) (b n index : ℕ) → EndsIn b n ms index → with_links (ms ++ (e, Some (b, suc n)) ∷ []) ≡ linked_to index (length ms) (with_links ms ++ alone e ∷ [])
+links-next ms e b n index h =
+    let was = h.front ++ (h.event, Some (b, n)) ∷ h.tail in
+    let then : linked_to index (length was) (with_links was ++ alone e ∷ []) ≡ with_links (was ++ (e, Some (b, suc n)) ∷ []) =
+    ap (λ i. linked_to i (length was) (with_links was ++ alone e ∷ [])) h.at ∙ linked-is e b n h.front h.event h.tail h.before h.plain in
+    ap (λ l. with_links (l ++ (e, Some (b, suc n)) ∷ [])) h.are ∙ sym then ∙ sym (ap (λ l. linked_to index (length l) (with_links l ++ alone e ∷ [])) h.are)
+
+-- What is known before a line of a paragraph: a chunk came before in it, at this index, or none did
+abbrev pub KnowsLast : (b n : ℕ) → List Marked → (connect : Bool) (index : ℕ) → Type 0
+KnowsLast b zero ms connect index = (connect ≡ false) × AllByRecursion (IsBefore b 0) ms
+KnowsLast b (suc n) ms connect index = (connect ≡ true) × EndsIn b n ms index
+
+-- what was before still is
+later : (b n : ℕ) (x : Marked) → IsBefore b n x → IsBefore b (suc n) x
+later b n (e, None) h = tt
+later b n (e, Some (c, m)) h = elim h [ inl less ↦ inl less | inr same ↦ (let less = same.1 in inr (same.0, omega (arith, less))) ]
+
+next-block : (b n : ℕ) (x : Marked) → IsBefore b n x → IsBefore (suc b) 0 x
+next-block b n (e, None) h = tt
+next-block b n (e, Some (c, m)) h = elim h [ inl less ↦ inl (omega (arith, less)) | inr same ↦ (let is = same.0 in inl (omega (arith, is))) ]
+
+plain-before : (b n : ℕ) (x : Marked) → IsPlain x → IsBefore b n x
+plain-before b n (e, None) h = tt
+plain-before b n (e, Some c) h = absurd h
+
+ended-before : (b n : ℕ) (ms : List Marked) (index : ℕ) → EndsIn b n ms index → AllByRecursion (IsBefore b (suc n)) ms
+ended-before b n ms index h =
+    subst (AllByRecursion (IsBefore b (suc n))) (sym h.are)
+    (every-append (IsBefore b (suc n)) h.front ((h.event, Some (b, n)) ∷ h.tail)
+    (every-map (IsBefore b n) (IsBefore b (suc n)) (later b n) h.front h.before)
+    (inr (refl, omega arith), every-map IsPlain (IsBefore b (suc n)) (plain-before b (suc n)) h.tail h.plain))
+
+pub known-before : (b n : ℕ) (ms : List Marked) (connect : Bool) (index : ℕ) → KnowsLast b n ms connect index → AllByRecursion (IsBefore b n) ms
+known-before b zero ms connect index h = h.1
+known-before b (suc n) ms connect index h = ended-before b n ms index h.1
+
+-- so it is with plain events more
+pub known-plain : (b n : ℕ) (ms : List Marked) (connect : Bool) (index : ℕ) (e : Event) → KnowsLast b n ms connect index → KnowsLast b n (ms ++ (e, None) ∷ []) connect index
+known-plain b zero ms connect index e h = (h.0, every-append (IsBefore b 0) ms ((e, None) ∷ []) h.1 (tt, tt))
+known-plain b (suc n) ms connect index e h =
+    let k = h.1 in (
+      h.0,
+      record {
+        front = k.front;
+        event = k.event;
+        tail = k.tail ++ (e, None) ∷ [];
+        are = ap (λ l. l ++ (e, None) ∷ []) k.are ∙ append_assoc k.front ((k.event, Some (b, n)) ∷ k.tail) ((e, None) ∷ []);
+        before = k.before;
+        plain = every-append IsPlain k.tail ((e, None) ∷ []) k.plain (tt, tt);
+        at = k.at;
+      },
+    )
+
+-- and with the chunk of the line
+pub known-chunk : (b n : ℕ) (ms : List Marked) (connect : Bool) (index : ℕ) (e : Event) → KnowsLast b n ms connect index → EndsIn b n (ms ++ (e, Some (b, n)) ∷ []) (length ms)
+known-chunk b n ms connect index e h = record { front = ms; event = e; tail = []; are = refl; before = known-before b n ms connect index h; plain = tt; at = refl }
+
+-- all of it is before the next block
+pub before-next : (b n : ℕ) (ms : List Marked) → AllByRecursion (IsBefore b n) ms → AllByRecursion (IsBefore (suc b) 0) ms
+before-next b n ms h = every-map (IsBefore b n) (IsBefore (suc b) 0) (next-block b n) ms h

@@ -1,0 +1,258 @@
+-- One line of a paragraph is read: its quote mark, and its chunk.
+use Rattle.std.specs.List.{AllByRecursion}
+use Rattle.std.proofs.Common.{◌≡◌, ℕ, suc, ◌+◌, ◌==◌, ◌∷◌, ◌++◌, [], List, Bool, true, false, cond, ◌⊎◌, inl, inr, refl, sym, ◌∙◌, ap, subst, Option, Some, None, take, drop, slice_get}
+use Rattle.std.proofs.lemmas.List.{append_assoc, append-nil}
+use Rattle.markdown_base.specs.declared.event.Event.{Event}
+use Rattle.markdown_base.specs.declared.event.Kind.TheVariants.{Enter, Exit}
+use Rattle.markdown_base.specs.declared.event.Name.TheVariants.{Paragraph, Data, BlockQuoteMarker}
+use Rattle.markdown_base.specs.declared.event.Point.{Point}
+use Rattle.markdown_base.specs.declared.state.Name.{Name}
+use Rattle.markdown_base.specs.declared.state.State.TheVariants.{Next, Retry}
+use Rattle.markdown_base.specs.declared.state.TheConstants.Name.{FlowStart, ParagraphLineStart, ParagraphStart}
+use Rattle.markdown_base.specs.Virtual.{Seat, end_after}
+use Rattle.markdown_tokenizer.specs.declared.waiting.Waits.TheVariants.{Nothing, Byte, End}
+use Rattle.markdown_tokenizer.specs.Text.{Given, Text}
+use Rattle.markdown_tokenizer.specs.Configuration.{Configuration, Local, Step}
+use Rattle.markdown_tokenizer.specs.Sight.{Sight, sight, byte_of, end_or, point_or}
+use Rattle.mdconstructs_tables.specs.Rows.{Rows, row, enter, exit, consume, picked, step_of}
+use Rattle.mdconstructs_machines.specs.LineEvents.{is_line_ending}
+use Rattle.mdconstructs_machines.specs.Spans.{event}
+use Rattle.mdconstructs_machines.specs.Tables.{line_ending, other, counts}
+use Rattle.mdconstructs_machines.specs.Paragraphs.{paragraph_line_start_rows, is_quote_mark}
+use Rattle.mdconstructs_machines.specs.ParagraphEvents.{Chunk, Marked, is_quoted, marked_span, line_marks, with_links}
+use Rattle.mdconstructs_machines.proofs.BlockReads.Lines.{first_line, after_line, line-on, behind-on, Stops}
+use Rattle.mdconstructs_machines.proofs.BlockReads.Links.{IsBefore, EndsIn, KnowsLast, links-plain, known-before, known-plain, known-chunk, before-next}
+use Rattle.mdconstructs_machines.proofs.BlockReads.Reads.{in_paragraph, connects, begins_at, Stands, stands-next, ReadsBlocks, reads-rest, start-end, begins-chunk}
+use Rattle.mdconstructs_machines.proofs.LineReads.Rows.{is-class, leads-row}
+use Rattle.mdconstructs_machines.proofs.LineReads.Steps.{EndsWith, Leads, held, shows, goes-next, at-front}
+
+-- the rows of a line that begins with a quote mark, and of another
+abbrev quoted_row : Rows Unit Unit
+quoted_row = row (enter BlockQuoteMarker ∷ consume ∷ exit BlockQuoteMarker ∷ []) (Next ParagraphStart)
+
+abbrev plain_row : Rows Unit Unit
+plain_row = row [] (Retry ParagraphStart)
+
+-- The marks of a line, by whether it is quoted
+module _ (bytes : List ℕ) (c : Chunk) where
+  abbrev marks_by : Bool → List Seat → List Marked
+  marks_by q line = marked_span bytes None BlockQuoteMarker (cond q (take 1 line) []) [] ++ marked_span bytes (Some c) Data (cond q (drop 1 line) line) []
+
+  plain-marks : (s : Seat) (ss : List Seat) → is_line_ending s ≡ false → (s.byte == 62) ≡ false → line_marks bytes c (first_line (s ∷ ss)) ≡ marked_span bytes (Some c) Data (first_line (s ∷ ss)) []
+  plain-marks s ss no_end plain =
+      let line = first_line (s ∷ ss) in
+      let is : is_quoted line ≡ false = ap is_quoted (line-on s ss no_end) ∙ plain in ap (λ q. marks_by q line) is
+
+  quoted-marks : (s : Seat) (ss : List Seat) → is_line_ending s ≡ false → (s.byte == 62) ≡ true
+      → line_marks bytes c (first_line (s ∷ ss))
+      ≡ (event bytes Enter BlockQuoteMarker s.point, None) ∷ (event bytes Exit BlockQuoteMarker s.end, None) ∷ marked_span bytes (Some c) Data (first_line ss) []
+  quoted-marks s ss no_end quoted = ap (line_marks bytes c) (line-on s ss no_end) ∙ ap (λ q. marks_by q (s ∷ first_line ss)) quoted
+
+  -- the marks of a chunk over the line at the front, where one comes from this place
+  abbrev chunk_marks : (s : Seat) (ss : List Seat) → Point → List Marked
+  chunk_marks s ss place = (event bytes Enter Data s.point, Some c) ∷ (event bytes Exit Data (end_after place (first_line (s ∷ ss))), None) ∷ []
+
+  chunk-marks : (s : Seat) (ss : List Seat) (place : Point) → marked_span bytes (Some c) Data (first_line (s ∷ ss)) [] ≡ chunk_marks s ss place
+  chunk-marks s ss place =
+      elim (is_line_ending s) as (λ b. marked_span bytes (Some c) Data (cond b (s ∷ []) (s ∷ first_line ss)) []
+      ≡ (event bytes Enter Data s.point, Some c) ∷ (event bytes Exit Data (end_after place (cond b (s ∷ []) (s ∷ first_line ss))), None) ∷ []) [ true ↦ refl | false ↦ refl ]
+
+-- two more, and the rest
+pub three : (xs : List Marked) (a b : Marked) (rest : List Marked) → ((xs ++ a ∷ []) ++ b ∷ []) ++ rest ≡ xs ++ a ∷ b ∷ rest
+three [] a b rest = refl
+three (x ∷ xs) a b rest = ap (λ l. x ∷ l) (three xs a b rest)
+
+module _ (g : Given) (text : Text) (step : Sight → Configuration Unit Unit → Name → Step Unit Unit) (reads : ReadsBlocks g text step) where
+  abbrev Goes : Configuration Unit Unit → Name → Configuration Unit Unit → Name → Type 0
+  Goes k name k' name' = Leads g text step k [] (Retry name) k' [] (Retry name')
+
+  -- A chunk is read from its first byte on
+  record ReadsChunk (s : Seat) (ss : List Seat) (p : ℕ) (b : Bool) (place : Point) (block n : ℕ) (ms : List Marked) (local : Local Unit Unit) : Type 0 where
+    pub to : ℕ
+    pub ended : Bool
+    pub after : Local Unit Unit
+    pub stands : Stands text to (after_line (s ∷ ss)) (end_after place (first_line (s ∷ ss)))
+    pub known : KnowsLast block (suc n) (ms ++ chunk_marks g.bytes (block, n) s ss place) (connects after) (begins_at after)
+    pub goes : Goes (held in_paragraph p Byte b (with_links ms) local) ParagraphStart
+        (shows (after_line (s ∷ ss)) in_paragraph to ended (with_links (ms ++ chunk_marks g.bytes (block, n) s ss place)) after) ParagraphLineStart
+
+  reads-chunk : (s : Seat) (ss : List Seat) (p : ℕ) (b : Bool) (place : Point) (block n : ℕ) (ms : List Marked) (local : Local Unit Unit) → Stands text p (s ∷ ss) place → KnowsLast block n ms (connects local) (begins_at local)
+      → ReadsChunk s ss p b place block n ms local
+  reads-chunk s ss p b place block n ms local here known =
+      let first : Marked = (event g.bytes Enter Data s.point, Some (block, n)) in
+      let e = event g.bytes Exit Data (end_after place (first_line (s ∷ ss))) in
+      let one = ms ++ first ∷ [] in
+      let begins = begins-chunk g text step reads s p b block n ms local (at-front text.seats p s ss here.0) known in
+      let rest = reads-rest g text step reads (s ∷ ss) p b place (with_links one) begins.after here in
+      let both : one ++ (e, None) ∷ [] ≡ ms ++ first ∷ (e, None) ∷ [] = append_assoc ms (first ∷ []) ((e, None) ∷ []) in
+      let ends : EndsIn block n one (begins_at rest.after) = subst (EndsIn block n one) (sym (rest.index ∙ begins.index)) (known-chunk block n ms (connects local) (begins_at local) (event g.bytes Enter Data s.point) known) in
+      let so : KnowsLast block (suc n) one (connects rest.after) (begins_at rest.after) = (rest.connect ∙ begins.connect, ends) in record {
+        to = rest.to;
+        ended = rest.ended;
+        after = rest.after;
+        stands = rest.stands;
+        known = subst (λ l. KnowsLast block (suc n) l (connects rest.after) (begins_at rest.after)) both (known-plain block (suc n) one (connects rest.after) (begins_at rest.after) e so);
+        goes = λ es h.
+            begins.goes es
+            (rest.goes es
+            (subst (λ l. EndsWith g text step (shows (after_line (s ∷ ss)) in_paragraph rest.to rest.ended l rest.after) [] (Retry ParagraphLineStart) es) (ap with_links (sym both) ∙ links-plain one e) h));
+      }
+
+  -- Before a line of a paragraph: by whether it begins with a quote mark
+  abbrev line_step : Configuration Unit Unit → Configuration Unit Unit → Bool → Step Unit Unit
+  line_step k k1 c =
+      let s = sight g text k in
+      step_of (cond c (picked quoted_row g s k1) (picked plain_row g s k1)) s k1
+
+  line-starts : (p : ℕ) (b : Bool) (events : List Event) (local : Local Unit Unit) (s : Seat) → slice_get text.seats p ≡ Some s → is_line_ending s ≡ false → (c : Bool) → (s.byte == 62) ≡ c
+      → let k = held in_paragraph p Byte b events local in
+      let q = line_step k (held in_paragraph p Byte b events (counts local)) c in
+      Leads g text step k [] (Retry ParagraphLineStart) q.configuration (q.choices ++ []) q.answer
+  line-starts p b events local s at no_end c is es h =
+      let k = held in_paragraph p Byte b events local in
+      let k1 = held in_paragraph p Byte b events (counts local) in
+      let test : is_quote_mark (byte_of (slice_get text.seats p)) ≡ c = ap (λ o. is_quote_mark (byte_of o)) at ∙ is in
+      leads-row g text step ParagraphLineStart paragraph_line_start_rows reads.line_start k [] (Some other) (is-class g text p s false at no_end) es
+      (subst (λ c. EndsWith g text step (line_step k k1 c).configuration ((line_step k k1 c).choices ++ []) (line_step k k1 c).answer es) (sym test) h)
+
+  abbrev marked_line : List Event → Option Seat → List Event
+  marked_line events o = (events ++ event g.bytes Enter BlockQuoteMarker (point_or text.end o) ∷ []) ++ event g.bytes Exit BlockQuoteMarker (end_or text.end o) ∷ []
+
+  starts-quoted : (p : ℕ) (b : Bool) (events : List Event) (local : Local Unit Unit) (s : Seat) → slice_get text.seats p ≡ Some s → is_line_ending s ≡ false → (s.byte == 62) ≡ true
+      → Leads g text step (held in_paragraph p Byte b events local) [] (Retry ParagraphLineStart) (held in_paragraph (p + 1) Nothing false (marked_line events (Some s)) (counts local)) [] (Next ParagraphStart)
+  starts-quoted p b events local s at no_end quoted es h =
+      line-starts p b events local s at no_end true quoted es
+      (subst (λ o. EndsWith g text step (held in_paragraph (p + 1) Nothing false (marked_line events o) (counts local)) [] (Next ParagraphStart) es) (sym at) h)
+
+  -- A line is read, up to the next: what stands before the next block, and what is known if anything is left
+  pub record ReadsLine (s : Seat) (ss : List Seat) (p : ℕ) (b : Bool) (place : Point) (block n : ℕ) (ms : List Marked) (local : Local Unit Unit) : Type 0 where
+    pub to : ℕ
+    pub ended : Bool
+    pub after : Local Unit Unit
+    pub stands : Stands text to (after_line (s ∷ ss)) (end_after place (first_line (s ∷ ss)))
+    pub before : AllByRecursion (IsBefore (suc block) 0) (ms ++ line_marks g.bytes (block, n) (first_line (s ∷ ss)))
+    pub known : (after_line (s ∷ ss) ≡ []) ⊎ KnowsLast block (suc n) (ms ++ line_marks g.bytes (block, n) (first_line (s ∷ ss))) (connects after) (begins_at after)
+    pub goes : Goes (held in_paragraph p Byte b (with_links ms) local) ParagraphLineStart
+        (shows (after_line (s ∷ ss)) in_paragraph to ended (with_links (ms ++ line_marks g.bytes (block, n) (first_line (s ∷ ss)))) after) ParagraphLineStart
+
+  -- Behind a quote mark: the chunk, if anything is left
+  record ReadsBehind (ss : List Seat) (p : ℕ) (place : Point) (block n : ℕ) (ms : List Marked) (local : Local Unit Unit) : Type 0 where
+    pub to : ℕ
+    pub ended : Bool
+    pub after : Local Unit Unit
+    pub stands : Stands text to (after_line ss) (end_after place (first_line ss))
+    pub before : AllByRecursion (IsBefore (suc block) 0) (ms ++ marked_span g.bytes (Some (block, n)) Data (first_line ss) [])
+    pub known : (after_line ss ≡ []) ⊎ KnowsLast block (suc n) (ms ++ marked_span g.bytes (Some (block, n)) Data (first_line ss) []) (connects after) (begins_at after)
+    pub goes : Goes (shows ss in_paragraph p false (with_links ms) local) ParagraphStart
+        (shows (after_line ss) in_paragraph to ended (with_links (ms ++ marked_span g.bytes (Some (block, n)) Data (first_line ss) [])) after) ParagraphLineStart
+
+  reads-behind : (ss : List Seat) (p : ℕ) (place : Point) (block n : ℕ) (ms : List Marked) (local : Local Unit Unit) → Stands text p ss place → KnowsLast block n ms (connects local) (begins_at local)
+      → ReadsBehind ss p place block n ms local
+  reads-behind [] p place block n ms local here known =
+      let none : ms ≡ ms ++ [] = sym (append-nil ms) in record {
+        to = p;
+        ended = true;
+        after = counts local;
+        stands = here;
+        before = subst (AllByRecursion (IsBefore (suc block) 0)) none (before-next block n ms (known-before block n ms (connects local) (begins_at local) known));
+        known = inl refl;
+        goes = λ es h.
+            start-end g text step reads p (with_links ms) local es
+            (subst (λ l. EndsWith g text step (held in_paragraph p End true (with_links l) (counts local)) [] (Retry ParagraphLineStart) es) (sym none) h);
+      }
+  reads-behind (r ∷ rs) p place block n ms local here known =
+      let chunk = reads-chunk r rs p false place block n ms local here known in
+      let marks = marked_span g.bytes (Some (block, n)) Data (first_line (r ∷ rs)) [] in
+      let same : ms ++ marks ≡ ms ++ chunk_marks g.bytes (block, n) r rs place = ap (λ l. ms ++ l) (chunk-marks g.bytes (block, n) r rs place) in
+      let knows = subst (λ l. KnowsLast block (suc n) l (connects chunk.after) (begins_at chunk.after)) (sym same) chunk.known in record {
+        to = chunk.to;
+        ended = chunk.ended;
+        after = chunk.after;
+        stands = chunk.stands;
+        before = before-next block (suc n) (ms ++ marks) (known-before block (suc n) (ms ++ marks) (connects chunk.after) (begins_at chunk.after) knows);
+        known = inr knows;
+        goes = λ es h. chunk.goes es (subst (λ l. EndsWith g text step (shows (after_line (r ∷ rs)) in_paragraph chunk.to chunk.ended (with_links l) chunk.after) [] (Retry ParagraphLineStart) es) same h);
+      }
+
+  module _ (s : Seat) (ss : List Seat) (p : ℕ) (b : Bool) (place : Point) (block n : ℕ) (ms : List Marked) (local : Local Unit Unit) (here : Stands text p (s ∷ ss) place)
+      (known : KnowsLast block n ms (connects local) (begins_at local)) (no_end : is_line_ending s ≡ false) where
+    at : slice_get text.seats p ≡ Some s
+    at = at-front text.seats p s ss here.0
+
+    -- the marks of the line
+    abbrev its_marks : List Marked
+    its_marks = line_marks g.bytes (block, n) (first_line (s ∷ ss))
+
+    from-plain : (s.byte == 62) ≡ false → ReadsLine s ss p b place block n ms local
+    from-plain plain =
+        let chunk = reads-chunk s ss p b place block n ms (counts local) here known in
+        let same : ms ++ its_marks ≡ ms ++ chunk_marks g.bytes (block, n) s ss place = ap (λ l. ms ++ l) (plain-marks g.bytes (block, n) s ss no_end plain ∙ chunk-marks g.bytes (block, n) s ss place) in
+        let knows = subst (λ l. KnowsLast block (suc n) l (connects chunk.after) (begins_at chunk.after)) (sym same) chunk.known in record {
+          to = chunk.to;
+          ended = chunk.ended;
+          after = chunk.after;
+          stands = chunk.stands;
+          before = before-next block (suc n) (ms ++ its_marks) (known-before block (suc n) (ms ++ its_marks) (connects chunk.after) (begins_at chunk.after) knows);
+          known = inr knows;
+          goes = λ es h.
+              line-starts p b (with_links ms) local s at no_end false plain es
+              (chunk.goes es (subst (λ l. EndsWith g text step (shows (after_line (s ∷ ss)) in_paragraph chunk.to chunk.ended (with_links l) chunk.after) [] (Retry ParagraphLineStart) es) same h));
+        }
+
+    -- the quote mark, as it is entered and exited
+    abbrev mark_begins : Event
+    mark_begins = event g.bytes Enter BlockQuoteMarker s.point
+
+    abbrev mark_ends : Event
+    mark_ends = event g.bytes Exit BlockQuoteMarker s.end
+
+    abbrev with_mark : List Marked
+    with_mark = (ms ++ (mark_begins, None) ∷ []) ++ (mark_ends, None) ∷ []
+
+    mark-linked : with_links with_mark ≡ marked_line (with_links ms) (Some s)
+    mark-linked = links-plain (ms ++ (mark_begins, None) ∷ []) mark_ends ∙ ap (λ l. l ++ mark_ends ∷ []) (links-plain ms mark_begins)
+
+    mark-known : KnowsLast block n with_mark (connects local) (begins_at local)
+    mark-known =
+        known-plain block n (ms ++ (mark_begins, None) ∷ []) (connects local) (begins_at local) mark_ends
+        (known-plain block n ms (connects local) (begins_at local) mark_begins known)
+
+    from-quoted : (s.byte == 62) ≡ true → ReadsLine s ss p b place block n ms local
+    from-quoted quoted =
+        let next = stands-next text p s ss place here in
+        let then = reads-behind ss (p + 1) s.end block n with_mark (counts local) next mark-known in
+        let marks = marked_span g.bytes (Some (block, n)) Data (first_line ss) [] in
+        let same : ms ++ its_marks ≡ with_mark ++ marks = ap (λ l. ms ++ l) (quoted-marks g.bytes (block, n) s ss no_end quoted) ∙ sym (three ms (mark_begins, None) (mark_ends, None) marks) in
+        let line = line-on s ss no_end in
+        let behind = behind-on s ss no_end in record {
+          to = then.to;
+          ended = then.ended;
+          after = then.after;
+          stands = subst (λ l. Stands text then.to l (end_after place (first_line (s ∷ ss)))) (sym behind) (subst (λ l. Stands text then.to (after_line ss) (end_after place l)) (sym line) then.stands);
+          before = subst (AllByRecursion (IsBefore (suc block) 0)) (sym same) then.before;
+          known = elim then.known [
+            | inl none ↦ inl (behind ∙ none)
+            | inr knows ↦ inr (subst (λ l. KnowsLast block (suc n) l (connects then.after) (begins_at then.after)) (sym same) knows)
+          ];
+          goes = λ es h.
+              starts-quoted p b (with_links ms) local s at no_end quoted es
+              (goes-next g text step ss in_paragraph (p + 1) false (marked_line (with_links ms) (Some s)) (counts local) [] ParagraphStart next.0 es
+              (subst (λ l. EndsWith g text step (shows ss in_paragraph (p + 1) false l (counts local)) [] (Retry ParagraphStart) es) mark-linked
+              (then.goes es
+              (subst (λ l. EndsWith g text step (shows l in_paragraph then.to then.ended (with_links (with_mark ++ marks)) then.after) [] (Retry ParagraphLineStart) es) behind
+              (subst (λ l. EndsWith g text step (shows (after_line (s ∷ ss)) in_paragraph then.to then.ended (with_links l) then.after) [] (Retry ParagraphLineStart) es) same h)))));
+        }
+
+    pub reads-line : ReadsLine s ss p b place block n ms local
+    reads-line = elim (s.byte == 62) as (λ c. (s.byte == 62) ≡ c → ReadsLine s ss p b place block n ms local) [ true ↦ from-quoted | false ↦ from-plain ] refl
+
+  -- Where no line of a paragraph begins, it ends
+  pub paragraph-ends : (l : List Seat) (p : ℕ) (b : Bool) (place : Point) (events : List Event) (local : Local Unit Unit) → Stands text p l place → Stops l
+      → Goes (shows l in_paragraph p b events local) ParagraphLineStart (shows l [] p b (events ++ event g.bytes Exit Paragraph place ∷ []) (counts local)) FlowStart
+  paragraph-ends [] p b place events local here stops es h =
+      leads-row g text step ParagraphLineStart paragraph_line_start_rows reads.line_start (held in_paragraph p End true events local) [] None refl es
+      (subst (λ q. EndsWith g text step (held [] p End true (events ++ event g.bytes Exit Paragraph q ∷ []) (counts local)) [] (Retry FlowStart) es) (sym here.1) h)
+  paragraph-ends (s ∷ ss) p b place events local here stops es h =
+      leads-row g text step ParagraphLineStart paragraph_line_start_rows reads.line_start (held in_paragraph p Byte b events local) [] (Some line_ending)
+      (is-class g text p s true (at-front text.seats p s ss here.0) stops) es
+      (subst (λ q. EndsWith g text step (held [] p Byte b (events ++ event g.bytes Exit Paragraph q ∷ []) (counts local)) [] (Retry FlowStart) es) (sym here.1) h)

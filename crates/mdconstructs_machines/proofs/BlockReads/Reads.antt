@@ -1,0 +1,248 @@
+-- A machine that has the states of paragraphs: what it reads, in small steps.
+use Rattle.std.proofs.Common.{◌≡◌, ℕ, zero, suc, ◌+◌, ◌-◌, ◌∷◌, ◌++◌, [], List, Bool, true, false, cond, refl, sym, ◌∙◌, ap, subst, Option, Some, None, arith, length, drop, slice_get, length-append}
+use Rattle.std.proofs.lemmas.List.{length-map}
+use Rattle.markdown_base.proofs.Common.{drop-next}
+use Rattle.markdown_base.specs.declared.event.Event.{Event}
+use Rattle.markdown_base.specs.declared.event.Kind.TheVariants.{Enter, Exit}
+use Rattle.markdown_base.specs.declared.event.Name.{Name as EventName}
+use Rattle.markdown_base.specs.declared.event.Name.TheVariants.{Paragraph, Data}
+use Rattle.markdown_base.specs.declared.event.Point.{Point}
+use Rattle.markdown_base.specs.declared.state.Name.{Name}
+use Rattle.markdown_base.specs.declared.state.State.TheVariants.{Next, Retry}
+use Rattle.markdown_base.specs.declared.state.TheConstants.Name.{FlowStart, ParagraphLineStart, ParagraphStart, ParagraphInside}
+use Rattle.markdown_base.specs.Virtual.{Seat, end_after}
+use Rattle.markdown_tokenizer.specs.declared.waiting.Waits.TheVariants.{Nothing, Byte, End}
+use Rattle.markdown_tokenizer.specs.Text.{Given, Text}
+use Rattle.markdown_tokenizer.specs.Configuration.{Configuration, Local, Step}
+use Rattle.markdown_tokenizer.specs.Sight.{Sight, sight, end_place, end_or, point_or}
+use Rattle.mdconstructs_tables.specs.Rows.{Rows, row, enter_link, links, write, picked, step_of}
+use Rattle.markdown_edits.specs.Links.{updated_at, with_next, with_previous, linked_to}
+use Rattle.markdown_edits.proofs.LinkEnds.{updated-length}
+use Rattle.mdconstructs_machines.specs.LineEvents.{is_line_ending}
+use Rattle.mdconstructs_machines.specs.Spans.{event}
+use Rattle.mdconstructs_machines.specs.Tables.{line_ending, other, counts}
+use Rattle.mdconstructs_machines.specs.Paragraphs.{flow_start_rows, paragraph_line_start_rows, paragraph_start_rows, paragraph_inside_rows, text_link, chunk_before, last_event, connected}
+use Rattle.mdconstructs_machines.specs.ParagraphEvents.{Marked, as_linked, with_links}
+use Rattle.mdconstructs_machines.proofs.BlockReads.Lines.{first_line, after_line, line-on, behind-on}
+use Rattle.mdconstructs_machines.proofs.BlockReads.Links.{alone, KnowsLast, links-first, links-next}
+use Rattle.mdconstructs_machines.proofs.LineReads.Rows.{HasRows, is-class, leads-row}
+use Rattle.mdconstructs_machines.proofs.LineReads.Steps.{EndsWith, Leads, held, shows, goes-next, at-front}
+
+-- spans that are open: a paragraph, and a chunk in it
+abbrev pub in_paragraph : List EventName
+in_paragraph = Paragraph ∷ []
+
+abbrev pub in_chunk : List EventName
+in_chunk = Paragraph ∷ Data ∷ []
+
+-- a chunk came before in the paragraph, and at which index it begins
+abbrev pub connects : Local Unit Unit → Bool
+connects local = local.tokenize_state.connect
+
+abbrev pub begins_at : Local Unit Unit → ℕ
+begins_at local = local.tokenize_state.start
+
+-- one stands there: these virtual bytes are left, and the byte before ends at this place
+abbrev pub Stands : Text → ℕ → List Seat → Point → Type 0
+Stands text p l place = (drop p text.seats ≡ l) × (end_place text p ≡ place)
+
+pub stands-next : (text : Text) (p : ℕ) (s : Seat) (ss : List Seat) (place : Point) → Stands text p (s ∷ ss) place → Stands text (p + 1) ss s.end
+stands-next text p s ss place h =
+    let one : p + 1 ≡ suc p = omega arith in
+    (drop-next text.seats p s ss h.0, ap (end_place text) one ∙ ap (end_or text.start) (at-front text.seats p s ss h.0))
+
+-- the rows of a chunk that is linked to the one before, and of the first
+abbrev linked_chunk : Rows Unit Unit
+linked_chunk = row (enter_link Data text_link ∷ links chunk_before last_event ∷ write connected ∷ []) (Retry ParagraphInside)
+
+abbrev first_chunk : Rows Unit Unit
+first_chunk = row (enter_link Data text_link ∷ write connected ∷ []) (Retry ParagraphInside)
+
+module _ (g : Given) (text : Text) (step : Sight → Configuration Unit Unit → Name → Step Unit Unit) where
+  -- The machine has the states of paragraphs
+  pub record ReadsBlocks : Type 0 where
+    pub flow_start : HasRows g text step FlowStart flow_start_rows
+    pub line_start : HasRows g text step ParagraphLineStart paragraph_line_start_rows
+    pub start : HasRows g text step ParagraphStart paragraph_start_rows
+    pub inside : HasRows g text step ParagraphInside paragraph_inside_rows
+
+module _ (g : Given) (text : Text) (step : Sight → Configuration Unit Unit → Name → Step Unit Unit) (reads : ReadsBlocks g text step) where
+  abbrev Goes : Configuration Unit Unit → Name → Configuration Unit Unit → Name → Type 0
+  Goes k name k' name' = Leads g text step k [] (Retry name) k' [] (Retry name')
+
+  -- In a chunk: the end, its line ending, and another byte
+  inside-end : (p : ℕ) (events : List Event) (local : Local Unit Unit)
+      → Goes (held in_chunk p End true events local) ParagraphInside (held in_paragraph p End true (events ++ event g.bytes Exit Data (end_place text p) ∷ []) (counts local)) ParagraphLineStart
+  inside-end p events local es h = leads-row g text step ParagraphInside paragraph_inside_rows reads.inside (held in_chunk p End true events local) [] None refl es h
+
+  inside-ending : (p : ℕ) (b : Bool) (events : List Event) (local : Local Unit Unit) (s : Seat) → slice_get text.seats p ≡ Some s → is_line_ending s ≡ true
+      → Leads g text step (held in_chunk p Byte b events local) [] (Retry ParagraphInside)
+      (held in_paragraph (p + 1) Nothing false (events ++ event g.bytes Exit Data s.end ∷ []) (counts local)) [] (Next ParagraphLineStart)
+  inside-ending p b events local s at is es h =
+      leads-row g text step ParagraphInside paragraph_inside_rows reads.inside (held in_chunk p Byte b events local) [] (Some line_ending) (is-class g text p s true at is) es
+      (subst (λ o. EndsWith g text step (held in_paragraph (p + 1) Nothing false (events ++ event g.bytes Exit Data (end_or text.end o) ∷ []) (counts local)) [] (Next ParagraphLineStart) es) (sym at) h)
+
+  inside-other : (p : ℕ) (b : Bool) (events : List Event) (local : Local Unit Unit) (s : Seat) → slice_get text.seats p ≡ Some s → is_line_ending s ≡ false
+      → Leads g text step (held in_chunk p Byte b events local) [] (Retry ParagraphInside) (held in_chunk (p + 1) Nothing false events (counts local)) [] (Next ParagraphInside)
+  inside-other p b events local s at no_end es h =
+      leads-row g text step ParagraphInside paragraph_inside_rows reads.inside (held in_chunk p Byte b events local) [] (Some other) (is-class g text p s false at no_end) es h
+
+  -- All of a chunk was read, up to the next line; of chunks it is known what was known
+  pub record ReadsRest (l : List Seat) (p : ℕ) (b : Bool) (place : Point) (events : List Event) (local : Local Unit Unit) : Type 0 where
+    pub to : ℕ
+    pub ended : Bool
+    pub after : Local Unit Unit
+    pub connect : connects after ≡ connects local
+    pub index : begins_at after ≡ begins_at local
+    pub stands : Stands text to (after_line l) (end_after place (first_line l))
+    pub goes : Goes (shows l in_chunk p b events local) ParagraphInside
+        (shows (after_line l) in_paragraph to ended (events ++ event g.bytes Exit Data (end_after place (first_line l)) ∷ []) after) ParagraphLineStart
+
+  -- by what its first byte is
+  rest-ending : (s : Seat) (ss : List Seat) (p : ℕ) (b : Bool) (place : Point) (events : List Event) (local : Local Unit Unit) → Stands text p (s ∷ ss) place → is_line_ending s ≡ true
+      → ReadsRest (s ∷ ss) p b place events local
+  rest-ending s ss p b place events local here is =
+      let line : first_line (s ∷ ss) ≡ s ∷ [] = ap (λ t. cond t (s ∷ []) (s ∷ first_line ss)) is in
+      let behind : after_line (s ∷ ss) ≡ ss = ap (λ t. cond t ss (after_line ss)) is in
+      let next = stands-next text p s ss place here in
+      let es1 = events ++ event g.bytes Exit Data s.end ∷ [] in record {
+        to = p + 1;
+        ended = false;
+        after = counts local;
+        connect = refl;
+        index = refl;
+        stands = subst (λ l. Stands text (p + 1) l (end_after place (first_line (s ∷ ss)))) (sym behind) (subst (λ l. Stands text (p + 1) ss (end_after place l)) (sym line) next);
+        goes = λ es h.
+            inside-ending p b events local s (at-front text.seats p s ss here.0) is es
+            (goes-next g text step ss in_paragraph (p + 1) false es1 (counts local) [] ParagraphLineStart next.0 es
+            (subst (λ l. EndsWith g text step (shows l in_paragraph (p + 1) false es1 (counts local)) [] (Retry ParagraphLineStart) es) behind
+            (subst (λ l. EndsWith g text step (shows (after_line (s ∷ ss)) in_paragraph (p + 1) false (events ++ event g.bytes Exit Data (end_after place l) ∷ []) (counts local)) [] (Retry ParagraphLineStart) es) line h)));
+      }
+
+  rest-other : (s : Seat) (ss : List Seat) (p : ℕ) (b : Bool) (place : Point) (events : List Event) (local : Local Unit Unit) → Stands text p (s ∷ ss) place → is_line_ending s ≡ false
+      → ReadsRest ss (p + 1) false s.end events (counts local) → ReadsRest (s ∷ ss) p b place events local
+  rest-other s ss p b place events local here no_end then =
+      let line = line-on s ss no_end in
+      let behind = behind-on s ss no_end in
+      let next = stands-next text p s ss place here in record {
+        to = then.to;
+        ended = then.ended;
+        after = then.after;
+        connect = then.connect;
+        index = then.index;
+        stands = subst (λ l. Stands text then.to l (end_after place (first_line (s ∷ ss)))) (sym behind) (subst (λ l. Stands text then.to (after_line ss) (end_after place l)) (sym line) then.stands);
+        goes = λ es h.
+            inside-other p b events local s (at-front text.seats p s ss here.0) no_end es
+            (goes-next g text step ss in_chunk (p + 1) false events (counts local) [] ParagraphInside next.0 es
+            (then.goes es
+            (subst (λ l. EndsWith g text step (shows l in_paragraph then.to then.ended (events ++ event g.bytes Exit Data (end_after s.end (first_line ss)) ∷ []) then.after) [] (Retry ParagraphLineStart) es) behind
+            (subst (λ l. EndsWith g text step (shows (after_line (s ∷ ss)) in_paragraph then.to then.ended (events ++ event g.bytes Exit Data (end_after place l) ∷ []) then.after) [] (Retry ParagraphLineStart) es) line h))));
+      }
+
+  pub reads-rest : (l : List Seat) (p : ℕ) (b : Bool) (place : Point) (events : List Event) (local : Local Unit Unit) → Stands text p l place → ReadsRest l p b place events local
+  reads-rest [] p b place events local here = record {
+    to = p;
+    ended = true;
+    after = counts local;
+    connect = refl;
+    index = refl;
+    stands = here;
+    goes = λ es h.
+        inside-end p events local es
+        (subst (λ q. EndsWith g text step (held in_paragraph p End true (events ++ event g.bytes Exit Data q ∷ []) (counts local)) [] (Retry ParagraphLineStart) es) (sym here.1) h);
+  }
+  reads-rest (s ∷ ss) p b place events local here =
+      let then = reads-rest ss (p + 1) false s.end events (counts local) (stands-next text p s ss place here) in
+      elim (is_line_ending s) as (λ t. is_line_ending s ≡ t → ReadsRest (s ∷ ss) p b place events local) [
+        | true ↦ λ is. rest-ending s ss p b place events local here is
+        | false ↦ λ no_end. rest-other s ss p b place events local here no_end then
+      ] refl
+
+  -- Where a chunk may begin there is no byte
+  pub start-end : (p : ℕ) (events : List Event) (local : Local Unit Unit) → Goes (held in_paragraph p End true events local) ParagraphStart (held in_paragraph p End true events (counts local)) ParagraphLineStart
+  start-end p events local es h = leads-row g text step ParagraphStart paragraph_start_rows reads.start (held in_paragraph p End true events local) [] None refl es h
+
+  -- A chunk begins: as it is entered, and with what is known of the chunk before
+  abbrev entered_chunk : List Event → Option Seat → List Event
+  entered_chunk events o = events ++ alone (event g.bytes Enter Data (point_or text.end o)) ∷ []
+
+  abbrev begun : List Event → Local Unit Unit → Local Unit Unit
+  begun events local = record local { tokenize_state = record local.tokenize_state { start = length events - 1; connect = true } }
+
+  abbrev joined_chunk : List Event → Local Unit Unit → Option Seat → List Event
+  joined_chunk events local o = linked_to (begins_at local) (length (entered_chunk events o) - 1) (entered_chunk events o)
+
+  abbrev StartsChunk : (p : ℕ) (b : Bool) (events : List Event) (local : Local Unit Unit) → List Event → Type 0
+  StartsChunk p b events local after = Goes (held in_paragraph p Byte b events local) ParagraphStart (held in_chunk p Byte b after (begun after (counts local))) ParagraphInside
+
+  -- the step, by whether a chunk came before
+  abbrev start_step : Configuration Unit Unit → Configuration Unit Unit → Bool → Step Unit Unit
+  start_step k k1 c =
+      let s = sight g text k in
+      step_of (cond c (picked linked_chunk g s k1) (picked first_chunk g s k1)) s k1
+
+  starts : (p : ℕ) (b : Bool) (events : List Event) (local : Local Unit Unit) (s : Seat) → slice_get text.seats p ≡ Some s → (c : Bool) → connects local ≡ c
+      → let k = held in_paragraph p Byte b events local in
+      let q = start_step k (held in_paragraph p Byte b events (counts local)) c in
+      Leads g text step k [] (Retry ParagraphStart) q.configuration (q.choices ++ []) q.answer
+  starts p b events local s at c is es h =
+      let k = held in_paragraph p Byte b events local in
+      let k1 = held in_paragraph p Byte b events (counts local) in
+      leads-row g text step ParagraphStart paragraph_start_rows reads.start k [] (Some (cond (is_line_ending s) line_ending other)) (is-class g text p s (is_line_ending s) at refl) es
+      (subst (λ c. EndsWith g text step (start_step k k1 c).configuration ((start_step k k1 c).choices ++ []) (start_step k k1 c).answer es) (sym is) h)
+
+  starts-first : (p : ℕ) (b : Bool) (events : List Event) (local : Local Unit Unit) (s : Seat) → slice_get text.seats p ≡ Some s → connects local ≡ false
+      → StartsChunk p b events local (entered_chunk events (Some s))
+  starts-first p b events local s at first es h =
+      starts p b events local s at false first es
+      (subst (λ o. EndsWith g text step (held in_chunk p Byte b (entered_chunk events o) (begun (entered_chunk events o) (counts local))) [] (Retry ParagraphInside) es) (sym at) h)
+
+  starts-next : (p : ℕ) (b : Bool) (events : List Event) (local : Local Unit Unit) (s : Seat) → slice_get text.seats p ≡ Some s → connects local ≡ true
+      → StartsChunk p b events local (joined_chunk events local (Some s))
+  starts-next p b events local s at next es h =
+      starts p b events local s at true next es
+      (subst (λ o. EndsWith g text step (held in_chunk p Byte b (joined_chunk events local o) (begun (joined_chunk events local o) (counts local))) [] (Retry ParagraphInside) es) (sym at) h)
+
+  -- so it begins where marked events have one more
+  pub record BeginsChunk (s : Seat) (p : ℕ) (b : Bool) (block n : ℕ) (ms : List Marked) (local : Local Unit Unit) : Type 0 where
+    pub after : Local Unit Unit
+    pub connect : connects after ≡ true
+    pub index : begins_at after ≡ length ms
+    pub goes : Goes (held in_paragraph p Byte b (with_links ms) local) ParagraphStart
+        (held in_chunk p Byte b (with_links (ms ++ (event g.bytes Enter Data s.point, Some (block, n)) ∷ [])) after) ParagraphInside
+
+  last-of : (ms : List Marked) (e : Event) → length (with_links ms ++ e ∷ []) - 1 ≡ length ms
+  last-of ms e =
+      let long : length (with_links ms ++ e ∷ []) ≡ length (with_links ms) + 1 = length-append (with_links ms) (e ∷ []) in
+      let same : length (with_links ms) ≡ length ms = length-map ms (as_linked ms) in omega (arith, long, same)
+
+  length-linked : (i m : ℕ) (es : List Event) → length (linked_to i m es) ≡ length es
+  length-linked i m es = updated-length m (with_previous i) (updated_at i (with_next m) es) ∙ updated-length i (with_next m) es
+
+  pub begins-chunk : (s : Seat) (p : ℕ) (b : Bool) (block n : ℕ) (ms : List Marked) (local : Local Unit Unit) → slice_get text.seats p ≡ Some s → KnowsLast block n ms (connects local) (begins_at local)
+      → BeginsChunk s p b block n ms local
+  begins-chunk s p b block zero ms local at known =
+      let e = event g.bytes Enter Data s.point in
+      let new = with_links ms ++ alone e ∷ [] in
+      let is : with_links (ms ++ (e, Some (block, 0)) ∷ []) ≡ new = links-first ms e block known.1 in record {
+        after = begun new (counts local);
+        connect = refl;
+        index = last-of ms (alone e);
+        goes = λ es h.
+            starts-first p b (with_links ms) local s at known.0 es
+            (subst (λ l. EndsWith g text step (held in_chunk p Byte b l (begun new (counts local))) [] (Retry ParagraphInside) es) is h);
+      }
+  begins-chunk s p b block (suc n) ms local at known =
+      let e = event g.bytes Enter Data s.point in
+      let i = begins_at local in
+      let one = with_links ms ++ alone e ∷ [] in
+      let new = linked_to i (length one - 1) one in
+      let last : length one - 1 ≡ length ms = last-of ms (alone e) in
+      let is : with_links (ms ++ (e, Some (block, suc n)) ∷ []) ≡ new = links-next ms e block n i known.1 ∙ ap (λ m. linked_to i m one) (sym last) in record {
+        after = begun new (counts local);
+        connect = refl;
+        index = ap (λ m. m - 1) (length-linked i (length one - 1) one) ∙ last;
+        goes = λ es h.
+            starts-next p b (with_links ms) local s at known.0 es
+            (subst (λ l. EndsWith g text step (held in_chunk p Byte b l (begun new (counts local))) [] (Retry ParagraphInside) es) is h);
+      }

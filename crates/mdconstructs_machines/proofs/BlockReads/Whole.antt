@@ -1,0 +1,232 @@
+-- Whole documents are read block by block.
+use Rattle.std.specs.List.{AllByRecursion}
+use Rattle.std.proofs.Common.{◌≡◌, ℕ, zero, suc, ◌+◌, ◌≤◌, ◌∷◌, ◌++◌, [], List, Bool, true, false, ◌⊎◌, inl, inr, refl, sym, ◌∙◌, ap, subst, Option, Some, None, arith, length, slice_get}
+use Rattle.std.proofs.lemmas.List.{append_assoc, append-nil}
+use Rattle.markdown_base.proofs.Common.{every-append}
+use Rattle.markdown_base.specs.declared.event.Event.{Event}
+use Rattle.markdown_base.specs.declared.event.Kind.TheVariants.{Enter, Exit}
+use Rattle.markdown_base.specs.declared.event.Name.TheVariants.{Paragraph, BlankLineEnding}
+use Rattle.markdown_base.specs.declared.event.Point.{Point}
+use Rattle.markdown_base.specs.declared.state.Name.{Name}
+use Rattle.markdown_base.specs.declared.state.State.TheVariants.{Next, Retry}
+use Rattle.markdown_base.specs.declared.state.TheConstants.Name.{FlowStart, ParagraphLineStart}
+use Rattle.markdown_base.specs.Virtual.{Seat, end_after}
+use Rattle.markdown_tokenizer.specs.declared.waiting.Waits.TheVariants.{Nothing, Byte, End}
+use Rattle.markdown_tokenizer.specs.Text.{Given, Text}
+use Rattle.markdown_tokenizer.specs.Configuration.{Configuration, Local, Step, start_configuration}
+use Rattle.markdown_tokenizer.specs.Engine.{whole_text}
+use Rattle.markdown_tokenizer.specs.Rules.{Rules}
+use Rattle.markdown_tokenizer.specs.Sight.{Sight, point_or, end_or}
+use Rattle.mdconstructs_machines.specs.LineEvents.{is_line_ending, lines_in, all_of}
+use Rattle.mdconstructs_machines.specs.ReadAs.{IsReadAs}
+use Rattle.mdconstructs_machines.specs.Spans.{event}
+use Rattle.mdconstructs_machines.specs.Tables.{line_ending, other, counts}
+use Rattle.mdconstructs_machines.specs.Paragraphs.{flow_start_rows}
+use Rattle.mdconstructs_machines.specs.ParagraphEvents.{Block, Marked, paragraph, marked_span, line_marks, lines_marks, blocks_marks, blocks_of, with_links, paragraph_events}
+use Rattle.mdconstructs_machines.proofs.BlockReads.Lines.{first_line, after_line, line-on, after-less, blank-block, other-block, Run, run_end, run_blank, run_on}
+use Rattle.mdconstructs_machines.proofs.BlockReads.Links.{IsBefore, KnowsLast, links-plain, before-next}
+use Rattle.mdconstructs_machines.proofs.BlockReads.OneLine.{three, reads-line, paragraph-ends}
+use Rattle.mdconstructs_machines.proofs.BlockReads.Reads.{in_paragraph, connects, begins_at, Stands, stands-next, ReadsBlocks}
+use Rattle.mdconstructs_machines.proofs.LineReads.Rows.{is-class, leads-row}
+use Rattle.mdconstructs_machines.proofs.LineReads.Steps.{EndsWith, Leads, ended, held, shows, goes-next, at-front, reads-as}
+
+-- the place after two stretches is that after the second, from that after the first
+end-append : (p : Point) (xs ys : List Seat) → end_after p (xs ++ ys) ≡ end_after (end_after p xs) ys
+end-append p [] ys = refl
+end-append p (x ∷ xs) ys = end-append x.end xs ys
+
+-- what is added one after another
+nest : (ms : List Marked) (x : Marked) (one more : List Marked) (y : Marked) (rest : List Marked)
+    → ((((ms ++ x ∷ []) ++ one) ++ more) ++ y ∷ []) ++ rest ≡ ms ++ ((x ∷ ((one ++ more) ++ y ∷ [])) ++ rest)
+nest [] x one more y rest = refl
+nest (m ∷ ms) x one more y rest = ap (λ l. m ∷ l) (nest ms x one more y rest)
+
+-- The marks of a paragraph over these lines, the first of which begins with this byte
+module _ (bytes : List ℕ) (s : Seat) (ss : List Seat) (lines : List (List Seat)) (place : Point) (inside : List Marked) where
+  abbrev spanned : List Seat → List Marked
+  spanned line = (event bytes Enter Paragraph s.point, None) ∷ (inside ++ (event bytes Exit Paragraph (end_after (end_after place line) (all_of lines)), None) ∷ [])
+
+  span-of : (rest : List Seat) → marked_span bytes None Paragraph ((s ∷ rest) ++ all_of lines) inside ≡ spanned (s ∷ rest)
+  span-of rest = ap (λ q. (event bytes Enter Paragraph s.point, None) ∷ (inside ++ (event bytes Exit Paragraph q, None) ∷ [])) (end-append s.end rest (all_of lines))
+
+  paragraph-span : is_line_ending s ≡ false → marked_span bytes None Paragraph (first_line (s ∷ ss) ++ all_of lines) inside ≡ spanned (first_line (s ∷ ss))
+  paragraph-span no_end = subst (λ line. marked_span bytes None Paragraph (line ++ all_of lines) inside ≡ spanned line) (sym (line-on s ss no_end)) (span-of (first_line ss))
+
+-- what is added for a paragraph of these lines, and for the blocks behind it
+paragraph-marked : (bytes : List ℕ) (s : Seat) (ss : List Seat) (lines : List (List Seat)) (place : Point) (block : ℕ) (ms : List Marked) (others : List Block) → is_line_ending s ≡ false
+    → let first = first_line (s ∷ ss) in
+    ((((ms ++ (event bytes Enter Paragraph s.point, None) ∷ []) ++ line_marks bytes (block, 0) first) ++ lines_marks bytes block 1 lines)
+    ++ (event bytes Exit Paragraph (end_after (end_after place first) (all_of lines)), None) ∷ []) ++ blocks_marks bytes (suc block) others
+    ≡ ms ++ blocks_marks bytes block (paragraph (first ∷ lines) ∷ others)
+paragraph-marked bytes s ss lines place block ms others no_end =
+    let first = first_line (s ∷ ss) in
+    let rest = blocks_marks bytes (suc block) others in
+    let inside = line_marks bytes (block, 0) first ++ lines_marks bytes block 1 lines in
+    nest ms (event bytes Enter Paragraph s.point, None) (line_marks bytes (block, 0) first) (lines_marks bytes block 1 lines) (event bytes Exit Paragraph (end_after (end_after place first) (all_of lines)), None) rest
+    ∙ ap (λ l. ms ++ (l ++ rest)) (sym (paragraph-span bytes s ss lines place inside no_end))
+
+module _ (g : Given) (text : Text) (step : Sight → Configuration Unit Unit → Name → Step Unit Unit) (reads : ReadsBlocks g text step) where
+  abbrev Goes : Configuration Unit Unit → Name → Configuration Unit Unit → Name → Type 0
+  Goes k name k' name' = Leads g text step k [] (Retry name) k' [] (Retry name')
+
+  -- The lines that go on a paragraph were read
+  record ReadsRun (l : List Seat) (p : ℕ) (b : Bool) (place : Point) (block n : ℕ) (ms : List Marked) (local : Local Unit Unit) : Type 0 where
+    pub run : Run l
+    pub to : ℕ
+    pub ended : Bool
+    pub after : Local Unit Unit
+    pub stands : Stands text to run.rest (end_after place (all_of run.lines))
+    pub before : AllByRecursion (IsBefore (suc block) 0) (ms ++ lines_marks g.bytes block n run.lines)
+    pub goes : Goes (shows l in_paragraph p b (with_links ms) local) ParagraphLineStart
+        (shows run.rest in_paragraph to ended (with_links (ms ++ lines_marks g.bytes block n run.lines)) after) ParagraphLineStart
+
+  -- none goes on
+  stops-there : (l : List Seat) (run : Run l) (p : ℕ) (b : Bool) (place : Point) (block n : ℕ) (ms : List Marked) (local : Local Unit Unit) → Stands text p l place
+      → AllByRecursion (IsBefore (suc block) 0) ms → run.lines ≡ [] → run.rest ≡ l → ReadsRun l p b place block n ms local
+  stops-there l run p b place block n ms local here before none same =
+      let marks : ms ++ lines_marks g.bytes block n run.lines ≡ ms = ap (λ ls. ms ++ lines_marks g.bytes block n ls) none ∙ append-nil ms in record {
+        run = run;
+        to = p;
+        ended = b;
+        after = local;
+        stands = subst (λ r. Stands text p r (end_after place (all_of run.lines))) (sym same) (subst (λ ls. Stands text p l (end_after place (all_of ls))) (sym none) here);
+        before = subst (AllByRecursion (IsBefore (suc block) 0)) (sym marks) before;
+        goes = λ es h.
+            subst (λ r. EndsWith g text step (shows r in_paragraph p b (with_links ms) local) [] (Retry ParagraphLineStart) es) same
+            (subst (λ l. EndsWith g text step (shows run.rest in_paragraph p b (with_links l) local) [] (Retry ParagraphLineStart) es) marks h);
+      }
+
+  reads-run : (m : ℕ) (l : List Seat) → length l ≤ m → (p : ℕ) (b : Bool) (place : Point) (block n : ℕ) (ms : List Marked) (local : Local Unit Unit) → Stands text p l place
+      → AllByRecursion (IsBefore (suc block) 0) ms → (l ≡ []) ⊎ KnowsLast block n ms (connects local) (begins_at local) → ReadsRun l p b place block n ms local
+  reads-run m [] few p b place block n ms local here before known = stops-there [] run_end p b place block n ms local here before refl refl
+  reads-run zero (s ∷ ss) few p b place block n ms local here before known = absurd (omega (arith, few))
+  reads-run (suc m) (s ∷ ss) few p b place block n ms local here before known =
+      elim (is_line_ending s) as (λ t. is_line_ending s ≡ t → ReadsRun (s ∷ ss) p b place block n ms local) [
+        | true ↦ λ is. stops-there (s ∷ ss) (run_blank s ss is) p b place block n ms local here before refl refl
+        | false ↦ λ no_end. elim known [
+          | inl none ↦ absurd (cc)
+          | inr knows ↦
+              let line = reads-line g text step reads s ss p b place block n ms local here knows no_end in
+              let marks = line_marks g.bytes (block, n) (first_line (s ∷ ss)) in
+              let less = after-less s ss in
+              let then = reads-run m (after_line (s ∷ ss)) (omega (arith, less, few)) line.to line.ended (end_after place (first_line (s ∷ ss))) block (suc n) (ms ++ marks) line.after line.stands line.before line.known in
+              let run = run_on s ss no_end then.run in
+              let same : (ms ++ marks) ++ lines_marks g.bytes block (suc n) then.run.lines ≡ ms ++ lines_marks g.bytes block n run.lines = append_assoc ms marks (lines_marks g.bytes block (suc n) then.run.lines) in record {
+                run = run;
+                to = then.to;
+                ended = then.ended;
+                after = then.after;
+                stands = subst (Stands text then.to then.run.rest) (sym (end-append place (first_line (s ∷ ss)) (all_of then.run.lines))) then.stands;
+                before = subst (AllByRecursion (IsBefore (suc block) 0)) same then.before;
+                goes = λ es h.
+                    line.goes es
+                    (then.goes es
+                    (subst (λ l. EndsWith g text step (shows then.run.rest in_paragraph then.to then.ended (with_links l) then.after) [] (Retry ParagraphLineStart) es) (sym same) h));
+              }
+        ]
+      ] refl
+
+  -- Before a block: the end, a blank line, and a paragraph
+  abbrev at_flow : List Seat → ℕ → Bool → List Event → Local Unit Unit → List Event → Type 0
+  at_flow l p b events local es = EndsWith g text step (shows l [] p b events local) [] (Retry FlowStart) es
+
+  flow-end : (p : ℕ) (b : Bool) (events : List Event) (local : Local Unit Unit) → at_flow [] p b events local events
+  flow-end p b events local =
+      leads-row g text step FlowStart flow_start_rows reads.flow_start (held [] p End true events local) [] None refl events (ended g text step (held [] p End true events (counts local)))
+
+  abbrev blank_line : List Event → Option Seat → List Event
+  blank_line events o = (events ++ event g.bytes Enter BlankLineEnding (point_or text.end o) ∷ []) ++ event g.bytes Exit BlankLineEnding (end_or text.end o) ∷ []
+
+  flow-blank : (p : ℕ) (b : Bool) (events : List Event) (local : Local Unit Unit) (s : Seat) → slice_get text.seats p ≡ Some s → is_line_ending s ≡ true
+      → Leads g text step (held [] p Byte b events local) [] (Retry FlowStart) (held [] (p + 1) Nothing false (blank_line events (Some s)) (counts local)) [] (Next FlowStart)
+  flow-blank p b events local s at is es h =
+      leads-row g text step FlowStart flow_start_rows reads.flow_start (held [] p Byte b events local) [] (Some line_ending) (is-class g text p s true at is) es
+      (subst (λ o. EndsWith g text step (held [] (p + 1) Nothing false (blank_line events o) (counts local)) [] (Next FlowStart) es) (sym at) h)
+
+  -- no chunk came before
+  abbrev no_chunk : Local Unit Unit → Local Unit Unit
+  no_chunk local = record local { tokenize_state = record local.tokenize_state { connect = false } }
+
+  flow-other : (p : ℕ) (b : Bool) (events : List Event) (local : Local Unit Unit) (s : Seat) → slice_get text.seats p ≡ Some s → is_line_ending s ≡ false
+      → Goes (held [] p Byte b events local) FlowStart (held in_paragraph p Byte b (events ++ event g.bytes Enter Paragraph s.point ∷ []) (no_chunk (counts local))) ParagraphLineStart
+  flow-other p b events local s at no_end es h =
+      leads-row g text step FlowStart flow_start_rows reads.flow_start (held [] p Byte b events local) [] (Some other) (is-class g text p s false at no_end) es
+      (subst (λ o. EndsWith g text step (held in_paragraph p Byte b (events ++ event g.bytes Enter Paragraph (point_or text.end o) ∷ []) (no_chunk (counts local))) [] (Retry ParagraphLineStart) es) (sym at) h)
+
+  -- From before a block on, with what is marked so far, all blocks that are left are read
+  abbrev pub FromFlow : (l : List Seat) → Type 0
+  FromFlow l = (p : ℕ) (b : Bool) (place : Point) (block : ℕ) (ms : List Marked) (local : Local Unit Unit) → Stands text p l place → AllByRecursion (IsBefore block 0) ms
+      → at_flow l p b (with_links ms) local (with_links (ms ++ blocks_marks g.bytes block (blocks_of (lines_in l))))
+
+  from-blank : (s : Seat) (ss : List Seat) → is_line_ending s ≡ true → FromFlow ss → FromFlow (s ∷ ss)
+  from-blank s ss is then p b place block ms local here before =
+      let next = stands-next text p s ss place here in
+      let enters = event g.bytes Enter BlankLineEnding s.point in
+      let exits = event g.bytes Exit BlankLineEnding s.end in
+      let one = ms ++ (enters, None) ∷ [] in
+      let two = one ++ (exits, None) ∷ [] in
+      let rest = blocks_marks g.bytes (suc block) (blocks_of (lines_in ss)) in
+      let linked : with_links two ≡ blank_line (with_links ms) (Some s) = links-plain one exits ∙ ap (λ l. l ++ exits ∷ []) (links-plain ms enters) in
+      let same : two ++ rest ≡ ms ++ blocks_marks g.bytes block (blocks_of (lines_in (s ∷ ss))) =
+      three ms (enters, None) (exits, None) rest ∙ ap (λ bs. ms ++ blocks_marks g.bytes block bs) (sym (blank-block s ss is)) in
+      let all : AllByRecursion (IsBefore (suc block) 0) two =
+      every-append (IsBefore (suc block) 0) one ((exits, None) ∷ []) (every-append (IsBefore (suc block) 0) ms ((enters, None) ∷ []) (before-next block 0 ms before) (tt, tt)) (tt, tt) in
+      subst (λ l. at_flow (s ∷ ss) p b (with_links ms) local (with_links l)) same
+      (flow-blank p b (with_links ms) local s (at-front text.seats p s ss here.0) is (with_links (two ++ rest))
+      (goes-next g text step ss [] (p + 1) false (blank_line (with_links ms) (Some s)) (counts local) [] FlowStart next.0 (with_links (two ++ rest))
+      (subst (λ l. at_flow ss (p + 1) false l (counts local) (with_links (two ++ rest))) linked (then (p + 1) false s.end (suc block) two (counts local) next all))))
+
+  from-paragraph : (m : ℕ) (s : Seat) (ss : List Seat) → length ss ≤ m → is_line_ending s ≡ false → ((l : List Seat) → length l ≤ m → FromFlow l) → FromFlow (s ∷ ss)
+  from-paragraph m s ss few no_end then p b place block ms local here before =
+      let enters = event g.bytes Enter Paragraph s.point in
+      let one = ms ++ (enters, None) ∷ [] in
+      let begun = no_chunk (counts local) in
+      let known : KnowsLast block 0 one (connects begun) (begins_at begun) = (refl, every-append (IsBefore block 0) ms ((enters, None) ∷ []) before (tt, tt)) in
+      let line = reads-line g text step reads s ss p b place block 0 one begun here known no_end in
+      let first = first_line (s ∷ ss) in
+      let marks = line_marks g.bytes (block, 0) first in
+      let less = after-less s ss in
+      let run = reads-run m (after_line (s ∷ ss)) (omega (arith, less, few)) line.to line.ended (end_after place first) block 1 (one ++ marks) line.after line.stands line.before line.known in
+      let lines = run.run.lines in
+      let rest = run.run.rest in
+      let more = lines_marks g.bytes block 1 lines in
+      let all = (one ++ marks) ++ more in
+      let last = end_after (end_after place first) (all_of lines) in
+      let exits = event g.bytes Exit Paragraph last in
+      let closed = all ++ (exits, None) ∷ [] in
+      let shorter = run.run.shorter in
+      let others = blocks_marks g.bytes (suc block) (blocks_of (lines_in rest)) in
+      let after : AllByRecursion (IsBefore (suc block) 0) closed = every-append (IsBefore (suc block) 0) all ((exits, None) ∷ []) run.before (tt, tt) in
+      let blocks : blocks_of (lines_in (s ∷ ss)) ≡ paragraph (first ∷ lines) ∷ blocks_of (lines_in rest) = other-block s ss no_end ∙ run.run.goes_on first in
+      let same : closed ++ others ≡ ms ++ blocks_marks g.bytes block (blocks_of (lines_in (s ∷ ss))) =
+      subst (λ bs. closed ++ others ≡ ms ++ blocks_marks g.bytes block bs) (sym blocks) (paragraph-marked g.bytes s ss lines place block ms (blocks_of (lines_in rest)) no_end) in
+      let end = with_links (closed ++ others) in
+      subst (λ l. at_flow (s ∷ ss) p b (with_links ms) local (with_links l)) same
+      (flow-other p b (with_links ms) local s (at-front text.seats p s ss here.0) no_end end
+      (subst (λ l. EndsWith g text step (held in_paragraph p Byte b l begun) [] (Retry ParagraphLineStart) end) (links-plain ms enters)
+      (line.goes end
+      (run.goes end
+      (paragraph-ends g text step reads rest run.to run.ended last (with_links all) run.after run.stands run.run.stops end
+      (subst (λ l. at_flow rest run.to run.ended l (counts run.after) end) (links-plain all exits)
+      (then rest (omega (arith, less, few, shorter)) run.to run.ended last (suc block) closed (counts run.after) run.stands after)))))))
+
+  reads-blocks : (m : ℕ) (l : List Seat) → length l ≤ m → FromFlow l
+  reads-blocks m [] few = λ p b place block ms local here before. subst (at_flow [] p b (with_links ms) local) (ap with_links (sym (append-nil ms))) (flow-end p b (with_links ms) local)
+  reads-blocks zero (s ∷ ss) few = absurd (omega (arith, few))
+  reads-blocks (suc m) (s ∷ ss) few =
+      let fewer : length ss ≤ m = omega (arith, few) in
+      elim (is_line_ending s) as (λ t. is_line_ending s ≡ t → FromFlow (s ∷ ss)) [
+        | true ↦ λ is. from-blank s ss is (reads-blocks m ss fewer)
+        | false ↦ λ no_end. from-paragraph m s ss fewer no_end (reads-blocks m)
+      ] refl
+
+  -- the whole text, from the start
+  pub reads-whole : (flag : Bool) → EndsWith g text step (start_configuration flag) [] (Next FlowStart) (paragraph_events g.bytes text.seats)
+  reads-whole flag =
+      let local = (start_configuration {R = Unit} {D = Unit} flag).local in
+      let end = paragraph_events g.bytes text.seats in
+      goes-next g text step text.seats [] 0 false [] local [] FlowStart refl end (reads-blocks (length text.seats) text.seats (omega arith) 0 false text.start 0 [] local (refl, refl) tt)
+
+-- A machine that has the states of paragraphs reads each document so
+pub blocks-read : (rules : Given → Rules Unit Unit) → ((g : Given) → ReadsBlocks g (whole_text g) (rules g).step) → IsReadAs rules FlowStart paragraph_events
+blocks-read rules reads = reads-as rules FlowStart paragraph_events (λ g. reads-whole g (whole_text g) (rules g).step (reads g) false)

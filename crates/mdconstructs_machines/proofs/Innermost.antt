@@ -1,0 +1,52 @@
+-- Events that account for virtual bytes, with more events in front.
+use Rattle.std.proofs.Common.{◌≡◌, ℕ, ◌∷◌, ◌++◌, [], List, cond, refl, ◌∙◌, ap}
+use Rattle.markdown_base.specs.declared.event.Event.{Event}
+use Rattle.markdown_base.specs.declared.event.Kind.{Kind}
+use Rattle.markdown_base.specs.declared.event.Kind.TheVariants.{Enter, Exit}
+use Rattle.markdown_base.specs.declared.event.Name.{Name}
+use Rattle.markdown_base.specs.declared.event.Point.{Point}
+use Rattle.markdown_base.specs.Events.{is_enter}
+use Rattle.markdown_base.specs.Places.{shown}
+use Rattle.markdown_base.specs.Virtual.{Seat, end_after}
+use Rattle.mdconstructs_machines.specs.Innermost.{innermost_spans, ended_next, span_over, AccountFor}
+use Rattle.mdconstructs_machines.specs.Spans.{leaf}
+
+module _ (bytes : List ℕ) where
+  -- an exit that ends a span around others
+  pub exit-more : (e : Event) (events : List Event) (seats : List Seat) → e.kind ≡ Exit → AccountFor events bytes seats → AccountFor (e ∷ events) bytes seats
+  exit-more e events seats exits h = record {
+    stretches = h.stretches;
+    are_all = h.are_all;
+    are_innermost = ap (λ (k : Kind). cond (is_enter k) (ended_next e events) [] ++ innermost_spans events) exits ∙ h.are_innermost;
+  }
+
+  -- an enter that begins a span around others
+  pub enter-more : (e f : Event) (events : List Event) (seats : List Seat) → e.kind ≡ Enter → f.kind ≡ Enter → AccountFor (f ∷ events) bytes seats → AccountFor (e ∷ f ∷ events) bytes seats
+  enter-more e f events seats enters inner h = record {
+    stretches = h.stretches;
+    are_all = h.are_all;
+    are_innermost =
+        ap (λ (k : Kind). cond (is_enter k) (ended_next e (f ∷ events)) [] ++ innermost_spans (f ∷ events)) enters
+        ∙ ap (λ (k : Kind). cond (is_enter k) [] ((e.point, f.point) ∷ []) ++ innermost_spans (f ∷ events)) inner
+        ∙ h.are_innermost;
+  }
+
+  -- a span over virtual bytes that holds no other
+  pub span-more : (e f : Event) (events : List Event) (s : Seat) (ss seats : List Seat) → e.kind ≡ Enter → f.kind ≡ Exit → e.point ≡ shown bytes s.point → f.point ≡ shown bytes (end_after s.end ss)
+      → AccountFor events bytes seats → AccountFor (e ∷ f ∷ events) bytes ((s ∷ ss) ++ seats)
+  span-more e f events s ss seats enters exits from to h = record {
+    stretches = (s, ss) ∷ h.stretches;
+    are_all = ap (λ l. s ∷ (ss ++ l)) h.are_all;
+    are_innermost =
+        ap (λ (k : Kind). cond (is_enter k) (ended_next e (f ∷ events)) [] ++ innermost_spans (f ∷ events)) enters
+        ∙ ap (λ (k : Kind). cond (is_enter k) [] ((e.point, f.point) ∷ []) ++ innermost_spans (f ∷ events)) exits
+        ∙ ap (λ (k : Kind). (e.point, f.point) ∷ (cond (is_enter k) (ended_next f events) [] ++ innermost_spans events)) exits
+        ∙ ap (λ (q : Point). (q, f.point) ∷ innermost_spans events) from
+        ∙ ap (λ (q : Point). (shown bytes s.point, q) ∷ innermost_spans events) to
+        ∙ ap (λ l. span_over bytes (s, ss) ∷ l) h.are_innermost;
+  }
+
+  -- one of a name, if there are virtual bytes
+  pub leaf-more : (name : Name) (l : List Seat) (events : List Event) (seats : List Seat) → AccountFor events bytes seats → AccountFor (leaf bytes name l ++ events) bytes (l ++ seats)
+  leaf-more name [] events seats h = h
+  leaf-more name (s ∷ ss) events seats h = span-more _ _ events s ss seats refl refl refl refl h
