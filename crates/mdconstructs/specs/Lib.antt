@@ -19,6 +19,7 @@ pub use Rattle.mdconstructs_machines.specs.Innermost
 pub use Rattle.mdconstructs_machines.specs.LineEvents
 pub use Rattle.mdconstructs_machines.specs.Lines
 pub use Rattle.mdconstructs_machines.specs.Messages
+pub use Rattle.mdconstructs_machines.specs.ParagraphEvents
 pub use Rattle.mdconstructs_machines.specs.Paragraphs
 pub use Rattle.mdconstructs_machines.specs.Peek
 pub use Rattle.mdconstructs_machines.specs.ReadAs

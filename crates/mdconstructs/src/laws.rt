@@ -8,6 +8,7 @@ pub use mdconstructs_tables::laws::{
     Knowledge, fitting_tables_are_lawful, knowing_tables_are_lawful,
 };
 pub use mdconstructs_text::laws::{
-    chains_are_read_as_texts, chains_of_paragraphs_can_be_read, cost_at_the_start,
+    chains_are_read_as_data, chains_are_read_as_texts, chains_of_paragraphs_can_be_read,
+    cost_at_the_start, documents_are_read_by_blocks, innermost_spans_account_for_blocks,
     no_document_is_refused as text_refuses_no_document,
 };

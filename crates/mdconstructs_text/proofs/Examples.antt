@@ -10,7 +10,7 @@ use Rattle.markdown_base.specs.declared.event.Name.TheVariants.{Paragraph, Data,
 use Rattle.markdown_base.specs.Virtual.{point, virtual}
 use Rattle.markdown_base.specs.Presets.{default_constructs, default_parse_options}
 use Rattle.markdown_tokenizer.specs.Engine.{given_by}
-use Rattle.mdconstructs_text.specs.ChainTexts.{with_texts}
+use Rattle.mdconstructs_text.specs.ChainTexts.{with_data, with_texts}
 use Rattle.mdconstructs_text.specs.TextEvents.{seat_events}
 
 -- the events of a whole document
@@ -128,3 +128,8 @@ pub quoted-code : with_texts (given_by (codes "`a\n>b`") default_parse_options) 
     ++ (begins LineEnding 2 ∷ ends_at LineEnding 2 1 3 ∷ begins_at BlockQuoteMarker 2 1 3 ∷ ends_at BlockQuoteMarker 2 2 4 ∷ begins_at CodeTextData 2 2 4 ∷ ends_at CodeTextData 2 3 5
     ∷ begins_at CodeTextSequence 2 3 5 ∷ ends_at CodeTextSequence 2 4 6 ∷ ends_at CodeText 2 4 6 ∷ ends_at Paragraph 2 4 6 ∷ [])))
 quoted-code = refl
+
+-- as Paragraphs reads that chain: data and the line ending, each in its chunk
+pub quoted-data : with_data (given_by (codes "`a\n>b`") default_parse_options) quoted ≡ begins Paragraph 0 ∷ (holds Data 0 2 ++ (begins LineEnding 2 ∷ ends_at LineEnding 2 1 3
+    ∷ begins_at BlockQuoteMarker 2 1 3 ∷ ends_at BlockQuoteMarker 2 2 4 ∷ begins_at Data 2 2 4 ∷ ends_at Data 2 4 6 ∷ ends_at Paragraph 2 4 6 ∷ []))
+quoted-data = refl

@@ -1,6 +1,8 @@
 -- Paragraphs, and the chains of text in them.
+pub mod Blocks
 pub mod ChainEvents
 pub mod ChunkPairs
 pub mod ChunksReady
 pub mod Ready
 pub mod Steps
+pub mod DataEvents

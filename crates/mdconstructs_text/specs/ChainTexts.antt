@@ -1,32 +1,54 @@
--- The events of chains of text: the text of a paragraph is the joined text of its lines.
+-- The events that chains of text are read as, by `Text` and by `Paragraphs`: the text of a paragraph is what its lines have together.
 use Rattle.std.specs.Prelude.{◌≡◌, ℕ, List, Some, false, map}
-use Rattle.markdown_base.specs.declared.event.Content.TheVariants.{Text}
+use Rattle.markdown_base.specs.declared.event.Content.TheVariants as content
 use Rattle.markdown_base.specs.declared.event.Event.{Event}
 use Rattle.markdown_base.specs.declared.state.Name.{Name}
 use Rattle.markdown_tokenizer.specs.declared.subtokenize.Subresult.{Subresult}
 use Rattle.markdown_tokenizer.specs.Engine.{IsRun}
 use Rattle.markdown_tokenizer.specs.Rules.{Rules}
-use Rattle.markdown_tokenizer.specs.Text.{Given, IsDocument}
+use Rattle.markdown_tokenizer.specs.Text.{Given, Text, IsDocument}
 use Rattle.markdown_children.specs.Chains.{chain_of, fitting_starts}
 use Rattle.markdown_children.specs.Children.{with_children}
 use Rattle.markdown_children.specs.Ready.{IsReady}
 use Rattle.markdown_children.specs.Reads.{text_of_chain, IsSubtokenized}
+use Rattle.mdconstructs_machines.specs.LineEvents.{data_events}
+use Rattle.mdconstructs_machines.specs.Paragraphs.{paragraphs_rules}
 use Rattle.mdconstructs_text.specs.TextEvents.{text_events}
 use Rattle.mdconstructs_text.specs.TextRules.{text_rules}
 
 module _ (g : Given) (events : List Event) where
-  -- the events of the text of the chain that begins at an index
+  -- the text of the chain that begins at an index
+  abbrev pub chain_text : ℕ → Text
+  chain_text c = text_of_chain g events (chain_of events c)
+
+  -- the events of it, as text and as data
   abbrev pub chain_events : ℕ → List Event
-  chain_events c = text_events g (text_of_chain g events (chain_of events c))
+  chain_events c = text_events g (chain_text c)
 
-  -- the list with each chunk of each chain of text replaced by its part of these events
+  abbrev pub chain_data : ℕ → List Event
+  chain_data c = data_events g.bytes (chain_text c).seats
+
+  -- the list with each chunk of each chain of text replaced by its part of what the chain is read as
+  abbrev pub with_read : (ℕ → List Event) → List Event
+  with_read of_chain = with_children (Some content.Text) events (map of_chain (fitting_starts (Some content.Text) events))
+
   abbrev pub with_texts : List Event
-  with_texts = with_children (Some Text) events (map chain_events (fitting_starts (Some Text) events))
+  with_texts = with_read chain_events
 
-  -- the machine of texts makes this of the list
+  abbrev pub with_data : List Event
+  with_data = with_read chain_data
+
+  -- what a machine's rules make of the list
+  abbrev pub AreReadBy : (Given → Rules Unit Unit) → List Event → Type 0
+  AreReadBy rules list = (new : List Event) (sub : Subresult) → IsSubtokenized g rules (Some content.Text) events new sub → new ≡ list
+
+  -- the machine of texts leaves the list with texts, and that of paragraphs the list with data
   abbrev pub AreReadAsTexts : Type 0
-  AreReadAsTexts = (new : List Event) (sub : Subresult) → IsSubtokenized g text_rules (Some Text) events new sub → new ≡ with_texts
+  AreReadAsTexts = AreReadBy text_rules with_texts
+
+  abbrev pub AreReadAsData : Type 0
+  AreReadAsData = AreReadBy paragraphs_rules with_data
 
 -- the events that the machine makes of a document from this start have chains of text that can be read
 abbrev pub HasReadableChains : (Given → Rules Unit Unit) → Name → Type 0
-HasReadableChains rules start = (g : Given) (events : List Event) (sub : Subresult) → IsDocument g → IsRun g rules false start events sub → IsReady g.tab g.bytes (Some Text) events
+HasReadableChains rules start = (g : Given) (events : List Event) (sub : Subresult) → IsDocument g → IsRun g rules false start events sub → IsReady g.tab g.bytes (Some content.Text) events

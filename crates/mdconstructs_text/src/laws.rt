@@ -7,8 +7,11 @@ ghost use Rattle.markdown_tokenizer.specs.Text.{Given, IsDocument};
 ghost use Rattle.markdown_children.specs.Ready.{IsReady};
 ghost use Rattle.mdconstructs_tables.specs.Refusals.{RulesRefuseNothing};
 ghost use Rattle.mdconstructs_machines.specs.Costs.{StartsAmong};
+ghost use Rattle.mdconstructs_machines.specs.Innermost.{AccountsForDocuments};
+ghost use Rattle.mdconstructs_machines.specs.ParagraphEvents.{paragraph_events};
 ghost use Rattle.mdconstructs_machines.specs.Paragraphs.{paragraphs_rules};
-ghost use Rattle.mdconstructs_text.specs.ChainTexts.{AreReadAsTexts, HasReadableChains};
+ghost use Rattle.mdconstructs_machines.specs.ReadAs.{IsReadAs};
+ghost use Rattle.mdconstructs_text.specs.ChainTexts.{AreReadAsData, AreReadAsTexts, HasReadableChains};
 ghost use Rattle.mdconstructs_text.specs.TextRules.{text_rules};
 
 use markdown_tokenizer::event::Content;
@@ -29,6 +32,26 @@ pub fn no_document_is_refused()
 /// the chain's text. The definition of these events has no states.
 pub fn chains_are_read_as_texts()
     ensures { (g : Given) (events : List Event) → IsDocument g → IsReady g.tab g.bytes (Some Content.Text) events → AreReadAsTexts g events }
+{}
+
+/// If the chains of text of a list can be read, `subtokenize` by `Paragraphs` replaces each chunk by its part of the data and line
+/// endings of the chain's text.
+pub fn chains_are_read_as_data()
+    ensures { (g : Given) (events : List Event) → IsDocument g → IsReady g.tab g.bytes (Some Content.Text) events → AreReadAsData g events }
+{}
+
+/// `Paragraphs` and `Text` read each document by its blocks: what a run returns from the start of paragraphs is what the definition
+/// says of the virtual bytes. It has no states.
+pub fn documents_are_read_by_blocks()
+    ensures paragraphs { IsReadAs paragraphs_rules FlowStart paragraph_events }
+    ensures text { IsReadAs text_rules FlowStart paragraph_events }
+{}
+
+/// Each virtual byte of a document stands in exactly one innermost span of what `Paragraphs` or `Text` reads, from the start of
+/// paragraphs: their tokens account for the document.
+pub fn innermost_spans_account_for_blocks()
+    ensures paragraphs { AccountsForDocuments paragraphs_rules FlowStart }
+    ensures text { AccountsForDocuments text_rules FlowStart }
 {}
 
 /// The events that `Paragraphs` or `Text` makes of a document, from the start of paragraphs, have chains of text that can be

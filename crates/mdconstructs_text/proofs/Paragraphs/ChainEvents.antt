@@ -1,4 +1,4 @@
--- The machine of texts reads each chain of text of a ready list as the items of its text.
+-- What a machine reads of each text it reads of the text of each chain of a ready list.
 use Rattle.std.proofs.Common.{◌≡◌, ℕ, List, [], ◌∷◌, true, false, Option, Some, None, refl, sym, ◌∙◌, ap, subst}
 use Rattle.std.specs.Prelude.{filter, length, map, option_and_then}
 use Rattle.std.specs.List.{AllByRecursion, range_with_len}
@@ -9,22 +9,20 @@ use Rattle.markdown_base.specs.declared.event.Event.{Event}
 use Rattle.markdown_base.specs.declared.state.Name.{Name}
 use Rattle.markdown_base.specs.declared.state.State.TheVariants.{Next}
 use Rattle.markdown_base.specs.declared.state.TheConstants.Name.{TextStart}
-use Rattle.markdown_tokenizer.specs.declared.subtokenize.Subresult.{Subresult}
 use Rattle.markdown_tokenizer.specs.Text.{Given, Text, CanFollow, IsDocument, IsText, empty_text}
 use Rattle.markdown_tokenizer.specs.Configuration.{start_configuration}
-use Rattle.markdown_tokenizer.specs.Reading.{Reading, EndsIn}
+use Rattle.markdown_tokenizer.specs.Reading.{EndsIn}
+use Rattle.markdown_tokenizer.specs.Rules.{Rules}
 use Rattle.markdown_tokenizer.proofs.Runs.Working.{text-on}
-use Rattle.markdown_children.specs.Chains.{content_at, some_fits, chain_of, begins, fitting_starts}
+use Rattle.markdown_children.specs.Chains.{content_at, some_fits, begins, fitting_starts}
 use Rattle.markdown_children.specs.Children.{with_children}
 use Rattle.markdown_children.specs.Ready.{IsReady, place_at}
-use Rattle.markdown_children.specs.Reads.{start_name, pieces_of, text_of_chain, Child, lists, IsRead, IsChild, AreChildren, IsSubtokenized}
+use Rattle.markdown_children.specs.Reads.{start_name, pieces_of, text_of_chain, Child, lists, IsChild, AreChildren}
 use Rattle.markdown_children.proofs.ChainOrder.Following.{filter-yes, filter-no, whole-from}
 use Rattle.markdown_children.proofs.ChainOrder.Forward.{begins-fits}
 use Rattle.markdown_children.proofs.ChildReads.Pieces.{chunks_can_be_read}
-use Rattle.mdconstructs_text.specs.ChainTexts.{chain_events, with_texts}
-use Rattle.mdconstructs_text.specs.TextRules.{text_rules}
-use Rattle.mdconstructs_text.proofs.Texts.Steps.{text_step}
-use Rattle.mdconstructs_text.proofs.Texts.Ends.{resolved-events, reading-events, reading-plain}
+use Rattle.mdconstructs_text.specs.ChainTexts.{chain_text, with_read, AreReadBy}
+use Rattle.mdconstructs_text.proofs.Texts.Ends.{ReadsTexts}
 
 -- what passes the filter of text is text
 pub is-text-content : (o : Option Content) → some_fits (Some TextContent) o ≡ true → o ≡ Some TextContent
@@ -39,7 +37,7 @@ module _ (g : Given) (events : List Event) (document : IsDocument g) (ready : Is
   wanted = Some TextContent
 
   abbrev text : ℕ → Text
-  text c = text_of_chain g events (chain_of events c)
+  text c = chain_text g events c
 
   abbrev Begins : ℕ → Type 0
   Begins c = begins wanted events c ≡ true
@@ -60,16 +58,6 @@ module _ (g : Given) (events : List Event) (document : IsDocument g) (ready : Is
       let at : content_at events c ≡ Some TextContent = is-text-content (content_at events c) fit in
       let same : Some TextStart ≡ Some start = sym (ap (option_and_then start_name) at) ∙ e in cc
 
-  read-so : (c : ℕ) → Begins c → (r : Reading Unit Unit) → (read : IsRead g text_rules events c r) → EndsIn g (text_step g) (text c) 0 (start_configuration read.flag) [] (Next TextStart) r
-  read-so c b r read = subst (λ (name : Name). EndsIn g (text_step g) (text c) 0 (start_configuration read.flag) [] (Next name) r) (starts-text c b read.start read.starts) read.ends
-
-  child-events : (c : ℕ) (child : Child) → Begins c → IsChild g text_rules events c child → child.events ≡ chain_events g events c
-  child-events c child b h =
-      let is = is-text c b in
-      let ends = read-so c b h.result h.read in
-      let plain = reading-plain g (text c) is h.read.flag h.result ends in
-      h.left ∙ resolved-events g (text c) h.result.configuration plain h.final child.found h.resolved ∙ reading-events g (text c) is h.read.flag h.result ends
-
   -- all of them
   all-begin : (ks : List ℕ) → AllByRecursion Begins (filter (begins wanted events) ks)
   all-begin [] = tt
@@ -79,12 +67,19 @@ module _ (g : Given) (events : List Event) (document : IsDocument g) (ready : Is
         | false ↦ λ e. subst (AllByRecursion Begins) (sym (filter-no (begins wanted events) k ks e)) (all-begin ks)
       ] refl
 
-  children-events : (cs : List ℕ) (children : List Child) → AllByRecursion Begins cs → AreChildren g text_rules events cs children → lists children ≡ map (chain_events g events) cs
-  children-events [] [] begin h = refl
-  children-events [] (child ∷ children) begin h = absurd h
-  children-events (c ∷ cs) [] begin h = absurd h
-  children-events (c ∷ cs) (child ∷ children) begin h = λ j. child-events c child begin.0 h.0 j ∷ children-events cs children begin.1 h.1 j
+  -- by the rules of a machine that reads texts so
+  module _ (rules : Given → Rules Unit Unit) (events_of : Text → List Event) (reads : ReadsTexts g rules events_of) where
+    child-events : (c : ℕ) (child : Child) → Begins c → IsChild g rules events c child → child.events ≡ events_of (text c)
+    child-events c child b h =
+        let read = h.read in
+        let ends = subst (λ (name : Name). EndsIn g (rules g).step (text c) 0 (start_configuration read.flag) [] (Next name) h.result) (starts-text c b read.start read.starts) read.ends in
+        h.left ∙ reads (text c) (is-text c b) read.flag h.result ends h.well h.final child.found h.resolved
 
-  pub texts-of-chains : (new : List Event) (sub : Subresult) → IsSubtokenized g text_rules wanted events new sub → new ≡ with_texts g events
-  texts-of-chains new sub h =
-      h.events ∙ ap (with_children wanted events) (children-events (fitting_starts wanted events) h.children (all-begin (range_with_len 0 (length events))) h.read)
+    children-events : (cs : List ℕ) (children : List Child) → AllByRecursion Begins cs → AreChildren g rules events cs children → lists children ≡ map (λ c. events_of (text c)) cs
+    children-events [] [] begin h = refl
+    children-events [] (child ∷ children) begin h = absurd h
+    children-events (c ∷ cs) [] begin h = absurd h
+    children-events (c ∷ cs) (child ∷ children) begin h = λ j. child-events c child begin.0 h.0 j ∷ children-events cs children begin.1 h.1 j
+
+    pub chains-read : AreReadBy g events rules (with_read g events (λ c. events_of (text c)))
+    chains-read new sub h = h.events ∙ ap (with_children wanted events) (children-events (fitting_starts wanted events) h.children (all-begin (range_with_len 0 (length events))) h.read)

@@ -1,6 +1,7 @@
 -- What reading a text ends in: the events of its items, with nothing left to resolve.
 use Rattle.std.proofs.Common.{◌≡◌, List, [], Bool, true, Some, sym, ◌∙◌, ap, arith}
 use Rattle.std.specs.Prelude.{Contains}
+use Rattle.markdown_base.specs.declared.event.Event.{Event}
 use Rattle.markdown_base.specs.declared.state.State.{State}
 use Rattle.markdown_base.specs.declared.state.State.TheVariants.{Next, Ok}
 use Rattle.markdown_base.specs.declared.state.TheConstants.Name.{TextStart}
@@ -9,6 +10,7 @@ use Rattle.markdown_tokenizer.specs.Text.{Given, Text, IsText}
 use Rattle.markdown_tokenizer.specs.Configuration.{Configuration, Choice, start_configuration}
 use Rattle.markdown_tokenizer.specs.Plain.{IsPlain}
 use Rattle.markdown_tokenizer.specs.Reading.{Reading, EndsIn}
+use Rattle.markdown_tokenizer.specs.Rules.{Rules}
 use Rattle.markdown_tokenizer.specs.Resolving.{done, resolved_by, taken, found, edits_made, resolving, IsResolved}
 use Rattle.markdown_tokenizer.specs.Calls.{with_resolvers}
 use Rattle.markdown_edits.specs.Edited.{edited}
@@ -22,6 +24,12 @@ use Rattle.mdconstructs_text.proofs.Texts.FromStart.{from-start}
 use Rattle.mdconstructs_text.proofs.CodeSpans.Short.{runs-of-text}
 use Rattle.mdconstructs_text.proofs.Texts.Steps.{text_step}
 use Rattle.mdconstructs_text.proofs.Texts.Items.{adds-each-item}
+
+-- What is read of a text from its start, and what is left where all is resolved, has these events
+abbrev pub ReadsTexts : (g : Given) → (Given → Rules Unit Unit) → (Text → List Event) → Type 0
+ReadsTexts g rules events_of =
+    (text : Text) → IsText g text → (flag : Bool) (r : Reading Unit Unit) → EndsIn g (rules g).step text 0 (start_configuration flag) [] (Next TextStart) r → r.answer ≡ Ok
+    → (final : Configuration Unit Unit) (found : Subresult) → IsResolved (rules g).resolver g text true r.configuration final found → final.events ≡ events_of text
 
 -- from a state of texts the machine keeps what texts keep, as none of their states goes on with a state of paragraphs
 module _ (g : Given) (text : Text) (is : IsText g text) where
@@ -39,15 +47,15 @@ module _ (g : Given) (text : Text) (is : IsText g text) where
       }
 
 -- a configuration with nothing to resolve
-module _ (g : Given) (text : Text) (k : Configuration Unit Unit) (plain : IsPlain k) where
-  resolving-is : resolving (text_rules g).resolver g text k ≡ done (edits_made (with_resolvers (taken k) [])) (Some (found k))
-  resolving-is = ap (λ (rs : List Unit). resolved_by (text_rules g).resolver g text rs (with_resolvers (taken k) []) (found k)) plain.0
+module _ (rules : Rules Unit Unit) (g : Given) (text : Text) (k : Configuration Unit Unit) (none : k.local.resolvers ≡ []) (no_edits : k.local.map ≡ []) (same : edited [] k.events ≡ k.events) where
+  resolving-is : resolving rules.resolver g text k ≡ done (edits_made (with_resolvers (taken k) [])) (Some (found k))
+  resolving-is = ap (λ (rs : List Unit). resolved_by rules.resolver g text rs (with_resolvers (taken k) []) (found k)) none
 
-  pub resolved-events : (new : Configuration Unit Unit) (sub : Subresult) → IsResolved (text_rules g).resolver g text true k new sub → new.events ≡ k.events
+  pub resolved-events : (new : Configuration Unit Unit) (sub : Subresult) → IsResolved rules.resolver g text true k new sub → new.events ≡ k.events
   resolved-events new sub is =
       let e : done (edits_made (with_resolvers (taken k) [])) (Some (found k)) ≡ done new (Some sub) = sym resolving-is ∙ is in
-      let same : edits_made (with_resolvers (taken k) []) ≡ new = cc in
-      sym (ap (λ (q : Configuration Unit Unit). q.events) same) ∙ ap (λ es. edited es k.events) plain.1 ∙ edited-same k.events plain.2
+      let left : edits_made (with_resolvers (taken k) []) ≡ new = cc in
+      sym (ap (λ (q : Configuration Unit Unit). q.events) left) ∙ ap (λ es. edited es k.events) no_edits ∙ same
 
 module _ (g : Given) (text : Text) (is : IsText g text) (flag : Bool) where
   starts-so : Contains (inline_rules g).starts TextStart
@@ -69,3 +77,9 @@ module _ (g : Given) (text : Text) (is : IsText g text) (flag : Bool) where
 
     pub reading-plain : IsPlain r.configuration
     reading-plain = (kept-well g (text_step g) text (InTexts g text is) (in-texts-kept g text is) 0 (start_configuration flag) (Next TextStart) r (holds-at-start g (inline_rules g) ((inline-lawful g).invariant_kept) text is flag TextStart starts-so) ends reading-well).0
+
+-- The machine of texts reads a text as its items, and so it is where all is resolved
+pub reads-items : (g : Given) → ReadsTexts g text_rules (text_events g)
+reads-items g text is flag r ends well final found resolved =
+    let plain = reading-plain g text is flag r ends in
+    resolved-events (text_rules g) g text r.configuration plain.0 plain.1 (edited-same r.configuration.events plain.2) final found resolved ∙ reading-events g text is flag r ends

@@ -8,11 +8,9 @@ use Rattle.markdown_base.specs.declared.state.State.TheVariants.{Next, Retry}
 use Rattle.markdown_base.specs.declared.state.TheConstants.Name.{FlowStart, TextStart}
 use Rattle.markdown_tokenizer.specs.Text.{Given, Text}
 use Rattle.markdown_tokenizer.specs.Configuration.{Configuration, Choice, TokenizerValue, start_configuration}
-use Rattle.markdown_tokenizer.specs.Rules.{Rules}
 use Rattle.markdown_tokenizer.specs.Engine.{HoldsOf}
 use Rattle.markdown_tokenizer.specs.Lawful.{IsLawful}
 use Rattle.mdconstructs_tables.specs.Joined.{has_state}
-use Rattle.mdconstructs_tables.specs.Late.{late_rules}
 use Rattle.mdconstructs_tables.specs.RowInvariant.{table_holds}
 use Rattle.mdconstructs_tables.specs.Misfits.{misfits}
 use Rattle.mdconstructs_tables.specs.Fitting.{IsFit}

@@ -1,5 +1,5 @@
 -- The table of the machine of texts passes the tests and its own cost is enough, so that the machine is lawful.
-use Rattle.std.proofs.Common.{◌≡◌, ℕ, ◌+◌, ◌-◌, ◌≤◌, ◌==◌, [], true, false, Option, Some, None, length, drop, refl, sym, ap, subst, arith}
+use Rattle.std.proofs.Common.{◌≡◌, ℕ, ◌+◌, ◌-◌, [], true, false, Option, Some, None, length, drop, refl, ap, arith}
 use Rattle.mdconstructs_tables.specs.Late.{hasty}
 use Rattle.mdconstructs_tables.specs.PlainTables.{IsPlainWrite}
 use Rattle.mdconstructs_tables.specs.PlainWrites.{StatesWritePlain, WritesPlain}
