@@ -1,6 +1,6 @@
--- Events with the children of chains of text. Rules that refuse nothing refuse no child, the chains can be read, and with the machine of
--- texts the children are the texts.
-use Rattle.std.proofs.Common.{ℕ, List, ⊎_elim, false, true}
+-- What is read with the children of chains of text: it is refused nowhere where rules refuse nothing, its chains can be read, and the
+-- definitions without states say what is read.
+use Rattle.std.proofs.Common.{◌≡◌, ℕ, List, ⊎_elim, false, true, ap, ◌∙◌}
 use Rattle.markdown.specs.declared.configuration.ParseOptions.{ParseOptions}
 use Rattle.markdown.specs.declared.event.Event.{Event}
 use Rattle.markdown.specs.declared.message.Message.{Message}
@@ -14,10 +14,20 @@ use Rattle.markdown.specs.Chains.{chain_of}
 use Rattle.markdown.specs.Reads.{text_of_chain, IsChildRefused}
 use Rattle.mdconstructs.specs.Refusals.{RulesRefuseNothing}
 use Rattle.mdconstructs.proofs.Tables.Refusals.{none-refused, no-run-refused}
-use Rattle.mdevents_program.specs.Program.{document, Gives, GivesDeep, GivesTexts, GivesUnready, HasRefusedChild, IsRefusedDeep}
-use Rattle.mdconstructs.specs.ChainTexts.{HasReadableChains}
+use Rattle.markdown.specs.Virtual.{Seat}
+use Rattle.mdevents_program.specs.Program.{document, virtual_bytes}
+use Rattle.mdevents_program.specs.Runs.{Gives, GivesDeep, GivesUnready, HasRefusedChild, IsRefusedDeep}
+use Rattle.mdconstructs.specs.ChainTexts.{HasReadableChains, with_data, with_texts}
+use Rattle.mdconstructs.specs.LineEvents.{data_events}
+use Rattle.mdconstructs.specs.ParagraphEvents.{paragraph_events}
+use Rattle.mdconstructs.specs.Paragraphs.{paragraphs_rules}
+use Rattle.mdconstructs.specs.ReadAs.{IsReadAs}
+use Rattle.mdconstructs.specs.TextEvents.{text_events}
 use Rattle.mdconstructs.specs.TextRules.{text_rules}
-use Rattle.mdconstructs.proofs.TextParagraphs.ChainEvents.{texts-of-chains}
+use Rattle.mdconstructs.proofs.TextParagraphs.ChainEvents.{chains-read}
+use Rattle.mdconstructs.proofs.TextParagraphs.DataEvents.{reads-as-data}
+use Rattle.mdconstructs.proofs.Texts.Ends.{reads-items}
+use Rattle.mdconstructs.proofs.TextParagraphs.Blocks.{paragraphs-by-blocks, text-by-blocks}
 
 module _ {R D : Type 0} (rules : Given → Rules R D) (nothing : RulesRefuseNothing rules) where
   no-child-refused : (g : Given) (events : List Event) (c : ℕ) (m : Message) → ¬ IsChildRefused g rules events c m
@@ -33,6 +43,21 @@ module _ {R D : Type 0} (rules : Given → Rules R D) (nothing : RulesRefuseNoth
 pub all-ready : (rules : Given → Rules Unit Unit) → HasReadableChains rules FlowStart → (options : ParseOptions) (bytes : List ℕ) → IsDocument (document options bytes) → ¬ GivesUnready rules FlowStart options bytes
 all-ready rules readable options bytes is h = h.2 (readable (document options bytes) h.0 h.1.0 is h.1.1)
 
--- the children that the machine of texts read are the texts
-pub with-texts : (options : ParseOptions) (bytes : List ℕ) → IsDocument (document options bytes) → (events : List Event) → GivesDeep text_rules FlowStart options bytes events → GivesTexts options bytes events
-with-texts options bytes is events h = (h.0, h.1, h.2, texts-of-chains (document options bytes) h.0 is h.2.0 events h.2.1.0 h.2.1.1)
+-- a run returns the events that are defined without states
+pub flat-events : {R D : Type 0} (rules : Given → Rules R D) (start : Name) (events_of : List ℕ → List Seat → List Event) → IsReadAs rules start events_of
+    → (options : ParseOptions) (bytes : List ℕ) → IsDocument (document options bytes) → (events : List Event) → Gives rules start options bytes events
+    → events ≡ events_of bytes (virtual_bytes options bytes)
+flat-events rules start events_of reads options bytes is events h = reads (document options bytes) events h.0 is h.1
+
+-- the children that the machine of paragraphs read are data, and those that the machine of texts read are the texts
+pub with-data : (options : ParseOptions) (bytes : List ℕ) → IsDocument (document options bytes) → (events : List Event) → GivesDeep paragraphs_rules FlowStart options bytes events
+    → events ≡ with_data (document options bytes) (paragraph_events bytes (virtual_bytes options bytes))
+with-data options bytes is events h =
+    chains-read (document options bytes) h.0 is h.2.0 paragraphs_rules (λ text. data_events bytes text.seats) (reads-as-data (document options bytes)) events h.2.1.0 h.2.1.1
+    ∙ ap (with_data (document options bytes)) (flat-events paragraphs_rules FlowStart paragraph_events paragraphs-by-blocks options bytes is h.0 h.1)
+
+pub with-texts : (options : ParseOptions) (bytes : List ℕ) → IsDocument (document options bytes) → (events : List Event) → GivesDeep text_rules FlowStart options bytes events
+    → events ≡ with_texts (document options bytes) (paragraph_events bytes (virtual_bytes options bytes))
+with-texts options bytes is events h =
+    chains-read (document options bytes) h.0 is h.2.0 text_rules (text_events (document options bytes)) (reads-items (document options bytes)) events h.2.1.0 h.2.1.1
+    ∙ ap (with_texts (document options bytes)) (flat-events text_rules FlowStart paragraph_events text-by-blocks options bytes is h.0 h.1)

@@ -1,38 +1,25 @@
 -- What the program writes.
-use Rattle.std.specs.Prelude.{[], ◌≡◌, ◌⊎◌, ℕ, Bool, List, true, false, Option, Some, Result, Ok, take}
+use Rattle.std.specs.Prelude.{[], ◌≡◌, ℕ, Bool, List, true, false, Option, Some, Result, Ok, take}
 use Rattle.std.specs.Option.{option_map_or}
 use Rattle.std.specs.Io.KnownBytes.{Consumes, IsAtEnd, Appends}
 use Rattle.markdown.specs.declared.configuration.Constructs.{Constructs}
 use Rattle.markdown.specs.declared.configuration.ParseOptions.{ParseOptions}
 use Rattle.markdown.specs.declared.event.Event.{Event}
-use Rattle.markdown.specs.declared.message.Message.{Message}
-use Rattle.markdown.specs.declared.state.Name.{Name}
-use Rattle.markdown.specs.StateConstants.Name.{FlowStart, TextStart, StringStart}
 use Rattle.markdown.specs.Presets.{default_constructs, default_parse_options}
-use Rattle.markdown.specs.declared.subtokenize.Subresult.{Subresult}
 use Rattle.markdown.specs.Text.{Given}
-use Rattle.markdown.specs.Rules.{Rules}
-use Rattle.markdown.specs.Engine.{given_by, IsRun, IsRunRefused}
+use Rattle.markdown.specs.Engine.{given_by}
 use Rattle.markdown.specs.Cuts.{cuts_every}
-use Rattle.markdown.specs.declared.event.Content.TheVariants.{Text as TextContent}
-use Rattle.markdown.specs.Ready.{IsReady}
-use Rattle.markdown.specs.Reads.{IsSubtokenized, IsSubtokenizeRefused}
 use Rattle.mdevents_program.specs.declared.failure.Failure.{Failure}
 use Rattle.mdevents_program.specs.declared.arguments.Choice.{Choice}
 use Rattle.mdevents_program.specs.declared.arguments.Which.{Which}
 use Rattle.mdevents_program.specs.declared.arguments.Which.TheVariants.{Lines, Paragraphs, Peek, Deep, Back, Save, Text}
-use Rattle.mdconstructs.specs.Lines.{lines_rules}
-use Rattle.mdconstructs.specs.Paragraphs.{paragraphs_rules}
-use Rattle.mdconstructs.specs.Peek.{peek_rules}
-use Rattle.mdconstructs.specs.Deep.{deep_rules}
-use Rattle.mdconstructs.specs.Back.{back_rules}
-use Rattle.mdconstructs.specs.Save.{save_rules}
-use Rattle.mdconstructs.specs.ChainTexts.{with_texts}
-use Rattle.mdconstructs.specs.TextRules.{text_rules}
+use Rattle.mdconstructs.specs.ChainTexts.{with_data, with_texts}
+use Rattle.mdconstructs.specs.LineEvents.{line_events, data_events, back_events, save_events}
+use Rattle.mdconstructs.specs.ParagraphEvents.{paragraph_events}
 use Rattle.mdevents_program.specs.Printed.{printed_events}
-use Rattle.markdown.specs.Virtual.{IsWithinLimit}
+use Rattle.markdown.specs.Virtual.{IsWithinLimit, Seat, virtual}
 
--- the default options, but for the constructs, and with tab stops at every `t` columns
+-- the default options with these constructs, and with tab stops at every `t` columns
 abbrev pub options_with : Constructs → (t : ℕ) → ParseOptions
 options_with constructs t = record default_parse_options { constructs = constructs; tab_size = t }
 
@@ -40,50 +27,28 @@ options_with constructs t = record default_parse_options { constructs = construc
 abbrev pub document : ParseOptions → List ℕ → Given
 document options bytes = given_by bytes options
 
--- a machine
-module _ {R D : Type 0} (rules : Given → Rules R D) (options : ParseOptions) (bytes : List ℕ) where
-  -- events of a document, whose chains of text can be read, with the children of these in place of the chunks, all read by the machine
-  abbrev pub HasChildren : List Event → List Event → Type 0
-  HasChildren old new = IsReady options.tab_size bytes (Some TextContent) old × ((sub : Subresult) × IsSubtokenized (document options bytes) rules (Some TextContent) old new sub)
+-- a document and how it is read
+module _ (options : ParseOptions) (bytes : List ℕ) where
+  -- its virtual bytes
+  abbrev pub virtual_bytes : List Seat
+  virtual_bytes = virtual options.tab_size bytes
 
-  -- the first of these children that does not end in Ok ends in a message
-  abbrev pub HasRefusedChild : List Event → Message → Type 0
-  HasRefusedChild old m = IsReady options.tab_size bytes (Some TextContent) old × IsSubtokenizeRefused (document options bytes) rules (Some TextContent) old m
+  -- The events of a document, by the machine that reads it, from the document's lines. Paragraphs have chunks; with `deep`, the events of
+  -- the text of each chain of chunks are in place of the chunks: its lines as data, or its items.
+  abbrev pub document_events : (deep : Bool) → Which → List Event
+  document_events deep Lines = line_events bytes virtual_bytes
+  document_events deep Peek = data_events bytes virtual_bytes
+  document_events deep Deep = data_events bytes virtual_bytes
+  document_events deep Back = back_events bytes virtual_bytes
+  document_events deep Save = save_events bytes virtual_bytes
+  document_events false Paragraphs = paragraph_events bytes virtual_bytes
+  document_events true Paragraphs = with_data (document options bytes) (paragraph_events bytes virtual_bytes)
+  document_events false Text = paragraph_events bytes virtual_bytes
+  document_events true Text = with_texts (document options bytes) (paragraph_events bytes virtual_bytes)
 
--- a machine with a start
-module _ {R D : Type 0} (rules : Given → Rules R D) (start : Name) (options : ParseOptions) (bytes : List ℕ) where
-  -- a run of the machine over a document returns these events
-  abbrev pub Gives : List Event → Type 0
-  Gives events = (sub : Subresult) × IsRun (document options bytes) rules false start events sub
-
-  -- a run returns events, and with the children of their chains of text they are these
-  abbrev pub GivesDeep : List Event → Type 0
-  GivesDeep events = (flat : List Event) × Gives flat × HasChildren rules options bytes flat events
-
-  -- the run, or a child of its chains of text, ends in a message
-  abbrev pub IsRefusedDeep : Message → Type 0
-  IsRefusedDeep m = IsRunRefused (document options bytes) rules false start m ⊎ ((flat : List Event) × Gives flat × HasRefusedChild rules options bytes flat m)
-
-  -- a run returns events whose chains of text cannot be read
-  abbrev pub GivesUnready : Type 0
-  GivesUnready = (flat : List Event) × Gives flat × ¬ IsReady options.tab_size bytes (Some TextContent) flat
-
--- a run of the machine of texts returns events; with the texts of their chains in place of the chunks they are these. Each text's events
--- are defined by its items, without states
-abbrev pub GivesTexts : ParseOptions → List ℕ → List Event → Type 0
-GivesTexts options bytes events = (flat : List Event) × Gives text_rules FlowStart options bytes flat × HasChildren text_rules options bytes flat events × (events ≡ with_texts (document options bytes) flat)
-
--- the events of a document are the events that its machine makes, with `--deep` with children; only two machines link
+-- events are the events of a document
 abbrev pub AreEventsOf : (deep : Bool) → Which → ParseOptions → List ℕ → List Event → Type 0
-AreEventsOf deep Lines = Gives lines_rules FlowStart
-AreEventsOf false Paragraphs = Gives paragraphs_rules FlowStart
-AreEventsOf true Paragraphs = GivesDeep paragraphs_rules FlowStart
-AreEventsOf deep Peek = Gives peek_rules TextStart
-AreEventsOf deep Deep = Gives deep_rules StringStart
-AreEventsOf deep Back = Gives back_rules TextStart
-AreEventsOf deep Save = Gives save_rules TextStart
-AreEventsOf false Text = Gives text_rules FlowStart
-AreEventsOf true Text = GivesTexts
+AreEventsOf deep which options bytes events = events ≡ document_events options bytes deep which
 
 -- the places at which a document is cut: none, or every n-th of its virtual bytes
 abbrev pub cut_places : Choice → List ℕ → List (ℕ × ℕ)

@@ -6,7 +6,8 @@ ghost use Rattle.markdown.specs.Engine.{AreCuts};
 ghost use Rattle.mdevents_program.specs.Failure.{IsOfMaking};
 ghost use Rattle.markdown.specs.Engine.{IsRunRefused};
 ghost use Rattle.markdown.specs.Text.{IsDocument};
-ghost use Rattle.mdevents_program.specs.Program.{options_with, document, cut_places, Gives, GivesDeep, IsRefusedDeep, GivesUnready, HasChildren, HasRefusedChild, AreEventsOf, Prints, PrintsFront};
+ghost use Rattle.mdevents_program.specs.Program.{options_with, document, cut_places, AreEventsOf, Prints, PrintsFront};
+ghost use Rattle.mdevents_program.specs.Runs.{Gives, GivesDeep, IsRefusedDeep, GivesUnready, HasChildren, HasRefusedChild};
 ghost use Rattle.markdown.specs.Ready.{IsReady};
 ghost use Rattle.mdevents_program.specs.Reading.{ReadsWithinLimit, ReadsPastLimit};
 ghost use Rattle.markdown.specs.Virtual.{IsWithinLimit};
@@ -102,7 +103,7 @@ pub fn options_with(constructs: Constructs, tab: TabSize) -> ParseOptions
     }
 }
 
-/// The events of a document, as a machine reads it from this start.
+/// The events that a machine makes of a document, from this start.
 fn read_by<M: Machine>(
     alloc: Global,
     machine: &M,

@@ -1,4 +1,13 @@
 use Rattle.std.proofs.Common.{false}
+use Rattle.markdown.specs.StateConstants.Name.{FlowStart, TextStart, StringStart}
+use Rattle.mdconstructs.proofs.LineReads.Back.{back-reads}
+use Rattle.mdconstructs.proofs.LineReads.Deep.{deep-reads}
+use Rattle.mdconstructs.proofs.LineReads.Lines.{lines-read}
+use Rattle.mdconstructs.proofs.LineReads.Peek.{peek-reads}
+use Rattle.mdconstructs.proofs.LineReads.Save.{save-reads}
+use Rattle.mdconstructs.proofs.TextParagraphs.Blocks.{paragraphs-by-blocks, text-by-blocks}
+use Rattle.mdconstructs.specs.LineEvents.{line_events, data_events, back_events, save_events}
+use Rattle.mdconstructs.specs.ParagraphEvents.{paragraph_events}
 use Rattle.std.proofs.lemmas.Result.{IfOk-weaker}
 use Rattle.mdconstructs.proofs.Tables.Refusals.{no-run-refused}
 use Rattle.mdconstructs.specs.Lines.{lines_rules}
@@ -11,29 +20,52 @@ use Rattle.mdconstructs.proofs.NoRefusals.{lines-refuse-nothing, paragraphs-refu
 use Rattle.mdconstructs.specs.TextRules.{text_rules}
 use Rattle.mdconstructs.proofs.TextNoRefusals.{text-refuses-nothing}
 use Rattle.mdconstructs.proofs.TextParagraphs.Ready.{paragraphs-readable, text-readable}
-use Rattle.mdevents_program.proofs.DeepEvents.{none-refused-deep, all-ready, with-texts}
+use Rattle.mdevents_program.proofs.DeepEvents.{none-refused-deep, all-ready, flat-events, with-data, with-texts}
 use Rattle.mdevents_program.proofs.program.events_of.Goals as goal
 
 pub returns-in-Lines-clause-events : goal.returns-in-Lines-clause-events
-returns-in-Lines-clause-events c = let e = c.in-Lines.is in rw e (rw c.options_with.ensures at c.read_by.ensures.events)
+returns-in-Lines-clause-events c =
+    let e = c.in-Lines.is in let document = rw c.options_with.ensures at c.read_by.ensures.document in
+    let flat = rw c.options_with.ensures at c.read_by.ensures.events in
+    rw e (IfOk-weaker c.read_by.result _ _ (λ events h. flat-events lines_rules FlowStart line_events lines-read _ c.args.bytes.now document events.items h) flat)
 
 pub returns-in-Paragraphs-clause-events : goal.returns-in-Paragraphs-clause-events
-returns-in-Paragraphs-clause-events c = let e = c.in-Paragraphs.is in let d = c.if-choice.true in rw (e, d) (rw c.options_with.ensures at c.read_deep_by.ensures.events)
+returns-in-Paragraphs-clause-events c =
+    let e = c.in-Paragraphs.is in
+    let d = c.if-choice.true in
+    let document = rw c.options_with.ensures at c.read_deep_by.ensures.document in
+    let deep = rw c.options_with.ensures at c.read_deep_by.ensures.events in
+    rw (e, d) (IfOk-weaker c.read_deep_by.result _ _ (λ events h. with-data _ c.args.bytes.now document events.items h) deep)
 
 pub returns-in-Paragraphs-2-clause-events : goal.returns-in-Paragraphs-2-clause-events
-returns-in-Paragraphs-2-clause-events c = let e = c.in-Paragraphs-2.is in let d = c.if-choice.false in rw (e, d) (rw c.options_with.ensures at c.read_by-in-Paragraphs-2.ensures.events)
+returns-in-Paragraphs-2-clause-events c =
+    let e = c.in-Paragraphs-2.is in let d = c.if-choice.false in let document = rw c.options_with.ensures at c.read_by-in-Paragraphs-2.ensures.document in
+    let flat = rw c.options_with.ensures at c.read_by-in-Paragraphs-2.ensures.events in
+    rw (e, d) (IfOk-weaker c.read_by-in-Paragraphs-2.result _ _ (λ events h. flat-events paragraphs_rules FlowStart paragraph_events paragraphs-by-blocks _ c.args.bytes.now document events.items h) flat)
 
 pub returns-in-Peek-clause-events : goal.returns-in-Peek-clause-events
-returns-in-Peek-clause-events c = let e = c.in-Peek.is in rw e (rw c.options_with.ensures at c.read_by-in-Peek.ensures.events)
+returns-in-Peek-clause-events c =
+    let e = c.in-Peek.is in let document = rw c.options_with.ensures at c.read_by-in-Peek.ensures.document in
+    let flat = rw c.options_with.ensures at c.read_by-in-Peek.ensures.events in
+    rw e (IfOk-weaker c.read_by-in-Peek.result _ _ (λ events h. flat-events peek_rules TextStart data_events peek-reads _ c.args.bytes.now document events.items h) flat)
 
 pub returns-in-Deep-clause-events : goal.returns-in-Deep-clause-events
-returns-in-Deep-clause-events c = let e = c.in-Deep.is in rw e (rw c.options_with.ensures at c.read_by-in-Deep.ensures.events)
+returns-in-Deep-clause-events c =
+    let e = c.in-Deep.is in let document = rw c.options_with.ensures at c.read_by-in-Deep.ensures.document in
+    let flat = rw c.options_with.ensures at c.read_by-in-Deep.ensures.events in
+    rw e (IfOk-weaker c.read_by-in-Deep.result _ _ (λ events h. flat-events deep_rules StringStart data_events deep-reads _ c.args.bytes.now document events.items h) flat)
 
 pub returns-in-Back-clause-events : goal.returns-in-Back-clause-events
-returns-in-Back-clause-events c = let e = c.in-Back.is in rw e (rw c.options_with.ensures at c.read_by-in-Back.ensures.events)
+returns-in-Back-clause-events c =
+    let e = c.in-Back.is in let document = rw c.options_with.ensures at c.read_by-in-Back.ensures.document in
+    let flat = rw c.options_with.ensures at c.read_by-in-Back.ensures.events in
+    rw e (IfOk-weaker c.read_by-in-Back.result _ _ (λ events h. flat-events back_rules TextStart back_events back-reads _ c.args.bytes.now document events.items h) flat)
 
 pub returns-in-Save-clause-events : goal.returns-in-Save-clause-events
-returns-in-Save-clause-events c = let e = c.in-Save.is in rw e (rw c.options_with.ensures at c.read_by-in-Save.ensures.events)
+returns-in-Save-clause-events c =
+    let e = c.in-Save.is in let document = rw c.options_with.ensures at c.read_by-in-Save.ensures.document in
+    let flat = rw c.options_with.ensures at c.read_by-in-Save.ensures.events in
+    rw e (IfOk-weaker c.read_by-in-Save.result _ _ (λ events h. flat-events save_rules TextStart save_events save-reads _ c.args.bytes.now document events.items h) flat)
 
 pub returns-in-Text-clause-events : goal.returns-in-Text-clause-events
 returns-in-Text-clause-events c =
@@ -44,7 +76,10 @@ returns-in-Text-clause-events c =
     rw (e, d) (IfOk-weaker c.read_deep_by-in-Text.result _ _ (λ events h. with-texts _ c.args.bytes.now document events.items h) deep)
 
 pub returns-clause-events : goal.returns-clause-events
-returns-clause-events c = let e = c.in-Text-2.is in let d = c.if-choice-2.false in rw (e, d) (rw c.options_with.ensures at c.read_by-in-Text-2.ensures.events)
+returns-clause-events c =
+    let e = c.in-Text-2.is in let d = c.if-choice-2.false in let document = rw c.options_with.ensures at c.read_by-in-Text-2.ensures.document in
+    let flat = rw c.options_with.ensures at c.read_by-in-Text-2.ensures.events in
+    rw (e, d) (IfOk-weaker c.read_by-in-Text-2.result _ _ (λ events h. flat-events text_rules FlowStart paragraph_events text-by-blocks _ c.args.bytes.now document events.items h) flat)
 
 pub returns-in-Lines-clause-never_refused : goal.returns-in-Lines-clause-never_refused
 returns-in-Lines-clause-never_refused c = λ m e. no-run-refused lines_rules lines-refuse-nothing _ false _ m (c.read_by.ensures.message m e)
