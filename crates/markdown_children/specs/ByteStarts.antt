@@ -1,5 +1,5 @@
--- Inner: where each byte of a document begins. No public contract cites this file.
-use Rattle.std.specs.Prelude.{ℕ, zero, suc, ◌+◌, ◌-◌, ◌==◌, nat_le, nat_lt, ◌&&◌, Bool, false, cond, List, Option, None, Some, map, length, slice_index}
+-- Inner: where the bytes of a document begin, to tell its places. No public contract speaks of it.
+use Rattle.std.specs.Prelude.{ℕ, zero, suc, ◌+◌, ◌-◌, ◌*◌, ◌==◌, nat_le, nat_lt, ◌&&◌, Bool, cond, List, map, length, slice_index}
 use Rattle.std.specs.List.{range_with_len}
 use Rattle.markdown_base.specs.declared.event.Point.{Point}
 use Rattle.markdown_base.specs.Virtual.{tab_width}
@@ -28,24 +28,19 @@ abbrev pub column_at : (t : ℕ) → List ℕ → ℕ → ℕ
 column_at t bytes zero = 1
 column_at t bytes (suc i) = column_after t bytes (column_at t bytes i) i
 
--- where a byte begins, and how many of its places are shown
-abbrev pub byte_start_at : (t : ℕ) → List ℕ → ℕ → ByteStart
-byte_start_at t bytes i = record { line = line_at bytes i; column = column_at t bytes i; width = width_at t bytes (column_at t bytes i) i }
+-- where a byte, or the document's end, begins
+abbrev pub byte_start : (t : ℕ) → List ℕ → ℕ → ByteStart
+byte_start t bytes i = record { line = line_at bytes i; column = column_at t bytes i }
 
--- where the first n bytes begin
-abbrev pub byte_starts_upto : (t : ℕ) → List ℕ → ℕ → List ByteStart
-byte_starts_upto t bytes n = map (byte_start_at t bytes) (range_with_len 0 n)
+-- where each eighth byte begins, the first n of these
+abbrev pub eighth_starts : (t : ℕ) → List ℕ → (n : ℕ) → List ByteStart
+eighth_starts t bytes n = map (λ k. byte_start t bytes (8 * k)) (range_with_len 0 n)
 
--- where each byte begins, and the end of the document
-abbrev pub byte_starts : (t : ℕ) → List ℕ → List ByteStart
-byte_starts t bytes = byte_starts_upto t bytes (length bytes + 1)
+-- a point is one of the shown places of the byte at its index, which begins there
+abbrev pub is_of_byte : (t : ℕ) → List ℕ → Point → ByteStart → Bool
+is_of_byte t bytes p start = ((start.line == p.line) && nat_le start.column p.column)
+    && ((p.column - start.column == p.vs) && nat_lt p.vs (width_at t bytes start.column p.index))
 
--- a point is one of the places of a byte
-abbrev pub is_of_byte : Point → ByteStart → Bool
-is_of_byte p start = ((start.line == p.line) && nat_le start.column p.column)
-    && ((p.column - start.column == p.vs) && nat_lt p.vs start.width)
-
--- the same, for an index that may be past the end
-abbrev pub is_of_some_byte : Point → Option ByteStart → Bool
-is_of_some_byte p None = false
-is_of_some_byte p (Some start) = is_of_byte p start
+-- a point is one of the shown places of the document
+abbrev pub is_place : (t : ℕ) → List ℕ → Point → Bool
+is_place t bytes p = nat_le p.index (length bytes) && is_of_byte t bytes p (byte_start t bytes p.index)

@@ -1,6 +1,6 @@
 //! The children of chains: each is read from the text of its chain's chunks.
 
-ghost use Rattle.std.specs.Prelude.{◌≡◌, ◌+◌, ◌*◌, ◌^◌, ◌<◌, ◌++◌, [], true, length, Some, All, IfOk, IfErr, OnOk};
+ghost use Rattle.std.specs.Prelude.{◌≡◌, ◌+◌, ◌<◌, ◌++◌, [], true, length, Some, IfOk, IfErr, OnOk};
 ghost use Rattle.std.specs.List.{AllByRecursion};
 ghost use Rattle.markdown_edits.specs.Edits.{removed_by, added_by};
 ghost use Rattle.markdown_tokenizer.specs.Text.{IsDocument, empty_text};
@@ -25,7 +25,8 @@ use markdown_tokenizer::tokenizer::{Fault, Tokenizer};
 use markdown_tokenizer::util::edit_map::EditMap;
 use std::alloc::Global;
 
-/// Reads the chains that fit. Adds to an empty map the edits that replace each chain's chunks by its child.
+/// Reads the chains that fit. Adds to an empty map the edits that replace each chain's chunks by its child. Returns
+/// `Message` if a chain ends in one, and `Memory` if it runs out of memory.
 pub(crate) fn gather<M: Machine>(
     alloc: Global,
     map: &mut EditMap,

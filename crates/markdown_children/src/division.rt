@@ -8,7 +8,7 @@ ghost use Rattle.markdown_base.specs.Events.{EachEnd, relinked};
 ghost use Rattle.markdown_edits.specs.Edits.{removed_by, added_by};
 ghost use Rattle.markdown_children.specs.Chains.{chain_of};
 ghost use Rattle.markdown_children.specs.Laws.{HasEndsWithin};
-ghost use Rattle.markdown_children.specs.Parts.{front_until, divided, chain_edits, edits_of_chain, CountsOn, IsForward, StandBefore};
+ghost use Rattle.markdown_children.specs.Parts.{front_until, edits_of_chain, CountsOn, IsForward, StandBefore};
 ghost use Rattle.markdown_children.specs.Tables.{rest_table, table_place, AreAbove, AreRising, chunk_edit};
 
 use crate::chains::{next_of, place_at, stands_before};
@@ -83,7 +83,7 @@ fn part_end(child: &[Event], start: usize, end: Point) -> usize
     at
 }
 
-/// The chunks of the chain that begins at an index, with their parts.
+/// The chunks of the chain that begins at an index, with their parts. Returns `AllocError` if it runs out of memory.
 pub(crate) fn chunks_of(
     alloc: Global,
     events: &[Event],
@@ -112,8 +112,8 @@ pub(crate) fn chunks_of(
     Ok(chunks)
 }
 
-/// The index of a child event in the final list. Its chunk is the first that ends behind it. It is found by halves, as the ends rise: a
-/// walk along the chunks for each link would take the time of links times chunks.
+/// The index of a child event in the final list. Its chunk is the first one that ends after it. As the ends rise, it is found by binary
+/// search: a walk along the chunks for each link would take time proportional to links times chunks.
 fn place_in(chunks: &[Chunk], acc: (usize, usize), index: usize) -> Option<usize>
     requires apart { AreAbove acc.0 chunks.now }
     requires ends { IsNonDecreasingBy (λ c. c.end) chunks.now }
@@ -190,7 +190,7 @@ fn placed_part(
     Ok(part)
 }
 
-/// The edits that put each part in the place of its chunk.
+/// The edits that replace each chunk by its part. Returns `AllocError` if it runs out of memory.
 pub(crate) fn edits_of(
     alloc: Global,
     chunks: &[Chunk],

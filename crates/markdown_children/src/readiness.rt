@@ -1,15 +1,15 @@
 //! Whether the chains of a list can be read.
 
-ghost use Rattle.std.specs.Prelude.{◌≡◌, ◌+◌, ◌*◌, ◌^◌, ◌<◌, ◌↔◌, false, true, cond, length, reverse, Some, None, IfOk};
+ghost use Rattle.std.specs.Prelude.{◌≡◌, ◌+◌, ◌<◌, ◌↔◌, false, true, cond, length, reverse, Some, None, IfOk};
 ghost use Rattle.std.specs.Option.{option_copied};
 ghost use Rattle.markdown_base.specs.Virtual.{IsWithinLimit};
 ghost use Rattle.markdown_base.specs.declared.event.Kind.TheVariants.{Exit};
 ghost use Rattle.markdown_edits.specs.OpenNames.{names_after};
 ghost use Rattle.markdown_children.specs.Ready.{IsReady};
 ghost use Rattle.markdown_children.specs.ReadyTests.{closes, link_at, is_number, is_chunk, leads_back_to, is_joined_on, is_joined_back, is_sound_at, is_same_point, is_in_line, has_no_link, is_gap, is_readable, AllBelow, FailsSomewhere};
-ghost use Rattle.markdown_children.specs.StartTests.{is_place_of, can_be_read_from};
+ghost use Rattle.markdown_children.specs.StartTests.{AreStarts, is_place_of, can_be_read_from};
 
-use crate::byte_starts::{ByteStart, byte_starts, is_place};
+use crate::byte_starts::ByteStarts;
 use crate::chains::{lets_through, place_at, stands_before};
 use markdown_base::configuration::TabSize;
 use markdown_base::event::{Content, Event, Kind, Link, Name, Point};
@@ -41,7 +41,7 @@ pub fn ready(
     if !are_sound(events) {
         return Ok(false);
     }
-    let starts = byte_starts(alloc, bytes, t)?;
+    let starts = ByteStarts::new(alloc, bytes, t)?;
     can_be_read(alloc, events, &starts, filter.copied())
 }
 
@@ -210,24 +210,26 @@ fn is_gap(alloc: Global, events: &[Event], index: usize, next: usize) -> Result<
 }
 
 /// Whether the text of a chunk can be read: it begins and ends at places of the document, and does not run backwards.
-fn is_readable(events: &[Event], starts: &[ByteStart], index: usize, content: Content) -> bool
+fn is_readable(events: &[Event], starts: &ByteStarts, index: usize, content: Content) -> bool
+    requires starts { AreStarts starts.now }
     requires inside { index + 1 < length events.now }
     ensures { result ≡ is_readable (is_place_of starts.now) events.now index content }
 {
     let from = place_at(events, index);
     let to = place_at(events, index + 1);
     (content != Content::Flow && !stands_before(to, from))
-        && (is_place(starts, from) && is_place(starts, to))
+        && (starts.is_place(from) && starts.is_place(to))
 }
 
 /// Whether the event at an index is in no chain that fits, or its chunk and the gap behind it can be read.
 fn can_be_read_at(
     alloc: Global,
     events: &[Event],
-    starts: &[ByteStart],
+    starts: &ByteStarts,
     filter: Option<Content>,
     index: usize,
 ) -> Result<bool, AllocError>
+    requires starts { AreStarts starts.now }
     requires inside { index < length events.now }
     requires sound { is_sound_at events.now index ≡ true }
     ensures { IfOk result (λ b. b ≡ can_be_read_from starts.now filter events.now index) }
@@ -251,9 +253,10 @@ fn can_be_read_at(
 fn can_be_read(
     alloc: Global,
     events: &[Event],
-    starts: &[ByteStart],
+    starts: &ByteStarts,
     filter: Option<Content>,
 ) -> Result<bool, AllocError>
+    requires starts { AreStarts starts.now }
     requires sound { AllBelow (length events.now) (is_sound_at events.now) }
     ensures all { IfOk result (λ b. b ≡ true → AllBelow (length events.now) (can_be_read_from starts.now filter events.now)) }
     ensures some { IfOk result (λ b. b ≡ false → FailsSomewhere (length events.now) (can_be_read_from starts.now filter events.now)) }

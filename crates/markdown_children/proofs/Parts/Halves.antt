@@ -1,4 +1,4 @@
--- The ends of chunks rise, so the chunk of an event of the child can be looked for by halves.
+-- The ends of chunks rise, so the chunk of a child event can be found by binary search.
 use Rattle.std.proofs.Common.{◌≡◌, ℕ, zero, suc, ◌+◌, ◌-◌, ◌*◌, ◌<◌, ◌≤◌, true, false, ltb, leb, List, [], ◌∷◌, length, get_or, Some, None, refl, ◌∙◌, ap, arith}
 use Rattle.std.specs.List.Sorted.{IsNonDecreasingBy, IsPartitionPoint}
 use Rattle.std.proofs.lemmas.Bool.{lt-ltb, le-ltb, leb-true, leb-false}
@@ -6,17 +6,17 @@ use Rattle.markdown_base.specs.declared.event.Event.{Event}
 use Rattle.markdown_children.specs.Tables.{table, table_place, AreAbove}
 use Rattle.markdown_children.specs.declared.division.Chunk.{Chunk}
 
--- the chunks that end at or before event n stand in front of the others
+-- the chunks that end at or before event n come before the others
 abbrev pub IsParted : List Chunk → ℕ → ℕ → Type 0
 IsParted cs n i = IsPartitionPoint (λ (c : Chunk). leb c.end n ≡ true) (λ (c : Chunk). leb c.end n ≡ false) cs i
 
--- before the chunk at i, two events for each chunk in front of it go
+-- before the chunk at i, two events are removed for each earlier chunk
 pub above-at : (cs : List Chunk) (i removed : ℕ) (d : Chunk) → i < length cs → AreAbove removed cs → removed + 2 * i ≤ (get_or cs i d).index
 above-at [] i removed d l h = absurd (omega arith)
 above-at (c ∷ cs) zero removed d l h = let a : removed ≤ c.index = h.0 in omega arith
 above-at (c ∷ cs) (suc i) removed d l h = omega (arith, above-at cs i (removed + 2) d (omega arith) h.1)
 
--- the first chunk that ends behind event n says where it comes to stand
+-- the first chunk that ends after event n decides its final place
 place-first : (cs : List Chunk) (i removed added n : ℕ) (d : Chunk) → i < length cs → ((k : ℕ) (e : Chunk) → k < i → (get_or cs k e).end ≤ n) → n < (get_or cs i d).end
     → Some ((get_or cs i d).index - (removed + 2 * i) + added + n) ≡ table_place cs removed added n
 place-first [] i removed added n d l front is = absurd (omega arith)
@@ -30,7 +30,7 @@ place-first (c ∷ cs) (suc i) removed added n d l front is =
     let z : (get_or cs i d).index - (removed + 2 * suc i) + added + n ≡ (get_or cs i d).index - (removed + 2 + 2 * i) + added + n = omega arith in
     rw a (ap Some z ∙ place-first cs i (removed + 2) added n d (omega arith) (λ k e m. front (suc k) e (omega arith)) is)
 
--- where no chunk does, it comes to stand nowhere
+-- if no chunk does, it has no final place
 place-none : (cs : List Chunk) (removed added n : ℕ) → ((k : ℕ) (e : Chunk) → k < length cs → (get_or cs k e).end ≤ n) → None ≡ table_place cs removed added n
 place-none [] removed added n front = refl
 place-none (c ∷ cs) removed added n front =

@@ -16,8 +16,7 @@ use Rattle.markdown_children.proofs.ChainOrder.Following.{apart, fits_next}
 use Rattle.markdown_children.specs.Chains.{content_at, lets_through, some_fits, fits}
 use Rattle.markdown_children.specs.Ready.{place_at, IsShownPlace, IsReady}
 use Rattle.markdown_children.specs.ReadyTests.{closes, link_at, is_number, is_chunk, leads_back_to, is_joined_on, leads_on_to, is_joined_back, is_sound, is_sound_at, is_gap_on, is_readable, can_be_read, can_be_read_at, AllBelow, FailsSomewhere}
-use Rattle.markdown_children.specs.ByteStarts.{byte_starts, is_of_some_byte}
-use Rattle.markdown_children.specs.declared.byte_starts.ByteStart.{ByteStart}
+use Rattle.markdown_children.specs.ByteStarts.{is_place}
 use Rattle.markdown_children.proofs.Ready.Reached.{place-sound, place-complete}
 use Rattle.markdown_children.proofs.Ready.Tests.{and-both, balanced-closes, closes-balanced, content-is, is-content, is-number, content-at, next-at, previous-at, with-content, with-next, with-previous, inside-link, span-void, sound-chunk, sound-joined, sound-forward, sound-content, gap-of, of-gap}
 
@@ -154,12 +153,12 @@ module _ (t : ℕ) (some : 0 < t) (bytes : List ℕ) (wanted : Option Content) (
   pub not-ready-sound : FailsSomewhere (length events) (is_sound_at events) → (false ≡ true) ↔ IsReady t bytes wanted events
   not-ready-sound f = ((λ g. absurd (cc)), (λ r. absurd (never-ready (is_sound_at events) (length events) f (of-ready-sound t bytes wanted events (λ p. true) (λ p h. refl) r))))
 
-  module _ (filter : Option Content) (rs : List ByteStart) (same : filter ≡ wanted) (table : rs ≡ byte_starts t bytes) where
+  module _ (filter : Option Content) (u : ℕ) (bs : List ℕ) (same : filter ≡ wanted) (tabs : u ≡ t) (document : bs ≡ bytes) where
     abbrev place : Point → Bool
-    place p = is_of_some_byte p (slice_get rs p.index)
+    place p = is_place u bs p
 
-    place-is : (p : Point) → place p ≡ is_of_some_byte p (slice_get (byte_starts t bytes) p.index)
-    place-is p = ap (λ xs. is_of_some_byte p (slice_get xs p.index)) table
+    place-is : (p : Point) → place p ≡ is_place t bytes p
+    place-is p = λ j. is_place (tabs j) (document j) p
 
     ready-is : closes events ≡ true → AllBelow (length events) (is_sound_at events) → (b : Bool) → (b ≡ true → AllBelow (length events) (can_be_read_at place filter events)) → (b ≡ false → FailsSomewhere (length events) (can_be_read_at place filter events))
         → (b ≡ true) ↔ IsReady t bytes wanted events

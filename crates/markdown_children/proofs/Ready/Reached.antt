@@ -1,10 +1,9 @@
--- Where each byte of a document begins, and its places.
-use Rattle.std.proofs.Common.{◌≡◌, ◌≢◌, ℕ, zero, suc, ◌+◌, ◌-◌, ◌<◌, ◌≤◌, ◌⊎◌, inl, inr, Bool, true, false, cond, List, [], ◌∷◌, ◌++◌, length, drop, get_or, Option, Some, None, refl, sym, ◌∙◌, ap, subst, arith, eqb-true, ne_eqb, append_assoc, leb, unwrap_or}
-use Rattle.std.specs.Prelude.{◌==◌, ◌&&◌, nat_le, nat_lt, slice_index, slice_get}
-use Rattle.std.proofs.lemmas.Bool.{leb-true, leb-false, ltb-true, le-leb, lt-ltb, eq-eqb, and_parts}
+-- Where the bytes of a document begin, and its places.
+use Rattle.std.proofs.Common.{◌≡◌, ◌≢◌, ℕ, zero, suc, ◌+◌, ◌-◌, ◌*◌, ◌<◌, ◌≤◌, ◌⊎◌, inl, inr, Bool, true, false, cond, List, [], ◌∷◌, ◌++◌, length, drop, get_or, Option, Some, refl, sym, ◌∙◌, ap, subst, arith, eqb-true, ne_eqb, append_assoc, unwrap_or}
+use Rattle.std.specs.Prelude.{◌==◌, ◌&&◌, nat_le, nat_lt, slice_index}
+use Rattle.std.proofs.lemmas.Bool.{leb-true, ltb-true, le-leb, lt-ltb, eq-eqb, and_parts}
 use Rattle.std.proofs.lemmas.List.{get_or_past}
 use Rattle.std.proofs.lemmas.List.FromFn.{get_or-map-range_with_len, length-map-range_with_len, map-range_with_len_more}
-use Rattle.std.proofs.lemmas.Option.{slice_get-get_or, slice_get_past}
 use Rattle.markdown_base.specs.declared.event.Point.{Point}
 use Rattle.markdown_base.specs.Virtual.{Seat, point, tab_width, in_tab, begins_with_lf, virtual, virtual_from}
 use Rattle.markdown_base.specs.Places.{shown, follows_cr, IsPointOf, IsShown, point_at}
@@ -16,7 +15,7 @@ use Rattle.markdown_tokenizer.proofs.Positions.Points.{point_at-point, point_at-
 use Rattle.markdown_tokenizer.proofs.Positions.Standing.{IsAmong}
 use Rattle.markdown_tokenizer.proofs.Positions.SeatLaws.{seat-is-point}
 use Rattle.markdown_children.specs.Ready.{IsShownPlace}
-use Rattle.markdown_children.specs.ByteStarts.{width_at, line_after, column_after, line_at, column_at, byte_start_at, byte_starts_upto, byte_starts, is_of_byte, is_of_some_byte}
+use Rattle.markdown_children.specs.ByteStarts.{width_at, line_after, column_after, line_at, column_at, byte_start, eighth_starts, is_of_byte, is_place}
 use Rattle.markdown_children.specs.declared.byte_starts.ByteStart.{ByteStart}
 
 -- ---- where each byte begins
@@ -51,20 +50,6 @@ line-more false l k h = omega arith
 pub line_at-le : (bytes : List ℕ) (k : ℕ) → line_at bytes k ≤ k + 1
 line_at-le bytes zero = omega arith
 line_at-le bytes (suc k) = let h = line-more (ends_line bytes k) (line_at bytes k) (k + 1) (line_at-le bytes k) in omega (arith, h)
-
--- ---- where the byte at an index begins
-
-pub byte_start-there : (t : ℕ) (bytes : List ℕ) (i : ℕ) → i ≤ length bytes → slice_get (byte_starts t bytes) i ≡ Some (byte_start_at t bytes i)
-byte_start-there t bytes i h =
-    let n = length-map-range_with_len (byte_start_at t bytes) 0 (length bytes + 1) in
-    let within : i < length (byte_starts t bytes) = omega (arith, n) in
-    let is : 0 + i ≡ i = omega arith in
-    slice_get-get_or (byte_starts t bytes) i (byte_start_at t bytes i) within ∙ ap (λ r. Some r) (get_or-map-range_with_len (byte_start_at t bytes) 0 (length bytes + 1) i i (byte_start_at t bytes i) (omega arith) is)
-
-pub byte_start-past : (t : ℕ) (bytes : List ℕ) (i : ℕ) → length bytes < i → slice_get (byte_starts t bytes) i ≡ None
-byte_start-past t bytes i h =
-    let n = length-map-range_with_len (byte_start_at t bytes) 0 (length bytes + 1) in
-    slice_get_past (byte_starts t bytes) i (omega (arith, n))
 
 -- ---- the places of a tab
 
@@ -142,27 +127,23 @@ module _ (t : ℕ) (some : 0 < t) (bytes : List ℕ) where
       (subst (IsPointOf t bytes) (λ j. point (a j) (same j) p.index (v j)) (begin-place line column p.index r), shown-if p f)
 
   -- a point that passes the test is a place that is shown
-  pub place-sound : (p : Point) → is_of_some_byte p (slice_get (byte_starts t bytes) p.index) ≡ true → IsShownPlace t bytes p
-  place-sound p e = go (leb p.index (length bytes)) refl
-    where
-      go : (b : Bool) → leb p.index (length bytes) ≡ b → IsShownPlace t bytes p
-      go true h =
-          let inside = leb-true p.index (length bytes) h in
-          let start = byte_start_at t bytes p.index in
-          let f : is_of_byte p start ≡ true = ap (is_of_some_byte p) (sym (byte_start-there t bytes p.index inside)) ∙ e in
-          let two = and_parts ((start.line == p.line) && nat_le start.column p.column) ((p.column - start.column == p.vs) && nat_lt p.vs start.width) f in
-          let a = and_parts (start.line == p.line) (nat_le start.column p.column) two.0 in
-          let c = and_parts (p.column - start.column == p.vs) (nat_lt p.vs start.width) two.1 in
-          of-byte p start.line start.column (slice_index bytes p.index == 9) (is_lf bytes p.index && follows_cr bytes p.index) (reached-at t some bytes p.index inside) refl refl
-          (eqb-true start.line p.line a.0) (leb-true start.column p.column a.1) (eqb-true (p.column - start.column) p.vs c.0) (ltb-true p.vs start.width c.1)
-      go false h = let past : length bytes < p.index = omega (arith, leb-false p.index (length bytes) h) in absurd (let f = ap (is_of_some_byte p) (sym (byte_start-past t bytes p.index past)) ∙ e in cc)
+  pub place-sound : (p : Point) → is_place t bytes p ≡ true → IsShownPlace t bytes p
+  place-sound p e =
+      let start = byte_start t bytes p.index in
+      let width = width_at t bytes start.column p.index in
+      let all = and_parts (nat_le p.index (length bytes)) (is_of_byte t bytes p start) e in
+      let two = and_parts ((start.line == p.line) && nat_le start.column p.column) ((p.column - start.column == p.vs) && nat_lt p.vs width) all.1 in
+      let a = and_parts (start.line == p.line) (nat_le start.column p.column) two.0 in
+      let c = and_parts (p.column - start.column == p.vs) (nat_lt p.vs width) two.1 in
+      of-byte p start.line start.column (slice_index bytes p.index == 9) (is_lf bytes p.index && follows_cr bytes p.index) (reached-at t some bytes p.index (leb-true p.index (length bytes) all.0)) refl refl
+      (eqb-true start.line p.line a.0) (leb-true start.column p.column a.1) (eqb-true (p.column - start.column) p.vs c.0) (ltb-true p.vs width c.1)
 
   -- a place of a byte passes the test
-  is-of-byte : (p : Point) (start : ByteStart) → start.line ≡ p.line → start.column + p.vs ≡ p.column → p.vs < start.width → is_of_byte p start ≡ true
+  is-of-byte : (p : Point) (start : ByteStart) → start.line ≡ p.line → start.column + p.vs ≡ p.column → p.vs < width_at t bytes start.column p.index → is_of_byte t bytes p start ≡ true
   is-of-byte p start a b c =
       let le : start.column ≤ p.column = omega (arith, b) in
       let vs : p.column - start.column ≡ p.vs = omega (arith, b) in
-      rw (eq-eqb start.line p.line a, le-leb start.column p.column le, eq-eqb (p.column - start.column) p.vs vs, lt-ltb p.vs start.width c) refl
+      rw (eq-eqb start.line p.line a, le-leb start.column p.column le, eq-eqb (p.column - start.column) p.vs vs, lt-ltb p.vs (width_at t bytes start.column p.index) c) refl
 
   not-pair : (p : Point) → IsShown bytes p → (is_lf bytes p.index && follows_cr bytes p.index) ≡ false
   not-pair p e = go p.index refl (is_lf bytes p.index && follows_cr bytes p.index) refl
@@ -186,11 +167,11 @@ module _ (t : ℕ) (some : 0 < t) (bytes : List ℕ) where
       (ap (λ (q : Point). q.line) f, ap (λ (q : Point). q.column) f)
 
   place-of-byte : (p : Point) → IsPointOf t bytes p → IsShown bytes p → (v : ℕ) → p.vs ≡ v → IsSeatPlace t bytes p ⊎ IsReturnPlace bytes p
-      → (p.index ≤ length bytes) × (is_of_byte p (byte_start_at t bytes p.index) ≡ true)
+      → (p.index ≤ length bytes) × (is_of_byte t bytes p (byte_start t bytes p.index) ≡ true)
   place-of-byte p is shown zero v o =
       let inside = upto o in
       let r = reached-at t some bytes p.index inside in
-      let start = byte_start_at t bytes p.index in
+      let start = byte_start t bytes p.index in
       let e : Some p ≡ Some (point start.line start.column p.index 0) = sym (point_at-point t bytes some p is) ∙ (λ j. point_at t bytes (p.index, v j)) ∙ point-of_reached t some bytes start.line start.column p.index r in
       let f = ap (λ (o : Option Point). unwrap_or o (point 0 0 0 0)) e in
       let l : p.line ≡ start.line = ap (λ (q : Point). q.line) f in
@@ -203,26 +184,34 @@ module _ (t : ℕ) (some : 0 < t) (bytes : List ℕ) where
   place-of-byte p is shown (suc n) v (inl s) =
       let tab = s.in_tab (omega (arith, v)) in
       let inside : p.index ≤ length bytes = omega (arith, tab.0) in
-      let start = byte_start_at t bytes p.index in
+      let start = byte_start t bytes p.index in
       let same = one-begin p.line s.column start.line start.column p.index s.reached (reached-at t some bytes p.index inside) in
-      let w : start.width ≡ tab_width t start.column = rw (eq-eqb (get_or bytes p.index 0) 9 tab.1) refl in
+      let w : width_at t bytes start.column p.index ≡ tab_width t start.column = rw (eq-eqb (get_or bytes p.index 0) 9 tab.1) refl in
       let wide : tab_width t s.column ≡ tab_width t start.column = ap (tab_width t) same.1 in
       (inside, is-of-byte p start (sym same.0) (omega (arith, same.1, s.across)) (omega (arith, w, wide, tab.2)))
   place-of-byte p is shown (suc n) v (inr s) = absurd (omega (arith, v, s.0))
 
-  pub place-complete : (p : Point) → IsShownPlace t bytes p → is_of_some_byte p (slice_get (byte_starts t bytes) p.index) ≡ true
+  pub place-complete : (p : Point) → IsShownPlace t bytes p → is_place t bytes p ≡ true
   place-complete p h =
       let r = place-of-byte p h.0 h.1 p.vs refl (place-of t some bytes p h.0) in
-      ap (is_of_some_byte p) (byte_start-there t bytes p.index r.0) ∙ r.1
+      rw (le-leb p.index (length bytes) r.0) r.1
 
 -- ---- where the bytes begin, one after another
 
-pub starts-more : (t : ℕ) (bytes : List ℕ) (rs : List ByteStart) (line column width i : ℕ) → rs ≡ byte_starts_upto t bytes i → line ≡ line_at bytes i → column ≡ column_at t bytes i → width ≡ width_at t bytes column i
-    → rs ++ record { line = line; column = column; width = width } ∷ [] ≡ byte_starts_upto t bytes (i + 1)
-starts-more t bytes rs line column width i e l c w =
-    let v : width ≡ width_at t bytes (column_at t bytes i) i = w ∙ ap (λ n. width_at t bytes n i) c in
-    let s : 0 + i ≡ i = omega arith in
-    (λ j. e j ++ record { line = l j; column = c j; width = v j } ∷ []) ∙ sym (map-range_with_len_more (byte_start_at t bytes) 0 i i s)
+-- one start more
+pub starts-more : (t : ℕ) (bytes : List ℕ) (rs : List ByteStart) (start : ByteStart) (n : ℕ) → rs ≡ eighth_starts t bytes n → start ≡ byte_start t bytes (8 * n) → rs ++ start ∷ [] ≡ eighth_starts t bytes (n + 1)
+starts-more t bytes rs start n e b =
+    let s : 0 + n ≡ n = omega arith in
+    (λ j. e j ++ b j ∷ []) ∙ sym (map-range_with_len_more (λ k. byte_start t bytes (8 * k)) 0 n n s)
+
+-- the start that is kept of an eighth byte
+pub start-kept : (t : ℕ) (bytes : List ℕ) (rs : List ByteStart) (n k : ℕ) (d : ByteStart) → rs ≡ eighth_starts t bytes n → k < n → get_or rs k d ≡ byte_start t bytes (8 * k)
+start-kept t bytes rs n k d e l =
+    let s : 0 + k ≡ k = omega arith in
+    ap (λ xs. get_or xs k d) e ∙ get_or-map-range_with_len (λ i. byte_start t bytes (8 * i)) 0 n k k d l s
+
+pub length-kept : (t : ℕ) (bytes : List ℕ) (rs : List ByteStart) (n : ℕ) → rs ≡ eighth_starts t bytes n → length rs ≡ n
+length-kept t bytes rs n e = ap length e ∙ length-map-range_with_len (λ k. byte_start t bytes (8 * k)) 0 n
 
 pub width-end : (t : ℕ) (bytes : List ℕ) (column : ℕ) → 1 ≡ width_at t bytes column (length bytes)
 width-end t bytes column = rw (get_or_past bytes (length bytes) 0 (omega arith)) refl

@@ -11,7 +11,7 @@ returns-in_err-chunk c =
     let p = IsPartitionPoint-from_clause (λ (k : Chunk). leb k.end c.args.index) cs i c.partition_point-passed.ensures.partitioned (IsPartitionedBy-leb (λ k. k.end) cs c.args.index c.requires.ends) (λ a r q k. search rules) in
     c.from_residual.ensures ∙ place-passed cs i c.args.acc.0 c.args.acc.1 c.args.index p (c.in_err-chunk.ensures.lookup.3)
 
--- as many events as go in front of the chunk stand there, and its index fits
+-- the chunk's index is at least the number of events that are removed before it, and fits
 pub overflow_add-removed : goal.overflow_add-removed
 overflow_add-removed c =
     let h = c.in_ok-chunk.ensures.lookup.3 in

@@ -1,6 +1,5 @@
-use Rattle.std.proofs.Common.{◌≡◌, ◌<◌, ◌≤◌, ℕ, sym, ap, subst, ◌∙◌}
+use Rattle.std.proofs.Common.{◌≡◌, ◌<◌, ◌≤◌, ℕ, sym, subst, ◌∙◌}
 use Rattle.std.specs.Prelude.{option_map}
-use Rattle.markdown_children.specs.ByteStarts.{byte_starts}
 use Rattle.markdown_children.proofs.Ready.Decided.{not-ready-closes, not-ready-sound, ready-if}
 use Rattle.markdown_children.proofs.readiness.ready.Goals as goal
 
@@ -16,5 +15,5 @@ returns-then-not-are_sound c = not-ready-sound c.args.tab_size (some c.get-t.ens
 
 pub returns : goal.returns
 returns c =
-    ready-if c.args.tab_size (some c.get-t.ensures.columns c.get-t.ensures.least) c.args.bytes.now (option_map (λ f. f.now) c.args.filter) c.args.events.now c.copied.result c.deref.result.now c.copied.ensures (c.deref.ensures.value ∙ c.in_ok-starts.ensures ∙ ap (λ (t : ℕ). byte_starts t c.args.bytes.now) c.get-t.ensures.columns)
+    ready-if c.args.tab_size (some c.get-t.ensures.columns c.get-t.ensures.least) c.args.bytes.now (option_map (λ f. f.now) c.args.filter) c.args.events.now c.copied.result c.in_ok-starts.starts.tab_size c.in_ok-starts.starts.bytes.now c.copied.ensures (c.in_ok-starts.ensures.tab_size ∙ c.get-t.ensures.columns) c.in_ok-starts.ensures.bytes
     c.can_be_read.result (sym c.in_ok-closes.ensures ∙ c.if-not-branch.false) (c.are_sound.ensures.all c.if-not-are_sound.false) c.can_be_read.ensures.all c.can_be_read.ensures.some

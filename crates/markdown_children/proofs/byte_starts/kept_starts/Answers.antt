@@ -1,0 +1,30 @@
+use Rattle.std.proofs.Common.{◌≡◌, ◌+◌, ◌/◌, ◌++◌, ◌∷◌, [], ℕ, length, refl, ap, ◌∙◌, arith}
+use Rattle.markdown_children.specs.ByteStarts.{eighth_starts}
+use Rattle.markdown_children.specs.declared.byte_starts.ByteStart.{ByteStart}
+use Rattle.markdown_children.proofs.Ready.Reached.{starts-more}
+use Rattle.markdown_children.proofs.byte_starts.kept_starts.Goals as goal
+
+pub loop-k-init : goal.loop-k-init
+loop-k-init c =
+    let first : ByteStart = record { line = 1; column = 1 } in
+    record {
+      starts = c.push_reserved.ensures.items ∙ ap (λ xs. xs ++ first ∷ []) c.in_ok-starts.ensures.items;
+      start = refl;
+      so_far = omega (arith, c.push_reserved.ensures.len, c.in_ok-starts.ensures.len);
+      room = omega (arith, c.push_reserved.ensures.capacity, c.in_ok-starts.ensures.capacity);
+    }
+
+pub loop-k-preserved : goal.loop-k-preserved
+loop-k-preserved c =
+    let i = c.loop-k.invariant in
+    record {
+      starts = c.push_reserved-in-loop-k.ensures.items ∙ starts-more c.args.t c.args.bytes.now c.loop-k.starts.items c.walked-start.result (c.loop-k.k + 1) i.starts c.walked-start.ensures;
+      start = c.walked-start.ensures;
+      so_far = omega (arith, c.push_reserved-in-loop-k.ensures.len, i.so_far);
+      room = omega (arith, c.push_reserved-in-loop-k.ensures.capacity, i.room);
+    }
+
+pub returns : goal.returns
+returns c =
+    let all : c.loop-k.k ≡ length c.args.bytes.now / 8 = omega arith in
+    c.loop-k.invariant.starts ∙ ap (λ (n : ℕ). eighth_starts c.args.t c.args.bytes.now (n + 1)) all

@@ -1,0 +1,9 @@
+use Rattle.std.proofs.Common.{◌≡◌}
+use Rattle.markdown_children.specs.ByteStarts.{line_at, column_at}
+use Rattle.markdown_children.proofs.byte_starts.walked.Given as goal
+
+abbrev pub invariant-loop-index : goal.invariant-loop-index
+invariant-loop-index l = record {
+  line : l.line ≡ line_at l.bytes l.index;
+  column : l.column ≡ column_at l.t l.bytes l.index;
+}
