@@ -54,6 +54,7 @@ GROWING = [
     ("mdevents", "--machine paragraphs --deep", "lines that begin with a gap", ">ab\n"),
     ("mdbench", "", "edits at ascending indices", "a"),
     ("mdbench", "", "edits at descending indices", "d"),
+    ("mdbench", "", "links of a child", "l"),
 ]
 
 # the documents on which mdevents is compared with another program
