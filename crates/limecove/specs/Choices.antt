@@ -20,7 +20,7 @@ machine_of n =
     (cond (nat_eq n 1) (Some Paragraphs)
     (cond (nat_eq n 2) (Some Peek) (cond (nat_eq n 3) (Some Deep) (cond (nat_eq n 4) (Some Back) (cond (nat_eq n 5) (Some Save) (cond (nat_eq n 6) (Some Text) None))))))
 
--- the size of tabs of a number: itself, from 1 to 16
+-- the tab size of a number: itself, from 1 to 16
 abbrev pub tab_of : ℕ → Option ℕ
 tab_of n = cond (nat_lt 0 n && nat_lt n 17) (Some n) None
 
@@ -32,13 +32,13 @@ cut_of n = cond (nat_eq n 0) None (Some n)
 abbrev pub is_yes : ℕ → Bool
 is_yes n = not (nat_eq n 0)
 
--- what options choose, if there are such a machine and such a size of tabs, and they are taken together
+-- what options choose, if there are such a machine and such a tab size, and they are accepted together
 abbrev pub choice_of : Options → Option Choice
 choice_of options =
     option_and_then (λ which. option_and_then (λ t. choice_together (cut_of options.cut) (is_yes options.deep) which t) (tab_of options.text.tab_size))
     (machine_of options.machine)
 
--- the default constructs, but for three, which options have on or off
+-- the default constructs, except for three, which the options have on or off
 abbrev pub constructs_of : TextOptions → Constructs
 constructs_of options = record default_constructs {
   autolink = is_yes options.autolink;

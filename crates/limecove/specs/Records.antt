@@ -1,5 +1,5 @@
 -- Events as records of numbers.
-use Rattle.std.specs.Prelude.{ℕ, ◌≡◌, ◌-◌, ◌^◌, List, ◌++◌, map, take, drop, length, Option, None, Some, unwrap_or}
+use Rattle.std.specs.Prelude.{ℕ, ◌≡◌, List, ◌++◌, map, take, drop, length, Some, unwrap_or}
 use Rattle.std.specs.Option.{option_and_then, option_map_or}
 use Rattle.markdown.specs.declared.event.Content.{Content}
 use Rattle.markdown.specs.declared.event.Content.TheVariants.{Flow, Content as ContentOfContent, String, Text}
@@ -43,11 +43,11 @@ record_of event = record {
   next = unwrap_or (option_and_then (λ link. link.next) event.link) no_index;
 }
 
--- records, over the first of which those of events were written, as many as fit
+-- records after the records of events were written over the first ones, as many as fit
 abbrev pub filled : List Record → List Event → List Record
 filled old events = take (length old) (map record_of events) ++ drop (length events) old
 
--- Records, over the first of which those of the events of a document were written, as the options choose them
+-- Records after the records of a document's events, as the options choose them, were written over the first ones
 pub record HoldsEventsOf (options : Options) (bytes : List ℕ) (n : ℕ) (old new : List Record) : Type 0 where
   pub choice : Choice
   pub chosen : choice_of options ≡ Some choice

@@ -11,7 +11,7 @@ use mdevents_program::arguments::{Choice, Which};
 #[repr(C)]
 #[derive(Clone, Copy, Debug, PartialEq, Eq)]
 pub struct TextOptions {
-    /// How many columns tab stops are apart, from 1 to 16.
+    /// The distance from one tab stop to the next, from 1 to 16 columns.
     pub tab_size: usize,
     /// Code spans.
     pub code_text: u32,
@@ -31,7 +31,7 @@ pub struct Options {
     pub deep: u32,
     /// After how many virtual bytes the document is cut each time. If it is 0, the document is not cut.
     pub cut: usize,
-    /// How the machine of texts reads, and how many columns tab stops are apart for each machine.
+    /// How the machine of texts reads, and the tab size for each machine.
     pub text: TextOptions,
 }
 
@@ -59,7 +59,7 @@ pub(crate) fn choose(options: &Options) -> Option<Choice>
     })
 }
 
-/// The constructs that options have on: the default ones, but for three.
+/// The constructs that options have on: the default ones, except for three.
 pub(crate) fn constructs_of(options: &TextOptions) -> Constructs
     ensures { result ≡ constructs_of options.now }
 {
@@ -71,7 +71,7 @@ pub(crate) fn constructs_of(options: &TextOptions) -> Constructs
     }
 }
 
-/// The size of tabs of a number.
+/// The tab size of a number.
 pub(crate) fn tab_of(number: usize) -> Option<TabSize>
     ensures { result ≡ tab_of number }
 {

@@ -1,7 +1,7 @@
 //! What programs in C and in Rust call: functions over bytes, numbers and records, in a static library.
 //!
 //! Nothing checks what such a caller does, so no function here requires anything. What the types do not say is tested, and a code
-//! is returned for it. The caller owns all memory that is passed. What a call takes for itself, it gives back before it returns.
+//! is returned for it. The caller owns all memory that is passed. A call frees what it allocates before it returns.
 #![tactic(auto)]
 
 mod choose;
@@ -30,9 +30,9 @@ pub const VERSION: u32 = 1;
 pub const READ: u32 = 0;
 /// The call ran out of memory.
 pub const OUT_OF_MEMORY: u32 = 1;
-/// The size of tabs times the length of the document, and one more, do not fit `usize`.
+/// The tab size times the length of the document, and one more, does not fit `usize`.
 pub const TOO_LONG: u32 = 2;
-/// The options choose nothing: there is no such machine or size of tabs, or `deep` is on for a machine that links no text.
+/// The options choose nothing: there is no such machine or tab size, or `deep` is on for a machine that links no text.
 pub const NO_SUCH_OPTIONS: u32 = 3;
 
 /// How a call ended, and how many events there are.
@@ -103,7 +103,7 @@ pub extern "C" fn limecove_read(
     }
 }
 
-/// The answer of a call that ended so.
+/// The result of a call that ended with this code and this many events.
 fn ended(code: u32, count: usize) -> Answer
     ensures { result ≡ record { code = code; version = VERSION; count = count } }
 {

@@ -6,14 +6,14 @@ ghost use Rattle.limecove.specs.Records.{record_of, filled, content_number, no_i
 use markdown::event::{Content, Event, Kind, Link};
 use std::cmp;
 
-/// The index of an event that there is not.
+/// In place of an index: there is no such event.
 pub const NO_INDEX: usize = usize::MAX;
 
 /// An event, with its link.
 #[repr(C)]
 #[derive(Clone, Copy, Debug, PartialEq, Eq)]
 pub struct Record {
-    /// 0 where a span begins, 1 where it ends.
+    /// 0 if a span begins, 1 if it ends.
     pub kind: u16,
     /// What the chain of the event is read as, if the event is linked: 1 for flow, 2 for content, 3 for string, 4 for text. If it is
     /// not linked, 0.

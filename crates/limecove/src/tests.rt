@@ -21,7 +21,7 @@ const OLD: Record = Record {
     next: 9,
 };
 
-/// A record without a link, of a place without parts of a tab.
+/// A record without a link, at a place that is not inside a tab.
 fn at(kind: u16, name: Name, line: usize, column: usize, index: usize) -> Record {
     Record {
         kind,
@@ -114,8 +114,8 @@ fn plain_code() -> [Record; 4] {
     ]
 }
 
-/// Whether a call answered that a document of so many events was read, and these are the records with which it left the first
-/// ones, as many as fit below `room`, and nothing was written after them. A call may also run out of memory, and writes nothing.
+/// Whether a call returned that it read a document of this many events, and wrote these records: as many as fit below `room`,
+/// and nothing after them. A call may also run out of memory; then it must write nothing.
 fn holds(answer: Answer, events: &[Record], room: usize, records: &[Record]) -> bool {
     if answer.code == OUT_OF_MEMORY {
         return answer.count == 0 && records.iter().all(|record| *record == OLD);
@@ -176,7 +176,7 @@ fn documents_are_read_as_text(rt: HostRuntime) {
     assert!(rt; reads_text(rt.alloc(), b"", &TEXT, &[]));
 }
 
-/// The options of the machine of texts, with this size of tabs.
+/// The options of the machine of texts, with this tab size.
 fn tabs(tab_size: usize) -> Options {
     Options {
         text: TextOptions { tab_size, ..TEXT },
@@ -193,7 +193,7 @@ const NOT_READ: Answer = Answer {
 #[test]
 fn options_that_choose_nothing_are_refused(rt: HostRuntime) {
     let mut records = [OLD; 12];
-    // no machine, a machine that links no text, and no sizes of tabs
+    // no machine, a machine that links no text, and no tab sizes
     for options in &[by(7, 0), by(0, 1), tabs(0), tabs(17)] {
         let answer = limecove_read(rt.alloc(), b"a", options, &mut records);
         assert!(rt; answer == NOT_READ);

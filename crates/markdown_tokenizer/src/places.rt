@@ -4,7 +4,7 @@ ghost use Rattle.markdown_tokenizer.specs.Cuts;
 ghost use Rattle.markdown_tokenizer.specs.Engine.{AreCuts};
 ghost use Rattle.markdown_base.specs.Places;
 ghost use Rattle.markdown_base.specs.Virtual.{IsWithinLimit};
-ghost use Rattle.std.specs.Prelude.{◌==◌, ◌≡◌, ◌&&◌, ◌^◌, ◌<◌, All, IfOk};
+ghost use Rattle.std.specs.Prelude.{◌==◌, ◌≡◌, ◌&&◌, ◌<◌, All, IfOk};
 
 use crate::cursor::{pass, seat_at, shown};
 use markdown_base::configuration::TabSize;

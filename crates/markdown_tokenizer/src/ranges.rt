@@ -14,11 +14,11 @@ use markdown_base::event::Point;
 /// byte index and a number in a tab.
 pub type AfterGap = (Option<Point>, (usize, usize), (usize, usize));
 
-/// Whether ranges follow on a text that ends at a place. Then, and only then, each can be pushed after its gap is passed
-/// (`define_skip`).
+/// Whether these ranges can be pushed, one after another, onto a text that ends at `end`: exactly then it returns true.
+/// Each gap is passed first (`define_skip`).
 ///
-/// Places are byte index and number in a tab. A gap passes the beginning of a line, up to a later place of it, or nothing. A range
-/// begins at the place at which the text ends by then, and does not run backwards. Tab stops are `tab_size` columns apart.
+/// A gap is empty, or goes from the beginning of a line to a later place of that line. A range begins where the text then ends,
+/// and does not run backwards. There is a tab stop at every `tab_size` columns.
 pub fn follow_on(bytes: &[u8], tab_size: TabSize, end: Point, ranges: &[AfterGap]) -> bool
     requires limit { IsWithinLimit tab_size bytes.now }
     ensures { IsTrue result ↔ FollowOn tab_size bytes.now end ranges.now }
@@ -44,8 +44,7 @@ pub fn follow_on(bytes: &[u8], tab_size: TabSize, end: Point, ranges: &[AfterGap
     follow_on(bytes, tab_size, to, rest)
 }
 
-/// The place at which what follows on a text begins that ends at a place: after the gap, if there is one. `None` if the gap
-/// does not lead from there.
+/// Where a text that ended at `end` ends after the gap, if there is one. Returns `None` if the gap does not begin there.
 fn start_after(bytes: &[u8], tab: TabSize, end: Point, gap: Option<Point>) -> Option<Point>
     requires limit { IsWithinLimit tab bytes.now }
     ensures leads { IfSome result (λ _. LeadsFrom tab bytes.now end gap) }
@@ -64,7 +63,8 @@ fn start_after(bytes: &[u8], tab: TabSize, end: Point, gap: Option<Point>) -> Op
     }
 }
 
-/// Whether a gap leads from a place to another one: it passes nothing, or the beginning of the line that begins at the first.
+/// Whether there can be a gap from one place to another: it is empty, or the first place begins a line and the second is a
+/// later place of it.
 fn is_gap_from(bytes: &[u8], tab: TabSize, beginning: Point, place: Point) -> bool
     requires limit { IsWithinLimit tab bytes.now }
     ensures { IsTrue result ↔ IsGapFrom tab bytes.now beginning place }

@@ -1,5 +1,5 @@
 -- Tables of rows: what the states of a machine do.
-use Rattle.std.specs.Prelude.{ℕ, ◌∷◌, ◌==◌, List, [], Bool, false, cond, Option, Some, None}
+use Rattle.std.specs.Prelude.{ℕ, ◌∷◌, ◌==◌, List, [], Bool, cond, Option, Some, None}
 use Rattle.markdown_base.specs.declared.event.Link.{Link}
 use Rattle.markdown_base.specs.declared.event.Name.{Name as EventName}
 use Rattle.markdown_base.specs.declared.state.Name.{Name}

@@ -1,7 +1,7 @@
 //! A child's events in place of the chunks from which it was read, with expected lists worked by hand.
 
 ghost use Rattle.markdown.specs.Virtual.{IsWithinLimit};
-ghost use Rattle.std.specs.Prelude.{◌≡◌, ◌+◌, ◌*◌, ◌^◌, ◌<◌, true, length, None, IfSome, IfOk, All};
+ghost use Rattle.std.specs.Prelude.{◌≡◌, ◌+◌, ◌*◌, ◌<◌, true, length, None, IfSome, IfOk, All};
 ghost use Rattle.markdown.specs.Events.{EndsBelow};
 ghost use Rattle.markdown.specs.Edits.{AreDisjoint};
 ghost use Rattle.markdown.specs.Chains.{begins};

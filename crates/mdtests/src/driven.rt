@@ -1,6 +1,6 @@
 //! A document, read call by call.
 
-ghost use Rattle.std.specs.Prelude.{◌≡◌, ◌+◌, ◌*◌, ◌^◌, ◌<◌, ◌∷◌, [], true, false, length, All, Contains, IfOk};
+ghost use Rattle.std.specs.Prelude.{◌≡◌, ◌*◌, ◌<◌, ◌∷◌, [], true, false, Contains, IfOk};
 ghost use Rattle.markdown.specs.Virtual.{point};
 ghost use Rattle.markdown.specs.Configuration.{start_seen};
 ghost use Rattle.markdown.specs.Engine.{AreCuts, CanPush, HoldsOf, IsPushed, given_of};

@@ -1,7 +1,7 @@
 //! Short documents, cut at every place and at every two places: the events do not depend on the cuts.
 
 ghost use Rattle.markdown.specs.Virtual.{IsWithinLimit};
-ghost use Rattle.std.specs.Prelude.{◌+◌, ◌*◌, ◌^◌, ◌<◌, length, Contains};
+ghost use Rattle.std.specs.Prelude.{◌+◌, ◌*◌, ◌<◌, Contains};
 ghost use Rattle.mdtests.specs.Documents.{given_in_tabs};
 
 use crate::pushed::{Seen, read_cut};

@@ -1,7 +1,7 @@
 //! The events that machines make of whole documents, with expected events worked by hand.
 
 ghost use Rattle.markdown.specs.Virtual.{IsWithinLimit};
-ghost use Rattle.std.specs.Prelude.{◌+◌, ◌*◌, ◌^◌, ◌≤◌, ◌<◌, length, Contains};
+ghost use Rattle.std.specs.Prelude.{◌+◌, ◌<◌, Contains};
 ghost use Rattle.markdown.specs.Presets.{default_parse_options};
 ghost use Rattle.markdown.specs.Engine.{given_by};
 

@@ -1,7 +1,7 @@
 //! Calls that take no memory. A test here takes none, or passes if its setup runs out of memory. So it passes whichever
 //! allocation `rt try --test --fail-alloc N` makes fail.
 
-ghost use Rattle.std.specs.Prelude.{◌+◌, ◌*◌, ◌^◌, ◌<◌, length};
+ghost use Rattle.std.specs.Prelude.{◌<◌};
 
 use crate::machines::lines_by;
 use crate::tokenizer::Types;

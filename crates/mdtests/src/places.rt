@@ -1,7 +1,7 @@
 //! Places of small texts, their points and the slices between them, with tab sizes from 1 to 16, worked by hand.
 
 ghost use Rattle.markdown.specs.Virtual.{IsWithinLimit};
-ghost use Rattle.std.specs.Prelude.{◌≡◌, ◌≤◌, ◌+◌, ◌*◌, ◌^◌, ◌<◌, length, None};
+ghost use Rattle.std.specs.Prelude.{◌≡◌, ◌≤◌, ◌*◌, ◌<◌, length, None};
 
 use crate::shown::{assert_shown, at};
 use markdown::configuration::TabSize;

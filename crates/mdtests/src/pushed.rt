@@ -1,8 +1,7 @@
 //! The ranges of a document, pushed one by one, and the gaps between them.
 
-ghost use Rattle.std.specs.Prelude.{◌≡◌, ◌+◌, ◌*◌, ◌^◌, ◌<◌, true, length, All, Contains, IfSome};
+ghost use Rattle.std.specs.Prelude.{◌≡◌, ◌*◌, ◌<◌, Contains};
 ghost use Rattle.markdown.specs.Virtual.{IsWithinLimit, point};
-ghost use Rattle.markdown.specs.Places.{denotes_same, stands_before};
 ghost use Rattle.markdown.specs.Configuration.{start_seen};
 ghost use Rattle.markdown.specs.Engine.{given_of};
 ghost use Rattle.markdown.specs.Ranges.{FollowOn, IsGapFrom, LeadsFrom, after_any};

@@ -1,7 +1,7 @@
 //! The machines, over ranges and gaps.
 
 ghost use Rattle.markdown.specs.Virtual.{IsWithinLimit};
-ghost use Rattle.std.specs.Prelude.{◌+◌, ◌*◌, ◌^◌, ◌<◌, length, Contains};
+ghost use Rattle.std.specs.Prelude.{◌+◌, ◌*◌, ◌<◌, Contains};
 ghost use Rattle.mdtests.specs.Documents.{given_in_tabs};
 
 use crate::pushed::{after_push, lines, read_ranges, told};

@@ -1,7 +1,7 @@
 //! The machines, over documents that are cut.
 
 ghost use Rattle.markdown.specs.Virtual.{IsWithinLimit};
-ghost use Rattle.std.specs.Prelude.{◌+◌, ◌*◌, ◌^◌, ◌≤◌, ◌<◌, length, Contains};
+ghost use Rattle.std.specs.Prelude.{◌+◌, ◌≤◌, ◌<◌, Contains};
 ghost use Rattle.mdtests.specs.Documents.{given_in_tabs};
 
 use crate::pushed::{Pushed, Seen, after_push, read_cut, told};

@@ -1,7 +1,7 @@
 //! A machine that runs out of memory at a call: what is returned at every depth, and what is left afterwards.
 
 ghost use Rattle.markdown.specs.Virtual.{IsWithinLimit};
-ghost use Rattle.std.specs.Prelude.{◌+◌, ◌*◌, ◌^◌, ◌<◌, length, IfOk};
+ghost use Rattle.std.specs.Prelude.{◌+◌, ◌<◌, IfOk};
 ghost use Rattle.mdconstructs.specs.RowInvariant.{DoesAll, IsCallable, step_in};
 ghost use Rattle.mdconstructs.specs.Tables.{line_byte};
 ghost use Rattle.mdtests.specs.Starved.{text_start};

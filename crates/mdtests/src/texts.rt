@@ -1,7 +1,7 @@
 //! Texts: code spans, autolinks and escapes, with expected events worked by hand.
 
 ghost use Rattle.markdown.specs.Virtual.{IsWithinLimit};
-ghost use Rattle.std.specs.Prelude.{◌+◌, ◌*◌, ◌^◌, ◌<◌, length};
+ghost use Rattle.std.specs.Prelude.{◌+◌, ◌*◌, ◌<◌};
 
 use crate::shown::{assert_shown, shown};
 use markdown::configuration::ParseOptions;

@@ -1,6 +1,6 @@
 //! Calls that take memory succeed if there is memory.
 
-ghost use Rattle.std.specs.Prelude.{◌+◌, ◌*◌, ◌^◌, ◌<◌, length};
+ghost use Rattle.std.specs.Prelude.{◌+◌, ◌<◌};
 
 use crate::shown::push_events;
 use markdown::configuration::ParseOptions;

@@ -1,4 +1,4 @@
--- Going over the text to see whether two places denote the same: the bytes so far are before both or before neither.
+-- A walk over the text decides whether two places denote the same: the bytes so far are before both or before neither.
 use Rattle.std.proofs.Common.{◌≡◌, ℕ, ◌<◌, List, [], ◌∷◌, ◌++◌, Bool, true, false, refl, sym, ap, ◌∙◌, subst}
 use Rattle.std.specs.List.{AllByRecursion}
 use Rattle.std.proofs.lemmas.List.{append-nil}

@@ -47,7 +47,7 @@ impl<'a, M: MachineTypes> Tokenizer<'a, M> {
         Ok(())
     }
 
-    /// A flush begins to resolve: the registered resolvers are taken out.
+    /// Begins to resolve: takes out the registered resolvers.
     fn begin_resolving(&mut self) -> Vec<M::Resolver>
         requires closed { self.old.closed ≡ true }
         ensures names { result.items ≡ self.old.configuration.local.resolvers }
@@ -69,7 +69,7 @@ impl<'a, M: MachineTypes> Tokenizer<'a, M> {
         self.map.consume(&mut self.events)
     }
 
-    /// A flush has resolved.
+    /// Notes that a flush has resolved.
     fn end_resolving(&mut self)
         requires closed { self.old.closed ≡ true }
         ensures { self.new ≡ record self.old { phase = Resolved } }
@@ -130,7 +130,8 @@ impl<'a, M: Machine> Tokenizer<'a, M> {
         Ok(found)
     }
 
-    /// A flush resolves: the registered resolvers go over the events, in order, and the edits that wait are made.
+    /// Resolves, for a flush: runs the registered resolvers over the events, in order, and makes the edits that wait.
+    /// Returns the definitions found, `Message` if a resolver ends in one, or `Memory` if it runs out of memory.
     pub(crate) fn resolve_all(&mut self, sub: Subresult) -> Result<Subresult, Fault>
         requires text { IsText self.old.given self.old.text }
         requires closed { self.old.closed ≡ true }

@@ -11,8 +11,6 @@ use Rattle.markdown_base.specs.declared.event.Name.{Name as EventName}
 use Rattle.markdown_base.specs.declared.state.Name.{Name}
 use Rattle.markdown_base.specs.declared.state.State.{State}
 use Rattle.markdown_base.specs.declared.state.State.TheVariants.{Next, Retry, Ok, Nok, Error}
-use Rattle.markdown_tokenizer.specs.declared.waiting.Waits.{Waits}
-use Rattle.markdown_tokenizer.specs.declared.waiting.Waits.TheVariants.{Nothing, Byte, End}
 use Rattle.markdown_tokenizer.specs.declared.waiting.AttemptKind.{AttemptKind}
 use Rattle.markdown_tokenizer.specs.declared.waiting.AttemptKind.TheVariants.{Attempt, Check}
 use Rattle.markdown_tokenizer.specs.Text.{Given, Text, IsText}
@@ -23,7 +21,7 @@ use Rattle.markdown_tokenizer.specs.Reading.{fed, unfed, restored, settled_at}
 use Rattle.markdown_tokenizer.specs.Lawful.{IsAsFar, CostPays}
 use Rattle.mdconstructs_tables.specs.Rows.{Act, enters, exit, consume, links, write, choose, Rows, row, when, Row, Calls, StateRows, Table, past, class_of, choice_made_at, done, chooses, picked, named, table_step}
 use Rattle.mdconstructs_tables.specs.RowTest.{is_void_last, saves, Stage, end_waits, byte_waits, byte_read, Shape, Frame, may_go_on, fits_choice, fits_answer, fits_calls, is_some, first_stage, plus, larger, at_stage, calls_le, calls_or, fed_calls, next_calls, choice_calls, chosen_calls, answer_calls, calls_at, is_counted, counts_answer, counts_choice, counts_choices, pays_row, feeds, all_rows, is_called_at, is_called}
-use Rattle.mdconstructs_tables.specs.RowInvariant.{outline, IsSaved, price_by, at_most, IsStateAt, next_price, retry_price, state_price, choice_price, chosen_price, answer_price, row_price, AreWithin, Stands, is_read, IsFed, behind, class_at, PaysRows, ArePaid, table_holds, table_cost, reserve_of, table_rules, upto, exit_place_at}
+use Rattle.mdconstructs_tables.specs.RowInvariant.{outline, IsSaved, price_by, at_most, IsStateAt, next_price, retry_price, state_price, choice_price, chosen_price, answer_price, row_price, AreWithin, Stands, is_read, behind, class_at, PaysRows, ArePaid, table_holds, table_cost, reserve_of, table_rules, upto, exit_place_at}
 use Rattle.mdconstructs_tables.specs.RowTest.{fresh_fed}
 use Rattle.mdconstructs_tables.specs.Late.{falls_on, CanGoBack}
 use Rattle.mdconstructs_tables.proofs.Rows.Misfits.{named-same}

@@ -1,6 +1,6 @@
 -- The invariant of a table: if it holds before a call, it holds at the state returned, once that is fed, when a choice ends, and when the
 -- text goes on.
-use Rattle.std.proofs.Common.{◌≡◌, ◌≢◌, ℕ, zero, suc, ◌<◌, ◌≤◌, ◌&&◌, ◌||◌, not, List, [], ◌∷◌, ◌++◌, Bool, true, false, Option, Some, None, length, map, refl, sym, ap, ◌∙◌, subst, arith, ◌⊎◌, inl, inr, take, drop}
+use Rattle.std.proofs.Common.{◌≡◌, ◌≢◌, ℕ, zero, suc, ◌≤◌, ◌&&◌, ◌||◌, not, List, [], ◌∷◌, ◌++◌, Bool, true, false, Option, Some, None, length, map, refl, sym, ap, ◌∙◌, subst, arith, ◌⊎◌, inl, inr, take, drop}
 use Rattle.std.specs.Prelude.{All, IfSome, nat_lt}
 use Rattle.std.specs.List.{last_or}
 use Rattle.std.proofs.lemmas.Bool.{ltb-true, ltb-false, and_parts, not-true}

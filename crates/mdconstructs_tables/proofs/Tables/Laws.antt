@@ -1,5 +1,5 @@
 -- The laws of a machine whose table passes the test.
-use Rattle.std.proofs.Common.{◌≡◌, ◌≢◌, ℕ, ◌<◌, ◌≤◌, not, List, [], ◌++◌, Bool, true, false, cond, Option, Some, None, length, map, refl, sym, ap, ◌∙◌, subst, arith, ◌⊎◌, inl, inr, take, length-append}
+use Rattle.std.proofs.Common.{◌≡◌, ◌≢◌, ◌≤◌, List, [], ◌++◌, Bool, true, false, cond, Option, Some, None, length, map, refl, sym, ap, ◌∙◌, subst, arith, ◌⊎◌, inl, inr, take, length-append}
 use Rattle.std.specs.Prelude.{All, IfSome, Contains, nat_lt}
 use Rattle.std.specs.List.{flat_map}
 use Rattle.std.proofs.Math.Seq.{take-append_seam}
@@ -17,13 +17,13 @@ use Rattle.markdown_tokenizer.specs.Configuration.{Configuration, Choice, Step}
 use Rattle.markdown_tokenizer.specs.Sight.{Sight, sight}
 use Rattle.markdown_tokenizer.specs.Calls.{consumed, with_local}
 use Rattle.markdown_tokenizer.specs.Lawful.{IsAsFar, ConsumesOnce, OnlyAdds, EndsWhenRead, KeepsInvariant}
-use Rattle.mdconstructs_tables.specs.Rows.{Rows, row, when, Row, StateRows, Table, no_cost, with_choice_of, chooses, picked, step_of, row_at, named, step_at, table_step}
-use Rattle.mdconstructs_tables.specs.Fitting.{IsFitBy, every}
+use Rattle.mdconstructs_tables.specs.Rows.{Rows, row, when, Row, StateRows, Table, with_choice_of, chooses, picked, step_of, row_at, named, step_at, table_step}
+use Rattle.mdconstructs_tables.specs.Fitting.{IsFitBy}
 use Rattle.mdconstructs_tables.specs.Misfits.{named_misfit, named_start}
-use Rattle.mdconstructs_tables.specs.RowTest.{saves, allows_all, is_called_at, is_called, fits_choices, fits_row, fits_calls, start_shape, first_stage, all_rows, may_start}
+use Rattle.mdconstructs_tables.specs.RowTest.{saves, allows_all, is_called_at, is_called, fits_choices, fits_row, fits_calls, start_shape, all_rows, may_start}
 use Rattle.mdconstructs_tables.specs.RowInvariant.{outline, SightIsInOrder, IsFed, class_in, began_at, IsStateAt, HoldsAt, table_holds, table_rules}
 use Rattle.mdconstructs_tables.proofs.Rows.Misfits.{none-left, none-made, named-none, fits-unnamed, starts-unnamed}
-use Rattle.mdconstructs_tables.proofs.Rows.Laws.{Waited, below_all, has-after-all, chooses-append, adds-all}
+use Rattle.mdconstructs_tables.proofs.Rows.Laws.{below_all, has-after-all, chooses-append, adds-all}
 use Rattle.mdconstructs_tables.proofs.GrowingTexts.{fed-position, extends}
 use Rattle.mdconstructs_tables.proofs.Tables.Waiting.{all-front, waits-after-all}
 use Rattle.mdconstructs_tables.proofs.Tables.Holding.{of_class, before_class, met-at, read-before, waits-at, begins, ahead-at, start-sight, row_of, left_by, chosen_by, shape_of, IsCall, once, inside-at, answered, longer, fed-at, starts-at, well, badly, inside-after, KeepsStack, keeps-all}

@@ -7,7 +7,7 @@ use Rattle.markdown_tokenizer.specs.Ranges.{IsRangeFrom, FollowOn, after_any}
 use Rattle.markdown_tokenizer.proofs.Positions.Cursors.{same-back, same-same}
 use Rattle.markdown_tokenizer.proofs.ranges.+follow_on.Goals as goal
 
--- the points of a range are those of its places
+-- the points of a range are the points of its places
 module _ (t : ℕ) (bytes : List ℕ) (p : Point) (from to : ℕ × ℕ) (first last : Point) (from_is : point_at t bytes from ≡ Some first) (to_is : point_at t bytes to ≡ Some last) (r : IsRangeFrom t bytes p from to) where
   first-is : r.first ≡ first
   first-is = ap (λ (o : Option Point). unwrap_or o first) (sym r.from_is ∙ from_is)

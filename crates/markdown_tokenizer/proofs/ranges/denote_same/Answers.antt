@@ -8,7 +8,7 @@ use Rattle.markdown_tokenizer.proofs.Positions.SameSoFar.{IsAlikeSoFar, alike-pl
 use Rattle.markdown_tokenizer.proofs.Positions.Walks.{walk-shorter}
 use Rattle.markdown_tokenizer.proofs.ranges.denote_same.Goals as goal
 
--- what the test of two answers says
+-- what the test of two results means
 same : (a b x y : Bool) → not (beq a b) ≡ false → a ≡ x → b ≡ y → x ≡ y
 same true true x y h e f = sym e ∙ f
 same false false x y h e f = sym e ∙ f

@@ -5,7 +5,7 @@ use Rattle.markdown_base.specs.Places.{is_upto}
 use Rattle.markdown_tokenizer.proofs.Positions.Cursors.{upto-order}
 use Rattle.markdown_tokenizer.proofs.ranges.is_up_to.Goals as goal
 
--- of two places that are one before the other, only one is
+-- two places are not each before the other
 not-both : (i j m n : ℕ) → (nat_lt i m || ((i == m) && nat_lt j n)) ≡ true → (nat_lt m i || ((m == i) && nat_lt n j)) ≡ false
 not-both i j m n h = grind (arith, nat_tests)
 

@@ -1,5 +1,5 @@
 use Rattle.markdown.specs.Virtual.{IsWithinLimit}
-use Rattle.std.proofs.Common.{◌+◌, ◌*◌, ◌^◌, ◌<◌, length, sym, subst}
+use Rattle.std.proofs.Common.{sym, subst}
 use Rattle.markdown.specs.declared.configuration.ParseOptions.{ParseOptions}
 use Rattle.mdtests.proofs.machines.lines_by.Goals as goal
 

@@ -1,5 +1,5 @@
 use Rattle.markdown.specs.Virtual.{IsWithinLimit}
-use Rattle.std.proofs.Common.{ℕ, List, [], ◌∷◌, ◌+◌, ◌*◌, ◌^◌, ◌<◌, ◌≤◌, length, refl, sym, subst, arith}
+use Rattle.std.proofs.Common.{ℕ, List, [], ◌∷◌, ◌+◌, ◌*◌, ◌^◌, ◌<◌, ◌≤◌, refl, sym, subst, arith}
 use Rattle.markdown.specs.Places.{IsPointOf}
 use Rattle.markdown.specs.Virtual.{point}
 use Rattle.mdtests.proofs.places.behind_the_tab.Goals as goal

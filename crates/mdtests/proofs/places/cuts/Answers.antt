@@ -1,5 +1,5 @@
 use Rattle.markdown.specs.Virtual.{IsWithinLimit}
-use Rattle.std.proofs.Common.{◌+◌, ◌*◌, ◌^◌, ◌<◌, ℕ, length, sym, subst}
+use Rattle.std.proofs.Common.{ℕ, sym, subst}
 use Rattle.mdtests.proofs.places.cuts.Goals as goal
 
 pub cuts_every-requires : goal.cuts_every-requires
