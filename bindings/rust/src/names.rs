@@ -8,7 +8,7 @@ use std::fmt;
 pub enum Machine {
     /// `lines`: each line is a paragraph of data.
     Lines = 0,
-    /// `paragraphs`: lines that follow one another are a paragraph, in which each line is a chunk of text, linked to the one before.
+    /// `paragraphs`: adjacent lines are a paragraph. Each line is a chunk of text, linked to the chunk before.
     Paragraphs = 1,
     /// `peek`: looks at the whole text first, and then reads each line as data.
     Peek = 2,
@@ -160,7 +160,7 @@ pub enum Name {
     GfmFootnoteCallMarker = 58,
     /// Footnote definition, with all its lines, in GFM.
     GfmFootnoteDefinition = 59,
-    /// What stands before the content of a footnote definition: its label, `:` and whitespace.
+    /// What comes before the content of a footnote definition: its label, `:` and whitespace.
     GfmFootnoteDefinitionPrefix = 60,
     /// Label of a footnote definition, with its brackets.
     GfmFootnoteDefinitionLabel = 61,
