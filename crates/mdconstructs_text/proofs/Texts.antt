@@ -1,4 +1,5 @@
 -- Whole texts, item by item.
+pub mod Accounts
 pub mod AddsItems
 pub mod Cutting
 pub mod Ends

@@ -3,15 +3,16 @@
 ghost use Rattle.std.specs.Prelude.{◌+◌, ◌*◌, [], ◌∷◌, List, Some};
 ghost use Rattle.markdown_base.specs.declared.event.Event.{Event};
 ghost use Rattle.markdown_base.specs.declared.state.TheConstants.Name.{FlowStart, TextStart};
-ghost use Rattle.markdown_tokenizer.specs.Text.{Given, IsDocument};
+ghost use Rattle.markdown_tokenizer.specs.Text.{Given, Text, IsDocument};
 ghost use Rattle.markdown_children.specs.Ready.{IsReady};
 ghost use Rattle.mdconstructs_tables.specs.Refusals.{RulesRefuseNothing};
 ghost use Rattle.mdconstructs_machines.specs.Costs.{StartsAmong};
-ghost use Rattle.mdconstructs_machines.specs.Innermost.{AccountsForDocuments};
+ghost use Rattle.mdconstructs_machines.specs.Innermost.{AccountFor, AccountsForDocuments};
 ghost use Rattle.mdconstructs_machines.specs.ParagraphEvents.{paragraph_events};
 ghost use Rattle.mdconstructs_machines.specs.Paragraphs.{paragraphs_rules};
 ghost use Rattle.mdconstructs_machines.specs.ReadAs.{IsReadAs};
 ghost use Rattle.mdconstructs_text.specs.ChainTexts.{AreReadAsData, AreReadAsTexts, HasReadableChains};
+ghost use Rattle.mdconstructs_text.specs.TextEvents.{text_events};
 ghost use Rattle.mdconstructs_text.specs.TextRules.{text_rules};
 
 use markdown_tokenizer::event::Content;
@@ -52,6 +53,11 @@ pub fn documents_are_read_by_blocks()
 pub fn innermost_spans_account_for_blocks()
     ensures paragraphs { AccountsForDocuments paragraphs_rules FlowStart }
     ensures text { AccountsForDocuments text_rules FlowStart }
+{}
+
+/// Each virtual byte of a text is in exactly one innermost span of its events.
+pub fn innermost_spans_account_for_texts()
+    ensures { (g : Given) (text : Text) → AccountFor (text_events g text) g.bytes text.seats }
 {}
 
 /// The events that `Paragraphs` or `Text` makes of a document, from the start of paragraphs, have chains of text that can be
