@@ -17,5 +17,5 @@ walked-start-requires-clause-start c =
 pub width_at-width-requires-clause-first : goal.width_at-width-requires-clause-first
 width_at-width-requires-clause-first c =
     let s = c.args.self.now in
-    let r = reached-at s.tab_size c.requires.some s.bytes.now c.args.point.index c.if-point-self.false in
+    let r = reached-at s.tab_size c.requires.some s.bytes.now c.args.point.index (omega (arith, c.if-point-self.false)) in
     omega (arith, r.first, ap (λ (b : ByteStart). b.column) c.walked-start.ensures)
