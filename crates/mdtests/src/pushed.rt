@@ -4,7 +4,7 @@ ghost use Rattle.std.specs.Prelude.{◌≡◌, ◌*◌, ◌<◌, Contains};
 ghost use Rattle.markdown.specs.Virtual.{IsWithinLimit, point};
 ghost use Rattle.markdown.specs.Configuration.{start_seen};
 ghost use Rattle.markdown.specs.Engine.{given_of};
-ghost use Rattle.markdown.specs.Ranges.{FollowOn};
+ghost use Rattle.markdown.specs.Ranges.{FollowOn, IsGapFrom, LeadsFrom, after_any};
 ghost use Rattle.markdown.specs.Text.{IsDocument, empty_text};
 ghost use Rattle.mdtests.specs.Documents.{given_in_tabs, options_in_tabs};
 

@@ -415,6 +415,9 @@ module _ {M R D : Type 0} {same : R → R → Bool} (t : Inside M R D) (sound : 
     pub entered-at : here ≡ (sight (seen t).given (seen t).text (seen t).configuration).enter_place
     entered-at = is ∙ here-is t sound
 
+pub take-pushed : (xs : List Name) (x : Name) (n : ℕ) → n ≡ length xs → take n (xs ++ x ∷ []) ≡ xs
+take-pushed xs x n e = rw e (take-append-le (length xs) xs (x ∷ []) (omega arith) ∙ take_all (length xs) xs (omega arith))
+
 module _ (position : Point → ℕ) (stack : List Name) (P : Progress → Type 0) where
   abbrev IsAbove : Choice → Type 0
   IsAbove c = IfSome c.saved (λ s. length s.stack < length stack)

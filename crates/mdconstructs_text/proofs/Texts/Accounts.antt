@@ -1,8 +1,9 @@
 -- The events of a text account for each of its virtual bytes.
-use Rattle.std.proofs.Common.{◌≡◌, ℕ, zero, suc, ◌+◌, ◌-◌, ◌<◌, ◌≤◌, ◌∷◌, ◌++◌, [], List, refl, sym, ◌∙◌, ap, subst, arith, length, take, drop}
+use Rattle.std.proofs.Common.{◌≡◌, ℕ, zero, suc, ◌+◌, ◌-◌, ◌<◌, ◌≤◌, ◌∷◌, ◌++◌, [], List, Bool, refl, sym, ◌∙◌, ap, subst, arith, length, take, drop}
 use Rattle.std.specs.Prelude.{map}
 use Rattle.std.specs.List.{flat_map, between}
 use Rattle.std.proofs.lemmas.List.{append_assoc, append-nil, drop-drop, take-append-drop}
+use Rattle.markdown_base.specs.declared.configuration.Constructs.{Constructs}
 use Rattle.markdown_base.specs.declared.event.Event.{Event}
 use Rattle.markdown_base.specs.declared.event.Kind.TheVariants.{Enter, Exit}
 use Rattle.markdown_base.specs.declared.event.Name.{Name}
@@ -13,7 +14,7 @@ use Rattle.mdconstructs_machines.specs.Innermost.{AccountFor}
 use Rattle.mdconstructs_machines.specs.Spans.{event, span, leaf}
 use Rattle.mdconstructs_machines.proofs.Innermost.{enter-more, exit-more, leaf-more}
 use Rattle.mdconstructs_text.specs.Items.{Part, line_ending, plain_run, Item, code_span, autolink, escape, part, part_length, item_length, is_backtick_or_line_feed, part_at, item_at}
-use Rattle.mdconstructs_text.specs.TextEvents.{bytes_of, cut, items, pieces, part_events, item_events, text_events}
+use Rattle.mdconstructs_text.specs.TextEvents.{bytes_of, cut, items, pieces, part_events, item_events, seat_events, text_events}
 use Rattle.mdconstructs_text.proofs.Texts.Cutting.{drop-less}
 use Rattle.mdconstructs_text.proofs.Texts.Positive.{items-positive}
 use Rattle.mdconstructs_text.proofs.CodeSpans.FoundParts.{piece-positive}
