@@ -1,3 +1,4 @@
 pub mod Documents
+pub mod Found
 pub mod Starved
 pub mod StarvedLaws

@@ -1,10 +1,21 @@
 //! Resolvers run over the events once all was read.
 
+ghost use Rattle.std.specs.Prelude.{◌≡◌, OnOk};
+ghost use Rattle.markdown.specs.Virtual.{point};
+ghost use Rattle.markdown.specs.Configuration.{at_configuration, start_seen};
+ghost use Rattle.markdown.specs.Engine.{given_of};
+ghost use Rattle.markdown.specs.Text.{IsDocument, empty_text};
+ghost use Rattle.mdtests.specs.Found.{with_definition};
+
 use crate::driven::read;
-use crate::shown::assert_shown;
+use crate::shown::{assert_shown, owned, push_answer};
 use markdown::configuration::ParseOptions;
+use markdown::event::Point;
+use markdown::owned::OwnedText;
 use markdown::parser::ParseState;
-use markdown::state::Name;
+use markdown::state::{Name, State};
+use markdown::subtokenize::Subresult;
+use markdown::tokenizer::{Fault, Tokenizer};
 use mdconstructs::Wrap;
 use mdconstructs::wrap::Resolver;
 use std::alloc::{AllocError, Global};
@@ -81,4 +92,51 @@ fn resolvers_go_over_what_was_read(rt: HostRuntime) -> Result<(), AllocError> {
         assert_shown(&rt, read, want)?;
     }
     Ok(())
+}
+
+/// Appends a definition to those that states found.
+fn find<'a>(tokenizer: &mut Tokenizer<'a, Wrap>, label: OwnedText) -> Result<(), AllocError>
+    ensures { OnOk result (tokenizer.new ≡ at_configuration tokenizer.old (with_definition tokenizer.old.configuration label)) }
+{
+    tokenizer.tokenize_state.definitions.push(label)
+}
+
+/// Reads the document with a tokenizer that has read nothing; then a definition is found, and resolvers run.
+fn flush_found<'a>(
+    tokenizer: &mut Tokenizer<'a, Wrap>,
+    parse_state: &ParseState<'a, Wrap>,
+    label: OwnedText,
+) -> Result<Subresult, Fault>
+    requires begins { tokenizer.old ≡ start_seen (given_of parse_state.now) parse_state.now.machine.now (empty_text (point 1 1 0 0)) }
+    requires document { IsDocument (given_of parse_state.now) }
+{
+    let end = (parse_state.bytes.len(), 0);
+    let state = tokenizer.push((0, 0), end, State::Next(Name::TextStart))?;
+    find(tokenizer, label)?;
+    tokenizer.flush(state, true)
+}
+
+/// Reads `a`, finds the definition `x`, and shows what the flush returns.
+fn read_found(alloc: Global) -> Result<String, AllocError> {
+    let options = ParseOptions::default();
+    let machine = Wrap { refuse: false };
+    let parse_state = ParseState {
+        bytes: b"a",
+        options: &options,
+        machine: &machine,
+    };
+    let label = owned(alloc, "x")?;
+    let mut tokenizer = Tokenizer::new(alloc, Point::START, &parse_state);
+    let flushed = flush_found(&mut tokenizer, &parse_state, label);
+    drop(tokenizer);
+    let mut text = String::new(alloc);
+    push_answer(&mut text, &flushed)?;
+    Ok(text)
+}
+
+/// Definitions that states found come first, also if the first resolver finds nothing.
+#[test]
+fn definitions_of_states_come_first(rt: HostRuntime) -> Result<(), AllocError> {
+    let read = read_found(rt.alloc());
+    assert_shown(&rt, read, "done: false, notes: 0, definitions: x A\n")
 }
