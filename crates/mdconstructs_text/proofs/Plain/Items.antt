@@ -1,5 +1,5 @@
 -- Plain data as an item: if no construct is there, data is read with its events.
-use Rattle.std.proofs.Common.{◌≡◌, ℕ, ◌+◌, ◌∷◌, ◌++◌, [], List, Bool, true, false, cond, refl, sym, ◌∙◌, ap, subst, Option, Some, None, length, take, drop, slice_get, option_map, ◌-◌, ◌==◌, ◌&&◌, ◌||◌}
+use Rattle.std.proofs.Common.{◌≡◌, ℕ, ◌+◌, ◌∷◌, ◌++◌, [], List, Bool, true, false, cond, refl, sym, ◌∙◌, ap, subst, Option, Some, None, length, take, drop, slice_get, option_map, ◌==◌, ◌&&◌, ◌||◌}
 use Rattle.std.specs.Char.{is_ascii_punctuation}
 use Rattle.std.proofs.lemmas.Option.{slice_get_within}
 use Rattle.markdown_base.specs.declared.configuration.Constructs.{Constructs}

@@ -1,5 +1,5 @@
 -- Each item is at least a byte.
-use Rattle.std.proofs.Common.{ℕ, ◌+◌, ◌-◌, ◌<◌, ◌∷◌, List, Bool, true, false, cond, ◌&&◌, ◌==◌, Option, Some, None, arith, max, drop, option_map, slice_get}
+use Rattle.std.proofs.Common.{ℕ, ◌+◌, ◌<◌, ◌∷◌, List, Bool, true, false, cond, ◌&&◌, ◌==◌, Option, Some, None, arith, max, drop, option_map, slice_get}
 use Rattle.std.specs.List.{prefix_len, position_or_len}
 use Rattle.std.specs.Char.{is_ascii_punctuation}
 use Rattle.markdown_base.specs.declared.configuration.Constructs.{Constructs}
