@@ -23,7 +23,7 @@ joined-all : (s : Seat) (lines : List (List Seat)) → all_of (joined s lines) �
 joined-all s [] = refl
 joined-all s (line ∷ lines) = refl
 
-lines-are-all : (l : List Seat) → all_of (lines_in l) ≡ l
+pub lines-are-all : (l : List Seat) → all_of (lines_in l) ≡ l
 lines-are-all [] = refl
 lines-are-all (s ∷ ss) =
     let then = lines-are-all ss in
@@ -33,7 +33,7 @@ lines-are-all (s ∷ ss) =
     ]
 
 -- what stands in a block
-abbrev block_bytes : Block → List Seat
+abbrev pub block_bytes : Block → List Seat
 block_bytes (blank line) = line
 block_bytes (paragraph lines) = all_of lines
 
@@ -43,7 +43,7 @@ continued-all line [] = append-nil (line ++ []) ∙ refl
 continued-all line (blank other ∷ blocks) = ap (λ l. l ++ flat_map block_bytes (blank other ∷ blocks)) (append-nil line)
 continued-all line (paragraph lines ∷ blocks) = append_assoc line (all_of lines) (flat_map block_bytes blocks)
 
-blocks-are-all : (lines : List (List Seat)) → flat_map block_bytes (blocks_of lines) ≡ all_of lines
+pub blocks-are-all : (lines : List (List Seat)) → flat_map block_bytes (blocks_of lines) ≡ all_of lines
 blocks-are-all [] = refl
 blocks-are-all (line ∷ lines) =
     let then = blocks-are-all lines in
@@ -53,13 +53,13 @@ blocks-are-all (line ∷ lines) =
     ]
 
 -- a line is its quote mark and its chunk
-line-is : (line : List Seat) → mark_of line ++ chunk_of line ≡ line
+pub line-is : (line : List Seat) → mark_of line ++ chunk_of line ≡ line
 line-is [] = refl
 line-is (s ∷ ss) = elim (s.byte == 62) as (λ b. cond b (s ∷ []) [] ++ cond b ss (s ∷ ss) ≡ s ∷ ss) [ true ↦ refl | false ↦ refl ]
 
 module _ (bytes : List ℕ) (all : List Marked) where
   -- marked events, with their chunks linked among all
-  abbrev linked : List Marked → List Event
+  abbrev pub linked : List Marked → List Event
   linked marks = map (as_linked all) marks
 
   -- a link changes neither kind nor place

@@ -18,7 +18,7 @@ use Rattle.mdconstructs_machines.proofs.Innermost.{enter-more, exit-more, leaf-m
 use Rattle.mdconstructs_machines.proofs.LineReads.Lines.{lines-read}
 
 -- the virtual bytes of a line before its ending, and its ending
-abbrev both : List Seat → List Seat
+abbrev pub both : List Seat → List Seat
 both line = line_text line ++ ending_of line
 
 joined-both : (s : Seat) (lines : List (List Seat)) → is_line_ending s ≡ false → flat_map both (joined s lines) ≡ s ∷ flat_map both lines
@@ -26,7 +26,7 @@ joined-both s [] e = ap (λ b. (cond (not b) (s ∷ []) [] ++ cond b (s ∷ []) 
 joined-both s (line ∷ lines) e = ap (λ b. (cond (not b) (s ∷ line_text line) (line_text line) ++ cond b (s ∷ ending_of line) (ending_of line)) ++ flat_map both lines) e
 
 -- the lines are all there is
-lines-are-all : (l : List Seat) → flat_map both (lines_in l) ≡ l
+pub lines-are-all : (l : List Seat) → flat_map both (lines_in l) ≡ l
 lines-are-all [] = refl
 lines-are-all (s ∷ ss) = elim (is_line_ending s) as (λ t. is_line_ending s ≡ t → flat_map both (cond t ((s ∷ []) ∷ lines_in ss) (joined s (lines_in ss))) ≡ s ∷ ss) [
   | true ↦ λ e. ap (λ b. (cond (not b) (s ∷ []) [] ++ cond b (s ∷ []) []) ++ flat_map both (lines_in ss)) e ∙ ap (λ l. s ∷ l) (lines-are-all ss)
