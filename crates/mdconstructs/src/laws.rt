@@ -10,5 +10,6 @@ pub use mdconstructs_tables::laws::{
 pub use mdconstructs_text::laws::{
     chains_are_read_as_data, chains_are_read_as_texts, chains_of_paragraphs_can_be_read,
     cost_at_the_start, documents_are_read_by_blocks, innermost_spans_account_for_blocks,
-    innermost_spans_account_for_texts, no_document_is_refused as text_refuses_no_document,
+    innermost_spans_account_for_children, innermost_spans_account_for_texts,
+    no_document_is_refused as text_refuses_no_document,
 };

@@ -2,6 +2,7 @@ pub mod Examples
 pub mod NoRefusals
 pub mod Autolinks
 pub mod CodeSpans
+pub mod DeepSpans
 pub mod Escapes
 pub mod Plain
 pub mod Paragraphs

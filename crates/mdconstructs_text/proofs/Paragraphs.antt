@@ -3,6 +3,7 @@ pub mod Blocks
 pub mod ChainEvents
 pub mod ChunkPairs
 pub mod ChunksReady
+pub mod Formed
 pub mod Ready
 pub mod Steps
 pub mod DataEvents

@@ -1,5 +1,4 @@
 -- Whole texts, item by item.
-pub mod Accounts
 pub mod AddsItems
 pub mod Cutting
 pub mod Ends

@@ -3,6 +3,7 @@
 ghost use Rattle.std.specs.Prelude.{◌+◌, ◌*◌, [], ◌∷◌, List, Some};
 ghost use Rattle.markdown_base.specs.declared.event.Event.{Event};
 ghost use Rattle.markdown_base.specs.declared.state.TheConstants.Name.{FlowStart, TextStart};
+ghost use Rattle.markdown_base.specs.Virtual.{virtual};
 ghost use Rattle.markdown_tokenizer.specs.Text.{Given, Text, IsDocument};
 ghost use Rattle.markdown_children.specs.Ready.{IsReady};
 ghost use Rattle.mdconstructs_tables.specs.Refusals.{RulesRefuseNothing};
@@ -11,7 +12,7 @@ ghost use Rattle.mdconstructs_machines.specs.Innermost.{AccountFor, AccountsForD
 ghost use Rattle.mdconstructs_machines.specs.ParagraphEvents.{paragraph_events};
 ghost use Rattle.mdconstructs_machines.specs.Paragraphs.{paragraphs_rules};
 ghost use Rattle.mdconstructs_machines.specs.ReadAs.{IsReadAs};
-ghost use Rattle.mdconstructs_text.specs.ChainTexts.{AreReadAsData, AreReadAsTexts, HasReadableChains};
+ghost use Rattle.mdconstructs_text.specs.ChainTexts.{AreReadAsData, AreReadAsTexts, HasReadableChains, with_data, with_texts};
 ghost use Rattle.mdconstructs_text.specs.TextEvents.{text_events};
 ghost use Rattle.mdconstructs_text.specs.TextRules.{text_rules};
 
@@ -58,6 +59,13 @@ pub fn innermost_spans_account_for_blocks()
 /// Each virtual byte of a text is in exactly one innermost span of its events.
 pub fn innermost_spans_account_for_texts()
     ensures { (g : Given) (text : Text) → AccountFor (text_events g text) g.bytes text.seats }
+{}
+
+/// Each virtual byte of a document is in exactly one innermost span also after the chains of its paragraphs were read: as texts,
+/// or as data of each line.
+pub fn innermost_spans_account_for_children()
+    ensures texts { (g : Given) → IsDocument g → AccountFor (with_texts g (paragraph_events g.bytes (virtual g.tab g.bytes))) g.bytes (virtual g.tab g.bytes) }
+    ensures data { (g : Given) → IsDocument g → AccountFor (with_data g (paragraph_events g.bytes (virtual g.tab g.bytes))) g.bytes (virtual g.tab g.bytes) }
 {}
 
 /// The events that `Paragraphs` or `Text` makes of a document, from the start of paragraphs, have chains of text that can be

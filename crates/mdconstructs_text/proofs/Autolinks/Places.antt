@@ -30,7 +30,7 @@ AreJoined bytes [] p = Unit {0}
 AreJoined bytes (s ∷ ss) p = ((s.byte == 10) ≡ false → shown bytes s.end ≡ begin_or bytes ss p) × AreJoined bytes ss p
 
 -- a virtual byte that is no line ending does not end at the start of a line
-abbrev EndsInLine : Seat → Type 0
+abbrev pub EndsInLine : Seat → Type 0
 EndsInLine s = (s.byte == 10) ≡ false → 1 < s.end.column
 
 module _ (bytes : List ℕ) where
@@ -74,7 +74,7 @@ module _ (t : ℕ) (bytes : List ℕ) where
   end-column byte p false false e f h = rw (e, f) refl
 
   -- so it does not end at the start of a line
-  chain-in-line : (p : Point) (xs : List Seat) → IsChain t bytes p xs → AllByRecursion EndsInLine xs
+  pub chain-in-line : (p : Point) (xs : List Seat) → IsChain t bytes p xs → AllByRecursion EndsInLine xs
   chain-in-line p [] c = tt
   chain-in-line p (s ∷ ss) c = (
     (λ plain.
@@ -121,7 +121,7 @@ module _ (t : ℕ) (bytes : List ℕ) where
   -- the seats from a place on before another
   module _ (d : 0 < t) (a b : Point) (first : IsPlace t bytes a) (second : IsPlace t bytes b) (upto : is_upto t bytes a b ≡ true) where
     -- the seats before the second are those before the first, and these
-    before-grows : second.before ≡ first.before ++ left_of t bytes a b
+    pub before-grows : second.before ≡ first.before ++ left_of t bytes a b
     before-grows =
         let origin = point 1 1 0 0 in
         sym (before-is b second)

@@ -26,10 +26,10 @@ pairs-get : (R : Event → Event → Type 0) (es : List Event) (i j : ℕ) (e f 
 pairs-get R es i j e f h less at then =
     subst (λ x. R x f) (get_or_from_slice_get es i e e at) (subst (R _) (get_or_from_slice_get es j f e then) (h i j e less (slice_get_within es j f then)))
 
-between-none : (es : List Event) (i j : ℕ) → j ≡ i → between i j es ≡ []
+pub between-none : (es : List Event) (i j : ℕ) → j ≡ i → between i j es ≡ []
 between-none es i j same = let none : j - i ≡ 0 = omega (arith, same) in ap (λ n. take n (drop i es)) none
 
-between-two : (es : List Event) (i j : ℕ) (e f : Event) → j ≡ i + 2 → slice_get es i ≡ Some e → slice_get es (i + 1) ≡ Some f → between i j es ≡ e ∷ f ∷ []
+pub between-two : (es : List Event) (i j : ℕ) (e f : Event) → j ≡ i + 2 → slice_get es i ≡ Some e → slice_get es (i + 1) ≡ Some f → between i j es ≡ e ∷ f ∷ []
 between-two es i j e f two at then =
     let some : j - i ≡ 2 = omega (arith, two) in
     let one : suc i ≡ i + 1 = omega arith in

@@ -1,5 +1,7 @@
-use Rattle.mdconstructs_text.proofs.Texts.Accounts.{texts-account}
+use Rattle.mdconstructs_text.specs.TextEvents.{text_events}
+use Rattle.mdconstructs_text.proofs.DeepSpans.Atoms.{cut-accounts}
+use Rattle.mdconstructs_text.proofs.DeepSpans.TextCuts.{text-cut}
 use Rattle.mdconstructs_text.proofs.laws.innermost_spans_account_for_texts.Goals as goal
 
 pub returns : goal.returns
-returns c = texts-account
+returns c g text = cut-accounts g.bytes (text_events g text) text.seats (text-cut g text)

@@ -1,0 +1,37 @@
+-- The virtual bytes of the text of a chain are those of its chunks.
+use Rattle.std.proofs.Common.{◌≡◌, ℕ, ◌+◌, ◌∷◌, ◌++◌, [], List, Bool, true, false, cond, refl, sym, ◌∙◌, ap, append_assoc}
+use Rattle.std.specs.Prelude.{filter}
+use Rattle.std.specs.List.{flat_map}
+use Rattle.std.proofs.lemmas.List.{append-nil}
+use Rattle.markdown_base.specs.declared.event.Event.{Event}
+use Rattle.markdown_base.specs.declared.event.Point.{Point}
+use Rattle.markdown_base.specs.Places.{denotes_same, in_range}
+use Rattle.markdown_base.specs.Virtual.{Seat, virtual}
+use Rattle.markdown_children.specs.Ready.{place_at}
+use Rattle.markdown_children.specs.Reads.{pieces_behind, text_of_chain}
+use Rattle.markdown_tokenizer.specs.Text.{Given, Text, pushed, passed, empty_text, followed_by, followed_by_all}
+
+module _ (g : Given) (events : List Event) where
+  -- the virtual bytes of the chunk at an index
+  abbrev pub chunk_seats : ℕ → List Seat
+  chunk_seats k = filter (in_range (place_at events k) (place_at events (k + 1))) (virtual g.tab g.bytes)
+
+  -- a gap has none
+  gap-seats : (text : Text) (p : Point) → (followed_by g text (passed p)).seats ≡ text.seats
+  gap-seats text p = by (denotes_same g.tab g.bytes p text.end)
+    where
+      by : (b : Bool) → (cond b text (record text { end = p })).seats ≡ text.seats
+      by true = refl
+      by false = refl
+
+  behind-seats : (ks : List ℕ) (text : Text) → (followed_by_all g text (pieces_behind events ks)).seats ≡ text.seats ++ flat_map chunk_seats ks
+  behind-seats [] text = sym (append-nil text.seats)
+  behind-seats (k ∷ ks) text =
+      let gap = followed_by g text (passed (place_at events k)) in
+      let next = followed_by g gap (pushed (place_at events k) (place_at events (k + 1))) in
+      behind-seats ks next
+      ∙ ap (λ l. (l ++ chunk_seats k) ++ flat_map chunk_seats ks) (gap-seats text (place_at events k))
+      ∙ append_assoc text.seats (chunk_seats k) (flat_map chunk_seats ks)
+
+  pub chain-seats : (c : ℕ) (ks : List ℕ) → (text_of_chain g events (c ∷ ks)).seats ≡ flat_map chunk_seats (c ∷ ks)
+  chain-seats c ks = behind-seats ks (followed_by g (empty_text (place_at events c)) (pushed (place_at events c) (place_at events (c + 1))))

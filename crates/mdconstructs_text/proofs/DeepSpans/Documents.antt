@@ -1,0 +1,21 @@
+-- A document's blocks, with the children of their chains of text, account for each virtual byte.
+use Rattle.std.proofs.Common.{ℕ, List, ◌<◌, arith}
+use Rattle.markdown_base.specs.declared.event.Event.{Event}
+use Rattle.markdown_base.specs.Virtual.{virtual}
+use Rattle.markdown_tokenizer.specs.Text.{Given, IsDocument}
+use Rattle.mdconstructs_machines.specs.Innermost.{AccountFor}
+use Rattle.mdconstructs_machines.specs.ParagraphEvents.{paragraph_events}
+use Rattle.mdconstructs_machines.proofs.BlockReads.Accounts.{paragraphs-account}
+use Rattle.mdconstructs_text.specs.ChainTexts.{chain_text, with_read}
+use Rattle.mdconstructs_text.proofs.DeepSpans.Atoms.{IsCut}
+use Rattle.mdconstructs_text.proofs.DeepSpans.Whole.{with-read-accounts}
+use Rattle.mdconstructs_text.proofs.Paragraphs.Ready.{document-readable}
+
+pub children-account : (g : Given) → IsDocument g → let es = paragraph_events g.bytes (virtual g.tab g.bytes) in
+    (of_chain : ℕ → List Event) → ((c : ℕ) → IsCut g.bytes (of_chain c) (chain_text g es c).seats) → AccountFor (with_read g es of_chain) g.bytes (virtual g.tab g.bytes)
+children-account g document of_chain cuts =
+    let seats = virtual g.tab g.bytes in
+    let es = paragraph_events g.bytes seats in
+    let some : 0 < g.tab = (let tab = document.tab.0 in omega (arith, tab)) in
+    let readable = document-readable g document in
+    with-read-accounts g some es readable.1 (λ k d is. (readable.0.pairs k d is).follows) of_chain cuts (paragraphs-account g.bytes seats)

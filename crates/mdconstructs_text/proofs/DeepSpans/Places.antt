@@ -1,0 +1,104 @@
+-- Places of stretches of a document, one behind another.
+use Rattle.std.proofs.Common.{◌≡◌, ℕ, ◌<◌, ◌==◌, ◌∷◌, ◌++◌, [], List, Bool, true, false, refl, sym, ◌∙◌, ap, subst, arith, append_assoc}
+use Rattle.std.specs.Prelude.{filter, map}
+use Rattle.std.specs.List.{AllByRecursion}
+use Rattle.std.proofs.lemmas.List.{append_cancel_left, append_cancel_right}
+use Rattle.markdown_base.proofs.Common.{every-append}
+use Rattle.markdown_base.proofs.Seats.{end-after-append}
+use Rattle.markdown_base.specs.declared.event.Event.{Event}
+use Rattle.markdown_base.specs.declared.event.Kind.TheVariants.{Enter, Exit}
+use Rattle.markdown_base.specs.declared.event.Name.{Name}
+use Rattle.markdown_base.specs.declared.event.Point.{Point}
+use Rattle.markdown_base.specs.Places.{stands_before, shown, in_range}
+use Rattle.markdown_base.specs.Virtual.{Seat, point, virtual, end_after}
+use Rattle.markdown_tokenizer.proofs.Positions.Order.{before-upto, upto-before, every-front}
+use Rattle.markdown_tokenizer.proofs.Positions.Chains.{IsChain, whole-chain}
+use Rattle.markdown_tokenizer.proofs.Positions.Cursors.{upto-order, left_of}
+use Rattle.markdown_tokenizer.proofs.Positions.Standing.{chain-at, chain-split, chain-upto, place-after, rest-after}
+use Rattle.mdconstructs_machines.specs.Spans.{event}
+use Rattle.mdconstructs_text.proofs.Autolinks.Places.{EndsInLine, chain-in-line, before-grows, range-is}
+use Rattle.mdconstructs_text.proofs.DeepSpans.Fronts.{Upto}
+use Rattle.mdconstructs_text.proofs.DeepSpans.Atoms.{EndsLine, Atom, atom_seats, seats_of, all_enter, all_exit, atom_events, events_of}
+
+-- what a function gives of each name
+each-of : (P : Event → Type 0) (f : Name → Event) (names : List Name) → ((n : Name) → P (f n)) → AllByRecursion P (map f names)
+each-of P f [] h = tt
+each-of P f (n ∷ ns) h = (h n, each-of P f ns h)
+
+module _ (t : ℕ) (bytes : List ℕ) where
+  -- the place behind virtual bytes is shown at itself
+  pub place-shown : (p : Point) (xs ys : List Seat) → IsChain t bytes p (xs ++ ys) → shown bytes (end_after p xs) ≡ end_after p xs
+  place-shown p xs ys c = (chain-at t bytes (end_after p xs) ys (chain-split t bytes p xs ys c)).shown
+
+  -- the events of atoms are not behind their end
+  pub atoms-upto : (p : Point) (atoms : List Atom) (rest : List Seat) → IsChain t bytes p (seats_of atoms ++ rest) → AllByRecursion (Upto (end_after p (seats_of atoms))) (events_of bytes atoms)
+  atoms-upto p [] rest c = tt
+  atoms-upto p (a ∷ atoms) rest c =
+      let end = end_after p (seats_of (a ∷ atoms)) in
+      let q = end_after a.first.end a.others in
+      let whole : IsChain t bytes p (atom_seats a ++ (seats_of atoms ++ rest)) = subst (IsChain t bytes p) (append_assoc (atom_seats a) (seats_of atoms) rest) c in
+      let later : IsChain t bytes q (seats_of atoms ++ rest) = chain-split t bytes p (atom_seats a) (seats_of atoms ++ rest) whole in
+      let same : end ≡ end_after q (seats_of atoms) = end-after-append p (atom_seats a) (seats_of atoms) in
+      let enter : stands_before end (shown bytes a.first.point) ≡ false =
+      subst (λ r. stands_before end r ≡ false) (sym whole.1.shown_is) (chain-upto t bytes p (seats_of (a ∷ atoms)) rest c) in
+      let exit : stands_before end (shown bytes q) ≡ false =
+      subst (λ r. stands_before end r ≡ false) (sym (chain-at t bytes q (seats_of atoms ++ rest) later).shown)
+      (subst (λ r. stands_before r q ≡ false) (sym same) (chain-upto t bytes q (seats_of atoms) rest later)) in
+      let more : AllByRecursion (Upto end) (events_of bytes atoms) = subst (λ r. AllByRecursion (Upto r) (events_of bytes atoms)) (sym same) (atoms-upto q atoms rest later) in
+      every-append (Upto end) (atom_events bytes a) (events_of bytes atoms)
+      (every-append (Upto end) (all_enter bytes a.first.point a.enters) (event bytes Enter a.name a.first.point ∷ event bytes Exit a.name q ∷ all_exit bytes q a.exits)
+      (each-of (Upto end) (λ n. event bytes Enter n a.first.point) a.enters (λ n. enter))
+      (enter, (exit, each-of (Upto end) (λ n. event bytes Exit n q) a.exits (λ n. exit))))
+      more
+
+  -- a place is before that behind some virtual bytes more
+  pub place-before : (p : Point) (r : Seat) (rs ys : List Seat) → IsChain t bytes p ((r ∷ rs) ++ ys) → stands_before p (end_after r.end rs) ≡ true
+  place-before p r rs ys c =
+      let q = end_after r.end rs in
+      before-upto p.index p.vs r.end.index r.end.vs q.index q.vs (upto-before p.index p.vs r.point.index r.point.vs r.end.index r.end.vs c.1.later c.1.ends) (chain-upto t bytes r.end rs ys c.2)
+
+  -- if virtual bytes end at the beginning of a line, the last is a line ending
+  at-line : (s : Seat) → EndsInLine s → s.end.column ≡ 1 → (s.byte == 10) ≡ true
+  at-line s in_line column = by (s.byte == 10) refl
+    where
+      by : (b : Bool) → (s.byte == 10) ≡ b → (s.byte == 10) ≡ true
+      by true e = e
+      by false e = let more = in_line e in absurd (omega (arith, more, column))
+
+  ends-line : (s : Seat) (ss : List Seat) → AllByRecursion EndsInLine (s ∷ ss) → (end_after s.end ss).column ≡ 1 → EndsLine (s ∷ ss)
+  ends-line s [] h column = at-line s h.0 column
+  ends-line s (r ∷ rs) h column = ends-line r rs h.1 column
+
+  pub chain-ends-line : (p : Point) (s : Seat) (ss ys : List Seat) → IsChain t bytes p ((s ∷ ss) ++ ys) → (end_after s.end ss).column ≡ 1 → EndsLine (s ∷ ss)
+  chain-ends-line p s ss ys c column = ends-line s ss (every-front EndsInLine (s ∷ ss) ys (chain-in-line t bytes p ((s ∷ ss) ++ ys) c)) column
+
+  module _ (d : 0 < t) where
+    -- where the document begins
+    abbrev pub origin : Point
+    origin = point 1 1 0 0
+
+    -- the virtual bytes of a document from a place on
+    pub chain-from : (pre rest : List Seat) → virtual t bytes ≡ pre ++ rest → IsChain t bytes (end_after origin pre) rest
+    chain-from pre rest is = chain-split t bytes origin pre rest (subst (IsChain t bytes origin) is (whole-chain t bytes d))
+
+    -- what is before a place
+    is-before : (xs ys : List Seat) (is : virtual t bytes ≡ xs ++ ys) → (place-after t bytes d xs ys is).before ≡ xs
+    is-before xs ys is =
+        let place = place-after t bytes d xs ys is in
+        append_cancel_right place.before xs ys (ap (λ r. place.before ++ r) (sym (rest-after t bytes d xs ys is)) ∙ sym place.splits ∙ is)
+
+    -- what is between the places of a stretch is the stretch
+    pub range-of : (pre l rest : List Seat) → virtual t bytes ≡ pre ++ (l ++ rest) → filter (in_range (end_after origin pre) (end_after (end_after origin pre) l)) (virtual t bytes) ≡ l
+    range-of pre l rest is =
+        let a = end_after origin pre in
+        let b = end_after origin (pre ++ l) in
+        let all : virtual t bytes ≡ (pre ++ l) ++ rest = is ∙ sym (append_assoc pre l rest) in
+        let first = place-after t bytes d pre (l ++ rest) is in
+        let second = place-after t bytes d (pre ++ l) rest all in
+        let same : b ≡ end_after a l = end-after-append origin pre l in
+        let forward : stands_before b a ≡ false = subst (λ q. stands_before q a ≡ false) (sym same) (chain-upto t bytes a l rest (chain-from pre (l ++ rest) is)) in
+        let upto = upto-order t bytes a b forward in
+        let grows : pre ++ l ≡ pre ++ left_of t bytes a b =
+        sym (is-before (pre ++ l) rest all) ∙ before-grows t bytes d a b first second upto ∙ ap (λ xs. xs ++ left_of t bytes a b) (is-before pre (l ++ rest) is) in
+        let left : l ≡ left_of t bytes a b = append_cancel_left pre l (left_of t bytes a b) grows in
+        ap (λ q. filter (in_range a q) (virtual t bytes)) (sym same) ∙ range-is t bytes d a b first second upto ∙ sym left

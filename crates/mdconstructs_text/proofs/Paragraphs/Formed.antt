@@ -1,0 +1,191 @@
+-- The events of a document's blocks are balanced, void-tight and in order.
+use Rattle.std.proofs.Common.{◌≡◌, ℕ, zero, suc, ◌+◌, ◌<◌, ◌∷◌, ◌++◌, [], List, true, false, Option, Some, None, refl, sym, ◌∙◌, ap, subst, arith, append_assoc}
+use Rattle.std.specs.Prelude.{AllPairs, slice_get}
+use Rattle.std.specs.List.{flat_map, AllByRecursion}
+use Rattle.std.proofs.lemmas.List.{append-nil, map-append}
+use Rattle.std.proofs.lemmas.List.Elements.{All-from_recursion}
+use Rattle.std.proofs.lemmas.List.Kept.{AllPairs-cons}
+use Rattle.markdown_base.proofs.Common.{every-append, every-map}
+use Rattle.markdown_base.proofs.Seats.{end-after-append}
+use Rattle.markdown_base.specs.declared.event.Event.{Event}
+use Rattle.markdown_base.specs.declared.event.Kind.TheVariants.{Enter, Exit}
+use Rattle.markdown_base.specs.declared.event.Name.{Name}
+use Rattle.markdown_base.specs.declared.event.Name.TheVariants.{Paragraph, Data, BlankLineEnding, BlockQuoteMarker}
+use Rattle.markdown_base.specs.declared.event.Point.{Point}
+use Rattle.markdown_base.specs.Events.{is_void, IsBalanced, empty, span, IsVoidTight, IsInOrder}
+use Rattle.markdown_base.specs.Places.{stands_before, shown, IsShown}
+use Rattle.markdown_base.specs.Virtual.{Seat, point, virtual, end_after}
+use Rattle.markdown_edits.proofs.Balanced.{IsBalanced-append}
+use Rattle.markdown_tokenizer.proofs.Inside.Made.{upto-upto}
+use Rattle.markdown_tokenizer.proofs.Positions.Chains.{IsChain, whole-chain}
+use Rattle.markdown_tokenizer.proofs.Positions.Order.{before-self}
+use Rattle.markdown_tokenizer.proofs.Positions.Standing.{chain-split, chain-upto, shown-shown}
+use Rattle.mdconstructs_machines.specs.LineEvents.{lines_in, all_of}
+use Rattle.mdconstructs_machines.specs.ParagraphEvents.{Block, blank, paragraph, blocks_of, mark_of, chunk_of, Chunk, Marked, marked_span, line_marks, lines_marks, block_marks, blocks_marks, as_linked, paragraph_events}
+use Rattle.mdconstructs_machines.specs.Spans.{event}
+use Rattle.mdconstructs_machines.proofs.BlockReads.Accounts.{lines-are-all, block_bytes, blocks-are-all, line-is, linked}
+use Rattle.mdconstructs_text.proofs.DeepSpans.Places.{place-shown}
+
+-- ---- void-tight lists
+get-more : (xs ys : List Event) (i : ℕ) (e : Event) → slice_get xs i ≡ Some e → slice_get (xs ++ ys) i ≡ Some e
+get-more [] ys i e is = absurd (cc)
+get-more (x ∷ xs) ys zero e is = is
+get-more (x ∷ xs) ys (suc i) e is = get-more xs ys i e is
+
+void-cons : (e : Event) (es : List Event) → (e.kind ≡ Enter → is_void e.name ≡ true → (f : Event) × (slice_get es 0 ≡ Some f) × (f.kind ≡ Exit) × (f.name ≡ e.name)) → IsVoidTight es → IsVoidTight (e ∷ es)
+void-cons e es first h zero f at =
+    let same : e ≡ f = cc in
+    subst (λ (x : Event). x.kind ≡ Enter → is_void x.name ≡ true → (y : Event) × (slice_get (e ∷ es) (0 + 1) ≡ Some y) × (y.kind ≡ Exit) × (y.name ≡ x.name)) same first
+void-cons e es first h (suc k) f at = λ enter void.
+    let r = h k f at enter void in
+    let z : suc k + 1 ≡ suc (k + 1) = omega arith in
+    (r.0, ap (slice_get (e ∷ es)) z ∙ r.1, r.2, r.3)
+
+void-append : (xs ys : List Event) → IsVoidTight xs → IsVoidTight ys → IsVoidTight (xs ++ ys)
+void-append [] ys h k = k
+void-append (x ∷ xs) ys h k =
+    void-cons x (xs ++ ys)
+    (λ enter void. let r = h 0 x refl enter void in (r.0, get-more xs ys 0 r.0 r.1, r.2, r.3))
+    (void-append xs ys (λ i f at enter void. let r = h (suc i) f at enter void in let z : suc i + 1 ≡ suc (i + 1) = omega arith in (r.0, sym (ap (slice_get (x ∷ xs)) z) ∙ r.1, r.2, r.3)) k)
+
+-- ---- events between two places, in order
+abbrev InOrder : Point → List Event → Point → Type 0
+InOrder p [] q = stands_before q p ≡ false
+InOrder p (e ∷ es) q = (stands_before e.point p ≡ false) × InOrder e.point es q
+
+order-from : (o p : Point) (es : List Event) (q : Point) → stands_before p o ≡ false → InOrder p es q → InOrder o es q
+order-from o p [] q h k = upto-upto o p q h k
+order-from o p (e ∷ es) q h k = (upto-upto o p e.point h k.0, k.1)
+
+order-append : (p : Point) (xs : List Event) (m : Point) (ys : List Event) (q : Point) → InOrder p xs m → InOrder m ys q → InOrder p (xs ++ ys) q
+order-append p [] m ys q h k = order-from p m ys q h k
+order-append p (x ∷ xs) m ys q h k = (h.0, order-append x.point xs m ys q h.1 k)
+
+order-later : (p : Point) (es : List Event) (q : Point) → InOrder p es q → AllByRecursion (λ (f : Event). stands_before f.point p ≡ false) es
+order-later p [] q h = tt
+order-later p (e ∷ es) q h =
+    (h.0, every-map (λ (f : Event). stands_before f.point e.point ≡ false) (λ (f : Event). stands_before f.point p ≡ false) (λ (f : Event) later. upto-upto p e.point f.point h.0 later) es (order-later e.point es q h.1))
+
+order-pairs : (p : Point) (es : List Event) (q : Point) → InOrder p es q → AllPairs (λ (e f : Event). stands_before f.point e.point ≡ false) es
+order-pairs p [] q h = λ i j d less within. absurd (omega (arith, within))
+order-pairs p (e ∷ es) q h =
+    AllPairs-cons (λ (e f : Event). stands_before f.point e.point ≡ false) e es (All-from_recursion (λ (f : Event). stands_before f.point e.point ≡ false) es (order-later e.point es q h.1)) (order-pairs e.point es q h.1)
+
+-- Events between two places: balanced, void-tight and in order
+record Formed (bytes : List ℕ) (p : Point) (es : List Event) (q : Point) : Type 0 where
+  balanced : IsBalanced es
+  tight : IsVoidTight es
+  order : InOrder p es q
+  shown_all : AllByRecursion (λ (e : Event). IsShown bytes e.point) es
+
+module _ (t : ℕ) (bytes : List ℕ) (all : List Marked) where
+  formed-append : (p : Point) (xs : List Event) (m : Point) (ys : List Event) (q : Point) → Formed bytes p xs m → Formed bytes m ys q → Formed bytes p (xs ++ ys) q
+  formed-append p xs m ys q h k = record {
+    balanced = IsBalanced-append xs ys h.balanced k.balanced;
+    tight = void-append xs ys h.tight k.tight;
+    order = order-append p xs m ys q h.order k.order;
+    shown_all = every-append (λ (e : Event). IsShown bytes e.point) xs ys h.shown_all k.shown_all;
+  }
+
+  formed-none : (p : Point) → Formed bytes p [] p
+  formed-none p = record { balanced = empty; tight = λ k e at. absurd (cc); order = before-self p.index p.vs; shown_all = tt }
+
+  -- marks over virtual bytes, wherever these are
+  abbrev Forms : List Marked → List Seat → Type 0
+  Forms marks seats = (p : Point) (rest : List Seat) → IsChain t bytes p (seats ++ rest) → Formed bytes p (linked bytes all marks) (end_after p seats)
+
+  both : (xs ys : List Marked) (seats others : List Seat) → Forms xs seats → Forms ys others → Forms (xs ++ ys) (seats ++ others)
+  both xs ys seats others h k p rest c =
+      let whole = subst (IsChain t bytes p) (append_assoc seats others rest) c in
+      let m = end_after p seats in
+      let one = formed-append p (linked bytes all xs) m (linked bytes all ys) (end_after m others) (h p (others ++ rest) whole) (k m rest (chain-split t bytes p seats (others ++ rest) whole)) in
+      subst (λ es. Formed bytes p es (end_after p (seats ++ others))) (sym (map-append (as_linked all) xs ys))
+      (subst (Formed bytes p (linked bytes all xs ++ linked bytes all ys)) (sym (end-after-append p seats others)) one)
+
+  -- an enter and an exit at the ends of virtual bytes
+  module _ (s : Seat) (ss : List Seat) (p : Point) (rest : List Seat) (c : IsChain t bytes p ((s ∷ ss) ++ rest)) where
+    abbrev end : Point
+    end = end_after s.end ss
+
+    end-shown : shown bytes end ≡ end
+    end-shown = place-shown t bytes p (s ∷ ss) rest c
+
+    not-before : stands_before end (shown bytes s.point) ≡ false
+    not-before = subst (λ q. stands_before end q ≡ false) (sym c.1.shown_is) (chain-upto t bytes p (s ∷ ss) rest c)
+
+    exit-after : stands_before (shown bytes end) end ≡ false
+    exit-after = subst (λ q. stands_before q end ≡ false) (sym end-shown) (before-self end.index end.vs)
+
+    end-after-exit : stands_before end (shown bytes end) ≡ false
+    end-after-exit = subst (λ q. stands_before end q ≡ false) (sym end-shown) (before-self end.index end.vs)
+
+    pair-formed : (e : Event) (name : Name) → e.kind ≡ Enter → e.name ≡ name → e.point ≡ shown bytes s.point → Formed bytes p (e ∷ event bytes Exit name end ∷ []) end
+    pair-formed e name enters named at =
+        let f = event bytes Exit name end in record {
+          balanced = span e f [] [] refl enters refl (sym named) empty empty;
+          tight = void-cons e (f ∷ []) (λ enter void. (f, refl, refl, sym named)) (void-cons f [] (λ enter void. absurd (cc)) (λ k x is. absurd (cc)));
+          order = (
+            subst (λ q. stands_before q p ≡ false) (sym at) c.1.shown_later,
+            (subst (λ q. stands_before (shown bytes end) q ≡ false) (sym at) (subst (λ q. stands_before q (shown bytes s.point) ≡ false) (sym end-shown) not-before), end-after-exit),
+          );
+          shown_all = (subst (IsShown bytes) (sym at) (shown-shown t bytes s.point), (shown-shown t bytes end, tt));
+        }
+
+    around-formed : (es : List Event) → Formed bytes p es end → let e = event bytes Enter Paragraph s.point in Formed bytes p (e ∷ (es ++ event bytes Exit Paragraph end ∷ [])) end
+    around-formed es h =
+        let e = event bytes Enter Paragraph s.point in
+        let f = event bytes Exit Paragraph end in
+        let here : stands_before p (shown bytes s.point) ≡ false = subst (λ q. stands_before p q ≡ false) (sym c.1.shown_is) (before-self p.index p.vs) in
+        let last : IsVoidTight (f ∷ []) = void-cons f [] (λ enter void. absurd (cc)) (λ k x is. absurd (cc)) in
+        let close : InOrder end (f ∷ []) end = (exit-after, end-after-exit) in
+        record {
+          balanced = span e f es [] refl refl refl refl h.balanced empty;
+          tight = void-cons e (es ++ f ∷ []) (λ enter void. absurd (cc)) (void-append es (f ∷ []) h.tight last);
+          order = (c.1.shown_later, order-append e.point es end (f ∷ []) end (order-from e.point p es end here h.order) close);
+          shown_all = (shown-shown t bytes s.point, every-append (λ (x : Event). IsShown bytes x.point) es (f ∷ []) h.shown_all (shown-shown t bytes end, tt));
+        }
+
+  leaf-forms : (o : Option Chunk) (name : Name) (l : List Seat) → Forms (marked_span bytes o name l []) l
+  leaf-forms o name [] p rest c = formed-none p
+  leaf-forms None name (s ∷ ss) p rest c = pair-formed s ss p rest c (event bytes Enter name s.point) name refl refl refl
+  leaf-forms (Some (b, n)) name (s ∷ ss) p rest c = pair-formed s ss p rest c (as_linked all (event bytes Enter name s.point, Some (b, n))) name refl refl refl
+
+  line-forms : (chunk : Chunk) (line : List Seat) → Forms (line_marks bytes chunk line) line
+  line-forms chunk line =
+      subst (Forms (line_marks bytes chunk line)) (line-is line)
+      (both (marked_span bytes None BlockQuoteMarker (mark_of line) []) (marked_span bytes (Some chunk) Data (chunk_of line) []) (mark_of line) (chunk_of line)
+      (leaf-forms None BlockQuoteMarker (mark_of line)) (leaf-forms (Some chunk) Data (chunk_of line)))
+
+  lines-form : (block n : ℕ) (lines : List (List Seat)) → Forms (lines_marks bytes block n lines) (all_of lines)
+  lines-form block n [] = λ p rest c. formed-none p
+  lines-form block n (line ∷ lines) =
+      both (line_marks bytes (block, n) line) (lines_marks bytes block (suc n) lines) line (all_of lines) (line-forms (block, n) line) (lines-form block (suc n) lines)
+
+  paragraph-forms : (block : ℕ) (lines : List (List Seat)) (l : List Seat) → all_of lines ≡ l → Forms (marked_span bytes None Paragraph l (lines_marks bytes block 0 lines)) l
+  paragraph-forms block lines [] is p rest c = subst (Forms (lines_marks bytes block 0 lines)) is (lines-form block 0 lines) p rest c
+  paragraph-forms block lines (s ∷ ss) is p rest c =
+      let inside = lines_marks bytes block 0 lines in
+      let exit = event bytes Exit Paragraph (end_after s.end ss) in
+      let formed = subst (Forms inside) is (lines-form block 0 lines) p rest c in
+      subst (λ es. Formed bytes p (event bytes Enter Paragraph s.point ∷ es) (end_after s.end ss)) (sym (map-append (as_linked all) inside ((exit, None) ∷ []))) (around-formed s ss p rest c (linked bytes all inside) formed)
+
+  block-forms : (b : ℕ) (block : Block) → Forms (block_marks bytes b block) (block_bytes block)
+  block-forms b (blank line) = leaf-forms None BlankLineEnding line
+  block-forms b (paragraph lines) = paragraph-forms b lines (all_of lines) refl
+
+  blocks-form : (b : ℕ) (blocks : List Block) → Forms (blocks_marks bytes b blocks) (flat_map block_bytes blocks)
+  blocks-form b [] = λ p rest c. formed-none p
+  blocks-form b (block ∷ blocks) =
+      both (block_marks bytes b block) (blocks_marks bytes (suc b) blocks) (block_bytes block) (flat_map block_bytes blocks) (block-forms b block) (blocks-form (suc b) blocks)
+
+-- so it is with all blocks of a document
+pub paragraphs-formed : (t : ℕ) (bytes : List ℕ) → 0 < t → let es = paragraph_events bytes (virtual t bytes) in IsBalanced es × IsVoidTight es × IsInOrder bytes es
+paragraphs-formed t bytes some =
+    let seats = virtual t bytes in
+    let es = paragraph_events bytes seats in
+    let blocks = blocks_of (lines_in seats) in
+    let marks = blocks_marks bytes 0 blocks in
+    let p = point 1 1 0 0 in
+    let is : seats ≡ flat_map block_bytes blocks ++ [] = sym (append-nil (flat_map block_bytes blocks) ∙ blocks-are-all (lines_in seats) ∙ lines-are-all seats) in
+    let h = blocks-form t bytes marks 0 blocks p [] (subst (IsChain t bytes p) is (whole-chain t bytes some)) in
+    (h.balanced, h.tight, (order-pairs p es (end_after p (flat_map block_bytes blocks)) h.order, All-from_recursion (λ (e : Event). IsShown bytes e.point) es h.shown_all))
