@@ -1,4 +1,5 @@
 -- Rows of a table.
+pub mod Called
 pub mod Calls
 pub mod Laws
 pub mod Misfits
