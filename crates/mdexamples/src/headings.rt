@@ -35,6 +35,7 @@ impl Machine for Headings {
     ghost rules = { λ _. headings_rules };
 
     /// Counts the call, and runs the state of this name.
+    #[tactic(auto, using(crate::proofs::Called::headings_called))]
     fn call<'a>(
         &self,
         alloc: Global,

@@ -33,6 +33,7 @@ impl Machine for Labels {
     ghost rules = { λ _. labels_rules };
 
     /// Counts the call, and runs the state of this name.
+    #[tactic(auto, using(crate::proofs::Called::labels_called))]
     fn call<'a>(
         &self,
         alloc: Global,
