@@ -46,7 +46,7 @@ begins-linked : (place : Point) (previous : ℕ) → BeginsChunk (with_previous 
 begins-linked place previous = record { linked = record { enter = refl; void = refl; linked = refl }; named = refl; text = refl; last = refl }
 
 -- a chunk stays if events are added
-more-chunk : (events : List Event) (e : Event) (index : ℕ) → HasChunk events index → HasChunk (events ++ e ∷ []) index
+pub more-chunk : (events : List Event) (e : Event) (index : ℕ) → HasChunk events index → HasChunk (events ++ e ∷ []) index
 more-chunk events e index h = record {
   before = h.before;
   first = h.first;
@@ -59,7 +59,7 @@ more-chunk events e index h = record {
 }
 
 -- a chunk that was begun is a chunk once it is ended
-ended-chunk : (events : List Event) (e : Event) (index : ℕ) → e.kind ≡ Exit → e.name ≡ Data → EndsWithChunk events index → HasChunk (events ++ e ∷ []) index
+pub ended-chunk : (events : List Event) (e : Event) (index : ℕ) → e.kind ≡ Exit → e.name ≡ Data → EndsWithChunk events index → HasChunk (events ++ e ∷ []) index
 ended-chunk events e index exits named h = record {
   before = h.before;
   first = h.first;
@@ -71,7 +71,7 @@ ended-chunk events e index exits named h = record {
   ended = record { exits = exits; same = named ∙ sym h.begins.named };
 }
 
-ends-with : (events before : List Event) (e : Event) → events ≡ before ++ e ∷ [] → BeginsChunk e → EndsWithChunk events (length events - 1)
+pub ends-with : (events before : List Event) (e : Event) → events ≡ before ++ e ∷ [] → BeginsChunk e → EndsWithChunk events (length events - 1)
 ends-with events before e is begins =
     record { before = before; first = e; events_are = is; index_is = omega (arith, ap length is, length-append before (e ∷ [])); begins = begins }
 
@@ -124,7 +124,7 @@ linked-last events place index next h last =
     ap (updated_at next (with_previous index)) (updated-front index (with_next next) events (chunk_at place ∷ []) (omega (arith, inside)))
     ∙ updated-last next (with_previous index) (updated_at index (with_next next) events) (chunk_at place) (last ∙ sym (updated-length index (with_next next) events))
 
-ends-linked : (events : List Event) (place : Point) (index next : ℕ) → HasChunk events index → next ≡ length events
+pub ends-linked : (events : List Event) (place : Point) (index next : ℕ) → HasChunk events index → next ≡ length events
     → let linked = linked_to index next (events ++ chunk_at place ∷ []) in EndsWithChunk linked (length linked - 1)
 ends-linked events place index next h last =
     ends-with (linked_to index next (events ++ chunk_at place ∷ [])) (updated_at index (with_next next) events) (with_previous index (chunk_at place)) (linked-last events place index next h last)
@@ -145,7 +145,7 @@ has-link None h = absurd (cc)
 has-link (Some l) h = (l, refl)
 
 -- the links of chunks stay in shape if the last event is linked to the chunk before
-linked-in-shape : (events : List Event) (place : Point) (index next : ℕ) → HasChunk events index → next ≡ length events → AreInShape events
+pub linked-in-shape : (events : List Event) (place : Point) (index next : ℕ) → HasChunk events index → next ≡ length events → AreInShape events
     → AreInShape (linked_to index next (events ++ chunk_at place ∷ []))
 unfolding more-chunk
 linked-in-shape events place index next h last shape =
@@ -161,7 +161,7 @@ linked-in-shape events place index next h last shape =
     linked-shape xs index next h.first e link text_link at_p is at_n refl (omega (arith, inside, last)) (omega (arith, last, length-append events (e ∷ []))) no_next no_previous (more-shape events e refl refl shape)
 
 -- what is known stays if resolvers and edits stay
-known-on : (inside before : Bool) (events events' : List Event) (local local' : Local Unit Unit) → Knows before events local → local'.resolvers ≡ local.resolvers → local'.map ≡ local.map
+pub known-on : (inside before : Bool) (events events' : List Event) (local local' : Local Unit Unit) → Knows before events local → local'.resolvers ≡ local.resolvers → local'.map ≡ local.map
     → KnowsChunk inside events' local' → AreInShape events' → Knows inside events' local'
 known-on inside before events events' local local' h resolvers map chunk shape = record { chunk = chunk; shape = shape; resolvers = resolvers ∙ h.resolvers; edits = map ∙ h.edits }
 
