@@ -90,7 +90,7 @@ fn kept_starts(alloc: Global, bytes: &[u8], t: usize) -> Result<Vec<ByteStart>, 
     Ok(starts)
 }
 
-/// Where the byte at `to` begins, told from where the one at `from` does.
+/// Where the byte at `to` begins, found from where the one at `from` does.
 fn walked(bytes: &[u8], t: usize, from: usize, start: ByteStart, to: usize) -> ByteStart
     requires some { 0 < t }
     requires limit { IsWithinLimit t bytes.now }

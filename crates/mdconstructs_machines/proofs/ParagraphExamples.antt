@@ -25,14 +25,14 @@ abbrev chunk : (previous next : Option ℕ) → (line column index : ℕ) → Ev
 chunk previous next line column index =
     record { kind = Enter; name = Data; point = point line column index 0; link = Some (record { previous = previous; next = next; content = Text }) }
 
--- No bytes, and line endings alone
+-- No bytes, and only line endings
 pub no-bytes : events_of [] ≡ []
 no-bytes = refl
 
 pub blank-lines : events_of (codes "\n\n") ≡ begins BlankLineEnding 1 1 0 ∷ ends BlankLineEnding 2 1 1 ∷ begins BlankLineEnding 2 1 1 ∷ ends BlankLineEnding 3 1 2 ∷ []
 blank-lines = refl
 
--- Two paragraphs with a blank line between them: the chunks of the first are linked, and that of the second is alone
+-- Two paragraphs with a blank line between them: the chunks of the first are linked, and that of the second has no neighbours
 pub two-paragraphs : events_of (codes "> a\nb\n\nc") ≡ begins Paragraph 1 1 0 ∷ begins BlockQuoteMarker 1 1 0 ∷ ends BlockQuoteMarker 1 2 1 ∷ chunk None (Some 5) 1 2 1 ∷ ends Data 2 1 4
     ∷ chunk (Some 3) None 2 1 4 ∷ ends Data 3 1 6 ∷ ends Paragraph 3 1 6 ∷ begins BlankLineEnding 3 1 6 ∷ ends BlankLineEnding 4 1 7
     ∷ begins Paragraph 4 1 7 ∷ chunk None None 4 1 7 ∷ ends Data 4 2 8 ∷ ends Paragraph 4 2 8 ∷ []
@@ -65,7 +65,7 @@ mark-behind-tab = refl
 pub mark-before-tab : events_of (codes ">\ta") ≡ begins Paragraph 1 1 0 ∷ begins BlockQuoteMarker 1 1 0 ∷ ends BlockQuoteMarker 1 2 1 ∷ chunk None None 1 2 1 ∷ ends Data 1 6 3 ∷ ends Paragraph 1 6 3 ∷ []
 mark-before-tab = refl
 
--- CR LF ends a line, and alone it is a blank one
+-- CR LF ends a line, and a line of nothing else is blank
 pub carriage-return : events_of (codes "a\r\nb\r\n\r\n") ≡ begins Paragraph 1 1 0 ∷ chunk None (Some 3) 1 1 0 ∷ ends Data 2 1 3 ∷ chunk (Some 1) None 2 1 3 ∷ ends Data 3 1 6 ∷ ends Paragraph 3 1 6
     ∷ begins BlankLineEnding 3 1 6 ∷ ends BlankLineEnding 4 1 8 ∷ []
 carriage-return = refl

@@ -1,4 +1,4 @@
--- The events of documents that are read as paragraphs. The definition says what stands in the text, and has no states.
+-- The events of documents that are read as paragraphs. The definition says what is in the text, and has no states.
 use Rattle.std.specs.Prelude.{ℕ, zero, suc, ◌==◌, ◌&&◌, Bool, false, List, [], ◌∷◌, ◌++◌, Option, Some, None, cond, map, take, drop, position}
 use Rattle.markdown_base.specs.declared.event.Content.TheVariants.{Text}
 use Rattle.markdown_base.specs.declared.event.Event.{Event}
@@ -9,7 +9,7 @@ use Rattle.markdown_base.specs.Virtual.{Seat, end_after}
 use Rattle.mdconstructs_machines.specs.Spans.{event}
 use Rattle.mdconstructs_machines.specs.LineEvents.{is_line_ending, lines_in, all_of}
 
--- Blank line: a line that is its line ending alone. Where a line begins with one, there is nothing more in it.
+-- Blank line: a line that is only its line ending. If a line begins with one, nothing more is in it.
 abbrev pub is_blank : List Seat → Bool
 is_blank [] = false
 is_blank (s ∷ ss) = is_line_ending s

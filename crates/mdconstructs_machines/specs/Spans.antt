@@ -1,4 +1,4 @@
--- Spans over virtual bytes: what enters and exits them, and what stands in them.
+-- Spans over virtual bytes: what enters and exits them, and what is in them.
 --
 -- Places come only from the virtual bytes: a span begins at its first byte, and ends where its last byte ends, which after a line ending is
 -- the start of the next line. So a gap that was passed there changes nothing: what follows it begins at its own byte.

@@ -49,7 +49,7 @@ pub fn documents_are_read_by_blocks()
     ensures text { IsReadAs text_rules FlowStart paragraph_events }
 {}
 
-/// Each virtual byte of a document stands in exactly one innermost span of what `Paragraphs` or `Text` reads, from the start of
+/// Each virtual byte of a document is in exactly one innermost span of what `Paragraphs` or `Text` reads, from the start of
 /// paragraphs: their tokens account for the document.
 pub fn innermost_spans_account_for_blocks()
     ensures paragraphs { AccountsForDocuments paragraphs_rules FlowStart }

@@ -32,7 +32,7 @@ lines-are-all (s ∷ ss) =
       | false ↦ joined-all s (lines_in ss) ∙ ap (λ l. s ∷ l) then
     ]
 
--- what stands in a block
+-- what is in a block
 abbrev pub block_bytes : Block → List Seat
 block_bytes (blank line) = line
 block_bytes (paragraph lines) = all_of lines

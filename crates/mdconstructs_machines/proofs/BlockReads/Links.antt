@@ -13,7 +13,7 @@ use Rattle.markdown_edits.specs.Links.{updated_at, with_next, with_previous, lin
 use Rattle.mdconstructs_machines.specs.Paragraphs.{text_link}
 use Rattle.mdconstructs_machines.specs.ParagraphEvents.{Marked, begins, chunk_at, chunk_before, as_linked, with_links}
 
--- a marked event begins no chunk, or one that stands before the chunk of this line of this block
+-- a marked event begins no chunk, or one that comes before the chunk of this line of this block
 abbrev pub IsBefore : (b n : ℕ) → Marked → Type 0
 IsBefore b n (e, None) = Unit {0}
 IsBefore b n (e, Some (c, m)) = (c < b) ⊎ ((c ≡ b) × (m < n))

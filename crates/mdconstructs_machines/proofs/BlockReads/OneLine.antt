@@ -124,7 +124,7 @@ module _ (g : Given) (text : Text) (step : Sight → Configuration Unit Unit →
       line-starts p b events local s at no_end true quoted es
       (subst (λ o. EndsWith g text step (held in_paragraph (p + 1) Nothing false (marked_line events o) (counts local)) [] (Next ParagraphStart) es) (sym at) h)
 
-  -- A line is read, up to the next: what stands before the next block, and what is known if anything is left
+  -- A line is read, up to the next: what is before the next block, and what is known if anything is left
   pub record ReadsLine (s : Seat) (ss : List Seat) (p : ℕ) (b : Bool) (place : Point) (block n : ℕ) (ms : List Marked) (local : Local Unit Unit) : Type 0 where
     pub to : ℕ
     pub ended : Bool

@@ -42,7 +42,7 @@ connects local = local.tokenize_state.connect
 abbrev pub begins_at : Local Unit Unit → ℕ
 begins_at local = local.tokenize_state.start
 
--- one stands there: these virtual bytes are left, and the byte before ends at this place
+-- one is there: these virtual bytes are left, and the byte before ends at this place
 abbrev pub Stands : Text → ℕ → List Seat → Point → Type 0
 Stands text p l place = (drop p text.seats ≡ l) × (end_place text p ≡ place)
 
