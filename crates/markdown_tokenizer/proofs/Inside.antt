@@ -4,5 +4,6 @@ pub mod Choices
 pub mod Fields
 pub mod GoingOn
 pub mod Made
+pub mod Spans
 pub mod Steps
 pub mod Unwinding

@@ -3,6 +3,7 @@ pub mod Chains
 pub mod Cursors
 pub mod Cuts
 pub mod Gaps
+pub mod Lines
 pub mod Order
 pub mod Points
 pub mod SeatLaws

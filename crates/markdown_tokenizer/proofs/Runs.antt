@@ -7,3 +7,4 @@ pub mod Whole
 pub mod Working
 pub mod Later
 pub mod Pushes
+pub mod Outcomes

@@ -37,7 +37,7 @@ use Rattle.markdown_tokenizer.specs.Cursor.{IsNextByte}
 use Rattle.markdown_tokenizer.specs.View.{tab_of, seen, text_within, state_of, choice_of, saved_of, position_from, standing, reach, can_feed, ByteWaits, IsWhatWaits, IsProgress, AreNested, events_of, stack_of, IsSound}
 use Rattle.markdown_tokenizer.proofs.Inside.Fields.{wide_of, looks, next-more, next-past, next-none-left, nested-map, nested-wider, nested-front}
 use Rattle.markdown_tokenizer.proofs.Inside.Steps.{before-end}
-use Rattle.markdown_tokenizer.proofs.Inside.Changes.{same-choices}
+use Rattle.markdown_tokenizer.proofs.Inside.Spans.{same-choices}
 use Rattle.markdown_tokenizer.proofs.Inside.Choices.{progress_of, saves-here, byte-more, closed-more}
 use Rattle.markdown_tokenizer.proofs.Inside.Made.{last_view, open_events-enter}
 use Rattle.markdown_tokenizer.proofs.Inside.Unwinding.{reverse-last}

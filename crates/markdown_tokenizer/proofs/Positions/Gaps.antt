@@ -1,192 +1,25 @@
 -- Laws about gaps: places in lines and columns, and what a gap leaves to be read.
 use Rattle.std.specs.List.{AllByRecursion}
-use Rattle.std.proofs.Common.{◌≡◌, ℕ, suc, ◌≤◌, ◌<◌, ◌==◌, List, [], ◌∷◌, ◌++◌, Bool, true, false, cond, Option, Some, None, refl, sym, ap, ◌∙◌, subst, arith, append_assoc, ◌⊎◌, inl, inr}
-use Rattle.std.specs.Prelude.{filter, unwrap_or, nat_lt, not, ◌&&◌, ◌||◌}
+use Rattle.std.proofs.Common.{◌≡◌, ℕ, ◌≤◌, ◌<◌, ◌==◌, List, [], ◌∷◌, ◌++◌, Bool, true, false, cond, Option, Some, None, refl, sym, ap, ◌∙◌, subst, arith, ◌⊎◌, inl, inr}
+use Rattle.std.specs.Prelude.{filter, unwrap_or, not, ◌&&◌}
 use Rattle.std.proofs.lemmas.Bool.Decides.{nat_tests}
 use Rattle.std.proofs.lemmas.List.Elements.{filter-append}
-use Rattle.std.proofs.lemmas.List.{append-nil, append_cancel_left}
+use Rattle.std.proofs.lemmas.List.{append-nil}
 use Rattle.std.proofs.lemmas.Bool.{eqb-true, not-true}
 use Rattle.markdown_base.specs.declared.event.Point.{Point}
 use Rattle.markdown_base.specs.Virtual.{Seat, point, virtual, end_after}
 use Rattle.markdown_base.specs.Places.{stands_before, shown, is_upto, denotes_same}
 use Rattle.markdown_base.proofs.Common.{every-map, every-append, filter-none, leads-back}
-use Rattle.markdown_base.proofs.Seats.{end-after-append}
 use Rattle.markdown_tokenizer.specs.Cursor.{rest_at, IsPlace, IsSeatAt, goes_on, end_at}
 use Rattle.markdown_tokenizer.specs.Text.{in_range}
-use Rattle.markdown_tokenizer.proofs.Positions.Order.{later-later, before-self, is-not, before-upto, upto-before, after-before, below-before, more-before, every-both, every-all, filter-every, filter-same}
+use Rattle.markdown_tokenizer.proofs.Positions.Order.{later-later, before-self, is-not, before-upto, upto-before, after-before, every-both, filter-every, filter-same}
 use Rattle.markdown_tokenizer.proofs.Positions.Seats.{rest-later}
-use Rattle.markdown_tokenizer.proofs.Positions.Chains.{Begins, IsChain, whole-chain}
-use Rattle.markdown_tokenizer.proofs.Positions.Standing.{chain-split, next-begins, shown-upto, chain-upto}
-use Rattle.markdown_tokenizer.proofs.Positions.Cursors.{upto-order, upto-self, upto-upto, same-upto, upto-same, same-back, same-self, rest-upto, left_of, text-splits, range-same, range-empty, Leads, upto-leads, split-every, place-before}
+use Rattle.markdown_tokenizer.proofs.Positions.Chains.{IsChain, whole-chain}
+use Rattle.markdown_tokenizer.proofs.Positions.Standing.{next-begins, shown-upto, chain-upto}
+use Rattle.markdown_tokenizer.proofs.Positions.Cursors.{upto-order, upto-self, upto-upto, same-upto, same-back, same-self, left_of, text-splits, range-same, range-empty, Leads, upto-leads, split-every}
 use Rattle.markdown_tokenizer.proofs.Positions.Points.{shown-line, shown-column, same-shown}
 use Rattle.markdown_tokenizer.specs.Gaps.{skip_of, is_kept_by, is_kept, resumed, kept_between, IsSkip, IsOutside}
-
--- by line, then by column, one place is before another
-abbrev pub lies_before : Point → Point → Bool
-lies_before p q = nat_lt p.line q.line || ((p.line == q.line) && nat_lt p.column q.column)
-
--- a virtual byte ends at a later column of its line, or in the next line
-end_at-lies : (t byte : ℕ) (p : Point) (b c : Bool) → (byte == 10) ≡ b → goes_on t byte p ≡ c → lies_before p (end_at t byte p) ≡ true
-end_at-lies t byte p true c e f = rw e (below-before p.line p.column (suc p.line) 1 (omega arith))
-end_at-lies t byte p false true e f = rw (e, f) (more-before p.line p.column)
-end_at-lies t byte p false false e f = rw (e, f) (more-before p.line p.column)
-
-lies-like : (p q r : Point) → p.line ≡ q.line → p.column ≡ q.column → lies_before p r ≡ lies_before q r
-lies-like p q r e f = rw (e, f) refl
-
-lies-alike : (r p q : Point) → p.line ≡ q.line → p.column ≡ q.column → lies_before r p ≡ lies_before r q
-lies-alike r p q e f = rw (e, f) refl
-
-not-lies : (p q : Point) → p.line ≡ q.line → p.column ≡ q.column → lies_before p q ≡ false
-not-lies p q e f = rw (e, f) (before-self q.line q.column)
-
-lies-numbers : (k l m n : ℕ) (b : Bool) → nat_lt k m ≡ b → (nat_lt k m || ((k == m) && nat_lt l n)) ≡ true → (k < m) ⊎ ((k ≡ m) × (l < n))
-lies-numbers k l m n true e h = inl (grind (arith, nat_tests))
-lies-numbers k l m n false e h = inr (grind (arith, nat_tests), grind (arith, nat_tests))
-
--- in a later line, or in a later column of the line
-pub lies-later : (p q : Point) → lies_before p q ≡ true → (p.line < q.line) ⊎ ((p.line ≡ q.line) × (p.column < q.column))
-lies-later p q h = lies-numbers p.line p.column q.line q.column (nat_lt p.line q.line) refl h
-
-lies-in-numbers : (i j k l m n : ℕ) → (nat_lt k i || ((k == i) && nat_lt l j)) ≡ false → (nat_lt k m || ((k == m) && nat_lt l n)) ≡ true → (i ≤ k) × (k ≤ m) × (k ≡ i → j ≤ l)
-lies-in-numbers i j k l m n h g = (grind (arith, nat_tests), grind (arith, nat_tests), λ e. grind (arith, nat_tests))
-
--- a virtual byte lies between two places
-abbrev LiesIn : Point → Point → Seat → Type 0
-LiesIn p q s = (lies_before s.point p ≡ false) × (lies_before s.point q ≡ true)
-
--- so its line is between theirs
-abbrev pub StandsBetween : Point → Point → Seat → Type 0
-StandsBetween p q s = (p.line ≤ s.point.line) × (s.point.line ≤ q.line) × (s.point.line ≡ p.line → p.column ≤ s.point.column)
-
-every-unfilter : (P : Seat → Type 0) (f : Seat → Bool) (xs : List Seat) → AllByRecursion P (filter f xs) → AllByRecursion (λ s. f s ≡ true → P s) xs
-every-unfilter P f [] h = tt
-every-unfilter P f (x ∷ xs) h = elim (f x) as (λ b. (f x ≡ b) → AllByRecursion P (cond b (x ∷ filter f xs) (filter f xs)) → AllByRecursion (λ s. f s ≡ true → P s) (x ∷ xs)) [
-  | true ↦ λ e k. (λ g. k.0, every-unfilter P f xs k.1)
-  | false ↦ λ e k. (λ g. absurd (cc), every-unfilter P f xs k)
-] refl h
-
--- what a filter keeps passes it
-every-kept : (P : Seat → Type 0) (f : Seat → Bool) (xs : List Seat) → AllByRecursion P xs → AllByRecursion (λ s. P s × (f s ≡ true)) (filter f xs)
-every-kept P f [] h = tt
-every-kept P f (x ∷ xs) h = elim (f x) as (λ b. (f x ≡ b) → AllByRecursion (λ s. P s × (f s ≡ true)) (cond b (x ∷ filter f xs) (filter f xs))) [
-  | true ↦ λ e. ((h.0, e), every-kept P f xs h.1)
-  | false ↦ λ e. every-kept P f xs h.1
-] refl
-
--- each of many facts holds of each element
-every-for : {A : Type 0} {X : Type 0} (P : X → A → Type 0) (xs : List A) → ((x : X) → AllByRecursion (P x) xs) → AllByRecursion (λ a. (x : X) → P x a) xs
-every-for P [] h = tt
-every-for P (a ∷ rest) h = (λ x. (h x).0, every-for P rest (λ x. (h x).1))
-
-every-given : (b : Bool) (P : Seat → Type 0) (xs : List Seat) → (b ≡ true → AllByRecursion P xs) → AllByRecursion (λ s. b ≡ true → P s) xs
-every-given true P xs h = every-map P (λ s. true ≡ true → P s) (λ s k e. k) xs (h refl)
-every-given false P xs h = every-all (λ s. false ≡ true → P s) (λ s e. absurd (cc)) xs
-
-module _ (t : ℕ) (bytes : List ℕ) where
-  begins-line : (p : Point) (s : Seat) (rest : List Seat) → Begins t bytes p s rest → s.point.line ≡ p.line
-  begins-line p s rest b = sym (shown-line bytes s.point) ∙ ap (λ (x : Point). x.line) b.shown_is
-
-  begins-column : (p : Point) (s : Seat) (rest : List Seat) → Begins t bytes p s rest → s.point.column ≡ p.column
-  begins-column p s rest b = sym (shown-column bytes s.point) ∙ ap (λ (x : Point). x.column) b.shown_is
-
-  begins-lies : (p : Point) (s : Seat) (rest : List Seat) → Begins t bytes p s rest → lies_before p s.end ≡ true
-  begins-lies p s rest b =
-      sym (lies-like s.point p s.end (begins-line p s rest b) (begins-column p s rest b))
-      ∙ sym (ap (lies_before s.point) b.end_is) ∙ end_at-lies t s.byte s.point (s.byte == 10) (goes_on t s.byte s.point) refl refl
-
-  chain-rises : (p : Point) (xs ys : List Seat) → IsChain t bytes p (xs ++ ys) → lies_before (end_after p xs) p ≡ false
-  chain-rises p [] ys c = before-self p.line p.column
-  chain-rises p (s ∷ ss) ys c =
-      let q = end_after s.end ss in
-      later-later q.line q.column s.end.line s.end.column p.line p.column (chain-rises s.end ss ys c.2)
-      (after-before p.line p.column s.end.line s.end.column (begins-lies p s (ss ++ ys) c.1))
-
-  chain-passes : (p : Point) (s : Seat) (ss ys : List Seat) → IsChain t bytes p (s ∷ ss ++ ys) → lies_before p (end_after s.end ss) ≡ true
-  chain-passes p s ss ys c =
-      let q = end_after s.end ss in
-      before-upto p.line p.column s.end.line s.end.column q.line q.column (begins-lies p s (ss ++ ys) c.1) (chain-rises s.end ss ys c.2)
-
-  chain-between : (p : Point) (xs ys : List Seat) → IsChain t bytes p (xs ++ ys) → AllByRecursion (LiesIn p (end_after p xs)) xs
-  chain-between p [] ys c = tt
-  chain-between p (s ∷ ss) ys c =
-      let q = end_after s.end ss in
-      let line = begins-line p s (ss ++ ys) c.1 in
-      let column = begins-column p s (ss ++ ys) c.1 in
-      let upto = after-before p.line p.column s.end.line s.end.column (begins-lies p s (ss ++ ys) c.1) in (
-        (not-lies s.point p line column, lies-like s.point p q line column ∙ chain-passes p s ss ys c),
-        every-map (LiesIn s.end q) (LiesIn p q)
-            (λ r h. (later-later r.point.line r.point.column s.end.line s.end.column p.line p.column h.0 upto, h.1)) ss (chain-between s.end ss ys c.2),
-      )
-
-  -- the virtual bytes between a place and a second one, which is not before the first
-  module _ (d : 0 < t) (a b : Point) (first : IsPlace t bytes a) (second : IsPlace t bytes b) (upto : is_upto t bytes a b ≡ true) where
-    before-grows : second.before ≡ first.before ++ left_of t bytes a b
-    before-grows =
-        let f = λ (s : Seat). stands_before s.point b in
-        let leads = split-every t bytes (Leads a b) a first (upto-leads t bytes a b upto) in
-        sym (place-before t bytes b second) ∙ ap (filter f) first.splits ∙ filter-append f first.before (rest_at t bytes a)
-        ∙ ap (λ (xs : List Seat). xs ++ left_of t bytes a b) (filter-every f first.before (every-both (λ s. stands_before s.point a ≡ true) (Leads a b) (λ s. f s ≡ true) (λ s h k. k h) first.before first.behind leads.0))
-
-    way-chain : IsChain t bytes (shown bytes a) (left_of t bytes a b ++ rest_at t bytes b)
-    way-chain =
-        let whole = second.splits ∙ ap (λ (xs : List Seat). xs ++ rest_at t bytes b) before-grows ∙ append_assoc first.before (left_of t bytes a b) (rest_at t bytes b) in
-        let c = chain-split t bytes (point 1 1 0 0) first.before (left_of t bytes a b ++ rest_at t bytes b) (subst (IsChain t bytes (point 1 1 0 0)) whole (whole-chain t bytes d)) in
-        subst (λ (p : Point). IsChain t bytes p (left_of t bytes a b ++ rest_at t bytes b)) (sym first.stands) c
-
-    way-ends : shown bytes b ≡ end_after (shown bytes a) (left_of t bytes a b)
-    way-ends =
-        second.stands ∙ ap (end_after (point 1 1 0 0)) before-grows ∙ end-after-append (point 1 1 0 0) first.before (left_of t bytes a b)
-        ∙ ap (λ (p : Point). end_after p (left_of t bytes a b)) (sym first.stands)
-
-    way-none : left_of t bytes a b ≡ [] → denotes_same t bytes a b ≡ true
-    way-none e =
-        let same : second.before ≡ first.before = before-grows ∙ ap (λ (xs : List Seat). first.before ++ xs) e ∙ append-nil first.before in
-        let rest : rest_at t bytes b ≡ rest_at t bytes a = append_cancel_left first.before (rest_at t bytes b) (rest_at t bytes a)
-        (ap (λ (xs : List Seat). xs ++ rest_at t bytes b) (sym same) ∙ sym second.splits ∙ first.splits) in
-        upto-same t bytes a b upto (rest-upto t bytes a b first rest)
-
-    lies-shown : lies_before (shown bytes a) (shown bytes b) ≡ lies_before a b
-    lies-shown = rw (shown-line bytes a, shown-line bytes b, shown-column bytes a, shown-column bytes b) refl
-
-    way-cases : (mid : List Seat) → left_of t bytes a b ≡ mid → (denotes_same t bytes a b ≡ true) ⊎ (lies_before a b ≡ true)
-    way-cases [] e = inl (way-none e)
-    way-cases (s ∷ ss) e =
-        let c = subst (λ (xs : List Seat). IsChain t bytes (shown bytes a) (xs ++ rest_at t bytes b)) e way-chain in
-        let ends : shown bytes b ≡ end_after s.end ss = way-ends ∙ ap (end_after (shown bytes a)) e in
-        inr (sym lies-shown ∙ ap (lies_before (shown bytes a)) ends ∙ chain-passes (shown bytes a) s ss (rest_at t bytes b) c)
-
-    -- it denotes the same, or lies in a later line or a later column
-    pub upto-lies : (denotes_same t bytes a b ≡ true) ⊎ (lies_before a b ≡ true)
-    upto-lies = way-cases (left_of t bytes a b) refl
-
-    between-upto : (s : Seat) → lies_before s.point (shown bytes a) ≡ false → lies_before s.point a ≡ false
-    between-upto s h = lies-alike s.point a (shown bytes a) (sym (shown-line bytes a)) (sym (shown-column bytes a)) ∙ h
-
-    between-below : (s : Seat) → lies_before s.point (end_after (shown bytes a) (left_of t bytes a b)) ≡ true → lies_before s.point b ≡ true
-    between-below s h = lies-alike s.point b (shown bytes b) (sym (shown-line bytes b)) (sym (shown-column bytes b)) ∙ ap (lies_before s.point) way-ends ∙ h
-
-    -- their places are between the two
-    pub between-lies : AllByRecursion (LiesIn a b) (left_of t bytes a b)
-    between-lies =
-        let p = shown bytes a in
-        let q = end_after p (left_of t bytes a b) in
-        every-map (LiesIn p q) (LiesIn a b) (λ s h. (between-upto s h.0, between-below s h.1)) (left_of t bytes a b) (chain-between p (left_of t bytes a b) (rest_at t bytes b) way-chain)
-
-    -- it is not shown before the first
-    pub upto-shown : stands_before (shown bytes b) (shown bytes a) ≡ false
-    upto-shown = ap (λ (p : Point). stands_before p (shown bytes a)) way-ends ∙ chain-upto t bytes (shown bytes a) (left_of t bytes a b) (rest_at t bytes b) way-chain
-
-    -- it denotes the same, or its line is later, or its column is in the same line
-    pub places-rise : (denotes_same t bytes a b ≡ true) ⊎ ((a.line < b.line) ⊎ ((a.line ≡ b.line) × (a.column < b.column)))
-    places-rise = elim upto-lies [ inl h ↦ inl h | inr h ↦ inr (lies-later a b h) ]
-
-    pub seats-between : AllByRecursion (StandsBetween a b) (left_of t bytes a b)
-    seats-between = every-map (LiesIn a b) (StandsBetween a b) (λ s h. lies-in-numbers a.line a.column s.point.line s.point.column b.line b.column h.0 h.1) (left_of t bytes a b) between-lies
-
-    -- said of what is left at the first place
-    pub seats-rise : AllByRecursion (λ s. stands_before s.point b ≡ true → StandsBetween a b s) (rest_at t bytes a)
-    seats-rise = every-unfilter (StandsBetween a b) (λ s. stands_before s.point b) (rest_at t bytes a) seats-between
+use Rattle.markdown_tokenizer.proofs.Positions.Lines.{lies_before, lies-alike, lies-later, LiesIn, StandsBetween, every-kept, every-for, every-given, begins-line, chain-between, way-chain, way-ends, way-none, upto-shown, places-rise, seats-rise}
 
 skip-cases : (P : Point → Type 0) (x : Point) (xs : List Point) (line : ℕ) (p : Point) (b : Bool) → (x.line == line) ≡ b → P x → (skip_of xs line ≡ Some p → (p.line ≡ line) × P p)
     → cond b (Some x) (skip_of xs line) ≡ Some p → (p.line ≡ line) × P p

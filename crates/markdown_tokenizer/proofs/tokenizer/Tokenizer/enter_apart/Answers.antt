@@ -1,5 +1,5 @@
 use Rattle.std.proofs.Common.{refl}
-use Rattle.markdown_tokenizer.proofs.Inside.Changes.{entered-made, entered-kept_choices, entered-choices, entered-at, entered-here}
+use Rattle.markdown_tokenizer.proofs.Inside.Spans.{entered-made, entered-kept_choices, entered-choices, entered-at, entered-here}
 use Rattle.markdown_tokenizer.proofs.tokenizer.Tokenizer.enter_apart.Goals as goal
 
 pub invariant_of-self-2 : goal.invariant_of-self-2

@@ -1,5 +1,5 @@
 use Rattle.std.proofs.Common.{refl}
-use Rattle.markdown_tokenizer.proofs.Inside.Changes.{exited-made, exited-kept_choices, exited-choices, exited-at}
+use Rattle.markdown_tokenizer.proofs.Inside.Spans.{exited-made, exited-kept_choices, exited-choices, exited-at}
 use Rattle.markdown_tokenizer.proofs.tokenizer.Tokenizer.exit.Goals as goal
 
 pub invariant_of-self : goal.invariant_of-self

@@ -2,7 +2,8 @@ use Rattle.std.proofs.Common.{◌≡◌, ◌∙◌, ap, inl, inr, refl, sym, tru
 use Rattle.std.proofs.lemmas.Result.{IfOk-weaker}
 use Rattle.markdown_tokenizer.proofs.Runs.Resolvers.{resolving-is}
 use Rattle.markdown_base.specs.declared.state.State.TheVariants.{Ok, Error}
-use Rattle.markdown_tokenizer.proofs.Runs.Working.{flush-ok, flush-refused, flush-paid, leads-holds, text-worked, taken-formed}
+use Rattle.markdown_tokenizer.proofs.Runs.Working.{text-worked}
+use Rattle.markdown_tokenizer.proofs.Runs.Outcomes.{flush-ok, flush-refused, flush-paid, leads-holds, taken-formed}
 use Rattle.markdown_tokenizer.proofs.tokenizer.Tokenizer.flush.Goals as goal
 
 pub unreachable-requires : goal.unreachable-requires

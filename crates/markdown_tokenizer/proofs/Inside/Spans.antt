@@ -1,0 +1,173 @@
+-- A span begins or ends: the fields of a tokenizer keep what holds of them.
+use Rattle.std.proofs.Common.{◌≡◌, ℕ, suc, ◌-◌, ◌≤◌, ◌<◌, List, [], ◌∷◌, ◌++◌, Bool, Option, Some, None, length, refl, sym, ap, ◌∙◌, subst, arith, length-append, take, length-take}
+use Rattle.std.specs.Prelude.{map, reverse, IfSome, All}
+use Rattle.std.proofs.lemmas.List.{take-append-le, take-take}
+use Rattle.markdown_base.specs.declared.event.Point.{Point}
+use Rattle.markdown_base.specs.declared.event.Event.{Event}
+use Rattle.markdown_base.specs.declared.event.Link.{Link}
+use Rattle.markdown_base.specs.declared.event.Name.{Name}
+use Rattle.markdown_base.specs.declared.event.Kind.TheVariants.{Enter, Exit}
+use Rattle.markdown_base.specs.Places.{shown}
+use Rattle.markdown_tokenizer.specs.declared.waiting.Waits.{Waits}
+use Rattle.markdown_tokenizer.specs.declared.waiting.Waits.TheVariants.{Nothing, Byte, End}
+use Rattle.markdown_tokenizer.specs.declared.waiting.Phase.TheVariants.{Reading}
+use Rattle.markdown_tokenizer.specs.declared.waiting.AttemptKind.{AttemptKind}
+use Rattle.markdown_tokenizer.specs.declared.waiting.GoesOn.{GoesOn}
+use Rattle.markdown_tokenizer.specs.declared.waiting.KeptChoice.{KeptChoice}
+use Rattle.markdown_tokenizer.specs.declared.waiting.Progress.{Progress}
+use Rattle.markdown_tokenizer.specs.declared.tokenizer.Tokenizer.TheInside.{Inside}
+use Rattle.markdown_tokenizer.specs.Configuration.{Choice}
+use Rattle.markdown_tokenizer.specs.Calls.{CanExit}
+use Rattle.markdown_tokenizer.specs.Gaps.{resumed}
+use Rattle.markdown_tokenizer.specs.View.{tab_of, seen, text_within, position_from, standing, choice_of, saved_of, IsProgress, AreNested, events_of, stack_of, IsSound}
+use Rattle.markdown_tokenizer.specs.Made.{IsMade}
+use Rattle.markdown_tokenizer.proofs.Inside.Made.{made-enter-at, made-exit-at}
+use Rattle.markdown_tokenizer.proofs.Inside.Fields.{nested-map, nested-wider}
+use Rattle.markdown_tokenizer.specs.Sight.{sight}
+use Rattle.markdown_tokenizer.proofs.Inside.Steps.{here-is, after_previous-is}
+
+-- what choices saved, as a list of choices, with another stack that has the same front
+choice-mark : (position : Point → ℕ) (a b : List Name) (stack : ℕ) (kind : AttemptKind) (ok nok : GoesOn) (P : Progress → Type 0) (events : ℕ) (saved : Option Progress)
+    → ((n : ℕ) → n ≤ stack → take n a ≡ take n b) → IfSome saved (λ p. (p.events_len ≤ events) × (p.stack_len ≤ stack) × P p)
+    → choice_of position a (record { kind = kind; ok = ok; nok = nok; saved = saved }) ≡ choice_of position b (record { kind = kind; ok = ok; nok = nok; saved = saved })
+choice-mark position a b stack kind ok nok P events None same h = refl
+choice-mark position a b stack kind ok nok P events (Some p) same h = let e = same p.stack_len h.1 in rw e refl
+
+narrower : (a b : List Name) (stack : ℕ) (P : Progress → Type 0) (events : ℕ) (saved : Option Progress)
+    → ((n : ℕ) → n ≤ stack → take n a ≡ take n b) → IfSome saved (λ p. (p.events_len ≤ events) × (p.stack_len ≤ stack) × P p)
+    → (n : ℕ) → n ≤ stack_of stack saved → take n a ≡ take n b
+narrower a b stack P events None same h n le = same n le
+narrower a b stack P events (Some p) same h n le = same n (omega (arith, h.1))
+
+pub same-choices : (position : Point → ℕ) (a b : List Name) (P : Progress → Type 0) (events stack : ℕ) (kept_choices : List KeptChoice)
+    → ((n : ℕ) → n ≤ stack → take n a ≡ take n b) → AreNested P events stack kept_choices
+    → map (choice_of position a) kept_choices ≡ map (choice_of position b) kept_choices
+same-choices position a b P events stack [] same h = refl
+same-choices position a b P events stack (choice ∷ kept_choices) same h =
+    let first = choice-mark position a b stack choice.kind choice.ok choice.nok P events choice.saved same h.0 in
+    let others = same-choices position a b P (events_of events choice.saved) (stack_of stack choice.saved) kept_choices (narrower a b stack P events choice.saved same h.0) h.1 in
+    ap (λ (c : Choice). c ∷ map (choice_of position a) kept_choices) first ∙ ap (λ (cs : List Choice). choice_of position b choice ∷ cs) others
+
+-- the code's place, from its list of gaps
+pub entered-here : {M R D : Type 0} (t : Inside M R D) (slice : List Point) (place here : Point) → slice ≡ t.skips → place ≡ standing slice t.after_previous t.waits
+    → here ≡ shown t.parse_state.now.bytes.now place → here ≡ shown t.parse_state.now.bytes.now (standing t.skips t.after_previous t.waits)
+entered-here t slice place here e f g = g ∙ ap (shown t.parse_state.now.bytes.now) (f ∙ ap (λ (skips : List Point). standing skips t.after_previous t.waits) e)
+
+standing-there : (skips : List Point) (p : Point) (waits : Waits) → resumed skips p ≡ p → standing skips p waits ≡ p
+standing-there skips p Nothing e = refl
+standing-there skips p Byte e = e
+standing-there skips p End e = e
+
+-- the same where the next byte is looked for at the place after the byte before
+pub entered-there : {M R D : Type 0} (t : Inside M R D) (slice : List Point) (here : Point) → slice ≡ t.skips → resumed slice t.after_previous ≡ t.after_previous
+    → here ≡ shown t.parse_state.now.bytes.now t.after_previous → here ≡ shown t.parse_state.now.bytes.now (standing t.skips t.after_previous t.waits)
+entered-there t slice here e there is =
+    is ∙ ap (shown t.parse_state.now.bytes.now) (sym (standing-there t.skips t.after_previous t.waits (subst (λ (skips : List Point). resumed skips t.after_previous ≡ t.after_previous) e there)))
+
+module _ {M R D : Type 0} {same : R → R → Bool} (t : Inside M R D) (sound : IsSound same t) where
+  -- a span begins
+  module _ (name : Name) (link : Option Link) (here : Point) (is : here ≡ shown t.parse_state.now.bytes.now (standing t.skips t.after_previous t.waits)) (events : List Event) (stack : List Name)
+      (put : events ≡ t.events.items ++ record { kind = Enter; name = name; point = here; link = link } ∷ []) (top : stack ≡ t.stack.items ++ name ∷ []) where
+    abbrev left_in : Point
+    left_in = shown t.parse_state.now.bytes.now t.after_previous
+
+    abbrev bound_in : Point
+    bound_in = shown t.parse_state.now.bytes.now (standing t.skips t.after_previous t.waits)
+
+    pub entered-made : t.phase ≡ Reading → IsMade t.parse_state.now.bytes.now events stack left_in bound_in
+    entered-made reads =
+        rw (put, top, is) (made-enter-at t.parse_state.now.bytes.now t.events.items t.stack.items left_in bound_in (sound.made reads) name link)
+
+    entered-front : (n : ℕ) → n ≤ length t.stack.items → take n stack ≡ take n t.stack.items
+    entered-front n le = rw top (take-append-le n t.stack.items (name ∷ []) le)
+
+    entered-events : (n : ℕ) → n ≤ length t.events.items → take n events ≡ take n t.events.items
+    entered-events n le = rw put (take-append-le n t.events.items (record { kind = Enter; name = name; point = here; link = link } ∷ []) le)
+
+    pub entered-kept_choices : AreNested (IsProgress t.phase (tab_of t.parse_state.now) t.parse_state.now.bytes.now t.skips (text_within t) events stack t.closed) (length events) (length stack) (reverse t.kept_choices.items)
+    entered-kept_choices =
+        let P = IsProgress t.phase (tab_of t.parse_state.now) t.parse_state.now.bytes.now t.skips (text_within t) t.events.items t.stack.items t.closed in
+        let Q = IsProgress t.phase (tab_of t.parse_state.now) t.parse_state.now.bytes.now t.skips (text_within t) events stack t.closed in
+        nested-wider Q (length t.events.items) (length t.stack.items) (length events) (length stack) (reverse t.kept_choices.items)
+        (omega (arith, ap length put, length-append t.events.items (record { kind = Enter; name = name; point = here; link = link } ∷ [])))
+        (omega (arith, ap length top, length-append t.stack.items (name ∷ [])))
+        (nested-map P Q (length t.events.items) (length t.stack.items) (reverse t.kept_choices.items)
+        (λ p a b h. let e = entered-events p.events_len a in let s = entered-front p.stack_len b in
+        record { read = h.read; ended = h.ended; made = rw (e, s) h.made }) sound.kept_choices)
+
+    pub entered-choices : map (choice_of (position_from (tab_of t.parse_state.now) t.parse_state.now.bytes.now t.skips t.start) stack) (reverse t.kept_choices.items) ≡ map (choice_of (position_from (tab_of t.parse_state.now) t.parse_state.now.bytes.now t.skips t.start) t.stack.items) (reverse t.kept_choices.items)
+    entered-choices =
+        same-choices (position_from (tab_of t.parse_state.now) t.parse_state.now.bytes.now t.skips t.start) stack t.stack.items (IsProgress t.phase (tab_of t.parse_state.now) t.parse_state.now.bytes.now t.skips (text_within t) t.events.items t.stack.items t.closed)
+        (length t.events.items) (length t.stack.items) (reverse t.kept_choices.items) entered-front sound.kept_choices
+
+    pub entered-at : here ≡ (sight (seen t).given (seen t).text (seen t).configuration).enter_place
+    entered-at = is ∙ here-is t sound
+
+module _ (position : Point → ℕ) (stack : List Name) (P : Progress → Type 0) where
+  abbrev IsAbove : Choice → Type 0
+  IsAbove c = IfSome c.saved (λ s. length s.stack < length stack)
+
+  first-above : (choice : KeptChoice) (kept_choices : List KeptChoice) → All IsAbove (map (choice_of position stack) (choice ∷ kept_choices)) → IsAbove (choice_of position stack choice)
+  first-above choice kept_choices h = h 0 (choice_of position stack choice) (omega arith)
+
+  rest-above : (choice : KeptChoice) (kept_choices : List KeptChoice) → All IsAbove (map (choice_of position stack) (choice ∷ kept_choices)) → All IsAbove (map (choice_of position stack) kept_choices)
+  rest-above choice kept_choices h = λ k d lt. h (suc k) d (omega arith)
+
+  below-mark : (events : ℕ) (saved : Option Progress) (kept_choices : List KeptChoice) → IfSome (saved_of position stack saved) (λ s. length s.stack < length stack)
+      → (AreNested P events (length stack) kept_choices → AreNested P events (length stack - 1) kept_choices)
+      → IfSome saved (λ p. (p.events_len ≤ events) × (p.stack_len ≤ length stack) × P p) → AreNested P (events_of events saved) (stack_of (length stack) saved) kept_choices
+      → IfSome saved (λ p. (p.events_len ≤ events) × (p.stack_len ≤ length stack - 1) × P p) × AreNested P (events_of events saved) (stack_of (length stack - 1) saved) kept_choices
+  below-mark events None kept_choices a more h k = (tt, more k)
+  below-mark events (Some p) kept_choices a more h k = let l = length-take p.stack_len stack in ((h.0, omega (arith, a, h.1), h.2), k)
+
+  -- waiting choices that saved a smaller stack are nested in a stack that is one smaller
+  pub nested-below : (events : ℕ) (kept_choices : List KeptChoice) → All IsAbove (map (choice_of position stack) kept_choices)
+      → AreNested P events (length stack) kept_choices → AreNested P events (length stack - 1) kept_choices
+  nested-below events [] a h = tt
+  nested-below events (choice ∷ kept_choices) a h = below-mark events choice.saved kept_choices (first-above choice kept_choices a) (nested-below events kept_choices (rest-above choice kept_choices a)) h.0 h.1
+
+module _ {M R D : Type 0} {same : R → R → Bool} (t : Inside M R D) (sound : IsSound same t) (name : Name) (can : CanExit name (seen t)) (events : List Event) (stack : List Name) (here : Point)
+    (is : here ≡ shown t.parse_state.now.bytes.now t.after_previous)
+    (put : events ≡ t.events.items ++ record { kind = Exit; name = name; point = here; link = None } ∷ []) (top : stack ≡ take (length t.stack.items - 1) t.stack.items) where
+  abbrev left_at : Point
+  left_at = shown t.parse_state.now.bytes.now t.after_previous
+
+  abbrev bound_at : Point
+  bound_at = shown t.parse_state.now.bytes.now (standing t.skips t.after_previous t.waits)
+
+  pub exited-made : t.phase ≡ Reading → IsMade t.parse_state.now.bytes.now events stack left_at bound_at
+  exited-made reads =
+      let l = after_previous-is t sound in
+      rw (put, top, is) (made-exit-at t.parse_state.now.bytes.now t.events.items t.stack.items left_at bound_at (sound.made reads) name can.top
+      (λ o e. rw l (can.read o e)) can.void)
+
+  exited-front : (n : ℕ) → n ≤ length t.stack.items - 1 → take n stack ≡ take n t.stack.items
+  exited-front n le = rw top (take-take n (length t.stack.items - 1) t.stack.items le)
+
+  exited-events : (n : ℕ) → n ≤ length t.events.items → take n events ≡ take n t.events.items
+  exited-events n le = rw put (take-append-le n t.events.items (record { kind = Exit; name = name; point = here; link = None } ∷ []) le)
+
+  exited-nested : AreNested (IsProgress t.phase (tab_of t.parse_state.now) t.parse_state.now.bytes.now t.skips (text_within t) t.events.items t.stack.items t.closed) (length t.events.items) (length t.stack.items - 1) (reverse t.kept_choices.items)
+  exited-nested =
+      nested-below (position_from (tab_of t.parse_state.now) t.parse_state.now.bytes.now t.skips t.start) t.stack.items (IsProgress t.phase (tab_of t.parse_state.now) t.parse_state.now.bytes.now t.skips (text_within t) t.events.items t.stack.items t.closed)
+      (length t.events.items) (reverse t.kept_choices.items) can.above sound.kept_choices
+
+  pub exited-kept_choices : AreNested (IsProgress t.phase (tab_of t.parse_state.now) t.parse_state.now.bytes.now t.skips (text_within t) events stack t.closed) (length events) (length stack) (reverse t.kept_choices.items)
+  exited-kept_choices =
+      let P = IsProgress t.phase (tab_of t.parse_state.now) t.parse_state.now.bytes.now t.skips (text_within t) t.events.items t.stack.items t.closed in
+      let Q = IsProgress t.phase (tab_of t.parse_state.now) t.parse_state.now.bytes.now t.skips (text_within t) events stack t.closed in
+      let m = length t.stack.items - 1 in
+      nested-wider Q (length t.events.items) m (length events) (length stack) (reverse t.kept_choices.items)
+      (omega (arith, ap length put, length-append t.events.items (record { kind = Exit; name = name; point = here; link = None } ∷ [])))
+      (omega (arith, ap length top, length-take m t.stack.items))
+      (nested-map P Q (length t.events.items) m (reverse t.kept_choices.items)
+      (λ p a b h. let e = exited-events p.events_len a in let s = exited-front p.stack_len b in
+      record { read = h.read; ended = h.ended; made = rw (e, s) h.made }) exited-nested)
+
+  pub exited-choices : map (choice_of (position_from (tab_of t.parse_state.now) t.parse_state.now.bytes.now t.skips t.start) stack) (reverse t.kept_choices.items) ≡ map (choice_of (position_from (tab_of t.parse_state.now) t.parse_state.now.bytes.now t.skips t.start) t.stack.items) (reverse t.kept_choices.items)
+  exited-choices =
+      same-choices (position_from (tab_of t.parse_state.now) t.parse_state.now.bytes.now t.skips t.start) stack t.stack.items (IsProgress t.phase (tab_of t.parse_state.now) t.parse_state.now.bytes.now t.skips (text_within t) t.events.items t.stack.items t.closed)
+      (length t.events.items) (length t.stack.items - 1) (reverse t.kept_choices.items) exited-front exited-nested
+
+  pub exited-at : here ≡ (sight (seen t).given (seen t).text (seen t).configuration).exit_place
+  exited-at = is ∙ after_previous-is t sound
