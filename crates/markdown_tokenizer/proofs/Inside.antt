@@ -3,6 +3,7 @@ pub mod Changes
 pub mod Choices
 pub mod Fields
 pub mod GoingOn
+pub mod Known
 pub mod Made
 pub mod Spans
 pub mod Steps

@@ -1,9 +1,11 @@
 -- What is at a place, in the bytes and in the virtual text. An inner file: no public clause cites it.
 use Rattle.std.specs.List.{AllByRecursion}
-use Rattle.std.specs.Prelude.{◌≡◌, ℕ, suc, ◌+◌, ◌*◌, ◌%◌, ◌≤◌, ◌<◌, ◌==◌, nat_lt, ◌&&◌, ◌||◌, not, Bool, true, false, cond, ◌⊎◌, slice_index, List, [], ◌∷◌, ◌++◌, drop, length, Option, Some, None}
+use Rattle.std.specs.Prelude.{◌≡◌, ◌≢◌, ℕ, suc, ◌+◌, ◌*◌, ◌%◌, ◌≤◌, ◌<◌, ◌==◌, nat_lt, ◌&&◌, ◌||◌, not, Bool, true, false, cond, ◌⊎◌, slice_index, List, [], ◌∷◌, ◌++◌, drop, length, Option, Some, None}
 use Rattle.markdown_base.specs.declared.event.Point.{Point}
 use Rattle.markdown_base.specs.Virtual.{Seat, point, tab_width, in_tab, virtual_from, virtual, end_after}
 use Rattle.markdown_base.specs.Places.{stands_before, shown}
+use Rattle.markdown_tokenizer.specs.declared.waiting.Moves.{Moves}
+use Rattle.markdown_tokenizer.specs.declared.waiting.Moves.TheVariants.{Plain, Tab, Last, Line, Other}
 
 -- the virtual bytes from a place on
 abbrev pub rest_at : (t : ℕ) → List ℕ → Point → List Seat
@@ -72,3 +74,27 @@ end_at t byte p =
     (cond (goes_on t byte p)
     (point p.line (suc p.column) p.index (suc p.vs))
     (point p.line (suc p.column) (suc p.index) 0))
+
+-- where a place comes to when it moves over a virtual byte
+abbrev pub moved : Moves → Point → Point
+moved Plain p = point p.line (p.column + 1) (p.index + 1) 0
+moved Tab p = point p.line (p.column + 1) p.index (p.vs + 1)
+moved Last p = point p.line (p.column + 1) (p.index + 1) 0
+moved Line p = point (p.line + 1) 1 (p.index + 1) 0
+moved Other p = point p.line (p.column + 1) (p.index + 1) 0
+
+-- a place moves so over the next virtual byte, and over a plain one only outside of tabs
+pub record MovesOver (t : ℕ) (bytes : List ℕ) (p : Point) (moves : Moves) : Type 0 where
+  pub ends : (seat : Seat) → IsSeatAt t bytes p seat → seat.end ≡ moved moves p
+  pub flat : moves ≡ Plain → p.vs ≡ 0
+
+-- the next virtual byte is this one, at the place itself and at an index before an end; the place moves so over it. It is before `ready`,
+-- or not at the beginning of a line
+pub record IsQuick (t : ℕ) (bytes : List ℕ) (p : Point) (ready end byte : ℕ) (moves : Moves) : Type 0 where
+  pub seat : Seat
+  pub at : IsSeatAt t bytes p seat
+  pub here : seat.point ≡ p
+  pub is : seat.byte ≡ byte
+  pub before : p.index < end
+  pub there : (p.index < ready) ⊎ (p.column ≢ 1)
+  pub over : MovesOver t bytes p moves

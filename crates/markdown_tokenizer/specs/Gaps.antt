@@ -1,6 +1,6 @@
 -- Gaps: beginnings of lines that are passed and never read. An inner file: no public clause cites it.
 use Rattle.std.specs.List.{AllByRecursion}
-use Rattle.std.specs.Prelude.{◌≡◌, ℕ, ◌<◌, ◌==◌, not, Bool, true, false, cond, List, [], ◌∷◌, Option, Some, None, find, filter, unwrap_or, ◌⊎◌}
+use Rattle.std.specs.Prelude.{◌≡◌, ℕ, ◌≤◌, ◌<◌, ◌==◌, not, Bool, true, false, cond, List, [], ◌∷◌, Option, Some, None, find, filter, unwrap_or, ◌⊎◌}
 use Rattle.markdown_base.specs.declared.event.Point.{Point}
 use Rattle.markdown_base.specs.Virtual.{Seat, virtual}
 use Rattle.markdown_base.specs.Places.{stands_before, is_upto}
@@ -42,3 +42,9 @@ pub record IsSkip (t : ℕ) (bytes : List ℕ) (end : Point) (p : Point) : Type 
 abbrev pub IsOutside : List Point → Point → Type 0
 IsOutside skips after_previous =
     (p : Point) → skip_of skips after_previous.line ≡ Some p → (after_previous.column ≡ 1) ⊎ (stands_before after_previous p ≡ false)
+
+-- an index is not after an end; a place with a smaller index is in no tab, and no gap begins there
+pub record IsReadyAt (skips : List Point) (place : Point) (end ready : ℕ) : Type 0 where
+  pub before : ready ≤ end
+  pub flat : place.index < ready → place.vs ≡ 0
+  pub there : place.index < ready → resumed skips place ≡ place

@@ -1,6 +1,6 @@
 -- What the fields of a tokenizer mean. An inner file: no public clause cites it.
 use Rattle.std.specs.List.{AllByRecursion, IsDistinct}
-use Rattle.std.specs.Prelude.{◌≡◌, ℕ, ◌≤◌, List, [], ◌∷◌, Bool, true, false, cond, nat_lt, ◌||◌, Option, None, Some, length, map, take, reverse, unwrap_or, IfSome, Result}
+use Rattle.std.specs.Prelude.{◌≡◌, ◌≢◌, ℕ, ◌≤◌, List, [], ◌∷◌, Bool, true, false, cond, nat_lt, ◌||◌, Option, None, Some, length, map, take, reverse, unwrap_or, IfSome, Result}
 use Rattle.std.specs.declared.result.Result.TheVariants as result
 use Rattle.markdown_base.specs.declared.event.Event.{Event}
 use Rattle.markdown_base.specs.declared.event.Name.{Name}
@@ -12,6 +12,8 @@ use Rattle.markdown_base.specs.Virtual.{Seat, point}
 use Rattle.markdown_base.specs.Places.{point_at, shown, stands_before, is_upto}
 use Rattle.markdown_tokenizer.specs.declared.waiting.Waits.{Waits}
 use Rattle.markdown_tokenizer.specs.declared.waiting.Waits.TheVariants.{Nothing, Byte, End}
+use Rattle.markdown_tokenizer.specs.declared.waiting.Moves.{Moves}
+use Rattle.markdown_tokenizer.specs.declared.waiting.Moves.TheVariants.{Other}
 use Rattle.markdown_tokenizer.specs.declared.waiting.Phase.{Phase}
 use Rattle.markdown_tokenizer.specs.declared.waiting.Phase.TheVariants.{Reading}
 use Rattle.markdown_tokenizer.specs.declared.waiting.GoesOn.{GoesOn}
@@ -25,8 +27,8 @@ use Rattle.markdown_tokenizer.specs.Text.{Given, Text, IsText}
 use Rattle.markdown_tokenizer.specs.Configuration.{Configuration, Choice, Saved, TokenizerValue}
 use Rattle.markdown_tokenizer.specs.Calls.{saved_at}
 use Rattle.markdown_tokenizer.specs.Sight.{seat_before, byte_of, end_place}
-use Rattle.markdown_tokenizer.specs.Cursor.{IsPlace, IsSeatAt}
-use Rattle.markdown_tokenizer.specs.Gaps.{kept_between, resumed, IsSkip, IsOutside}
+use Rattle.markdown_tokenizer.specs.Cursor.{IsPlace, IsSeatAt, MovesOver}
+use Rattle.markdown_tokenizer.specs.Gaps.{kept_between, resumed, IsSkip, IsOutside, IsReadyAt}
 use Rattle.markdown_tokenizer.specs.Made.{IsMade}
 
 abbrev pub state_of : GoesOn → State
@@ -190,11 +192,20 @@ pub record IsPlaced (g : Given) (size : ℕ) (passes : List Point) (within : Tex
   pub ended : end_fed ≡ true → closed ≡ true
   pub reads : closed ≡ false → phase ≡ Reading
 
--- What holds for the fields: the position, the events, what choices saved, and that no resolver is there twice. For the events it holds
+-- What is known of the next byte: the bytes of the document, up to which index one is looked for at the place itself, and, if a byte
+-- waits, how the place moves over it
+pub record IsKnown (own : List ℕ) (tab : ℕ) (bytes : List ℕ) (skips : List Point) (place : Point) (end ready : ℕ) (waits : Waits) (moves : Moves) : Type 0 where
+  pub own_bytes : own ≡ bytes
+  pub ready_at : IsReadyAt skips place end ready
+  pub there : waits ≡ Byte → moves ≢ Other → resumed skips place ≡ place
+  pub over : waits ≡ Byte → moves ≢ Other → MovesOver tab bytes place moves
+
+-- What holds for the fields: the position, what is known of the next byte, the events, what choices saved, and that no resolver is there twice. For the events it holds
 -- until a flush resolves, as resolvers may change them freely.
 pub record IsSound {M R D : Type 0} (same : R → R → Bool) (t : Inside M R D) : Type 0 where
   pub placed : IsPlaced (seen t).given t.tab_size t.skips (text_within t) t.end
       t.after_previous t.previous t.current t.waits t.ended t.closed t.phase
+  pub known : IsKnown t.bytes.now (tab_of t.parse_state.now) t.parse_state.now.bytes.now t.skips t.after_previous t.end.0 t.ready t.waits t.moves
   pub made : t.phase ≡ Reading
       → IsMade t.parse_state.now.bytes.now t.events.items t.stack.items
       (shown t.parse_state.now.bytes.now t.after_previous)

@@ -1,13 +1,14 @@
 //! The cursor: the place of a reader in the virtual text of a document.
 
-ghost use Rattle.markdown_tokenizer.specs.Cursor.{goes_on, begins_pair, IsPlace, IsSeatAt, IsNextSeat, IsNextByte, is_before_pair, is_after_pair};
-ghost use Rattle.markdown_tokenizer.specs.Gaps.{skip_of, resumed};
+ghost use Rattle.markdown_tokenizer.specs.Cursor.{goes_on, begins_pair, IsPlace, IsSeatAt, IsNextSeat, IsNextByte, is_before_pair, is_after_pair, moved, IsQuick};
+ghost use Rattle.markdown_tokenizer.specs.Gaps.{skip_of, resumed, IsReadyAt};
 ghost use Rattle.markdown_base.specs.Places;
 ghost use Rattle.markdown_base.specs.Virtual.{IsWithinLimit, Seat};
 ghost use Rattle.std.specs.Bool.{OnTrue};
-ghost use Rattle.std.specs.Prelude.{◌≡◌, ◌==◌, ◌&&◌, ◌||◌, nat_lt, ◌+◌, ◌%◌, ◌^◌, ◌<◌, ℕ, length, not, unwrap_or};
+ghost use Rattle.std.specs.Prelude.{◌≡◌, ◌==◌, ◌&&◌, ◌||◌, nat_lt, ◌+◌, ◌%◌, ◌^◌, ◌<◌, ℕ, length, not, unwrap_or, IfSome, ◌≤◌};
 
 use crate::skips::Skips;
+use crate::waiting::Moves;
 use markdown_base::event::Point;
 
 /// Whether a CR LF begins at an index.
@@ -133,6 +134,103 @@ fn goes_on_by(t: usize, column: usize) -> bool
     ensures { result ≡ not (column % t == 0) }
 {
     column % t != 0
+}
+
+/// Up to which index bytes are known to be before the end of the text, at `end`: up to there, if the place is in no tab and no gap
+/// begins at it. Else 0.
+#[inline(always)]
+pub(crate) fn ready_at(skips: &Skips, place: &Point, end: usize) -> usize
+    ensures { IsReadyAt skips.now place.now end result }
+{
+    if place.vs == 0 && is_where_more_is(skips, place) {
+        end
+    } else {
+        0
+    }
+}
+
+/// The next virtual byte from a place on, and how the place moves over it, if the byte at its index alone tells them.
+///
+/// It is `None` for a CR, at the end of the text, for a byte that is partly after it, and for a control character.
+#[inline(always)]
+pub(crate) fn quick_byte(
+    bytes: &[u8],
+    t: &usize,
+    point: &Point,
+    ready: usize,
+    end: usize,
+) -> Option<(u8, Moves)>
+    requires some { 0 < t.now }
+    requires place { IsPlace t.now bytes.now point.now }
+    requires before { ready ≤ end }
+    requires inside { end ≤ length bytes.now }
+    requires plain { point.now.index < ready → point.now.vs ≡ 0 }
+    ensures { IfSome result (λ r. IsQuick t.now bytes.now point.now ready end r.0 r.1) }
+{
+    if point.index < ready {
+        let byte = bytes[point.index];
+        if byte > b'\r' {
+            return Some((byte, Moves::Plain));
+        }
+        if byte == b'\n' {
+            return Some((byte, Moves::Line));
+        }
+        if byte != b'\t' {
+            return None;
+        }
+        if goes_on(t, point, byte) {
+            return Some((byte, Moves::Tab));
+        }
+        return Some((byte, Moves::Last));
+    }
+    if point.vs > 0 && point.index < end && point.column != 1 {
+        if goes_on(t, point, b' ') {
+            return Some((b' ', Moves::Tab));
+        }
+        return Some((b' ', Moves::Last));
+    }
+    None
+}
+
+/// Moves a place over a byte that is no line ending and in no tab.
+#[inline(always)]
+pub(crate) fn pass_plain(point: &mut Point)
+    requires index { point.old.index + 1 < 2 ^ 64 }
+    requires column { point.old.column + 1 < 2 ^ 64 }
+    requires flat { point.old.vs ≡ 0 }
+    ensures { point.new ≡ moved Moves.Plain point.old }
+{
+    point.index += 1;
+    point.column += 1;
+}
+
+/// Moves a place as `moves` says. Returns up to which index bytes are then known to be before the end of the text, at `end`.
+#[inline(always)]
+pub(crate) fn step(moves: Moves, skips: &Skips, end: usize, point: &mut Point) -> usize
+    requires line { point.old.line + 1 < 2 ^ 64 }
+    requires index { point.old.index + 1 < 2 ^ 64 }
+    requires column { point.old.column + 1 < 2 ^ 64 }
+    requires first { 1 ≤ point.old.column }
+    requires number { point.old.vs + 1 < 2 ^ 64 }
+    ensures place { point.new ≡ moved moves point.old }
+    ensures ready { IsReadyAt skips.now point.new end result }
+{
+    if matches!(moves, Moves::Tab) {
+        point.column += 1;
+        point.vs += 1;
+        return 0;
+    }
+    if matches!(moves, Moves::Line) {
+        point.line += 1;
+        point.column = 1;
+        point.index += 1;
+        point.vs = 0;
+        return if skips.is_empty() { end } else { 0 };
+    }
+    point.column += 1;
+    point.index += 1;
+    point.vs = 0;
+    end
 }
 
 /// Moves a place over `byte`, the next virtual byte: for a CR LF over both bytes. There is a tab stop at every `t`

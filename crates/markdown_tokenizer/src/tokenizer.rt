@@ -10,7 +10,7 @@ mod running;
 mod state;
 
 use crate::count::Calls;
-use crate::cursor::{is_after, is_where_more_is, pass, resume, shown};
+use crate::cursor::{is_after, is_where_more_is, pass, pass_plain, ready_at, resume, shown, step};
 use crate::parser::ParseState;
 use crate::places::bytes_are_below_256;
 pub use crate::places::{cuts_every, point_at};
@@ -24,7 +24,7 @@ pub use crate::tokenizer::state::{
     Container, ContainerState, Label, LabelKind, LabelStart, TokenizeState,
 };
 use crate::util::edit_map::EditMap;
-use crate::waiting::{AttemptKind, GoesOn, KeptChoice, Phase, Progress, Waits, standing};
+use crate::waiting::{AttemptKind, GoesOn, KeptChoice, Moves, Phase, Progress, Waits, standing};
 use markdown_base::event::{Event, Kind, Link, Name, Point};
 use std::alloc::{AllocError, Global};
 use std::marker::Model;
@@ -57,12 +57,19 @@ pub struct Tokenizer<'a, M: MachineTypes> {
     after_previous: Point,
     /// What waits.
     waits: Waits,
+    /// How the place after the byte before moves over the byte that waits.
+    moves: Moves,
     /// Whether the end was fed here.
     ended: bool,
     /// The byte before.
     previous: Option<u8>,
     /// The byte that waits.
     current: Option<u8>,
+    /// An index up to which bytes are before the end of the text. If the place after the byte before has a smaller one, it is in no
+    /// tab, and no gap begins there.
+    ready: usize,
+    /// The bytes of the document, those of `parse_state`. They are here too because each byte that is fed needs them.
+    bytes: &'a [u8],
     /// The events so far.
     events: Vec<Event>,
     /// The names of the open spans, the innermost last.
@@ -206,9 +213,12 @@ impl<'a, M: MachineTypes> Tokenizer<'a, M> {
             skips,
             after_previous: point,
             waits: Waits::Nothing,
+            moves: Moves::Other,
             ended: false,
             previous: None,
             current: None,
+            ready: 0,
+            bytes: parse_state.bytes,
             events,
             stack,
             resolvers,
@@ -236,6 +246,53 @@ impl<'a, M: MachineTypes> Tokenizer<'a, M> {
         requires { self.old.configuration.waiting ≡ Waits.Byte }
         ensures { self.new ≡ at_configuration self.old (consumed self.old.configuration) }
     {
+        match self.moves {
+            Moves::Plain => {
+                pass_plain(&mut self.after_previous);
+                self.previous = self.current;
+                self.current = None;
+                self.ended = false;
+                self.waits = Waits::Nothing;
+            }
+            _ => self.consume_apart(),
+        }
+    }
+
+    /// As `consume`, if the byte may be in a tab, or may end a line.
+    ///
+    /// It is a function of its own, called last, as most bytes are not so.
+    #[inline(never)]
+    fn consume_apart(&mut self)
+        requires { self.old.configuration.waiting ≡ Waits.Byte }
+        ensures { self.new ≡ at_configuration self.old (consumed self.old.configuration) }
+    {
+        match self.moves {
+            Moves::Other => {
+                self.consume_rarely();
+                return;
+            }
+            _ => {}
+        }
+        self.ready = step(
+            self.moves,
+            &self.skips,
+            self.end.0,
+            &mut self.after_previous,
+        );
+        self.previous = self.current;
+        self.current = None;
+        self.ended = false;
+        self.waits = Waits::Nothing;
+    }
+
+    /// As `consume`, whatever the byte is: after a gap, for a CR, at the end of the text, and for each byte that is fed while not
+    /// enough is known.
+    #[cold]
+    #[inline(never)]
+    fn consume_rarely(&mut self)
+        requires { self.old.configuration.waiting ≡ Waits.Byte }
+        ensures { self.new ≡ at_configuration self.old (consumed self.old.configuration) }
+    {
         let byte = match self.current {
             None => unreachable!(),
             Some(byte) => byte,
@@ -247,6 +304,7 @@ impl<'a, M: MachineTypes> Tokenizer<'a, M> {
             &mut self.after_previous,
             byte,
         );
+        self.ready = ready_at(&self.skips, &self.after_previous, self.end.0);
         self.previous = self.current;
         self.current = None;
         self.ended = false;
@@ -429,6 +487,8 @@ impl<'a, M: MachineTypes> Tokenizer<'a, M> {
         if is_after(shown(self.parse_state.bytes, point), self.end) {
             self.skips.push(point)?;
             self.end = (point.index, point.vs);
+            self.ready = 0;
+            self.moves = Moves::Other;
         }
         Ok(())
     }

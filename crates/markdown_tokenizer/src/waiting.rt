@@ -16,6 +16,21 @@ pub enum Waits {
     End,
 }
 
+/// How a place moves over the byte that waits.
+#[derive(Clone, Copy)]
+pub(crate) enum Moves {
+    /// By one index and one column, not in a tab.
+    Plain,
+    /// By one column, in a tab that goes on after the byte.
+    Tab,
+    /// By one index and one column: the byte is the last one of a tab.
+    Last,
+    /// By one index, to the beginning of the next line.
+    Line,
+    /// It is not known: the bytes of the document tell it.
+    Other,
+}
+
 /// Whether a choice goes back after `Ok`.
 #[derive(Clone, Copy, Debug, PartialEq, Eq)]
 pub enum AttemptKind {

@@ -366,4 +366,5 @@ module _ {M R D : Type 0} {same : R → R → Bool} (t : Inside M R D) (sound : 
                   (can_feed position (length text.seats) t.closed) (can_feed position (length text.seats) true) (λ e. or-true _) (h.made reads);
             }) sound.kept_choices;
         once = sound.once;
+        known = sound.known;
       }

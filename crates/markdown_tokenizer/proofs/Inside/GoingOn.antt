@@ -22,6 +22,7 @@ use Rattle.markdown_tokenizer.specs.declared.waiting.AttemptKind.TheVariants.{At
 use Rattle.markdown_tokenizer.specs.declared.waiting.GoesOn.{GoesOn}
 use Rattle.markdown_tokenizer.specs.declared.waiting.GoesOn.TheVariants as continuation
 use Rattle.markdown_tokenizer.specs.declared.waiting.KeptChoice.{KeptChoice}
+use Rattle.markdown_tokenizer.specs.declared.waiting.Moves.TheVariants.{Other}
 use Rattle.markdown_tokenizer.specs.declared.waiting.Progress.{Progress}
 use Rattle.markdown_tokenizer.specs.declared.waiting.Waits.{Waits}
 use Rattle.markdown_tokenizer.specs.declared.waiting.Waits.TheVariants.{Nothing, Byte, End}
@@ -31,13 +32,14 @@ use Rattle.markdown_tokenizer.specs.Configuration.{Configuration, Choice, Saved,
 use Rattle.markdown_tokenizer.specs.Reading.{fed, unfed, restored, settled_at}
 use Rattle.markdown_tokenizer.specs.Work.{settled_all, settled_to, answer_of, answer_in, EndsClosed, TakesUp}
 use Rattle.markdown_tokenizer.specs.Unwound.{continuation_of, saved_for, ended_by, Unwinding, unwinding, unwound}
-use Rattle.markdown_tokenizer.specs.Gaps.{resumed}
+use Rattle.markdown_tokenizer.specs.Gaps.{resumed, IsReadyAt}
 use Rattle.markdown_tokenizer.specs.Made.{IsMade, last_kind}
 use Rattle.markdown_tokenizer.specs.Cursor.{IsNextByte}
 use Rattle.markdown_tokenizer.specs.View.{tab_of, seen, text_within, state_of, choice_of, saved_of, position_from, standing, reach, can_feed, ByteWaits, IsWhatWaits, IsProgress, AreNested, events_of, stack_of, IsSound}
 use Rattle.markdown_tokenizer.proofs.Inside.Fields.{wide_of, looks, next-more, next-past, next-none-left, nested-map, nested-wider, nested-front}
 use Rattle.markdown_tokenizer.proofs.Inside.Steps.{before-end}
 use Rattle.markdown_tokenizer.proofs.Inside.Spans.{same-choices}
+use Rattle.markdown_tokenizer.proofs.Inside.Known.{known-other}
 use Rattle.markdown_tokenizer.proofs.Inside.Choices.{progress_of, saves-here, byte-more, closed-more}
 use Rattle.markdown_tokenizer.proofs.Inside.Made.{last_view, open_events-enter}
 use Rattle.markdown_tokenizer.proofs.Inside.Unwinding.{reverse-last}
@@ -326,7 +328,8 @@ takes-ended flush q false answer e f = rw e (refl, f)
 -- the fields once choices have ended
 module _ {M R D : Type 0} {same : R → R → Bool} (t : Inside M R D) (sound : IsSound same t) (flush ok : Bool) (some : t.kept_choices.items ≡ [] → ⊥) (kept_choices : Vec KeptChoice) (goal : GoesOn) (from : Progress)
     (ends : unwinding (reverse kept_choices.items) goal from ≡ unwound (reverse t.kept_choices.items) (ended_by ok) (progress_of t))
-    (events : Vec Event) (stack : Vec Name) (cut : events.items ≡ take from.events_len t.events.items) (top : stack.items ≡ take from.stack_len t.stack.items) where
+    (events : Vec Event) (stack : Vec Name) (cut : events.items ≡ take from.events_len t.events.items) (top : stack.items ≡ take from.stack_len t.stack.items)
+    (ready : ℕ) (near : IsReadyAt t.skips from.after_previous t.end.0 ready) where
   abbrev bytes_there : List ℕ
   bytes_there = t.parse_state.now.bytes.now
 
@@ -343,7 +346,7 @@ module _ {M R D : Type 0} {same : R → R → Bool} (t : Inside M R D) (sound : 
   size_there = length (text_within t).seats
 
   abbrev pub after : Waits → Bool → Option ℕ → Inside M R D
-  after waits ended current = record t { kept_choices = kept_choices; after_previous = from.after_previous; previous = from.previous; events = events; stack = stack; waits = waits; ended = ended; current = current }
+  after waits ended current = record t { kept_choices = kept_choices; after_previous = from.after_previous; previous = from.previous; events = events; stack = stack; waits = waits; ended = ended; current = current; ready = ready; moves = Other }
 
   abbrev NextThere : Option ℕ → Type 0
   NextThere o = IsNextByte tab_there bytes_there (resumed t.skips from.after_previous) t.end o
@@ -364,6 +367,7 @@ module _ {M R D : Type 0} {same : R → R → Bool} (t : Inside M R D) (sound : 
     made = m;
     kept_choices = going-kept_choices t sound ok some kept_choices.items goal from ends events.items stack.items cut top;
     once = sound.once;
+    known = known-other t.skips from.after_previous t.end.0 t.bytes.now tab_there bytes_there sound.known.own_bytes ready near waits;
   }
 
   -- a byte

@@ -1,5 +1,5 @@
 -- Each call on a tokenizer keeps what holds of its fields, and does what its contract says.
-use Rattle.std.proofs.Common.{Bool, ◌≡◌, ℕ, ◌≤◌, ◌<◌, List, [], true, false, Option, Some, None, length, refl, sym, ap, ◌∙◌, subst, add-one, inl, inr}
+use Rattle.std.proofs.Common.{Bool, ◌≡◌, ◌≢◌, ℕ, ◌≤◌, ◌<◌, List, [], true, false, Option, Some, None, length, refl, sym, ap, ◌∙◌, subst, add-one, arith, inl, inr}
 use Rattle.std.specs.Prelude.{map}
 use Rattle.std.proofs.lemmas.Bool.{lt-ltb}
 use Rattle.markdown_base.specs.declared.event.Point.{Point}
@@ -10,6 +10,8 @@ use Rattle.markdown_base.specs.Events.{open_events}
 use Rattle.markdown_base.proofs.Seats.{stands-self}
 use Rattle.markdown_tokenizer.specs.declared.waiting.Waits.{Waits}
 use Rattle.markdown_tokenizer.specs.declared.waiting.Waits.TheVariants.{Nothing, Byte, End}
+use Rattle.markdown_tokenizer.specs.declared.waiting.Moves.{Moves}
+use Rattle.markdown_tokenizer.specs.declared.waiting.Moves.TheVariants.{Other}
 use Rattle.markdown_tokenizer.specs.declared.waiting.Phase.TheVariants.{Reading}
 use Rattle.markdown_tokenizer.specs.declared.tokenizer.Tokenizer.TheInside.{Inside}
 use Rattle.markdown_tokenizer.specs.Configuration.{at_configuration}
@@ -18,9 +20,9 @@ use Rattle.markdown_tokenizer.specs.Calls.{consumed}
 use Rattle.markdown_tokenizer.specs.Reading.{fed}
 use Rattle.markdown_tokenizer.specs.Engine.{IsWellFormed}
 use Rattle.markdown_tokenizer.specs.Work.{IsInText}
-use Rattle.markdown_tokenizer.specs.Gaps.{resumed}
-use Rattle.markdown_tokenizer.specs.View.{tab_of, seen, text_within, end_point, seats_between, position_from, standing, IsReadTo, ByteWaits, EndWaits, IsWhatWaits, IsSound}
-use Rattle.markdown_tokenizer.specs.Cursor.{IsPlace, IsSeatAt, rest_at, is_before_pair, IsNextByte}
+use Rattle.markdown_tokenizer.specs.Gaps.{resumed, IsReadyAt}
+use Rattle.markdown_tokenizer.specs.View.{tab_of, seen, text_within, end_point, seats_between, position_from, standing, IsReadTo, ByteWaits, EndWaits, IsWhatWaits, IsKnown, IsSound}
+use Rattle.markdown_tokenizer.specs.Cursor.{IsPlace, IsSeatAt, rest_at, is_before_pair, IsNextByte, moved, IsQuick}
 use Rattle.markdown_tokenizer.proofs.Positions.Order.{later-later}
 use Rattle.markdown_tokenizer.proofs.Positions.Seats.{one-seat}
 use Rattle.markdown_tokenizer.proofs.Positions.Standing.{place-of-point, shown-shown, shown-upto, seat-shown, seat-passes}
@@ -28,6 +30,7 @@ use Rattle.markdown_tokenizer.proofs.Positions.Gaps.{IsResumed}
 use Rattle.markdown_tokenizer.proofs.Positions.Points.{point_at-is, shown-line, shown-column, same-numbers}
 use Rattle.markdown_tokenizer.specs.Made.{IsMade}
 use Rattle.markdown_tokenizer.proofs.Inside.Made.{made-consume, made-end}
+use Rattle.markdown_tokenizer.proofs.Inside.Known.{quick-there, known-unfed, known-quick, Fits, place-fits, not-before-index}
 use Rattle.markdown_tokenizer.proofs.Inside.Fields.{wide_of, looks, within, next-shown, next-seat, next-more, next-past, next-number, read-next, next-none-left, end-shown, made-later}
 
 module _ {M R D : Type 0} {same : R → R → Bool} (t : Inside M R D) (sound : IsSound same t) where
@@ -176,8 +179,9 @@ module _ {M R D : Type 0} {same : R → R → Bool} (t : Inside M R D) (sound : 
         → seen (record t { waits = Byte; current = Some byte }) ≡ at_configuration (seen t) (fed (seen t).text (seen t).configuration)
     fed-seen byte lt = let f = lt-ltb (seen t).configuration.position (length (seen t).text.seats) (fed-more lt) in rw f refl
 
-    pub fed-sound : (byte : ℕ) → is_before_pair seat.point t.end ≡ true → seat.byte ≡ byte → IsSound same (record t { waits = Byte; current = Some byte })
-    fed-sound byte lt e = record {
+    pub fed-sound : (byte : ℕ) → is_before_pair seat.point t.end ≡ true → seat.byte ≡ byte → (moves : Moves) → IsKnown t.bytes.now tab_in bytes_in skips_in t.after_previous t.end.0 t.ready Byte moves
+        → IsSound same (record t { waits = Byte; current = Some byte; moves = moves })
+    fed-sound byte lt e moves known = record {
       placed = record {
         tab = sound.placed.tab;
         reads = sound.placed.reads;
@@ -191,6 +195,7 @@ module _ {M R D : Type 0} {same : R → R → Bool} (t : Inside M R D) (sound : 
       made = made-here;
       kept_choices = sound.kept_choices;
       once = sound.once;
+      known = known;
     }
 
     pub fed-past : is_before_pair seat.point t.end ≡ false → length (seen t).text.seats ≤ (seen t).configuration.position
@@ -220,11 +225,58 @@ module _ {M R D : Type 0} {same : R → R → Bool} (t : Inside M R D) (sound : 
     made = made-here;
     kept_choices = sound.kept_choices;
     once = sound.once;
+    known = known-unfed skips_in t.after_previous t.end.0 t.bytes.now tab_in bytes_in sound.known.own_bytes t.ready sound.known.ready_at End t.moves (λ e. cc);
   }
+
+  -- a byte is fed that is told by the one at its index
+  module _ (byte : ℕ) (moves : Moves) (q : IsQuick t.tab_size t.bytes.now t.after_previous t.ready t.end.0 byte moves) where
+    quick-in : IsQuick tab_in bytes_in t.after_previous t.ready t.end.0 byte moves
+    quick-in = subst (λ (n : ℕ). IsQuick n bytes_in t.after_previous t.ready t.end.0 byte moves) sound.placed.tab
+        (subst (λ (b : List ℕ). IsQuick t.tab_size b t.after_previous t.ready t.end.0 byte moves) sound.known.own_bytes q)
+
+    quick-at : IsSeatAt tab_in bytes_in here_in quick-in.seat
+    quick-at = subst (λ (p : Point). IsSeatAt tab_in bytes_in p quick-in.seat)
+        (sym (quick-there skips_in t.after_previous t.end.0 tab_in bytes_in t.ready byte moves sound.known.ready_at quick-in)) quick-in.at
+
+    quick-before : is_before_pair quick-in.seat.point t.end ≡ true
+    quick-before = let e = quick-in.here in let f = lt-ltb t.after_previous.index t.end.0 quick-in.before in rw (e, f) refl
+
+    pub quick-more : (seen t).configuration.position < length (seen t).text.seats
+    quick-more = fed-more quick-in.seat quick-at quick-before
+
+    pub quick-seen : seen (record t { waits = Byte; current = Some byte }) ≡ at_configuration (seen t) (fed (seen t).text (seen t).configuration)
+    quick-seen = fed-seen quick-in.seat quick-at byte quick-before
+
+    pub quick-sound : IsSound same (record t { waits = Byte; current = Some byte; moves = moves })
+    quick-sound = fed-sound quick-in.seat quick-at byte quick-before quick-in.is moves
+        (known-quick skips_in t.after_previous t.end.0 t.bytes.now tab_in bytes_in sound.known.own_bytes t.ready sound.known.ready_at byte moves quick-in)
+
+  -- the end is in the document
+  pub end-inside : t.end.0 ≤ length bytes_in
+  end-inside =
+      let at : end_in.index ≡ t.end.0 = (point_at-is tab_in bytes_in t.end end_in sound.placed.end_at).index in
+      let inside : end_in.index ≤ length bytes_in = end-place-in.bounds.inside in
+      omega (arith, at, inside)
+
+  -- a byte waits, and it is known how the place moves over it
+  module _ (waits : ByteWaits tab_in bytes_in skips_in t.after_previous end_in t.current) (is : t.waits ≡ Byte) (told : t.moves ≢ Other) where
+    seat-there : IsSeatAt tab_in bytes_in t.after_previous waits.seat
+    seat-there = subst (λ (p : Point). IsSeatAt tab_in bytes_in p waits.seat) (sound.known.there is told) waits.at
+
+    place-inside : t.after_previous.index < length bytes_in
+    place-inside =
+        let s = waits.seat.point in let p = t.after_previous in
+        omega (arith, not-before-index s.index s.vs p.index p.vs seat-there.later, seat-there.inside)
+
+    pub told-fits : Fits t.after_previous
+    told-fits = place-fits tab_in bytes_in t.after_previous wide_in t.parse_state.now.limit sound.placed.read.place place-inside
+
+    pub told-moved : moved t.moves t.after_previous ≡ waits.seat.end
+    told-moved = sym ((sound.known.over is told).ends waits.seat seat-there)
 
   -- a byte is consumed
   module _ (waits : ByteWaits tab_in bytes_in skips_in t.after_previous end_in t.current) where
-    module _ (after_previous : Point) (l : after_previous ≡ waits.seat.end) where
+    module _ (after_previous : Point) (l : after_previous ≡ waits.seat.end) (ready : ℕ) (r : IsReadyAt skips_in after_previous t.end.0 ready) where
       pub consumed-read : IsReadTo tab_in bytes_in skips_in (text_within t) after_previous t.current
       consumed-read =
           let r = read-next tab_in wide_in bytes_in skips_in t.start end_in t.after_previous t.previous sound.placed.skips sound.placed.read waits.seat waits.at waits.before in
@@ -240,7 +292,7 @@ module _ {M R D : Type 0} {same : R → R → Bool} (t : Inside M R D) (sound : 
       consumed-made reads = made-consume bytes_in t.events.items t.stack.items (shown bytes_in t.after_previous) (shown bytes_in here_in) (made-here reads) (shown bytes_in after_previous) (shown bytes_in after_previous)
           consumed-later (stands-self (shown bytes_in after_previous)) (shown-shown tab_in bytes_in after_previous) (shown-shown tab_in bytes_in after_previous)
 
-      pub consumed-sound : IsSound same (record t { after_previous = after_previous; previous = t.current; current = None; ended = false; waits = Nothing })
+      pub consumed-sound : IsSound same (record t { after_previous = after_previous; previous = t.current; current = None; ended = false; waits = Nothing; ready = ready })
       consumed-sound = record {
         placed = record {
           tab = sound.placed.tab;
@@ -255,6 +307,7 @@ module _ {M R D : Type 0} {same : R → R → Bool} (t : Inside M R D) (sound : 
         made = consumed-made;
         kept_choices = sound.kept_choices;
         once = sound.once;
+        known = known-unfed skips_in after_previous t.end.0 t.bytes.now tab_in bytes_in sound.known.own_bytes ready r Nothing t.moves (λ e. cc);
       }
 
   pub consumed-seen : (waits : ByteWaits tab_in bytes_in skips_in t.after_previous end_in t.current) (after_previous : Point) → after_previous ≡ waits.seat.end

@@ -69,6 +69,7 @@ phase-sound t sound phase resolvers once other closed =
       kept_choices = nested-map (IsProgress t.phase (tab_of t.parse_state.now) bytes t.skips (text_within t) t.events.items t.stack.items t.closed) (IsProgress phase (tab_of t.parse_state.now) bytes t.skips (text_within t) t.events.items t.stack.items t.closed)
           (length t.events.items) (length t.stack.items) (reverse t.kept_choices.items) (λ p a b h. record { read = h.read; ended = h.ended; made = λ e. absurd (other e) }) sound.kept_choices;
       once = once;
+      known = sound.known;
     }
 
 nested-none : (P : Progress → Type 0) (events stack : ℕ) (kept_choices : List KeptChoice) → kept_choices ≡ [] → AreNested P events stack kept_choices
@@ -84,6 +85,7 @@ events-sound t sound resolves alone edits events =
       kept_choices = nested-none (IsProgress t.phase (tab_of t.parse_state.now) bytes t.skips (text_within t) events.items t.stack.items t.closed) (length events.items) (length t.stack.items) (reverse t.kept_choices.items)
           (none-mapped (choice_of (position_from (tab_of t.parse_state.now) bytes t.skips t.start) t.stack.items) (reverse t.kept_choices.items) alone);
       once = sound.once;
+      known = sound.known;
     }
 
 module _ {R D : Type 0} (resolver : Sight → Configuration R D → R → Resolved R D) (g : Given) (text : Text) where

@@ -15,11 +15,11 @@ ghost use Rattle.markdown_tokenizer.specs.View.{taken_continuation};
 ghost use Rattle.markdown_tokenizer.specs.Work.{IsInText, extended, answer_of, HoldsAll, LeadsAll, OnlyWorked, Stops, settled_all, EndsClosed, GoesOnTo, taken_up, taken_by_next};
 
 use super::{Fault, Tokenizer};
-use crate::cursor::{next_byte, resumed};
+use crate::cursor::{next_byte, quick_byte, ready_at, resumed};
 use crate::parser::ParseState;
 use crate::state::{Machine, MachineTypes, Name, State};
 use crate::subtokenize::Subresult;
-use crate::waiting::{GoesOn, Phase, Progress, Waits, unwind};
+use crate::waiting::{GoesOn, Moves, Phase, Progress, Waits, unwind};
 use markdown_base::event::{Event, Point};
 use markdown_base::owned::Items;
 use std::alloc::{AllocError, Global};
@@ -84,7 +84,37 @@ fn read_cut<M: Machine>(
 
 impl<'a, M: MachineTypes> Tokenizer<'a, M> {
     /// Feeds the next byte of the text. Returns whether there is one.
+    #[inline(always)]
     fn feed(&mut self) -> bool
+        ensures fed { OnTrue result (self.new ≡ at_configuration self.old (fed self.old.text self.old.configuration)) }
+        ensures more { OnTrue result (self.old.configuration.position < length self.old.text.seats) }
+        ensures same { OnFalse result (self.new ≡ self.old) }
+        ensures end { OnFalse result (length self.old.text.seats ≤ self.old.configuration.position) }
+    {
+        let next = quick_byte(
+            self.bytes,
+            &self.tab_size,
+            &self.after_previous,
+            self.ready,
+            self.end.0,
+        );
+        match next {
+            Some((byte, moves)) => {
+                self.current = Some(byte);
+                self.waits = Waits::Byte;
+                self.moves = moves;
+                true
+            }
+            None => self.feed_apart(),
+        }
+    }
+
+    /// As `feed`, whatever the next byte is.
+    ///
+    /// It is cold: nearly always `feed` finds the byte itself.
+    #[cold]
+    #[inline(never)]
+    fn feed_apart(&mut self) -> bool
         ensures fed { OnTrue result (self.new ≡ at_configuration self.old (fed self.old.text self.old.configuration)) }
         ensures more { OnTrue result (self.old.configuration.position < length self.old.text.seats) }
         ensures same { OnFalse result (self.new ≡ self.old) }
@@ -96,6 +126,7 @@ impl<'a, M: MachineTypes> Tokenizer<'a, M> {
             Some(byte) => {
                 self.current = Some(byte);
                 self.waits = Waits::Byte;
+                self.moves = Moves::Other;
                 true
             }
         }
@@ -156,6 +187,8 @@ impl<'a, M: MachineTypes> Tokenizer<'a, M> {
         self.stack.truncate(from.stack_len);
         self.waits = Waits::Nothing;
         self.current = None;
+        self.ready = ready_at(&self.skips, &from.after_previous, self.end.0);
+        self.moves = Moves::Other;
         let name = match goal {
             GoesOn::Next(name) => name,
             GoesOn::Ok => return Err(GoesOn::Ok),
@@ -220,6 +253,7 @@ impl<'a, M: MachineTypes> Tokenizer<'a, M> {
             ForPoints t.given from to (λ f l. self.new ≡ extended t (followed_by t.given t.text (pushed f l))) }
     {
         self.end = to;
+        self.ready = 0;
     }
 
     /// Takes out the definitions that states found. Takes no memory.

@@ -1,35 +1,33 @@
-use Rattle.std.proofs.Common.{ℕ, refl, sym, subst}
-use Rattle.markdown_tokenizer.specs.Cursor.{IsSeatAt}
-use Rattle.markdown_tokenizer.proofs.Inside.Fields.{wide_of}
-use Rattle.markdown_tokenizer.proofs.Inside.Steps.{byte-waits, consumed-sound, consumed-seen, byte-of-seat, place-at, seat-at}
+use Rattle.std.proofs.Common.{◌≡◌, ◌∙◌, ap, sym, subst}
+use Rattle.markdown_base.specs.declared.event.Point.{Point}
+use Rattle.markdown_tokenizer.specs.declared.waiting.Moves.{Moves}
+use Rattle.markdown_tokenizer.specs.declared.waiting.Moves.TheVariants.{Plain, Other}
+use Rattle.markdown_tokenizer.specs.Cursor.{moved}
+use Rattle.markdown_tokenizer.specs.Gaps.{IsReadyAt}
+use Rattle.markdown_tokenizer.proofs.Inside.Known.{ready-plain}
+use Rattle.markdown_tokenizer.proofs.Inside.Steps.{byte-waits, consumed-sound, consumed-seen, told-fits, told-moved}
 use Rattle.markdown_tokenizer.proofs.tokenizer.Tokenizer.consume.Goals as goal
 
-pub pass-requires : goal.pass-requires
-pass-requires g c =
+pub pass_plain-requires-clause-column : goal.pass_plain-requires-clause-column
+pass_plain-requires-clause-column g c =
     let t = c.self.inside in let sound = c.self.invariant in
     let e = rw (← c.self.view_is) at c.requires in
-    let w = byte-waits t sound e in
-    let place = c.resume.ensures in
-    let tab = sound.placed.tab in
-    rw tab (record {
-      some = wide_of t sound;
-      limit = t.parse_state.now.limit;
-      place = place-at t sound _ _ refl place;
-      next = (w.seat, seat-at t sound _ _ w.seat refl place w.at, byte-of-seat t sound w c.in-Some.byte c.in-Some.is);
-    })
+    (told-fits t sound (byte-waits t sound e) e (λ k. let f : Plain ≡ Other = sym c.in-Plain.is ∙ k in cc)).column
 
 pub invariant_of-self : goal.invariant_of-self
 invariant_of-self g c =
     let t = c.self.inside in let sound = c.self.invariant in
     let e = rw (← c.self.view_is) at c.requires in
     let w = byte-waits t sound e in
-    let tab = sound.placed.tab in
-    consumed-sound t sound w c.pass.new.point (c.pass.ensures w.seat (subst (λ (n : ℕ). IsSeatAt n t.parse_state.now.bytes.now c.resume.new.place w.seat) (sym tab) (seat-at t sound _ _ w.seat refl c.resume.ensures w.at)))
+    let moves = ap (λ (m : Moves). moved m t.after_previous) (sym c.in-Plain.is) ∙ told-moved t sound w e (λ k. let f : Plain ≡ Other = sym c.in-Plain.is ∙ k in cc) in
+    consumed-sound t sound w c.pass_plain.new.point (c.pass_plain.ensures ∙ moves) t.ready
+    (subst (λ (p : Point). IsReadyAt t.skips p t.end.0 t.ready) (sym c.pass_plain.ensures)
+    (ready-plain t.skips t.after_previous t.end.0 t.ready sound.known.ready_at.before sound.placed.read.place.bounds.first))
 
-pub returns : goal.returns
-returns g c =
+pub returns-in-Plain : goal.returns-in-Plain
+returns-in-Plain g c =
     let t = c.self.inside in let sound = c.self.invariant in
     let e = rw (← c.self.view_is) at c.requires in
     let w = byte-waits t sound e in
-    let tab = sound.placed.tab in
-    rw (← c.self.view_is) (consumed-seen t sound w c.pass.new.point (c.pass.ensures w.seat (subst (λ (n : ℕ). IsSeatAt n t.parse_state.now.bytes.now c.resume.new.place w.seat) (sym tab) (seat-at t sound _ _ w.seat refl c.resume.ensures w.at))))
+    let moves = ap (λ (m : Moves). moved m t.after_previous) (sym c.in-Plain.is) ∙ told-moved t sound w e (λ k. let f : Plain ≡ Other = sym c.in-Plain.is ∙ k in cc) in
+    rw (← c.self.view_is) (consumed-seen t sound w c.pass_plain.new.point (c.pass_plain.ensures ∙ moves))

@@ -1,6 +1,8 @@
 use Rattle.std.proofs.Common.{◌∙◌, sym, ap}
 use Rattle.markdown_base.specs.declared.event.Point.{Point}
 use Rattle.markdown_tokenizer.specs.Cursor.{is_after_pair}
+use Rattle.markdown_tokenizer.specs.View.{tab_of}
+use Rattle.markdown_tokenizer.proofs.Inside.Known.{known-other, ready-none}
 use Rattle.markdown_tokenizer.proofs.Inside.Changes.{passes, passed-nothing, passed-behind, added-end_at, added-text_is, added-skips_are, added-read_to, added-waiting, added-made, added-kept_choices, added-seen}
 use Rattle.markdown_tokenizer.proofs.tokenizer.Tokenizer.define_skip.Goals as goal
 
@@ -33,6 +35,7 @@ invariant_of-self-then-is_after g c =
       made = added-made t sound q fits is c.push.new.self put;
       kept_choices = added-kept_choices t sound q fits is c.push.new.self put;
       once = sound.once;
+      known = known-other c.push.new.self t.after_previous q.index t.bytes.now (tab_of t.parse_state.now) t.parse_state.now.bytes.now sound.known.own_bytes 0 (ready-none c.push.new.self t.after_previous q.index) t.waits;
     }
 
 pub returns-in_ok-push-clause-ok : goal.returns-in_ok-push-clause-ok

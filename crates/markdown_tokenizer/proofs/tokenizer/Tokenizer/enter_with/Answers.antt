@@ -13,6 +13,7 @@ invariant_of-self g c =
       made = entered-made t sound c.args.name c.args.link c.shown-point.result here c.put_enter.new.events.items c.put_enter.new.stack.items events stack;
       kept_choices = entered-kept_choices t sound c.args.name c.args.link c.shown-point.result here c.put_enter.new.events.items c.put_enter.new.stack.items events stack;
       once = sound.once;
+      known = sound.known;
     }
 
 pub returns-then-is_where_more_is-clause-ok : goal.returns-then-is_where_more_is-clause-ok

@@ -12,6 +12,7 @@ invariant_of-self g c =
       made = exited-made t sound c.args.name can c.put_exit.new.events.items c.put_exit.new.stack.items c.shown-point.result c.shown-point.ensures events c.put_exit.ensures.stack;
       kept_choices = exited-kept_choices t sound c.args.name can c.put_exit.new.events.items c.put_exit.new.stack.items c.shown-point.result c.shown-point.ensures events c.put_exit.ensures.stack;
       once = sound.once;
+      known = sound.known;
     }
 
 pub returns-clause-ok : goal.returns-clause-ok

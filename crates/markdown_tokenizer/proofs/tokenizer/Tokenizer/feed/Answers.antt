@@ -1,31 +1,17 @@
-use Rattle.std.proofs.Common.{refl, Some, None}
-use Rattle.markdown_tokenizer.specs.View.{tab_of}
-use Rattle.markdown_tokenizer.proofs.Inside.Fields.{wide_of}
-use Rattle.markdown_tokenizer.proofs.Inside.Steps.{within-at, byte-at, fed-more, fed-seen, fed-sound, fed-none}
+use Rattle.std.proofs.Common.{length, ◌≤◌, List, ℕ, sym, subst}
+use Rattle.markdown_tokenizer.proofs.Inside.Steps.{end-inside, quick-more, quick-seen, quick-sound}
 use Rattle.markdown_tokenizer.proofs.tokenizer.Tokenizer.feed.Goals as goal
 
-pub next_byte-requires : goal.next_byte-requires
-next_byte-requires g c = record { within = within-at c.self.inside c.self.invariant _ _ refl c.resumed-place.ensures }
+pub quick_byte-next-requires-clause-inside : goal.quick_byte-next-requires-clause-inside
+quick_byte-next-requires-clause-inside g c =
+    let t = c.self.inside in let sound = c.self.invariant in
+    subst (λ (own : List ℕ). t.end.0 ≤ length own) (sym sound.known.own_bytes) (end-inside t sound)
 
 pub invariant_of-self : goal.invariant_of-self
-invariant_of-self g c =
-    let t = c.self.inside in let sound = c.self.invariant in
-    let n = byte-at t sound _ _ (Some c.in-Some.byte) refl c.resumed-place.ensures (c.in-Some.ensures (tab_of t.parse_state.now) (wide_of t sound)) in
-    fed-sound t sound n.0 n.1 c.in-Some.byte n.2 n.3
-
-pub returns-in-None-clause-end : goal.returns-in-None-clause-end
-returns-in-None-clause-end g c =
-    let t = c.self.inside in let sound = c.self.invariant in
-    rw (← c.self.view_is) (fed-none t sound (byte-at t sound _ _ None refl c.resumed-place.ensures (c.in-None.ensures (tab_of t.parse_state.now) (wide_of t sound))))
+invariant_of-self g c = quick-sound c.self.inside c.self.invariant c.in-Some.byte c.in-Some.moves c.in-Some.ensures
 
 pub returns-in-Some-clause-fed : goal.returns-in-Some-clause-fed
-returns-in-Some-clause-fed g c =
-    let t = c.self.inside in let sound = c.self.invariant in
-    let n = byte-at t sound _ _ (Some c.in-Some.byte) refl c.resumed-place.ensures (c.in-Some.ensures (tab_of t.parse_state.now) (wide_of t sound)) in
-    rw (← c.self.view_is) (fed-seen t sound n.0 n.1 c.in-Some.byte n.2)
+returns-in-Some-clause-fed g c = rw (← c.self.view_is) (quick-seen c.self.inside c.self.invariant c.in-Some.byte c.in-Some.moves c.in-Some.ensures)
 
 pub returns-in-Some-clause-more : goal.returns-in-Some-clause-more
-returns-in-Some-clause-more g c =
-    let t = c.self.inside in let sound = c.self.invariant in
-    let n = byte-at t sound _ _ (Some c.in-Some.byte) refl c.resumed-place.ensures (c.in-Some.ensures (tab_of t.parse_state.now) (wide_of t sound)) in
-    rw (← c.self.view_is) (fed-more t sound n.0 n.1 n.2)
+returns-in-Some-clause-more g c = rw (← c.self.view_is) (quick-more c.self.inside c.self.invariant c.in-Some.byte c.in-Some.moves c.in-Some.ensures)

@@ -10,6 +10,7 @@ invariant_of-self g c =
       made = linked-made t sound c.args.previous c.args.next c.link_items.new.events.items c.link_items.ensures;
       kept_choices = linked-kept_choices t sound c.args.previous c.args.next c.link_items.new.events.items c.link_items.ensures;
       once = sound.once;
+      known = sound.known;
     }
 
 pub link_items-requires : goal.link_items-requires

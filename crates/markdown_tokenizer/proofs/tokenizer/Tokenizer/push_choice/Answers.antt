@@ -18,6 +18,7 @@ invariant_of-self-2 g c =
       made = sound.made;
       kept_choices = chosen-kept_choices t sound c.args.kind c.args.ok c.args.nok c.args.saves c.push.new.self.items put;
       once = sound.once;
+      known = sound.known;
     }
 
 pub returns-clause-ok : goal.returns-clause-ok

@@ -23,4 +23,5 @@ invariant_of-self-2 g c =
       made = sound.made;
       kept_choices = sound.kept_choices;
       once = rw items (once-behind g.M.Resolver.PartialEq.eq g.met.M.Resolver.Eq.laws c.args.name c.self.inside.resolvers.items sound.once absent);
+      known = c.self.invariant.known;
     }

@@ -13,4 +13,5 @@ invariant_of-self g c =
       made = λ f. let m = sound.made f in rw (left, events, stack) (made-new t.parse_state.now.bytes.now _ _ m.left_bound m.left_shown m.bound_shown);
       kept_choices = rw kept_choices tt;
       once = sound.once;
+      known = sound.known;
     }
