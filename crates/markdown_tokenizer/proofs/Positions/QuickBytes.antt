@@ -4,11 +4,11 @@ use Rattle.std.specs.Prelude.{slice_index, nat_lt, ◌==◌, ◌&&◌, ◌+◌}
 use Rattle.markdown_base.specs.declared.event.Point.{Point}
 use Rattle.markdown_base.specs.Virtual.{Seat}
 use Rattle.markdown_tokenizer.specs.declared.waiting.Moves.{Moves}
-use Rattle.markdown_tokenizer.specs.declared.waiting.Moves.TheVariants.{Plain, Tab, Last, Line}
+use Rattle.markdown_tokenizer.specs.declared.waiting.Moves.TheVariants.{Plain, Tab, Last}
 use Rattle.markdown_tokenizer.specs.Cursor.{goes_on, IsPlace, IsSeatAt, IsNextSeat, IsQuick, moved}
 use Rattle.markdown_tokenizer.proofs.Positions.Order.{not-number}
-use Rattle.markdown_tokenizer.proofs.Positions.Seats.{one-seat, seat-other, seat-in-tab, and-no}
-use Rattle.markdown_tokenizer.proofs.Positions.Standing.{end-of-line, end-of-other}
+use Rattle.markdown_tokenizer.proofs.Positions.Seats.{one-seat, seat-other, seat-in-tab}
+use Rattle.markdown_tokenizer.proofs.Positions.Standing.{end-of-other}
 
 module _ (t : ℕ) (bytes : List ℕ) (d : 0 < t) (p : Point) (place : IsPlace t bytes p) (ready end : ℕ) where
   quick-is : (byte : ℕ) (moves : Moves) → IsNextSeat t bytes p (Some (byte, p)) → p.index < end → (p.index < ready) ⊎ (p.column ≢ 1) → (moves ≡ Plain → p.vs ≡ 0)
@@ -57,15 +57,6 @@ module _ (t : ℕ) (bytes : List ℕ) (d : 0 < t) (p : Point) (place : IsPlace t
     pub quick-plain : 13 < byte → IsQuick t bytes p ready end byte Plain
     quick-plain h = quick-is byte Plain (seat-here (λ e. omega (arith, h, e))) within-end (inl before) (λ e. flat)
         (λ seat n b. end-of-other t bytes d p seat place n (λ k. omega (arith, h, b, k)) false (ap (λ (m : ℕ). goes_on t m p) b ∙ plain-goes (λ k. omega (arith, h, k))))
-
-    single : byte ≡ 10 → (nat_lt (p.index + 1) (length bytes) && ((slice_index bytes p.index == 13) && (slice_index bytes (p.index + 1) == 10))) ≡ false
-    single e =
-        let lf : slice_index bytes p.index ≡ 10 = sym is ∙ e in
-        and-no (nat_lt (p.index + 1) (length bytes)) ((slice_index bytes p.index == 13) && (slice_index bytes (p.index + 1) == 10)) (rw lf refl)
-
-    pub quick-line : byte ≡ 10 → IsQuick t bytes p ready end byte Line
-    quick-line e = quick-is byte Line (seat-here (λ k. let f : 10 ≡ 13 = sym e ∙ k in cc)) within-end (inl before) (λ k. cc)
-        (λ seat n b. end-of-line t bytes d p seat place n (b ∙ e) (single e))
 
     pub quick-tab-here : (w : Bool) → byte ≡ 9 → goes_on t byte p ≡ w → IsQuick t bytes p ready end byte (cond w Tab Last)
     quick-tab-here w e g = quick-tab byte w (seat-here (λ k. let f : 9 ≡ 13 = sym e ∙ k in cc)) within-end (inl before) (λ k. let f : 9 ≡ 10 = sym e ∙ k in cc) g
