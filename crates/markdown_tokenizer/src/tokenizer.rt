@@ -55,16 +55,17 @@ pub struct Tokenizer<'a, M: MachineTypes> {
     skips: Skips,
     /// The place after the byte before, or the start.
     after_previous: Point,
-    /// What waits.
-    waits: Waits,
-    /// How the place after the byte before moves over the byte that waits.
-    moves: Moves,
+    // These three are next to one another as each byte changes all of them: some of the writes become one.
     /// Whether the end was fed here.
     ended: bool,
-    /// The byte before.
-    previous: Option<u8>,
+    /// What waits.
+    waits: Waits,
     /// The byte that waits.
     current: Option<u8>,
+    /// The byte before.
+    previous: Option<u8>,
+    /// How the place after the byte before moves over the byte that waits.
+    moves: Moves,
     /// An index up to which bytes are before the end of the text. If the place after the byte before has a smaller one, it is in no
     /// tab, and no gap begins there.
     ready: usize,

@@ -21,7 +21,7 @@ use Rattle.markdown_tokenizer.specs.declared.tokenizer.Tokenizer.TheInside.{Insi
 use Rattle.markdown_tokenizer.specs.Text.{Given, Text, Piece, pushed, passed, IsDocument, IsText, CanFollow, FitsAfter, followed_by, followed_by_all, empty_text}
 use Rattle.markdown_tokenizer.specs.Configuration.{Choice}
 use Rattle.markdown_tokenizer.specs.Work.{extended}
-use Rattle.markdown_tokenizer.specs.Gaps.{resumed, IsSkip}
+use Rattle.markdown_tokenizer.specs.Gaps.{resumed, IsSkip, IsReadyAt}
 use Rattle.markdown_tokenizer.specs.View.{tab_of, seen, text_within, end_point, seats_between, position_from, standing, reach, can_feed, choice_of, IsReadTo, ByteWaits, IsWhatWaits, IsProgress, AreNested, events_of, stack_of, IsSound}
 use Rattle.markdown_tokenizer.specs.Cursor.{IsPlace, IsSeatAt, is_after_pair}
 use Rattle.markdown_tokenizer.proofs.Positions.Standing.{shown-shown, place-of-point}
@@ -35,7 +35,6 @@ use Rattle.markdown_base.specs.Events.{with_ends, unlinked, HasFrontUpToLinkEnds
 use Rattle.markdown_edits.specs.Links.{linked_to, updated_at, next_set, previous_set, with_next, with_previous}
 use Rattle.std.proofs.lemmas.List.{length-map}
 use Rattle.markdown_base.proofs.Seats.{stands-self}
-use Rattle.markdown_tokenizer.proofs.Inside.Known.{ready-none}
 use Rattle.markdown_tokenizer.proofs.Inside.Fields.{wide_of, text_between, next-more, kept-empty, passed-seats, passed-position, passed-skips, read-passed, passed-shown, passed-resumed, still-before, read-extended, extended-seats, extended-skips, extended-more, made-more, can-feed-more, nested-map, nested-wider}
 use Rattle.markdown_tokenizer.proofs.Inside.Steps.{end-place-in}
 
@@ -150,8 +149,8 @@ module _ {M R D : Type 0} {same : R → R → Bool} (t : Inside M R D) (sound : 
     end-found : end_point tab_in bytes_in to ≡ u
     end-found = ap (λ (o : Option Point). unwrap_or o (point 1 1 0 0)) found
 
-    pub extended-sound : IsSound same (record t { end = to; ready = 0 })
-    extended-sound =
+    pub extended-sound : (ready : ℕ) → IsReadyAt skips_in t.after_previous to.0 ready → IsSound same (record t { end = to; ready = ready })
+    extended-sound ready r =
         let e = end-found in
         record {
           placed = record {
@@ -169,7 +168,7 @@ module _ {M R D : Type 0} {same : R → R → Bool} (t : Inside M R D) (sound : 
               (IsProgress t.phase tab_in bytes_in skips_in (text_between tab_in bytes_in skips_in t.start u) t.events.items t.stack.items t.closed)
               (length t.events.items) (length t.stack.items) (reverse t.kept_choices.items) (λ p a b h. longer-saved p h) sound.kept_choices);
           once = sound.once;
-          known = record { own_bytes = sound.known.own_bytes; ready_at = ready-none skips_in t.after_previous to.0; there = sound.known.there; over = sound.known.over };
+          known = record { own_bytes = sound.known.own_bytes; ready_at = r; there = sound.known.there; over = sound.known.over };
         }
 
     pub extended-seen : seen (record t { end = to }) ≡ extended (seen t) (followed_by (seen t).given (seen t).text (pushed f u))

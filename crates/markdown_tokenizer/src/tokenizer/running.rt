@@ -253,7 +253,7 @@ impl<'a, M: MachineTypes> Tokenizer<'a, M> {
             ForPoints t.given from to (λ f l. self.new ≡ extended t (followed_by t.given t.text (pushed f l))) }
     {
         self.end = to;
-        self.ready = 0;
+        self.ready = ready_at(&self.skips, &self.after_previous, to.0);
     }
 
     /// Takes out the definitions that states found. Takes no memory.

@@ -8,7 +8,7 @@ invariant_of-self g c =
     let t = c.self.inside in
     let r = rw (← c.self.view_is) at c.requires.range in
     let o = rw (← c.self.view_is) at c.requires.open_still in
-    extended-sound t c.self.invariant c.args.to r.0 r.1 r.3 r.4 o
+    extended-sound t c.self.invariant c.args.to r.0 r.1 r.3 r.4 o c.ready_at-self-inside.result c.ready_at-self-inside.ensures
 
 pub returns : goal.returns
 returns g c =
