@@ -1,3 +1,4 @@
+pub mod Blocks
 pub mod DeepEvents
 pub mod OptionWords
-pub mod ShortNames
+pub mod Pairs

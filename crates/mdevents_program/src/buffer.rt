@@ -1,8 +1,9 @@
 //! Bytes on their way to a writer.
 
-ghost use Rattle.std.specs.Prelude.{◌≡◌, ◌+◌, ◌∷◌, ◌++◌, ◌<◌, ◌≤◌, ℕ, List, [], length, take};
+ghost use Rattle.std.specs.Prelude.{◌≡◌, ◌+◌, ◌++◌, ◌≤◌, ℕ, List, [], length, take};
 
 use std::marker::Model;
+use std::simd::Simd;
 
 /// The most bytes that wait.
 pub(crate) const SIZE: usize = 4096;
@@ -55,16 +56,6 @@ impl Buffer {
         self.count = 0;
     }
 
-    /// Puts a byte after the bytes that wait.
-    pub(crate) fn push(&mut self, byte: u8)
-        requires { length self.old < SIZE }
-        ensures bytes { self.new ≡ self.old ++ byte ∷ [] }
-        ensures len { length self.new ≡ length self.old + 1 }
-    {
-        self.bytes[self.count] = byte;
-        self.count += 1;
-    }
-
     /// Puts a text after the bytes that wait.
     pub(crate) fn push_text(&mut self, text: &[u8])
         requires { length self.old + length text.now ≤ SIZE }
@@ -74,5 +65,20 @@ impl Buffer {
         let end = self.count + text.len();
         self.bytes[self.count..end].copy_from_slice(text);
         self.count = end;
+    }
+
+    /// Puts the first `len` bytes of a block after the bytes that wait. It copies `N` bytes, since a copy of a fixed length is
+    /// fast. Those after the first `len` do not wait.
+    #[inline(always)]
+    pub(crate) fn push_block<const N: usize>(&mut self, block: &[u8], len: usize)
+        requires room { length self.old + N ≤ SIZE }
+        requires whole { N ≤ length block.now }
+        requires part { len ≤ N }
+        ensures bytes { self.new ≡ self.old ++ take len block.now }
+        ensures len { length self.new ≡ length self.old + len }
+    {
+        let count = self.count;
+        Simd::<u8, N>::from_slice(block).copy_to_slice(&mut self.bytes[count..]);
+        self.count = count + len;
     }
 }

@@ -3,10 +3,12 @@
 #![tactic(auto)]
 
 pub mod arguments;
-mod backwards;
 mod buffer;
+mod digits;
 pub mod failure;
+mod last_point;
 pub mod laws;
+mod names;
 mod print;
 pub mod program;
 pub mod read;

@@ -6,7 +6,8 @@ ghost use Rattle.mdevents_program.specs.Printed.{printed_events};
 
 use crate::buffer::{Buffer, SIZE};
 use crate::failure::Failure;
-use crate::print::{LONGEST, LastPoint, push_line};
+use crate::last_point::LastPoint;
+use crate::print::{LONGEST, push_line};
 use markdown::event::Event;
 use std::io::Write;
 
