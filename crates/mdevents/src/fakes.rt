@@ -1,95 +1,29 @@
-//! A reader and a writer for tests, which fail on request, a system with given arguments, and a message.
+//! A reader and a writer for tests, of which one call fails, and a system with given arguments.
 
-ghost use Rattle.std.specs.Prelude.{◌≡◌, IfOk};
-
-use markdown::message::{Message, Place};
-use markdown::owned::{Boxed, OwnedText};
-use markdown::unist::Point;
-use std::alloc::{AllocError, Global};
 use std::cell::Cell;
 use std::env::FillError;
 use std::fmt::{self, Display};
 use std::io::{self, Eprint, Error, ErrorKind, Read, Write};
 use std::rt::Env;
 
-/// How a reader or a writer fails after its good calls.
-#[derive(Clone, Copy, PartialEq, Eq)]
-pub enum Fault {
-    /// One call returns an error, and the calls after it are good.
-    ErrorOnce,
-    /// All calls return an error.
-    ErrorFromThenOn,
-    /// One write takes 0 bytes, and the calls after it are good.
-    NothingOnce,
-    /// All writes take 0 bytes.
-    NothingFromThenOn,
+/// Whether this call fails, if the one after `good` good ones does. The calls after it are good.
+fn fails(good: &mut usize) -> bool {
+    let fails = *good == 0;
+    *good = good.wrapping_sub(1);
+    fails
 }
 
-impl Fault {
-    /// Whether the calls after the first one that fails fail too.
-    fn lasts(self) -> bool {
-        self == Fault::ErrorFromThenOn || self == Fault::NothingFromThenOn
-    }
-
-    /// What a call that fails returns. The error is the one after which Rust's own loops try again.
-    fn answer(self) -> io::Result<usize>
-        ensures { IfOk result (λ count. count ≡ 0) }
-    {
-        match self {
-            Fault::ErrorOnce | Fault::ErrorFromThenOn => Err(Error::from(ErrorKind::Interrupted)),
-            Fault::NothingOnce | Fault::NothingFromThenOn => Ok(0),
-        }
-    }
-}
-
-/// Counts good calls, and decides which ones fail.
-#[derive(Clone, Copy)]
-struct Turns {
-    good: Option<usize>,
-    fault: Fault,
-}
-
-impl Turns {
-    /// Whether this call fails.
-    fn fails(&mut self) -> bool {
-        match self.good {
-            None => false,
-            Some(0) => {
-                if !self.fault.lasts() {
-                    self.good = None;
-                }
-                true
-            }
-            Some(count) => {
-                self.good = Some(count - 1);
-                false
-            }
-        }
-    }
-}
-
-/// Returns a text one byte a read, and fails after its good reads.
+/// Returns a text one byte a read. The read after `good` good ones returns the error after which Rust's own loops try again.
 #[derive(Drop)]
 pub struct FailingReader<'a> {
-    rest: &'a [u8],
-    turns: Turns,
-}
-
-impl<'a> FailingReader<'a> {
-    /// A reader of this text. Its first `good_reads` reads are good.
-    pub fn new(rest: &'a [u8], good_reads: usize, fault: Fault) -> FailingReader<'a> {
-        let good = Some(good_reads);
-        FailingReader {
-            rest,
-            turns: Turns { good, fault },
-        }
-    }
+    pub rest: &'a [u8],
+    pub good: usize,
 }
 
 impl Read for FailingReader<'_> {
     fn read(&mut self, buf: &mut [u8]) -> io::Result<usize> {
-        if self.turns.fails() {
-            return self.turns.fault.answer();
+        if fails(&mut self.good) {
+            return Err(Error::from(ErrorKind::Interrupted));
         }
         let count = self.rest.len().min(buf.len()).min(1);
         buf[..count].copy_from_slice(&self.rest[..count]);
@@ -98,36 +32,28 @@ impl Read for FailingReader<'_> {
     }
 }
 
-/// Takes at most a number of bytes a write, and fails after its good writes.
+/// Takes one byte a write. The write after `good` good ones takes nothing, or returns the error after which Rust's own loops try
+/// again.
 #[derive(Drop)]
 pub struct FailingWriter {
     pub written: Line,
-    most: usize,
-    turns: Turns,
-}
-
-impl FailingWriter {
-    /// A writer that takes at most `most` bytes a write. Its first `good_writes` writes are good.
-    pub fn new(most: usize, good_writes: usize, fault: Fault) -> FailingWriter {
-        let good = Some(good_writes);
-        FailingWriter {
-            written: Line::new(),
-            most,
-            turns: Turns { good, fault },
-        }
-    }
+    pub good: usize,
+    pub takes_nothing: bool,
 }
 
 impl Write for FailingWriter {
     fn write(&mut self, buf: &[u8]) -> io::Result<usize> {
-        if self.turns.fails() {
-            return self.turns.fault.answer();
+        if fails(&mut self.good) {
+            if self.takes_nothing {
+                return Ok(0);
+            }
+            return Err(Error::from(ErrorKind::Interrupted));
         }
-        let count = buf.len().min(self.most);
-        for byte in &buf[..count] {
-            self.written.push(*byte);
-        }
-        Ok(count)
+        let Some(byte) = buf.first() else {
+            return Ok(0);
+        };
+        self.written.push(*byte);
+        Ok(1)
     }
 
     fn flush(&mut self) -> io::Result<()> {
@@ -153,10 +79,7 @@ impl Line {
 
     /// What was written so far.
     pub fn text(&self) -> &[u8] {
-        match self.bytes.get(..self.count) {
-            Some(text) => text,
-            None => &self.bytes,
-        }
+        self.bytes.get(..self.count).unwrap_or(&self.bytes)
     }
 
     fn push(&mut self, byte: u8) {
@@ -172,19 +95,6 @@ impl fmt::Write for Line {
         for byte in text.bytes() {
             self.push(byte);
         }
-        Ok(())
-    }
-}
-
-impl Write for Line {
-    fn write(&mut self, buf: &[u8]) -> io::Result<usize> {
-        for byte in buf {
-            self.push(*byte);
-        }
-        Ok(buf.len())
-    }
-
-    fn flush(&mut self) -> io::Result<()> {
         Ok(())
     }
 }
@@ -240,34 +150,4 @@ impl Env for CalledWith<'_> {
     fn var_at(&self, _i: usize, _buf: &mut [u8]) -> Result<usize, FillError> {
         Err(FillError::NotPresent)
     }
-}
-
-/// A text of its own.
-fn text(alloc: Global, text: &str) -> Result<OwnedText, AllocError> {
-    Ok(OwnedText::from_string(String::from_str(alloc, text)?))
-}
-
-/// A text of its own in a box.
-fn boxed(alloc: Global, content: &str) -> Result<Boxed<OwnedText>, AllocError> {
-    let content = text(alloc, content)?;
-    Ok(Boxed::from_box(Box::new(alloc, content)?))
-}
-
-/// A message of the rule `r` of `markdown`, at a place.
-fn placed(alloc: Global, place: Boxed<Place>) -> Result<Message, AllocError> {
-    let reason = text(alloc, "x")?;
-    let rule_id = boxed(alloc, "r")?;
-    let source = boxed(alloc, "markdown")?;
-    Ok(Message {
-        place: Some(place),
-        reason,
-        rule_id,
-        source,
-    })
-}
-
-/// A message, whose line is `1:2: x (markdown:r)`.
-pub fn message(alloc: Global) -> Result<Message, AllocError> {
-    let place = Box::new(alloc, Place::Point(Point::new(1, 2, 1)))?;
-    placed(alloc, Boxed::from_box(place))
 }

@@ -16,15 +16,7 @@ ghost use Rattle.mdevents_program.specs.Program.{Prints, PrintsChosen};
 ghost use Rattle.mdevents_program.specs.Arguments.{CanCut};
 
 #[cfg(test)]
-mod chosen;
-#[cfg(test)]
-mod expected;
-#[cfg(test)]
 mod fakes;
-#[cfg(test)]
-mod printed;
-#[cfg(test)]
-mod turns;
 #[cfg(test)]
 mod written;
 
@@ -114,13 +106,10 @@ fn choice_of(rt: &(impl Env + AllocGlobal)) -> Result<Option<Choice>, Failure>
 #[cfg(test)]
 mod tests {
     use super::*;
-    use crate::expected::{PARAGRAPH, SHORT_DATA, TWO_LINES};
-    use crate::fakes::{CalledWith, FailingReader, FailingWriter, Fault, Line, message};
-    use crate::written::choice;
+    use crate::fakes::{CalledWith, FailingReader, FailingWriter, Line};
+    use crate::written::{TWO_LINES, choice};
     use markdown::configuration::TabSize;
-    use std::alloc::{AllocError, Global};
-
-    const USAGE_SHOWN: &[u8] = b"usage: mdevents [--cut n] [--deep] [--machine name] [--tab n]\n";
+    use std::alloc::Global;
 
     /// Whether the program's arguments choose this, and nothing fails.
     fn chooses(alloc: Global, words: &[u8], cut: usize, deep: bool, machine: Which) -> bool {
@@ -129,41 +118,18 @@ mod tests {
         chosen == Ok(Some(choice(cut, deep, machine, TabSize::default())))
     }
 
-    /// Arguments, and what they choose: where to cut, whether to go deep, and the machine. The first is the program's name.
-    const CHOSEN: &[(&[u8], usize, bool, Which)] = &[
-        (b"--cut", 0, false, Which::Lines),
-        (
-            b"mdevents --machine paragraphs --tab 4 --deep --cut 1",
-            1,
-            true,
-            Which::Paragraphs,
-        ),
-    ];
-
+    /// The words may be many, and a number may have many digits.
     #[test]
     fn takes_the_words_after_the_name(rt: HostRuntime) {
-        for &(words, cut, deep, machine) in CHOSEN {
-            assert!(rt; chooses(rt.alloc(), words, cut, deep, machine));
-        }
-    }
-
-    #[test]
-    fn takes_a_long_word(rt: HostRuntime) {
+        let words = b"mdevents --machine paragraphs --tab 4 --deep --cut 1";
+        assert!(rt; chooses(rt.alloc(), words, 1, true, Which::Paragraphs));
         let mut long = [b'0'; 1000];
         long[..15].copy_from_slice(b"mdevents --cut ");
         long[999] = b'7';
         assert!(rt; chooses(rt.alloc(), &long, 7, false, Which::Lines));
     }
 
-    /// How a call of the program should end: its status, what it wrote and what it showed on standard error.
-    #[derive(Clone, Copy)]
-    struct Wanted {
-        status: u8,
-        written: &'static [u8],
-        shown: &'static [u8],
-    }
-
-    /// How a call of the program ended.
+    /// How a call of the program ended: its status, what it wrote and what it showed on standard error.
     #[derive(Drop)]
     struct Ended {
         status: ExitCode,
@@ -172,25 +138,37 @@ mod tests {
     }
 
     impl Ended {
-        /// Whether it ended as it should.
-        fn is(&self, want: Wanted) -> bool {
-            self.status == ExitCode::from(want.status)
-                && self.written.text() == want.written
-                && self.shown.text() == want.shown
+        /// Whether it ended so.
+        fn is(&self, status: u8, written: &[u8], shown: &[u8]) -> bool {
+            self.status == ExitCode::from(status)
+                && self.written.text() == written
+                && self.shown.text() == shown
         }
     }
 
-    /// Calls the program with these arguments, over a document, with this many good reads and writes.
+    /// More reads or writes than any call makes.
+    const ALL: usize = usize::MAX;
+
+    /// Calls the program with these arguments, over a document. The read and the write after this many good ones fail. The write then
+    /// takes nothing, or returns an error.
     fn call(
         alloc: Global,
         words: &[u8],
-        document: &[u8],
+        rest: &[u8],
         good_reads: usize,
         good_writes: usize,
+        takes_nothing: bool,
     ) -> Ended {
         let system = (CalledWith::new(words), alloc);
-        let mut reader = FailingReader::new(document, good_reads, Fault::ErrorOnce);
-        let mut writer = FailingWriter::new(100, good_writes, Fault::ErrorOnce);
+        let mut reader = FailingReader {
+            rest,
+            good: good_reads,
+        };
+        let mut writer = FailingWriter {
+            written: Line::new(),
+            good: good_writes,
+            takes_nothing,
+        };
         let status = answer_call(&system, &mut reader, &mut writer);
         Ended {
             status,
@@ -199,117 +177,89 @@ mod tests {
         }
     }
 
-    /// Whether the program, called with these arguments over `ab`, ends so.
-    fn does(
-        alloc: Global,
-        words: &[u8],
-        status: u8,
-        written: &'static [u8],
-        shown: &'static [u8],
-    ) -> bool {
-        call(alloc, words, b"ab", 99, 99).is(Wanted {
-            status,
-            written,
-            shown,
-        })
-    }
+    const USAGE_SHOWN: &[u8] = b"usage: mdevents [--cut n] [--deep] [--machine name] [--tab n]\n";
 
-    /// Arguments, the status, what is written, and what is shown on standard error.
-    const DONE: &[(&[u8], u8, &[u8], &[u8])] = &[
+    const PARAGRAPH: &[u8] =
+        b"enter Paragraph 1:1 (0+0)\nenter Data 1:1 (0+0)\nexit Data 1:3 (2+0)\nexit Paragraph 1:3 (2+0)\n";
+
+    const DATA: &[u8] = b"enter Data 1:1 (0+0)\nexit Data 1:3 (2+0)\n";
+
+    /// Arguments, the status, what is written for `ab`, and what is shown on standard error.
+    const CALLS: &[(&[u8], u8, &[u8], &[u8])] = &[
         (b"mdevents", 0, PARAGRAPH, b""),
-        (b"mdevents --machine deep", 0, SHORT_DATA, b""),
-        (b"mdevents --machine deep --cut 1", 0, SHORT_DATA, b""),
-        (b"mdevents --cut 1 --machine save", 0, b"", b""),
-        (b"--cut 2", 2, b"", USAGE_SHOWN),
-        (b"mdevents --cut 2 --cut 2", 2, b"", USAGE_SHOWN),
+        (b"--cut", 0, PARAGRAPH, b""),
+        (b"mdevents --cut 18446744073709551615", 0, PARAGRAPH, b""),
         (b"mdevents --machine paragraphs --deep", 0, PARAGRAPH, b""),
-        (b"mdevents --machine forth", 2, b"", USAGE_SHOWN),
+        (b"mdevents --cut 016 --machine peek", 0, DATA, b""),
+        (b"mdevents --machine deep --cut 1", 0, DATA, b""),
+        (b"mdevents --machine save", 0, b"", b""),
+        (b"mdevents --machine text --tab 16", 0, PARAGRAPH, b""),
+        (b"--cut 2", 2, b"", USAGE_SHOWN),
+        (b"mdevents --cut", 2, b"", USAGE_SHOWN),
         (b"mdevents --cut 0", 2, b"", USAGE_SHOWN),
-        (b"mdevents --tab 16", 0, PARAGRAPH, b""),
+        (b"mdevents --cut +1", 2, b"", USAGE_SHOWN),
+        (b"mdevents --cut 18446744073709551616", 2, b"", USAGE_SHOWN),
+        (b"mdevents --cut 2 --cut 2", 2, b"", USAGE_SHOWN),
         (b"mdevents --tab 0", 2, b"", USAGE_SHOWN),
         (b"mdevents --tab 17", 2, b"", USAGE_SHOWN),
+        (b"mdevents --machine forth", 2, b"", USAGE_SHOWN),
+        (b"mdevents --deep", 2, b"", USAGE_SHOWN),
         (b"mdevents --machine lines --deep", 2, b"", USAGE_SHOWN),
+        (b"mdevents ", 2, b"", USAGE_SHOWN),
         (b"mdevents \xff", 2, b"", USAGE_SHOWN),
     ];
 
     #[test]
     fn does_what_the_words_choose(rt: HostRuntime) {
-        for &(words, status, written, shown) in DONE {
-            assert!(rt; does(rt.alloc(), words, status, written, shown));
+        for &(words, status, written, shown) in CALLS {
+            let ended = call(rt.alloc(), words, b"ab", ALL, ALL, false);
+            assert!(rt; ended.is(status, written, shown));
         }
     }
 
-    /// Whether a run over a document of two lines ends so, if the read and the write after this many good ones fail.
-    fn fails(alloc: Global, good_reads: usize, good_writes: usize, want: Wanted) -> bool {
-        call(alloc, b"mdevents", b"a\r\nb", good_reads, good_writes).is(want)
-    }
-
-    const NOT_READ: Wanted = Wanted {
-        status: 1,
-        written: b"",
-        shown: b"cannot read input\n",
-    };
-
-    const NOT_WRITTEN: Wanted = Wanted {
-        status: 1,
-        written: b"",
-        shown: b"cannot write output\n",
-    };
-
-    const WELL: Wanted = Wanted {
-        status: 0,
-        written: TWO_LINES,
-        shown: b"",
-    };
-
+    /// Reads four bytes, one a read, and the end. A body that reads again after an error succeeds too early.
     #[test]
-    fn shows_what_failed(rt: HostRuntime) {
-        for &(good_reads, good_writes, want) in &[
-            (0, 99, NOT_READ),
-            (1, 0, NOT_READ),
-            (99, 0, NOT_WRITTEN),
-            (99, 99, WELL),
-        ] {
-            assert!(rt; fails(rt.alloc(), good_reads, good_writes, want));
+    fn each_read_fails_in_turn(rt: HostRuntime) {
+        for good in 0..5 {
+            let ended = call(rt.alloc(), b"mdevents", b"a\r\nb", good, 0, false);
+            assert!(rt; ended.is(1, b"", b"cannot read input\n"));
+        }
+        let ended = call(rt.alloc(), b"mdevents", b"a\r\nb", 5, ALL, false);
+        assert!(rt; ended.is(0, TWO_LINES, b""));
+    }
+
+    /// A beginning is written, of a byte a write. A body that writes again after a failure succeeds too early.
+    #[test]
+    fn each_write_fails_in_turn(rt: HostRuntime) {
+        for takes_nothing in [false, true] {
+            for good in 0..TWO_LINES.len() {
+                let ended = call(rt.alloc(), b"mdevents", b"a\r\nb", ALL, good, takes_nothing);
+                assert!(rt; ended.is(1, &TWO_LINES[..good], b"cannot write output\n"));
+            }
         }
     }
 
-    /// Whether a failure to get the arguments is shown as this line, and nothing is read or written.
+    /// Whether a failure to get the arguments is shown as this line.
     fn shows(alloc: Global, failure: Failure, line: &[u8]) -> bool {
         let system = (CalledWith::new(b"mdevents"), alloc);
         let mut reader = b"ab".as_slice();
-        let mut written = Line::new();
-        let status = answer_choice(&system, Err(failure), &mut reader, &mut written);
-        status == ExitCode::FAILURE
-            && reader.len() == 2
-            && written.text().is_empty()
-            && system.0.shown.get().text() == line
+        let mut written = Vec::new(alloc);
+        let _ = answer_choice(&system, Err(failure), &mut reader, &mut written);
+        system.0.shown.get().text() == line
     }
 
     #[test]
-    fn failures_are_no_usage_line(rt: HostRuntime) -> Result<(), AllocError> {
-        assert!(rt; shows(rt.alloc(), Failure::Memory, b"out of memory\n"));
-        let refused = Failure::Message(message(rt.alloc())?);
-        assert!(rt; shows(rt.alloc(), refused, b"1:2: x (markdown:r)\n"));
-        Ok(())
+    fn failures_are_shown(rt: HostRuntime) {
+        let alloc = rt.alloc();
+        assert!(rt; shows(alloc, Failure::Memory, b"out of memory\n"));
+        assert!(rt; shows(alloc, Failure::TooLong, b"input too long\n"));
+        assert!(rt; shows(alloc, Failure::NotReady, b"events are not ready\n"));
     }
-
-    const OUT_OF_MEMORY: Wanted = Wanted {
-        status: 1,
-        written: b"",
-        shown: b"out of memory\n",
-    };
-
-    const CUT_BY_ONE: Wanted = Wanted {
-        status: 0,
-        written: PARAGRAPH,
-        shown: b"",
-    };
 
     /// It passes also if an allocation fails, which `rt try --test --fail-alloc N` makes one do.
     #[test]
     fn memory_is_no_fault_of_the_reader(rt: HostRuntime) {
-        let ended = call(rt.alloc(), b"mdevents --cut 1", b"ab", 99, 99);
-        assert!(rt; ended.is(CUT_BY_ONE) || ended.is(OUT_OF_MEMORY));
+        let ended = call(rt.alloc(), b"mdevents --cut 1", b"ab", ALL, ALL, false);
+        assert!(rt; ended.is(0, PARAGRAPH, b"") || ended.is(1, b"", b"out of memory\n"));
     }
 }

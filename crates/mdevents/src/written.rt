@@ -2,11 +2,16 @@
 
 ghost use Rattle.mdevents_program.specs.Arguments.{CanCut};
 
-use crate::expected::{ONE_DATA, SHORT_DATA, THREE_DATA, TWO_LINES};
 use markdown::configuration::TabSize;
 use mdevents_program::arguments::{Choice, Which};
 use mdevents_program::program::write_events;
 use std::alloc::{AllocError, Global};
+
+pub const TWO_LINES: &[u8] =
+    b"enter Paragraph 1:1 (0+0)\nenter Data 1:1 (0+0)\nexit Data 1:2 (1+0)\nexit Paragraph 1:2 (1+0)\nenter LineEnding 1:2 (1+0)\nexit LineEnding 2:1 (3+0)\nenter Paragraph 2:1 (3+0)\nenter Data 2:1 (3+0)\nexit Data 2:2 (4+0)\nexit Paragraph 2:2 (4+0)\n";
+
+const PEEKED: &[u8] =
+    b"enter Data 1:1 (0+0)\nexit Data 1:6 (3+0)\nenter LineEnding 1:6 (3+0)\nexit LineEnding 2:1 (5+0)\nenter Data 2:1 (5+0)\nexit Data 2:6 (7+0)\n";
 
 const TWO_CHUNKS: &[u8] =
     b"enter Paragraph 1:1 (0+0)\nenter BlockQuoteMarker 1:1 (0+0)\nexit BlockQuoteMarker 1:2 (1+0)\nenter Data 1:2 (1+0)\nexit Data 2:1 (3+0)\nenter BlockQuoteMarker 2:1 (3+0)\nexit BlockQuoteMarker 2:2 (4+0)\nenter Data 2:2 (4+0)\nexit Data 2:3 (5+0)\nexit Paragraph 2:3 (5+0)\n";
@@ -17,17 +22,14 @@ const TWO_LINES_OF_TEXT: &[u8] =
 const TWO_LINES_WITH_CRLF: &[u8] =
     b"enter Paragraph 1:1 (0+0)\nenter BlockQuoteMarker 1:1 (0+0)\nexit BlockQuoteMarker 1:2 (1+0)\nenter Data 1:2 (1+0)\nexit Data 1:3 (2+0)\nenter LineEnding 1:3 (2+0)\nexit LineEnding 2:1 (4+0)\nenter BlockQuoteMarker 2:1 (4+0)\nexit BlockQuoteMarker 2:2 (5+0)\nenter Data 2:2 (5+0)\nexit Data 2:3 (6+0)\nexit Paragraph 2:3 (6+0)\n";
 
-const TWO_PARAGRAPHS_OF_TEXT: &[u8] =
-    b"enter BlankLineEnding 1:1 (0+0)\nexit BlankLineEnding 2:1 (1+0)\nenter Paragraph 2:1 (1+0)\nenter Data 2:1 (1+0)\nexit Data 2:2 (2+0)\nenter LineEnding 2:2 (2+0)\nexit LineEnding 3:1 (3+0)\nexit Paragraph 3:1 (3+0)\nenter BlankLineEnding 3:1 (3+0)\nexit BlankLineEnding 4:1 (4+0)\nenter Paragraph 4:1 (4+0)\nenter Data 4:1 (4+0)\nexit Data 4:2 (5+0)\nexit Paragraph 4:2 (5+0)\n";
-
-const TWO_PARAGRAPHS: &[u8] =
-    b"enter BlankLineEnding 1:1 (0+0)\nexit BlankLineEnding 2:1 (1+0)\nenter Paragraph 2:1 (1+0)\nenter Data 2:1 (1+0)\nexit Data 3:1 (3+0)\nexit Paragraph 3:1 (3+0)\nenter BlankLineEnding 3:1 (3+0)\nexit BlankLineEnding 4:1 (4+0)\nenter Paragraph 4:1 (4+0)\nenter Data 4:1 (4+0)\nexit Data 4:2 (5+0)\nexit Paragraph 4:2 (5+0)\n";
-
 const CODE_OVER_TWO_LINES: &[u8] =
     b"enter Paragraph 1:1 (0+0)\nenter CodeText 1:1 (0+0)\nenter CodeTextSequence 1:1 (0+0)\nexit CodeTextSequence 1:2 (1+0)\nenter CodeTextData 1:2 (1+0)\nexit CodeTextData 1:3 (2+0)\nenter LineEnding 1:3 (2+0)\nexit LineEnding 2:1 (3+0)\nenter BlockQuoteMarker 2:1 (3+0)\nexit BlockQuoteMarker 2:2 (4+0)\nenter CodeTextData 2:2 (4+0)\nexit CodeTextData 2:3 (5+0)\nenter CodeTextSequence 2:3 (5+0)\nexit CodeTextSequence 2:4 (6+0)\nexit CodeText 2:4 (6+0)\nexit Paragraph 2:4 (6+0)\n";
 
 const AFTER_TAB: &[u8] =
     b"enter Paragraph 1:1 (0+0)\nenter Data 1:1 (0+0)\nexit Data 1:6 (2+0)\nexit Paragraph 1:6 (2+0)\n";
+
+const THREE_DATA: &[u8] =
+    b"enter Data 1:1 (0+0)\nexit Data 1:2 (1+0)\nenter LineEnding 1:2 (1+0)\nexit LineEnding 2:1 (2+0)\nenter Data 2:1 (2+0)\nexit Data 2:2 (3+0)\nenter LineEnding 2:2 (3+0)\nexit LineEnding 3:1 (4+0)\nenter Data 3:1 (4+0)\nexit Data 3:2 (5+0)\n";
 
 const FIRST_AND_REST: &[u8] =
     b"enter Data 1:1 (0+0)\nexit Data 2:1 (2+0)\nenter Data 2:1 (2+0)\nexit Data 3:2 (5+0)\n";
@@ -35,30 +37,14 @@ const FIRST_AND_REST: &[u8] =
 const LONG_PARAGRAPH: &[u8] =
     b"enter Paragraph 1:1 (0+0)\nenter Data 1:1 (0+0)\nexit Data 1:100002 (100001+0)\nexit Paragraph 1:100002 (100001+0)\n";
 
-const LONG_DATA: &[u8] = b"enter Data 1:1 (0+0)\nexit Data 1:100001 (100000+0)\n";
-
-const DEEP_DATA: &[u8] = b"enter Data 1:1 (0+0)\nexit Data 1:2001 (2000+0)\n";
-
-const LONG_SECOND_LINE: &[u8] = b"enter Data 2:1 (1+0)\nexit Data 2:100000 (100000+0)\n";
-
 /// With tab stops at every three columns: the tab after a quote mark has two columns.
 const TWO_LINES_OF_TABS: &[u8] =
     b"enter Paragraph 1:1 (0+0)\nenter BlockQuoteMarker 1:1 (0+0)\nexit BlockQuoteMarker 1:2 (1+0)\nenter Data 1:2 (1+0)\nexit Data 1:5 (3+0)\nenter LineEnding 1:5 (3+0)\nexit LineEnding 2:1 (4+0)\nenter BlockQuoteMarker 2:1 (4+0)\nexit BlockQuoteMarker 2:2 (5+0)\nenter Data 2:2 (5+0)\nexit Data 2:5 (7+0)\nexit Paragraph 2:5 (7+0)\n";
-
-/// Of a letter, a letter of two bytes, and a byte that is no letter.
-const FOUR_BYTES: &[u8] =
-    b"enter Paragraph 1:1 (0+0)\nenter Data 1:1 (0+0)\nexit Data 1:5 (4+0)\nexit Paragraph 1:5 (4+0)\n";
 
 const SECOND_LINE: &[u8] = b"enter Data 2:1 (2+0)\nexit Data 2:4 (5+0)\n";
 
 const AFTER_TAB_OF_TWO: &[u8] =
     b"enter Paragraph 1:1 (0+0)\nenter Data 1:1 (0+0)\nexit Data 1:4 (2+0)\nexit Paragraph 1:4 (2+0)\n";
-
-const AFTER_TAB_OF_ONE: &[u8] =
-    b"enter Paragraph 1:1 (0+0)\nenter Data 1:1 (0+0)\nexit Data 1:3 (2+0)\nexit Paragraph 1:3 (2+0)\n";
-
-const AFTER_TAB_OF_SIXTEEN: &[u8] =
-    b"enter Paragraph 1:1 (0+0)\nenter Data 1:1 (0+0)\nexit Data 1:18 (2+0)\nexit Paragraph 1:18 (2+0)\n";
 
 /// The choice of these: a cut after each `cut` virtual bytes, or no cut if that is 0.
 pub fn choice(cut: usize, deep: bool, machine: Which, tab: TabSize) -> Choice
@@ -105,36 +91,16 @@ fn writes(
 /// A document, the machine that reads it, whether its chunks are read too, the tab size, and what is written.
 const WRITTEN: &[(&[u8], Which, bool, usize, &[u8])] = &[
     (b"a\r\nb", Which::Lines, false, 4, TWO_LINES),
-    (b"", Which::Lines, false, 4, b""),
     (b"\ta", Which::Lines, false, 4, AFTER_TAB),
-    (b"\ta", Which::Lines, false, 1, AFTER_TAB_OF_ONE),
     (b"\ta", Which::Lines, false, 2, AFTER_TAB_OF_TWO),
-    (b"\ta", Which::Lines, false, 16, AFTER_TAB_OF_SIXTEEN),
-    (b"a\xc3\xa9\xff", Which::Lines, false, 4, FOUR_BYTES),
+    (b"a\xc3\xa9\xff", Which::Save, false, 4, b""),
     (b"a\nb\nc", Which::Peek, false, 4, THREE_DATA),
-    (b"", Which::Peek, false, 4, b""),
-    (b"abc", Which::Deep, false, 4, ONE_DATA),
-    (b"ab", Which::Deep, false, 4, SHORT_DATA),
-    (b"", Which::Deep, false, 4, b""),
     (b"a\nb\nc", Which::Back, false, 4, FIRST_AND_REST),
-    (b"", Which::Back, false, 4, b""),
     (b"a\n> b", Which::Save, false, 4, SECOND_LINE),
-    (b"a\n", Which::Save, false, 4, b""),
-    (b"", Which::Save, false, 4, b""),
     (b">a\n>b", Which::Paragraphs, false, 4, TWO_CHUNKS),
     (b">a\n>b", Which::Paragraphs, true, 4, TWO_LINES_OF_TEXT),
     (b">a\r\n>b", Which::Paragraphs, true, 4, TWO_LINES_WITH_CRLF),
     (b">\ta\n>\tb", Which::Paragraphs, true, 3, TWO_LINES_OF_TABS),
-    (b"\na\n\nb", Which::Paragraphs, false, 4, TWO_PARAGRAPHS),
-    (
-        b"\na\n\nb",
-        Which::Paragraphs,
-        true,
-        4,
-        TWO_PARAGRAPHS_OF_TEXT,
-    ),
-    (b"", Which::Paragraphs, true, 4, b""),
-    (b">a\n>b", Which::Text, false, 4, TWO_CHUNKS),
     (b"`a\n>b`", Which::Text, true, 4, CODE_OVER_TWO_LINES),
 ];
 
@@ -145,41 +111,38 @@ fn writes_the_events(rt: HostRuntime) {
     }
 }
 
-/// Whether this is written for a document of a first byte, and then another one up to a given length.
-fn writes_long(
-    alloc: Global,
-    first: u8,
-    count: usize,
-    machine: Which,
-    want: &[u8],
-) -> Result<bool, AllocError> {
-    let mut bytes = Vec::new(alloc);
-    bytes.push(first)?;
-    bytes.resize(count, b'a')?;
-    Ok(writes(alloc, bytes.as_slice(), machine, false, 4, want))
+#[test]
+fn each_cut_prints_the_same(rt: HostRuntime) {
+    for cut in 1..13 {
+        let choice = choice(cut, false, Which::Peek, TabSize::default());
+        assert!(rt;
+            writes_as(rt.alloc(), b"a\tb\r\n\tc", &choice, PEEKED),
+            "cut after each {cut}"
+        );
+    }
 }
-
-/// The first byte of a document, how many bytes it has, the machine that reads it, and what is written.
-const LONG: &[(u8, usize, Which, &[u8])] = &[
-    (b'a', 100_001, Which::Lines, LONG_PARAGRAPH),
-    (b'a', 100_000, Which::Peek, LONG_DATA),
-    (b'a', 2000, Which::Deep, DEEP_DATA),
-    (b'a', 100_000, Which::Back, LONG_DATA),
-    (b'a', 100_000, Which::Save, b""),
-    (b'\n', 100_000, Which::Save, LONG_SECOND_LINE),
-];
 
 #[test]
 fn writes_the_events_of_long_documents(rt: HostRuntime) -> Result<(), AllocError> {
-    for &(first, count, machine, want) in LONG {
-        assert!(rt; writes_long(rt.alloc(), first, count, machine, want)?);
-    }
+    let mut bytes = Vec::new(rt.alloc());
+    bytes.resize(100_001, b'a')?;
+    assert!(rt;
+        writes(
+            rt.alloc(),
+            bytes.as_slice(),
+            Which::Lines,
+            false,
+            4,
+            LONG_PARAGRAPH
+        )
+    );
     Ok(())
 }
 
-/// What is written for a line, this many times.
+/// What is written for a beginning, and then a line, this many times.
 fn of_lines(
     alloc: Global,
+    before: &[u8],
     line: &[u8],
     count: usize,
     choice: &Choice,
@@ -187,6 +150,7 @@ fn of_lines(
     requires { CanCut choice.now }
 {
     let mut document = Vec::new(alloc);
+    document.extend_from_slice(before)?;
     for _ in 0..count {
         document.extend_from_slice(line)?;
     }
@@ -198,10 +162,11 @@ fn of_lines(
     }
 }
 
-/// A line, how many times a document has it, the machine that reads it, and whether its chunks are read too. Then how many lines are
-/// written, and the first and the last of these.
-const MANY: &[(&[u8], usize, Which, bool, usize, &[u8], &[u8])] = &[
+/// How a document begins, the line that it has then, and how many times; the machine that reads it, and whether its chunks are read
+/// too. Then how many lines are written, and the first and the last of these. One chain is behind another one.
+const MANY: &[(&[u8], &[u8], usize, Which, bool, usize, &[u8], &[u8])] = &[
     (
+        b"",
         b"\n",
         50_000,
         Which::Lines,
@@ -211,21 +176,22 @@ const MANY: &[(&[u8], usize, Which, bool, usize, &[u8], &[u8])] = &[
         b"\nexit LineEnding 50001:1 (50000+0)\n",
     ),
     (
+        b"a\n\n",
         b">a\n",
         3000,
         Which::Paragraphs,
         true,
-        18_002,
-        b"enter Paragraph 1:1 (0+0)\nenter BlockQuoteMarker 1:1 (0+0)\n",
-        b"\nexit LineEnding 3001:1 (9000+0)\nexit Paragraph 3001:1 (9000+0)\n",
+        18_010,
+        b"enter Paragraph 1:1 (0+0)\nenter Data 1:1 (0+0)\n",
+        b"\nexit LineEnding 3003:1 (9003+0)\nexit Paragraph 3003:1 (9003+0)\n",
     ),
 ];
 
 #[test]
 fn writes_the_events_of_many_lines(rt: HostRuntime) -> Result<(), AllocError> {
-    for &(line, count, machine, deep, lines, first, last) in MANY {
+    for &(before, line, count, machine, deep, lines, first, last) in MANY {
         let choice = choice(0, deep, machine, TabSize::default());
-        let written = of_lines(rt.alloc(), line, count, &choice)?;
+        let written = of_lines(rt.alloc(), before, line, count, &choice)?;
         let written = written.as_slice();
         assert_eq!(rt;
             written.iter().filter(|byte| **byte == b'\n').count(),
