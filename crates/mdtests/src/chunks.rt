@@ -33,51 +33,36 @@ fn event_at(kind: Kind, name: Name, place: Place, link: Option<Link>) -> Event {
     }
 }
 
-/// The enter of a chunk.
-fn chunk_at(place: Place, content: Content, previous: Option<usize>, next: Option<usize>) -> Event {
-    let link = Link {
-        previous,
-        next,
-        content,
-    };
-    event_at(Kind::Enter, Name::Data, place, Some(link))
-}
-
-/// The first event of a row.
-fn first_of(row: Row) -> Event {
+/// Appends the events of a row.
+fn push_row(events: &mut Vec<Event>, row: Row) -> Result<(), AllocError> {
     match row {
-        Enter(name, place) | Span(name, place, _) => event_at(Kind::Enter, name, place, None),
-        Exit(name, place) => event_at(Kind::Exit, name, place, None),
-        Chunk(place, _, content, previous, next) => chunk_at(place, content, previous, next),
+        Enter(name, place) => events.push(event_at(Kind::Enter, name, place, None))?,
+        Exit(name, place) => events.push(event_at(Kind::Exit, name, place, None))?,
+        Span(name, place, end) => {
+            events.push(event_at(Kind::Enter, name, place, None))?;
+            events.push(event_at(Kind::Exit, name, end, None))?;
+        }
+        Chunk(place, end, content, previous, next) => {
+            let link = Link {
+                previous,
+                next,
+                content,
+            };
+            events.push(event_at(Kind::Enter, Name::Data, place, Some(link)))?;
+            events.push(event_at(Kind::Exit, Name::Data, end, None))?;
+        }
     }
-}
-
-/// The second event of a row, if it has one.
-fn second_of(row: Row) -> Option<Event> {
-    match row {
-        Span(name, _, end) => Some(event_at(Kind::Exit, name, end, None)),
-        Chunk(_, end, _, _, _) => Some(event_at(Kind::Exit, Name::Data, end, None)),
-        _ => None,
-    }
+    Ok(())
 }
 
 /// The events of rows.
 pub(crate) fn listed(alloc: Global, rows: &[Row]) -> Result<Vec<Event>, AllocError> {
     let mut events = Vec::new(alloc);
     for row in rows {
-        events.push(first_of(*row))?;
-        if let Some(event) = second_of(*row) {
-            events.push(event)?;
-        }
+        push_row(&mut events, *row)?;
     }
     Ok(events)
 }
-
-/// `"ab"`, a byte a chunk, in one chain.
-pub(crate) const TWO_CHUNKS: [Row; 2] = [
-    Chunk((1, 1, 0, 0), (1, 2, 1, 0), Content::Text, None, Some(2)),
-    Chunk((1, 2, 1, 0), (1, 3, 2, 0), Content::Text, Some(0), None),
-];
 
 /// A quoted paragraph of two lines.
 pub(crate) const QUOTE: [Row; 8] = [

@@ -75,16 +75,13 @@ fn edits_of(
     if !ready(alloc, events, bytes, tab_size, None)? {
         return Ok(None);
     }
-    if index >= events.len() {
+    if index >= events.len() || events.len() > 99 || child.len() > 99 {
         return Ok(None);
     }
     if !begins_at(events, index) {
         return Ok(None);
     }
     if !has_ends_within(child.as_slice()) {
-        return Ok(None);
-    }
-    if events.len() > 99 || child.len() > 99 {
         return Ok(None);
     }
     let mut map = EditMap::new(alloc);
@@ -104,41 +101,16 @@ fn put(
 {
     let mut events = listed(alloc, list)?;
     let mut child = listed(alloc, child)?;
-    let put = put_in(alloc, &mut events, bytes, index, &mut child);
-    drop(child);
-    drop(events);
-    put
-}
-
-/// Puts a child in the place of the chain that begins at an index.
-fn put_in(
-    alloc: Global,
-    events: &mut Vec<Event>,
-    bytes: &[u8],
-    index: usize,
-    child: &mut Vec<Event>,
-) -> Result<String, AllocError>
-    requires limit { IsWithinLimit 4 bytes.now }
-{
-    match edits_of(alloc, events.as_slice(), bytes, index, child)? {
+    match edits_of(alloc, events.as_slice(), bytes, index, &mut child)? {
         None => String::from_str(alloc, "not ready"),
         Some((sums, mut map)) => {
-            map.consume(events)?;
-            told(alloc, sums, child.len(), events.as_slice())
+            map.consume(&mut events)?;
+            let lines = shown(alloc, events.as_slice())?;
+            let (removed, added) = sums;
+            let left = child.len();
+            format!(in alloc; "removed {removed}, added {added}, left {left}\n{lines}")
         }
     }
-}
-
-/// The sums of edits, how many events of a child are left, and a list.
-fn told(
-    alloc: Global,
-    sums: (usize, usize),
-    left: usize,
-    events: &[Event],
-) -> Result<String, AllocError> {
-    let (removed, added) = sums;
-    let lines = shown(alloc, events)?;
-    format!(in alloc; "removed {removed}, added {added}, left {left}\n{lines}")
 }
 
 /// `"a\nb\nc"`, a line a chunk, in one chain.

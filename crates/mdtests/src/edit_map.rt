@@ -1,6 +1,5 @@
 //! Edits of small lists, with expected lists worked by hand.
 
-ghost use Rattle.markdown.specs.Edits.{AreDisjoint};
 ghost use Rattle.markdown.specs.Events.{EndsBelow};
 ghost use Rattle.std.specs.Prelude.{◌≡◌, ◌*◌, ◌^◌, ◌<◌, length, All, None, IfOk, IfSome};
 
@@ -10,7 +9,7 @@ use markdown::util::edit_map::EditMap;
 use std::alloc::{AllocError, Global};
 
 /// An event without a link. Its column identifies it.
-fn event_at(column: usize) -> Event
+fn event(column: usize) -> Event
     ensures { result.link ≡ None }
 {
     Event {
@@ -31,125 +30,87 @@ fn linked(previous: Option<usize>, next: Option<usize>) -> Event
         next,
         content,
     });
-    Event {
-        link,
-        ..event_at(1)
-    }
+    Event { link, ..event(1) }
 }
 
-/// Appends the columns of events, which identify them.
-fn push_columns(text: &mut String, events: &[Event]) -> Result<(), AllocError> {
-    for event in events {
-        let column = event.point.column;
-        write!(text, "{column} ")?;
-    }
-    Ok(())
-}
-
-/// The columns of events that were made.
-fn columns(alloc: Global, made: Result<Vec<Event>, AllocError>) -> Result<String, AllocError> {
-    let made = made?;
+/// The columns of events, which identify them.
+fn columns(alloc: Global, events: &[Event]) -> Result<String, AllocError> {
     let mut text = String::new(alloc);
-    push_columns(&mut text, made.as_slice())?;
+    for event in events {
+        write!(text, "{} ", event.point.column)?;
+    }
     Ok(text)
 }
 
-/// Makes the edits. If it runs out of memory, tries once more, as map and events are then as they were.
-fn make(map: &mut EditMap, events: &mut Vec<Event>) -> Result<(), AllocError>
-    requires disjoint { AreDisjoint 0 map.old (length events.old.items) }
-    requires links { All (EndsBelow (length events.old.items)) events.old.items }
-{
-    match map.consume(events) {
-        Ok(()) => Ok(()),
-        Err(_) => map.consume(events),
-    }
-}
-
 /// Six events, with three edits at index 2.
-fn edits_at_one_index(alloc: Global) -> Result<Vec<Event>, AllocError> {
-    let mut events = Vec::from_array(
-        alloc,
-        [
-            event_at(1),
-            event_at(2),
-            event_at(3),
-            event_at(4),
-            event_at(5),
-            event_at(6),
-        ],
-    )?;
+fn edits_at_one_index(alloc: Global) -> Result<String, AllocError> {
+    let events = [event(1), event(2), event(3), event(4), event(5), event(6)];
+    let mut events = Vec::from_array(alloc, events)?;
     let mut map = EditMap::new(alloc);
-    map.add(2, 2, vec![in alloc; event_at(91)]?)?;
-    map.add(2, 0, vec![in alloc; event_at(92)]?)?;
-    map.add_before(2, 0, vec![in alloc; event_at(93)]?)?;
-    make(&mut map, &mut events)?;
-    Ok(events)
+    map.add(2, 2, vec![in alloc; event(91)]?)?;
+    map.add(2, 0, vec![in alloc; event(92)]?)?;
+    map.add_before(2, 0, vec![in alloc; event(93)]?)?;
+    map.consume(&mut events)?;
+    columns(alloc, events.as_slice())
 }
 
 /// An addition at the end, and an edit that is none.
-fn added_at_end(alloc: Global) -> Result<Vec<Event>, AllocError> {
-    let mut events = Vec::from_array(alloc, [event_at(1), event_at(2)])?;
+fn added_at_end(alloc: Global) -> Result<String, AllocError> {
+    let mut events = Vec::from_array(alloc, [event(1), event(2)])?;
     let mut map = EditMap::new(alloc);
     map.add(0, 0, Vec::new(alloc))?;
-    map.add(2, 0, vec![in alloc; event_at(91)]?)?;
+    map.add(2, 0, vec![in alloc; event(91)]?)?;
     map.consume(&mut events)?;
-    Ok(events)
+    columns(alloc, events.as_slice())
 }
 
-/// An addition in front of fifty that are there.
-fn added_in_front_of_many(alloc: Global) -> Result<Vec<Event>, AllocError> {
-    let mut events = Vec::from_array(alloc, [event_at(1), event_at(2)])?;
+/// An addition in front of twenty-four that are there.
+fn added_in_front_of_many(alloc: Global) -> Result<String, AllocError> {
+    let mut events = Vec::from_array(alloc, [event(1), event(2)])?;
     let mut map = EditMap::new(alloc);
-    map.add(1, 0, Vec::from_array(alloc, [event_at(9); 50])?)?;
-    map.add_before(1, 0, vec![in alloc; event_at(8)]?)?;
+    map.add(1, 0, Vec::from_array(alloc, [event(9); 24])?)?;
+    map.add_before(1, 0, vec![in alloc; event(8)]?)?;
     map.consume(&mut events)?;
-    Ok(events)
+    columns(alloc, events.as_slice())
 }
 
 #[test]
 fn small_edits_are_made(rt: HostRuntime) -> Result<(), AllocError> {
     let alloc = rt.alloc();
-    let made = edits_at_one_index(alloc);
-    assert_shown(&rt, columns(alloc, made), "1 2 93 91 92 5 6 ")?;
-    assert_shown(&rt, columns(alloc, added_at_end(alloc)), "1 2 91 ")?;
-    let many =
-        "1 8 9 9 9 9 9 9 9 9 9 9 9 9 9 9 9 9 9 9 9 9 9 9 9 9 9 9 9 9 9 9 9 9 9 9 9 9 9 9 9 9 9 9 9 9 9 9 9 9 9 9 2 ";
-    assert_shown(&rt, columns(alloc, added_in_front_of_many(alloc)), many)
+    assert_shown(&rt, edits_at_one_index(alloc), "1 2 93 91 92 5 6 ")?;
+    assert_shown(&rt, added_at_end(alloc), "1 2 91 ")?;
+    let want = "1 8 9 9 9 9 9 9 9 9 9 9 9 9 9 9 9 9 9 9 9 9 9 9 9 9 2 ";
+    assert_shown(&rt, added_in_front_of_many(alloc), want)
 }
 
 /// Two chains, one within the stretch of the other, with two events added in front of most.
-fn chains_moved(alloc: Global) -> Result<Vec<Event>, AllocError> {
+fn chains_moved(alloc: Global) -> Result<String, AllocError> {
     let mut events = Vec::from_array(
         alloc,
         [
             linked(None, Some(4)),
-            event_at(2),
+            event(2),
             linked(None, Some(6)),
-            event_at(4),
+            event(4),
             linked(Some(0), None),
-            event_at(6),
+            event(6),
             linked(Some(2), None),
-            event_at(8),
+            event(8),
         ],
     )?;
     let mut map = EditMap::new(alloc);
-    map.add(1, 0, vec![in alloc; event_at(91), event_at(92)]?)?;
-    make(&mut map, &mut events)?;
-    Ok(events)
+    map.add(1, 0, vec![in alloc; event(91), event(92)]?)?;
+    map.consume(&mut events)?;
+    shown(alloc, events.as_slice())
 }
 
 /// Two chunks in a chain; the second one is removed.
-fn end_removed(alloc: Global) -> Result<Vec<Event>, AllocError> {
+fn end_removed(alloc: Global) -> Result<String, AllocError> {
     let mut events = chain(alloc, 2)?;
     let mut map = EditMap::new(alloc);
     map.add(2, 2, Vec::new(alloc))?;
     map.consume(&mut events)?;
-    Ok(events)
-}
-
-/// The lines of events that were made.
-fn lines(alloc: Global, made: Result<Vec<Event>, AllocError>) -> Result<String, AllocError> {
-    shown(alloc, made?.as_slice())
+    shown(alloc, events.as_slice())
 }
 
 /// Chains are moved, though they interleave; an end that is removed is none.
@@ -160,9 +121,9 @@ fn ends_of_links_are_moved_or_removed(rt: HostRuntime) -> Result<(), AllocError>
         enter Data 1:2 (0+0); enter Data 1:1 (0+0) Text None Some(8); enter Data 1:4 (0+0); \
         enter Data 1:1 (0+0) Text Some(0) None; enter Data 1:6 (0+0); enter Data 1:1 (0+0) Text Some(4) None; \
         enter Data 1:8 (0+0)";
-    assert_shown(&rt, lines(rt.alloc(), chains_moved(rt.alloc())), want)?;
+    assert_shown(&rt, chains_moved(rt.alloc()), want)?;
     let want = "enter Data 1:1 (0+0) Text None None; enter Data 1:2 (0+0)";
-    assert_shown(&rt, lines(rt.alloc(), end_removed(rt.alloc())), want)
+    assert_shown(&rt, end_removed(rt.alloc()), want)
 }
 
 /// The enter of the span before span k.
@@ -191,7 +152,7 @@ fn chain(alloc: Global, count: usize) -> Result<Vec<Event>, AllocError>
     let mut events = Vec::new(alloc);
     for k in 0..count {
         events.push(linked(enter_before(k), enter_behind(k, count)))?;
-        events.push(event_at(2))?;
+        events.push(event(2))?;
     }
     Ok(events)
 }
@@ -202,7 +163,7 @@ fn chain_edited(alloc: Global) -> Result<Vec<Event>, AllocError> {
     let mut map = EditMap::new(alloc);
     for step in 0..100 {
         let k = 99 - step;
-        map.add(2 * k, 0, vec![in alloc; event_at(91), event_at(92)]?)?;
+        map.add(2 * k, 0, vec![in alloc; event(91), event(92)]?)?;
     }
     map.consume(&mut events)?;
     Ok(events)

@@ -1,34 +1,15 @@
 //! Short documents, cut at every place and at every two places: the events do not depend on the cuts.
 
 ghost use Rattle.markdown.specs.Virtual.{IsWithinLimit};
-ghost use Rattle.std.specs.Prelude.{◌+◌, ◌*◌, ◌<◌, Contains};
-ghost use Rattle.mdtests.specs.Documents.{given_in_tabs};
+ghost use Rattle.std.specs.Prelude.{◌+◌, ◌*◌, ◌<◌, length};
 
-use crate::pushed::{Seen, read_cut};
+use crate::pushed::{Reader, read_cut};
 use markdown::configuration::TabSize;
-use markdown::state::{Machine, Name};
 use markdown::tokenizer::point_at;
-use mdconstructs::{Back, Deep, Lines, Paragraphs, Peek, Save, Text};
 use std::alloc::{AllocError, Global};
 
 /// The places at which a document is cut.
 type Cuts = Vec<(usize, usize)>;
-
-/// How many readings were compared with the uncut one, and how many of them gave other events, or took more calls or fewer.
-#[derive(Clone, Copy)]
-struct Compared {
-    all: usize,
-    other: usize,
-}
-
-/// One more reading is compared.
-fn compare(compared: Compared, seen: &Seen, uncut: &Seen) -> Compared {
-    let same = seen.calls == uncut.calls && seen.events.as_slice() == uncut.events.as_slice();
-    Compared {
-        all: compared.all.saturating_add(1),
-        other: compared.other.saturating_add(usize::from(!same)),
-    }
-}
 
 /// The places of a document, in order.
 fn places(alloc: Global, bytes: &[u8], tab: TabSize) -> Result<Cuts, AllocError>
@@ -62,149 +43,118 @@ fn lists_of(
     Ok(lists)
 }
 
-/// Compares the readings of a document cut at the places of each list with the uncut one.
-fn compare_readings<M: Machine>(
+/// How many of these lists of cuts leave the events and the number of calls as they are without cuts.
+fn same_readings(
     alloc: Global,
-    machine: &M,
-    start: Name,
+    reader: Reader,
     bytes: &[u8],
     tab: TabSize,
     lists: &[Cuts],
-    mut compared: Compared,
-) -> Result<Compared, AllocError>
+) -> Result<usize, AllocError>
     requires limit { IsWithinLimit tab bytes.now }
-    requires start { Contains (M.rules machine.now (given_in_tabs tab bytes.now)).starts start }
 {
-    let Some(uncut) = read_cut(alloc, machine, start, bytes, tab, &[]) else {
-        return Err(AllocError);
-    };
+    let uncut = read_cut(alloc, reader, bytes, tab, &[])?;
+    let mut same: usize = 0;
     for cuts in lists {
-        let Some(seen) = read_cut(alloc, machine, start, bytes, tab, cuts.as_slice()) else {
-            return Err(AllocError);
-        };
-        compared = compare(compared, &seen, &uncut);
+        let seen = read_cut(alloc, reader, bytes, tab, cuts.as_slice())?;
+        if seen.calls == uncut.calls && seen.events.as_slice() == uncut.events.as_slice() {
+            same = same.saturating_add(1);
+        }
     }
-    Ok(compared)
+    Ok(same)
 }
 
-/// Compares the readings of a document by the machine of texts from both starts, or by each other machine.
-fn compare_machines(
-    alloc: Global,
-    text: bool,
-    bytes: &[u8],
-    tab: TabSize,
-    lists: &[Cuts],
-    c: Compared,
-) -> Result<Compared, AllocError>
-    requires limit { IsWithinLimit tab bytes.now }
-{
-    if text {
-        let c = compare_readings(alloc, &Text {}, Name::FlowStart, bytes, tab, lists, c)?;
-        return compare_readings(alloc, &Text {}, Name::TextStart, bytes, tab, lists, c);
-    }
-    let c = compare_readings(alloc, &Lines {}, Name::FlowStart, bytes, tab, lists, c)?;
-    let c = compare_readings(alloc, &Paragraphs {}, Name::FlowStart, bytes, tab, lists, c)?;
-    let c = compare_readings(alloc, &Paragraphs {}, Name::TextStart, bytes, tab, lists, c)?;
-    let c = compare_readings(alloc, &Peek {}, Name::TextStart, bytes, tab, lists, c)?;
-    let c = compare_readings(alloc, &Deep {}, Name::StringStart, bytes, tab, lists, c)?;
-    let c = compare_readings(alloc, &Back {}, Name::TextStart, bytes, tab, lists, c)?;
-    compare_readings(alloc, &Save {}, Name::TextStart, bytes, tab, lists, c)
-}
-
-/// The document of a number: its digits to the base 5, the lowest first, as `a`, a backtick, `<`, a backslash and LF, for the
-/// machine of texts; and else to the base 4, as `a`, tab, CR and LF.
+/// The document of a number: its digits as these letters, the lowest first.
 fn document_of(
     alloc: Global,
-    text: bool,
+    letters: &[u8],
     size: usize,
     number: usize,
-) -> Result<Vec<u8>, AllocError> {
+) -> Result<Vec<u8>, AllocError>
+    requires { 0 < length letters.now }
+{
     let mut bytes = Vec::new(alloc);
     let mut rest = number;
     for _ in 0..size {
-        if text {
-            bytes.push([b'a', b'`', b'<', b'\\', b'\n'][rest % 5])?;
-            rest /= 5;
-        } else {
-            bytes.push([b'a', b'\t', b'\r', b'\n'][rest % 4])?;
-            rest /= 4;
-        }
+        bytes.push(letters[rest % letters.len()])?;
+        rest /= letters.len();
     }
     Ok(bytes)
 }
 
-/// Compares the readings of the document of a size and a number, which is cut twice if it has less than four bytes.
-fn compare_document(
+/// How many readings of a document are as the uncut one, if it is cut at each place, and if it has less than four bytes, at each two.
+fn same_of_document(
     alloc: Global,
-    text: bool,
+    readers: &[Reader],
+    bytes: &[u8],
     tab: TabSize,
-    size: usize,
-    number: usize,
-    compared: Compared,
-) -> Result<Compared, AllocError> {
-    let document = document_of(alloc, text, size, number)?;
-    let bytes = document.as_slice();
+) -> Result<usize, AllocError> {
     let _ = tab.get();
     if bytes.len() > 4 {
         return Err(AllocError);
     }
     let places = places(alloc, bytes, tab)?;
-    let lists = lists_of(alloc, places.as_slice(), size < 4)?;
-    compare_machines(alloc, text, bytes, tab, lists.as_slice(), compared)
-}
-
-/// How many readings of all documents of some size were compared, if each was as the uncut one.
-fn same_readings(
-    alloc: Global,
-    text: bool,
-    tab: usize,
-    size: usize,
-    count: usize,
-) -> Result<Option<usize>, AllocError> {
-    let tab = TabSize::new(tab).ok_or(AllocError)?;
-    let mut compared = Compared { all: 0, other: 0 };
-    for number in 0..count {
-        compared = compare_document(alloc, text, tab, size, number, compared)?;
+    let lists = lists_of(alloc, places.as_slice(), bytes.len() < 4)?;
+    let mut same: usize = 0;
+    for reader in readers {
+        let more = same_readings(alloc, *reader, bytes, tab, lists.as_slice())?;
+        same = same.saturating_add(more);
     }
-    Ok((compared.other == 0).then_some(compared.all))
+    Ok(same)
 }
 
-/// Whether the machine of texts reads; the tab size; the number of starts; the length of the documents; how many documents of that
-/// length there are; and how many readings of them are made from each start.
-const READINGS: &[(bool, usize, usize, usize, usize, usize)] = &[
-    (false, 1, 7, 0, 1, 2),
-    (false, 1, 7, 1, 4, 20),
-    (false, 1, 7, 2, 16, 144),
-    (false, 1, 7, 3, 64, 896),
-    (false, 1, 7, 4, 256, 1280),
-    (false, 3, 7, 0, 1, 2),
-    (false, 3, 7, 1, 4, 29),
-    (false, 3, 7, 2, 16, 230),
-    (false, 3, 7, 3, 64, 1502),
-    (false, 3, 7, 4, 256, 1738),
-    (false, 4, 7, 0, 1, 2),
-    (false, 4, 7, 1, 4, 35),
-    (false, 4, 7, 2, 16, 290),
-    (false, 4, 7, 3, 64, 1935),
-    (false, 4, 7, 4, 256, 1991),
-    (false, 16, 7, 0, 1, 2),
-    (false, 16, 7, 1, 4, 185),
-    (false, 16, 7, 2, 16, 1790),
-    (false, 16, 7, 3, 64, 12747),
-    (false, 16, 7, 4, 256, 5063),
-    (true, 4, 2, 0, 1, 2),
-    (true, 4, 2, 1, 5, 25),
-    (true, 4, 2, 2, 25, 225),
-    (true, 4, 2, 3, 125, 1750),
-    (true, 4, 2, 4, 625, 3125),
+/// How many readings of the documents of these letters and of some size are as the uncut ones.
+fn same_of_size(
+    alloc: Global,
+    readers: &[Reader],
+    letters: &[u8],
+    tab: TabSize,
+    size: usize,
+) -> Result<usize, AllocError> {
+    if letters.is_empty() || size > 4 {
+        return Err(AllocError);
+    }
+    let mut same: usize = 0;
+    for number in 0..letters.len().saturating_pow(size as u32) {
+        let document = document_of(alloc, letters, size, number)?;
+        let more = same_of_document(alloc, readers, document.as_slice(), tab)?;
+        same = same.saturating_add(more);
+    }
+    Ok(same)
+}
+
+/// All readers but those of texts.
+const READERS: &[Reader] = &[
+    Reader::Lines,
+    Reader::Paragraphs,
+    Reader::TextOfParagraphs,
+    Reader::Peek,
+    Reader::Deep,
+    Reader::Back,
+    Reader::Save,
+];
+
+const READERS_OF_TEXT: &[Reader] = &[Reader::Text, Reader::ParagraphsOfText];
+
+/// Readers, the letters of the documents, the tab size, and how many readings each reader makes of the documents of no byte, of one,
+/// and so on.
+const READINGS: &[(&[Reader], &[u8], usize, &[usize])] = &[
+    (READERS, b"a\t\r\n", 1, &[2, 20, 144, 896, 1280]),
+    (READERS, b"a\t\r\n", 3, &[2, 29, 230, 1502, 1738]),
+    (READERS, b"a\t\r\n", 4, &[2, 35, 290, 1935, 1991]),
+    (READERS, b"a\t\r\n", 16, &[2, 185, 1790, 12747, 5063]),
+    (READERS_OF_TEXT, b"a`<\\\n", 4, &[2, 25, 225, 1750, 3125]),
 ];
 
 #[test]
 fn no_cut_leaves_a_trace(rt: HostRuntime) -> Result<(), AllocError> {
-    for &(text, tab, starts, size, count, readings) in READINGS {
-        let same = same_readings(rt.alloc(), text, tab, size, count)?;
-        let want = readings.saturating_mul(starts);
-        assert_eq!(rt; same, Some(want), "of size {size} with tabs of {tab}");
+    for &(readers, letters, tab, readings) in READINGS {
+        let tab = TabSize::new(tab).ok_or(AllocError)?;
+        for (size, each) in readings.iter().enumerate() {
+            let same = same_of_size(rt.alloc(), readers, letters, tab, size)?;
+            let want = each.saturating_mul(readers.len());
+            assert_eq!(rt; same, want, "of size {size} with tabs of {tab:?}");
+        }
     }
     Ok(())
 }

@@ -2,8 +2,6 @@
 #![tactic(auto)]
 
 #[cfg(test)]
-mod chars;
-#[cfg(test)]
 mod chunks;
 #[cfg(test)]
 mod division;
@@ -30,8 +28,6 @@ mod refusals;
 #[cfg(test)]
 mod resolving;
 #[cfg(test)]
-mod rows;
-#[cfg(test)]
 mod shown;
 #[cfg(test)]
 mod starved;
@@ -39,8 +35,6 @@ mod starved;
 mod subtokenize;
 #[cfg(test)]
 mod surface;
-#[cfg(test)]
-mod texts;
 #[cfg(test)]
 mod tokenizer;
 #[cfg(test)]

@@ -1,7 +1,7 @@
 //! The events that machines make of whole documents, with expected events worked by hand.
 
 ghost use Rattle.markdown.specs.Virtual.{IsWithinLimit};
-ghost use Rattle.std.specs.Prelude.{◌+◌, ◌<◌, Contains};
+ghost use Rattle.std.specs.Prelude.{◌+◌, ◌*◌, ◌<◌, Contains};
 ghost use Rattle.markdown.specs.Presets.{default_parse_options};
 ghost use Rattle.markdown.specs.Engine.{given_by};
 
@@ -10,24 +10,11 @@ use markdown::configuration::ParseOptions;
 use markdown::parser::ParseState;
 use markdown::state::{Machine, Name};
 use markdown::tokenizer::{cuts_every, run};
-use mdconstructs::{Paragraphs, Text, Words, Wrap};
+use mdconstructs::{Words, Wrap, read_text};
 use std::alloc::{AllocError, Global};
 
-/// The events that a machine makes of a document, from this start and with the default options; or why it is refused.
-pub(crate) fn lines_of<M: Machine>(
-    alloc: Global,
-    machine: &M,
-    start: Name,
-    bytes: &[u8],
-) -> Result<String, AllocError>
-    requires limit { IsWithinLimit 4 bytes.now }
-    requires start { Contains (M.rules machine.now (given_by bytes.now default_parse_options)).starts start }
-{
-    lines_by(alloc, machine, start, bytes, 1000, false)
-}
-
-/// The events of a document that is cut after each given number of virtual bytes, with or without running resolvers; or why it is
-/// refused.
+/// The events that a machine makes of a document that is cut after each given number of virtual bytes, from this start, with or
+/// without running resolvers; or why the document is refused.
 pub(crate) fn lines_by<M: Machine>(
     alloc: Global,
     machine: &M,
@@ -53,72 +40,88 @@ pub(crate) fn lines_by<M: Machine>(
     }
 }
 
-/// Chunks of a paragraph are linked, also if their text is no plain data; and the text of a single chunk is data.
-#[test]
-fn paragraphs_are_chunks_of_text(rt: HostRuntime) -> Result<(), AllocError> {
-    let alloc = rt.alloc();
-    let read = lines_of(alloc, &Paragraphs {}, Name::FlowStart, b">a\n>b\n\nc");
-    let want = "enter Paragraph 1:1 (0+0); BlockQuoteMarker 1:1 (0+0) to 1:2 (1+0); \
-        Data 1:2 (1+0) Text None Some(7) to 2:1 (3+0); BlockQuoteMarker 2:1 (3+0) to 2:2 (4+0); \
-        Data 2:2 (4+0) Text Some(3) None to 3:1 (6+0); exit Paragraph 3:1 (6+0); \
-        BlankLineEnding 3:1 (6+0) to 4:1 (7+0); enter Paragraph 4:1 (7+0); \
-        Data 4:1 (7+0) Text None None to 4:2 (8+0); exit Paragraph 4:2 (8+0)";
-    assert_shown(&rt, read, want)?;
-    let read = lines_of(alloc, &Text {}, Name::FlowStart, b"`a\n>b`");
-    let want = "enter Paragraph 1:1 (0+0); Data 1:1 (0+0) Text None Some(5) to 2:1 (3+0); \
-        BlockQuoteMarker 2:1 (3+0) to 2:2 (4+0); Data 2:2 (4+0) Text Some(1) None to 2:4 (6+0); \
-        exit Paragraph 2:4 (6+0)";
-    assert_shown(&rt, read, want)?;
-    let read = lines_of(alloc, &Paragraphs {}, Name::TextStart, b"a\nb");
-    let want =
-        "Data 1:1 (0+0) to 1:2 (1+0); LineEnding 1:2 (1+0) to 2:1 (2+0); Data 2:1 (2+0) to 2:2 (3+0)";
-    assert_shown(&rt, read, want)
-}
-
-/// A document of words and tags, and its events, or why it is refused.
-const WORDS: &[(&[u8], &str)] = &[
-    (
-        b" a  #b",
-        "SpaceOrTab 1:1 (0+0) to 1:2 (1+0); Data 1:2 (1+0) to 1:3 (2+0); SpaceOrTab 1:3 (2+0) to 1:5 (4+0); \
-        HeadingAtxSequence 1:5 (4+0) to 1:6 (5+0); Data 1:6 (5+0) to 1:7 (6+0)",
-    ),
-    (b"a   b", "a third blank in a row (limecove:words)"),
-    (b"a # b", "a tag without a word (limecove:words)"),
-    (b"a #", "a tag without a word (limecove:words)"),
-];
-
 #[test]
 fn words_and_tags_are_data_or_refused(rt: HostRuntime) -> Result<(), AllocError> {
-    for &(bytes, want) in WORDS {
-        assert!(rt; bytes.len() < 9);
-        let read = lines_of(rt.alloc(), &Words {}, Name::TextStart, bytes);
-        assert_shown(&rt, read, want)?;
-    }
-    Ok(())
+    let start = Name::TextStart;
+    let read = lines_by(rt.alloc(), &Words {}, start, b" a  #b", 99, false);
+    let want =
+        "SpaceOrTab 1:1 (0+0) to 1:2 (1+0); Data 1:2 (1+0) to 1:3 (2+0); SpaceOrTab 1:3 (2+0) to 1:5 (4+0); \
+        HeadingAtxSequence 1:5 (4+0) to 1:6 (5+0); Data 1:6 (5+0) to 1:7 (6+0)";
+    assert_shown(&rt, read, want)?;
+    let read = lines_by(rt.alloc(), &Words {}, start, b"a   b", 99, false);
+    assert_shown(&rt, read, "a third blank in a row (limecove:words)")
 }
 
-/// A document, after how many virtual bytes each it is cut, and what resolvers make of its data.
-const WRAPPED: &[(&[u8], usize, &str)] = &[
-    (b"", 1, "Paragraph 1:1 (0+0) to 1:1 (0+0)"),
-    (
-        b"a",
-        1,
-        "enter Paragraph 1:1 (0+0); CodeTextData 1:1 (0+0) to 1:2 (1+0); exit Paragraph 1:2 (1+0)",
-    ),
-    (
-        b"ab",
-        1,
-        "enter Paragraph 1:1 (0+0); CodeTextData 1:1 (0+0) to 1:3 (2+0); exit Paragraph 1:3 (2+0)",
-    ),
-];
-
+/// Resolvers wrap the data, if there is any, though the document is cut after each byte.
 #[test]
 fn data_is_wrapped(rt: HostRuntime) -> Result<(), AllocError> {
     let wrap = Wrap { refuse: false };
-    for &(bytes, cut, want) in WRAPPED {
-        assert!(rt; bytes.len() < 9 && cut > 0);
-        let read = lines_by(rt.alloc(), &wrap, Name::TextStart, bytes, cut, true);
-        assert_shown(&rt, read, want)?;
+    let read = lines_by(rt.alloc(), &wrap, Name::TextStart, b"", 1, true);
+    assert_shown(&rt, read, "Paragraph 1:1 (0+0) to 1:1 (0+0)")?;
+    let read = lines_by(rt.alloc(), &wrap, Name::TextStart, b"ab", 1, true);
+    let want =
+        "enter Paragraph 1:1 (0+0); CodeTextData 1:1 (0+0) to 1:3 (2+0); exit Paragraph 1:3 (2+0)";
+    assert_shown(&rt, read, want)
+}
+
+/// A code span.
+const CODE: &str =
+    "enter CodeText 1:1 (0+0); CodeTextSequence 1:1 (0+0) to 1:2 (1+0); CodeTextData 1:2 (1+0) to 1:3 (2+0); \
+    CodeTextSequence 1:3 (2+0) to 1:4 (3+0); exit CodeText 1:4 (3+0)";
+
+/// A document, and the events of its text. If runs are not of equal length, there is no code span; a backslash in a code span is
+/// data; and one letter is no scheme. Runs may be long.
+const TEXTS: &[(&[u8], &str)] = &[
+    (b"`a`", CODE),
+    (b"`\\`", CODE),
+    (b"\x7f", "Data 1:1 (0+0) to 1:2 (1+0)"),
+    (
+        b"``a`",
+        "Data 1:1 (0+0) to 1:4 (3+0); Data 1:4 (3+0) to 1:5 (4+0)",
+    ),
+    (
+        b"`a``",
+        "Data 1:1 (0+0) to 1:3 (2+0); Data 1:3 (2+0) to 1:5 (4+0)",
+    ),
+    (
+        b"````````````````````````````````````````a````````````````````````````````````````",
+        "enter CodeText 1:1 (0+0); CodeTextSequence 1:1 (0+0) to 1:41 (40+0); \
+        CodeTextData 1:41 (40+0) to 1:42 (41+0); CodeTextSequence 1:42 (41+0) to 1:82 (81+0); exit CodeText 1:82 (81+0)",
+    ),
+    (
+        b"<ab:c>",
+        "enter Autolink 1:1 (0+0); AutolinkMarker 1:1 (0+0) to 1:2 (1+0); AutolinkProtocol 1:2 (1+0) to 1:6 (5+0); \
+        AutolinkMarker 1:6 (5+0) to 1:7 (6+0); exit Autolink 1:7 (6+0)",
+    ),
+    (b"<a:b>", "Data 1:1 (0+0) to 1:6 (5+0)"),
+    (
+        b"\\*\\a",
+        "enter CharacterEscape 1:1 (0+0); CharacterEscapeMarker 1:1 (0+0) to 1:2 (1+0); \
+        CharacterEscapeValue 1:2 (1+0) to 1:3 (2+0); exit CharacterEscape 1:3 (2+0); Data 1:3 (2+0) to 1:5 (4+0)",
+    ),
+];
+
+/// The events of a document that is read as text, cut after each `cut` virtual bytes.
+fn lines_of_text(alloc: Global, bytes: &[u8], cut: usize) -> Result<String, AllocError>
+    requires limit { IsWithinLimit 4 bytes.now }
+    requires cut { 0 < cut }
+{
+    let options = ParseOptions::default();
+    let cuts = cuts_every(alloc, bytes, options.tab_size, cut)?;
+    match read_text(alloc, bytes, &options, cuts.as_slice()) {
+        Ok(events) => shown(alloc, events.as_slice()),
+        Err(_) => Err(AllocError),
+    }
+}
+
+/// The events show no cut.
+#[test]
+fn texts_have_their_constructs(rt: HostRuntime) -> Result<(), AllocError> {
+    for &(bytes, want) in TEXTS {
+        for cut in [1, 2, 99] {
+            assert!(rt; bytes.len() < 99 && cut > 0);
+            assert_shown(&rt, lines_of_text(rt.alloc(), bytes, cut), want)?;
+        }
     }
     Ok(())
 }

@@ -1,11 +1,11 @@
 //! Places of small texts, their points and the slices between them, with tab sizes from 1 to 16, worked by hand.
 
 ghost use Rattle.markdown.specs.Virtual.{IsWithinLimit};
-ghost use Rattle.std.specs.Prelude.{◌≡◌, ◌≤◌, ◌*◌, ◌<◌, length, None};
+ghost use Rattle.std.specs.Prelude.{◌≡◌, ◌≤◌, ◌*◌, ◌<◌, length};
 
-use crate::shown::{assert_shown, at};
+use crate::shown::{assert_shown, at, point_of};
 use markdown::configuration::TabSize;
-use markdown::event::{Event, Kind, Name, Point};
+use markdown::event::Point;
 use markdown::tokenizer::{cuts_every, point_at};
 use markdown::unist;
 use markdown::util::location::Location;
@@ -24,14 +24,6 @@ fn every(n: usize) -> TabSize
     }
 }
 
-#[test]
-fn tab_stops_stand_one_to_sixteen_columns_apart(rt: HostRuntime) {
-    for &n in &[0, 17, usize::MAX] {
-        assert!(rt; TabSize::new(n).is_none());
-    }
-    assert!(rt; every(16).get() == 16 && every(4) == TabSize::default());
-}
-
 /// The point behind the tab of `"a\tb"`.
 fn behind_the_tab(n: usize) -> Point
     requires least { 1 ≤ n }
@@ -43,36 +35,25 @@ fn behind_the_tab(n: usize) -> Point
 
 #[test]
 fn points_move_to_tab_stops(rt: HostRuntime) {
-    for (n, column) in [(1, 3), (3, 4), (4, 5), (8, 9), (16, 17)] {
-        assert!(rt; 1 <= n && n <= 16);
-        assert!(rt; behind_the_tab(n) == at(1, column, 2, 0));
-    }
+    assert!(rt; behind_the_tab(4) == at(1, 5, 2, 0) && behind_the_tab(8) == at(1, 9, 2, 0));
+    assert!(rt; TabSize::new(0).is_none() && every(16).get() == 16);
 }
 
-/// Line, column, byte index and number in a tab.
-type Shown = (usize, usize, usize, usize);
-
-/// A point, if there is one.
-fn shown(point: Option<Point>) -> Option<Shown> {
-    let point = point?;
-    Some((point.line, point.column, point.index, point.vs))
-}
-
-/// A document, the tab size, a place, and its point.
-const POINTS: &[(&[u8], usize, (usize, usize), Option<Shown>)] = &[
-    (b"a\r\nb", 4, (1, 0), Some((1, 2, 1, 0))),
-    (b"a\r\nb", 4, (2, 0), Some((1, 2, 2, 0))),
-    (b"a\r\nb", 4, (4, 0), Some((2, 2, 4, 0))),
+/// A document, the tab size, a place, and the line and the column of its point.
+const POINTS: &[(&[u8], usize, (usize, usize), Option<(usize, usize)>)] = &[
+    (b"a\r\nb", 4, (1, 0), Some((1, 2))),
+    (b"a\r\nb", 4, (2, 0), Some((1, 2))),
+    (b"a\r\nb", 4, (4, 0), Some((2, 2))),
     (b"a\r\nb", 4, (4, 1), None),
     (b"a\r\nb", 4, (5, 0), None),
-    (b"a\tb", 8, (1, 6), Some((1, 8, 1, 6))),
+    (b"a\tb", 8, (1, 6), Some((1, 8))),
 ];
 
 #[test]
 fn places_have_points(rt: HostRuntime) {
     for &(bytes, n, place, want) in POINTS {
         assert!(rt; 1 <= n && n <= 16 && bytes.len() < 9);
-        assert!(rt; shown(point_at(bytes, every(n), place)) == want);
+        assert!(rt; point_at(bytes, every(n), place) == point_of(place, want));
     }
 }
 
@@ -110,21 +91,14 @@ fn texts_are_cut(rt: HostRuntime) -> Result<(), AllocError> {
 
 #[test]
 fn tabs_are_cut_by_their_size(rt: HostRuntime) -> Result<(), AllocError> {
-    for &(n, want) in &[(1, 2), (3, 3), (8, 8), (16, 16)] {
-        assert!(rt; 1 <= n && n <= 16);
-        let cuts = cuts_every(rt.alloc(), b"a\tb", every(n), 1)?;
-        assert_eq!(rt; cuts.len(), want);
-    }
+    assert!(rt; cuts_every(rt.alloc(), b"a\tb", every(1), 1)?.len() == 2);
+    assert!(rt; cuts_every(rt.alloc(), b"a\tb", every(8), 1)?.len() == 8);
     Ok(())
 }
 
 /// What a slice counts, its length, and what it is written as.
 fn seen(alloc: Global, slice: &Slice) -> Result<String, AllocError> {
-    let Slice {
-        bytes,
-        before,
-        after,
-    } = *slice;
+    let (bytes, before, after) = (slice.bytes, slice.before, slice.after);
     if str::from_utf8(bytes).is_err() || bytes.len() > 9 || before > 999 || after > 999 {
         return String::from_str(alloc, "not shown");
     }
@@ -182,57 +156,17 @@ fn slices_lie_between_places(rt: HostRuntime) -> Result<(), AllocError> {
     Ok(())
 }
 
-/// Three bytes of two characters among many spaces, as they are written.
-fn among_spaces(alloc: Global) -> Result<String, AllocError> {
-    let mut text = String::from_str(alloc, "300 and 200 of 503: '")?;
-    for _ in 0..300 {
-        text.push(' ')?;
-    }
-    text.push_str("x\u{e9}")?;
-    for _ in 0..200 {
-        text.push(' ')?;
-    }
-    text.push('\'')?;
-    Ok(text)
-}
-
 #[test]
 fn slices_write_spaces_and_bytes(rt: HostRuntime) -> Result<(), AllocError> {
-    let want = among_spaces(rt.alloc())?;
     let slice = Slice {
         bytes: "x\u{e9}".as_bytes(),
-        before: 300,
-        after: 200,
+        before: 3,
+        after: 2,
     };
-    assert_shown(&rt, seen(rt.alloc(), &slice), want.as_str())
-}
-
-#[test]
-fn slices_lie_between_indices(rt: HostRuntime) -> Result<(), AllocError> {
+    let want = "3 and 2 of 8: '   x\u{e9}  '";
+    assert_shown(&rt, seen(rt.alloc(), &slice), want)?;
     let slice = Slice::from_indices(b"abc", 1, 2);
     assert_shown(&rt, seen(rt.alloc(), &slice), "0 and 0 of 1: 'b'")
-}
-
-fn event(kind: Kind, name: Name, point: Point) -> Event
-    ensures { result ≡ record { kind = kind; name = name; point = point; link = None } }
-{
-    Event {
-        kind,
-        name,
-        point,
-        link: None,
-    }
-}
-
-#[test]
-fn exits_have_enters(rt: HostRuntime) {
-    let events = [
-        event(Kind::Enter, Name::Paragraph, at(1, 1, 0, 0)),
-        event(Kind::Enter, Name::Data, at(1, 2, 1, 0)),
-        event(Kind::Exit, Name::Data, at(1, 3, 2, 0)),
-        event(Kind::Exit, Name::Paragraph, at(1, 3, 2, 0)),
-    ];
-    assert!(rt; Position::from_exit_event(&events, 3).to_indices() == (0, 2));
 }
 
 /// The points of the offsets 0 to 5 of a document, those that it has.

@@ -4,16 +4,17 @@ ghost use Rattle.std.specs.Prelude.{◌≡◌, ◌*◌, ◌<◌, Contains};
 ghost use Rattle.markdown.specs.Virtual.{IsWithinLimit, point};
 ghost use Rattle.markdown.specs.Configuration.{start_seen};
 ghost use Rattle.markdown.specs.Engine.{given_of};
-ghost use Rattle.markdown.specs.Ranges.{FollowOn, IsGapFrom, LeadsFrom, after_any};
+ghost use Rattle.markdown.specs.Ranges.{FollowOn};
 ghost use Rattle.markdown.specs.Text.{IsDocument, empty_text};
 ghost use Rattle.mdtests.specs.Documents.{given_in_tabs, options_in_tabs};
 
-use crate::shown::{push_events, shown};
+use crate::shown::push_events;
 use markdown::configuration::{ParseOptions, TabSize};
 use markdown::event::{Event, Point};
 use markdown::parser::ParseState;
 use markdown::state::{Machine, Name, State};
 use markdown::tokenizer::{AfterGap, Tokenizer, follow_on};
+use mdconstructs::{Back, Deep, Lines, Paragraphs, Peek, Save, Text};
 use std::alloc::{AllocError, Global};
 
 /// What was seen after a push: the byte before, the number of calls so far, and the number of events.
@@ -32,67 +33,78 @@ pub struct Seen {
     pub events: Vec<Event>,
 }
 
-/// Reads a document with this tab size, cut at these places. Returns `None` if they are no places of it, or not in
-/// order.
-pub fn read_cut<M: Machine>(
+/// A machine, and the name from which it starts.
+#[derive(Clone, Copy)]
+pub enum Reader {
+    Lines,
+    Paragraphs,
+    TextOfParagraphs,
+    Peek,
+    Deep,
+    Back,
+    Save,
+    Text,
+    ParagraphsOfText,
+}
+
+/// Reads a document with this tab size, cut at these places. They have to be places of it, in order.
+pub fn read_cut(
     alloc: Global,
-    machine: &M,
-    start: Name,
+    reader: Reader,
     bytes: &[u8],
     tab: TabSize,
     cuts: &[(usize, usize)],
-) -> Option<Seen>
+) -> Result<Seen, AllocError>
     requires limit { IsWithinLimit tab bytes.now }
-    requires start { Contains (M.rules machine.now (given_in_tabs tab bytes.now)).starts start }
 {
-    let ranges = ranges_between(alloc, bytes.len(), cuts).ok()?;
-    read_ranges(alloc, machine, start, bytes, tab, ranges.as_slice())
-}
-
-/// The ranges between cuts, from the start of a document of this length to its end.
-fn ranges_between(
-    alloc: Global,
-    size: usize,
-    cuts: &[(usize, usize)],
-) -> Result<Vec<AfterGap>, AllocError> {
     let mut ranges = Vec::new(alloc);
     let mut from = (0, 0);
     for cut in cuts {
         ranges.push((None, from, *cut))?;
         from = *cut;
     }
-    ranges.push((None, from, (size, 0)))?;
-    Ok(ranges)
+    ranges.push((None, from, (bytes.len(), 0)))?;
+    read_ranges(alloc, reader, bytes, tab, ranges.as_slice())
 }
 
-/// Reads these ranges of a document and no other, with tabs of this size. `None` if they do not follow on one another, each at the
-/// place at which the one before ended or its gap ends.
-pub fn read_ranges<M: Machine>(
+/// Reads these ranges of a document and no other, with tabs of this size. They have to follow on one another, each at the place at
+/// which the one before ended or its gap ends.
+pub fn read_ranges(
     alloc: Global,
-    machine: &M,
-    start: Name,
+    reader: Reader,
     bytes: &[u8],
     tab: TabSize,
     ranges: &[AfterGap],
-) -> Option<Seen>
+) -> Result<Seen, AllocError>
     requires limit { IsWithinLimit tab bytes.now }
-    requires start { Contains (M.rules machine.now (given_in_tabs tab bytes.now)).starts start }
 {
     if !follow_on(bytes, tab, Point::START, ranges) {
-        return None;
+        return Err(AllocError);
     }
-    read_following(alloc, machine, start, bytes, tab, ranges)
+    match reader {
+        Reader::Lines => read_by(alloc, &Lines {}, Name::FlowStart, bytes, tab, ranges),
+        Reader::Paragraphs => read_by(alloc, &Paragraphs {}, Name::FlowStart, bytes, tab, ranges),
+        Reader::TextOfParagraphs => {
+            read_by(alloc, &Paragraphs {}, Name::TextStart, bytes, tab, ranges)
+        }
+        Reader::Peek => read_by(alloc, &Peek {}, Name::TextStart, bytes, tab, ranges),
+        Reader::Deep => read_by(alloc, &Deep {}, Name::StringStart, bytes, tab, ranges),
+        Reader::Back => read_by(alloc, &Back {}, Name::TextStart, bytes, tab, ranges),
+        Reader::Save => read_by(alloc, &Save {}, Name::TextStart, bytes, tab, ranges),
+        Reader::Text => read_by(alloc, &Text {}, Name::TextStart, bytes, tab, ranges),
+        Reader::ParagraphsOfText => read_by(alloc, &Text {}, Name::FlowStart, bytes, tab, ranges),
+    }
 }
 
 /// Reads ranges that follow on one another, with the default options but for the size of tabs.
-fn read_following<M: Machine>(
+fn read_by<M: Machine>(
     alloc: Global,
     machine: &M,
     start: Name,
     bytes: &[u8],
     tab: TabSize,
     ranges: &[AfterGap],
-) -> Option<Seen>
+) -> Result<Seen, AllocError>
     requires limit { IsWithinLimit tab bytes.now }
     requires start { Contains (M.rules machine.now (given_in_tabs tab bytes.now)).starts start }
     requires ranges { FollowOn tab bytes.now (point 1 1 0 0) ranges.now }
@@ -104,7 +116,7 @@ fn read_following<M: Machine>(
     let mut tokenizer = Tokenizer::new(alloc, Point::START, &parse_state);
     let seen = drive(alloc, &mut tokenizer, &parse_state, start, ranges);
     drop(tokenizer);
-    seen.ok()
+    seen
 }
 
 /// The default options, but for the size of tabs.
@@ -181,30 +193,10 @@ fn seen_of<'a, M: Machine>(tokenizer: &Tokenizer<'a, M>) -> Pushed {
     }
 }
 
-/// The events that were seen.
-pub fn lines(alloc: Global, seen: &Option<Seen>) -> Result<String, AllocError> {
-    match seen {
-        Some(seen) => shown(alloc, seen.events.as_slice()),
-        None => Err(AllocError),
-    }
-}
-
 /// The number of calls in all, and the events that were seen.
-pub fn told(alloc: Global, seen: &Option<Seen>) -> Result<String, AllocError> {
-    let mut text = String::new(alloc);
-    let Some(seen) = seen else {
-        return Err(AllocError);
-    };
-    let calls = seen.calls;
-    write!(text, "{calls} calls: ")?;
+pub fn told(alloc: Global, seen: Result<Seen, AllocError>) -> Result<String, AllocError> {
+    let seen = seen?;
+    let mut text = format!(in alloc; "{} calls: ", seen.calls)?;
     push_events(&mut text, seen.events.as_slice())?;
     Ok(text)
-}
-
-/// What was seen after the push of this number, if there was one.
-pub fn after_push(seen: &Option<Seen>, number: usize) -> Option<Pushed> {
-    match seen {
-        Some(seen) => seen.pushed.get(number).copied(),
-        None => None,
-    }
 }

@@ -1,145 +1,200 @@
-//! The machines, over ranges and gaps.
+//! The machines, over documents that are cut, and over ranges with gaps between them.
 
 ghost use Rattle.markdown.specs.Virtual.{IsWithinLimit};
-ghost use Rattle.std.specs.Prelude.{◌+◌, ◌*◌, ◌<◌, Contains};
-ghost use Rattle.mdtests.specs.Documents.{given_in_tabs};
+ghost use Rattle.std.specs.Prelude.{◌+◌, ◌*◌, ◌<◌, ◌≤◌};
 
-use crate::pushed::{after_push, lines, read_ranges, told};
-use crate::shown::{assert_shown, at};
+use crate::pushed::{Pushed, Reader, Seen, read_cut, read_ranges, told};
+use crate::shown::{assert_shown, at, point_of};
 use markdown::configuration::TabSize;
-use markdown::event::Point;
-use markdown::state::{Machine, Name};
-use markdown::tokenizer::AfterGap;
-use mdconstructs::{Deep, Lines, Peek, Save};
+use markdown::tokenizer::{AfterGap, cuts_every};
 use std::alloc::{AllocError, Global};
 
-/// The events of these ranges of a document, as a machine reads them.
-fn reads<M: Machine>(
-    alloc: Global,
-    machine: &M,
-    start: Name,
-    bytes: &[u8],
-    ranges: &[AfterGap],
-) -> Result<String, AllocError>
-    requires limit { IsWithinLimit 4 bytes.now }
-    requires start { Contains (M.rules machine.now (given_in_tabs 4 bytes.now)).starts start }
-{
-    let tab = TabSize::default();
-    let seen = read_ranges(alloc, machine, start, bytes, tab, ranges);
-    lines(alloc, &seen)
-}
-
-/// `a\n> b` without its `> `.
-const OVER_A_GAP: [AfterGap; 2] = [
-    (None, (0, 0), (2, 0)),
+/// A document, where it is cut, what reads it, in how many calls, and the events. Two cuts are at one byte of a CR LF. A look ahead
+/// goes back, also over nothing; attempts go back; a place is saved at the end; a code span is one choice.
+const CUT: &[(&[u8], &[(usize, usize)], Reader, &str)] = &[
+    (b"", &[], Reader::Lines, "1 calls: "),
     (
-        Some(Point {
-            line: 2,
-            column: 3,
-            index: 4,
-            vs: 0,
-        }),
-        (4, 0),
-        (5, 0),
+        b"a\nb",
+        &[],
+        Reader::Lines,
+        "7 calls: enter Paragraph 1:1 (0+0); Data 1:1 (0+0) to 1:2 (1+0); exit Paragraph 1:2 (1+0); \
+        LineEnding 1:2 (1+0) to 2:1 (2+0); \
+        enter Paragraph 2:1 (2+0); Data 2:1 (2+0) to 2:2 (3+0); exit Paragraph 2:2 (3+0)",
+    ),
+    (
+        b"a\r\nb",
+        &[(1, 0), (2, 0)],
+        Reader::Lines,
+        "7 calls: enter Paragraph 1:1 (0+0); Data 1:1 (0+0) to 1:2 (1+0); exit Paragraph 1:2 (1+0); \
+        LineEnding 1:2 (1+0) to 2:1 (3+0); \
+        enter Paragraph 2:1 (3+0); Data 2:1 (3+0) to 2:2 (4+0); exit Paragraph 2:2 (4+0)",
+    ),
+    (b"", &[], Reader::Peek, "3 calls: "),
+    (
+        b"a\nb\nc",
+        &[(2, 0), (4, 0)],
+        Reader::Peek,
+        "18 calls: Data 1:1 (0+0) to 1:2 (1+0); LineEnding 1:2 (1+0) to 2:1 (2+0); \
+        Data 2:1 (2+0) to 2:2 (3+0); LineEnding 2:2 (3+0) to 3:1 (4+0); Data 3:1 (4+0) to 3:2 (5+0)",
+    ),
+    (
+        b"ab",
+        &[(1, 0)],
+        Reader::Deep,
+        "9 calls: Data 1:1 (0+0) to 1:3 (2+0)",
+    ),
+    (b"a\n", &[(1, 0)], Reader::Save, "4 calls: "),
+    (
+        b"`a`",
+        &[],
+        Reader::Text,
+        "13 calls: enter CodeText 1:1 (0+0); CodeTextSequence 1:1 (0+0) to 1:2 (1+0); \
+        CodeTextData 1:2 (1+0) to 1:3 (2+0); CodeTextSequence 1:3 (2+0) to 1:4 (3+0); exit CodeText 1:4 (3+0)",
     ),
 ];
 
-/// A choice goes back over a gap, and what follows passes it again.
 #[test]
-fn choices_go_back_over_a_gap(rt: HostRuntime) -> Result<(), AllocError> {
-    let alloc = rt.alloc();
-    let tab = TabSize::default();
-    let read = reads(alloc, &Save {}, Name::TextStart, b"a\n> b", &OVER_A_GAP);
-    assert_shown(&rt, read, "Data 2:3 (4+0) to 2:4 (5+0)")?;
-    let seen = read_ranges(
-        alloc,
-        &Deep {},
-        Name::StringStart,
-        b"a\n> b",
-        tab,
-        &OVER_A_GAP,
-    );
-    let want =
-        "16 calls: Data 1:1 (0+0) to 1:2 (1+0); LineEnding 1:2 (1+0) to 2:1 (2+0); Data 2:3 (4+0) to 2:4 (5+0)";
-    assert_shown(&rt, told(alloc, &seen), want)
+fn documents_are_read(rt: HostRuntime) -> Result<(), AllocError> {
+    for &(bytes, cuts, reader, want) in CUT {
+        assert!(rt; bytes.len() < 9);
+        let seen = read_cut(rt.alloc(), reader, bytes, TabSize::default(), cuts);
+        assert_shown(&rt, told(rt.alloc(), seen), want)?;
+    }
+    Ok(())
 }
 
-/// `> a` without its `> `.
-const AFTER_A_GAP: [AfterGap; 1] = [(
-    Some(Point {
-        line: 1,
-        column: 3,
-        index: 2,
-        vs: 0,
-    }),
-    (2, 0),
-    (3, 0),
-)];
+/// A range, and if a gap is before it, the line and the column at which it begins.
+type Row = (Option<(usize, usize)>, (usize, usize), (usize, usize));
 
-/// `a\n\tb` without two of the four columns of its tab.
-const INTO_A_TAB: [AfterGap; 2] = [
-    (None, (0, 0), (2, 0)),
-    (
-        Some(Point {
-            line: 2,
-            column: 3,
-            index: 2,
-            vs: 2,
-        }),
-        (2, 2),
-        (4, 0),
-    ),
-];
+/// The ranges of rows.
+fn ranges_of(alloc: Global, rows: &[Row]) -> Result<Vec<AfterGap>, AllocError> {
+    let mut ranges = Vec::new(alloc);
+    for (gap, from, to) in rows {
+        ranges.push((point_of(*from, *gap), *from, *to))?;
+    }
+    Ok(ranges)
+}
 
-/// The start of `a\nb` is pushed twice, then all of it, and then its end.
-const EMPTY_AT_BOTH_ENDS: [AfterGap; 4] = [
-    (None, (0, 0), (0, 0)),
-    (None, (0, 0), (0, 0)),
-    (None, (0, 0), (3, 0)),
-    (None, (3, 0), (3, 0)),
-];
-
-/// A document, ranges of it, and the events of these, as the machine of lines reads them.
-const RANGES: &[(&[u8], &[AfterGap], &str)] = &[
+/// A document, ranges of it, what reads them, in how many calls, and the events.
+const RANGES: &[(&[u8], &[Row], Reader, &str)] = &[
+    // A gap before the first byte.
     (
         b"> a",
-        &AFTER_A_GAP,
-        "enter Paragraph 1:3 (2+0); Data 1:3 (2+0) to 1:4 (3+0); exit Paragraph 1:4 (3+0)",
+        &[(Some((1, 3)), (2, 0), (3, 0))],
+        Reader::Lines,
+        "3 calls: enter Paragraph 1:3 (2+0); Data 1:3 (2+0) to 1:4 (3+0); exit Paragraph 1:4 (3+0)",
     ),
+    // A gap of two of the four columns of a tab.
     (
         b"a\n\tb",
-        &INTO_A_TAB,
-        "enter Paragraph 1:1 (0+0); Data 1:1 (0+0) to 1:2 (1+0); exit Paragraph 1:2 (1+0); \
+        &[(None, (0, 0), (2, 0)), (Some((2, 3)), (2, 2), (4, 0))],
+        Reader::Lines,
+        "9 calls: enter Paragraph 1:1 (0+0); Data 1:1 (0+0) to 1:2 (1+0); exit Paragraph 1:2 (1+0); \
         LineEnding 1:2 (1+0) to 2:1 (2+0); \
         enter Paragraph 2:3 (2+2); Data 2:3 (2+2) to 2:6 (4+0); exit Paragraph 2:6 (4+0)",
     ),
+    // The CR and the LF of a CR LF denote one byte. A range up to the one is followed by a range from the other.
     (
-        b"a\nb",
-        &EMPTY_AT_BOTH_ENDS,
-        "enter Paragraph 1:1 (0+0); Data 1:1 (0+0) to 1:2 (1+0); exit Paragraph 1:2 (1+0); \
-        LineEnding 1:2 (1+0) to 2:1 (2+0); \
-        enter Paragraph 2:1 (2+0); Data 2:1 (2+0) to 2:2 (3+0); exit Paragraph 2:2 (3+0)",
+        b"a\r\nb",
+        &[
+            (None, (0, 0), (1, 0)),
+            (None, (2, 0), (2, 0)),
+            (None, (2, 0), (4, 0)),
+        ],
+        Reader::Lines,
+        "7 calls: enter Paragraph 1:1 (0+0); Data 1:1 (0+0) to 1:2 (1+0); exit Paragraph 1:2 (1+0); \
+        LineEnding 1:2 (1+0) to 2:1 (3+0); \
+        enter Paragraph 2:1 (3+0); Data 2:1 (3+0) to 2:2 (4+0); exit Paragraph 2:2 (4+0)",
+    ),
+    // A choice goes back over a gap, and what follows passes it again.
+    (
+        b"a\n> b",
+        &[(None, (0, 0), (2, 0)), (Some((2, 3)), (4, 0), (5, 0))],
+        Reader::Save,
+        "6 calls: Data 2:3 (4+0) to 2:4 (5+0)",
+    ),
+    (
+        b"a\n> b",
+        &[(None, (0, 0), (2, 0)), (Some((2, 3)), (4, 0), (5, 0))],
+        Reader::Deep,
+        "16 calls: Data 1:1 (0+0) to 1:2 (1+0); LineEnding 1:2 (1+0) to 2:1 (2+0); Data 2:3 (4+0) to 2:4 (5+0)",
+    ),
+    // A gap up to the place at which the text ends passes nothing.
+    (
+        b"a\nbc",
+        &[
+            (None, (0, 0), (2, 0)),
+            (Some((2, 1)), (2, 0), (3, 0)),
+            (Some((2, 2)), (3, 0), (4, 0)),
+        ],
+        Reader::Peek,
+        "14 calls: Data 1:1 (0+0) to 1:2 (1+0); LineEnding 1:2 (1+0) to 2:1 (2+0); Data 2:1 (2+0) to 2:3 (4+0)",
     ),
 ];
 
 #[test]
 fn gaps_are_not_read(rt: HostRuntime) -> Result<(), AllocError> {
-    for &(bytes, ranges, want) in RANGES {
+    for &(bytes, rows, reader, want) in RANGES {
         assert!(rt; bytes.len() < 9);
-        let read = reads(rt.alloc(), &Lines {}, Name::FlowStart, bytes, ranges);
-        assert_shown(&rt, read, want)?;
+        let ranges = ranges_of(rt.alloc(), rows)?;
+        let tab = TabSize::default();
+        let seen = read_ranges(rt.alloc(), reader, bytes, tab, ranges.as_slice());
+        assert_shown(&rt, told(rt.alloc(), seen), want)?;
     }
     Ok(())
 }
 
-/// The line of this number is `> a`, ended by LF if it is not the last, and its `> ` is passed.
-fn line_after_gap(number: usize, last: bool) -> AfterGap
-    requires { number < 1000 }
+/// The bytes before, after each push.
+fn bytes_before(alloc: Global, seen: &Seen) -> Result<Vec<u8>, AllocError> {
+    let mut bytes = Vec::new(alloc);
+    for pushed in seen.pushed.as_slice() {
+        if let Some(byte) = pushed.previous {
+            bytes.push(byte)?;
+        }
+    }
+    Ok(bytes)
+}
+
+/// What is seen while a document is read that is cut after each given number of virtual bytes.
+fn seen_by(alloc: Global, reader: Reader, bytes: &[u8], cut: usize) -> Result<Seen, AllocError>
+    requires limit { IsWithinLimit 4 bytes.now }
+    requires cut { 1 ≤ cut }
 {
-    let index = 4 * number + 2;
-    let gap = at(number + 1, 3, index, 0);
-    let size = if last { 1 } else { 2 };
-    (Some(gap), (index, 0), (index + size, 0))
+    let tab = TabSize::default();
+    let cuts = cuts_every(alloc, bytes, tab, cut)?;
+    read_cut(alloc, reader, bytes, tab, cuts.as_slice())
+}
+
+#[test]
+fn byte_before_is_of_the_push_before(rt: HostRuntime) -> Result<(), AllocError> {
+    let seen = seen_by(rt.alloc(), Reader::Lines, b"a\tb\r\n\tc", 1)?;
+    let before = bytes_before(rt.alloc(), &seen)?;
+    assert_eq!(rt; before.as_slice(), b"a\t  b\n\t   c".as_slice());
+    Ok(())
+}
+
+#[test]
+fn attempts_go_back_one_by_one(rt: HostRuntime) -> Result<(), AllocError> {
+    let seen = seen_by(rt.alloc(), Reader::Deep, b"abc", 1)?;
+    let second = Pushed {
+        previous: Some(b'b'),
+        calls: 2,
+        events: 0,
+    };
+    assert!(rt; seen.pushed.get(1) == Some(&second));
+    let want = "14 calls: Data 1:1 (0+0) to 1:4 (3+0)";
+    assert_shown(&rt, told(rt.alloc(), Ok(seen)), want)
+}
+
+#[test]
+fn attempts_may_be_many(rt: HostRuntime) -> Result<(), AllocError> {
+    for cut in [1, 64] {
+        assert!(rt; cut > 0);
+        let seen = seen_by(rt.alloc(), Reader::Deep, &[b'a'; 64], cut);
+        let want = "2210 calls: Data 1:1 (0+0) to 1:65 (64+0)";
+        assert_shown(&rt, told(rt.alloc(), seen), want)?;
+    }
+    Ok(())
 }
 
 /// `count` lines `> a`, with LF between each two, and their ranges without `> `.
@@ -147,13 +202,13 @@ fn quoted_lines(alloc: Global, count: usize) -> Result<(Vec<u8>, Vec<AfterGap>),
     let mut bytes = Vec::new(alloc);
     let mut ranges = Vec::new(alloc);
     for number in 0..count.min(1000) {
-        let last = number + 1 == count;
-        bytes.extend_from_slice(if last {
-            b"> a".as_slice()
-        } else {
-            b"> a\n".as_slice()
-        })?;
-        ranges.push(line_after_gap(number, last))?;
+        bytes.extend_from_slice(b"> a".as_slice())?;
+        if number + 1 < count {
+            bytes.push(b'\n')?;
+        }
+        let index = 4 * number + 2;
+        let gap = at(number + 1, 3, index, 0);
+        ranges.push((Some(gap), (index, 0), (bytes.len(), 0)))?;
     }
     Ok((bytes, ranges))
 }
@@ -164,13 +219,15 @@ fn read_quoted(alloc: Global, count: usize) -> Result<String, AllocError> {
     if bytes.len() > 9999 {
         return Err(AllocError);
     }
-    reads(
+    let tab = TabSize::default();
+    let seen = read_ranges(
         alloc,
-        &Peek {},
-        Name::TextStart,
+        Reader::Peek,
         bytes.as_slice(),
+        tab,
         ranges.as_slice(),
-    )
+    );
+    told(alloc, seen)
 }
 
 /// How often a word occurs in a text, between spaces.
@@ -196,70 +253,4 @@ fn each_line_begins_with_a_gap(rt: HostRuntime) -> Result<(), AllocError> {
         assert!(rt; spans == (count, count - 1, 2 * count - 1));
     }
     Ok(())
-}
-
-/// `a\nbc` in three ranges. A gap up to the place at which the text ends passes nothing.
-const AFTER_NOTHING: [AfterGap; 3] = [
-    (None, (0, 0), (2, 0)),
-    (
-        Some(Point {
-            line: 2,
-            column: 1,
-            index: 2,
-            vs: 0,
-        }),
-        (2, 0),
-        (3, 0),
-    ),
-    (
-        Some(Point {
-            line: 2,
-            column: 2,
-            index: 3,
-            vs: 0,
-        }),
-        (3, 0),
-        (4, 0),
-    ),
-];
-
-#[test]
-fn gaps_that_pass_nothing_change_nothing(rt: HostRuntime) -> Result<(), AllocError> {
-    let alloc = rt.alloc();
-    let seen = read_ranges(
-        alloc,
-        &Peek {},
-        Name::TextStart,
-        b"a\nbc",
-        TabSize::default(),
-        &AFTER_NOTHING,
-    );
-    let want =
-        "14 calls: Data 1:1 (0+0) to 1:2 (1+0); LineEnding 1:2 (1+0) to 2:1 (2+0); Data 2:1 (2+0) to 2:3 (4+0)";
-    assert_shown(&rt, told(alloc, &seen), want)
-}
-
-/// The CR and the LF of a CR LF denote one byte, so a range up to the one is followed by a range from the other.
-#[test]
-fn range_begins_at_the_other_place_of_its_byte(rt: HostRuntime) -> Result<(), AllocError> {
-    let ranges = [
-        (None, (0, 0), (1, 0)),
-        (None, (2, 0), (2, 0)),
-        (None, (2, 0), (4, 0)),
-    ];
-    let tab = TabSize::default();
-    let seen = read_ranges(
-        rt.alloc(),
-        &Lines {},
-        Name::FlowStart,
-        b"a\r\nb",
-        tab,
-        &ranges,
-    );
-    assert!(rt; after_push(&seen, 0) == after_push(&seen, 1));
-    let want =
-        "7 calls: enter Paragraph 1:1 (0+0); Data 1:1 (0+0) to 1:2 (1+0); exit Paragraph 1:2 (1+0); \
-        LineEnding 1:2 (1+0) to 2:1 (3+0); \
-        enter Paragraph 2:1 (3+0); Data 2:1 (3+0) to 2:2 (4+0); exit Paragraph 2:2 (4+0)";
-    assert_shown(&rt, told(rt.alloc(), &seen), want)
 }

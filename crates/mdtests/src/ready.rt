@@ -1,19 +1,11 @@
 //! Whether the chains of a list can be read, and whether one is in the first paragraph of a list item.
 
 use crate::chunks::Row::{Chunk, Enter, Exit, Span};
-use crate::chunks::{
-    CHAIN_AROUND_ANOTHER, CHAIN_AROUND_CHILDREN, ITEM, Place, QUOTE, Row, TWO_CHUNKS, listed,
-};
+use crate::chunks::{CHAIN_AROUND_ANOTHER, CHAIN_AROUND_CHILDREN, ITEM, Place, Row, listed};
 use markdown::configuration::{Constructs, TabSize};
 use markdown::event::{Content, Name};
 use markdown::subtokenize::{at_first_paragraph_of_list_item, ready};
 use std::alloc::{AllocError, Global};
-
-/// The content of the chains that fit.
-const TEXT: Option<Content> = Some(Content::Text);
-
-/// The content of the chains that fit.
-const STRING: Option<Content> = Some(Content::String);
 
 /// Whether a list over a small document is ready.
 fn is_ready(
@@ -33,22 +25,18 @@ fn is_ready(
 /// Where the text begins.
 const START: Place = (1, 1, 0, 0);
 
-/// A list, its document, the content of the chains that fit, and whether the list is ready.
-const LISTS: &[(&[Row], &[u8], Option<Content>, bool)] = &[
-    (&[], b"", None, true),
-    (&TWO_CHUNKS, b"ab", TEXT, true),
-    (&TWO_CHUNKS, b"\tb", TEXT, false),
-    (&QUOTE, b"> a\n> b", None, true),
-    (&CHAIN_AROUND_ANOTHER, b"ab\ncd", TEXT, true),
-    (&CHAIN_AROUND_CHILDREN, b"ab\ncd", TEXT, true),
-    (&CHAIN_AROUND_CHILDREN, b"ab\ncd", STRING, false),
-    (&CHAIN_AROUND_CHILDREN, b"ab\ncd", None, false),
+/// A list over `ab\ncd`, the content of the chains that fit, and whether the list is ready.
+const LISTS: &[(&[Row], Option<Content>, bool)] = &[
+    (&CHAIN_AROUND_ANOTHER, Some(Content::Text), true),
+    (&CHAIN_AROUND_CHILDREN, Some(Content::Text), true),
+    (&CHAIN_AROUND_CHILDREN, Some(Content::String), false),
+    (&CHAIN_AROUND_CHILDREN, None, false),
 ];
 
 #[test]
 fn chains_that_fit_can_be_read(rt: HostRuntime) -> Result<(), AllocError> {
-    for &(list, bytes, filter, want) in LISTS {
-        assert!(rt; is_ready(rt.alloc(), list, bytes, filter)? == want);
+    for &(list, filter, want) in LISTS {
+        assert!(rt; is_ready(rt.alloc(), list, b"ab\ncd", filter)? == want);
     }
     Ok(())
 }
@@ -79,15 +67,19 @@ fn first_paragraph(
     alloc: Global,
     list: &[Row],
     index: usize,
-    constructs: &Constructs,
+    gfm_task_list_item: bool,
 ) -> Result<Option<bool>, AllocError> {
+    let constructs = Constructs {
+        gfm_task_list_item,
+        ..Constructs::default()
+    };
     let events = listed(alloc, list)?;
     let events = events.as_slice();
     let tab_size = TabSize::default();
     if index >= events.len() || !ready(alloc, events, b"", tab_size, Some(&Content::Flow))? {
         return Ok(None);
     }
-    Ok(Some(at_first_paragraph_of_list_item(events, index, constructs)))
+    Ok(Some(at_first_paragraph_of_list_item(events, index, &constructs)))
 }
 
 /// A list item with a blank line after its prefix.
@@ -111,13 +103,7 @@ const ITEMS: &[(&[Row], usize, bool, bool)] = &[
 #[test]
 fn first_paragraph_of_a_list_item_is_found(rt: HostRuntime) -> Result<(), AllocError> {
     for &(list, index, tasks, want) in ITEMS {
-        let constructs = if tasks {
-            Constructs::gfm()
-        } else {
-            Constructs::default()
-        };
-        let found = first_paragraph(rt.alloc(), list, index, &constructs)?;
-        assert!(rt; found == Some(want));
+        assert!(rt; first_paragraph(rt.alloc(), list, index, tasks)? == Some(want));
     }
     Ok(())
 }

@@ -2,7 +2,7 @@
 
 ghost use Rattle.std.specs.Prelude.{◌≡◌};
 
-use markdown::event::{Event, Kind, Link, Point};
+use markdown::event::{Event, Kind, Point};
 use markdown::owned::{Boxed, OwnedText};
 use markdown::subtokenize::Subresult;
 use markdown::tokenizer::Fault;
@@ -19,6 +19,12 @@ pub(crate) const fn at(line: usize, column: usize, index: usize, vs: usize) -> P
         index,
         vs,
     }
+}
+
+/// The point of a place at this line and column, if there is one.
+pub(crate) fn point_of(place: (usize, usize), shown: Option<(usize, usize)>) -> Option<Point> {
+    let (line, column) = shown?;
+    Some(at(line, column, place.0, place.1))
 }
 
 /// A text of its own.
@@ -97,48 +103,35 @@ fn push_name(
 
 /// Appends the place of an event, and its link.
 fn push_place(text: &mut String, event: &Event) -> Result<(), AllocError> {
-    let Point {
-        line,
-        column,
-        index,
-        vs,
-    } = event.point;
-    write!(text, " {line}:{column} ({index}+{vs})")?;
+    let point = event.point;
+    write!(
+        text,
+        " {}:{} ({}+{})",
+        point.line, point.column, point.index, point.vs
+    )?;
     match event.link {
-        Some(link) => push_link(text, link),
+        Some(link) => write!(
+            text,
+            " {:?} {:?} {:?}",
+            link.content, link.previous, link.next
+        ),
         None => Ok(()),
     }
 }
 
-/// Appends a link.
-fn push_link(text: &mut String, link: Link) -> Result<(), AllocError> {
-    let Link {
-        content,
-        previous,
-        next,
-    } = link;
-    write!(text, " {content:?} {previous:?} {next:?}")
-}
-
-/// Appends what was found, as a line, or why nothing was.
+/// Appends what was found, as a line: whether nothing was left to do, and the definitions; or why nothing was.
 pub(crate) fn push_answer(
     text: &mut String,
     answer: &Result<Subresult, Fault>,
 ) -> Result<(), AllocError> {
-    match answer {
-        Ok(sub) => push_found(text, sub),
-        Err(fault) => writeln!(text, "{fault}"),
-    }
-}
-
-/// Appends what was found: whether nothing was left to do, and then the definitions.
-fn push_found(text: &mut String, sub: &Subresult) -> Result<(), AllocError> {
-    let done = sub.done;
+    let sub = match answer {
+        Ok(sub) => sub,
+        Err(fault) => return writeln!(text, "{fault}"),
+    };
     let notes = sub.gfm_footnote_definitions.as_slice().len();
-    write!(text, "done: {done}, notes: {notes}, definitions:")?;
+    write!(text, "done: {}, notes: {notes}, definitions:", sub.done)?;
     for label in sub.definitions.as_slice() {
-        let label = label.as_str();
-        write!(text, " {label}")?;
+        write!(text, " {}", label.as_str())?;
     }
     text.push('\n')
 }

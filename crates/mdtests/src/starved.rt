@@ -8,8 +8,9 @@ ghost use Rattle.mdtests.specs.Starved.{text_start};
 
 use crate::chunks::Row::Chunk;
 use crate::chunks::{ITEM, QUOTE, Row, listed};
-use crate::machines::lines_of;
-use crate::shown::{assert_shown, push_answer, push_events};
+use crate::machines::lines_by;
+use crate::shown::assert_shown;
+use crate::subtokenize::told;
 use markdown::configuration::{ParseOptions, TabSize};
 use markdown::event::{self, Content, Event};
 use markdown::parser::ParseState;
@@ -93,36 +94,37 @@ const TWO_BYTES: &str = "Data 1:1 (0+0) to 1:2 (1+0); Data 1:2 (1+0) to 1:3 (2+0
 fn refused_state_ends_a_run(rt: HostRuntime) -> Result<(), AllocError> {
     for at in 0..4 {
         let want = if at < 3 { "out of memory" } else { TWO_BYTES };
-        assert_shown(
-            &rt,
-            lines_of(rt.alloc(), &Starved { at }, Name::TextStart, b"ab"),
-            want,
-        )?;
+        let read = lines_by(
+            rt.alloc(),
+            &Starved { at },
+            Name::TextStart,
+            b"ab",
+            99,
+            false,
+        );
+        assert_shown(&rt, read, want)?;
     }
     Ok(())
 }
 
-/// Reads all chains of a list, whatever their content, and appends the result.
+/// Reads all chains of a list, whatever their content. Returns the result, and then the list.
 fn read_chains(
     alloc: Global,
-    text: &mut String,
     events: &mut Vec<Event>,
     bytes: &[u8],
     options: &ParseOptions,
     machine: &Starved,
-) -> Result<(), AllocError>
+) -> Result<String, AllocError>
     requires limit { IsWithinLimit options.now.tab_size bytes.now }
 {
     if !ready(alloc, events.as_slice(), bytes, options.tab_size, None)? {
-        return text.push_str("not ready\n");
+        return String::from_str(alloc, "not ready");
     }
     let Some(parse_state) = ParseState::new(bytes, options, machine) else {
         return Err(AllocError);
     };
     let answer = subtokenize(alloc, events, &parse_state, None);
-    let pushed = push_answer(text, &answer);
-    drop(answer);
-    pushed
+    told(alloc, &answer, events.as_slice())
 }
 
 /// Reads all chains of a list over a small document, with this tab size and a machine that runs out of memory at a call. Returns
@@ -143,17 +145,7 @@ fn read(
         return Err(AllocError);
     }
     let mut events = listed(alloc, list)?;
-    let mut text = String::new(alloc);
-    read_chains(
-        alloc,
-        &mut text,
-        &mut events,
-        bytes,
-        &options,
-        &Starved { at },
-    )?;
-    push_events(&mut text, events.as_slice())?;
-    Ok(text)
+    read_chains(alloc, &mut events, bytes, &options, &Starved { at })
 }
 
 /// A quoted paragraph as it was, behind a fault.
@@ -211,7 +203,6 @@ const READS: &[(&[Row], &[u8], usize, &str)] = &[
         enter ListItem 1:1 (0+0); ListItemPrefix 1:1 (0+0) to 1:3 (2+0); enter Paragraph 1:3 (2+0); \
         Data 1:3 (2+0) to 1:4 (3+0); exit Paragraph 1:4 (3+0); exit ListItem 1:4 (3+0)",
     ),
-    (&[], b"", 4, "done: true, notes: 0, definitions:\n"),
 ];
 
 #[test]

@@ -1,14 +1,9 @@
 //! The surface: each item that the libraries offer, by the path under which a caller finds it. A path that is gone is an error here.
 //! The program's own items are at the root of `mdevents`, and no crate can import from a program.
 //!
-//! Each call that takes memory and returns something is made with ample memory, and what it returns is compared, by these tests:
-//!
-//! - `Message::try_clone`, `CompileOptions::try_clone`, `State::try_clone`: `values`.
-//! - `format`, `format_opt`, `format_byte`, `format_byte_opt`: `chars`. `Location::new`, `Slice::serialize`, `cuts_every`: `places`.
-//! - `EditMap::add`, `EditMap::add_before`, `EditMap::consume`: `edit_map`.
-//! - `Tokenizer::push`, `Tokenizer::flush`: `driven`. `Tokenizer::define_skip`: `ranges`.
-//! - `Tokenizer::enter`, `enter_link`, `exit`, `attempt`, `check`, `register_resolver`, `register_resolver_before`: `tokenizer`.
-//! - `run`: `machines`. `ready`: `ready`. `divide_events`: `division`. `subtokenize`: `subtokenize`. `read_text`: `texts`.
+//! Each call that takes memory and returns something is made with ample memory, and what it returns is compared. Clones are in
+//! `values`, `cuts_every` and what is of slices and locations in `places`, `read_text` and `run` in `machines`, and the rest in the
+//! module of its name, or for `Tokenizer` in `driven`, `ranges` and `tokenizer`.
 
 use markdown::configuration::{CompileOptions, Constructs, Options, ParseOptions, TabSize};
 use markdown::event::{Content, Event, Kind, Link, Name, Point, VOID_EVENTS};

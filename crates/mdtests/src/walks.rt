@@ -1,35 +1,23 @@
-//! Walks over small lists of events, and links in them, with expected results worked by hand.
+//! Walks over small lists of events, links in them and the enters of exits, with expected results worked by hand.
 
 ghost use Rattle.std.specs.Prelude.{◌≡◌, [], ◌∷◌, take, Any};
 ghost use Rattle.markdown.specs.Events.{IsBalanced};
-ghost use Rattle.markdown.specs.declared.event.Kind.TheVariants.{Enter, Exit};
 ghost use Rattle.markdown.specs.declared.event.Name.TheVariants.{SpaceOrTab};
 ghost use Rattle.markdown.specs.SpanWalks.{HasWanted};
 
-use crate::shown::{assert_shown, shown};
+use crate::shown::{assert_shown, at, shown};
 use markdown::event::{Content, Event, Kind, Link, Name, Point};
 use markdown::subtokenize::{link, link_to};
 use markdown::util::skip::{opt, opt_back, to, to_back};
+use markdown::util::slice::Position;
 use std::alloc::AllocError;
 
-fn enter(name: Name) -> Event
-    ensures enters { result.kind ≡ Enter }
+fn event(kind: Kind, name: Name) -> Event
+    ensures is { result.kind ≡ kind }
     ensures named { result.name ≡ name }
 {
     Event {
-        kind: Kind::Enter,
-        name,
-        point: Point::START,
-        link: None,
-    }
-}
-
-fn exit(name: Name) -> Event
-    ensures exits { result.kind ≡ Exit }
-    ensures named { result.name ≡ name }
-{
-    Event {
-        kind: Kind::Exit,
+        kind,
         name,
         point: Point::START,
         link: None,
@@ -42,10 +30,10 @@ pub(crate) fn white_space_and_data() -> [Event; 4]
     ensures white_space { Any (HasWanted (SpaceOrTab ∷ [])) (take 4 result) }
 {
     [
-        enter(Name::SpaceOrTab),
-        exit(Name::SpaceOrTab),
-        enter(Name::Data),
-        exit(Name::Data),
+        event(Kind::Enter, Name::SpaceOrTab),
+        event(Kind::Exit, Name::SpaceOrTab),
+        event(Kind::Enter, Name::Data),
+        event(Kind::Exit, Name::Data),
     ]
 }
 
@@ -53,7 +41,10 @@ pub(crate) fn white_space_and_data() -> [Event; 4]
 fn line_ending() -> [Event; 2]
     ensures { IsBalanced result }
 {
-    [enter(Name::LineEnding), exit(Name::LineEnding)]
+    [
+        event(Kind::Enter, Name::LineEnding),
+        event(Kind::Exit, Name::LineEnding),
+    ]
 }
 
 #[test]
@@ -92,15 +83,21 @@ const EXIT: Event = Event {
 
 #[test]
 fn chunks_are_linked(rt: HostRuntime) -> Result<(), AllocError> {
-    let mut events = [ENTER, EXIT, ENTER, EXIT, ENTER, EXIT];
-    link_to(&mut events, 0, 4);
     let want =
-        "Data 1:1 (0+0) Text None Some(4) to 1:1 (0+0); Data 1:1 (0+0) Text None None to 1:1 (0+0); \
-        Data 1:1 (0+0) Text Some(0) None to 1:1 (0+0)";
+        "Data 1:1 (0+0) Text None Some(2) to 1:1 (0+0); Data 1:1 (0+0) Text Some(0) None to 1:1 (0+0)";
+    let mut events = [ENTER, EXIT, ENTER, EXIT];
+    link_to(&mut events, 0, 2);
     assert_shown(&rt, shown(rt.alloc(), &events), want)?;
     let mut events = [ENTER, EXIT, ENTER, EXIT];
     link(&mut events, 2);
-    let want =
-        "Data 1:1 (0+0) Text None Some(2) to 1:1 (0+0); Data 1:1 (0+0) Text Some(0) None to 1:1 (0+0)";
     assert_shown(&rt, shown(rt.alloc(), &events), want)
+}
+
+#[test]
+fn exits_have_enters(rt: HostRuntime) {
+    let end = Event {
+        point: at(1, 3, 2, 0),
+        ..EXIT
+    };
+    assert!(rt; Position::from_exit_event(&[ENTER, end], 1).to_indices() == (0, 2));
 }

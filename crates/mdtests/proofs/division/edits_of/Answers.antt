@@ -1,5 +1,5 @@
 use Rattle.markdown.specs.Virtual.{IsWithinLimit}
-use Rattle.std.proofs.Common.{◌+◌, ℕ, None, ◌++◌, List, length, refl, sym, ◌∙◌, ap, subst, arith}
+use Rattle.std.proofs.Common.{ℕ, None, ◌++◌, List, length, refl, sym, ◌∙◌, ap, subst, arith}
 use Rattle.markdown.specs.Edits.{Edit, AreDisjoint}
 use Rattle.markdown.specs.ChildrenLaws.{HasEndsWithin}
 use Rattle.markdown.specs.Parts.{divided, chain_edits}

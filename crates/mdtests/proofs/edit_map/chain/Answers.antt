@@ -26,7 +26,7 @@ loop-k-preserved c =
     let inside : c.loop-k.k < c.args.count = search rules in
     let enter : P c.linked.result = ends-linked c.linked.result.link _ _ n c.linked.ensures (within _ (2 * c.loop-k.k) n (omega arith) c.enter_before.ensures) c.enter_behind.ensures in
     let first : All P (c.loop-k.events.items ++ c.linked.result ∷ []) = All-push P c.loop-k.events.items c.linked.result i.1 enter in
-    let both : All P ((c.loop-k.events.items ++ c.linked.result ∷ []) ++ c.event_at.result ∷ []) = All-push P (c.loop-k.events.items ++ c.linked.result ∷ []) c.event_at.result first (ends-none c.event_at.result n c.event_at.ensures) in (
+    let both : All P ((c.loop-k.events.items ++ c.linked.result ∷ []) ++ c.event.result ∷ []) = All-push P (c.loop-k.events.items ++ c.linked.result ∷ []) c.event.result first (ends-none c.event.result n c.event.ensures) in (
       search rules,
-      subst (All P) (sym (c.in_ok-push-2.ensures.items ∙ ap (λ xs. xs ++ c.event_at.result ∷ []) c.in_ok-push.ensures.items)) both,
+      subst (All P) (sym (c.in_ok-push-2.ensures.items ∙ ap (λ xs. xs ++ c.event.result ∷ []) c.in_ok-push.ensures.items)) both,
     )

@@ -3,4 +3,4 @@ use Rattle.markdown.proofs.Balanced.{IsBalanced-pair}
 use Rattle.mdtests.proofs.walks.line_ending.Goals as goal
 
 pub returns : goal.returns
-returns c = IsBalanced-pair c.enter.result c.exit.result c.enter.ensures.enters c.exit.ensures.exits (c.exit.ensures.named ∙ sym c.enter.ensures.named)
+returns c = IsBalanced-pair c.event.result c.event-2.result c.event.ensures.is c.event-2.ensures.is (c.event-2.ensures.named ∙ sym c.event.ensures.named)

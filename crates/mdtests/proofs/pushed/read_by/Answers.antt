@@ -1,6 +1,6 @@
 use Rattle.markdown.specs.Engine.{given_by}
 use Rattle.markdown.proofs.Runs.Whole.{start-is-point}
-use Rattle.mdtests.proofs.pushed.read_following.Goals as goal
+use Rattle.mdtests.proofs.pushed.read_by.Goals as goal
 
 pub new-tokenizer-requires : goal.new-tokenizer-requires
 new-tokenizer-requires g c =

@@ -1,0 +1,12 @@
+use Rattle.std.proofs.Common.{refl}
+use Rattle.markdown.specs.Virtual.{point}
+use Rattle.mdtests.proofs.refusals.message_waits_for_the_flush.Goals as goal
+
+pub read_refused-requires-clause-cut : goal.read_refused-requires-clause-cut
+read_refused-requires-clause-cut g c = (point 1 2 1 0, refl, refl, tt)
+
+pub read_refused-requires-2-clause-cut : goal.read_refused-requires-2-clause-cut
+read_refused-requires-2-clause-cut g c = (point 1 2 1 0, refl, refl, tt)
+
+pub read_refused-requires-3-clause-cut : goal.read_refused-requires-3-clause-cut
+read_refused-requires-3-clause-cut g c = (point 1 2 1 0, refl, refl, tt)

@@ -1,6 +1,0 @@
-use Rattle.std.proofs.Common.{refl}
-use Rattle.markdown.specs.Virtual.{point}
-use Rattle.mdtests.proofs.refusals.read_two.Goals as goal
-
-pub read-requires-clause-cut : goal.read-requires-clause-cut
-read-requires-clause-cut c = (point 1 2 1 0, refl, refl, tt)
