@@ -2,6 +2,7 @@
 pub mod Entries
 pub mod FinalPlaces
 pub mod Passes
+pub mod Pools
 pub mod Puts
 pub mod Shifts
 pub mod Splices

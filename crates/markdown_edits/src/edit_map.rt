@@ -4,35 +4,38 @@
 //! edits at indices into the events as they are, and each event and link end is moved once.
 
 ghost use Rattle.std.specs.List.{AllByRecursion};
-ghost use Rattle.std.specs.Prelude.{◌≡◌, ◌++◌, ◌+◌, ◌<◌, ◌≤◌, ◌^◌, [], ◌∷◌, length, take, OnOk, OnErr, IsOk, All, IsTrue, if◌then◌else◌};
+ghost use Rattle.std.specs.Prelude.{◌≡◌, ◌++◌, ◌+◌, ◌↔◌, ◌<◌, ◌≤◌, ◌^◌, [], length, OnOk, OnErr, IsOk, All, IsTrue, if◌then◌else◌};
 ghost use Rattle.markdown_base.specs.Events.{EndsBelow};
 ghost use Rattle.markdown_edits.specs.Edits.{Edit, edit_at, is_no_edit, added_after, added_before, removal_at, AreDisjoint, AreBehind};
 ghost use Rattle.markdown_edits.specs.Edited.{edited};
-ghost use Rattle.markdown_edits.specs.Stored.{as_edit, edits_of};
+ghost use Rattle.markdown_edits.specs.Stored.{IsAscending};
 
-use crate::replacement::Replacement;
-use crate::splice::spliced_events;
+use crate::pool::Pool;
+use crate::tree::Tree;
 use markdown_base::event::Event;
 use std::alloc::{AllocError, Global};
-use std::collections::BTreeMap;
 use std::marker::Model;
 use std::mem::swap;
 
 /// Edits of a list of events, to be made at once: at an index, how many events go, and which come in their place.
 #[derive(Drop)]
 pub struct EditMap {
-    edits: BTreeMap<usize, Replacement>,
+    /// Edits whose indices came in ascending order.
+    front: Pool,
+    /// Edits behind them, whose indices came in any order.
+    behind: Tree,
 }
 
 impl Model for EditMap {
-    ghost use Rattle.std.specs.Prelude.{List};
+    ghost use Rattle.std.specs.Prelude.{List, ◌++◌};
     ghost use Rattle.markdown_edits.specs.Edits.{Edit};
+    ghost use Rattle.markdown_edits.specs.Stored.{IsAscending};
 
     ghost Value = { List Edit };
 
-    ghost use Rattle.markdown_edits.specs.Stored.{edits_of};
+    ghost view = { λ m. m.front ++ m.behind };
 
-    ghost view = { λ m. edits_of m.edits.entries };
+    ghost invariant = { λ m. IsAscending (m.front ++ m.behind) };
 }
 
 impl EditMap {
@@ -41,7 +44,8 @@ impl EditMap {
         ensures { result ≡ [] }
     {
         EditMap {
-            edits: BTreeMap::new(alloc),
+            front: Pool::new(alloc),
+            behind: Tree::new(alloc),
         }
     }
 
@@ -92,16 +96,39 @@ impl EditMap {
         ensures err { OnErr result (self.new ≡ self.old) }
         ensures no_edit { IsTrue (is_no_edit (edit_at index remove additions.items)) → IsOk result }
     {
-        if remove == 0 && additions.is_empty() {
+        if is_nothing(remove, &additions) {
             return Ok(());
         }
-        match self.edits.get_mut(&index) {
-            Some(there) => there.add(remove, additions, before)?,
-            None => {
-                self.edits.insert(index, Replacement { remove, additions })?;
-            }
+        if is_last(&self.front, &self.behind, index) {
+            self.front.push(index, remove, &additions)?;
+            return Ok(());
         }
+        sink(&mut self.front, &mut self.behind, index)?;
+        self.behind.add(index, remove, additions, before)?;
         Ok(())
+    }
+
+    /// Adds an edit as [`EditMap::add`] does, of copies of these additions.
+    pub(crate) fn add_copies(
+        &mut self,
+        index: usize,
+        remove: usize,
+        additions: &[Event],
+    ) -> Result<(), AllocError>
+        requires sum_fits { 0 < remove → removal_at self.old index + remove < 2 ^ 64 }
+        ensures ok { OnOk result (self.new ≡ added_after self.old (edit_at index remove additions.now)) }
+        ensures err { OnErr result (self.new ≡ self.old) }
+        ensures no_edit { IsTrue (is_no_edit (edit_at index remove additions.now)) → IsOk result }
+    {
+        if is_nothing(remove, additions) {
+            return Ok(());
+        }
+        if is_last(&self.front, &self.behind, index) {
+            self.front.push(index, remove, additions)?;
+            return Ok(());
+        }
+        let alloc = self.front.allocator();
+        self.add(index, remove, Vec::from_slice(alloc, additions)?)
     }
 
     /// Moves the edits of another map into this one. They must be behind all edits that are there.
@@ -112,15 +139,21 @@ impl EditMap {
         ensures ok { OnOk result ((self.new ≡ self.old ++ more.old) × (more.new ≡ [])) }
         ensures err { OnErr result ((self.new ≡ self.old) × (more.new ≡ more.old)) }
     {
-        // Copying is needed only so that all edits are moved or none. Into an empty map they move as a whole, as for
-        // the first chain of each list.
-        if self.edits.is_empty() {
-            swap(&mut self.edits, &mut more.edits);
+        if self.behind.is_empty() {
+            self.front.append(&mut more.front)?;
+            swap(&mut self.behind, &mut more.behind);
             return Ok(());
         }
-        push_copies(&mut self.edits, &more.edits)?;
-        more.edits.clear();
+        sink(&mut more.front, &mut more.behind, 0)?;
+        self.behind.append(&mut more.behind)?;
         Ok(())
+    }
+
+    /// Whether there are no edits.
+    fn is_empty(&self) -> bool
+        ensures { IsTrue result ↔ (self.now ≡ []) }
+    {
+        self.front.is_empty() && self.behind.is_empty()
     }
 
     /// Makes all edits at once, and leaves the map empty.
@@ -139,63 +172,56 @@ impl EditMap {
         ensures err { OnErr result ((events.new.items ≡ events.old.items) × (self.new ≡ self.old)) }
         ensures empty { self.old ≡ [] → IsOk result }
     {
-        if self.edits.is_empty() {
+        if self.is_empty() {
             return Ok(());
         }
-        let alloc = *events.allocator();
-        *events = spliced_events(alloc, &self.edits, events.as_slice())?;
-        self.edits.clear();
+        self.behind.move_into(&mut self.front)?;
+        *events = self.front.spliced(events.as_slice())?;
+        self.front.clear();
         Ok(())
     }
 }
 
-/// Puts a copy of an edit behind all that are there.
-fn push_copy(
-    edits: &mut BTreeMap<usize, Replacement>,
-    index: usize,
-    edit: &Replacement,
-) -> Result<(), AllocError>
-    requires { AllByRecursion (λ (e : Edit). e.index < index) (edits_of edits.old.entries) }
-    ensures ok { OnOk result (edits_of edits.new.entries ≡ edits_of edits.old.entries ++ as_edit (index, edit.now) ∷ []) }
-    ensures err { OnErr result (edits.new.entries ≡ edits.old.entries) }
+/// Whether an edit that removes so many events and adds these is none.
+fn is_nothing(remove: usize, additions: &[Event]) -> bool
+    ensures { result ≡ is_no_edit (edit_at 0 remove additions.now) }
 {
-    let alloc = *edit.additions.allocator();
-    let additions = Vec::from_slice(alloc, &edit.additions)?;
-    edits.insert(
-        index,
-        Replacement {
-            remove: edit.remove,
-            additions,
-        },
-    )?;
-    Ok(())
+    remove == 0 && additions.is_empty()
 }
 
-/// Puts copies of edits behind all that are there: of each of them, or none if it runs out of memory.
-fn push_copies(
-    edits: &mut BTreeMap<usize, Replacement>,
-    more: &BTreeMap<usize, Replacement>,
-) -> Result<(), AllocError>
-    requires { AreBehind (edits_of edits.old.entries) (edits_of more.now.entries) }
-    ensures ok { OnOk result (edits_of edits.new.entries ≡ edits_of edits.old.entries ++ edits_of more.now.entries) }
-    ensures err { OnErr result (edits_of edits.new.entries ≡ edits_of edits.old.entries) }
+/// Whether an edit at an index is behind all edits of a pool and of the tree of the edits behind the pool's, and the tree is empty.
+fn is_last(front: &Pool, behind: &Tree, index: usize) -> bool
+    requires { IsAscending front.now }
+    ensures none { IsTrue result → (behind.now ≡ []) }
+    ensures all { IsTrue result → AllByRecursion (λ (e : Edit). e.index < index) front.now }
 {
-    let len = edits.len();
-    for (index, edit) in more {
-        if push_copy(edits, *index, edit).is_err() {
-            truncate(edits, len);
-            return Err(AllocError);
-        }
+    behind.is_empty() && front.ends_before(index)
+}
+
+/// Moves the edits at an index and behind it from a pool into the tree of the edits behind the pool's, the last one
+/// first. If it runs out of memory, some of them are left.
+fn sink(front: &mut Pool, behind: &mut Tree, index: usize) -> Result<(), AllocError>
+    requires { IsAscending (front.old ++ behind.old) }
+    ensures same { front.new ++ behind.new ≡ front.old ++ behind.old }
+    ensures ok { OnOk result (AllByRecursion (λ (e : Edit). e.index < index) front.new) }
+{
+    while !front.ends_before(index) {
+        sink_last(front, behind)?;
     }
     Ok(())
 }
 
-/// Takes out all edits but the first `len`.
-fn truncate(edits: &mut BTreeMap<usize, Replacement>, len: usize)
-    requires { len ≤ length edits.old.entries }
-    ensures { edits.new.entries ≡ take len edits.old.entries }
+/// Moves the last edit of a pool into the tree of the edits behind the pool's. If it runs out of memory, nothing changes.
+fn sink_last(front: &mut Pool, behind: &mut Tree) -> Result<(), AllocError>
+    requires ascending { IsAscending (front.old ++ behind.old) }
+    requires some { 0 < length front.old }
+    ensures same { front.new ++ behind.new ≡ front.old ++ behind.old }
+    ensures ok { OnOk result (length front.new < length front.old) }
 {
-    while edits.len() > len {
-        let _ = edits.pop_last();
-    }
+    let Some((index, remove, additions)) = front.last() else {
+        return Ok(());
+    };
+    behind.push_front(front.allocator(), index, remove, additions)?;
+    front.truncate(front.len() - 1);
+    Ok(())
 }

@@ -4,7 +4,10 @@
 pub mod edit_map;
 pub mod laws;
 pub mod links;
+pub mod part;
+mod pool;
 mod replacement;
 mod shift;
 pub mod skip;
 mod splice;
+mod tree;

@@ -1,13 +1,13 @@
 //! How far edits move the events behind them.
 
-ghost use Rattle.std.specs.Prelude.{◌≡◌, IfOk};
+ghost use Rattle.std.specs.Prelude.{◌≡◌, length, All, IfOk};
 ghost use Rattle.markdown_edits.specs.Edits.{AreDisjoint};
 ghost use Rattle.markdown_edits.specs.Shifts.{shifts, place_by, AreShifts};
-ghost use Rattle.markdown_edits.specs.Stored.{edits_of};
+ghost use Rattle.markdown_edits.specs.Stored.{pooled, IsPart};
 
-use crate::replacement::Replacement;
+use crate::pool::Entry;
+use markdown_base::event::Event;
 use std::alloc::{AllocError, Global};
-use std::collections::BTreeMap;
 
 /// How far an edit, and all edits before it, move an event behind them.
 #[derive(Clone, Copy)]
@@ -26,25 +26,27 @@ pub(crate) struct Shift {
 /// lengths together do not fit.
 pub(crate) fn shifts_of(
     alloc: Global,
-    edits: &BTreeMap<usize, Replacement>,
+    edits: &[Entry],
+    additions: &[Event],
     len: usize,
 ) -> Result<Vec<Shift>, AllocError>
-    requires { AreDisjoint 0 (edits_of edits.now.entries) len }
-    ensures sums { IfOk result (λ v. v.items ≡ shifts 0 0 (edits_of edits.now.entries)) }
+    requires parts { All (IsPart (length additions.now)) edits.now }
+    requires disjoint { AreDisjoint 0 (pooled additions.now edits.now) len }
+    ensures sums { IfOk result (λ v. v.items ≡ shifts 0 0 (pooled additions.now edits.now)) }
     ensures fits { IfOk result (λ v. AreShifts len 0 v.items) }
 {
     let mut shifts = Vec::with_capacity(alloc, edits.len())?;
     let mut removed = 0;
     let mut total = len;
-    for (at, edit) in edits {
-        let Some(more) = total.checked_add(edit.additions.len()) else {
+    for edit in edits {
+        let Some(more) = total.checked_add(edit.end - edit.start) else {
             return Err(AllocError);
         };
         total = more;
         removed += edit.remove;
         shifts.push(Shift {
-            index: *at,
-            end: *at + edit.remove,
+            index: edit.index,
+            end: edit.index + edit.remove,
             removed,
             added: total - len,
         })?;

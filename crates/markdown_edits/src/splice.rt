@@ -5,13 +5,12 @@ ghost use Rattle.markdown_base.specs.Events.{EndsBelow, relinked};
 ghost use Rattle.markdown_edits.specs.Edits.{AreDisjoint};
 ghost use Rattle.markdown_edits.specs.Shifts.{shifts, place_by, AreShifts, EndsFit};
 ghost use Rattle.markdown_edits.specs.Spliced.{moved, spliced};
-ghost use Rattle.markdown_edits.specs.Stored.{edits_of};
+ghost use Rattle.markdown_edits.specs.Stored.{pooled, IsPart};
 
-use crate::replacement::Replacement;
+use crate::pool::Entry;
 use crate::shift::{Shift, place_after, shifts_of};
 use markdown_base::event::{Event, Link};
 use std::alloc::{AllocError, Global};
-use std::collections::BTreeMap;
 
 /// The index in the new list to which a link end points; `None` if its event is removed.
 fn moved_end(shifts: &[Shift], end: Option<usize>) -> Option<usize>
@@ -65,18 +64,20 @@ fn push_moved(
 fn push_spliced(
     out: &mut Vec<Event>,
     shifts: &[Shift],
-    edits: &BTreeMap<usize, Replacement>,
+    edits: &[Entry],
+    additions: &[Event],
     events: &[Event],
 ) -> Result<(), AllocError>
     requires ends { All (EndsFit shifts.now) events.now }
-    requires disjoint { AreDisjoint 0 (edits_of edits.now.entries) (length events.now) }
-    ensures { OnOk result (out.new.items ≡ out.old.items ++ spliced (place_by shifts.now 0 0) (edits_of edits.now.entries) 0 events.now) }
+    requires parts { All (IsPart (length additions.now)) edits.now }
+    requires disjoint { AreDisjoint 0 (pooled additions.now edits.now) (length events.now) }
+    ensures { OnOk result (out.new.items ≡ out.old.items ++ spliced (place_by shifts.now 0 0) (pooled additions.now edits.now) 0 events.now) }
 {
     let mut from = 0;
-    for (at, edit) in edits {
-        push_moved(out, shifts, events, from, *at)?;
-        out.extend_from_slice(&edit.additions)?;
-        from = *at + edit.remove;
+    for edit in edits {
+        push_moved(out, shifts, events, from, edit.index)?;
+        out.extend_from_slice(&additions[edit.start..edit.end])?;
+        from = edit.index + edit.remove;
     }
     push_moved(out, shifts, events, from, events.len())
 }
@@ -86,16 +87,18 @@ fn push_spliced(
 /// The place of the old list's end is the new list's length, so that memory is taken once.
 pub(crate) fn spliced_events(
     alloc: Global,
-    edits: &BTreeMap<usize, Replacement>,
+    edits: &[Entry],
+    additions: &[Event],
     events: &[Event],
 ) -> Result<Vec<Event>, AllocError>
-    requires disjoint { AreDisjoint 0 (edits_of edits.now.entries) (length events.now) }
+    requires parts { All (IsPart (length additions.now)) edits.now }
+    requires disjoint { AreDisjoint 0 (pooled additions.now edits.now) (length events.now) }
     requires links { All (EndsBelow (length events.now)) events.now }
-    ensures { let es = edits_of edits.now.entries in IfOk result (λ v. v.items ≡ spliced (place_by (shifts 0 0 es) 0 0) es 0 events.now) }
+    ensures { let es = pooled additions.now edits.now in IfOk result (λ v. v.items ≡ spliced (place_by (shifts 0 0 es) 0 0) es 0 events.now) }
 {
-    let shifts = shifts_of(alloc, edits, events.len())?;
+    let shifts = shifts_of(alloc, edits, additions, events.len())?;
     let total = place_after(&shifts, events.len()).unwrap_or(events.len());
     let mut out = Vec::with_capacity(alloc, total)?;
-    push_spliced(&mut out, &shifts, edits, events)?;
+    push_spliced(&mut out, &shifts, edits, additions, events)?;
     Ok(out)
 }

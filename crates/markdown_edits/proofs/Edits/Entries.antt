@@ -10,8 +10,8 @@ use Rattle.std.proofs.lemmas.Bool.{ne_eqb, eq-eqb, lt-ltb, le-ltb, cases_order}
 use Rattle.std.proofs.lemmas.Map.Keys.{sorted_head, sorted_tail}
 use Rattle.markdown_base.specs.declared.event.Event.{Event}
 use Rattle.markdown_base.proofs.Common.{every-append, every-map}
-use Rattle.markdown_edits.specs.Edits.{Edit, merged, put_by, removal_at, is_no_edit, added_after, added_before}
-use Rattle.markdown_edits.specs.Stored.{as_edit, edits_of}
+use Rattle.markdown_edits.specs.Edits.{Edit, merged, put_by, removal_at}
+use Rattle.markdown_edits.specs.Stored.{as_edit, edits_of, IsAscending}
 use Rattle.markdown_edits.specs.declared.replacement.Replacement.{Replacement}
 use Rattle.markdown_edits.proofs.Edits.Puts.{put-same, put-more}
 
@@ -133,20 +133,6 @@ remove-le-removal_at k (e ∷ es) v h = ⊎_elim
     counted true t m = omega arith
     counted false t m = cc
 
--- the additions of two edits at one index, the second one's first or last
-abbrev pub joined : Bool → List Event → List Event → List Event
-joined before there more = cond before (more ++ there) (there ++ more)
-
--- an edit that is one is put into the list
-pub added-put : (before : Bool) (es : List Edit) (d : Edit) → is_no_edit d ≡ false → cond before (added_before es d) (added_after es d) ≡ put_by (joined before) es d
-added-put true es d e = rw e refl
-added-put false es d e = rw e refl
-
--- each edit has a smaller index than the next
-abbrev pub IsAscending : List Edit → Type 0
-IsAscending [] = Unit {0}
-IsAscending (e ∷ es) = AllByRecursion (λ (d : Edit). e.index < d.index) es × IsAscending es
-
 keys-below : (k : ℕ) (es : List (ℕ × Replacement)) → AllByRecursion (λ y. nat_cmp k y ≡ Less) (keys_of es) → AllByRecursion (λ (d : Edit). k < d.index) (edits_of es)
 keys-below k [] h = tt
 keys-below k (e ∷ es) h = (less_from_cmp k e.0 h.0, keys-below k es h.1)
@@ -180,3 +166,8 @@ insert_behind k (e ∷ es) w h =
     let a : ltb k e.0 ≡ false = le-ltb k e.0 (omega arith) in
     let b : eqb k e.0 ≡ false = ne_eqb k e.0 (omega arith) in
     rw (a, b) (ap (λ ds. e ∷ ds) (insert_behind k es w h.1))
+
+-- a new key before all
+pub insert_front : (k : ℕ) (es : List (ℕ × Replacement)) (w : Replacement) → AllByRecursion (λ (e : Edit). k < e.index) (edits_of es) → insert_entry nat_cmp es k w ≡ (k, w) ∷ es
+insert_front k [] w h = refl
+insert_front k (e ∷ es) w h = let a : ltb k e.0 ≡ true = lt-ltb k e.0 h.0 in rw a refl

@@ -1,8 +1,20 @@
 -- One turn of a loop over the edits.
-use Rattle.std.proofs.Common.{◌≡◌, ℕ, ◌+◌, ◌≤◌, List, [], ◌∷◌, subst, arith}
+use Rattle.std.proofs.Common.{◌≡◌, ℕ, zero, suc, ◌+◌, ◌<◌, ◌≤◌, List, [], ◌∷◌, length, drop, get_or, refl, ◌∙◌, ap, subst, arith}
+use Rattle.markdown_base.specs.declared.event.Event.{Event}
 use Rattle.markdown_edits.specs.Edits.{Edit, AreDisjoint}
-use Rattle.markdown_edits.specs.Stored.{as_edit, edits_of}
-use Rattle.markdown_edits.specs.declared.replacement.Replacement.{Replacement}
+use Rattle.markdown_edits.specs.Stored.{part_edit, pooled}
+use Rattle.markdown_edits.specs.declared.pool.Entry.{Entry}
+
+-- the edits that are left begin with the one at this index
+drop-turn : (es : List Entry) (i : ℕ) (d : Entry) → i < length es → drop i es ≡ get_or es i d ∷ drop (suc i) es
+drop-turn [] i d l = absurd (omega arith)
+drop-turn (e ∷ es) zero d l = refl
+drop-turn (e ∷ es) (suc i) d l = drop-turn es i d (omega arith)
+
+pub pooled-turn : (xs : List Event) (es : List Entry) (i : ℕ) (d : Entry) → i < length es → pooled xs (drop i es) ≡ part_edit xs (get_or es i d) ∷ pooled xs (drop (i + 1) es)
+pooled-turn xs es i d l =
+    let next : suc i ≡ i + 1 = omega arith in
+    ap (pooled xs) (drop-turn es i d l) ∙ ap (λ n. part_edit xs (get_or es i d) ∷ pooled xs (drop n es)) next
 
 -- the indices of disjoint edits lie within the list
 pub AreDisjoint-le : (es : List Edit) (from n : ℕ) → AreDisjoint from es n → from ≤ n
@@ -10,12 +22,12 @@ AreDisjoint-le [] from n d = d
 AreDisjoint-le (e ∷ es) from n d = let a : from ≤ e.index = d.0 in omega (arith, AreDisjoint-le es (e.index + e.remove) n d.1)
 
 -- what holds for an edit if it and the rest are disjoint from `from` on
-pub record Next (from : ℕ) (e : ℕ × Replacement) (rest : List (ℕ × Replacement)) (n : ℕ) : Type 0 where
-  pub starts : from ≤ e.0
-  pub ends : e.0 + e.1.remove ≤ n
-  pub others : AreDisjoint (e.0 + e.1.remove) (edits_of rest) n
+pub record Next (from : ℕ) (e : Edit) (rest : List Edit) (n : ℕ) : Type 0 where
+  pub starts : from ≤ e.index
+  pub ends : e.index + e.remove ≤ n
+  pub others : AreDisjoint (e.index + e.remove) rest n
 
-pub disjoint_next : (es rest : List (ℕ × Replacement)) (e : ℕ × Replacement) (from n : ℕ) → es ≡ e ∷ rest → AreDisjoint from (edits_of es) n → Next from e rest n
+pub disjoint_next : (es rest : List Edit) (e : Edit) (from n : ℕ) → es ≡ e ∷ rest → AreDisjoint from es n → Next from e rest n
 disjoint_next es rest e from n g d =
-    let d' : AreDisjoint from (as_edit e ∷ edits_of rest) n = subst (λ es. AreDisjoint from (edits_of es) n) g d in
-    record { starts = d'.0; ends = AreDisjoint-le (edits_of rest) (e.0 + e.1.remove) n d'.1; others = d'.1 }
+    let d' : AreDisjoint from (e ∷ rest) n = subst (λ es. AreDisjoint from es n) g d in
+    record { starts = d'.0; ends = AreDisjoint-le rest (e.index + e.remove) n d'.1; others = d'.1 }

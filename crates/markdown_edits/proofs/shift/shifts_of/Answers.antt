@@ -1,33 +1,36 @@
-use Rattle.std.proofs.Common.{◌≡◌, ◌+◌, ◌-◌, [], ◌++◌, append-nil, sym, ap, subst, ◌∙◌, arith}
-use Rattle.std.specs.Map.Iter.{deref_pair}
-use Rattle.std.proofs.lemmas.Map.Iter.{rest_more, rest_all}
+use Rattle.std.proofs.Common.{◌≡◌, ◌+◌, ◌-◌, [], ◌++◌, drop, append-nil, sym, ap, subst, ◌∙◌, arith}
+use Rattle.std.proofs.lemmas.List.{drop_all}
 use Rattle.markdown_edits.specs.Shifts.{shifts, AreShifts}
 use Rattle.markdown_edits.specs.Edits.{added_by}
-use Rattle.markdown_edits.specs.Stored.{edits_of}
+use Rattle.markdown_edits.specs.Stored.{pooled}
+use Rattle.markdown_edits.specs.declared.pool.Entry.{Entry}
 use Rattle.markdown_edits.proofs.Edits.Shifts.{AreShifts-shifts}
-use Rattle.markdown_edits.proofs.Edits.Turns.{disjoint_next}
+use Rattle.markdown_edits.proofs.Edits.Turns.{pooled-turn, disjoint_next}
 use Rattle.markdown_edits.proofs.shift.shifts_of.Goals as goal
 
 pub overflow_add-removed : goal.overflow_add-removed
 overflow_add-removed c =
-    let turn = rest_more deref_pair c.loop-at.at-iterator c.next.new.self c.next.result (c.in-Some.at, c.in-Some.edit) c.in-Some.is c.next.ensures.steps in
-    let i = c.loop-at.invariant.rest in
-    let next = disjoint_next c.loop-at.at-iterator c.next.new.self (c.in-Some.at.now, c.in-Some.edit.now) i.0 c.args.len turn i.2 in
+    let d : Entry = record { index = 0; remove = 0; start = 0; end = 0 } in
+    let turn = pooled-turn c.args.additions.now c.args.edits.now c.loop-edit.edit-index d c.loop-edit-test.true in
+    let i = c.loop-edit.invariant.rest in
+    let next = disjoint_next _ _ _ i.0 c.args.len turn i.2 in
     omega (arith, next.starts, next.ends, i.1, c.ranges.len.fits)
 
-pub overflow_add-at : goal.overflow_add-at
-overflow_add-at c =
-    let turn = rest_more deref_pair c.loop-at.at-iterator c.next.new.self c.next.result (c.in-Some.at, c.in-Some.edit) c.in-Some.is c.next.ensures.steps in
-    let i = c.loop-at.invariant.rest in
-    let next = disjoint_next c.loop-at.at-iterator c.next.new.self (c.in-Some.at.now, c.in-Some.edit.now) i.0 c.args.len turn i.2 in
+pub overflow_add-edit : goal.overflow_add-edit
+overflow_add-edit c =
+    let d : Entry = record { index = 0; remove = 0; start = 0; end = 0 } in
+    let turn = pooled-turn c.args.additions.now c.args.edits.now c.loop-edit.edit-index d c.loop-edit-test.true in
+    let i = c.loop-edit.invariant.rest in
+    let next = disjoint_next _ _ _ i.0 c.args.len turn i.2 in
     omega (arith, next.ends, c.ranges.len.fits)
 
 pub returns-clause-fits : goal.returns-clause-fits
 returns-clause-fits c =
-    let none : c.loop-at.at-iterator ≡ [] = rest_all deref_pair c.loop-at.at-iterator c.next.new.self c.next.result c.in-None.is c.next.ensures.steps in
-    let i = c.loop-at.invariant in
-    let all = edits_of c.args.edits.now.entries in
-    let whole : c.loop-at.shifts.items ≡ shifts 0 0 all =
-    sym (append-nil c.loop-at.shifts.items) ∙ ap (λ es. c.loop-at.shifts.items ++ shifts c.loop-at.removed (c.loop-at.total - c.args.len) (edits_of es)) (sym none) ∙ i.built in
-    let sum : c.loop-at.total + 0 ≡ c.args.len + added_by all = ap (λ es. c.loop-at.total + added_by (edits_of es)) (sym none) ∙ i.sum in
-    subst (AreShifts c.args.len 0) (sym whole) (AreShifts-shifts all 0 0 0 c.args.len c.requires (omega arith) (omega (arith, sum, c.loop-at.auto.total-fits)))
+    let xs = c.args.additions.now in
+    let none : drop c.loop-edit.edit-index c.args.edits.now ≡ [] = drop_all c.loop-edit.edit-index c.args.edits.now (omega (arith, c.loop-edit-test.false)) in
+    let i = c.loop-edit.invariant in
+    let all = pooled xs c.args.edits.now in
+    let whole : c.loop-edit.shifts.items ≡ shifts 0 0 all =
+    sym (append-nil c.loop-edit.shifts.items) ∙ ap (λ es. c.loop-edit.shifts.items ++ shifts c.loop-edit.removed (c.loop-edit.total - c.args.len) (pooled xs es)) (sym none) ∙ i.built in
+    let sum : c.loop-edit.total + 0 ≡ c.args.len + added_by all = ap (λ es. c.loop-edit.total + added_by (pooled xs es)) (sym none) ∙ i.sum in
+    subst (AreShifts c.args.len 0) (sym whole) (AreShifts-shifts all 0 0 0 c.args.len c.requires.disjoint (omega arith) (omega (arith, sum, c.loop-edit.auto.total-fits)))

@@ -1,13 +1,13 @@
-use Rattle.std.proofs.Common.{◌≡◌, ℕ, ◌+◌, ◌-◌, ◌≤◌, ◌++◌}
+use Rattle.std.proofs.Common.{◌≡◌, ℕ, ◌+◌, ◌-◌, ◌≤◌, ◌++◌, drop}
 use Rattle.markdown_edits.specs.Edits.{AreDisjoint, added_by}
 use Rattle.markdown_edits.specs.Shifts.{shifts}
-use Rattle.markdown_edits.specs.Stored.{edits_of}
+use Rattle.markdown_edits.specs.Stored.{pooled}
 use Rattle.markdown_edits.proofs.shift.shifts_of.Given as goal
 
-abbrev pub invariant-loop-at : goal.invariant-loop-at
-invariant-loop-at l = record {
-  built : l.shifts.items ++ shifts l.removed (l.total - l.len) (edits_of l.at-iterator) ≡ shifts 0 0 (edits_of l.edits.entries);
-  sum : l.total + added_by (edits_of l.at-iterator) ≡ l.len + added_by (edits_of l.edits.entries);
+abbrev pub invariant-loop-edit : goal.invariant-loop-edit
+invariant-loop-edit l = record {
+  built : l.shifts.items ++ shifts l.removed (l.total - l.len) (pooled l.additions (drop l.edit-index l.edits)) ≡ shifts 0 0 (pooled l.additions l.edits);
+  sum : l.total + added_by (pooled l.additions (drop l.edit-index l.edits)) ≡ l.len + added_by (pooled l.additions l.edits);
   more : l.len ≤ l.total;
-  rest : (from : ℕ) × (l.removed ≤ from) × AreDisjoint from (edits_of l.at-iterator) l.len;
+  rest : (from : ℕ) × (l.removed ≤ from) × AreDisjoint from (pooled l.additions (drop l.edit-index l.edits)) l.len;
 }

@@ -1,46 +1,51 @@
-use Rattle.std.proofs.Common.{◌≡◌, false, cond, ℕ, ◌≤◌, List, sym, ap, ◌∙◌, refl, arith}
-use Rattle.std.proofs.lemmas.Grind.{common_steps}
-use Rattle.std.specs.Ordering.{nat_cmp}
-use Rattle.std.specs.BTreeMap.{BTreeMap, insert_entry}
-use Rattle.markdown_edits.specs.Edits.{Edit, edit_at, is_no_edit, put_by, added_after, added_before, removal_at}
-use Rattle.markdown_edits.specs.Stored.{edits_of}
-use Rattle.markdown_edits.specs.declared.replacement.Replacement.{Replacement}
-use Rattle.markdown_edits.proofs.Results.{OnErr_from}
-use Rattle.markdown_edits.proofs.Edits.Entries.{set_same, set_put, insert_put, remove-le-removal_at, joined, added-put}
+use Rattle.std.proofs.Common.{◌≡◌, ◌++◌, ◌∷◌, [], ◌≤◌, false, List, sym, subst, ap, ◌∙◌, arith}
+use Rattle.markdown_base.specs.declared.event.Event.{Event}
+use Rattle.markdown_edits.specs.Edits.{Edit, edit_at, is_no_edit, put_by, removal_at}
+use Rattle.markdown_edits.specs.Stored.{IsAscending}
+use Rattle.markdown_edits.proofs.Edits.Puts.{joined, put-end, put-second, added-put, removal_at-behind, IsAscending-put, IsAscending-first}
 use Rattle.markdown_edits.proofs.edit_map.EditMap.add_impl.Goals as goal
-use Rattle.markdown_edits.proofs.edit_map.EditMap.add_impl.Goals.{else-remove-eq0-via-then-remove-eq0+else-is_empty, else-remove-eq0-via-else-remove-eq0, in-Some-1, in-None-1}
+
+pub is_last-requires : goal.is_last-requires
+is_last-requires c = IsAscending-first c.self.inside.front c.self.inside.behind c.self.invariant
+
+pub invariant_of-self-then-is_last : goal.invariant_of-self-then-is_last
+invariant_of-self-then-is_last c =
+    let d : Edit = edit_at c.args.index c.args.remove c.args.additions.items in
+    let front = c.self.inside.front in
+    let behind = c.self.inside.behind in
+    let put = ap (λ (es : List Edit). es ++ behind) (c.in_ok-push.ensures.ok ∙ ap (λ (xs : List Event). front ++ edit_at c.args.index c.args.remove xs ∷ []) c.deref-then-is_last.ensures.value)
+    ∙ put-end (joined c.args.before) front behind d (c.is_last.ensures.none c.if-is_last.true) (c.is_last.ensures.all c.if-is_last.true) in
+    subst IsAscending (sym put) (IsAscending-put (joined c.args.before) (front ++ behind) d c.self.invariant)
+
+pub returns-then-is_last-clause-ok : goal.returns-then-is_last-clause-ok
+returns-then-is_last-clause-ok c =
+    let d : Edit = edit_at c.args.index c.args.remove c.args.additions.items in
+    let some : is_no_edit d ≡ false =
+    sym (c.is_nothing.ensures ∙ ap (λ (xs : List Event). is_no_edit (edit_at 0 c.args.remove xs)) c.deref.ensures.value) ∙ c.if-is_nothing.false in
+    let front = c.self.inside.front in
+    let behind = c.self.inside.behind in
+    ap (λ (es : List Edit). es ++ behind) (c.in_ok-push.ensures.ok ∙ ap (λ (xs : List Event). front ++ edit_at c.args.index c.args.remove xs ∷ []) c.deref-then-is_last.ensures.value)
+    ∙ put-end (joined c.args.before) front behind d (c.is_last.ensures.none c.if-is_last.true) (c.is_last.ensures.all c.if-is_last.true)
+    ∙ ap (λ (es : List Edit). put_by (joined c.args.before) es d) c.self.view_is ∙ sym (added-put c.args.before c.args.self.now d some)
 
 pub add-requires : goal.add-requires
 add-requires c =
-    let bound : c.in-Some.there.now.remove ≤ removal_at c.args.self.now c.args.index = rw c.self.view_is at (remove-le-removal_at c.args.index c.self.inside.edits.entries c.in-Some.there.now (sym c.in-Some.ensures.value)) in
-    record { sum_fits = λ some. omega (arith, bound, c.requires.sum_fits some) }
+    let least : removal_at c.sink.new.behind c.args.index ≤ removal_at c.args.self.now c.args.index =
+    subst (λ (es : List Edit). removal_at c.sink.new.behind c.args.index ≤ removal_at es c.args.index) (c.sink.ensures.same ∙ c.self.view_is) (removal_at-behind c.sink.new.front c.sink.new.behind c.args.index) in
+    record { sum_fits = λ some. omega (arith, least, c.requires.sum_fits some) }
 
-pub returns-in_err-add-in-Some-clause-err : goal.returns-in_err-add-in-Some-clause-err
-returns-in_err-add-in-Some-clause-err c =
-    let w : Replacement = c.add.new.self in
-    let told = c.in_err-add-in-Some.ensures.err in
-    OnErr_from _ _ (ap edits_of (c.get_mut.follows.holds w).0
-    ∙ set_same _ c.self.inside.edits.entries c.in-Some.there.now w (sym c.in-Some.ensures.value) told.0 told.1
-    ∙ c.self.view_is)
+pub invariant_of-self-2 : goal.invariant_of-self-2
+invariant_of-self-2 c =
+    let d : Edit = edit_at c.args.index c.args.remove c.args.additions.items in
+    let put = ap (λ (es : List Edit). c.sink.new.front ++ es) c.in_ok-add.ensures.ok
+    ∙ put-second c.args.before c.sink.new.front c.sink.new.behind d c.in_ok-sink.ensures.ok in
+    subst IsAscending (sym put) (IsAscending-put (joined c.args.before) (c.sink.new.front ++ c.sink.new.behind) d (subst IsAscending (sym c.sink.ensures.same) c.self.invariant))
 
-pub returns-in_ok-add-in-Some-clause-ok : goal.returns-in_ok-add-in-Some-clause-ok
-returns-in_ok-add-in-Some-clause-ok c =
+pub returns-clause-ok : goal.returns-clause-ok
+returns-clause-ok c =
     let d : Edit = edit_at c.args.index c.args.remove c.args.additions.items in
     let some : is_no_edit d ≡ false =
-    elim c.else-remove-eq0.branch [ else-remove-eq0-via-then-remove-eq0+else-is_empty w ↦ grind (arith, common_steps) | else-remove-eq0-via-else-remove-eq0 w ↦ grind (arith, common_steps) ] in
-    let w : Replacement = c.add.new.self in
-    ap edits_of (c.get_mut.follows.holds w).0
-    ∙ set_put (joined c.args.before) c.args.index c.self.inside.edits.entries c.in-Some.there.now w d c.get_mut.ensures.ordered (sym c.in-Some.ensures.value) refl c.in_ok-add-in-Some.ensures.remove c.in_ok-add-in-Some.ensures.additions
-    ∙ ap (λ (es : List Edit). put_by (joined c.args.before) es d) c.self.view_is ∙ sym (added-put c.args.before c.args.self.now d some)
-
-pub returns-in_ok-insert-in-None-clause-ok : goal.returns-in_ok-insert-in-None-clause-ok
-returns-in_ok-insert-in-None-clause-ok c =
-    let d : Edit = edit_at c.args.index c.args.remove c.args.additions.items in
-    let some : is_no_edit d ≡ false =
-    elim c.else-remove-eq0.branch [ else-remove-eq0-via-then-remove-eq0+else-is_empty w ↦ grind (arith, common_steps) | else-remove-eq0-via-else-remove-eq0 w ↦ grind (arith, common_steps) ] in
-    let made : edits_of c.insert.new.self.entries ≡ cond c.args.before (added_before c.args.self.now d) (added_after c.args.self.now d) =
-    ap edits_of c.in_ok-insert-in-None.ensures.entries
-    ∙ ap (λ (m : BTreeMap ℕ Replacement). edits_of (insert_entry nat_cmp m.entries c.args.index (record { remove = c.args.remove; additions = c.args.additions }))) c.get_mut.follows.holds-at-none
-    ∙ insert_put (joined c.args.before) c.args.index c.self.inside.edits.entries (record { remove = c.args.remove; additions = c.args.additions }) (sym c.in-None.ensures.value)
-    ∙ ap (λ (es : List Edit). put_by (joined c.args.before) es d) c.self.view_is ∙ sym (added-put c.args.before c.args.self.now d some) in
-    elim c.match-branch-3.branch [ in-Some-1 w ↦ w.self-is ∙ made | in-None-1 w ↦ w.self-is ∙ made ]
+    sym (c.is_nothing.ensures ∙ ap (λ (xs : List Event). is_no_edit (edit_at 0 c.args.remove xs)) c.deref.ensures.value) ∙ c.if-is_nothing.false in
+    ap (λ (es : List Edit). c.sink.new.front ++ es) c.in_ok-add.ensures.ok
+    ∙ put-second c.args.before c.sink.new.front c.sink.new.behind d c.in_ok-sink.ensures.ok
+    ∙ ap (λ (es : List Edit). put_by (joined c.args.before) es d) (c.sink.ensures.same ∙ c.self.view_is) ∙ sym (added-put c.args.before c.args.self.now d some)

@@ -1,6 +1,6 @@
 use Rattle.std.proofs.Common.{◌≡◌, ◌++◌, ◌≤◌, length, take}
 use Rattle.markdown_edits.specs.Stored.{edits_of}
-use Rattle.markdown_edits.proofs.edit_map.push_copies.Given as goal
+use Rattle.markdown_edits.proofs.tree.push_copies.Given as goal
 
 abbrev pub invariant-loop-index : goal.invariant-loop-index
 invariant-loop-index l = record {

@@ -2,7 +2,7 @@ use Rattle.std.proofs.Common.{◌≡◌, ℕ, [], ap}
 use Rattle.std.specs.BTreeMap.{BTreeMap, IsEmpty}
 use Rattle.markdown_edits.specs.declared.replacement.Replacement.{Replacement}
 use Rattle.markdown_edits.specs.Stored.{edits_of}
-use Rattle.markdown_edits.proofs.edit_map.EditMap.new.Goals as goal
+use Rattle.markdown_edits.proofs.tree.Tree.new.Goals as goal
 
 -- a map with no entries has no edits
 none : (m : BTreeMap ℕ Replacement) → IsEmpty m → edits_of m.entries ≡ []

@@ -3,11 +3,11 @@ use Rattle.std.specs.Map.Iter.{deref_pair}
 use Rattle.std.proofs.lemmas.List.{length-map, length_push, take-append-le, take-map}
 use Rattle.std.proofs.lemmas.Map.Iter.{rest_more}
 use Rattle.markdown_edits.specs.Edits.{Edit}
-use Rattle.markdown_edits.specs.Stored.{as_edit, edits_of}
+use Rattle.markdown_edits.specs.Stored.{as_edit, edits_of, IsAscending}
 use Rattle.markdown_edits.specs.declared.replacement.Replacement.{Replacement}
 use Rattle.markdown_edits.proofs.Results.{OnErr-holds, OnOk-holds}
-use Rattle.markdown_edits.proofs.Edits.Entries.{IsAscending, IsAscending-entries, IsAscending-behind, below-next}
-use Rattle.markdown_edits.proofs.edit_map.push_copies.Goals as goal
+use Rattle.markdown_edits.proofs.Edits.Entries.{IsAscending-entries, IsAscending-behind, below-next}
+use Rattle.markdown_edits.proofs.tree.push_copies.Goals as goal
 
 pub push_copy-requires : goal.push_copy-requires
 push_copy-requires c =

@@ -1,5 +1,5 @@
 use Rattle.std.proofs.Common.{◌≡◌, ◌≤◌, length, take}
-use Rattle.markdown_edits.proofs.edit_map.truncate.Given as goal
+use Rattle.markdown_edits.proofs.tree.truncate.Given as goal
 
 abbrev pub invariant-loop-edits : goal.invariant-loop-edits
 invariant-loop-edits l = record {

@@ -4,7 +4,7 @@ use Rattle.markdown_base.specs.declared.event.Event.{Event}
 use Rattle.markdown_edits.specs.Stored.{as_edit, edits_of}
 use Rattle.markdown_edits.specs.Edits.{edit_at}
 use Rattle.markdown_edits.proofs.Edits.Entries.{insert_behind}
-use Rattle.markdown_edits.proofs.edit_map.push_copy.Goals as goal
+use Rattle.markdown_edits.proofs.tree.push_copy.Goals as goal
 
 pub returns-clause-ok : goal.returns-clause-ok
 returns-clause-ok c =

@@ -1,0 +1,72 @@
+-- Edits whose additions are parts of one list.
+use Rattle.std.proofs.Common.{◌≡◌, ℕ, zero, suc, ◌+◌, ◌-◌, ◌<◌, ◌≤◌, List, [], ◌∷◌, ◌++◌, length, map, take, drop, Some, refl, ◌∙◌, ap, arith, length-append, length-drop}
+use Rattle.std.specs.List.{All, AllByRecursion, between, slice_get}
+use Rattle.std.proofs.Math.Seq.{drop-append-add}
+use Rattle.std.proofs.lemmas.List.{map-append, drop-append-le, take-append-le, take_all}
+use Rattle.std.proofs.lemmas.List.Elements.{All-head, All-tail, All-map}
+use Rattle.std.proofs.lemmas.Option.{same_Some}
+use Rattle.markdown_base.specs.declared.event.Event.{Event}
+use Rattle.markdown_edits.specs.Edits.{Edit, edit_at}
+use Rattle.markdown_edits.specs.Stored.{part_edit, pooled, IsPart, moved_by, IsAscending}
+use Rattle.markdown_edits.specs.declared.pool.Entry.{Entry}
+
+module _ (xs ys : List Event) where
+  between-more : (s t : ℕ) → s ≤ t → t ≤ length xs → between s t (xs ++ ys) ≡ between s t xs
+  between-more s t l m =
+      ap (take (t - s)) (drop-append-le s xs ys (omega arith)) ∙ take-append-le (t - s) (drop s xs) ys (omega (arith, length-drop s xs))
+
+  between-behind : (s t : ℕ) → between (s + length xs) (t + length xs) (xs ++ ys) ≡ between s t ys
+  between-behind s t =
+      let a : t + length xs - (s + length xs) ≡ t - s = omega arith in
+      let b : s + length xs ≡ length xs + s = omega arith in
+      ap (λ n. take n (drop (s + length xs) (xs ++ ys))) a ∙ ap (λ n. take (t - s) (drop n (xs ++ ys))) b ∙ ap (take (t - s)) (drop-append-add xs ys s)
+
+  -- the parts are the same in a longer list
+  pub pooled-more : (es : List Entry) → All (IsPart (length xs)) es → pooled (xs ++ ys) es ≡ pooled xs es
+  pooled-more [] h = refl
+  pooled-more (e ∷ es) h =
+      let p = All-head (IsPart (length xs)) e es h in
+      ap (λ zs. edit_at e.index e.remove zs ∷ pooled (xs ++ ys) es) (between-more e.start e.end p.0 p.1)
+      ∙ ap (λ ds. part_edit xs e ∷ ds) (pooled-more es (All-tail (IsPart (length xs)) e es h))
+
+  pub parts-more : (es : List Entry) → All (IsPart (length xs)) es → All (IsPart (length (xs ++ ys))) es
+  parts-more es h k d l = let p = h k d l in (p.0, (omega (arith, length-append xs ys, p.1)))
+
+  -- a second list's parts are further on in both together
+  pooled-behind : (es : List Entry) → pooled (xs ++ ys) (map (moved_by (length xs)) es) ≡ pooled ys es
+  pooled-behind [] = refl
+  pooled-behind (e ∷ es) =
+      ap (λ zs. edit_at e.index e.remove zs ∷ pooled (xs ++ ys) (map (moved_by (length xs)) es)) (between-behind e.start e.end) ∙ ap (λ ds. part_edit ys e ∷ ds) (pooled-behind es)
+
+  pub parts-behind : (es : List Entry) → All (IsPart (length ys)) es → All (IsPart (length (xs ++ ys))) (map (moved_by (length xs)) es)
+  parts-behind es h = All-map (IsPart (length (xs ++ ys))) (moved_by (length xs)) es (λ k d l. let p = h k d l in ((omega (arith, p.0)), (omega (arith, length-append xs ys, p.1))))
+
+  -- the edits of both together
+  pub pooled-both : (es fs : List Entry) → All (IsPart (length xs)) es → pooled (xs ++ ys) (es ++ map (moved_by (length xs)) fs) ≡ pooled xs es ++ pooled ys fs
+  pooled-both es fs h =
+      map-append (part_edit (xs ++ ys)) es (map (moved_by (length xs)) fs)
+      ∙ ap (λ ds. ds ++ pooled (xs ++ ys) (map (moved_by (length xs)) fs)) (pooled-more es h) ∙ ap (λ ds. pooled xs es ++ ds) (pooled-behind fs)
+
+  -- an edit more, whose additions are put behind the others
+  pub pooled-push : (es : List Entry) (e : Entry) → All (IsPart (length xs)) es → e.start ≡ length xs → e.end ≡ length xs + length ys
+      → pooled (xs ++ ys) (es ++ e ∷ []) ≡ pooled xs es ++ edit_at e.index e.remove ys ∷ []
+  pooled-push es e h s t =
+      let a : e.start ≡ length xs + 0 = omega (arith, s) in
+      let b : e.end - e.start ≡ length ys = omega (arith, s, t) in
+      let part : between e.start e.end (xs ++ ys) ≡ ys =
+      ap (λ n. take n (drop e.start (xs ++ ys))) b ∙ ap (λ n. take (length ys) (drop n (xs ++ ys))) a ∙ ap (take (length ys)) (drop-append-add xs ys 0) ∙ take_all (length ys) ys (omega arith) in
+      map-append (part_edit (xs ++ ys)) es (e ∷ [])
+      ∙ ap (λ ds. ds ++ part_edit (xs ++ ys) e ∷ []) (pooled-more es h)
+      ∙ ap (λ zs. pooled xs es ++ edit_at e.index e.remove zs ∷ []) part
+
+-- if the last of ascending edits is before an index, all are
+pub all-before : (xs : List Event) (es : List Entry) (k : ℕ) (e : Entry) (n : ℕ) → suc k ≡ length es → Some e ≡ slice_get es k → IsAscending (pooled xs es) → e.index < n → AllByRecursion (λ (d : Edit). d.index < n) (pooled xs es)
+all-before xs [] k e n q g a l = tt
+all-before xs (f ∷ []) zero e n q g a l = let same : e ≡ f = same_Some e f g in ((omega (arith, ap (λ (x : Entry). x.index) same)), tt)
+all-before xs (f ∷ []) (suc k) e n q g a l = absurd (omega (arith, q))
+all-before xs (f ∷ d ∷ es) zero e n q g a l = absurd (omega (arith, q))
+all-before xs (f ∷ d ∷ es) (suc k) e n q g a l =
+    let rest = all-before xs (d ∷ es) k e n (omega (arith, q)) g a.1 l in
+    let b : d.index < n = rest.0 in
+    let c : f.index < d.index = a.0.0 in
+    ((omega arith), rest)
