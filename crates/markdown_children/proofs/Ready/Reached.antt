@@ -2,7 +2,6 @@
 use Rattle.std.proofs.Common.{◌≡◌, ◌≢◌, ℕ, zero, suc, ◌+◌, ◌-◌, ◌*◌, ◌<◌, ◌≤◌, ◌⊎◌, inl, inr, Bool, true, false, cond, List, [], ◌∷◌, ◌++◌, length, drop, get_or, Option, Some, refl, sym, ◌∙◌, ap, subst, arith, eqb-true, ne_eqb, append_assoc, unwrap_or}
 use Rattle.std.specs.Prelude.{◌==◌, ◌&&◌, nat_le, nat_lt, slice_index}
 use Rattle.std.proofs.lemmas.Bool.{leb-true, ltb-true, le-leb, lt-ltb, eq-eqb, and_parts}
-use Rattle.std.proofs.lemmas.List.{get_or_past}
 use Rattle.std.proofs.lemmas.List.FromFn.{get_or-map-range_with_len, length-map-range_with_len, map-range_with_len_more}
 use Rattle.markdown_base.specs.declared.event.Point.{Point}
 use Rattle.markdown_base.specs.Virtual.{Seat, point, tab_width, in_tab, begins_with_lf, virtual, virtual_from}
@@ -212,9 +211,6 @@ start-kept t bytes rs n k d e l =
 
 pub length-kept : (t : ℕ) (bytes : List ℕ) (rs : List ByteStart) (n : ℕ) → rs ≡ eighth_starts t bytes n → length rs ≡ n
 length-kept t bytes rs n e = ap length e ∙ length-map-range_with_len (λ k. byte_start t bytes (8 * k)) 0 n
-
-pub width-end : (t : ℕ) (bytes : List ℕ) (column : ℕ) → 1 ≡ width_at t bytes column (length bytes)
-width-end t bytes column = rw (get_or_past bytes (length bytes) 0 (omega arith)) refl
 
 -- line and column after a byte
 pub line-on : (bytes : List ℕ) (line i : ℕ) (b : Bool) → line ≡ line_at bytes i → ends_line bytes i ≡ b → cond b (line + 1) line ≡ line_at bytes (i + 1)
