@@ -13,6 +13,7 @@ ghost use Rattle.markdown_children.specs.Tables.{rest_table, table_place, AreAbo
 
 use crate::chains::{next_of, place_at, stands_before};
 use markdown_base::event::{Event, Link, Point};
+use markdown_edits::part::add_part;
 use markdown_tokenizer::util::edit_map::EditMap;
 use std::alloc::{AllocError, Global};
 
@@ -168,26 +169,26 @@ fn place_links(chunks: &[Chunk], acc: (usize, usize), events: &mut [Event])
     }
 }
 
-/// The part of a chunk, with link ends as indices into the final list. It is copied as a whole first, as few events
-/// have a link.
-fn placed_part(
-    alloc: Global,
+/// Makes a list the part of a chunk, with link ends as indices into the final list. It is copied as a whole first, as few
+/// events have a link.
+fn place_part(
+    part: &mut Vec<Event>,
     chunks: &[Chunk],
     acc: (usize, usize),
     child: &[Event],
     chunk: Chunk,
-) -> Result<Vec<Event>, AllocError>
+) -> Result<(), AllocError>
     requires apart { AreAbove acc.0 chunks.now }
     requires ends { IsNonDecreasingBy (λ c. c.end) chunks.now }
     requires fits { All (λ e. IfSome e.link (EachEnd (λ n. All (λ c. c.index + 2 + acc.1 + n < 2 ^ 64) chunks.now))) child.now }
     requires order { chunk.start ≤ chunk.end }
     requires within { chunk.end ≤ length child.now }
-    ensures { IfOk result (λ v. v.items ≡ map (relinked (table_place chunks.now acc.0 acc.1)) (between chunk.start chunk.end child.now)) }
+    ensures { OnOk result (part.new.items ≡ map (relinked (table_place chunks.now acc.0 acc.1)) (between chunk.start chunk.end child.now)) }
 {
-    let mut part = Vec::new(alloc);
+    part.clear();
     part.extend_from_slice(&child[chunk.start..chunk.end])?;
     place_links(chunks, acc, part.as_mut_slice());
-    Ok(part)
+    Ok(())
 }
 
 /// The edits that replace each chunk by its part. Returns `AllocError` if it runs out of memory.
@@ -205,9 +206,10 @@ pub(crate) fn edits_of(
     ensures { IfOk result (λ m. m ≡ map (chunk_edit (table_place chunks.now acc.0 acc.1) child.now) chunks.now) }
 {
     let mut edits = EditMap::new(alloc);
+    let mut part = Vec::new(alloc);
     for chunk in chunks {
-        let part = placed_part(alloc, chunks, acc, child, *chunk)?;
-        edits.add(chunk.index, 2, part)?;
+        place_part(&mut part, chunks, acc, child, *chunk)?;
+        add_part(&mut edits, chunk.index, 2, &part)?;
     }
     Ok(edits)
 }

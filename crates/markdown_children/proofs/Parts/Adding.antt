@@ -6,14 +6,9 @@ use Rattle.std.proofs.lemmas.Bool.{ne_eqb}
 use Rattle.std.proofs.lemmas.List.{map-append}
 use Rattle.markdown_base.specs.declared.event.Event.{Event}
 use Rattle.markdown_edits.specs.Edits.{Edit, put_after, removal_at}
-use Rattle.markdown_edits.proofs.Edits.Puts.{put-more}
+use Rattle.markdown_edits.proofs.Edits.Puts.{put-last}
 use Rattle.markdown_children.specs.Tables.{AreRising, chunk_edit}
 use Rattle.markdown_children.specs.declared.division.Chunk.{Chunk}
-
--- an edit behind all others is put at the end
-put-last : (es : List Edit) (d : Edit) → AllByRecursion (λ (e : Edit). e.index < d.index) es → put_after es d ≡ es ++ d ∷ []
-put-last [] d h = refl
-put-last (e ∷ es) d h = put-more (λ there more. there ++ more) e d es h.0 ∙ ap (λ fs. e ∷ fs) (put-last es d h.1)
 
 removal-none : (es : List Edit) (i : ℕ) → AllByRecursion (λ (e : Edit). e.index < i) es → removal_at es i ≡ 0
 removal-none [] i h = refl
@@ -36,5 +31,5 @@ module _ (f : ℕ → Option ℕ) (child : List Event) where
   pub edits-more : (cs : List Chunk) (i : ℕ) (d : Chunk) (es fs : List Edit) → AreRising cs → i < length cs → es ≡ map (chunk_edit f child) (take i cs) → fs ≡ put_after es (chunk_edit f child (get_or cs i d))
       → fs ≡ map (chunk_edit f child) (take (i + 1) cs)
   edits-more cs i d es fs h l e p =
-      p ∙ ap (λ gs. put_after gs (chunk_edit f child (get_or cs i d))) e ∙ put-last (map (chunk_edit f child) (take i cs)) (chunk_edit f child (get_or cs i d)) (edits-below cs i d h l)
+      p ∙ ap (λ gs. put_after gs (chunk_edit f child (get_or cs i d))) e ∙ put-last (λ there more. there ++ more) (map (chunk_edit f child) (take i cs)) (chunk_edit f child (get_or cs i d)) (edits-below cs i d h l)
       ∙ sym (ap (λ n. map (chunk_edit f child) (take n cs)) (add-one i) ∙ ap (map (chunk_edit f child)) (take-suc cs i d l) ∙ map-append (chunk_edit f child) (take i cs) (get_or cs i d ∷ []))
