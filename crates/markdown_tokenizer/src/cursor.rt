@@ -149,7 +149,7 @@ pub(crate) fn ready_at(skips: &Skips, place: &Point, end: usize) -> usize
     }
 }
 
-/// The next virtual byte from a place on, and how the place moves over it, if the byte at its index alone tells them.
+/// The next virtual byte from a place on, and how the place moves over it, if the byte at its index is enough to tell them.
 ///
 /// It is `None` for a CR, at the end of the text, for a byte that is partly after it, and for a control character.
 #[inline(always)]
