@@ -13,7 +13,7 @@ ghost use Rattle.markdown_children.specs.Tables.{rest_table, table_place, AreAbo
 
 use crate::chains::{next_of, place_at, stands_before};
 use markdown_base::event::{Event, Link, Point};
-use markdown_edits::part::add_part;
+use markdown_edits::part::{add_part, reserve_parts};
 use markdown_tokenizer::util::edit_map::EditMap;
 use std::alloc::{AllocError, Global};
 
@@ -206,6 +206,7 @@ pub(crate) fn edits_of(
     ensures { IfOk result (λ m. m ≡ map (chunk_edit (table_place chunks.now acc.0 acc.1) child.now) chunks.now) }
 {
     let mut edits = EditMap::new(alloc);
+    reserve_parts(&mut edits, chunks.len(), child.len())?;
     let mut part = Vec::new(alloc);
     for chunk in chunks {
         place_part(&mut part, chunks, acc, child, *chunk)?;

@@ -131,6 +131,14 @@ impl EditMap {
         self.add(index, remove, Vec::from_slice(alloc, additions)?)
     }
 
+    /// Makes room for so many more edits, at ascending indices, with so many additions together.
+    pub(crate) fn reserve(&mut self, edits: usize, additions: usize) -> Result<(), AllocError>
+        ensures { self.new ≡ self.old }
+    {
+        self.front.reserve(edits, additions)?;
+        Ok(())
+    }
+
     /// Moves the edits of another map into this one. They must be behind all edits that are there.
     ///
     /// If it runs out of memory, both maps stay as they were; else the other one is left empty.

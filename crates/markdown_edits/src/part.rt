@@ -21,3 +21,11 @@ pub fn add_part(
 {
     map.add_copies(index, remove, additions)
 }
+
+/// Makes room in a map for so many more edits, at ascending indices, with so many additions together. The edits stay as
+/// they are, also if it runs out of memory.
+pub fn reserve_parts(map: &mut EditMap, edits: usize, additions: usize) -> Result<(), AllocError>
+    ensures { map.new ≡ map.old }
+{
+    map.reserve(edits, additions)
+}

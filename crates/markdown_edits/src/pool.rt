@@ -110,6 +110,15 @@ impl Pool {
         Ok(())
     }
 
+    /// Makes room for so many more edits with so many additions together. The edits stay as they are, also if it runs out of memory.
+    pub(crate) fn reserve(&mut self, edits: usize, additions: usize) -> Result<(), AllocError>
+        ensures { self.new ≡ self.old }
+    {
+        self.entries.reserve_exact(edits)?;
+        self.additions.reserve_exact(additions)?;
+        Ok(())
+    }
+
     /// Moves the edits of another pool behind the others: all of them, or none if it runs out of memory.
     pub(crate) fn append(&mut self, more: &mut Pool) -> Result<(), AllocError>
         ensures ok { OnOk result ((self.new ≡ self.old ++ more.old) × (more.new ≡ [])) }
