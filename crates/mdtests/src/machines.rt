@@ -74,7 +74,6 @@ const CODE: &str =
 const TEXTS: &[(&[u8], &str)] = &[
     (b"`a`", CODE),
     (b"`\\`", CODE),
-    (b"\x7f", "Data 1:1 (0+0) to 1:2 (1+0)"),
     (
         b"``a`",
         "Data 1:1 (0+0) to 1:4 (3+0); Data 1:4 (3+0) to 1:5 (4+0)",
@@ -122,6 +121,20 @@ fn texts_have_their_constructs(rt: HostRuntime) -> Result<(), AllocError> {
             assert!(rt; bytes.len() < 99 && cut > 0);
             assert_shown(&rt, lines_of_text(rt.alloc(), bytes, cut), want)?;
         }
+    }
+    Ok(())
+}
+
+/// Each single byte is a line ending or data.
+#[test]
+fn any_byte_is_text(rt: HostRuntime) -> Result<(), AllocError> {
+    for byte in 0..=255u8 {
+        let want = match byte {
+            b'\n' | b'\r' => "LineEnding 1:1 (0+0) to 2:1 (1+0)",
+            b'\t' => "Data 1:1 (0+0) to 1:5 (1+0)",
+            _ => "Data 1:1 (0+0) to 1:2 (1+0)",
+        };
+        assert_shown(&rt, lines_of_text(rt.alloc(), &[byte], 99), want)?;
     }
     Ok(())
 }
