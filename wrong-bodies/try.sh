@@ -10,7 +10,7 @@ cp -a "$here/../crates" "$here/../crates.txt" "$here/../HANDLES" "$room"
 rm -rf "$room"/crates/*/must-fail
 if [ $# -eq 0 ]; then
     cd "$here"
-    set -- m*/
+    set -- [lm]*/
     set -- "${@%/}"
 fi
 for crate in "$@"; do
