@@ -1,6 +1,6 @@
 -- What is at a place, in the bytes and in the virtual text. An inner file: no public clause cites it.
 use Rattle.std.specs.List.{AllByRecursion}
-use Rattle.std.specs.Prelude.{◌≡◌, ◌≢◌, ℕ, suc, ◌+◌, ◌*◌, ◌%◌, ◌≤◌, ◌<◌, ◌==◌, nat_lt, ◌&&◌, ◌||◌, not, Bool, true, false, cond, ◌⊎◌, slice_index, List, [], ◌∷◌, ◌++◌, drop, length, Option, Some, None}
+use Rattle.std.specs.Prelude.{◌≡◌, ◌≢◌, ℕ, suc, ◌+◌, ◌*◌, ◌%◌, ◌^◌, ◌≤◌, ◌<◌, ◌==◌, nat_lt, ◌&&◌, ◌||◌, not, Bool, true, false, cond, ◌⊎◌, slice_index, List, [], ◌∷◌, ◌++◌, drop, length, Option, Some, None}
 use Rattle.markdown_base.specs.declared.event.Point.{Point}
 use Rattle.markdown_base.specs.Virtual.{Seat, point, tab_width, in_tab, virtual_from, virtual, end_after}
 use Rattle.markdown_base.specs.Places.{stands_before, shown}
@@ -20,6 +20,7 @@ pub record Bounds (t : ℕ) (bytes : List ℕ) (p : Point) : Type 0 where
   pub lines : p.line ≤ p.index + 1
   pub columns : p.column ≤ t * p.index + p.vs + 1
   pub first : 1 ≤ p.column
+  pub beyond : p.vs < p.column
   pub spaces : p.vs < t
   pub tab : 0 < p.vs → p.index < length bytes
 
@@ -74,6 +75,14 @@ end_at t byte p =
     (cond (goes_on t byte p)
     (point p.line (suc p.column) p.index (suc p.vs))
     (point p.line (suc p.column) (suc p.index) 0))
+
+-- the numbers of a place fit, and so do the next ones
+pub record CanMove (p : Point) : Type 0 where
+  pub line : p.line + 1 < 2 ^ 64
+  pub index : p.index + 1 < 2 ^ 64
+  pub column : p.column + 1 < 2 ^ 64
+  pub first : 1 ≤ p.column
+  pub number : p.vs + 1 < 2 ^ 64
 
 -- where a place comes to when it moves over a virtual byte
 abbrev pub moved : Moves → Point → Point

@@ -1,11 +1,13 @@
 -- Gaps: beginnings of lines that are passed and never read. An inner file: no public clause cites it.
 use Rattle.std.specs.List.{AllByRecursion}
-use Rattle.std.specs.Prelude.{◌≡◌, ℕ, ◌≤◌, ◌<◌, ◌==◌, not, Bool, true, false, cond, List, [], ◌∷◌, Option, Some, None, find, filter, unwrap_or, ◌⊎◌}
+use Rattle.std.specs.Prelude.{◌≡◌, ◌≢◌, ℕ, ◌≤◌, ◌<◌, ◌==◌, not, Bool, true, false, cond, List, [], ◌∷◌, Option, Some, None, find, filter, unwrap_or, ◌⊎◌}
 use Rattle.markdown_base.specs.declared.event.Point.{Point}
 use Rattle.markdown_base.specs.Virtual.{Seat, virtual}
 use Rattle.markdown_base.specs.Places.{stands_before, is_upto}
 use Rattle.markdown_tokenizer.specs.Text.{in_range}
-use Rattle.markdown_tokenizer.specs.Cursor.{IsPlace}
+use Rattle.markdown_tokenizer.specs.declared.waiting.Moves.{Moves}
+use Rattle.markdown_tokenizer.specs.declared.waiting.Moves.TheVariants.{Other}
+use Rattle.markdown_tokenizer.specs.Cursor.{IsPlace, moved}
 
 -- the place up to which the beginning of a line is passed, if it is
 abbrev pub skip_of : List Point → ℕ → Option Point
@@ -48,3 +50,9 @@ pub record IsReadyAt (skips : List Point) (place : Point) (end ready : ℕ) : Ty
   pub before : ready ≤ end
   pub flat : place.index < ready → place.vs ≡ 0
   pub there : place.index < ready → resumed skips place ≡ place
+
+-- a place has moved over the next virtual byte, as it was known to; what is then known of the next one
+pub record HasMoved (skips : List Point) (moves : Moves) (old new : Point) (end ready : ℕ) : Type 0 where
+  pub told : moves ≢ Other
+  pub place : new ≡ moved moves old
+  pub ready_at : IsReadyAt skips new end ready

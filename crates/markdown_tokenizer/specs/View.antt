@@ -123,24 +123,23 @@ pub record IsReadTo (tab : ℕ) (bytes : List ℕ) (skips : List Point) (text : 
   pub previous_is : previous ≡ byte_of (seat_before text (position_from tab bytes skips text.start after_previous))
 
 -- What waits is the next virtual byte
-pub record ByteWaits (tab : ℕ) (bytes : List ℕ) (skips : List Point) (after_previous end : Point) (current : Option ℕ) : Type 0 where
+pub record ByteWaits (tab : ℕ) (bytes : List ℕ) (skips : List Point) (after_previous end : Point) (byte : ℕ) : Type 0 where
   pub seat : Seat
   pub at : IsSeatAt tab bytes (resumed skips after_previous) seat
   pub before : stands_before seat.point end ≡ true
-  pub is : current ≡ Some seat.byte
+  pub is : byte ≡ seat.byte
 
 -- What waits is the end of the text, and all of it was read
-pub record EndWaits (current : Option ℕ) (closed : Bool) (position size : ℕ) : Type 0 where
-  pub none : current ≡ None
+pub record EndWaits (closed : Bool) (position size : ℕ) : Type 0 where
   pub closed_too : closed ≡ true
   pub all : size ≤ position
 
 -- what waits
-abbrev pub IsWhatWaits : (tab : ℕ) → List ℕ → List Point → Text → Point → Option ℕ → Bool → Waits → Type 0
-IsWhatWaits tab bytes skips text after_previous current closed Nothing = current ≡ None
-IsWhatWaits tab bytes skips text after_previous current closed Byte = ByteWaits tab bytes skips after_previous text.end current
-IsWhatWaits tab bytes skips text after_previous current closed End =
-    EndWaits current closed (position_from tab bytes skips text.start after_previous) (length text.seats)
+abbrev pub IsWhatWaits : (tab : ℕ) → List ℕ → List Point → Text → Point → (byte : ℕ) → Bool → Waits → Type 0
+IsWhatWaits tab bytes skips text after_previous byte closed Nothing = Unit {0}
+IsWhatWaits tab bytes skips text after_previous byte closed Byte = ByteWaits tab bytes skips after_previous text.end byte
+IsWhatWaits tab bytes skips text after_previous byte closed End =
+    EndWaits closed (position_from tab bytes skips text.start after_previous) (length text.seats)
 
 -- the place of an enter: after the gap of a line, once something waits there
 abbrev pub standing : List Point → Point → Waits → Point
@@ -182,13 +181,13 @@ AreNested P events stack (choice ∷ kept_choices) =
 -- The position of a tokenizer in its text: its gaps, how far it has read, and what waits. The end is fed only to a closed one, and an open
 -- one reads.
 pub record IsPlaced (g : Given) (size : ℕ) (passes : List Point) (within : Text) (last : ℕ × ℕ) (after_previous : Point)
-    (previous current : Option ℕ) (waits : Waits) (end_fed closed : Bool) (phase : Phase) : Type 0 where
+    (previous : Option ℕ) (byte : ℕ) (waits : Waits) (end_fed closed : Bool) (phase : Phase) : Type 0 where
   pub tab : size ≡ g.tab
   pub end_at : point_at g.tab g.bytes last ≡ Some within.end
   pub text : IsText g within
   pub skips : AllByRecursion (IsSkip g.tab g.bytes within.end) passes
   pub read : IsReadTo g.tab g.bytes passes within after_previous previous
-  pub waiting : IsWhatWaits g.tab g.bytes passes within after_previous current closed waits
+  pub waiting : IsWhatWaits g.tab g.bytes passes within after_previous byte closed waits
   pub ended : end_fed ≡ true → closed ≡ true
   pub reads : closed ≡ false → phase ≡ Reading
 
@@ -204,7 +203,7 @@ pub record IsKnown (own : List ℕ) (tab : ℕ) (bytes : List ℕ) (skips : List
 -- until a flush resolves, as resolvers may change them freely.
 pub record IsSound {M R D : Type 0} (same : R → R → Bool) (t : Inside M R D) : Type 0 where
   pub placed : IsPlaced (seen t).given t.tab_size t.skips (text_within t) t.end
-      t.after_previous t.previous t.current t.waits t.ended t.closed t.phase
+      t.after_previous t.previous t.byte t.waits t.ended t.closed t.phase
   pub known : IsKnown t.bytes.now (tab_of t.parse_state.now) t.parse_state.now.bytes.now t.skips t.after_previous t.end.0 t.ready t.waits t.moves
   pub made : t.phase ≡ Reading
       → IsMade t.parse_state.now.bytes.now t.events.items t.stack.items

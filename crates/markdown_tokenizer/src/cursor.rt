@@ -1,11 +1,12 @@
 //! The cursor: the place of a reader in the virtual text of a document.
 
-ghost use Rattle.markdown_tokenizer.specs.Cursor.{goes_on, begins_pair, IsPlace, IsSeatAt, IsNextSeat, IsNextByte, is_before_pair, is_after_pair, moved, IsQuick};
-ghost use Rattle.markdown_tokenizer.specs.Gaps.{skip_of, resumed, IsReadyAt};
+ghost use Rattle.markdown_tokenizer.specs.Cursor.{goes_on, begins_pair, IsPlace, IsSeatAt, IsNextSeat, IsNextByte, is_before_pair, is_after_pair, moved, IsQuick, CanMove};
+ghost use Rattle.markdown_tokenizer.specs.Gaps.{skip_of, resumed, IsReadyAt, HasMoved};
 ghost use Rattle.markdown_base.specs.Places;
 ghost use Rattle.markdown_base.specs.Virtual.{IsWithinLimit, Seat};
+ghost use Rattle.markdown_tokenizer.specs.declared.waiting.Moves;
 ghost use Rattle.std.specs.Bool.{OnTrue};
-ghost use Rattle.std.specs.Prelude.{◌≡◌, ◌==◌, ◌&&◌, ◌||◌, nat_lt, ◌+◌, ◌%◌, ◌^◌, ◌<◌, ℕ, length, not, unwrap_or, IfSome, ◌≤◌};
+ghost use Rattle.std.specs.Prelude.{◌≡◌, ◌==◌, ◌&&◌, ◌||◌, nat_lt, ◌+◌, ◌%◌, ◌^◌, ◌<◌, ℕ, length, not, unwrap_or, IfSome, ◌≤◌, ◌≢◌, None};
 
 use crate::skips::Skips;
 use crate::waiting::Moves;
@@ -183,7 +184,7 @@ pub(crate) fn quick_byte(
         }
         return Some((byte, Moves::Last));
     }
-    if point.vs > 0 && point.index < end && point.column != 1 {
+    if point.vs > 0 && point.index < end {
         if goes_on(t, point, b' ') {
             return Some((b' ', Moves::Tab));
         }
@@ -204,33 +205,35 @@ pub(crate) fn pass_plain(point: &mut Point)
     point.column += 1;
 }
 
-/// Moves a place as `moves` says. Returns up to which index bytes are then known to be before the end of the text, at `end`.
+/// Moves a place as `moves` says, if it says how. Returns up to which index bytes are then known to be before the end of the text, at
+/// `end`. Returns `None`, and moves nothing, if it is not known how the place moves.
 #[inline(always)]
-pub(crate) fn step(moves: Moves, skips: &Skips, end: usize, point: &mut Point) -> usize
-    requires line { point.old.line + 1 < 2 ^ 64 }
-    requires index { point.old.index + 1 < 2 ^ 64 }
-    requires column { point.old.column + 1 < 2 ^ 64 }
-    requires first { 1 ≤ point.old.column }
-    requires number { point.old.vs + 1 < 2 ^ 64 }
-    ensures place { point.new ≡ moved moves point.old }
-    ensures ready { IsReadyAt skips.now point.new end result }
+pub(crate) fn step(moves: Moves, skips: &Skips, end: &usize, point: &mut Point) -> Option<usize>
+    requires fits { moves ≢ Moves.Other → CanMove point.old }
+    ensures moved { IfSome result (λ ready. HasMoved skips.now moves point.old point.new end.now ready) }
+    ensures same { result ≡ None → point.new ≡ point.old }
 {
-    if matches!(moves, Moves::Tab) {
-        point.column += 1;
-        point.vs += 1;
-        return 0;
+    match moves {
+        Moves::Tab => {
+            point.column += 1;
+            point.vs += 1;
+            Some(0)
+        }
+        Moves::Plain | Moves::Last => {
+            point.column += 1;
+            point.index += 1;
+            point.vs = 0;
+            Some(*end)
+        }
+        Moves::Line => {
+            point.line += 1;
+            point.column = 1;
+            point.index += 1;
+            point.vs = 0;
+            Some(if skips.is_empty() { *end } else { 0 })
+        }
+        Moves::Other => None,
     }
-    if matches!(moves, Moves::Line) {
-        point.line += 1;
-        point.column = 1;
-        point.index += 1;
-        point.vs = 0;
-        return if skips.is_empty() { end } else { 0 };
-    }
-    point.column += 1;
-    point.index += 1;
-    point.vs = 0;
-    end
 }
 
 /// Moves a place over `byte`, the next virtual byte: for a CR LF over both bytes. There is a tab stop at every `t`
@@ -274,6 +277,17 @@ pub(crate) fn shown(bytes: &[u8], point: Point) -> Point
         };
     }
     point
+}
+
+/// As `shown`, if it is known whether a byte was read before the place: a place after a byte is shown at itself.
+///
+/// So an event after a byte needs no look at the bytes of the document.
+#[inline(always)]
+pub(crate) fn shown_after(bytes: &[u8], read: bool, point: &Point) -> Point
+    requires after { OnTrue read (Places.shown bytes.now point.now ≡ point.now) }
+    ensures { result ≡ Places.shown bytes.now point.now }
+{
+    if read { *point } else { shown(bytes, *point) }
 }
 
 /// Whether a place, given by its point, is before another, given by byte index and number in a tab.

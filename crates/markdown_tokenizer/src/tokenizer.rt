@@ -10,7 +10,9 @@ mod running;
 mod state;
 
 use crate::count::Calls;
-use crate::cursor::{is_after, is_where_more_is, pass, pass_plain, ready_at, resume, shown, step};
+use crate::cursor::{
+    is_after, is_where_more_is, pass, pass_plain, ready_at, resume, shown, shown_after, step,
+};
 use crate::parser::ParseState;
 use crate::places::bytes_are_below_256;
 pub use crate::places::{cuts_every, point_at};
@@ -55,17 +57,17 @@ pub struct Tokenizer<'a, M: MachineTypes> {
     skips: Skips,
     /// The place after the byte before, or the start.
     after_previous: Point,
-    // These three are next to one another as each byte changes all of them: some of the writes become one.
+    // These five are next to one another in this order, as each byte changes all of them: some of the writes become one.
     /// Whether the end was fed here.
     ended: bool,
     /// What waits.
     waits: Waits,
-    /// The byte that waits.
-    current: Option<u8>,
-    /// The byte before.
-    previous: Option<u8>,
     /// How the place after the byte before moves over the byte that waits.
     moves: Moves,
+    /// The byte before.
+    previous: Option<u8>,
+    /// The byte that waits, if one does.
+    byte: u8,
     /// An index up to which bytes are before the end of the text. If the place after the byte before has a smaller one, it is in no
     /// tab, and no gap begins there.
     ready: usize,
@@ -213,11 +215,11 @@ impl<'a, M: MachineTypes> Tokenizer<'a, M> {
             end: (point.index, point.vs),
             skips,
             after_previous: point,
+            ended: false,
             waits: Waits::Nothing,
             moves: Moves::Other,
-            ended: false,
             previous: None,
-            current: None,
+            byte: 0,
             ready: 0,
             bytes: parse_state.bytes,
             events,
@@ -250,10 +252,10 @@ impl<'a, M: MachineTypes> Tokenizer<'a, M> {
         match self.moves {
             Moves::Plain => {
                 pass_plain(&mut self.after_previous);
-                self.previous = self.current;
-                self.current = None;
+                self.previous = Some(self.byte);
                 self.ended = false;
                 self.waits = Waits::Nothing;
+                self.moves = Moves::Other;
             }
             _ => self.consume_apart(),
         }
@@ -267,23 +269,21 @@ impl<'a, M: MachineTypes> Tokenizer<'a, M> {
         requires { self.old.configuration.waiting ≡ Waits.Byte }
         ensures { self.new ≡ at_configuration self.old (consumed self.old.configuration) }
     {
-        match self.moves {
-            Moves::Other => {
-                self.consume_rarely();
-                return;
-            }
-            _ => {}
-        }
-        self.ready = step(
+        match step(
             self.moves,
             &self.skips,
-            self.end.0,
+            &self.end.0,
             &mut self.after_previous,
-        );
-        self.previous = self.current;
-        self.current = None;
-        self.ended = false;
-        self.waits = Waits::Nothing;
+        ) {
+            Some(ready) => {
+                self.ready = ready;
+                self.previous = Some(self.byte);
+                self.ended = false;
+                self.waits = Waits::Nothing;
+                self.moves = Moves::Other;
+            }
+            None => self.consume_rarely(),
+        }
     }
 
     /// As `consume`, whatever the byte is: after a gap, for a CR, at the end of the text, and for each byte that is fed while not
@@ -294,10 +294,7 @@ impl<'a, M: MachineTypes> Tokenizer<'a, M> {
         requires { self.old.configuration.waiting ≡ Waits.Byte }
         ensures { self.new ≡ at_configuration self.old (consumed self.old.configuration) }
     {
-        let byte = match self.current {
-            None => unreachable!(),
-            Some(byte) => byte,
-        };
+        let byte = self.byte;
         resume(&self.skips, &mut self.after_previous);
         pass(
             self.parse_state.bytes,
@@ -306,10 +303,10 @@ impl<'a, M: MachineTypes> Tokenizer<'a, M> {
             byte,
         );
         self.ready = ready_at(&self.skips, &self.after_previous, self.end.0);
-        self.previous = self.current;
-        self.current = None;
+        self.previous = Some(byte);
         self.ended = false;
         self.waits = Waits::Nothing;
+        self.moves = Moves::Other;
     }
 
     /// Begins a span: adds an enter at the current place, as it is shown (a CR LF at its CR). If it runs out of memory,
@@ -318,7 +315,29 @@ impl<'a, M: MachineTypes> Tokenizer<'a, M> {
         ensures ok { OnOk result (self.new ≡ with_enter name None self.old) }
         ensures err { OnErr result (self.new ≡ self.old) }
     {
-        self.enter_with(name, None)
+        if self.events.len() < self.events.capacity()
+            && self.stack.len() < self.stack.capacity()
+            && is_where_more_is(&self.skips, &self.after_previous)
+        {
+            let point = shown_after(
+                self.parse_state.bytes,
+                self.previous.is_some(),
+                &self.after_previous,
+            );
+            put_enter(&mut self.events, &mut self.stack, name, point, None);
+            return Ok(());
+        }
+        self.enter_plain_apart(name)
+    }
+
+    /// As `enter`, if there may be no room, or a gap. It has no link to hand on, so `enter` needs no memory for one.
+    #[cold]
+    #[inline(never)]
+    fn enter_plain_apart(&mut self, name: Name) -> Result<(), AllocError>
+        ensures ok { OnOk result (self.new ≡ with_enter name None self.old) }
+        ensures err { OnErr result (self.new ≡ self.old) }
+    {
+        self.enter_apart(name, None)
     }
 
     /// As `enter`, with a link. If it runs out of memory, events and stack stay as they were.
@@ -341,7 +360,11 @@ impl<'a, M: MachineTypes> Tokenizer<'a, M> {
             && self.stack.len() < self.stack.capacity()
             && is_where_more_is(&self.skips, &self.after_previous)
         {
-            let point = shown(self.parse_state.bytes, self.after_previous);
+            let point = shown_after(
+                self.parse_state.bytes,
+                self.previous.is_some(),
+                &self.after_previous,
+            );
             put_enter(&mut self.events, &mut self.stack, name, point, link);
             return Ok(());
         }
@@ -375,7 +398,11 @@ impl<'a, M: MachineTypes> Tokenizer<'a, M> {
         if self.events.len() == self.events.capacity() {
             return self.exit_apart(name);
         }
-        let point = shown(self.parse_state.bytes, self.after_previous);
+        let point = shown_after(
+            self.parse_state.bytes,
+            self.previous.is_some(),
+            &self.after_previous,
+        );
         put_exit(&mut self.events, &mut self.stack, name, point);
         Ok(())
     }

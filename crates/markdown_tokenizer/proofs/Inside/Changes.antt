@@ -107,12 +107,12 @@ module _ {M R D : Type 0} {same : R → R → Bool} (t : Inside M R D) (sound : 
   starts-upto = upto-upto tab_in bytes_in t.start t.after_previous end_in sound.placed.read.from sound.placed.read.upto
 
   -- what waits in another text
-  waiting-on : (w : Waits) (skips : List Point) (text : Text) → (ByteWaits tab_in bytes_in skips_in t.after_previous end_in t.current → ByteWaits tab_in bytes_in skips t.after_previous text.end t.current)
+  waiting-on : (w : Waits) (skips : List Point) (text : Text) → (ByteWaits tab_in bytes_in skips_in t.after_previous end_in t.byte → ByteWaits tab_in bytes_in skips t.after_previous text.end t.byte)
       → (t.closed ≡ true → size_in ≤ position_from tab_in bytes_in skips_in t.start t.after_previous → length text.seats ≤ position_from tab_in bytes_in skips text.start t.after_previous)
-      → IsWhatWaits tab_in bytes_in skips_in (text_within t) t.after_previous t.current t.closed w → IsWhatWaits tab_in bytes_in skips text t.after_previous t.current t.closed w
+      → IsWhatWaits tab_in bytes_in skips_in (text_within t) t.after_previous t.byte t.closed w → IsWhatWaits tab_in bytes_in skips text t.after_previous t.byte t.closed w
   waiting-on Nothing skips text byte end h = h
   waiting-on Byte skips text byte end h = byte h
-  waiting-on End skips text byte end h = record { none = h.none; closed_too = h.closed_too; all = end h.closed_too h.all }
+  waiting-on End skips text byte end h = record { closed_too = h.closed_too; all = end h.closed_too h.all }
 
   -- the text ends later
   module _ (to : ℕ × ℕ) (f u : Point) (found : point_at tab_in bytes_in to ≡ Some u) (fits : FitsAfter (seen t).given (text_within t) (pushed f u)) (open_still : t.closed ≡ false) where
@@ -128,7 +128,7 @@ module _ {M R D : Type 0} {same : R → R → Bool} (t : Inside M R D) (sound : 
     later-end : is_upto tab_in bytes_in end_in u ≡ true
     later-end = upto-upto tab_in bytes_in end_in f u (same-upto tab_in bytes_in f end_in fits.2).1 fits.3
 
-    still-waits : ByteWaits tab_in bytes_in skips_in t.after_previous end_in t.current → ByteWaits tab_in bytes_in skips_in t.after_previous u t.current
+    still-waits : ByteWaits tab_in bytes_in skips_in t.after_previous end_in t.byte → ByteWaits tab_in bytes_in skips_in t.after_previous u t.byte
     still-waits w = record { seat = w.seat; at = w.at; before = still-before tab_in wide_in bytes_in skips_in t.start end_in u t.after_previous t.previous sound.placed.skips sound.placed.read w.seat w.at later-end w.before; is = w.is }
 
     longer-saved : (p : Progress) → IsProgress t.phase tab_in bytes_in skips_in (text_within t) t.events.items t.stack.items t.closed p
@@ -246,7 +246,7 @@ module _ {M R D : Type 0} {same : R → R → Bool} (t : Inside M R D) (sound : 
       shown-on : (after_previous : Point) (previous : Option ℕ) → IsReadTo tab_in bytes_in skips_in (text_within t) after_previous previous → stands_before (shown bytes_in (resumed added after_previous)) (shown bytes_in (resumed skips_in after_previous)) ≡ false
       shown-on after_previous previous read = passed-shown tab_in wide_in bytes_in skips_in t.start end_in q after_previous previous sound.placed.skips read (end-place-in t sound) passed-place starts-upto is.first is.line is.before is.other
 
-      byte-on : ByteWaits tab_in bytes_in skips_in t.after_previous end_in t.current → ByteWaits tab_in bytes_in added t.after_previous q t.current
+      byte-on : ByteWaits tab_in bytes_in skips_in t.after_previous end_in t.byte → ByteWaits tab_in bytes_in added t.after_previous q t.byte
       byte-on w =
           let more = next-more tab_in wide_in bytes_in skips_in t.start end_in t.after_previous t.previous sound.placed.skips sound.placed.read w.seat w.at w.before in
           let same = passed-resumed tab_in wide_in bytes_in skips_in t.start end_in q t.after_previous t.previous sound.placed.skips sound.placed.read (end-place-in t sound) passed-place starts-upto is.first is.line is.before is.other more in
@@ -257,7 +257,7 @@ module _ {M R D : Type 0} {same : R → R → Bool} (t : Inside M R D) (sound : 
             is = w.is;
           }
 
-      waits-on : IsWhatWaits tab_in bytes_in added text_added t.after_previous t.current t.closed t.waits
+      waits-on : IsWhatWaits tab_in bytes_in added text_added t.after_previous t.byte t.closed t.waits
       waits-on =
           let p = position-same t.after_previous t.previous sound.placed.read in
           waiting-on t.waits added text_added byte-on (λ c all. omega (arith, all, size-same, p)) sound.placed.waiting
@@ -302,7 +302,7 @@ module _ {M R D : Type 0} {same : R → R → Bool} (t : Inside M R D) (sound : 
         pub added-read_to : IsReadTo tab_in bytes_in list (text_between tab_in bytes_in list t.start (end_point tab_in bytes_in (q.index, q.vs))) t.after_previous t.previous
         added-read_to = let e = passed-end in rw (put, e) (read-on t.after_previous t.previous sound.placed.read)
 
-        pub added-waiting : IsWhatWaits tab_in bytes_in list (text_between tab_in bytes_in list t.start (end_point tab_in bytes_in (q.index, q.vs))) t.after_previous t.current t.closed t.waits
+        pub added-waiting : IsWhatWaits tab_in bytes_in list (text_between tab_in bytes_in list t.start (end_point tab_in bytes_in (q.index, q.vs))) t.after_previous t.byte t.closed t.waits
         added-waiting = let e = passed-end in rw (put, e) waits-on
 
         pub added-made : t.phase ≡ Reading → IsMade bytes_in t.events.items t.stack.items (shown bytes_in t.after_previous) (shown bytes_in (standing list t.after_previous t.waits))

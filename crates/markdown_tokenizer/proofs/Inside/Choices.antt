@@ -63,7 +63,7 @@ module _ {M R D : Type 0} {same : R → R → Bool} (t : Inside M R D) (sound : 
   reach-by a b f m = made-more tab_in wide_in bytes_in t.skips t.start (text_within t).end t.after_previous t.previous sound.placed.skips sound.placed.read t.events.items t.stack.items a b f m
 
   -- if something waits, more can be fed
-  waits-more : (w : Waits) → IsWhatWaits tab_in bytes_in t.skips (text_within t) t.after_previous t.current t.closed w → MadeUpto (standing t.skips t.after_previous w) → MadeUpto (reach t.skips t.after_previous can_feed_in)
+  waits-more : (w : Waits) → IsWhatWaits tab_in bytes_in t.skips (text_within t) t.after_previous t.byte t.closed w → MadeUpto (standing t.skips t.after_previous w) → MadeUpto (reach t.skips t.after_previous can_feed_in)
   waits-more Nothing h m = reach-by false can_feed_in (λ e. absurd (cc)) m
   waits-more Byte h m = reach-by true can_feed_in (λ e. byte-more position_in (length (text_within t).seats) t.closed
       (next-more tab_in wide_in bytes_in t.skips t.start (text_within t).end t.after_previous t.previous sound.placed.skips sound.placed.read h.seat h.at h.before)) m

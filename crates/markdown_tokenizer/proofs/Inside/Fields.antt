@@ -331,11 +331,11 @@ pub nested-front : (P : Progress → Type 0) (events stack : ℕ) (choice : Kept
 nested-front P events stack choice kept_choices h = narrow-mark P events stack choice.saved kept_choices h.0 h.1
 
 module _ {M R D : Type 0} {same : R → R → Bool} (t : Inside M R D) (sound : IsSound same t) where
-  waiting-closed : (tab : ℕ) (bytes : List ℕ) (skips : List Point) (text : Text) (after_previous : Point) (current : Option ℕ) (closed : Bool) (waits : Waits)
-      → IsWhatWaits tab bytes skips text after_previous current closed waits → IsWhatWaits tab bytes skips text after_previous current true waits
-  waiting-closed tab bytes skips text after_previous current closed Nothing h = h
-  waiting-closed tab bytes skips text after_previous current closed Byte h = h
-  waiting-closed tab bytes skips text after_previous current closed End h = record { none = h.none; closed_too = refl; all = h.all }
+  waiting-closed : (tab : ℕ) (bytes : List ℕ) (skips : List Point) (text : Text) (after_previous : Point) (byte : ℕ) (closed : Bool) (waits : Waits)
+      → IsWhatWaits tab bytes skips text after_previous byte closed waits → IsWhatWaits tab bytes skips text after_previous byte true waits
+  waiting-closed tab bytes skips text after_previous byte closed Nothing h = h
+  waiting-closed tab bytes skips text after_previous byte closed Byte h = h
+  waiting-closed tab bytes skips text after_previous byte closed End h = record { closed_too = refl; all = h.all }
 
   pub closed-sound : IsSound same (record t { closed = true })
   closed-sound =
@@ -352,7 +352,7 @@ module _ {M R D : Type 0} {same : R → R → Bool} (t : Inside M R D) (sound : 
           text = sound.placed.text;
           skips = sound.placed.skips;
           read = sound.placed.read;
-          waiting = waiting-closed tab bytes skips text t.after_previous t.current t.closed t.waits sound.placed.waiting;
+          waiting = waiting-closed tab bytes skips text t.after_previous t.byte t.closed t.waits sound.placed.waiting;
           ended = λ _. refl;
         };
         made = sound.made;

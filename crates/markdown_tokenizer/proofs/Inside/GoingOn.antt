@@ -270,8 +270,8 @@ module _ {M R D : Type 0} {same : R → R → Bool} (t : Inside M R D) (sound : 
       pub byte-left : position_in from.after_previous < size_in
       byte-left = next-more tab_in wide_in bytes_in t.skips t.start (text_within t).end from.after_previous from.previous sound.placed.skips kept-here.read n.0 n.1 (before-end t sound n.0.point ∙ n.2)
 
-      pub byte-waits-there : ByteWaits tab_in bytes_in t.skips from.after_previous (text_within t).end (Some byte)
-      byte-waits-there = record { seat = n.0; at = n.1; before = before-end t sound n.0.point ∙ n.2; is = ap Some (sym n.3) }
+      pub byte-waits-there : ByteWaits tab_in bytes_in t.skips from.after_previous (text_within t).end byte
+      byte-waits-there = record { seat = n.0; at = n.1; before = before-end t sound n.0.point ∙ n.2; is = sym n.3 }
 
       pub byte-made : MadeUpto (resumed t.skips from.after_previous)
       byte-made = reach-is true (byte-more (position_in from.after_previous) size_in t.closed byte-left)
@@ -345,15 +345,15 @@ module _ {M R D : Type 0} {same : R → R → Bool} (t : Inside M R D) (sound : 
   abbrev size_there : ℕ
   size_there = length (text_within t).seats
 
-  abbrev pub after : Waits → Bool → Option ℕ → Inside M R D
-  after waits ended current = record t { kept_choices = kept_choices; after_previous = from.after_previous; previous = from.previous; events = events; stack = stack; waits = waits; ended = ended; current = current; ready = ready; moves = Other }
+  abbrev pub after : Waits → Bool → ℕ → Inside M R D
+  after waits ended byte = record t { kept_choices = kept_choices; after_previous = from.after_previous; previous = from.previous; events = events; stack = stack; waits = waits; ended = ended; byte = byte; ready = ready; moves = Other }
 
   abbrev NextThere : Option ℕ → Type 0
   NextThere o = IsNextByte tab_there bytes_there (resumed t.skips from.after_previous) t.end o
 
-  sound-by : (waits : Waits) (ended : Bool) (current : Option ℕ) → IsWhatWaits tab_there bytes_there t.skips (text_within t) from.after_previous current t.closed waits → (ended ≡ true → t.closed ≡ true)
-      → (t.phase ≡ Reading → IsMade bytes_there events.items stack.items (shown bytes_there from.after_previous) (shown bytes_there (standing t.skips from.after_previous waits))) → IsSound same (after waits ended current)
-  sound-by waits ended current w e m = record {
+  sound-by : (waits : Waits) (ended : Bool) (byte : ℕ) → IsWhatWaits tab_there bytes_there t.skips (text_within t) from.after_previous byte t.closed waits → (ended ≡ true → t.closed ≡ true)
+      → (t.phase ≡ Reading → IsMade bytes_there events.items stack.items (shown bytes_there from.after_previous) (shown bytes_there (standing t.skips from.after_previous waits))) → IsSound same (after waits ended byte)
+  sound-by waits ended byte w e m = record {
     placed = record {
       tab = sound.placed.tab;
       reads = sound.placed.reads;
@@ -371,23 +371,23 @@ module _ {M R D : Type 0} {same : R → R → Bool} (t : Inside M R D) (sound : 
   }
 
   -- a byte
-  pub byte-sound : (byte : ℕ) → NextThere (Some byte) → IsSound same (after Byte from.ended (Some byte))
-  byte-sound byte n = sound-by Byte from.ended (Some byte) (byte-waits-there t sound ok some kept_choices.items goal from ends events.items stack.items cut top byte n)
+  pub byte-sound : (byte : ℕ) → NextThere (Some byte) → IsSound same (after Byte from.ended byte)
+  byte-sound byte n = sound-by Byte from.ended byte (byte-waits-there t sound ok some kept_choices.items goal from ends events.items stack.items cut top byte n)
       (kept-here t sound ok some kept_choices.items goal from ends).ended (byte-made t sound ok some kept_choices.items goal from ends events.items stack.items cut top byte n)
 
   -- the end
-  pub end-sound : NextThere None → t.closed ≡ true → IsSound same (after End true None)
-  end-sound n closed = sound-by End true None (record { none = refl; closed_too = closed; all = none-left-there t sound ok some kept_choices.items goal from ends events.items stack.items cut top n })
+  pub end-sound : NextThere None → t.closed ≡ true → IsSound same (after End true t.byte)
+  end-sound n closed = sound-by End true t.byte (record { closed_too = closed; all = none-left-there t sound ok some kept_choices.items goal from ends events.items stack.items cut top n })
       (λ _. closed) (end-made t sound ok some kept_choices.items goal from ends events.items stack.items cut top n closed)
 
   -- nothing
-  pub none-sound : NextThere None → t.closed ≡ false → IsSound same (after Nothing from.ended None)
-  none-sound n still = sound-by Nothing from.ended None refl (kept-here t sound ok some kept_choices.items goal from ends).ended
+  pub none-sound : NextThere None → t.closed ≡ false → IsSound same (after Nothing from.ended t.byte)
+  none-sound n still = sound-by Nothing from.ended t.byte tt (kept-here t sound ok some kept_choices.items goal from ends).ended
       (none-made t sound ok some kept_choices.items goal from ends events.items stack.items cut top n still)
 
   -- the reading has ended
-  pub ended-sound : stack.items ≡ [] → IsSound same (after Nothing from.ended None)
-  ended-sound e = sound-by Nothing from.ended None refl (kept-here t sound ok some kept_choices.items goal from ends).ended
+  pub ended-sound : stack.items ≡ [] → IsSound same (after Nothing from.ended t.byte)
+  ended-sound e = sound-by Nothing from.ended t.byte tt (kept-here t sound ok some kept_choices.items goal from ends).ended
       (ended-made t sound ok some kept_choices.items goal from ends events.items stack.items cut top e)
 
   abbrev step_there : Step R D
@@ -418,8 +418,8 @@ module _ {M R D : Type 0} {same : R → R → Bool} (t : Inside M R D) (sound : 
     phase = (seen t).phase;
   }
 
-  seen-there : (waits : Waits) (ended : Bool) (current : Option ℕ) → seen (after waits ended current) ≡ waiting_there waits ended
-  seen-there waits ended current = let c = going-choices t sound ok some kept_choices.items goal from ends events.items stack.items cut top in rw (c, cut, top) refl
+  seen-there : (waits : Waits) (ended : Bool) (byte : ℕ) → seen (after waits ended byte) ≡ waiting_there waits ended
+  seen-there waits ended byte = let c = going-choices t sound ok some kept_choices.items goal from ends events.items stack.items cut top in rw (c, cut, top) refl
 
   fed-there : (b : Bool) → nat_lt position_there size_there ≡ b
       → at_configuration (settled_to (seen t) step_there) (fed (seen t).text step_there.configuration) ≡ cond b (waiting_there Byte from.ended) (waiting_there End true)
@@ -427,26 +427,26 @@ module _ {M R D : Type 0} {same : R → R → Bool} (t : Inside M R D) (sound : 
   fed-there false e = rw e refl
 
   -- what waits, and for which state
-  pub takes-byte : (name : StateName) (byte : ℕ) → goal ≡ continuation.Next name → NextThere (Some byte) → TakesThere (seen (after Byte from.ended (Some byte))) (result.Ok name)
+  pub takes-byte : (name : StateName) (byte : ℕ) → goal ≡ continuation.Next name → NextThere (Some byte) → TakesThere (seen (after Byte from.ended byte)) (result.Ok name)
   takes-byte name byte e n =
       let lt = byte-left t sound ok some kept_choices.items goal from ends events.items stack.items cut top byte n in
-      by-step _ _ (rw e (refl, seen-there Byte from.ended (Some byte) ∙ sym (fed-there true (lt-ltb position_there size_there lt)), λ f. lt))
+      by-step _ _ (rw e (refl, seen-there Byte from.ended byte ∙ sym (fed-there true (lt-ltb position_there size_there lt)), λ f. lt))
 
-  pub takes-end : (name : StateName) → goal ≡ continuation.Next name → flush ≡ true → NextThere None → TakesThere (seen (after End true None)) (result.Ok name)
+  pub takes-end : (name : StateName) → goal ≡ continuation.Next name → flush ≡ true → NextThere None → TakesThere (seen (after End true t.byte)) (result.Ok name)
   takes-end name e f n =
       let le = none-left-there t sound ok some kept_choices.items goal from ends events.items stack.items cut top n in
-      by-step _ _ (rw e (refl, seen-there End true None ∙ sym (fed-there false (le-ltb position_there size_there le)), λ g. absurd (let c : true ≡ false = sym f ∙ g in cc)))
+      by-step _ _ (rw e (refl, seen-there End true t.byte ∙ sym (fed-there false (le-ltb position_there size_there le)), λ g. absurd (let c : true ≡ false = sym f ∙ g in cc)))
 
-  pub takes-none : (name : StateName) → goal ≡ continuation.Next name → flush ≡ false → NextThere None → TakesThere (seen (after Nothing from.ended None)) (result.Err (Next name))
+  pub takes-none : (name : StateName) → goal ≡ continuation.Next name → flush ≡ false → NextThere None → TakesThere (seen (after Nothing from.ended t.byte)) (result.Err (Next name))
   takes-none name e f n =
       let le = none-left-there t sound ok some kept_choices.items goal from ends events.items stack.items cut top n in
-      by-step _ _ (rw e (seen-there Nothing from.ended None, refl, f, le))
+      by-step _ _ (rw e (seen-there Nothing from.ended t.byte, refl, f, le))
 
-  pub takes-ok : goal ≡ continuation.Ok → TakesThere (seen (after Nothing from.ended None)) (result.Err Ok)
-  takes-ok e = by-step _ _ (rw e (seen-there Nothing from.ended None, refl))
+  pub takes-ok : goal ≡ continuation.Ok → TakesThere (seen (after Nothing from.ended t.byte)) (result.Err Ok)
+  takes-ok e = by-step _ _ (rw e (seen-there Nothing from.ended t.byte, refl))
 
-  pub takes-nok : goal ≡ continuation.Nok → TakesThere (seen (after Nothing from.ended None)) (result.Err Nok)
-  takes-nok e = by-step _ _ (rw e (seen-there Nothing from.ended None, refl))
+  pub takes-nok : goal ≡ continuation.Nok → TakesThere (seen (after Nothing from.ended t.byte)) (result.Err Nok)
+  takes-nok e = by-step _ _ (rw e (seen-there Nothing from.ended t.byte, refl))
 
   -- no span is open where the reading has ended
   pub closes : EndsClosed (settled_all (seen t).configuration (seen t).choices (answer_of ok)) → (goal ≡ continuation.Ok) ⊎ (goal ≡ continuation.Nok) → stack.items ≡ []

@@ -9,7 +9,7 @@ use Rattle.markdown_tokenizer.specs.declared.waiting.Waits.{Waits}
 use Rattle.markdown_tokenizer.specs.declared.waiting.Waits.TheVariants.{Byte}
 use Rattle.markdown_tokenizer.specs.declared.waiting.Moves.{Moves}
 use Rattle.markdown_tokenizer.specs.declared.waiting.Moves.TheVariants.{Plain, Other}
-use Rattle.markdown_tokenizer.specs.Cursor.{IsPlace, moved, IsQuick}
+use Rattle.markdown_tokenizer.specs.Cursor.{IsPlace, CanMove, moved, IsQuick}
 use Rattle.markdown_tokenizer.specs.Gaps.{resumed, IsReadyAt}
 use Rattle.markdown_tokenizer.specs.View.{IsKnown}
 use Rattle.markdown_tokenizer.proofs.Positions.Order.{not-number}
@@ -48,14 +48,8 @@ module _ (skips : List Point) (place : Point) (end : ℕ) where
     pub known-quick : (byte : ℕ) (moves : Moves) → IsQuick tab bytes place ready end byte moves → IsKnown own tab bytes skips place end ready Byte moves
     known-quick byte moves q = record { own_bytes = is; ready_at = r; there = λ w o. quick-there tab bytes ready byte moves r q; over = λ w o. q.over }
 
--- the numbers of a place before the end of a document fit, and so do the next ones
-pub record Fits (p : Point) : Type 0 where
-  pub line : p.line + 1 < 2 ^ 64
-  pub index : p.index + 1 < 2 ^ 64
-  pub column : p.column + 1 < 2 ^ 64
-  pub number : p.vs + 1 < 2 ^ 64
-
-pub place-fits : (t : ℕ) (bytes : List ℕ) (p : Point) → 0 < t → IsWithinLimit t bytes → IsPlace t bytes p → p.index < length bytes → Fits p
+-- a place before the end of a document can move
+pub place-fits : (t : ℕ) (bytes : List ℕ) (p : Point) → 0 < t → IsWithinLimit t bytes → IsPlace t bytes p → p.index < length bytes → CanMove p
 place-fits t bytes p some limit place inside =
     let l : t * length bytes + 1 < 2 ^ 64 = limit in
     let all : t * suc p.index ≤ t * length bytes = mul-le-mul_left t (omega (arith, inside)) in
@@ -68,6 +62,7 @@ place-fits t bytes p some limit place inside =
       line = omega (arith, l, each, lines, inside);
       index = omega (arith, l, each, inside);
       column = omega (arith, l, all, split, columns, spaces);
+      first = place.bounds.first;
       number = omega (arith, l, all, split, spaces);
     }
 

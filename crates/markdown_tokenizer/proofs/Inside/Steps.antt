@@ -1,11 +1,13 @@
 -- Each call on a tokenizer keeps what holds of its fields, and does what its contract says.
 use Rattle.std.proofs.Common.{Bool, ◌≡◌, ◌≢◌, ℕ, ◌≤◌, ◌<◌, List, [], true, false, Option, Some, None, length, refl, sym, ap, ◌∙◌, subst, add-one, arith, inl, inr}
 use Rattle.std.specs.Prelude.{map}
+use Rattle.std.specs.Bool.{OnTrue}
+use Rattle.std.specs.Option.{is_some}
 use Rattle.std.proofs.lemmas.Bool.{lt-ltb}
 use Rattle.markdown_base.specs.declared.event.Point.{Point}
 use Rattle.markdown_base.specs.declared.event.Name.{Name}
 use Rattle.markdown_base.specs.Virtual.{Seat}
-use Rattle.markdown_base.specs.Places.{shown, stands_before}
+use Rattle.markdown_base.specs.Places.{shown, stands_before, IsShown}
 use Rattle.markdown_base.specs.Events.{open_events}
 use Rattle.markdown_base.proofs.Seats.{stands-self}
 use Rattle.markdown_tokenizer.specs.declared.waiting.Waits.{Waits}
@@ -22,15 +24,16 @@ use Rattle.markdown_tokenizer.specs.Engine.{IsWellFormed}
 use Rattle.markdown_tokenizer.specs.Work.{IsInText}
 use Rattle.markdown_tokenizer.specs.Gaps.{resumed, IsReadyAt}
 use Rattle.markdown_tokenizer.specs.View.{tab_of, seen, text_within, end_point, seats_between, position_from, standing, IsReadTo, ByteWaits, EndWaits, IsWhatWaits, IsKnown, IsSound}
-use Rattle.markdown_tokenizer.specs.Cursor.{IsPlace, IsSeatAt, rest_at, is_before_pair, IsNextByte, moved, IsQuick}
+use Rattle.markdown_tokenizer.specs.Cursor.{IsPlace, IsSeatAt, rest_at, is_before_pair, IsNextByte, CanMove, moved, IsQuick}
 use Rattle.markdown_tokenizer.proofs.Positions.Order.{later-later}
 use Rattle.markdown_tokenizer.proofs.Positions.Seats.{one-seat}
+use Rattle.markdown_tokenizer.proofs.Positions.TextOrder.{read-shown}
 use Rattle.markdown_tokenizer.proofs.Positions.Standing.{place-of-point, shown-shown, shown-upto, seat-shown, seat-passes}
 use Rattle.markdown_tokenizer.proofs.Positions.Gaps.{IsResumed}
 use Rattle.markdown_tokenizer.proofs.Positions.Points.{point_at-is, shown-line, shown-column, same-numbers}
 use Rattle.markdown_tokenizer.specs.Made.{IsMade}
 use Rattle.markdown_tokenizer.proofs.Inside.Made.{made-consume, made-end}
-use Rattle.markdown_tokenizer.proofs.Inside.Known.{quick-there, known-unfed, known-quick, Fits, place-fits, not-before-index}
+use Rattle.markdown_tokenizer.proofs.Inside.Known.{quick-there, known-unfed, known-quick, place-fits, not-before-index}
 use Rattle.markdown_tokenizer.proofs.Inside.Fields.{wide_of, looks, within, next-shown, next-seat, next-more, next-past, next-number, read-next, next-none-left, end-shown, made-later}
 
 module _ {M R D : Type 0} {same : R → R → Bool} (t : Inside M R D) (sound : IsSound same t) where
@@ -62,20 +65,20 @@ module _ {M R D : Type 0} {same : R → R → Bool} (t : Inside M R D) (sound : 
   pub end-place-in : IsPlace tab_in bytes_in end_in
   end-place-in = place-of-point tab_in bytes_in wide_in end_in (point_at-is tab_in bytes_in t.end end_in sound.placed.end_at).is_point
 
-  bytes-wait : (w : Waits) → IsWhatWaits tab_in bytes_in skips_in (text_within t) t.after_previous t.current t.closed w → w ≡ Byte → ByteWaits tab_in bytes_in skips_in t.after_previous end_in t.current
+  bytes-wait : (w : Waits) → IsWhatWaits tab_in bytes_in skips_in (text_within t) t.after_previous t.byte t.closed w → w ≡ Byte → ByteWaits tab_in bytes_in skips_in t.after_previous end_in t.byte
   bytes-wait Nothing h e = absurd cc
   bytes-wait Byte h e = h
   bytes-wait End h e = absurd cc
 
-  pub byte-waits : t.waits ≡ Byte → ByteWaits tab_in bytes_in skips_in t.after_previous end_in t.current
+  pub byte-waits : t.waits ≡ Byte → ByteWaits tab_in bytes_in skips_in t.after_previous end_in t.byte
   byte-waits e = bytes-wait t.waits sound.placed.waiting e
 
-  ends-wait : (w : Waits) → IsWhatWaits tab_in bytes_in skips_in (text_within t) t.after_previous t.current t.closed w → w ≡ End → EndWaits t.current t.closed position_in (length (seats_between tab_in bytes_in skips_in t.start end_in))
+  ends-wait : (w : Waits) → IsWhatWaits tab_in bytes_in skips_in (text_within t) t.after_previous t.byte t.closed w → w ≡ End → EndWaits t.closed position_in (length (seats_between tab_in bytes_in skips_in t.start end_in))
   ends-wait Nothing h e = absurd cc
   ends-wait Byte h e = absurd cc
   ends-wait End h e = h
 
-  end-waits : t.waits ≡ End → EndWaits t.current t.closed position_in (length (seats_between tab_in bytes_in skips_in t.start end_in))
+  end-waits : t.waits ≡ End → EndWaits t.closed position_in (length (seats_between tab_in bytes_in skips_in t.start end_in))
   end-waits e = ends-wait t.waits sound.placed.waiting e
 
   -- if all was read, the current place is the end of the text, after its gap
@@ -102,15 +105,21 @@ module _ {M R D : Type 0} {same : R → R → Bool} (t : Inside M R D) (sound : 
   pub point-end : t.waits ≡ End → record { line = here_in.line; column = here_in.column; index = t.end.0; vs = t.end.1 } ≡ (sight (seen t).given (seen t).text (seen t).configuration).point
   point-end e = rw e (end-is (end-waits e).all)
 
-  current-by : (w : Waits) → IsWhatWaits tab_in bytes_in skips_in (text_within t) t.after_previous t.current t.closed w → t.current ≡ current_of (text_within t) position_in w
-  current-by Nothing h = h
-  current-by Byte h = h.is ∙ ap byte_of (sym (next-seat tab_in wide_in bytes_in skips_in t.start end_in t.after_previous t.previous sound.placed.skips sound.placed.read h.seat h.at h.before))
-  current-by End h = h.none
+  -- the byte that waits, if one does
+  abbrev byte_if : Waits → Option ℕ
+  byte_if Nothing = None
+  byte_if Byte = Some t.byte
+  byte_if End = None
 
-  pub current-is : t.current ≡ (sight (seen t).given (seen t).text (seen t).configuration).current
-  current-is = current-by t.waits sound.placed.waiting
+  current-by : (w : Waits) → IsWhatWaits tab_in bytes_in skips_in (text_within t) t.after_previous t.byte t.closed w → byte_if w ≡ current_of (text_within t) position_in w
+  current-by Nothing h = refl
+  current-by Byte h = ap Some h.is ∙ ap byte_of (sym (next-seat tab_in wide_in bytes_in skips_in t.start end_in t.after_previous t.previous sound.placed.skips sound.placed.read h.seat h.at h.before))
+  current-by End h = refl
 
-  here-by : (w : Waits) → IsWhatWaits tab_in bytes_in skips_in (text_within t) t.after_previous t.current t.closed w → shown bytes_in (standing skips_in t.after_previous w) ≡ shown bytes_in (point_of (text_within t) position_in w)
+  pub current-is : (w : Waits) → t.waits ≡ w → byte_if w ≡ (sight (seen t).given (seen t).text (seen t).configuration).current
+  current-is w e = ap byte_if (sym e) ∙ current-by t.waits sound.placed.waiting
+
+  here-by : (w : Waits) → IsWhatWaits tab_in bytes_in skips_in (text_within t) t.after_previous t.byte t.closed w → shown bytes_in (standing skips_in t.after_previous w) ≡ shown bytes_in (point_of (text_within t) position_in w)
   here-by Nothing h = ap (shown bytes_in) sound.placed.read.back
   here-by Byte h =
       sym (next-shown tab_in wide_in bytes_in skips_in t.start end_in t.after_previous t.previous sound.placed.skips sound.placed.read h.seat h.at)
@@ -124,12 +133,20 @@ module _ {M R D : Type 0} {same : R → R → Bool} (t : Inside M R D) (sound : 
   pub after_previous-is : shown bytes_in t.after_previous ≡ (sight (seen t).given (seen t).text (seen t).configuration).exit_place
   after_previous-is = ap (shown bytes_in) sound.placed.read.back
 
-  closed-by : (w : Waits) → t.waits ≡ w → IsWhatWaits tab_in bytes_in skips_in (text_within t) t.after_previous t.current t.closed w → w ≡ End → t.closed ≡ true
+  -- a place after a byte is shown at itself
+  pub after-byte : (read : Bool) → read ≡ is_some t.previous → OnTrue read (shown bytes_in t.after_previous ≡ t.after_previous)
+  after-byte read e = rw e (by t.previous refl)
+    where
+      by : (o : Option ℕ) → t.previous ≡ o → OnTrue (is_some o) (shown bytes_in t.after_previous ≡ t.after_previous)
+      by None h = tt
+      by (Some byte) h = subst (IsShown bytes_in) (sym sound.placed.read.back) (read-shown (seen t).given (text_within t) sound.placed.text position_in byte (sym sound.placed.read.previous_is ∙ h))
+
+  closed-by : (w : Waits) → t.waits ≡ w → IsWhatWaits tab_in bytes_in skips_in (text_within t) t.after_previous t.byte t.closed w → w ≡ End → t.closed ≡ true
   closed-by Nothing e h f = absurd cc
   closed-by Byte e h f = absurd cc
   closed-by End e h f = h.closed_too
 
-  more-by : (w : Waits) → IsWhatWaits tab_in bytes_in skips_in (text_within t) t.after_previous t.current t.closed w → w ≡ Byte → position_in < length (seats_between tab_in bytes_in skips_in t.start end_in)
+  more-by : (w : Waits) → IsWhatWaits tab_in bytes_in skips_in (text_within t) t.after_previous t.byte t.closed w → w ≡ Byte → position_in < length (seats_between tab_in bytes_in skips_in t.start end_in)
   more-by Nothing h f = absurd cc
   more-by Byte h f = next-more tab_in wide_in bytes_in skips_in t.start end_in t.after_previous t.previous sound.placed.skips sound.placed.read h.seat h.at h.before
   more-by End h f = absurd cc
@@ -176,11 +193,11 @@ module _ {M R D : Type 0} {same : R → R → Bool} (t : Inside M R D) (sound : 
     fed-more lt = next-more tab_in wide_in bytes_in skips_in t.start end_in t.after_previous t.previous sound.placed.skips sound.placed.read seat n (before-end seat.point ∙ lt)
 
     pub fed-seen : (byte : ℕ) → is_before_pair seat.point t.end ≡ true
-        → seen (record t { waits = Byte; current = Some byte }) ≡ at_configuration (seen t) (fed (seen t).text (seen t).configuration)
+        → seen (record t { waits = Byte; byte = byte }) ≡ at_configuration (seen t) (fed (seen t).text (seen t).configuration)
     fed-seen byte lt = let f = lt-ltb (seen t).configuration.position (length (seen t).text.seats) (fed-more lt) in rw f refl
 
     pub fed-sound : (byte : ℕ) → is_before_pair seat.point t.end ≡ true → seat.byte ≡ byte → (moves : Moves) → IsKnown t.bytes.now tab_in bytes_in skips_in t.after_previous t.end.0 t.ready Byte moves
-        → IsSound same (record t { waits = Byte; current = Some byte; moves = moves })
+        → IsSound same (record t { waits = Byte; byte = byte; moves = moves })
     fed-sound byte lt e moves known = record {
       placed = record {
         tab = sound.placed.tab;
@@ -189,7 +206,7 @@ module _ {M R D : Type 0} {same : R → R → Bool} (t : Inside M R D) (sound : 
         text = sound.placed.text;
         skips = sound.placed.skips;
         read = sound.placed.read;
-        waiting = record { seat = seat; at = n; before = before-end seat.point ∙ lt; is = ap Some (sym e) };
+        waiting = record { seat = seat; at = n; before = before-end seat.point ∙ lt; is = sym e };
         ended = sound.placed.ended;
       };
       made = made-here;
@@ -210,7 +227,7 @@ module _ {M R D : Type 0} {same : R → R → Bool} (t : Inside M R D) (sound : 
   fed-none (inr n) = fed-past n.0 n.1 n.2
 
   -- the end is fed
-  pub end-fed-sound : length (seen t).text.seats ≤ (seen t).configuration.position → t.closed ≡ true → IsSound same (record t { waits = End; current = None; ended = true })
+  pub end-fed-sound : length (seen t).text.seats ≤ (seen t).configuration.position → t.closed ≡ true → IsSound same (record t { waits = End; ended = true })
   end-fed-sound all closed = record {
     placed = record {
       tab = sound.placed.tab;
@@ -219,7 +236,7 @@ module _ {M R D : Type 0} {same : R → R → Bool} (t : Inside M R D) (sound : 
       text = sound.placed.text;
       skips = sound.placed.skips;
       read = sound.placed.read;
-      waiting = record { none = refl; closed_too = closed; all = all };
+      waiting = record { closed_too = closed; all = all };
       ended = λ _. closed;
     };
     made = made-here;
@@ -244,10 +261,10 @@ module _ {M R D : Type 0} {same : R → R → Bool} (t : Inside M R D) (sound : 
     pub quick-more : (seen t).configuration.position < length (seen t).text.seats
     quick-more = fed-more quick-in.seat quick-at quick-before
 
-    pub quick-seen : seen (record t { waits = Byte; current = Some byte }) ≡ at_configuration (seen t) (fed (seen t).text (seen t).configuration)
+    pub quick-seen : seen (record t { waits = Byte; byte = byte }) ≡ at_configuration (seen t) (fed (seen t).text (seen t).configuration)
     quick-seen = fed-seen quick-in.seat quick-at byte quick-before
 
-    pub quick-sound : IsSound same (record t { waits = Byte; current = Some byte; moves = moves })
+    pub quick-sound : IsSound same (record t { waits = Byte; byte = byte; moves = moves })
     quick-sound = fed-sound quick-in.seat quick-at byte quick-before quick-in.is moves
         (known-quick skips_in t.after_previous t.end.0 t.bytes.now tab_in bytes_in sound.known.own_bytes t.ready sound.known.ready_at byte moves quick-in)
 
@@ -259,7 +276,7 @@ module _ {M R D : Type 0} {same : R → R → Bool} (t : Inside M R D) (sound : 
       omega (arith, at, inside)
 
   -- a byte waits, and it is known how the place moves over it
-  module _ (waits : ByteWaits tab_in bytes_in skips_in t.after_previous end_in t.current) (is : t.waits ≡ Byte) (told : t.moves ≢ Other) where
+  module _ (waits : ByteWaits tab_in bytes_in skips_in t.after_previous end_in t.byte) (is : t.waits ≡ Byte) (told : t.moves ≢ Other) where
     seat-there : IsSeatAt tab_in bytes_in t.after_previous waits.seat
     seat-there = subst (λ (p : Point). IsSeatAt tab_in bytes_in p waits.seat) (sound.known.there is told) waits.at
 
@@ -268,16 +285,20 @@ module _ {M R D : Type 0} {same : R → R → Bool} (t : Inside M R D) (sound : 
         let s = waits.seat.point in let p = t.after_previous in
         omega (arith, not-before-index s.index s.vs p.index p.vs seat-there.later, seat-there.inside)
 
-    pub told-fits : Fits t.after_previous
+    pub told-fits : CanMove t.after_previous
     told-fits = place-fits tab_in bytes_in t.after_previous wide_in t.parse_state.now.limit sound.placed.read.place place-inside
 
     pub told-moved : moved t.moves t.after_previous ≡ waits.seat.end
     told-moved = sym ((sound.known.over is told).ends waits.seat seat-there)
 
+  -- the place has not moved
+  pub unmoved : (place : Point) → place ≡ t.after_previous → IsSound same (record t { after_previous = place })
+  unmoved place e = subst (λ (p : Point). IsSound same (record t { after_previous = p })) (sym e) sound
+
   -- a byte is consumed
-  module _ (waits : ByteWaits tab_in bytes_in skips_in t.after_previous end_in t.current) where
+  module _ (waits : ByteWaits tab_in bytes_in skips_in t.after_previous end_in t.byte) where
     module _ (after_previous : Point) (l : after_previous ≡ waits.seat.end) (ready : ℕ) (r : IsReadyAt skips_in after_previous t.end.0 ready) where
-      pub consumed-read : IsReadTo tab_in bytes_in skips_in (text_within t) after_previous t.current
+      pub consumed-read : IsReadTo tab_in bytes_in skips_in (text_within t) after_previous (Some t.byte)
       consumed-read =
           let r = read-next tab_in wide_in bytes_in skips_in t.start end_in t.after_previous t.previous sound.placed.skips sound.placed.read waits.seat waits.at waits.before in
           let f = waits.is in rw (l, f) r
@@ -292,7 +313,7 @@ module _ {M R D : Type 0} {same : R → R → Bool} (t : Inside M R D) (sound : 
       consumed-made reads = made-consume bytes_in t.events.items t.stack.items (shown bytes_in t.after_previous) (shown bytes_in here_in) (made-here reads) (shown bytes_in after_previous) (shown bytes_in after_previous)
           consumed-later (stands-self (shown bytes_in after_previous)) (shown-shown tab_in bytes_in after_previous) (shown-shown tab_in bytes_in after_previous)
 
-      pub consumed-sound : IsSound same (record t { after_previous = after_previous; previous = t.current; current = None; ended = false; waits = Nothing; ready = ready })
+      pub consumed-sound : IsSound same (record t { after_previous = after_previous; previous = Some t.byte; ended = false; waits = Nothing; moves = Other; ready = ready })
       consumed-sound = record {
         placed = record {
           tab = sound.placed.tab;
@@ -301,24 +322,20 @@ module _ {M R D : Type 0} {same : R → R → Bool} (t : Inside M R D) (sound : 
           text = sound.placed.text;
           skips = sound.placed.skips;
           read = consumed-read;
-          waiting = refl;
+          waiting = tt;
           ended = λ h. absurd cc;
         };
         made = consumed-made;
         kept_choices = sound.kept_choices;
         once = sound.once;
-        known = known-unfed skips_in after_previous t.end.0 t.bytes.now tab_in bytes_in sound.known.own_bytes ready r Nothing t.moves (λ e. cc);
+        known = known-unfed skips_in after_previous t.end.0 t.bytes.now tab_in bytes_in sound.known.own_bytes ready r Nothing Other (λ e. cc);
       }
 
-  pub consumed-seen : (waits : ByteWaits tab_in bytes_in skips_in t.after_previous end_in t.current) (after_previous : Point) → after_previous ≡ waits.seat.end
-      → seen (record t { after_previous = after_previous; previous = t.current; current = None; ended = false; waits = Nothing }) ≡ at_configuration (seen t) (consumed (seen t).configuration)
+  pub consumed-seen : (waits : ByteWaits tab_in bytes_in skips_in t.after_previous end_in t.byte) (after_previous : Point) → after_previous ≡ waits.seat.end
+      → seen (record t { after_previous = after_previous; previous = Some t.byte; ended = false; waits = Nothing }) ≡ at_configuration (seen t) (consumed (seen t).configuration)
   consumed-seen waits after_previous l =
       let n = next-number tab_in wide_in bytes_in skips_in t.start end_in t.after_previous t.previous sound.placed.skips sound.placed.read waits.seat waits.at ∙ sym (add-one position_in) in
       rw (l, n) refl
-
-  -- the byte that is consumed is the next of the document
-  pub byte-of-seat : (waits : ByteWaits tab_in bytes_in skips_in t.after_previous end_in t.current) (byte : ℕ) → t.current ≡ Some byte → waits.seat.byte ≡ byte
-  byte-of-seat waits byte e = let same : Some waits.seat.byte ≡ Some byte = sym waits.is ∙ e in cc
 
   -- the place is the place of a byte, or the end of the document
   pub here-within : 0 < here_in.vs → here_in.index < length bytes_in

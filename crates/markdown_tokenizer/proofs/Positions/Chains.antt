@@ -130,7 +130,7 @@ module _ (t : ℕ) (bytes : List ℕ) (d : 0 < t) where
       let next : IsAt t bytes (point l (suc c) i (suc v)) ahead = record {
         is = next_rest;
         shown = shown-other bytes (point l (suc c) i (suc v)) (λ e. let f : 9 ≡ 10 = sym tab ∙ e in absurd (omega arith));
-        bounds = record { inside = b.inside; lines = b.lines; columns = omega (arith, b.columns); first = omega arith; spaces = omega arith; tab = λ _. inside };
+        bounds = record { inside = b.inside; lines = b.lines; columns = omega (arith, b.columns); first = omega arith; beyond = omega (arith, b.beyond); spaces = omega arith; tab = λ _. inside };
       } in (
         at,
         record {
@@ -153,10 +153,10 @@ module _ (t : ℕ) (bytes : List ℕ) (d : 0 < t) where
   drop-first i b bs e (inr h) = let none : [] ≡ b ∷ bs = sym (drop_all i bytes h) ∙ e in absurd (cc)
 
   bounds-line : (l c i : ℕ) → Bounds t bytes (point l c i 0) → i < length bytes → Bounds t bytes (point (suc l) 1 (suc i) 0)
-  bounds-line l c i b h = record { inside = omega arith; lines = omega (arith, b.lines); columns = omega arith; first = omega arith; spaces = d; tab = λ k. absurd (omega arith) }
+  bounds-line l c i b h = record { inside = omega arith; lines = omega (arith, b.lines); columns = omega arith; first = omega arith; beyond = omega arith; spaces = d; tab = λ k. absurd (omega arith) }
 
   bounds-column : (l c i n : ℕ) → Bounds t bytes (point l c i 0) → i < length bytes → n ≤ t → Bounds t bytes (point l (c + n) (suc i) 0)
-  bounds-column l c i n b h k = record { inside = omega arith; lines = omega (arith, b.lines); columns = omega (arith, b.columns); first = omega (arith, b.first); spaces = d; tab = λ k. absurd (omega arith) }
+  bounds-column l c i n b h k = record { inside = omega arith; lines = omega (arith, b.lines); columns = omega (arith, b.columns); first = omega (arith, b.first); beyond = omega (arith, b.first); spaces = d; tab = λ k. absurd (omega arith) }
 
   -- a virtual byte that is one byte
   one-chain : (l c i byte : ℕ) (end : Point) (rest : List Seat) → i < length bytes → i < end.index → end_at t byte (point l c i 0) ≡ end
@@ -193,7 +193,7 @@ module _ (t : ℕ) (bytes : List ℕ) (d : 0 < t) where
         record {
           at_seat = there;
           at_shown = rw same at.is;
-          seat_bounds = record { inside = omega arith; lines = omega (arith, b.lines); columns = omega (arith, b.columns); first = b.first; spaces = d; tab = λ k. absurd (omega arith) };
+          seat_bounds = record { inside = omega arith; lines = omega (arith, b.lines); columns = omega (arith, b.columns); first = b.first; beyond = omega (arith, b.first); spaces = d; tab = λ k. absurd (omega arith) };
           shown_bounds = rw same at.bounds;
           later = above-later (suc i) 0 i 0 (omega arith);
           shown_later = rw same (before-self i 0);
@@ -236,7 +236,7 @@ module _ (t : ℕ) (bytes : List ℕ) (d : 0 < t) where
       (record { is = rw e refl; shown = shown; bounds = bounds })
       (rw f refl)
       (next (suc l) 1 second.2 second.0 (shown-after bytes (suc l) 1 (suc i) 0 (λ k. let g : 10 ≡ 13 = sym second.1 ∙ k in absurd (omega arith)))
-      (record { inside = second.0; lines = omega (arith, bounds.lines); columns = omega arith; first = omega arith; spaces = d; tab = λ k. absurd (omega arith) }))
+      (record { inside = second.0; lines = omega (arith, bounds.lines); columns = omega arith; first = omega arith; beyond = omega arith; spaces = d; tab = λ k. absurd (omega arith) }))
 
   plain-chain : (l c i b : ℕ) (bs : List ℕ) → Next (suc i) bs → i < length bytes → slice_index bytes i ≡ b → b ≢ 10 → b ≢ 13 → b ≢ 9 → drop (suc i) bytes ≡ bs → drop i bytes ≡ b ∷ bs → IsShown bytes (point l c i 0) → Bounds t bytes (point l c i 0)
       → IsChain t bytes (point l c i 0) (other_byte b l c i ∷ virtual_from t l (suc c) (suc i) bs)
@@ -298,4 +298,4 @@ module _ (t : ℕ) (bytes : List ℕ) (d : 0 < t) where
   -- the virtual bytes of a document
   pub whole-chain : IsChain t bytes (point 1 1 0 0) (virtual t bytes)
   whole-chain = from-chain 0 bytes 1 1 refl (omega arith) (first-shown (slice_index bytes 0 == 10))
-      (record { inside = omega arith; lines = omega arith; columns = omega arith; first = omega arith; spaces = d; tab = λ k. absurd (omega arith) })
+      (record { inside = omega arith; lines = omega arith; columns = omega arith; first = omega arith; beyond = omega arith; spaces = d; tab = λ k. absurd (omega arith) })

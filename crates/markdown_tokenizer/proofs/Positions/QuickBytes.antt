@@ -40,8 +40,10 @@ module _ (t : ℕ) (bytes : List ℕ) (d : 0 < t) (p : Point) (place : IsPlace t
       (λ seat n b. tab-ends seat n w (λ k. h (sym b ∙ k)) (ap (λ (m : ℕ). goes_on t m p) b ∙ e))
 
   -- in a tab
-  pub quick-in-tab : (w : Bool) → 0 < p.vs → p.index < end → end ≤ length bytes → p.column ≢ 1 → goes_on t 32 p ≡ w → IsQuick t bytes p ready end 32 (cond w Tab Last)
-  quick-in-tab w inside before upto column e = quick-tab 32 w (seat-in-tab t bytes p d inside (omega (arith, before, upto))) before (inr column) (λ k. cc) e
+  pub quick-in-tab : (w : Bool) → 0 < p.vs → p.index < end → end ≤ length bytes → goes_on t 32 p ≡ w → IsQuick t bytes p ready end 32 (cond w Tab Last)
+  quick-in-tab w inside before upto e =
+      let beyond = place.bounds.beyond in
+      quick-tab 32 w (seat-in-tab t bytes p d inside (omega (arith, before, upto))) before (inr (λ k. absurd (omega (arith, inside, beyond, k)))) (λ k. cc) e
 
   -- not in a tab
   module _ (flat : p.vs ≡ 0) (before : p.index < ready) (upto : ready ≤ end) (inside : end ≤ length bytes) (byte : ℕ) (is : byte ≡ slice_index bytes p.index) where

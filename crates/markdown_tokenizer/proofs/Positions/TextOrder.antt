@@ -1,6 +1,6 @@
 -- The virtual bytes of a text are in order: each begins before it ends, and none begins before the previous one ends.
 use Rattle.std.specs.List.{AllByRecursion}
-use Rattle.std.proofs.Common.{◌≡◌, ◌≢◌, ℕ, zero, suc, ◌+◌, ◌<◌, ◌≤◌, List, [], ◌∷◌, ◌++◌, Bool, true, false, cond, Some, length, refl, sym, ap, ◌∙◌, subst, arith, inl, inr}
+use Rattle.std.proofs.Common.{◌≡◌, ◌≢◌, ℕ, zero, suc, ◌+◌, ◌<◌, ◌≤◌, List, [], ◌∷◌, ◌++◌, Bool, true, false, cond, Option, Some, None, length, refl, sym, ap, ◌∙◌, subst, arith, inl, inr}
 use Rattle.std.specs.Prelude.{slice_get, slice_index, drop, ◌==◌, nat_lt, not, ◌&&◌, ◌||◌, filter}
 use Rattle.std.proofs.lemmas.Bool.{ltb-true, eqb-true}
 use Rattle.std.proofs.lemmas.Bool.Decides.{nat_tests}
@@ -11,7 +11,7 @@ use Rattle.markdown_base.specs.Places.{stands_before, shown, IsShown, is_upto, d
 use Rattle.markdown_base.proofs.Common.{every-append, every-map, every-get}
 use Rattle.markdown_tokenizer.specs.declared.waiting.Waits.TheVariants.{Byte}
 use Rattle.markdown_tokenizer.specs.Text.{Given, Text, Piece, pushed, passed, IsText, empty_text, followed_by, followed_by_all, FitsAfter, CanFollow, in_range}
-use Rattle.markdown_tokenizer.specs.Sight.{sight_in}
+use Rattle.markdown_tokenizer.specs.Sight.{sight_in, byte_of, seat_before, end_or, end_place}
 use Rattle.markdown_tokenizer.proofs.Positions.Order.{before-self, above-later, below-before, more-before, not-before, not-before-in, is-not, after-before, before-upto, upto-before, later-later, every-both, every-all}
 use Rattle.markdown_tokenizer.proofs.Positions.Seats.{virtual-index, tab-index}
 use Rattle.markdown_tokenizer.proofs.Positions.Chains.{shown-other, shown-after}
@@ -357,3 +357,12 @@ ends-before_next g text (suc j) is inside =
     let good_before = good-get g.bytes text.seats j r order.order at_before in
     let follows = follows-get g.bytes text.seats j r s order.order at_before at in
     rw (at, at_before) (rw (good.1, good_before.1) (upto-before r.end.index r.end.vs s.point.index s.point.vs s.end.index s.end.vs follows.1 good.0))
+
+-- the place after a byte that was read is shown at itself
+pub read-shown : (g : Given) (text : Text) → IsText g text → (p byte : ℕ) → byte_of (seat_before text p) ≡ Some byte → IsShown g.bytes (end_place text p)
+read-shown g text is zero byte e = absurd cc
+read-shown g text is (suc q) byte e = found (slice_get text.seats q) refl e
+  where
+    found : (o : Option Seat) → slice_get text.seats q ≡ o → byte_of o ≡ Some byte → IsShown g.bytes (end_or text.start o)
+    found None at e = absurd cc
+    found (Some s) at e = (good-get g.bytes text.seats q s (text-order g text is).order at).1

@@ -61,7 +61,10 @@ impl<'a, M: MachineTypes> Tokenizer<'a, M> {
     pub fn current(&self) -> Option<u8>
         ensures { result ≡ (sight_of self.now).current }
     {
-        self.current
+        match self.waits {
+            Waits::Byte => Some(self.byte),
+            Waits::Nothing | Waits::End => None,
+        }
     }
 
     /// The names of the resolvers that are registered, none of them twice, in the order in which a flush runs them.

@@ -99,12 +99,21 @@ impl<'a, M: MachineTypes> Tokenizer<'a, M> {
             self.end.0,
         );
         match next {
-            Some((byte, moves)) => {
-                self.current = Some(byte);
-                self.waits = Waits::Byte;
-                self.moves = moves;
-                true
-            }
+            Some((byte, moves)) => match moves {
+                // Written once more, as here it is known what is stored: two of the stores become one.
+                Moves::Plain => {
+                    self.byte = byte;
+                    self.waits = Waits::Byte;
+                    self.moves = Moves::Plain;
+                    true
+                }
+                _ => {
+                    self.byte = byte;
+                    self.waits = Waits::Byte;
+                    self.moves = moves;
+                    true
+                }
+            },
             None => self.feed_apart(),
         }
     }
@@ -124,7 +133,7 @@ impl<'a, M: MachineTypes> Tokenizer<'a, M> {
         match next_byte(self.parse_state.bytes, *place, self.end) {
             None => false,
             Some(byte) => {
-                self.current = Some(byte);
+                self.byte = byte;
                 self.waits = Waits::Byte;
                 self.moves = Moves::Other;
                 true
@@ -139,7 +148,6 @@ impl<'a, M: MachineTypes> Tokenizer<'a, M> {
         ensures { self.new ≡ at_configuration self.old (fed self.old.text self.old.configuration) }
     {
         self.waits = Waits::End;
-        self.current = None;
         self.ended = true;
     }
 
@@ -186,7 +194,6 @@ impl<'a, M: MachineTypes> Tokenizer<'a, M> {
         self.events.truncate(from.events_len);
         self.stack.truncate(from.stack_len);
         self.waits = Waits::Nothing;
-        self.current = None;
         self.ready = ready_at(&self.skips, &from.after_previous, self.end.0);
         self.moves = Moves::Other;
         let name = match goal {
@@ -199,8 +206,8 @@ impl<'a, M: MachineTypes> Tokenizer<'a, M> {
         let again = resumed(&self.skips, &from.after_previous);
         match next_byte(bytes, *again, end) {
             Some(byte) => {
-                self.current = Some(byte);
                 self.waits = Waits::Byte;
+                self.byte = byte;
                 Ok(name)
             }
             None if flush => {

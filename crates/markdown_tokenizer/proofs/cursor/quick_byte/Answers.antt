@@ -24,10 +24,10 @@ pub returns-then-goes_on-2 : goal.returns-then-goes_on-2
 returns-then-goes_on-2 c =
     let r = c.requires in
     quick-in-tab c.args.t.now c.args.bytes.now r.some c.args.point.now r.place c.args.ready c.args.end true
-    c.if-point-gt0.true c.if-point-end.true r.inside c.if-point-ne1.true (sym c.goes_on-then-point-ne1.ensures ∙ c.if-goes_on-2.true)
+    c.if-point-gt0.true c.if-point-end.true r.inside (sym c.goes_on-then-point-end.ensures ∙ c.if-goes_on-2.true)
 
-pub returns-then-point-ne1 : goal.returns-then-point-ne1
-returns-then-point-ne1 c =
+pub returns-then-point-end : goal.returns-then-point-end
+returns-then-point-end c =
     let r = c.requires in
     quick-in-tab c.args.t.now c.args.bytes.now r.some c.args.point.now r.place c.args.ready c.args.end false
-    c.if-point-gt0.true c.if-point-end.true r.inside c.if-point-ne1.true (sym c.goes_on-then-point-ne1.ensures ∙ c.if-goes_on-2.false)
+    c.if-point-gt0.true c.if-point-end.true r.inside (sym c.goes_on-then-point-end.ensures ∙ c.if-goes_on-2.false)

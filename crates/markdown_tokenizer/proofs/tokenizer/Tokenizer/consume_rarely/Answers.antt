@@ -1,7 +1,7 @@
 use Rattle.std.proofs.Common.{ℕ, refl, sym, subst}
 use Rattle.markdown_tokenizer.specs.Cursor.{IsSeatAt}
 use Rattle.markdown_tokenizer.proofs.Inside.Fields.{wide_of}
-use Rattle.markdown_tokenizer.proofs.Inside.Steps.{byte-waits, consumed-sound, consumed-seen, byte-of-seat, place-at, seat-at}
+use Rattle.markdown_tokenizer.proofs.Inside.Steps.{byte-waits, consumed-sound, consumed-seen, place-at, seat-at}
 use Rattle.markdown_tokenizer.proofs.tokenizer.Tokenizer.consume_rarely.Goals as goal
 
 pub pass-requires : goal.pass-requires
@@ -15,7 +15,7 @@ pass-requires g c =
       some = wide_of t sound;
       limit = t.parse_state.now.limit;
       place = place-at t sound _ _ refl place;
-      next = (w.seat, seat-at t sound _ _ w.seat refl place w.at, byte-of-seat t sound w c.in-Some.byte c.in-Some.is);
+      next = (w.seat, seat-at t sound _ _ w.seat refl place w.at, sym w.is);
     })
 
 pub invariant_of-self : goal.invariant_of-self

@@ -1,4 +1,7 @@
 use Rattle.std.proofs.Common.{length, ◌≤◌, List, ℕ, sym, subst}
+use Rattle.markdown_tokenizer.specs.declared.waiting.Moves.{Moves}
+use Rattle.markdown_tokenizer.specs.declared.waiting.Moves.TheVariants.{Plain}
+use Rattle.markdown_tokenizer.specs.Cursor.{IsQuick}
 use Rattle.markdown_tokenizer.proofs.Inside.Steps.{end-inside, quick-more, quick-seen, quick-sound}
 use Rattle.markdown_tokenizer.proofs.tokenizer.Tokenizer.feed.Goals as goal
 
@@ -8,10 +11,23 @@ quick_byte-next-requires-clause-inside g c =
     subst (λ (own : List ℕ). t.end.0 ≤ length own) (sym sound.known.own_bytes) (end-inside t sound)
 
 pub invariant_of-self : goal.invariant_of-self
-invariant_of-self g c = quick-sound c.self.inside c.self.invariant c.in-Some.byte c.in-Some.moves c.in-Some.ensures
+invariant_of-self g c =
+    let t = c.self.inside in
+    let quick : IsQuick t.tab_size t.bytes.now t.after_previous t.ready t.end.0 c.in-Some.byte Plain =
+    subst (λ (moves : Moves). IsQuick t.tab_size t.bytes.now t.after_previous t.ready t.end.0 c.in-Some.byte moves) c.in-Plain.is c.in-Some.ensures in
+    quick-sound t c.self.invariant c.in-Some.byte Plain quick
 
-pub returns-in-Some-clause-fed : goal.returns-in-Some-clause-fed
-returns-in-Some-clause-fed g c = rw (← c.self.view_is) (quick-seen c.self.inside c.self.invariant c.in-Some.byte c.in-Some.moves c.in-Some.ensures)
+pub invariant_of-self-in_default : goal.invariant_of-self-in_default
+invariant_of-self-in_default g c = quick-sound c.self.inside c.self.invariant c.in-Some.byte c.in-Some.moves c.in-Some.ensures
 
-pub returns-in-Some-clause-more : goal.returns-in-Some-clause-more
-returns-in-Some-clause-more g c = rw (← c.self.view_is) (quick-more c.self.inside c.self.invariant c.in-Some.byte c.in-Some.moves c.in-Some.ensures)
+pub returns-in-Plain-clause-fed : goal.returns-in-Plain-clause-fed
+returns-in-Plain-clause-fed g c = rw (← c.self.view_is) (quick-seen c.self.inside c.self.invariant c.in-Some.byte c.in-Some.moves c.in-Some.ensures)
+
+pub returns-in-Plain-clause-more : goal.returns-in-Plain-clause-more
+returns-in-Plain-clause-more g c = rw (← c.self.view_is) (quick-more c.self.inside c.self.invariant c.in-Some.byte c.in-Some.moves c.in-Some.ensures)
+
+pub returns-in_default-clause-fed : goal.returns-in_default-clause-fed
+returns-in_default-clause-fed g c = rw (← c.self.view_is) (quick-seen c.self.inside c.self.invariant c.in-Some.byte c.in-Some.moves c.in-Some.ensures)
+
+pub returns-in_default-clause-more : goal.returns-in_default-clause-more
+returns-in_default-clause-more g c = rw (← c.self.view_is) (quick-more c.self.inside c.self.invariant c.in-Some.byte c.in-Some.moves c.in-Some.ensures)

@@ -26,7 +26,7 @@ invariant_of-result g c =
         text = rw (skips, here, none) (start-text tab apart.0 bytes p c.requires.place c.args.parse_state.now.options.now (record { bytes = c.bytes_are_below_256.ensures; tab = apart; limit = c.args.parse_state.now.limit; one_size = refl }));
         skips = rw skips tt;
         read = rw (skips, here) (read-start tab apart.0 bytes p c.requires.place);
-        waiting = refl;
+        waiting = tt;
         ended = λ h. absurd cc;
       };
       made = λ _. rw (events, stack) (start-made tab apart.0 bytes p c.requires.place);
