@@ -127,6 +127,8 @@ fn link_items(events: &mut Vec<Event>, previous: usize, next: usize)
 
 /// Makes room for an event. Events grow by a quarter, so that little of their memory is unused. If there is not so much memory, they
 /// grow by one event. If it runs out of memory, nothing changes.
+///
+/// It is cold: nearly always there is room.
 #[cold]
 #[inline(never)]
 fn make_room(events: &mut Vec<Event>) -> Result<(), AllocError>
@@ -288,6 +290,8 @@ impl<'a, M: MachineTypes> Tokenizer<'a, M> {
 
     /// As `consume`, whatever the byte is: after a gap, for a CR, at the end of the text, and for each byte that is fed while not
     /// enough is known.
+    ///
+    /// It is cold: nearly always `feed` tells how the place moves.
     #[cold]
     #[inline(never)]
     fn consume_rarely(&mut self)
@@ -330,7 +334,8 @@ impl<'a, M: MachineTypes> Tokenizer<'a, M> {
         self.enter_plain_apart(name)
     }
 
-    /// As `enter`, if there may be no room, or a gap. It has no link to hand on, so `enter` needs no memory for one.
+    /// As `enter`, if there may be no room, or a gap. It is cold, as both are rare. It takes no link: `enter` would write one to memory
+    /// at each call, to hand it on.
     #[cold]
     #[inline(never)]
     fn enter_plain_apart(&mut self, name: Name) -> Result<(), AllocError>
@@ -371,7 +376,7 @@ impl<'a, M: MachineTypes> Tokenizer<'a, M> {
         self.enter_apart(name, link)
     }
 
-    /// As `enter_with`, if there may be no room, or a gap.
+    /// As `enter_with`, if there may be no room, or a gap. It is cold, as both are rare.
     #[cold]
     #[inline(never)]
     fn enter_apart(&mut self, name: Name, link: Option<Link>) -> Result<(), AllocError>
@@ -407,7 +412,7 @@ impl<'a, M: MachineTypes> Tokenizer<'a, M> {
         Ok(())
     }
 
-    /// As `exit`, if there may be no room.
+    /// As `exit`, if there may be no room. It is cold: nearly always there is.
     #[cold]
     #[inline(never)]
     fn exit_apart(&mut self, name: Name) -> Result<(), AllocError>
