@@ -109,6 +109,7 @@ impl<'a, M: MachineTypes> Model for Tokenizer<'a, M> {
 }
 
 ghost use Rattle.std.specs.Prelude.{◌≡◌, ◌+◌, ◌-◌, ◌<◌, ◌≤◌, ◌∷◌, ◌++◌, [], length, take, OnOk, OnErr, None, Some, vec_capacity, vec_len};
+ghost use Rattle.std.specs.Bool.{OnTrue, OnFalse};
 ghost use Rattle.markdown_base.specs.Places.{IsPointOf};
 ghost use Rattle.markdown_tokenizer.specs.Text.{FitsAfter, followed_by, passed, empty_text, IsDocument};
 ghost use Rattle.markdown_tokenizer.specs.Configuration.{at_configuration, start_seen};
@@ -319,6 +320,29 @@ impl<'a, M: MachineTypes> Tokenizer<'a, M> {
         ensures ok { OnOk result (self.new ≡ with_enter name None self.old) }
         ensures err { OnErr result (self.new ≡ self.old) }
     {
+        if self.enter_here(name, None) {
+            return Ok(());
+        }
+        self.enter_plain_apart(name)
+    }
+
+    /// As `enter`, with a link. If it runs out of memory, events and stack stay as they were.
+    pub fn enter_link(&mut self, name: Name, link: Link) -> Result<(), AllocError>
+        ensures ok { OnOk result (self.new ≡ with_enter name (Some link) self.old) }
+        ensures err { OnErr result (self.new ≡ self.old) }
+    {
+        if self.enter_here(name, Some(link)) {
+            return Ok(());
+        }
+        self.enter_apart(name, Some(link))
+    }
+
+    /// Begins a span, with a link if one is given, if there is room, and no gap to look for, as nearly always. Returns whether it did.
+    #[inline(always)]
+    fn enter_here(&mut self, name: Name, link: Option<Link>) -> bool
+        ensures done { OnTrue result (self.new ≡ with_enter name link self.old) }
+        ensures same { OnFalse result (self.new ≡ self.old) }
+    {
         if self.events.len() < self.events.capacity()
             && self.stack.len() < self.stack.capacity()
             && is_where_more_is(&self.skips, &self.after_previous)
@@ -328,10 +352,10 @@ impl<'a, M: MachineTypes> Tokenizer<'a, M> {
                 self.previous.is_some(),
                 &self.after_previous,
             );
-            put_enter(&mut self.events, &mut self.stack, name, point, None);
-            return Ok(());
+            put_enter(&mut self.events, &mut self.stack, name, point, link);
+            return true;
         }
-        self.enter_plain_apart(name)
+        false
     }
 
     /// As `enter`, if there may be no room, or a gap. It is cold, as both are rare. It takes no link: `enter` would write one to memory
@@ -345,38 +369,8 @@ impl<'a, M: MachineTypes> Tokenizer<'a, M> {
         self.enter_apart(name, None)
     }
 
-    /// As `enter`, with a link. If it runs out of memory, events and stack stay as they were.
-    pub fn enter_link(&mut self, name: Name, link: Link) -> Result<(), AllocError>
-        ensures ok { OnOk result (self.new ≡ with_enter name (Some link) self.old) }
-        ensures err { OnErr result (self.new ≡ self.old) }
-    {
-        self.enter_with(name, Some(link))
-    }
-
-    /// Begins a span, with a link if one is given: what `enter` and `enter_link` do. If it runs out of memory, events and stack stay as
-    /// they were.
-    ///
-    /// Nearly always there is room, and no gap to look for. The other cases are in a cold function, called last.
-    fn enter_with(&mut self, name: Name, link: Option<Link>) -> Result<(), AllocError>
-        ensures ok { OnOk result (self.new ≡ with_enter name link self.old) }
-        ensures err { OnErr result (self.new ≡ self.old) }
-    {
-        if self.events.len() < self.events.capacity()
-            && self.stack.len() < self.stack.capacity()
-            && is_where_more_is(&self.skips, &self.after_previous)
-        {
-            let point = shown_after(
-                self.parse_state.bytes,
-                self.previous.is_some(),
-                &self.after_previous,
-            );
-            put_enter(&mut self.events, &mut self.stack, name, point, link);
-            return Ok(());
-        }
-        self.enter_apart(name, link)
-    }
-
-    /// As `enter_with`, if there may be no room, or a gap. It is cold, as both are rare.
+    /// As `enter_here`, if there may be no room, or a gap: begins a span, with a link if one is given. It is cold, as both are rare. If it
+    /// runs out of memory, events and stack stay as they were.
     #[cold]
     #[inline(never)]
     fn enter_apart(&mut self, name: Name, link: Option<Link>) -> Result<(), AllocError>
