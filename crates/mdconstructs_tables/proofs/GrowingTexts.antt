@@ -1,21 +1,5 @@
 -- Texts to which a piece is added, and events to which one is added.
-use Rattle.std.proofs.Common.{◌≡◌, ℕ, zero, suc, ◌+◌, ◌≤◌, ◌<◌, List, [], ◌∷◌, ◌++◌, Bool, true, false, cond, Option, Some, length, refl, sym, ap, ◌∙◌, arith, inl, inr, add-one, length-append}
-use Rattle.std.specs.Prelude.{slice_get, nat_lt, filter}
-use Rattle.std.specs.List.{last_or}
-use Rattle.std.proofs.lemmas.Option.{slice_get_cases}
-use Rattle.std.proofs.lemmas.List.{append-nil}
-use Rattle.markdown_base.specs.declared.event.Event.{Event}
-use Rattle.markdown_base.specs.declared.event.Point.{Point}
-use Rattle.markdown_base.specs.Virtual.{Seat, virtual}
-use Rattle.markdown_base.specs.Places.{denotes_same}
-use Rattle.markdown_base.specs.Events.{open_after, open_events_from}
-use Rattle.markdown_tokenizer.specs.declared.waiting.Waits.{Waits}
-use Rattle.markdown_tokenizer.specs.declared.waiting.Waits.TheVariants.{Nothing, Byte, End}
-use Rattle.markdown_tokenizer.specs.Text.{Given, Text, Piece, pushed, passed, followed_by, in_range}
-use Rattle.markdown_tokenizer.specs.Configuration.{Configuration}
-use Rattle.markdown_tokenizer.specs.Sight.{sight_in, end_place}
-use Rattle.markdown_tokenizer.specs.Reading.{fed}
-use Rattle.mdconstructs_tables.specs.RowInvariant.{IsFed}
+use Rattle.mdconstructs_tables.proofs.Prelude.{◌≡◌, ℕ, zero, suc, ◌+◌, ◌≤◌, ◌<◌, List, [], ◌∷◌, ◌++◌, Bool, true, false, cond, Option, Some, length, refl, sym, ap, ◌∙◌, arith, inl, inr, add-one, length-append, slice_get, nat_lt, filter, last_or, slice_get_cases, append-nil, Event, Point, Seat, virtual, denotes_same, open_after, open_events_from, Waits, Nothing, Byte, End, Given, Text, Piece, pushed, passed, followed_by, in_range, Configuration, sight_in, end_place, fed, IsFed}
 
 -- the seat of a byte that waits
 abbrev pub SeatAt : Text → ℕ → Type 0

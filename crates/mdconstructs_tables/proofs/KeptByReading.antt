@@ -1,17 +1,5 @@
 -- What calls, feeding and the ends of choices keep holds where a reading ends, if it holds where the reading begins.
-use Rattle.std.proofs.Common.{◌≡◌, ℕ, zero, suc, ◌+◌, List, [], ◌∷◌, ◌++◌, Bool, Option, Some, None, refl, sym, subst}
-use Rattle.std.specs.Prelude.{Contains}
-use Rattle.markdown_base.specs.declared.message.Message.{Message}
-use Rattle.markdown_base.specs.declared.state.Name.{Name}
-use Rattle.markdown_base.specs.declared.state.State.{State}
-use Rattle.markdown_base.specs.declared.state.State.TheVariants.{Next, Retry, Ok, Nok, Error}
-use Rattle.markdown_tokenizer.specs.Text.{Given, Text, IsText, empty_text}
-use Rattle.markdown_tokenizer.specs.Configuration.{Configuration, Choice, Step, start_configuration}
-use Rattle.markdown_tokenizer.specs.Rules.{Rules}
-use Rattle.markdown_tokenizer.specs.Lawful.{KeepsInvariant}
-use Rattle.markdown_tokenizer.proofs.Runs.Working.{holds-on}
-use Rattle.markdown_tokenizer.specs.Sight.{Sight, sight}
-use Rattle.markdown_tokenizer.specs.Reading.{Reading, EndsIn, fed, settled_at, more_calls, settle, after_choices, read}
+use Rattle.mdconstructs_tables.proofs.Prelude.{◌≡◌, ℕ, zero, suc, ◌+◌, List, [], ◌∷◌, ◌++◌, Bool, Option, Some, None, refl, sym, subst, Contains, Message, Name, State, Next, Retry, Ok, Nok, Error, Given, Text, IsText, empty_text, Configuration, Choice, Step, start_configuration, Rules, KeepsInvariant, holds-on, Sight, sight, Reading, EndsIn, fed, settled_at, more_calls, settle, after_choices, read}
 
 -- Calls, feeding and the ends of choices keep this of a configuration, the choices that wait and the state at hand
 pub record IsKept {R D : Type 0} (g : Given) (step : Sight → Configuration R D → Name → Step R D) (text : Text) (P : Configuration R D → List Choice → State → Type 0) : Type 0 where

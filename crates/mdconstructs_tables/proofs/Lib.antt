@@ -1,6 +1,7 @@
-pub mod LinkShapes
-pub mod Markers
 pub mod GrowingTexts
 pub mod KeptByReading
+pub mod LinkShapes
+pub mod Markers
+pub mod Prelude
 pub mod Rows
 pub mod Tables

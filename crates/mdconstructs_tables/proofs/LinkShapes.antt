@@ -1,13 +1,5 @@
 -- The links of events stay in shape if events are added, and if two are linked.
-use Rattle.std.proofs.Common.{◌≡◌, ℕ, zero, suc, ◌+◌, ◌<◌, ◌≤◌, List, [], ◌∷◌, ◌++◌, Option, Some, None, length, refl, sym, ap, ◌∙◌, subst, arith, ◌⊎◌, inl, inr, length-append}
-use Rattle.std.specs.Prelude.{All, IfSome, slice_get, option_map, option_and_then}
-use Rattle.std.proofs.lemmas.List.Elements.{All-cons, All-head, All-tail, All-push, All-weaker}
-use Rattle.markdown_base.specs.declared.event.Event.{Event}
-use Rattle.markdown_base.specs.declared.event.Link.{Link}
-use Rattle.markdown_base.specs.Events.{EachEnd, EndsBelow}
-use Rattle.markdown_edits.specs.Links.{next_set, previous_set, with_next, with_previous, updated_at, linked_to, next_of, previous_of}
-use Rattle.markdown_edits.proofs.LinkEnds.{updated-length}
-use Rattle.mdconstructs_tables.specs.LinkShapes.{next_end, previous_end, AreInShape}
+use Rattle.mdconstructs_tables.proofs.Prelude.{◌≡◌, ℕ, zero, suc, ◌+◌, ◌<◌, ◌≤◌, List, [], ◌∷◌, ◌++◌, Option, Some, None, length, refl, sym, ap, ◌∙◌, subst, arith, ◌⊎◌, inl, inr, length-append, All, IfSome, slice_get, option_map, option_and_then, All-cons, All-head, All-tail, All-push, All-weaker, Event, Link, EachEnd, EndsBelow, next_set, previous_set, with_next, with_previous, updated_at, linked_to, next_of, previous_of, updated-length, next_end, previous_end, AreInShape}
 
 same-or-not : (i p : ℕ) → (i ≡ p) ⊎ (i ≡ p → ⊥)
 same-or-not zero zero = inl refl

@@ -1,20 +1,6 @@
 -- A byte that waits can be a span of its own.
-use Rattle.std.proofs.Common.{◌≡◌, ℕ, ◌<◌, ◌≤◌, List, [], ◌∷◌, ◌++◌, true, Option, Some, None, length, refl, sym, ap, ◌∙◌, subst, arith, length-append}
-use Rattle.std.specs.Prelude.{All, IfSome}
-use Rattle.std.specs.List.{last_or}
-use Rattle.std.proofs.lemmas.List.Elements.{All-weaker}
-use Rattle.markdown_base.specs.declared.event.Event.{Event}
-use Rattle.markdown_base.specs.declared.event.Kind.TheVariants.{Enter}
+use Rattle.mdconstructs_tables.proofs.Prelude.{◌≡◌, ℕ, ◌<◌, ◌≤◌, List, [], ◌∷◌, ◌++◌, true, Option, Some, None, length, refl, sym, ap, ◌∙◌, subst, arith, length-append, All, IfSome, last_or, All-weaker, Event, Enter, open_events, stands_before, Nothing, Byte, Choice, Saved, TokenizerValue, at_configuration, sight_of, CanExit, consumed, entered, StateRows, IsBelow, IsAtState, IsMarkable}
 use Rattle.markdown_base.specs.declared.event.Name.{Name}
-use Rattle.markdown_base.specs.Events.{open_events}
-use Rattle.markdown_base.specs.Places.{stands_before}
-use Rattle.markdown_tokenizer.specs.declared.waiting.Waits.TheVariants.{Nothing, Byte}
-use Rattle.markdown_tokenizer.specs.Configuration.{Choice, Saved, TokenizerValue, at_configuration}
-use Rattle.markdown_tokenizer.specs.Sight.{sight_of}
-use Rattle.markdown_tokenizer.specs.Calls.{CanExit, consumed, entered}
-use Rattle.mdconstructs_tables.specs.Rows.{StateRows}
-use Rattle.mdconstructs_tables.specs.RowInvariant.{IsBelow, IsAtState}
-use Rattle.mdconstructs_tables.specs.Markers.{IsMarkable}
 use Rattle.mdconstructs_tables.proofs.GrowingTexts.{open-more, last-more, next-left}
 
 longer : (base more stack : List Name) (saved : Option Saved) → stack ≡ base ++ more → IfSome saved (λ s. length s.stack ≤ length base) → IfSome saved (λ s. length s.stack ≤ length stack)

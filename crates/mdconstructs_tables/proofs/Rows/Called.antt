@@ -1,15 +1,6 @@
 -- What the prover finds by itself in the code of a machine: a state that is called may be called.
-use Rattle.std.proofs.Common.{◌≡◌, ◌==◌, ℕ, List, [], ◌∷◌, true, false, cond, Option, Some, ◌⊎◌, inl, inr, refl, sym, ap, ◌∙◌, arith}
-use Rattle.std.proofs.lemmas.Bool.Decides.{nat_tests}
+use Rattle.mdconstructs_tables.proofs.Prelude.{◌≡◌, ◌==◌, ℕ, List, [], ◌∷◌, true, false, cond, Option, Some, ◌⊎◌, inl, inr, refl, sym, ap, ◌∙◌, arith, nat_tests, Name, Retry, CanExit, Local, TokenizerValue, sight_of, marked, enter, exit, consume, StateRows, Table, class_of, named, table_holds, begun, IsCallable}
 use Rattle.markdown_base.specs.declared.event.Name.{Name as EventName}
-use Rattle.markdown_base.specs.declared.state.Name.{Name}
-use Rattle.markdown_base.specs.declared.state.State.TheVariants.{Retry}
-use Rattle.markdown_tokenizer.specs.Calls.{CanExit}
-use Rattle.markdown_tokenizer.specs.Configuration.{Local, TokenizerValue}
-use Rattle.markdown_tokenizer.specs.Sight.{sight_of}
-use Rattle.mdconstructs_tables.specs.Markers.{marked}
-use Rattle.mdconstructs_tables.specs.Rows.{enter, exit, consume, StateRows, Table, class_of, named}
-use Rattle.mdconstructs_tables.specs.RowInvariant.{table_holds, begun, IsCallable}
 use Rattle.mdconstructs_tables.proofs.Rows.Calls.{are_allowed, callable, can-exit}
 
 -- one of these states has the name, and can be called

@@ -1,32 +1,8 @@
 -- What the code of a state may do where it is called, from the test of its acts.
-use Rattle.std.proofs.Common.{◌≡◌, ◌≢◌, ◌==◌, ℕ, ◌<◌, ◌≤◌, ◌&&◌, ◌||◌, not, List, [], ◌∷◌, ◌++◌, Bool, true, false, cond, Option, Some, None, length, map, refl, sym, ap, ◌∙◌, subst, arith, append_assoc, length-append}
-use Rattle.std.specs.Prelude.{All, IfSome, reverse}
-use Rattle.std.specs.List.{last_or}
-use Rattle.std.proofs.lemmas.Bool.Decides.{nat_tests}
-use Rattle.std.proofs.lemmas.List.Elements.{All-head, All-tail, All-weaker}
-use Rattle.std.proofs.lemmas.Bool.{and_parts}
-use Rattle.std.proofs.lemmas.Option.{slice_get_past}
-use Rattle.markdown_base.specs.declared.event.Event.{Event}
-use Rattle.markdown_base.specs.declared.event.Kind.TheVariants.{Enter}
+use Rattle.mdconstructs_tables.proofs.Prelude.{◌≡◌, ◌≢◌, ◌==◌, ℕ, ◌<◌, ◌≤◌, ◌&&◌, ◌||◌, not, List, [], ◌∷◌, ◌++◌, Bool, true, false, cond, Option, Some, None, length, map, refl, sym, ap, ◌∙◌, subst, arith, append_assoc, length-append, All, IfSome, reverse, last_or, nat_tests, All-head, All-tail, All-weaker, and_parts, slice_get_past, Event, Enter, Name, Retry, open_events, is_void, unlinked, stands_before, or-leads, Waits, Nothing, Byte, End, Text, Configuration, Local, Choice, Saved, TokenizerValue, sight, sight_of, byte_of, CanExit, IsAsFar, Act, enters, exit, consume, links, write, choose, done, with_choice_of, StateRows, Called, Table, class_of, does, chooses, named, Stage, end_waits, byte_waits, byte_read, Shape, is_last, allows_all, after_all, start_shape, is_called_at, is_some, EndsWithEnter, since, IsFed, class_in, begun, IsBelow, table_holds, IsAtState, once_read, CanEnd, IsCallable, IsMarkable}
 use Rattle.markdown_base.specs.declared.event.Name.{Name as EventName}
-use Rattle.markdown_base.specs.declared.state.Name.{Name}
-use Rattle.markdown_base.specs.declared.state.State.TheVariants.{Retry}
-use Rattle.markdown_base.specs.Events.{open_events, is_void, unlinked}
-use Rattle.markdown_base.specs.Places.{stands_before}
-use Rattle.markdown_base.proofs.Common.{or-leads}
-use Rattle.markdown_tokenizer.specs.declared.waiting.Waits.{Waits}
-use Rattle.markdown_tokenizer.specs.declared.waiting.Waits.TheVariants.{Nothing, Byte, End}
-use Rattle.markdown_tokenizer.specs.Text.{Text}
-use Rattle.markdown_tokenizer.specs.Configuration.{Configuration, Local, Choice, Saved, TokenizerValue}
-use Rattle.markdown_tokenizer.specs.Sight.{sight, sight_of, byte_of}
-use Rattle.markdown_tokenizer.specs.Calls.{CanExit}
-use Rattle.markdown_tokenizer.specs.Lawful.{IsAsFar}
-use Rattle.mdconstructs_tables.specs.Rows.{Act, enters, exit, consume, links, write, choose, done, with_choice_of, StateRows, Called, Table, class_of, does, chooses, named}
-use Rattle.mdconstructs_tables.specs.RowTest.{Stage, end_waits, byte_waits, byte_read, Shape, is_last, allows_all, after_all, start_shape, is_called_at, is_some}
-use Rattle.mdconstructs_tables.specs.RowInvariant.{EndsWithEnter, since, IsFed, class_in, begun, IsBelow, table_holds, IsAtState, once_read, CanEnd, IsCallable}
 use Rattle.mdconstructs_tables.proofs.Rows.Laws.{Waited, reached, sight_at, HasShape, below_all, is-last, last-above, last-long, to-before, open-unlinked, left-at, here-at, has-after-all, does-then, chooses-then, allows-then, allows-front}
 use Rattle.mdconstructs_tables.proofs.GrowingTexts.{next-left}
-use Rattle.mdconstructs_tables.specs.Markers.{IsMarkable}
 use Rattle.mdconstructs_tables.proofs.Markers.{markable, stack-below}
 use Rattle.mdconstructs_tables.proofs.Tables.Holding.{met-at, read-before, ahead-at, start-sight, begins}
 

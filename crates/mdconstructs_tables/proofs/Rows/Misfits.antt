@@ -1,13 +1,5 @@
 -- What the test of a table says of each state if it names none.
-use Rattle.std.proofs.Common.{◌≡◌, ◌==◌, List, [], ◌∷◌, ◌++◌, Bool, true, false, cond, Option, Some, refl, subst, arith}
-use Rattle.std.proofs.lemmas.Bool.Decides.{nat_tests}
-use Rattle.std.specs.Prelude.{All, filter, None}
-use Rattle.std.specs.List.{flat_map}
-use Rattle.std.proofs.lemmas.List.Elements.{All-nil, All-cons}
-use Rattle.markdown_base.specs.declared.state.Name.{Name}
-use Rattle.mdconstructs_tables.specs.Rows.{StateRows, named}
-use Rattle.mdconstructs_tables.specs.RowTest.{all_rows, fits_row, fits_calls, is_called, may_start}
-use Rattle.mdconstructs_tables.specs.Misfits.{Reason, act, spans, choice, answer, unpaid, start, unless, with_reason, acts_fit, spans_fit, choices_fit, misfit, named_misfit, named_start}
+use Rattle.mdconstructs_tables.proofs.Prelude.{◌≡◌, ◌==◌, List, [], ◌∷◌, ◌++◌, Bool, true, false, cond, Option, Some, refl, subst, arith, nat_tests, All, filter, None, flat_map, All-nil, All-cons, Name, StateRows, named, all_rows, fits_row, fits_calls, is_called, may_start, Reason, act, spans, choice, answer, unpaid, start, unless, with_reason, acts_fit, spans_fit, choices_fit, misfit, named_misfit, named_start}
 
 pub none-left : {A : Type 0} (xs ys : List A) → xs ++ ys ≡ [] → (xs ≡ []) × (ys ≡ [])
 none-left [] ys h = (refl, h)

@@ -1,34 +1,10 @@
 -- The calls of a machine whose table passes the test are paid for.
-use Rattle.std.proofs.Common.{◌≡◌, ℕ, ◌+◌, ◌-◌, ◌<◌, ◌≤◌, ◌&&◌, List, [], ◌∷◌, Bool, true, false, cond, Option, Some, None, length, refl, sym, subst, arith, sum_by}
-use Rattle.std.specs.Prelude.{nat_lt, max, not, IfSome}
-use Rattle.std.specs.List.{last_or}
-use Rattle.std.proofs.Math.Nat.{mul-le-mul_left, mul-le-mul_right}
-use Rattle.std.proofs.lemmas.Bool.{leb-true, ltb-true, ltb-false, and_parts}
-use Rattle.std.proofs.lemmas.Option.{slice_get_past}
-use Rattle.std.proofs.lemmas.List.Sums.{sum_by-cons}
-use Rattle.markdown_base.specs.declared.event.Event.{Event}
+use Rattle.mdconstructs_tables.proofs.Prelude.{◌≡◌, ℕ, ◌+◌, ◌-◌, ◌<◌, ◌≤◌, ◌&&◌, List, [], ◌∷◌, Bool, true, false, cond, Option, Some, None, length, refl, sym, subst, arith, sum_by, nat_lt, max, not, IfSome, last_or, mul-le-mul_left, mul-le-mul_right, leb-true, ltb-true, ltb-false, and_parts, slice_get_past, sum_by-cons, Event, Name, State, Next, Retry, Ok, Nok, Error, AttemptKind, Attempt, Check, Given, Text, IsText, Configuration, Choice, Saved, Sight, sight, byte_of, consumed, with_local, fed, unfed, restored, settled_at, IsAsFar, CostPays, Act, enters, exit, consume, links, write, choose, Rows, row, when, Row, Calls, StateRows, Table, past, class_of, choice_made_at, done, chooses, picked, named, table_step, is_void_last, saves, Stage, end_waits, byte_waits, byte_read, Shape, Frame, may_go_on, fits_choice, fits_answer, fits_calls, is_some, first_stage, plus, larger, at_stage, calls_le, calls_or, fed_calls, next_calls, choice_calls, chosen_calls, answer_calls, calls_at, is_counted, counts_answer, counts_choice, counts_choices, pays_row, feeds, all_rows, is_called_at, is_called, outline, IsSaved, price_by, at_most, IsStateAt, next_price, retry_price, state_price, choice_price, chosen_price, answer_price, row_price, AreWithin, Stands, is_read, behind, class_at, PaysRows, ArePaid, table_holds, table_cost, reserve_of, table_rules, upto, exit_place_at, fresh_fed, falls_on, CanGoBack, Falls, AllFall, IsFitBy, IsFit, every}
 use Rattle.markdown_base.specs.declared.event.Name.{Name as EventName}
-use Rattle.markdown_base.specs.declared.state.Name.{Name}
-use Rattle.markdown_base.specs.declared.state.State.{State}
-use Rattle.markdown_base.specs.declared.state.State.TheVariants.{Next, Retry, Ok, Nok, Error}
-use Rattle.markdown_tokenizer.specs.declared.waiting.AttemptKind.{AttemptKind}
-use Rattle.markdown_tokenizer.specs.declared.waiting.AttemptKind.TheVariants.{Attempt, Check}
-use Rattle.markdown_tokenizer.specs.Text.{Given, Text, IsText}
-use Rattle.markdown_tokenizer.specs.Configuration.{Configuration, Choice, Saved}
-use Rattle.markdown_tokenizer.specs.Sight.{Sight, sight, byte_of}
-use Rattle.markdown_tokenizer.specs.Calls.{consumed, with_local}
-use Rattle.markdown_tokenizer.specs.Reading.{fed, unfed, restored, settled_at}
-use Rattle.markdown_tokenizer.specs.Lawful.{IsAsFar, CostPays}
-use Rattle.mdconstructs_tables.specs.Rows.{Act, enters, exit, consume, links, write, choose, Rows, row, when, Row, Calls, StateRows, Table, past, class_of, choice_made_at, done, chooses, picked, named, table_step}
-use Rattle.mdconstructs_tables.specs.RowTest.{is_void_last, saves, Stage, end_waits, byte_waits, byte_read, Shape, Frame, may_go_on, fits_choice, fits_answer, fits_calls, is_some, first_stage, plus, larger, at_stage, calls_le, calls_or, fed_calls, next_calls, choice_calls, chosen_calls, answer_calls, calls_at, is_counted, counts_answer, counts_choice, counts_choices, pays_row, feeds, all_rows, is_called_at, is_called}
-use Rattle.mdconstructs_tables.specs.RowInvariant.{outline, IsSaved, price_by, at_most, IsStateAt, next_price, retry_price, state_price, choice_price, chosen_price, answer_price, row_price, AreWithin, Stands, is_read, behind, class_at, PaysRows, ArePaid, table_holds, table_cost, reserve_of, table_rules, upto, exit_place_at}
-use Rattle.mdconstructs_tables.specs.RowTest.{fresh_fed}
-use Rattle.mdconstructs_tables.specs.Late.{falls_on, CanGoBack}
 use Rattle.mdconstructs_tables.proofs.Rows.Misfits.{named-same}
 use Rattle.mdconstructs_tables.proofs.Rows.Laws.{Waited, reached}
 use Rattle.mdconstructs_tables.proofs.GrowingTexts.{seat-at}
 use Rattle.mdconstructs_tables.proofs.Tables.Holding.{read-before, waits-at, of_class, before_class, row_of, left_by}
-use Rattle.mdconstructs_tables.specs.Fitting.{Falls, AllFall, IsFitBy, IsFit, every}
 use Rattle.mdconstructs_tables.proofs.Tables.Laws.{picked-passes, each-call, state-fits}
 
 -- Calls

@@ -1,22 +1,5 @@
 -- The laws of two machines in one, from the laws of each.
-use Rattle.std.proofs.Common.{◌≡◌, ◌+◌, ◌≤◌, inl, inr, List, [], ◌∷◌, ◌++◌, Bool, true, false, cond, Option, Some, None, refl, sym, ap, ◌∙◌, subst, arith, ◌==◌}
-use Rattle.std.specs.Prelude.{sum_by}
-use Rattle.std.proofs.lemmas.Bool.Decides.{nat_tests}
-use Rattle.std.proofs.lemmas.List.Elements.{Contains-append_cases}
-use Rattle.std.proofs.lemmas.Bool.{false_from_ne_true}
-use Rattle.markdown_base.specs.declared.event.Point.{Point}
-use Rattle.markdown_base.specs.declared.state.Name.{Name}
-use Rattle.markdown_base.specs.declared.state.State.{State}
-use Rattle.markdown_base.specs.declared.state.State.TheVariants.{Next, Retry, Ok, Nok, Error}
-use Rattle.markdown_tokenizer.specs.Text.{Given, Text, IsText}
-use Rattle.markdown_tokenizer.specs.Configuration.{Configuration, Choice, Step}
-use Rattle.markdown_tokenizer.specs.Sight.{sight}
-use Rattle.markdown_tokenizer.specs.Rules.{Rules}
-use Rattle.markdown_tokenizer.specs.Lawful.{ForEachCall, ConsumesOnce, OnlyAdds, EndsWhenRead, KeepsInvariant, CostPays, ResolversKeep}
-use Rattle.mdconstructs_tables.specs.Rows.{StateRows, Table, named}
-use Rattle.mdconstructs_tables.specs.RowTest.{is_some}
-use Rattle.mdconstructs_tables.specs.RowInvariant.{IsStateAt, table_holds}
-use Rattle.mdconstructs_tables.specs.Joined.{AreApart, has_state, joined_cost, joined_rules}
+use Rattle.mdconstructs_tables.proofs.Prelude.{◌≡◌, ◌+◌, ◌≤◌, inl, inr, List, [], ◌∷◌, ◌++◌, Bool, true, false, cond, Option, Some, None, refl, sym, ap, ◌∙◌, subst, arith, ◌==◌, sum_by, nat_tests, Contains-append_cases, false_from_ne_true, Point, Name, State, Next, Retry, Ok, Nok, Error, Given, Text, IsText, Configuration, Choice, Step, sight, Rules, ForEachCall, ConsumesOnce, OnlyAdds, EndsWhenRead, KeepsInvariant, CostPays, ResolversKeep, StateRows, Table, named, is_some, IsStateAt, table_holds, AreApart, has_state, joined_cost, joined_rules}
 
 either : (b : Bool) → b ≡ true → b ≡ false → ⊥
 either true e f = cc

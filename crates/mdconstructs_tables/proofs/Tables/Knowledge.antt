@@ -1,21 +1,5 @@
 -- The laws of a machine that knows more than its table says, from the table's laws and from what each row keeps.
-use Rattle.std.proofs.Common.{◌≡◌, List, [], ◌∷◌, Bool, true, false, cond, Option, Some, refl, sym, subst, ◌==◌, arith}
-use Rattle.std.specs.Prelude.{nat_lt, length}
-use Rattle.std.proofs.lemmas.List.Elements.{All-contains}
-use Rattle.std.proofs.lemmas.Bool.Decides.{nat_tests}
-use Rattle.markdown_base.specs.declared.event.Event.{Event}
-use Rattle.markdown_base.specs.declared.state.Name.{Name}
-use Rattle.markdown_base.specs.declared.state.State.{State}
-use Rattle.markdown_base.specs.declared.state.State.TheVariants.{Next, Retry}
-use Rattle.markdown_tokenizer.specs.declared.waiting.Waits.TheVariants.{Byte, End}
-use Rattle.markdown_tokenizer.specs.Text.{Given}
-use Rattle.markdown_tokenizer.specs.Configuration.{Configuration, Local, Choice, start_configuration}
-use Rattle.markdown_tokenizer.specs.Sight.{Sight, sight}
-use Rattle.markdown_tokenizer.specs.Calls.{with_local}
-use Rattle.markdown_tokenizer.specs.Lawful.{IsAsFar, ConsumesOnce, OnlyAdds, EndsWhenRead, KeepsInvariant, CostPays, ResolversKeep}
-use Rattle.mdconstructs_tables.specs.Rows.{Rows, row, when, Row, StateRows, Table, class_of, picked, step_of, named, step_at, table_step}
-use Rattle.mdconstructs_tables.specs.Fitting.{IsFit}
-use Rattle.mdconstructs_tables.specs.Knowledge.{EachRow, LeavesShape, KnownAfter, KeepsKnowing, AllKeepKnowing, IsKnown, knowing_rules}
+use Rattle.mdconstructs_tables.proofs.Prelude.{◌≡◌, List, [], ◌∷◌, Bool, true, false, cond, Option, Some, refl, sym, subst, ◌==◌, arith, nat_lt, length, All-contains, nat_tests, Event, Name, State, Next, Retry, Byte, End, Given, Configuration, Local, Choice, start_configuration, Sight, sight, with_local, IsAsFar, ConsumesOnce, OnlyAdds, EndsWhenRead, KeepsInvariant, CostPays, ResolversKeep, Rows, row, when, Row, StateRows, Table, class_of, picked, step_of, named, step_at, table_step, IsFit, EachRow, LeavesShape, KnownAfter, KeepsKnowing, AllKeepKnowing, IsKnown, knowing_rules}
 use Rattle.mdconstructs_tables.proofs.Tables.Laws.{is-call, table-consumes_once, table-only_adds, table-ends_when_read, table-invariant_kept}
 use Rattle.mdconstructs_tables.proofs.Tables.Costs.{table-cost_pays}
 

@@ -1,22 +1,5 @@
 -- The laws of a machine whose choices end with Ok late, from the test of its table.
-use Rattle.std.proofs.Common.{◌≡◌, ℕ, ◌+◌, ◌<◌, ◌≤◌, ◌||◌, not, List, [], ◌∷◌, ◌++◌, Bool, true, false, Option, Some, refl, sym, ap, subst, arith, inl, inr}
-use Rattle.std.specs.Prelude.{filter, IfSome}
-use Rattle.std.proofs.lemmas.Bool.{and_parts, not-false}
-use Rattle.markdown_base.specs.declared.state.Name.{Name}
-use Rattle.markdown_base.specs.declared.state.State.{State}
-use Rattle.markdown_base.specs.declared.state.State.TheVariants.{Next, Retry, Ok, Nok, Error}
-use Rattle.markdown_base.proofs.Common.{none-mapped}
-use Rattle.markdown_tokenizer.specs.declared.waiting.AttemptKind.{AttemptKind}
-use Rattle.markdown_tokenizer.specs.declared.waiting.AttemptKind.TheVariants.{Attempt, Check}
-use Rattle.markdown_tokenizer.specs.Text.{Given, Text, IsText, followed_by}
-use Rattle.markdown_tokenizer.specs.Configuration.{Configuration, Choice, Step}
-use Rattle.markdown_tokenizer.specs.Sight.{Sight, sight}
-use Rattle.markdown_tokenizer.specs.Calls.{consumed, with_local, saved_at}
-use Rattle.markdown_tokenizer.specs.Reading.{settled_at}
-use Rattle.markdown_tokenizer.specs.Lawful.{ConsumesOnce, OnlyAdds, EndsWhenRead, KeepsInvariant, CostPays}
-use Rattle.mdconstructs_tables.specs.Rows.{Act, enters, exit, consume, links, write, choose, StateRows, Table, past, class_of, choice_made_at, done, does, chooses, named, step_at, table_step}
-use Rattle.mdconstructs_tables.specs.RowInvariant.{table_holds}
-use Rattle.mdconstructs_tables.specs.Late.{falls_on, CanGoBack, is_early_end, is_early, fits_late, are_late, is_at_last, is_late_row, is_late_state, AreFallingBehind, IsLate, late_holds, late_rules}
+use Rattle.mdconstructs_tables.proofs.Prelude.{◌≡◌, ℕ, ◌+◌, ◌<◌, ◌≤◌, ◌||◌, not, List, [], ◌∷◌, ◌++◌, Bool, true, false, Option, Some, refl, sym, ap, subst, arith, inl, inr, filter, IfSome, and_parts, not-false, Name, State, Next, Retry, Ok, Nok, Error, none-mapped, AttemptKind, Attempt, Check, Given, Text, IsText, followed_by, Configuration, Choice, Step, Sight, sight, consumed, with_local, saved_at, settled_at, ConsumesOnce, OnlyAdds, EndsWhenRead, KeepsInvariant, CostPays, Act, enters, exit, consume, links, write, choose, StateRows, Table, past, class_of, choice_made_at, done, does, chooses, named, step_at, table_step, table_holds, falls_on, CanGoBack, is_early_end, is_early, fits_late, are_late, is_at_last, is_late_row, is_late_state, AreFallingBehind, IsLate, late_holds, late_rules}
 use Rattle.mdconstructs_tables.proofs.Rows.Misfits.{named-out, named-same}
 use Rattle.mdconstructs_tables.proofs.Rows.Laws.{chooses-append}
 use Rattle.mdconstructs_tables.proofs.GrowingTexts.{Extends, extends, fed-position, waits-longer}

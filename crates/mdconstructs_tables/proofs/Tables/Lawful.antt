@@ -1,22 +1,6 @@
 -- Rules of tables are lawful: of a plain table, of one whose choices end with Ok late, of one that knows more, and of two in one.
-use Rattle.markdown_base.specs.declared.event.Event.{Event}
-use Rattle.std.specs.Prelude.{Bool, List, Option}
-use Rattle.markdown_base.specs.declared.state.Name.{Name}
-use Rattle.markdown_base.specs.declared.state.State.{State}
-use Rattle.markdown_tokenizer.specs.Text.{Given}
-use Rattle.markdown_tokenizer.specs.Configuration.{Local, Choice}
-use Rattle.markdown_tokenizer.specs.Lawful.{IsLawful}
-use Rattle.markdown_tokenizer.specs.Plain.{KeepsPlain, plain}
-use Rattle.markdown_tokenizer.specs.Rules.{Rules}
+use Rattle.mdconstructs_tables.proofs.Prelude.{Event, Bool, List, Option, Name, State, Given, Local, Choice, IsLawful, KeepsPlain, plain, Rules, Table, table_step, IsFit, AreApart, joined_rules, IsKnown, knowing_rules, IsLate, late_rules, IsPlainTable, WritesPlain, table_rules}
 use Rattle.markdown_tokenizer.proofs.Readings.Plain as machines
-use Rattle.mdconstructs_tables.specs.Rows.{Table, table_step}
-use Rattle.mdconstructs_tables.specs.Fitting.{IsFit}
-use Rattle.mdconstructs_tables.specs.Joined.{AreApart, joined_rules}
-use Rattle.mdconstructs_tables.specs.Knowledge.{IsKnown, knowing_rules}
-use Rattle.mdconstructs_tables.specs.Late.{IsLate, late_rules}
-use Rattle.mdconstructs_tables.specs.PlainTables.{IsPlainTable}
-use Rattle.mdconstructs_tables.specs.PlainWrites.{WritesPlain}
-use Rattle.mdconstructs_tables.specs.RowInvariant.{table_rules}
 use Rattle.mdconstructs_tables.proofs.Tables.Costs.{table-cost_pays}
 use Rattle.mdconstructs_tables.proofs.Tables.Joined.{joined-consumes_once, joined-only_adds, joined-ends_when_read, joined-invariant_kept, joined-cost_pays, joined-resolvers_keep}
 use Rattle.mdconstructs_tables.proofs.Tables.Knowledge.{knowing-consumes_once, knowing-only_adds, knowing-ends_when_read, knowing-invariant_kept, knowing-cost_pays, knowing-resolvers_keep}

@@ -1,27 +1,6 @@
 -- The laws of a machine whose table passes the test.
-use Rattle.std.proofs.Common.{◌≡◌, ◌≢◌, ◌≤◌, List, [], ◌++◌, Bool, true, false, cond, Option, Some, None, length, map, refl, sym, ap, ◌∙◌, subst, arith, ◌⊎◌, inl, inr, take, length-append}
-use Rattle.std.specs.Prelude.{All, IfSome, Contains, nat_lt}
-use Rattle.std.specs.List.{flat_map}
-use Rattle.std.proofs.Math.Seq.{take-append_seam}
-use Rattle.std.proofs.lemmas.Bool.{and_parts}
-use Rattle.std.proofs.lemmas.List.{take-map, length-map}
-use Rattle.std.proofs.lemmas.List.Elements.{All-contains}
-use Rattle.markdown_base.specs.declared.event.Event.{Event}
+use Rattle.mdconstructs_tables.proofs.Prelude.{◌≡◌, ◌≢◌, ◌≤◌, List, [], ◌++◌, Bool, true, false, cond, Option, Some, None, length, map, refl, sym, ap, ◌∙◌, subst, arith, ◌⊎◌, inl, inr, take, length-append, All, IfSome, Contains, nat_lt, flat_map, take-append_seam, and_parts, take-map, length-map, All-contains, Event, Name, Next, Retry, Ok, Nok, unlinked, Byte, Given, Text, IsText, followed_by, Configuration, Choice, Step, Sight, sight, consumed, with_local, IsAsFar, ConsumesOnce, OnlyAdds, EndsWhenRead, KeepsInvariant, Rows, row, when, Row, StateRows, Table, with_choice_of, chooses, picked, step_of, row_at, named, step_at, table_step, IsFitBy, named_misfit, named_start, saves, allows_all, is_called_at, is_called, fits_choices, fits_row, fits_calls, start_shape, all_rows, may_start, outline, SightIsInOrder, IsFed, class_in, began_at, IsStateAt, HoldsAt, table_holds, table_rules}
 use Rattle.markdown_base.specs.declared.event.Name.{Name as EventName}
-use Rattle.markdown_base.specs.declared.state.Name.{Name}
-use Rattle.markdown_base.specs.declared.state.State.TheVariants.{Next, Retry, Ok, Nok}
-use Rattle.markdown_base.specs.Events.{unlinked}
-use Rattle.markdown_tokenizer.specs.declared.waiting.Waits.TheVariants.{Byte}
-use Rattle.markdown_tokenizer.specs.Text.{Given, Text, IsText, followed_by}
-use Rattle.markdown_tokenizer.specs.Configuration.{Configuration, Choice, Step}
-use Rattle.markdown_tokenizer.specs.Sight.{Sight, sight}
-use Rattle.markdown_tokenizer.specs.Calls.{consumed, with_local}
-use Rattle.markdown_tokenizer.specs.Lawful.{IsAsFar, ConsumesOnce, OnlyAdds, EndsWhenRead, KeepsInvariant}
-use Rattle.mdconstructs_tables.specs.Rows.{Rows, row, when, Row, StateRows, Table, with_choice_of, chooses, picked, step_of, row_at, named, step_at, table_step}
-use Rattle.mdconstructs_tables.specs.Fitting.{IsFitBy}
-use Rattle.mdconstructs_tables.specs.Misfits.{named_misfit, named_start}
-use Rattle.mdconstructs_tables.specs.RowTest.{saves, allows_all, is_called_at, is_called, fits_choices, fits_row, fits_calls, start_shape, all_rows, may_start}
-use Rattle.mdconstructs_tables.specs.RowInvariant.{outline, SightIsInOrder, IsFed, class_in, began_at, IsStateAt, HoldsAt, table_holds, table_rules}
 use Rattle.mdconstructs_tables.proofs.Rows.Misfits.{none-left, none-made, named-none, fits-unnamed, starts-unnamed}
 use Rattle.mdconstructs_tables.proofs.Rows.Laws.{below_all, has-after-all, chooses-append, adds-all}
 use Rattle.mdconstructs_tables.proofs.GrowingTexts.{fed-position, extends}

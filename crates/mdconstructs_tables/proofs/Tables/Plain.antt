@@ -1,16 +1,5 @@
 -- A table without links and writes keeps that nothing is there to resolve.
-use Rattle.std.proofs.Common.{◌≡◌, List, [], ◌∷◌, Bool, true, false, cond, Option, Some, None, refl, subst}
-use Rattle.std.specs.Prelude.{◌==◌}
-use Rattle.std.proofs.lemmas.Bool.{and_parts}
-use Rattle.markdown_base.specs.declared.state.Name.{Name}
-use Rattle.markdown_tokenizer.specs.Text.{Given}
-use Rattle.markdown_tokenizer.specs.Configuration.{Configuration}
-use Rattle.markdown_tokenizer.specs.Sight.{Sight}
-use Rattle.markdown_tokenizer.specs.Calls.{with_local}
-use Rattle.markdown_tokenizer.specs.Plain.{IsPlain, KeepsPlain}
-use Rattle.markdown_tokenizer.proofs.Readings.Plain.{no-links-more}
-use Rattle.mdconstructs_tables.specs.Rows.{Act, enters, exit, consume, links, write, choose, Rows, row, when, Row, StateRows, Table, class_of, done, seen_after, does, picked, row_at, named, step_at, table_step}
-use Rattle.mdconstructs_tables.specs.PlainTables.{is_plain_act, are_plain_acts, are_plain_rows, are_plain_states, IsPlainTable}
+use Rattle.mdconstructs_tables.proofs.Prelude.{◌≡◌, List, [], ◌∷◌, Bool, true, false, cond, Option, Some, None, refl, subst, ◌==◌, and_parts, Name, Given, Configuration, Sight, with_local, IsPlain, KeepsPlain, no-links-more, Act, enters, exit, consume, links, write, choose, Rows, row, when, Row, StateRows, Table, class_of, done, seen_after, does, picked, row_at, named, step_at, table_step, is_plain_act, are_plain_acts, are_plain_rows, are_plain_states, IsPlainTable}
 
 module _ {R D : Type 0} where
   done-plain : (act : Act R D) (s : Sight) (k : Configuration R D) → is_plain_act act ≡ true → IsPlain k → IsPlain (done act s k)

@@ -1,15 +1,5 @@
 -- A table without links whose writes are plain keeps that nothing is there to resolve.
-use Rattle.std.proofs.Common.{List, [], ◌∷◌, Bool, true, false, cond, Option, Some, None, refl, subst}
-use Rattle.std.specs.Prelude.{◌==◌}
-use Rattle.markdown_base.specs.declared.state.Name.{Name}
-use Rattle.markdown_tokenizer.specs.Text.{Given}
-use Rattle.markdown_tokenizer.specs.Configuration.{Configuration}
-use Rattle.markdown_tokenizer.specs.Sight.{Sight}
-use Rattle.markdown_tokenizer.specs.Calls.{with_local, consumed}
-use Rattle.markdown_tokenizer.specs.Plain.{IsPlain, KeepsPlain}
-use Rattle.markdown_tokenizer.proofs.Readings.Plain.{no-links-more}
-use Rattle.mdconstructs_tables.specs.Rows.{Act, enters, exit, consume, links, write, choose, Rows, row, when, Row, StateRows, Table, class_of, past, done, does, picked, named, table_step}
-use Rattle.mdconstructs_tables.specs.PlainWrites.{WritePlain, RowsWritePlain, StatesWritePlain, WritesPlain}
+use Rattle.mdconstructs_tables.proofs.Prelude.{List, [], ◌∷◌, Bool, true, false, cond, Option, Some, None, refl, subst, ◌==◌, Name, Given, Configuration, Sight, with_local, consumed, IsPlain, KeepsPlain, no-links-more, Act, enters, exit, consume, links, write, choose, Rows, row, when, Row, StateRows, Table, class_of, past, done, does, picked, named, table_step, WritePlain, RowsWritePlain, StatesWritePlain, WritesPlain}
 use Rattle.mdconstructs_tables.proofs.Tables.Plain.{step-plain}
 
 module _ {R D : Type 0} where

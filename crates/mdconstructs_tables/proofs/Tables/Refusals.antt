@@ -1,25 +1,7 @@
 -- A machine whose table refuses nothing refuses no document.
-use Rattle.std.proofs.Common.{◌≡◌, ◌≢◌, ℕ, List, [], ◌∷◌, ◌++◌, Bool, true, false, cond, Option, Some, None, ◌⊎◌, ⊎_elim, refl}
-use Rattle.std.specs.Prelude.{filter}
-use Rattle.std.specs.List.{list_any}
-use Rattle.std.proofs.lemmas.Bool.{or_parts}
-use Rattle.markdown_base.specs.declared.message.Message.{Message}
-use Rattle.markdown_base.specs.declared.state.Name.{Name}
-use Rattle.markdown_base.specs.declared.state.State.{State}
-use Rattle.markdown_base.specs.declared.state.State.TheVariants.{Next, Ok, Error}
-use Rattle.markdown_base.proofs.Common.{none-mapped}
-use Rattle.markdown_tokenizer.specs.declared.subtokenize.Subresult.{Subresult}
-use Rattle.markdown_tokenizer.specs.declared.waiting.AttemptKind.TheVariants.{Attempt, Check}
-use Rattle.markdown_tokenizer.specs.Text.{Given, Text}
-use Rattle.markdown_tokenizer.specs.Configuration.{Configuration, Choice, Step, start_configuration}
-use Rattle.markdown_tokenizer.specs.Calls.{with_local, with_resolvers}
-use Rattle.markdown_tokenizer.specs.Engine.{whole_text, IsRunRefused}
-use Rattle.markdown_tokenizer.specs.Reading.{Reading, EndsIn}
-use Rattle.markdown_tokenizer.specs.Resolving.{Resolved, done, refused, resolved_by, with_more, taken, found, IsResolvingRefused}
-use Rattle.markdown_tokenizer.specs.Rules.{Rules}
-use Rattle.markdown_tokenizer.specs.Sight.{Sight, sight}
-use Rattle.mdconstructs_tables.specs.Rows.{Act, enters, exit, consume, links, write, choose, Rows, row, when, Row, StateRows, Table, class_of, seen_after, done as act_done, with_choice_of, chooses, picked, named, step_of, step_at, table_step}
-use Rattle.mdconstructs_tables.specs.Refusals.{is_message, act_refuses, rows_refuse, refusing, RulesRefuseNothing}
+use Rattle.mdconstructs_tables.proofs.Prelude.{◌≡◌, ◌≢◌, ℕ, List, [], ◌∷◌, ◌++◌, Bool, true, false, cond, Option, Some, None, ◌⊎◌, ⊎_elim, refl, filter, list_any, or_parts, Message, Name, State, Next, Ok, Error, none-mapped, Subresult, Attempt, Check, Given, Text, Configuration, Choice, Step, start_configuration, with_local, with_resolvers, whole_text, IsRunRefused, Reading, EndsIn, Resolved, refused, resolved_by, with_more, taken, found, IsResolvingRefused, Rules, Sight, sight, Act, enters, exit, consume, links, write, choose, Rows, row, when, Row, StateRows, Table, class_of, seen_after, with_choice_of, chooses, picked, named, step_of, step_at, table_step, is_message, act_refuses, rows_refuse, refusing, RulesRefuseNothing}
+use Rattle.markdown_tokenizer.specs.Resolving.{done}
+use Rattle.mdconstructs_tables.specs.Rows.{done as act_done}
 use Rattle.mdconstructs_tables.proofs.KeptByReading.{IsKept, kept-refused}
 use Rattle.mdconstructs_tables.proofs.Rows.Misfits.{named-out}
 

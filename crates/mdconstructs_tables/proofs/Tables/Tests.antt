@@ -1,11 +1,6 @@
 -- Three tests of a table at once, for a machine that links and writes nothing and refuses no document: one equation for each class of what
 -- waits.
-use Rattle.std.proofs.Common.{◌≡◌, List, [], Bool, true, Option, ap}
-use Rattle.markdown_base.specs.declared.state.Name.{Name}
-use Rattle.mdconstructs_tables.specs.Rows.{Table}
-use Rattle.mdconstructs_tables.specs.Misfits.{Reason, misfits}
-use Rattle.mdconstructs_tables.specs.PlainTables.{are_plain_states}
-use Rattle.mdconstructs_tables.specs.Refusals.{refusing}
+use Rattle.mdconstructs_tables.proofs.Prelude.{◌≡◌, List, [], Bool, true, Option, ap, Name, Table, Reason, misfits, are_plain_states, refusing}
 
 -- the states that do not fit, whether none links or writes, and the states that may refuse the document
 abbrev pub tests : {W R D : Type 0} → Table W R D → (previous current : Option W) → List (Name × Reason) × Bool × List Name

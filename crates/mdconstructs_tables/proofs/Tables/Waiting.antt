@@ -1,29 +1,6 @@
 -- Choices that wait, in the invariant of a table: what acts make of them, and that they stay if the text goes on.
-use Rattle.std.proofs.Common.{◌≡◌, ℕ, ◌+◌, ◌≤◌, ◌||◌, not, List, [], ◌∷◌, ◌++◌, Bool, true, false, Option, Some, None, length, refl, sym, ap, ◌∙◌, subst, arith, take, length-append, append_assoc, inl, inr}
-use Rattle.std.specs.Prelude.{All, IfSome, slice_get}
-use Rattle.std.specs.List.{last_or}
-use Rattle.std.proofs.Math.Seq.{take-append_seam}
-use Rattle.std.proofs.lemmas.Bool.{and_parts}
-use Rattle.std.proofs.lemmas.List.{append-nil, take-append-le, length-map, take_all}
-use Rattle.std.proofs.lemmas.List.Elements.{All-nil, All-cons}
-use Rattle.std.proofs.lemmas.Option.{none-some, slice_get_cases, slice_get_past, slice_get_within}
-use Rattle.markdown_base.specs.declared.event.Event.{Event}
+use Rattle.mdconstructs_tables.proofs.Prelude.{◌≡◌, ℕ, ◌+◌, ◌≤◌, ◌||◌, not, List, [], ◌∷◌, ◌++◌, Bool, true, false, Option, Some, None, length, refl, sym, ap, ◌∙◌, subst, arith, take, length-append, append_assoc, inl, inr, All, IfSome, slice_get, last_or, take-append_seam, and_parts, append-nil, take-append-le, length-map, take_all, All-nil, All-cons, none-some, slice_get_cases, slice_get_past, slice_get_within, Event, State, Next, Retry, Ok, Nok, Error, unlinked, stands_before, shown, or-leads, AttemptKind, Attempt, Check, Given, Text, Configuration, Choice, Saved, Sight, sight, current_of, byte_of, saved_at, IsAsFar, Act, enters, exit, consume, links, write, choose, StateRows, class_of, choice_made_at, with_choice_of, done, seen_after, does, chooses, is_void_last, saves, Stage, end_waits, byte_waits, byte_read, Shape, Frame, frame_of, allows, after, allows_all, fits_choice, fits_choices, waits_in, outline, EndsWithEnter, Began, upto, since, exit_place_at, class_in, IsSavedIn, IsSaved, position_of, events_saved, IsBelow, AreWaiting}
 use Rattle.markdown_base.specs.declared.event.Name.{Name as EventName}
-use Rattle.markdown_base.specs.declared.state.State.{State}
-use Rattle.markdown_base.specs.declared.state.State.TheVariants.{Next, Retry, Ok, Nok, Error}
-use Rattle.markdown_base.specs.Events.{unlinked}
-use Rattle.markdown_base.specs.Places.{stands_before, shown}
-use Rattle.markdown_base.proofs.Common.{or-leads}
-use Rattle.markdown_tokenizer.specs.declared.waiting.AttemptKind.{AttemptKind}
-use Rattle.markdown_tokenizer.specs.declared.waiting.AttemptKind.TheVariants.{Attempt, Check}
-use Rattle.markdown_tokenizer.specs.Text.{Given, Text}
-use Rattle.markdown_tokenizer.specs.Configuration.{Configuration, Choice, Saved}
-use Rattle.markdown_tokenizer.specs.Sight.{Sight, sight, current_of, byte_of}
-use Rattle.markdown_tokenizer.specs.Calls.{saved_at}
-use Rattle.markdown_tokenizer.specs.Lawful.{IsAsFar}
-use Rattle.mdconstructs_tables.specs.Rows.{Act, enters, exit, consume, links, write, choose, StateRows, class_of, choice_made_at, with_choice_of, done, seen_after, does, chooses}
-use Rattle.mdconstructs_tables.specs.RowTest.{is_void_last, saves, Stage, end_waits, byte_waits, byte_read, Shape, Frame, frame_of, allows, after, allows_all, fits_choice, fits_choices, waits_in}
-use Rattle.mdconstructs_tables.specs.RowInvariant.{outline, EndsWithEnter, Began, upto, since, exit_place_at, class_in, IsSavedIn, IsSaved, position_of, events_saved, IsBelow, AreWaiting}
 use Rattle.mdconstructs_tables.proofs.Rows.Laws.{Waited, reached, IsSeenAhead, sight_at, HasShape, below_after, below_all, to-before, below-more, adds-one, began-on, left-at, has-after, sees-after, sight-after}
 use Rattle.mdconstructs_tables.proofs.GrowingTexts.{Extends, left-kept, seat-append}
 
