@@ -1,15 +1,6 @@
 -- Events that account for virtual bytes, with more events in front.
-use Rattle.std.proofs.Common.{◌≡◌, ℕ, ◌∷◌, ◌++◌, [], List, cond, refl, ◌∙◌, ap}
-use Rattle.markdown_base.specs.declared.event.Event.{Event}
-use Rattle.markdown_base.specs.declared.event.Kind.{Kind}
-use Rattle.markdown_base.specs.declared.event.Kind.TheVariants.{Enter, Exit}
+use Rattle.mdconstructs_machines.proofs.Prelude.{◌≡◌, ℕ, ◌∷◌, ◌++◌, [], List, cond, refl, ◌∙◌, ap, Event, Kind, Enter, Exit, Point, is_enter, shown, Seat, end_after, innermost_spans, ended_next, span_over, AccountFor, leaf}
 use Rattle.markdown_base.specs.declared.event.Name.{Name}
-use Rattle.markdown_base.specs.declared.event.Point.{Point}
-use Rattle.markdown_base.specs.Events.{is_enter}
-use Rattle.markdown_base.specs.Places.{shown}
-use Rattle.markdown_base.specs.Virtual.{Seat, end_after}
-use Rattle.mdconstructs_machines.specs.Innermost.{innermost_spans, ended_next, span_over, AccountFor}
-use Rattle.mdconstructs_machines.specs.Spans.{leaf}
 
 module _ (bytes : List ℕ) where
   -- an exit that ends a span around others

@@ -4,7 +4,8 @@ pub mod Innermost
 pub mod LineExamples
 pub mod LineReads
 pub mod Mapped
-pub mod ParagraphExamples
-pub mod RowSteps
 pub mod NoRefusals
+pub mod ParagraphExamples
+pub mod Prelude
+pub mod RowSteps
 pub mod Unfit

@@ -1,12 +1,6 @@
 -- Documents, and the events of their lines written out: examples of the definitions, each proved by computing.
-use Rattle.std.proofs.Common.{◌≡◌, ℕ, ◌+◌, List, [], ◌∷◌, ◌++◌, None, refl}
-use Rattle.std.specs.Prelude.{codes}
-use Rattle.markdown_base.specs.declared.event.Event.{Event}
-use Rattle.markdown_base.specs.declared.event.Kind.TheVariants.{Enter, Exit}
+use Rattle.mdconstructs_machines.proofs.Prelude.{◌≡◌, ℕ, ◌+◌, List, [], ◌∷◌, ◌++◌, None, refl, codes, Event, Enter, Exit, Paragraph, Data, LineEnding, point, virtual, data_events, line_events, save_events, back_events}
 use Rattle.markdown_base.specs.declared.event.Name.{Name}
-use Rattle.markdown_base.specs.declared.event.Name.TheVariants.{Paragraph, Data, LineEnding}
-use Rattle.markdown_base.specs.Virtual.{point, virtual}
-use Rattle.mdconstructs_machines.specs.LineEvents.{data_events, line_events, save_events, back_events}
 
 -- the events of a whole document, with tab stops at every four columns
 abbrev lines_of : List ℕ → List Event

@@ -1,5 +1,5 @@
 -- A function at the first items of a list.
-use Rattle.std.proofs.Common.{◌≡◌, ℕ, zero, suc, ◌<◌, ◌≤◌, List, [], ◌∷◌, length, map, get_or, slice_set, refl, ap, arith}
+use Rattle.mdconstructs_machines.proofs.Prelude.{◌≡◌, ℕ, zero, suc, ◌<◌, ◌≤◌, List, [], ◌∷◌, length, map, get_or, slice_set, refl, ap, arith}
 
 -- f of the first n items, and the others
 abbrev pub mapped : {A : Type 0} → (A → A) → ℕ → List A → List A

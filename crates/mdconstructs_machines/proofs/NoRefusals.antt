@@ -1,19 +1,5 @@
 -- The machines whose tables refuse no document, by the test of their rows.
-use Rattle.std.proofs.Common.{◌≡◌, [], Option, Some, None, refl}
-use Rattle.mdconstructs_tables.specs.Refusals.{refusing, RulesRefuseNothing}
-use Rattle.mdconstructs_tables.proofs.Tables.Refusals.{table-steps, refuse-nothing, nothing-found}
-use Rattle.mdconstructs_machines.specs.Tables.{LineByte, line_ending, other}
-use Rattle.mdconstructs_machines.specs.Lines.{lines, lines_rules}
-use Rattle.mdconstructs_machines.specs.Laws.Lines.{lines-none}
-use Rattle.mdconstructs_machines.specs.Paragraphs.{paragraphs, paragraphs_rules}
-use Rattle.mdconstructs_machines.specs.Peek.{peek, peek_rules}
-use Rattle.mdconstructs_machines.specs.Laws.Peek.{peek-none}
-use Rattle.mdconstructs_machines.specs.Deep.{deep, deep_rules}
-use Rattle.mdconstructs_machines.specs.Laws.Deep.{deep-none}
-use Rattle.mdconstructs_machines.specs.Back.{back, back_rules}
-use Rattle.mdconstructs_machines.specs.Laws.Back.{back-none}
-use Rattle.mdconstructs_machines.specs.Save.{save, save_rules}
-use Rattle.mdconstructs_machines.specs.Laws.Save.{save-none}
+use Rattle.mdconstructs_machines.proofs.Prelude.{◌≡◌, [], Option, Some, None, refl, refusing, RulesRefuseNothing, table-steps, refuse-nothing, nothing-found, LineByte, line_ending, other, lines, lines_rules, lines-none, paragraphs, paragraphs_rules, peek, peek_rules, peek-none, deep, deep_rules, deep-none, back, back_rules, back-none, save, save_rules, save-none}
 
 pub lines-refuse-nothing : RulesRefuseNothing lines_rules
 lines-refuse-nothing = refuse-nothing lines_rules (table-steps lines lines-none) (λ g s k r m. nothing-found k m)

@@ -1,13 +1,7 @@
 -- Documents, and the events of their paragraphs written out: examples of the definition, each proved by computing.
-use Rattle.std.proofs.Common.{◌≡◌, ℕ, List, [], ◌∷◌, Option, Some, None, refl}
-use Rattle.std.specs.Prelude.{codes}
+use Rattle.mdconstructs_machines.proofs.Prelude.{◌≡◌, ℕ, List, [], ◌∷◌, Option, Some, None, refl, codes, Event, Enter, Exit, Paragraph, Data, BlankLineEnding, BlockQuoteMarker, point, virtual, paragraph_events}
 use Rattle.markdown_base.specs.declared.event.Content.TheVariants.{Text}
-use Rattle.markdown_base.specs.declared.event.Event.{Event}
-use Rattle.markdown_base.specs.declared.event.Kind.TheVariants.{Enter, Exit}
 use Rattle.markdown_base.specs.declared.event.Name.{Name}
-use Rattle.markdown_base.specs.declared.event.Name.TheVariants.{Paragraph, Data, BlankLineEnding, BlockQuoteMarker}
-use Rattle.markdown_base.specs.Virtual.{point, virtual}
-use Rattle.mdconstructs_machines.specs.ParagraphEvents.{paragraph_events}
 
 -- the events of a whole document, with tab stops at every four columns
 abbrev events_of : List ℕ → List Event

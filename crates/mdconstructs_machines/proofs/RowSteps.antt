@@ -1,10 +1,5 @@
 -- What a state did, by the row that its table has for what waits.
-use Rattle.std.proofs.Common.{◌≡◌, ℕ, Option, subst, sym}
-use Rattle.markdown_base.specs.declared.state.State.{State}
-use Rattle.markdown_tokenizer.specs.Configuration.{TokenizerValue}
-use Rattle.markdown_tokenizer.specs.Sight.{sight_of}
-use Rattle.mdconstructs_tables.specs.Rows.{StateRows, class_of, picked, step_of}
-use Rattle.mdconstructs_tables.specs.RowInvariant.{DoesAll, step_in}
+use Rattle.mdconstructs_machines.proofs.Prelude.{◌≡◌, ℕ, Option, subst, sym, State, TokenizerValue, sight_of, StateRows, class_of, picked, step_of, DoesAll, step_in}
 
 -- the row of what waits says what the state does
 pub by-row : {M W R D : Type 0} (class : ℕ → W) (state : StateRows W R D) (w : Option W) (t t' : TokenizerValue M R D) (answer : State) → class_of class (sight_of t).current ≡ w

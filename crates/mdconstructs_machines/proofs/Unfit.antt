@@ -1,13 +1,5 @@
 -- Two tables without misfits that are not lawful do not meet the conditions of the law about tables.
-use Rattle.std.proofs.Common.{◌≡◌, [], true, false, Option, Some, None, refl, arith}
-use Rattle.mdconstructs_tables.specs.Fitting.{IsFit}
-use Rattle.mdconstructs_tables.specs.Misfits.{misfits}
-use Rattle.mdconstructs_tables.specs.PlainTables.{IsPlainTable}
-use Rattle.mdconstructs_tables.specs.PlainWrites.{WritesPlain}
-use Rattle.mdconstructs_machines.specs.Tables.{LineByte, line_ending, other}
-use Rattle.mdconstructs_machines.specs.Unfit.{uncounted_lines, editing}
-use Rattle.markdown_tokenizer.specs.Text.{Text}
-use Rattle.markdown_tokenizer.specs.Configuration.{Configuration, start_configuration}
+use Rattle.mdconstructs_machines.proofs.Prelude.{◌≡◌, [], true, false, Option, Some, None, refl, arith, IsFit, misfits, IsPlainTable, WritesPlain, LineByte, line_ending, other, uncounted_lines, editing, Text, Configuration, start_configuration}
 
 pub uncounted : (previous current : Option LineByte) → misfits uncounted_lines previous current ≡ []
 uncounted previous None = refl

@@ -1,21 +1,6 @@
 -- What paragraphs are read as accounts for each virtual byte.
-use Rattle.std.proofs.Common.{◌≡◌, ℕ, suc, ◌==◌, ◌∷◌, ◌++◌, [], List, true, false, cond, refl, sym, ◌∙◌, ap, subst, Option, Some, None}
-use Rattle.std.specs.Prelude.{map}
-use Rattle.std.specs.List.{flat_map}
-use Rattle.std.proofs.lemmas.List.{append_assoc, append-nil, map-append}
-use Rattle.markdown_base.specs.declared.event.Event.{Event}
-use Rattle.markdown_base.specs.declared.event.Kind.TheVariants.{Enter, Exit}
+use Rattle.mdconstructs_machines.proofs.Prelude.{◌≡◌, ℕ, suc, ◌==◌, ◌∷◌, ◌++◌, [], List, true, false, cond, refl, sym, ◌∙◌, ap, subst, Option, Some, None, map, flat_map, append_assoc, append-nil, map-append, Event, Enter, Exit, Paragraph, Data, BlankLineEnding, BlockQuoteMarker, FlowStart, Seat, virtual, end_after, Rules, Given, AccountFor, AccountsForDocuments, is_line_ending, joined, lines_in, all_of, Block, blank, paragraph, is_blank, continued, blocks_of, mark_of, chunk_of, Chunk, Marked, marked_span, line_marks, lines_marks, block_marks, blocks_marks, as_linked, paragraph_events, IsReadAs, event}
 use Rattle.markdown_base.specs.declared.event.Name.{Name}
-use Rattle.markdown_base.specs.declared.event.Name.TheVariants.{Paragraph, Data, BlankLineEnding, BlockQuoteMarker}
-use Rattle.markdown_base.specs.declared.state.TheConstants.Name.{FlowStart}
-use Rattle.markdown_base.specs.Virtual.{Seat, virtual, end_after}
-use Rattle.markdown_tokenizer.specs.Rules.{Rules}
-use Rattle.markdown_tokenizer.specs.Text.{Given}
-use Rattle.mdconstructs_machines.specs.Innermost.{AccountFor, AccountsForDocuments}
-use Rattle.mdconstructs_machines.specs.LineEvents.{is_line_ending, joined, lines_in, all_of}
-use Rattle.mdconstructs_machines.specs.ParagraphEvents.{Block, blank, paragraph, is_blank, continued, blocks_of, mark_of, chunk_of, Chunk, Marked, marked_span, line_marks, lines_marks, block_marks, blocks_marks, as_linked, paragraph_events}
-use Rattle.mdconstructs_machines.specs.ReadAs.{IsReadAs}
-use Rattle.mdconstructs_machines.specs.Spans.{event}
 use Rattle.mdconstructs_machines.proofs.Innermost.{enter-more, exit-more, span-more}
 
 -- lines are all there is

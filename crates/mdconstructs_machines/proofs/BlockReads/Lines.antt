@@ -1,9 +1,5 @@
 -- The lines of a text, one by one, and the blocks that they are in.
-use Rattle.std.proofs.Common.{◌≡◌, suc, ◌≤◌, ◌∷◌, ◌++◌, [], List, true, false, cond, refl, sym, ◌∙◌, ap, arith, length}
-use Rattle.std.proofs.lemmas.List.{append_assoc}
-use Rattle.markdown_base.specs.Virtual.{Seat}
-use Rattle.mdconstructs_machines.specs.LineEvents.{is_line_ending, joined, lines_in, all_of}
-use Rattle.mdconstructs_machines.specs.ParagraphEvents.{blank, paragraph, is_blank, continued, blocks_of}
+use Rattle.mdconstructs_machines.proofs.Prelude.{◌≡◌, suc, ◌≤◌, ◌∷◌, ◌++◌, [], List, true, false, cond, refl, sym, ◌∙◌, ap, arith, length, append_assoc, Seat, is_line_ending, joined, lines_in, all_of, blank, paragraph, is_blank, continued, blocks_of}
 
 -- the line at the front
 abbrev pub first_line : List Seat → List Seat

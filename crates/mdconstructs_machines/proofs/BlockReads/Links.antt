@@ -1,17 +1,7 @@
 -- Marked events, one more at a time: how their links change.
-use Rattle.std.specs.List.{AllByRecursion}
-use Rattle.std.proofs.Common.{◌≡◌, ℕ, zero, suc, ◌+◌, ◌<◌, ◌≤◌, ◌==◌, ◌∷◌, ◌++◌, [], List, Bool, true, false, cond, Option, Some, None, ◌⊎◌, inl, inr, refl, sym, ◌∙◌, ap, subst, arith, length, length-append}
-use Rattle.std.specs.Prelude.{◌&&◌, map, position, nat_lt, not}
-use Rattle.std.specs.List.{position_or_len}
-use Rattle.std.proofs.lemmas.Bool.{lt-ltb, le-ltb}
-use Rattle.std.proofs.lemmas.Bool.Decides.{nat_tests}
-use Rattle.std.proofs.lemmas.List.{append_assoc, map-append, length-map}
-use Rattle.markdown_base.proofs.Common.{every-map, every-append}
+use Rattle.mdconstructs_machines.proofs.Prelude.{AllByRecursion, ◌≡◌, ℕ, zero, suc, ◌+◌, ◌<◌, ◌≤◌, ◌==◌, ◌∷◌, ◌++◌, [], List, Bool, true, false, cond, Option, Some, None, ◌⊎◌, inl, inr, refl, sym, ◌∙◌, ap, subst, arith, length, length-append, ◌&&◌, map, position, nat_lt, not, position_or_len, lt-ltb, le-ltb, nat_tests, append_assoc, map-append, length-map, every-map, every-append, Event, updated_at, with_next, with_previous, linked_to, text_link, Marked, begins, chunk_at, as_linked, with_links}
 use Rattle.markdown_base.specs.declared.event.Content.TheVariants.{Text}
-use Rattle.markdown_base.specs.declared.event.Event.{Event}
-use Rattle.markdown_edits.specs.Links.{updated_at, with_next, with_previous, linked_to}
-use Rattle.mdconstructs_machines.specs.Paragraphs.{text_link}
-use Rattle.mdconstructs_machines.specs.ParagraphEvents.{Marked, begins, chunk_at, chunk_before, as_linked, with_links}
+use Rattle.mdconstructs_machines.specs.ParagraphEvents.{chunk_before}
 
 -- a marked event begins no chunk, or one that comes before the chunk of this line of this block
 abbrev pub IsBefore : (b n : ℕ) → Marked → Type 0

@@ -1,25 +1,5 @@
 -- One line of a paragraph is read: its quote mark, and its chunk.
-use Rattle.std.specs.List.{AllByRecursion}
-use Rattle.std.proofs.Common.{◌≡◌, ℕ, suc, ◌+◌, ◌==◌, ◌∷◌, ◌++◌, [], List, Bool, true, false, cond, ◌⊎◌, inl, inr, refl, sym, ◌∙◌, ap, subst, Option, Some, None, take, drop, slice_get}
-use Rattle.std.proofs.lemmas.List.{append_assoc, append-nil}
-use Rattle.markdown_base.specs.declared.event.Event.{Event}
-use Rattle.markdown_base.specs.declared.event.Kind.TheVariants.{Enter, Exit}
-use Rattle.markdown_base.specs.declared.event.Name.TheVariants.{Paragraph, Data, BlockQuoteMarker}
-use Rattle.markdown_base.specs.declared.event.Point.{Point}
-use Rattle.markdown_base.specs.declared.state.Name.{Name}
-use Rattle.markdown_base.specs.declared.state.State.TheVariants.{Next, Retry}
-use Rattle.markdown_base.specs.declared.state.TheConstants.Name.{FlowStart, ParagraphLineStart, ParagraphStart}
-use Rattle.markdown_base.specs.Virtual.{Seat, end_after}
-use Rattle.markdown_tokenizer.specs.declared.waiting.Waits.TheVariants.{Nothing, Byte, End}
-use Rattle.markdown_tokenizer.specs.Text.{Given, Text}
-use Rattle.markdown_tokenizer.specs.Configuration.{Configuration, Local, Step}
-use Rattle.markdown_tokenizer.specs.Sight.{Sight, sight, byte_of, end_or, point_or}
-use Rattle.mdconstructs_tables.specs.Rows.{Rows, row, enter, exit, consume, picked, step_of}
-use Rattle.mdconstructs_machines.specs.LineEvents.{is_line_ending}
-use Rattle.mdconstructs_machines.specs.Spans.{event}
-use Rattle.mdconstructs_machines.specs.Tables.{line_ending, other, counts}
-use Rattle.mdconstructs_machines.specs.Paragraphs.{paragraph_line_start_rows, is_quote_mark}
-use Rattle.mdconstructs_machines.specs.ParagraphEvents.{Chunk, Marked, is_quoted, marked_span, line_marks, with_links}
+use Rattle.mdconstructs_machines.proofs.Prelude.{AllByRecursion, ◌≡◌, ℕ, suc, ◌+◌, ◌==◌, ◌∷◌, ◌++◌, [], List, Bool, true, false, cond, ◌⊎◌, inl, inr, refl, sym, ◌∙◌, ap, subst, Option, Some, None, take, drop, slice_get, append_assoc, append-nil, Event, Enter, Exit, Paragraph, Data, BlockQuoteMarker, Point, Name, Next, Retry, FlowStart, ParagraphLineStart, ParagraphStart, Seat, end_after, Nothing, Byte, End, Given, Text, Configuration, Local, Step, Sight, sight, byte_of, end_or, point_or, Rows, row, enter, exit, consume, picked, step_of, is_line_ending, event, line_ending, other, counts, paragraph_line_start_rows, is_quote_mark, Chunk, Marked, is_quoted, marked_span, line_marks, with_links}
 use Rattle.mdconstructs_machines.proofs.BlockReads.Lines.{first_line, after_line, line-on, behind-on, Stops}
 use Rattle.mdconstructs_machines.proofs.BlockReads.Links.{IsBefore, EndsIn, KnowsLast, links-plain, known-before, known-plain, known-chunk, before-next}
 use Rattle.mdconstructs_machines.proofs.BlockReads.Reads.{in_paragraph, connects, begins_at, Stands, stands-next, ReadsBlocks, reads-rest, start-end, begins-chunk}

@@ -1,28 +1,7 @@
 -- A machine that has the states of paragraphs: what it reads, in small steps.
-use Rattle.std.proofs.Common.{◌≡◌, ℕ, zero, suc, ◌+◌, ◌-◌, ◌∷◌, ◌++◌, [], List, Bool, true, false, cond, refl, sym, ◌∙◌, ap, subst, Option, Some, None, arith, length, drop, slice_get, length-append}
-use Rattle.std.proofs.lemmas.List.{length-map}
-use Rattle.markdown_base.proofs.Common.{drop-next}
-use Rattle.markdown_base.specs.declared.event.Event.{Event}
-use Rattle.markdown_base.specs.declared.event.Kind.TheVariants.{Enter, Exit}
+use Rattle.mdconstructs_machines.proofs.Prelude.{◌≡◌, ℕ, zero, suc, ◌+◌, ◌-◌, ◌∷◌, ◌++◌, [], List, Bool, true, false, cond, refl, sym, ◌∙◌, ap, subst, Option, Some, None, arith, length, drop, slice_get, length-append, length-map, drop-next, Event, Enter, Exit, Paragraph, Data, Point, Name, Next, Retry, FlowStart, ParagraphLineStart, ParagraphStart, ParagraphInside, Seat, end_after, Nothing, Byte, End, Given, Text, Configuration, Local, Step, Sight, sight, end_place, end_or, point_or, Rows, row, enter_link, links, write, picked, step_of, updated_at, with_next, with_previous, linked_to, updated-length, is_line_ending, event, line_ending, other, counts, flow_start_rows, paragraph_line_start_rows, paragraph_start_rows, text_link, chunk_before, last_event, connected, Marked, as_linked, with_links}
 use Rattle.markdown_base.specs.declared.event.Name.{Name as EventName}
-use Rattle.markdown_base.specs.declared.event.Name.TheVariants.{Paragraph, Data}
-use Rattle.markdown_base.specs.declared.event.Point.{Point}
-use Rattle.markdown_base.specs.declared.state.Name.{Name}
-use Rattle.markdown_base.specs.declared.state.State.TheVariants.{Next, Retry}
-use Rattle.markdown_base.specs.declared.state.TheConstants.Name.{FlowStart, ParagraphLineStart, ParagraphStart, ParagraphInside}
-use Rattle.markdown_base.specs.Virtual.{Seat, end_after}
-use Rattle.markdown_tokenizer.specs.declared.waiting.Waits.TheVariants.{Nothing, Byte, End}
-use Rattle.markdown_tokenizer.specs.Text.{Given, Text}
-use Rattle.markdown_tokenizer.specs.Configuration.{Configuration, Local, Step}
-use Rattle.markdown_tokenizer.specs.Sight.{Sight, sight, end_place, end_or, point_or}
-use Rattle.mdconstructs_tables.specs.Rows.{Rows, row, enter_link, links, write, picked, step_of}
-use Rattle.markdown_edits.specs.Links.{updated_at, with_next, with_previous, linked_to}
-use Rattle.markdown_edits.proofs.LinkEnds.{updated-length}
-use Rattle.mdconstructs_machines.specs.LineEvents.{is_line_ending}
-use Rattle.mdconstructs_machines.specs.Spans.{event}
-use Rattle.mdconstructs_machines.specs.Tables.{line_ending, other, counts}
-use Rattle.mdconstructs_machines.specs.Paragraphs.{flow_start_rows, paragraph_line_start_rows, paragraph_start_rows, paragraph_inside_rows, text_link, chunk_before, last_event, connected}
-use Rattle.mdconstructs_machines.specs.ParagraphEvents.{Marked, as_linked, with_links}
+use Rattle.mdconstructs_machines.specs.Paragraphs.{paragraph_inside_rows}
 use Rattle.mdconstructs_machines.proofs.BlockReads.Lines.{first_line, after_line, line-on, behind-on}
 use Rattle.mdconstructs_machines.proofs.BlockReads.Links.{alone, KnowsLast, links-first, links-next}
 use Rattle.mdconstructs_machines.proofs.LineReads.Rows.{HasRows, is-class, leads-row}

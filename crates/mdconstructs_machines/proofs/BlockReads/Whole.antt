@@ -1,28 +1,5 @@
 -- Whole documents are read block by block.
-use Rattle.std.specs.List.{AllByRecursion}
-use Rattle.std.proofs.Common.{◌≡◌, ℕ, zero, suc, ◌+◌, ◌≤◌, ◌∷◌, ◌++◌, [], List, Bool, true, false, ◌⊎◌, inl, inr, refl, sym, ◌∙◌, ap, subst, Option, Some, None, arith, length, slice_get}
-use Rattle.std.proofs.lemmas.List.{append_assoc, append-nil}
-use Rattle.markdown_base.proofs.Common.{every-append}
-use Rattle.markdown_base.specs.declared.event.Event.{Event}
-use Rattle.markdown_base.specs.declared.event.Kind.TheVariants.{Enter, Exit}
-use Rattle.markdown_base.specs.declared.event.Name.TheVariants.{Paragraph, BlankLineEnding}
-use Rattle.markdown_base.specs.declared.event.Point.{Point}
-use Rattle.markdown_base.specs.declared.state.Name.{Name}
-use Rattle.markdown_base.specs.declared.state.State.TheVariants.{Next, Retry}
-use Rattle.markdown_base.specs.declared.state.TheConstants.Name.{FlowStart, ParagraphLineStart}
-use Rattle.markdown_base.specs.Virtual.{Seat, end_after}
-use Rattle.markdown_tokenizer.specs.declared.waiting.Waits.TheVariants.{Nothing, Byte, End}
-use Rattle.markdown_tokenizer.specs.Text.{Given, Text}
-use Rattle.markdown_tokenizer.specs.Configuration.{Configuration, Local, Step, start_configuration}
-use Rattle.markdown_tokenizer.specs.Engine.{whole_text}
-use Rattle.markdown_tokenizer.specs.Rules.{Rules}
-use Rattle.markdown_tokenizer.specs.Sight.{Sight, point_or, end_or}
-use Rattle.mdconstructs_machines.specs.LineEvents.{is_line_ending, lines_in, all_of}
-use Rattle.mdconstructs_machines.specs.ReadAs.{IsReadAs}
-use Rattle.mdconstructs_machines.specs.Spans.{event}
-use Rattle.mdconstructs_machines.specs.Tables.{line_ending, other, counts}
-use Rattle.mdconstructs_machines.specs.Paragraphs.{flow_start_rows}
-use Rattle.mdconstructs_machines.specs.ParagraphEvents.{Block, Marked, paragraph, marked_span, line_marks, lines_marks, blocks_marks, blocks_of, with_links, paragraph_events}
+use Rattle.mdconstructs_machines.proofs.Prelude.{AllByRecursion, ◌≡◌, ℕ, zero, suc, ◌+◌, ◌≤◌, ◌∷◌, ◌++◌, [], List, Bool, true, false, ◌⊎◌, inl, inr, refl, sym, ◌∙◌, ap, subst, Option, Some, None, arith, length, slice_get, append_assoc, append-nil, every-append, Event, Enter, Exit, Paragraph, BlankLineEnding, Point, Name, Next, Retry, FlowStart, ParagraphLineStart, Seat, end_after, Nothing, Byte, End, Given, Text, Configuration, Local, Step, start_configuration, whole_text, Rules, Sight, point_or, end_or, is_line_ending, lines_in, all_of, IsReadAs, event, line_ending, other, counts, flow_start_rows, Block, Marked, paragraph, marked_span, line_marks, lines_marks, blocks_marks, blocks_of, with_links, paragraph_events}
 use Rattle.mdconstructs_machines.proofs.BlockReads.Lines.{first_line, after_line, line-on, after-less, blank-block, other-block, Run, run_end, run_blank, run_on}
 use Rattle.mdconstructs_machines.proofs.BlockReads.Links.{IsBefore, KnowsLast, links-plain, before-next}
 use Rattle.mdconstructs_machines.proofs.BlockReads.OneLine.{three, reads-line, paragraph-ends}

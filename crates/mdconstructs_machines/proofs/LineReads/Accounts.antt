@@ -1,19 +1,5 @@
 -- The events of lines account for each virtual byte.
-use Rattle.std.proofs.Common.{◌≡◌, ℕ, ◌∷◌, ◌++◌, [], List, true, false, cond, not, refl, sym, ◌∙◌, ap, subst}
-use Rattle.std.specs.List.{flat_map}
-use Rattle.std.proofs.lemmas.List.{append_assoc}
-use Rattle.markdown_base.specs.declared.event.Event.{Event}
-use Rattle.markdown_base.specs.declared.event.Kind.TheVariants.{Exit}
-use Rattle.markdown_base.specs.declared.event.Name.TheVariants.{Paragraph, Data, LineEnding}
-use Rattle.markdown_base.specs.declared.state.TheConstants.Name.{FlowStart}
-use Rattle.markdown_base.specs.Virtual.{Seat, virtual, end_after}
-use Rattle.markdown_tokenizer.specs.declared.subtokenize.Subresult.{Subresult}
-use Rattle.markdown_tokenizer.specs.Engine.{IsRun}
-use Rattle.markdown_tokenizer.specs.Text.{Given, IsDocument}
-use Rattle.mdconstructs_machines.specs.Innermost.{AccountFor}
-use Rattle.mdconstructs_machines.specs.LineEvents.{is_line_ending, joined, lines_in, line_text, ending_of, paragraph_line, line_events}
-use Rattle.mdconstructs_machines.specs.Lines.{lines_rules}
-use Rattle.mdconstructs_machines.specs.Spans.{event, span, leaf}
+use Rattle.mdconstructs_machines.proofs.Prelude.{◌≡◌, ℕ, ◌∷◌, ◌++◌, [], List, true, false, cond, not, refl, sym, ◌∙◌, ap, subst, flat_map, append_assoc, Event, Exit, Paragraph, Data, LineEnding, FlowStart, Seat, virtual, end_after, Subresult, IsRun, Given, IsDocument, AccountFor, is_line_ending, joined, lines_in, line_text, ending_of, paragraph_line, line_events, lines_rules, event, span, leaf}
 use Rattle.mdconstructs_machines.proofs.Innermost.{enter-more, exit-more, leaf-more}
 use Rattle.mdconstructs_machines.proofs.LineReads.Lines.{lines-read}
 

@@ -1,21 +1,6 @@
 -- Data reading: the states of data read each line as data, in every machine that ends in them.
-use Rattle.std.proofs.Common.{◌≡◌, ℕ, ◌+◌, ◌∷◌, ◌++◌, [], List, Bool, true, false, refl, sym, subst, Some, None, drop}
-use Rattle.markdown_base.specs.declared.event.Event.{Event}
-use Rattle.markdown_base.specs.declared.event.Kind.TheVariants.{Enter, Exit}
-use Rattle.markdown_base.specs.declared.event.Name.TheVariants.{Data, LineEnding}
-use Rattle.markdown_base.specs.declared.event.Point.{Point}
-use Rattle.markdown_base.specs.declared.state.Name.{Name}
-use Rattle.markdown_base.specs.declared.state.State.TheVariants.{Next, Retry}
-use Rattle.markdown_base.specs.declared.state.TheConstants.Name.{DataStart, DataInside}
-use Rattle.markdown_base.specs.Virtual.{Seat}
-use Rattle.markdown_tokenizer.specs.declared.waiting.Waits.TheVariants.{Nothing, Byte, End}
-use Rattle.markdown_tokenizer.specs.Text.{Given, Text}
-use Rattle.markdown_tokenizer.specs.Configuration.{Configuration, Local, Step}
-use Rattle.markdown_tokenizer.specs.Sight.{Sight, point_or}
-use Rattle.mdconstructs_machines.specs.LineEvents.{data_events}
+use Rattle.mdconstructs_machines.proofs.Prelude.{◌≡◌, ℕ, ◌+◌, ◌∷◌, ◌++◌, [], List, Bool, true, false, refl, sym, subst, Some, None, drop, Event, Enter, Exit, Data, LineEnding, Point, Name, Next, Retry, DataStart, DataInside, Seat, Nothing, Byte, End, Given, Text, Configuration, Local, Step, Sight, point_or, data_events, event, leaf, line_ending, other, counts}
 use Rattle.mdconstructs_machines.specs.Reading.{data_start_rows, data_inside_rows}
-use Rattle.mdconstructs_machines.specs.Spans.{event, leaf}
-use Rattle.mdconstructs_machines.specs.Tables.{line_ending, other, counts}
 use Rattle.mdconstructs_machines.proofs.LineReads.Events.{IsWritten}
 use Rattle.mdconstructs_machines.proofs.LineReads.Reads.{ReadsLines, from-start}
 use Rattle.mdconstructs_machines.proofs.LineReads.Rows.{HasRows, leads-row, is-class, line-ending-read}

@@ -1,22 +1,6 @@
 -- The machine that tries something at every byte fails each time, and then reads data.
-use Rattle.std.proofs.Common.{◌≡◌, ℕ, ◌+◌, ◌∷◌, [], List, Bool, true, false, refl, ◌∙◌, ap, Some, None, drop, slice_get}
-use Rattle.markdown_base.proofs.Common.{drop-next}
-use Rattle.markdown_base.specs.declared.event.Event.{Event}
-use Rattle.markdown_base.specs.declared.state.Name.{Name}
-use Rattle.markdown_base.specs.declared.state.State.TheVariants.{Next, Retry}
-use Rattle.markdown_base.specs.declared.state.TheConstants.Name.{StringStart, StringBefore, DataStart}
-use Rattle.markdown_base.specs.Virtual.{Seat}
-use Rattle.markdown_tokenizer.specs.declared.waiting.AttemptKind.TheVariants.{Attempt}
-use Rattle.markdown_tokenizer.specs.declared.waiting.Waits.TheVariants.{Byte, End}
-use Rattle.markdown_tokenizer.specs.Text.{Given, Text}
-use Rattle.markdown_tokenizer.specs.Configuration.{Configuration, Local, Choice, Step, start_configuration}
-use Rattle.markdown_tokenizer.specs.Sight.{Sight, byte_of, seat_before}
-use Rattle.markdown_tokenizer.specs.Engine.{whole_text}
-use Rattle.mdconstructs_tables.specs.Rows.{class_of}
-use Rattle.mdconstructs_machines.specs.Deep.{deep_rules, string_start_rows, string_before_rows}
-use Rattle.mdconstructs_machines.specs.LineEvents.{data_events}
-use Rattle.mdconstructs_machines.specs.ReadAs.{IsReadAs}
-use Rattle.mdconstructs_machines.specs.Tables.{line_byte, counts}
+use Rattle.mdconstructs_machines.proofs.Prelude.{◌≡◌, ℕ, ◌+◌, ◌∷◌, [], List, Bool, true, false, refl, ◌∙◌, ap, Some, None, drop, slice_get, drop-next, Event, Name, Next, Retry, StringStart, StringBefore, DataStart, Seat, Attempt, Byte, End, Given, Text, Configuration, Local, Choice, Step, start_configuration, Sight, byte_of, seat_before, whole_text, class_of, deep_rules, data_events, IsReadAs, line_byte, counts}
+use Rattle.mdconstructs_machines.specs.Deep.{string_start_rows, string_before_rows}
 use Rattle.mdconstructs_machines.proofs.LineReads.Data.{ReadsData, data-read}
 use Rattle.mdconstructs_machines.proofs.LineReads.Looks.{Passes, FailsAtEnd, FailsTo, goes-back, looks-on, seat-behind}
 use Rattle.mdconstructs_machines.proofs.LineReads.Rows.{HasRows, leads-row, row_step, waits_class}

@@ -1,11 +1,5 @@
 -- The events of lines, from one virtual byte to the next.
-use Rattle.std.proofs.Common.{◌≡◌, ◌∷◌, ◌++◌, [], List, true, false, cond, refl, sym, ◌∙◌, ap, not}
-use Rattle.std.specs.List.{flat_map}
-use Rattle.std.proofs.lemmas.List.{append_assoc, append-nil}
-use Rattle.markdown_base.specs.declared.event.Event.{Event}
-use Rattle.markdown_base.specs.declared.event.Point.{Point}
-use Rattle.markdown_base.specs.Virtual.{Seat, end_after}
-use Rattle.mdconstructs_machines.specs.LineEvents.{is_line_ending, joined, lines_in, line_text, ending_of}
+use Rattle.mdconstructs_machines.proofs.Prelude.{◌≡◌, ◌∷◌, ◌++◌, [], List, true, false, cond, refl, sym, ◌∙◌, ap, not, flat_map, append_assoc, append-nil, Event, Point, Seat, end_after, is_line_ending, joined, lines_in, line_text, ending_of}
 
 -- How a line is read: the events over its text, which begin and end with these, and the events over a line ending
 module _ (over ending : List Seat → List Event) (opening closing : Point → List Event) where

@@ -1,24 +1,7 @@
 -- The machine of lines reads each line as a paragraph of data.
-use Rattle.std.proofs.Common.{◌≡◌, ℕ, ◌+◌, ◌∷◌, ◌++◌, [], List, true, false, refl, sym, ◌∙◌, ap, subst, Some, None, slice_get}
-use Rattle.markdown_base.specs.declared.event.Event.{Event}
-use Rattle.markdown_base.specs.declared.event.Kind.TheVariants.{Enter, Exit}
+use Rattle.mdconstructs_machines.proofs.Prelude.{◌≡◌, ℕ, ◌+◌, ◌∷◌, ◌++◌, [], List, true, false, refl, sym, ◌∙◌, ap, subst, Some, None, slice_get, Event, Enter, Exit, Paragraph, Data, LineEnding, Point, Name, Next, Retry, Ok, FlowStart, ParagraphInside, Seat, Nothing, Byte, End, Given, Text, Configuration, Step, start_configuration, Sight, point_or, whole_text, line_events, lines_rules, paragraph_inside_rows, IsReadAs, event, span, leaf, line_ending, other, counts}
 use Rattle.markdown_base.specs.declared.event.Name.{Name as EventName}
-use Rattle.markdown_base.specs.declared.event.Name.TheVariants.{Paragraph, Data, LineEnding}
-use Rattle.markdown_base.specs.declared.event.Point.{Point}
-use Rattle.markdown_base.specs.declared.state.Name.{Name}
-use Rattle.markdown_base.specs.declared.state.State.TheVariants.{Next, Retry, Ok}
-use Rattle.markdown_base.specs.declared.state.TheConstants.Name.{FlowStart, ParagraphInside}
-use Rattle.markdown_base.specs.Virtual.{Seat}
-use Rattle.markdown_tokenizer.specs.declared.waiting.Waits.TheVariants.{Nothing, Byte, End}
-use Rattle.markdown_tokenizer.specs.Text.{Given, Text}
-use Rattle.markdown_tokenizer.specs.Configuration.{Configuration, Step, start_configuration}
-use Rattle.markdown_tokenizer.specs.Sight.{Sight, point_or}
-use Rattle.markdown_tokenizer.specs.Engine.{whole_text}
-use Rattle.mdconstructs_machines.specs.LineEvents.{line_events}
-use Rattle.mdconstructs_machines.specs.Lines.{lines_rules, flow_start_rows, paragraph_inside_rows}
-use Rattle.mdconstructs_machines.specs.ReadAs.{IsReadAs}
-use Rattle.mdconstructs_machines.specs.Spans.{event, span, leaf}
-use Rattle.mdconstructs_machines.specs.Tables.{line_ending, other, counts}
+use Rattle.mdconstructs_machines.specs.Lines.{flow_start_rows}
 use Rattle.mdconstructs_machines.proofs.LineReads.Events.{IsWritten}
 use Rattle.mdconstructs_machines.proofs.LineReads.Reads.{ReadsLines, from-start}
 use Rattle.mdconstructs_machines.proofs.LineReads.Rows.{HasRows, leads-row, is-class, line-ending-read, two}

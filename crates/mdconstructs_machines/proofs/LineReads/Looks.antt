@@ -1,19 +1,6 @@
 -- Looks that fail: a state passes bytes, and what was saved is put back.
-use Rattle.std.proofs.Common.{◌≡◌, ℕ, suc, ◌+◌, ◌∷◌, [], List, Bool, true, false, refl, sym, ◌∙◌, ap, subst, Some, arith, drop, take, slice_get}
-use Rattle.markdown_base.proofs.Common.{drop-next}
-use Rattle.markdown_base.specs.declared.event.Event.{Event}
+use Rattle.mdconstructs_machines.proofs.Prelude.{◌≡◌, ℕ, suc, ◌+◌, ◌∷◌, [], List, Bool, true, false, refl, sym, ◌∙◌, ap, subst, Some, arith, drop, take, slice_get, drop-next, Event, Name, State, Next, Retry, Nok, Seat, AttemptKind, Attempt, Check, Nothing, Byte, End, Given, Text, Configuration, Local, Choice, Saved, Step, Sight, end_place, end_or, seat_before, counts}
 use Rattle.markdown_base.specs.declared.event.Name.{Name as EventName}
-use Rattle.markdown_base.specs.declared.state.Name.{Name}
-use Rattle.markdown_base.specs.declared.state.State.{State}
-use Rattle.markdown_base.specs.declared.state.State.TheVariants.{Next, Retry, Nok}
-use Rattle.markdown_base.specs.Virtual.{Seat}
-use Rattle.markdown_tokenizer.specs.declared.waiting.AttemptKind.{AttemptKind}
-use Rattle.markdown_tokenizer.specs.declared.waiting.AttemptKind.TheVariants.{Attempt, Check}
-use Rattle.markdown_tokenizer.specs.declared.waiting.Waits.TheVariants.{Nothing, Byte, End}
-use Rattle.markdown_tokenizer.specs.Text.{Given, Text}
-use Rattle.markdown_tokenizer.specs.Configuration.{Configuration, Local, Choice, Saved, Step}
-use Rattle.markdown_tokenizer.specs.Sight.{Sight, end_place, end_or, seat_before}
-use Rattle.mdconstructs_machines.specs.Tables.{counts}
 use Rattle.mdconstructs_machines.proofs.LineReads.Steps.{EndsWith, Leads, held, shows, goes-next, leads-nok, at-front}
 
 -- one byte on, that byte is the one before

@@ -1,20 +1,6 @@
 -- The machine that peeks looks over the whole text, fails, and then reads data.
-use Rattle.std.proofs.Common.{◌≡◌, ◌∷◌, [], List, true, false, refl, ap, Some, None, drop}
-use Rattle.markdown_base.specs.declared.state.Name.{Name}
-use Rattle.markdown_base.specs.declared.state.State.TheVariants.{Next, Retry}
-use Rattle.markdown_base.specs.declared.state.TheConstants.Name.{TextStart, TextBefore, DataStart}
-use Rattle.markdown_base.specs.Virtual.{Seat}
-use Rattle.markdown_tokenizer.specs.declared.waiting.AttemptKind.TheVariants.{Check}
-use Rattle.markdown_tokenizer.specs.declared.waiting.Waits.TheVariants.{Byte, End}
-use Rattle.markdown_tokenizer.specs.Text.{Given, Text}
-use Rattle.markdown_tokenizer.specs.Configuration.{Configuration, Local, Step, start_configuration}
-use Rattle.markdown_tokenizer.specs.Sight.{Sight, byte_of}
-use Rattle.markdown_tokenizer.specs.Engine.{whole_text}
-use Rattle.mdconstructs_tables.specs.Rows.{class_of}
-use Rattle.mdconstructs_machines.specs.LineEvents.{data_events}
-use Rattle.mdconstructs_machines.specs.Peek.{peek_rules, text_start_rows, text_before_rows}
-use Rattle.mdconstructs_machines.specs.ReadAs.{IsReadAs}
-use Rattle.mdconstructs_machines.specs.Tables.{line_byte, counts}
+use Rattle.mdconstructs_machines.proofs.Prelude.{◌≡◌, ◌∷◌, [], List, true, false, refl, ap, Some, None, drop, Name, Next, Retry, TextStart, TextBefore, DataStart, Seat, Check, Byte, End, Given, Text, Configuration, Local, Step, start_configuration, Sight, byte_of, whole_text, class_of, data_events, peek_rules, IsReadAs, line_byte, counts}
+use Rattle.mdconstructs_machines.specs.Peek.{text_start_rows, text_before_rows}
 use Rattle.mdconstructs_machines.proofs.LineReads.Data.{ReadsData, data-read}
 use Rattle.mdconstructs_machines.proofs.LineReads.Looks.{Passes, FailsAtEnd, goes-back, looks-on}
 use Rattle.mdconstructs_machines.proofs.LineReads.Rows.{HasRows, leads-row, waits_class}

@@ -1,21 +1,6 @@
 -- A machine that reads each line with two states: the events that it makes from there on.
-use Rattle.std.proofs.Common.{◌≡◌, ℕ, suc, ◌+◌, ◌∷◌, ◌++◌, [], List, Bool, true, false, refl, sym, ◌∙◌, ap, subst, Some, arith, drop, slice_get}
-use Rattle.std.proofs.lemmas.List.{append_assoc, append-nil}
-use Rattle.markdown_base.proofs.Common.{drop-next}
-use Rattle.markdown_base.specs.declared.event.Event.{Event}
+use Rattle.mdconstructs_machines.proofs.Prelude.{◌≡◌, ℕ, suc, ◌+◌, ◌∷◌, ◌++◌, [], List, Bool, true, false, refl, sym, ◌∙◌, ap, subst, Some, arith, drop, slice_get, append_assoc, append-nil, drop-next, Event, LineEnding, Point, Name, Next, Retry, Ok, Seat, Nothing, Byte, End, Given, Text, Configuration, Local, Step, Sight, end_place, end_or, is_line_ending, lines_in, leaf, counts}
 use Rattle.markdown_base.specs.declared.event.Name.{Name as EventName}
-use Rattle.markdown_base.specs.declared.event.Name.TheVariants.{LineEnding}
-use Rattle.markdown_base.specs.declared.event.Point.{Point}
-use Rattle.markdown_base.specs.declared.state.Name.{Name}
-use Rattle.markdown_base.specs.declared.state.State.TheVariants.{Next, Retry, Ok}
-use Rattle.markdown_base.specs.Virtual.{Seat}
-use Rattle.markdown_tokenizer.specs.declared.waiting.Waits.TheVariants.{Nothing, Byte, End}
-use Rattle.markdown_tokenizer.specs.Text.{Given, Text}
-use Rattle.markdown_tokenizer.specs.Configuration.{Configuration, Local, Step}
-use Rattle.markdown_tokenizer.specs.Sight.{Sight, end_place, end_or}
-use Rattle.mdconstructs_machines.specs.LineEvents.{is_line_ending, lines_in}
-use Rattle.mdconstructs_machines.specs.Spans.{leaf}
-use Rattle.mdconstructs_machines.specs.Tables.{counts}
 use Rattle.mdconstructs_machines.proofs.LineReads.Events.{IsWritten, of_lines, rest_of, at-ending, rest-ending, at-other, rest-other}
 use Rattle.mdconstructs_machines.proofs.LineReads.Steps.{EndsWith, Leads, ended, held, shows, goes-next, at-front}
 

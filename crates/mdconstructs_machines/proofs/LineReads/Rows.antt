@@ -1,19 +1,5 @@
 -- How a machine of a table of lines reads on, by the row of what waits.
-use Rattle.std.proofs.Common.{◌≡◌, ℕ, ◌∷◌, ◌++◌, [], List, Bool, cond, refl, ◌∙◌, ap, Option, Some, slice_get}
-use Rattle.markdown_base.specs.declared.event.Event.{Event}
-use Rattle.markdown_base.specs.declared.event.Kind.TheVariants.{Enter, Exit}
-use Rattle.markdown_base.specs.declared.event.Name.TheVariants.{LineEnding}
-use Rattle.markdown_base.specs.declared.state.Name.{Name}
-use Rattle.markdown_base.specs.declared.state.State.TheVariants.{Retry}
-use Rattle.markdown_base.specs.Virtual.{Seat}
-use Rattle.markdown_tokenizer.specs.Text.{Given, Text}
-use Rattle.markdown_tokenizer.specs.Calls.{with_local}
-use Rattle.markdown_tokenizer.specs.Configuration.{Configuration, Choice, Step}
-use Rattle.markdown_tokenizer.specs.Sight.{Sight, sight, byte_of, point_or, end_or}
-use Rattle.mdconstructs_tables.specs.Rows.{Rows, class_of, picked, step_of}
-use Rattle.mdconstructs_machines.specs.LineEvents.{is_line_ending}
-use Rattle.mdconstructs_machines.specs.Spans.{event, leaf}
-use Rattle.mdconstructs_machines.specs.Tables.{LineByte, line_ending, other, line_byte, counts}
+use Rattle.mdconstructs_machines.proofs.Prelude.{◌≡◌, ℕ, ◌∷◌, ◌++◌, [], List, Bool, cond, refl, ◌∙◌, ap, Option, Some, slice_get, Event, Enter, Exit, LineEnding, Name, Retry, Seat, Given, Text, with_local, Configuration, Choice, Step, Sight, sight, byte_of, point_or, end_or, Rows, class_of, picked, step_of, is_line_ending, event, leaf, LineByte, line_ending, other, line_byte, counts}
 use Rattle.mdconstructs_machines.proofs.LineReads.Steps.{EndsWith, leads-step}
 
 -- two events more

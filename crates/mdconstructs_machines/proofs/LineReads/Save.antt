@@ -1,22 +1,6 @@
 -- The machine that saves its place passes the first line, goes back to where it ended, and reads data.
-use Rattle.std.proofs.Common.{◌≡◌, ℕ, ◌+◌, ◌∷◌, [], List, Bool, true, false, cond, refl, sym, ◌∙◌, ap, subst, Some, None, drop}
-use Rattle.std.specs.List.{flat_map}
-use Rattle.markdown_base.proofs.Common.{drop-next}
-use Rattle.markdown_base.specs.declared.state.Name.{Name}
-use Rattle.markdown_base.specs.declared.state.State.TheVariants.{Next, Retry}
-use Rattle.markdown_base.specs.declared.state.TheConstants.Name.{TextStart, TextBefore, DataStart}
-use Rattle.markdown_base.specs.Virtual.{Seat}
-use Rattle.markdown_tokenizer.specs.declared.waiting.AttemptKind.TheVariants.{Attempt}
-use Rattle.markdown_tokenizer.specs.declared.waiting.Waits.TheVariants.{Nothing, Byte, End}
-use Rattle.markdown_tokenizer.specs.Calls.{with_local}
-use Rattle.markdown_tokenizer.specs.Text.{Given, Text}
-use Rattle.markdown_tokenizer.specs.Configuration.{Configuration, Local, Step, start_configuration}
-use Rattle.markdown_tokenizer.specs.Sight.{Sight}
-use Rattle.markdown_tokenizer.specs.Engine.{whole_text}
-use Rattle.mdconstructs_machines.specs.LineEvents.{is_line_ending, joined, lines_in, data_line, data_events, save_events}
-use Rattle.mdconstructs_machines.specs.ReadAs.{IsReadAs}
-use Rattle.mdconstructs_machines.specs.Save.{save_rules, text_start_rows, text_before_rows}
-use Rattle.mdconstructs_machines.specs.Tables.{line_ending, other, counts}
+use Rattle.mdconstructs_machines.proofs.Prelude.{◌≡◌, ℕ, ◌+◌, ◌∷◌, [], List, Bool, true, false, cond, refl, sym, ◌∙◌, ap, subst, Some, None, drop, flat_map, drop-next, Name, Next, Retry, TextStart, TextBefore, DataStart, Seat, Attempt, Nothing, Byte, End, with_local, Given, Text, Configuration, Local, Step, start_configuration, Sight, whole_text, is_line_ending, joined, lines_in, data_line, data_events, save_events, IsReadAs, save_rules, line_ending, other, counts}
+use Rattle.mdconstructs_machines.specs.Save.{text_start_rows, text_before_rows}
 use Rattle.mdconstructs_machines.proofs.LineReads.Data.{ReadsData, data-read}
 use Rattle.mdconstructs_machines.proofs.LineReads.Looks.{goes-back, shows-events}
 use Rattle.mdconstructs_machines.proofs.LineReads.Rows.{HasRows, leads-row, waits_class, is-class}

@@ -1,24 +1,6 @@
 -- How a machine reads on, in small steps: to come to these events it is enough to come to them from further on.
-use Rattle.std.proofs.Common.{◌≡◌, ℕ, zero, suc, ◌+◌, ◌-◌, ◌≤◌, ◌∷◌, ◌++◌, [], List, Bool, true, false, cond, Some, refl, sym, ◌∙◌, ap, subst, arith, length, drop, slice_get}
-use Rattle.std.proofs.lemmas.Bool.{lt-ltb, le-ltb}
-use Rattle.std.proofs.lemmas.List.{length-drop}
-use Rattle.std.proofs.lemmas.Option.{slice_get_within}
-use Rattle.markdown_base.specs.declared.event.Event.{Event}
+use Rattle.mdconstructs_machines.proofs.Prelude.{◌≡◌, ℕ, zero, suc, ◌+◌, ◌-◌, ◌≤◌, ◌∷◌, ◌++◌, [], List, Bool, true, false, cond, Some, refl, sym, ◌∙◌, ap, subst, arith, length, drop, slice_get, lt-ltb, le-ltb, length-drop, slice_get_within, Event, Name, State, Next, Retry, Ok, Nok, Seat, virtual, Waits, Nothing, Byte, End, Given, Text, Configuration, Local, Choice, Step, start_configuration, Sight, sight, Reading, EndsIn, fed, settled_at, Rules, whole_text, called-ends, fed-ends, settled-nok-ends, one-end, IsReadAs}
 use Rattle.markdown_base.specs.declared.event.Name.{Name as EventName}
-use Rattle.markdown_base.specs.declared.state.Name.{Name}
-use Rattle.markdown_base.specs.declared.state.State.{State}
-use Rattle.markdown_base.specs.declared.state.State.TheVariants.{Next, Retry, Ok, Nok}
-use Rattle.markdown_base.specs.Virtual.{Seat, virtual}
-use Rattle.markdown_tokenizer.specs.declared.waiting.Waits.{Waits}
-use Rattle.markdown_tokenizer.specs.declared.waiting.Waits.TheVariants.{Nothing, Byte, End}
-use Rattle.markdown_tokenizer.specs.Text.{Given, Text}
-use Rattle.markdown_tokenizer.specs.Configuration.{Configuration, Local, Choice, Step, start_configuration}
-use Rattle.markdown_tokenizer.specs.Sight.{Sight, sight}
-use Rattle.markdown_tokenizer.specs.Reading.{Reading, EndsIn, fed, settled_at}
-use Rattle.markdown_tokenizer.specs.Rules.{Rules}
-use Rattle.markdown_tokenizer.specs.Engine.{whole_text}
-use Rattle.markdown_tokenizer.proofs.Readings.Bounds.{called-ends, fed-ends, settled-nok-ends, one-end}
-use Rattle.mdconstructs_machines.specs.ReadAs.{IsReadAs}
 
 -- the element at a position
 pub at-front : {X : Type 0} (xs : List X) (p : ℕ) (x : X) (rest : List X) → drop p xs ≡ x ∷ rest → slice_get xs p ≡ Some x

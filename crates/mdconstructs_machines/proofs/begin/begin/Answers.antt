@@ -1,7 +1,4 @@
-use Rattle.std.proofs.Common.{ap, ◌∙◌}
-use Rattle.markdown_tokenizer.specs.Calls.{with_local}
-use Rattle.markdown_tokenizer.specs.Configuration.{at_configuration}
-use Rattle.mdconstructs_machines.specs.Tables.{counts}
+use Rattle.mdconstructs_machines.proofs.Prelude.{ap, ◌∙◌, with_local, at_configuration, counts}
 use Rattle.mdconstructs_machines.proofs.begin.begin.Goals as goal
 
 pub returns : goal.returns

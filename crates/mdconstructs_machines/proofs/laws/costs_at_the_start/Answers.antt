@@ -1,6 +1,4 @@
-use Rattle.std.proofs.Common.{◌≡◌, ◌+◌, ◌-◌, ◌*◌, ◌/◌, ℕ, zero, suc, length, refl, arith, rules}
-use Rattle.mdconstructs_machines.specs.Deep.{triangle}
-use Rattle.mdconstructs_machines.specs.Laws.Deep.{triangle-is}
+use Rattle.mdconstructs_machines.proofs.Prelude.{◌≡◌, ◌+◌, ◌-◌, ◌*◌, ◌/◌, ℕ, zero, suc, length, refl, arith, rules, triangle, triangle-is}
 use Rattle.mdconstructs_machines.proofs.laws.costs_at_the_start.Goals as goal
 
 half : (a b : ℕ) → a ≡ 2 * b → a / 2 ≡ b

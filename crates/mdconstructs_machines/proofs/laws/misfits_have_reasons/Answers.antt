@@ -1,4 +1,4 @@
-use Rattle.std.proofs.Common.{refl}
+use Rattle.mdconstructs_machines.proofs.Prelude.{refl}
 use Rattle.mdconstructs_machines.proofs.laws.misfits_have_reasons.Goals as goal
 
 pub returns-clause-act : goal.returns-clause-act

@@ -1,8 +1,4 @@
-use Rattle.std.proofs.Common.{◌≡◌, ◌==◌, Some, cond, false, refl, sym, ap, ◌∙◌, arith}
-use Rattle.std.proofs.lemmas.Bool.Decides.{nat_tests}
-use Rattle.mdconstructs_tables.specs.Rows.{class_of}
-use Rattle.mdconstructs_machines.specs.Tables.{line_ending, other, line_byte}
-use Rattle.mdconstructs_machines.specs.Lines.{flow_start}
+use Rattle.mdconstructs_machines.proofs.Prelude.{◌≡◌, ◌==◌, Some, cond, false, refl, sym, ap, ◌∙◌, arith, nat_tests, class_of, line_ending, other, line_byte, flow_start}
 use Rattle.mdconstructs_machines.proofs.RowSteps.{by-row}
 use Rattle.mdconstructs_machines.proofs.lines.flow_start.Goals as goal
 

@@ -1,8 +1,4 @@
-use Rattle.std.proofs.Common.{◌≡◌, Some, refl, ap}
-use Rattle.markdown_tokenizer.specs.Sight.{sight_of}
-use Rattle.mdconstructs_tables.specs.Rows.{class_of}
-use Rattle.mdconstructs_machines.specs.Tables.{line_ending, line_byte}
-use Rattle.mdconstructs_machines.specs.Lines.{paragraph_inside}
+use Rattle.mdconstructs_machines.proofs.Prelude.{◌≡◌, Some, refl, ap, sight_of, class_of, line_ending, line_byte, paragraph_inside}
 use Rattle.mdconstructs_machines.proofs.RowSteps.{by-row}
 use Rattle.mdconstructs_machines.proofs.lines.paragraph_inside.Goals as goal
 

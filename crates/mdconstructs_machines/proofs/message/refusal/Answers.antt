@@ -1,4 +1,4 @@
-use Rattle.std.proofs.Common.{refl}
+use Rattle.mdconstructs_machines.proofs.Prelude.{refl}
 use Rattle.mdconstructs_machines.proofs.message.refusal.Goals as goal
 
 pub returns : goal.returns

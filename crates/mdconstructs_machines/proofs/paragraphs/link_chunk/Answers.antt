@@ -1,5 +1,4 @@
-use Rattle.std.proofs.Common.{◌≡◌, ap}
-use Rattle.mdconstructs_machines.specs.Paragraphs.{chunk_before}
+use Rattle.mdconstructs_machines.proofs.Prelude.{◌≡◌, ap, chunk_before}
 use Rattle.mdconstructs_machines.proofs.paragraphs.link_chunk.Goals as goal
 
 pub link_to-requires : goal.link_to-requires

@@ -1,7 +1,4 @@
-use Rattle.std.proofs.Common.{◌≡◌, Some, refl, ap, rules}
-use Rattle.markdown_tokenizer.specs.Sight.{sight_of}
-use Rattle.mdconstructs_tables.specs.Rows.{class_of}
-use Rattle.mdconstructs_machines.specs.Tables.{line_ending, line_byte}
+use Rattle.mdconstructs_machines.proofs.Prelude.{◌≡◌, Some, refl, ap, rules, sight_of, class_of, line_ending, line_byte}
 use Rattle.mdconstructs_machines.specs.Paragraphs.{paragraph_inside}
 use Rattle.mdconstructs_machines.proofs.RowSteps.{by-row}
 use Rattle.mdconstructs_machines.proofs.paragraphs.paragraph_inside.Goals as goal

@@ -1,10 +1,4 @@
-use Rattle.std.proofs.Common.{◌≡◌, true, Some, sym, ◌∙◌, rules}
-use Rattle.markdown_base.specs.declared.event.Name.TheVariants.{Data}
-use Rattle.markdown_tokenizer.specs.Calls.{entered}
-use Rattle.markdown_tokenizer.specs.Configuration.{TokenizerValue, at_configuration}
-use Rattle.markdown_tokenizer.specs.Sight.{sight_of}
-use Rattle.markdown_edits.specs.Links.{CanLink}
-use Rattle.mdconstructs_machines.specs.Paragraphs.{text_link, chunk_before, last_event}
+use Rattle.mdconstructs_machines.proofs.Prelude.{◌≡◌, true, Some, sym, ◌∙◌, rules, Data, entered, TokenizerValue, at_configuration, sight_of, CanLink, text_link, chunk_before, last_event}
 use Rattle.mdconstructs_machines.proofs.paragraphs.paragraph_start.Goals as goal
 
 -- what can be linked in one configuration can be in another that is the same

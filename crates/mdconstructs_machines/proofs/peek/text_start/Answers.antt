@@ -1,4 +1,4 @@
-use Rattle.std.proofs.Common.{refl}
+use Rattle.mdconstructs_machines.proofs.Prelude.{refl}
 use Rattle.mdconstructs_machines.proofs.peek.text_start.Goals as goal
 
 pub returns : goal.returns

@@ -1,4 +1,4 @@
-use Rattle.std.proofs.Common.{◌==◌, ap}
+use Rattle.mdconstructs_machines.proofs.Prelude.{◌==◌, ap}
 use Rattle.mdconstructs_machines.proofs.words.are_two.Goals as goal
 
 pub returns : goal.returns

@@ -1,4 +1,4 @@
-use Rattle.std.proofs.Common.{sym, ◌∙◌}
+use Rattle.mdconstructs_machines.proofs.Prelude.{sym, ◌∙◌}
 use Rattle.mdconstructs_machines.proofs.wrap.rename.Goals as goal
 
 pub returns-then-eq : goal.returns-then-eq

@@ -1,6 +1,4 @@
-use Rattle.std.proofs.Common.{◌≡◌, ℕ, suc, ◌+◌, ◌<◌, ◌≤◌, List, length, get_or, slice_set, ap, ◌∙◌, arith}
-use Rattle.markdown_base.specs.declared.event.Event.{Event}
-use Rattle.mdconstructs_machines.specs.Wrap.{renamed}
+use Rattle.mdconstructs_machines.proofs.Prelude.{◌≡◌, ℕ, suc, ◌+◌, ◌<◌, ◌≤◌, List, length, get_or, slice_set, ap, ◌∙◌, arith, Event, renamed}
 use Rattle.mdconstructs_machines.proofs.Mapped.{mapped, mapped-all, mapped-length, mapped-more}
 use Rattle.mdconstructs_machines.proofs.wrap.rename_each.Goals as goal
 

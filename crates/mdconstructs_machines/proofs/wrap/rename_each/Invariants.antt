@@ -1,5 +1,4 @@
-use Rattle.std.proofs.Common.{◌≡◌}
-use Rattle.mdconstructs_machines.specs.Wrap.{renamed}
+use Rattle.mdconstructs_machines.proofs.Prelude.{◌≡◌, renamed}
 use Rattle.mdconstructs_machines.proofs.Mapped.{mapped}
 use Rattle.mdconstructs_machines.proofs.wrap.rename_each.Given as goal
 

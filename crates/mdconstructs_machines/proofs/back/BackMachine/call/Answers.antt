@@ -1,13 +1,5 @@
-use Rattle.std.proofs.Common.{◌≡◌, Some, refl, sym, subst, ap, rules}
-use Rattle.markdown_base.specs.declared.state.State.TheVariants.{Nok}
-use Rattle.markdown_base.specs.declared.state.TheConstants.Name.{StringStart}
-use Rattle.markdown_tokenizer.specs.Lawful.{DidStep}
-use Rattle.markdown_tokenizer.specs.Calls.{with_local}
-use Rattle.markdown_tokenizer.specs.Sight.{sight_of}
-use Rattle.mdconstructs_tables.specs.Rows.{named, step_at}
-use Rattle.mdconstructs_tables.proofs.Rows.Calls.{callable, never-called}
-use Rattle.mdconstructs_machines.specs.Tables.{counts}
-use Rattle.mdconstructs_machines.specs.Back.{back, text_start, text_before, data_start, data_inside, string_start, data_at_break, string_before}
+use Rattle.mdconstructs_machines.proofs.Prelude.{◌≡◌, Some, refl, sym, subst, ap, rules, Nok, StringStart, DidStep, with_local, sight_of, named, step_at, callable, never-called, counts, back, text_start, text_before, string_start, data_at_break, string_before}
+use Rattle.mdconstructs_machines.specs.Back.{data_start, data_inside}
 use Rattle.mdconstructs_machines.proofs.back.BackMachine.call.Goals as goal
 
 pub text_start-requires : goal.text_start-requires

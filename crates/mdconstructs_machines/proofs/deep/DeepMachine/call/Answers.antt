@@ -1,8 +1,5 @@
-use Rattle.std.proofs.Common.{refl, rules}
-use Rattle.mdconstructs_tables.proofs.Rows.Calls.{callable, never-called}
-use Rattle.mdconstructs_machines.specs.Tables.{counts}
-use Rattle.mdconstructs_machines.specs.Deep.{deep, string_start, string_before}
-use Rattle.mdconstructs_machines.specs.Reading.{data_start, data_inside}
+use Rattle.mdconstructs_machines.proofs.Prelude.{refl, rules, callable, never-called, counts, deep, data_start, data_inside}
+use Rattle.mdconstructs_machines.specs.Deep.{string_start, string_before}
 use Rattle.mdconstructs_machines.proofs.deep.DeepMachine.call.Goals as goal
 
 pub string_start-requires : goal.string_start-requires

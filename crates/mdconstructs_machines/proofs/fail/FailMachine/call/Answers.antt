@@ -1,6 +1,5 @@
-use Rattle.std.proofs.Common.{refl, rules}
-use Rattle.mdconstructs_tables.proofs.Rows.Calls.{callable}
-use Rattle.mdconstructs_machines.specs.Fail.{fail, as_it_was, text_start}
+use Rattle.mdconstructs_machines.proofs.Prelude.{refl, rules, callable, fail, as_it_was}
+use Rattle.mdconstructs_machines.specs.Fail.{text_start}
 use Rattle.mdconstructs_machines.proofs.fail.FailMachine.call.Goals as goal
 
 pub text_start-requires : goal.text_start-requires

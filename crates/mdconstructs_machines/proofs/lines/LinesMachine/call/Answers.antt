@@ -1,7 +1,4 @@
-use Rattle.std.proofs.Common.{refl, rules}
-use Rattle.mdconstructs_tables.proofs.Rows.Calls.{callable, never-called}
-use Rattle.mdconstructs_machines.specs.Tables.{counts}
-use Rattle.mdconstructs_machines.specs.Lines.{lines, flow_start, paragraph_inside}
+use Rattle.mdconstructs_machines.proofs.Prelude.{refl, rules, callable, never-called, counts, lines, flow_start, paragraph_inside}
 use Rattle.mdconstructs_machines.proofs.lines.LinesMachine.call.Goals as goal
 
 pub flow_start-requires : goal.flow_start-requires

@@ -1,10 +1,5 @@
-use Rattle.std.proofs.Common.{refl, rules, sym, subst}
-use Rattle.mdconstructs_tables.specs.RowInvariant.{begun}
-use Rattle.mdconstructs_tables.proofs.Rows.Calls.{callable, never-called}
-use Rattle.mdconstructs_machines.specs.Tables.{counts}
-use Rattle.mdconstructs_machines.specs.Paragraphs.{paragraphs, flow_start, paragraph_line_start, paragraph_start, paragraph_inside, CanLinkChunk}
-use Rattle.mdconstructs_machines.specs.Reading.{data_start, data_inside}
-use Rattle.mdconstructs_machines.specs.Laws.Paragraphs.{known-before, can-follow}
+use Rattle.mdconstructs_machines.proofs.Prelude.{refl, rules, sym, subst, begun, callable, never-called, counts, paragraphs, paragraph_line_start, paragraph_start, CanLinkChunk, data_start, data_inside, known-before, can-follow}
+use Rattle.mdconstructs_machines.specs.Paragraphs.{flow_start, paragraph_inside}
 use Rattle.mdconstructs_machines.proofs.paragraphs.ParagraphsMachine.call.Goals as goal
 
 pub flow_start-requires : goal.flow_start-requires

@@ -1,8 +1,5 @@
-use Rattle.std.proofs.Common.{refl, rules}
-use Rattle.mdconstructs_tables.proofs.Rows.Calls.{callable, never-called}
-use Rattle.mdconstructs_machines.specs.Tables.{counts}
-use Rattle.mdconstructs_machines.specs.Peek.{peek, text_start, text_before}
-use Rattle.mdconstructs_machines.specs.Reading.{data_start, data_inside}
+use Rattle.mdconstructs_machines.proofs.Prelude.{refl, rules, callable, never-called, counts, peek, data_start, data_inside}
+use Rattle.mdconstructs_machines.specs.Peek.{text_start, text_before}
 use Rattle.mdconstructs_machines.proofs.peek.PeekMachine.call.Goals as goal
 
 pub text_start-requires : goal.text_start-requires

@@ -1,7 +1,5 @@
-use Rattle.std.proofs.Common.{◌≡◌, [], refl, rules, sym, subst}
-use Rattle.mdconstructs_tables.proofs.Rows.Calls.{callable, never-called}
-use Rattle.mdconstructs_machines.specs.Tables.{counts}
-use Rattle.mdconstructs_machines.specs.Words.{words, text_start, blanks, word_start, tag, word}
+use Rattle.mdconstructs_machines.proofs.Prelude.{◌≡◌, [], refl, rules, sym, subst, callable, never-called, counts, words, blanks, word_start, tag, word}
+use Rattle.mdconstructs_machines.specs.Words.{text_start}
 use Rattle.mdconstructs_machines.specs.Laws.Words.{known-before}
 use Rattle.mdconstructs_machines.proofs.words.WordsMachine.call.Goals as goal
 

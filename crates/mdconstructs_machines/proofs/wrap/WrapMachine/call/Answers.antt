@@ -1,8 +1,5 @@
-use Rattle.std.proofs.Common.{refl, rules}
-use Rattle.mdconstructs_tables.proofs.Rows.Calls.{callable}
-use Rattle.mdconstructs_machines.specs.Tables.{counts}
-use Rattle.mdconstructs_machines.specs.Wrap.{wrap, text_start}
-use Rattle.mdconstructs_machines.specs.Reading.{data_start, data_inside}
+use Rattle.mdconstructs_machines.proofs.Prelude.{refl, rules, callable, counts, wrap, data_start, data_inside}
+use Rattle.mdconstructs_machines.specs.Wrap.{text_start}
 use Rattle.mdconstructs_machines.proofs.wrap.WrapMachine.call.Goals as goal
 
 pub text_start-requires : goal.text_start-requires
