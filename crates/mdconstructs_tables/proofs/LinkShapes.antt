@@ -3,22 +3,19 @@ use Rattle.mdconstructs_tables.proofs.Prelude.{◌≡◌, ℕ, zero, suc, ◌+�
 
 same-or-not : (i p : ℕ) → (i ≡ p) ⊎ (i ≡ p → ⊥)
 same-or-not zero zero = inl refl
-same-or-not zero (suc p) = inr (λ e. absurd (omega (arith, e)))
-same-or-not (suc i) zero = inr (λ e. absurd (omega (arith, e)))
 same-or-not (suc i) (suc p) = elim (same-or-not i p) [ inl e ↦ inl (ap suc e) | inr apart ↦ inr (λ e. apart (omega (arith, e))) ]
+same-or-not i p = inr (λ e. absurd (omega (arith, e)))
 
 -- Events that are added
 pub next-more : (xs : List Event) (e : Event) (i : ℕ) → next_end e ≡ None → next_of (xs ++ e ∷ []) i ≡ next_of xs i
 next-more [] e zero h = h
-next-more [] e (suc i) h = refl
-next-more (x ∷ xs) e zero h = refl
 next-more (x ∷ xs) e (suc i) h = next-more xs e i h
+next-more xs e i h = refl
 
 previous-more : (xs : List Event) (e : Event) (i : ℕ) → previous_end e ≡ None → previous_of (xs ++ e ∷ []) i ≡ previous_of xs i
 previous-more [] e zero h = h
-previous-more [] e (suc i) h = refl
-previous-more (x ∷ xs) e zero h = refl
 previous-more (x ∷ xs) e (suc i) h = previous-more xs e i h
+previous-more xs e i h = refl
 
 end-more : (n m : ℕ) (o : Option ℕ) → n ≤ m → IfSome o (λ k. k < n) → IfSome o (λ k. k < m)
 end-more n m None less h = tt
@@ -65,9 +62,8 @@ previous-set-at (suc p) n (x ∷ xs) e l is link = previous-set-at p n xs e l is
 pub get-other : (p i : ℕ) (f : Event → Event) (xs : List Event) → (i ≡ p → ⊥) → slice_get (updated_at p f xs) i ≡ slice_get xs i
 get-other p i f [] apart = refl
 get-other zero zero f (x ∷ xs) apart = absurd (apart refl)
-get-other zero (suc i) f (x ∷ xs) apart = refl
-get-other (suc p) zero f (x ∷ xs) apart = refl
 get-other (suc p) (suc i) f (x ∷ xs) apart = get-other p i f xs (λ e. apart (ap suc e))
+get-other p i f xs apart = refl
 
 pub next-other : (p i : ℕ) (f : Event → Event) (xs : List Event) → (i ≡ p → ⊥) → next_of (updated_at p f xs) i ≡ next_of xs i
 next-other p i f xs apart = ap (λ (o : Option Event). option_and_then (λ (e : Event). option_and_then (λ (l : Link). l.next) e.link) o) (get-other p i f xs apart)
@@ -86,16 +82,14 @@ kept-next n (Some l) = refl
 previous-kept : (p n i : ℕ) (xs : List Event) → previous_of (updated_at p (with_next n) xs) i ≡ previous_of xs i
 previous-kept p n i [] = refl
 previous-kept zero n zero (x ∷ xs) = kept-previous n x.link
-previous-kept zero n (suc i) (x ∷ xs) = refl
-previous-kept (suc p) n zero (x ∷ xs) = refl
 previous-kept (suc p) n (suc i) (x ∷ xs) = previous-kept p n i xs
+previous-kept p n i xs = refl
 
 pub next-kept : (p n i : ℕ) (xs : List Event) → next_of (updated_at p (with_previous n) xs) i ≡ next_of xs i
 next-kept p n i [] = refl
 next-kept zero n zero (x ∷ xs) = kept-next n x.link
-next-kept zero n (suc i) (x ∷ xs) = refl
-next-kept (suc p) n zero (x ∷ xs) = refl
 next-kept (suc p) n (suc i) (x ∷ xs) = next-kept p n i xs
+next-kept p n i xs = refl
 
 below-next : (n m : ℕ) (o : Option Link) → n < m → IfSome o (EachEnd (λ k. k < m)) → IfSome (option_map (next_set n) o) (EachEnd (λ k. k < m))
 below-next n m None less h = tt

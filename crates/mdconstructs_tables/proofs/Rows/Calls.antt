@@ -1,5 +1,5 @@
 -- What the code of a state may do where it is called, from the test of its acts.
-use Rattle.mdconstructs_tables.proofs.Prelude.{◌≡◌, ◌≢◌, ◌==◌, ℕ, ◌<◌, ◌≤◌, ◌&&◌, ◌||◌, not, List, [], ◌∷◌, ◌++◌, Bool, true, false, cond, Option, Some, None, length, map, refl, sym, ap, ◌∙◌, subst, arith, append_assoc, length-append, All, IfSome, reverse, last_or, nat_tests, All-head, All-tail, All-weaker, and_parts, slice_get_past, Event, Enter, Name, Retry, open_events, is_void, unlinked, stands_before, or-leads, Waits, Nothing, Byte, End, Text, Configuration, Local, Choice, Saved, TokenizerValue, sight, sight_of, byte_of, CanExit, IsAsFar, Act, enters, exit, consume, links, write, choose, done, with_choice_of, StateRows, Called, Table, class_of, does, chooses, named, Stage, end_waits, byte_waits, byte_read, Shape, is_last, allows_all, after_all, start_shape, is_called_at, is_some, EndsWithEnter, since, IsFed, class_in, begun, IsBelow, table_holds, IsAtState, once_read, CanEnd, IsCallable, IsMarkable}
+use Rattle.mdconstructs_tables.proofs.Prelude.{◌≡◌, ◌≢◌, ◌==◌, ℕ, ◌<◌, ◌≤◌, ◌&&◌, ◌||◌, not, List, [], ◌∷◌, ◌++◌, Bool, true, false, cond, Option, Some, None, length, map, refl, sym, ap, ◌∙◌, subst, arith, append_assoc, length-append, All, IfSome, reverse, last_or, nat_tests, All-head, All-tail, All-weaker, and_parts, slice_get_past, Event, Enter, Name, Retry, open_events, is_void, unlinked, stands_before, or-leads, Waits, Nothing, Byte, End, Text, Configuration, Local, Choice, Saved, TokenizerValue, sight, sight_of, byte_of, CanExit, IsAsFar, Act, enters, exit, consume, done, with_choice_of, StateRows, Called, Table, class_of, does, chooses, named, Stage, byte_read, Shape, is_last, allows_all, after_all, start_shape, is_called_at, is_some, EndsWithEnter, since, IsFed, class_in, begun, IsBelow, table_holds, IsAtState, once_read, CanEnd, IsCallable, IsMarkable}
 use Rattle.markdown_base.specs.declared.event.Name.{Name as EventName}
 use Rattle.mdconstructs_tables.proofs.Rows.Laws.{Waited, reached, sight_at, HasShape, below_all, is-last, last-above, last-long, to-before, open-unlinked, left-at, here-at, has-after-all, does-then, chooses-then, allows-then, allows-front}
 use Rattle.mdconstructs_tables.proofs.GrowingTexts.{next-left}
@@ -31,9 +31,8 @@ above-all base spans stack cs same some h = All-weaker (IsBelow base) (λ c. IfS
 
 -- if a byte still waits, nothing was read
 still-waiting : {R D : Type 0} (stage : Stage) (k k' : Configuration R D) → IsAsFar k' (reached stage k) → k'.waiting ≡ Byte → (k'.position ≡ k.position) × (k'.waiting ≡ k.waiting)
-still-waiting end_waits k k' far is = (far.0, far.1)
-still-waiting byte_waits k k' far is = (far.0, far.1)
 still-waiting byte_read k k' far is = absurd (let e : Nothing ≡ Byte = sym far.1 ∙ is in cc)
+still-waiting stage k k' far is = (far.0, far.1)
 
 -- the tokenizer after one act
 abbrev pub acted_once : {M R D : Type 0} → Act R D → TokenizerValue M R D → TokenizerValue M R D
@@ -109,10 +108,7 @@ module _ {M W R D : Type 0} (class : ℕ → W) (state : StateRows W R D) (b w :
         → done act (sight t.given t.text k') k' ≡ done act (sight_at p.stage (sight_of t)) k'
     done-at (enters name link) p k' far waited = ap (λ q. done (enters name link) (record (sight_of t) { enter_place = q }) k') (here-at t.given t.text t.configuration p.stage k' far waited)
     done-at (exit name) p k' far waited = ap (λ q. done (exit name) (record (sight_of t) { exit_place = q }) k') (left-at t.given t.text t.configuration p.stage k' far waited)
-    done-at consume p k' far waited = refl
-    done-at (links previous next) p k' far waited = refl
-    done-at (write f) p k' far waited = refl
-    done-at (choose kind ok nok) p k' far waited = refl
+    done-at act p k' far waited = refl
 
     -- one more act
     pub then : (acts : List (Act R D)) (act : Act R D) (t' t'' : TokenizerValue M R D) → are_allowed (acts ++ act ∷ []) ≡ true → t' ≡ acted acts → t'' ≡ acted_once act t' → t'' ≡ acted (acts ++ act ∷ [])

@@ -1,18 +1,17 @@
 -- What a row keeps: lemmas for the laws of tables.
-use Rattle.mdconstructs_tables.proofs.Prelude.{◌≡◌, suc, ◌+◌, ◌-◌, ◌<◌, ◌≤◌, not, List, [], ◌∷◌, ◌++◌, Bool, true, false, Option, Some, None, length, map, refl, sym, ap, ◌∙◌, subst, arith, take, append_assoc, length-append, All, IfSome, last_or, and_from, and_parts, append-nil, map-append, All-push, All-take, All-weaker, All-cons, Event, Enter, Exit, Point, State, Next, Retry, Ok, Nok, Error, open_events, unlinked, stands_before, open_events_from-unlinked, stands-self, Nothing, Byte, AttemptKind, Attempt, Check, Given, Text, Configuration, Choice, Saved, Sight, sight, consumed, linked-unlinked, IsAsFar, same_name-true, before-upto, Act, enters, exit, consume, links, write, choose, past, done, seen_after, choice_made_at, with_choice_of, does, chooses, Stage, end_waits, byte_waits, byte_read, Shape, is_byte_waiting, is_end, is_last, allows, after, allows_all, after_all, same_names, outline, EndsWithEnter, Began, upto, since, AnyWait, IsBelow}
+use Rattle.mdconstructs_tables.proofs.Prelude.{◌≡◌, suc, ◌+◌, ◌-◌, ◌<◌, ◌≤◌, not, List, [], ◌∷◌, ◌++◌, Bool, true, false, Option, Some, None, length, map, refl, sym, ap, ◌∙◌, subst, arith, take, append_assoc, length-append, All, IfSome, last_or, and_from, and_parts, append-nil, map-append, All-push, All-take, All-weaker, All-cons, Event, Enter, Exit, Point, State, Nok, open_events, unlinked, stands_before, open_events_from-unlinked, stands-self, Nothing, Byte, AttemptKind, Attempt, Given, Text, Configuration, Choice, Saved, Sight, sight, consumed, linked-unlinked, IsAsFar, same_name-true, before-upto, Act, enters, exit, consume, links, write, choose, past, done, seen_after, choice_made_at, with_choice_of, does, chooses, Stage, end_waits, byte_waits, byte_read, Shape, is_byte_waiting, is_end, is_last, allows, after, allows_all, after_all, same_names, outline, EndsWithEnter, Began, upto, since, AnyWait, IsBelow}
 use Rattle.markdown_base.specs.declared.event.Name.{Name as EventName}
 use Rattle.mdconstructs_tables.proofs.GrowingTexts.{open-more, last-more, next-left}
 
 -- What the tests of equality say
 pub same_names-true : (xs ys : List EventName) → same_names xs ys ≡ true → xs ≡ ys
 same_names-true [] [] h = refl
-same_names-true [] (y ∷ ys) h = absurd (cc)
-same_names-true (x ∷ xs) [] h = absurd (cc)
 same_names-true (x ∷ xs) (y ∷ ys) h =
     let (first, rest) = and_parts _ _ h in
     let one = same_name-true x y first in
     let more = same_names-true xs ys rest in
     cc
+same_names-true xs ys h = absurd (cc)
 
 pub is-last : (name : EventName) (o : Option EventName) → is_last name o ≡ true → o ≡ Some name
 is-last name None h = absurd (cc)
@@ -77,14 +76,12 @@ pub record HasShape {R D : Type 0} (p : Shape) (base : List EventName) (s : Sigh
   pub within : p.within ≡ true → AnyWait choices
 
 pub waiting-stage : (stage : Stage) → is_byte_waiting stage ≡ true → stage ≡ byte_waits
-waiting-stage end_waits h = absurd (cc)
 waiting-stage byte_waits h = refl
-waiting-stage byte_read h = absurd (cc)
+waiting-stage stage h = absurd (cc)
 
 pub not-end : (stage : Stage) → not (is_end stage) ≡ true → is_end stage ≡ false
 not-end end_waits h = absurd (cc)
-not-end byte_waits h = refl
-not-end byte_read h = refl
+not-end stage h = refl
 
 -- Where spans may have begun
 pub before-is-upto : (place q : Point) → upto false place q ≡ true → upto true place q ≡ true
@@ -100,8 +97,7 @@ to-fresh false stage s q sees h = sees.later q h
 pub to-before : (fresh : Bool) (stage : Stage) (s : Sight) (q : Point) → not fresh ≡ true → since fresh stage s q ≡ true → stands_before q s.exit_place ≡ true
 to-before true stage s q fit h = absurd (cc)
 to-before false end_waits s q fit h = h
-to-before false byte_waits s q fit h = h
-to-before false byte_read s q fit h = h
+to-before false stage s q fit h = h
 
 -- if each open span began by one test, it began by another
 pub began-on : (from to : Point → Bool) (events : List Event) → ((q : Point) → from q ≡ true → to q ≡ true) → Began from events → Began to events
@@ -126,9 +122,8 @@ module _ {R D : Type 0} where
   below_all (act ∷ acts) p base = below_all acts (after act p) (below_after act p base)
 
 past-stage : (stage : Stage) (s : Sight) (q : Point) → stage ≡ byte_waits → since true stage s q ≡ true → stands_before q s.next ≡ true
-past-stage end_waits s q e h = absurd (cc)
 past-stage byte_waits s q e h = h
-past-stage byte_read s q e h = absurd (cc)
+past-stage stage s q e h = absurd (cc)
 
 still-before : (fresh : Bool) (stage : Stage) (s : Sight) (q : Point) → not fresh ≡ true → since fresh stage s q ≡ true → since false stage s q ≡ true
 still-before true stage s q fit h = absurd (cc)
@@ -137,33 +132,25 @@ still-before false stage s q fit h = h
 module _ {R D : Type 0} (g : Given) (text : Text) (old : Configuration R D) where
   -- the place of an exit, by how far a call is
   pub left-at : (stage : Stage) (k : Configuration R D) → IsAsFar k (reached stage old) → Waited stage text old → (sight g text k).exit_place ≡ (sight_at stage (sight g text old)).exit_place
-  left-at end_waits k far waited = rw far.0 refl
-  left-at byte_waits k far waited = rw far.0 refl
   left-at byte_read k far waited = let byte = waited.0 in rw (far.0, byte) (sym (next-left g text old.position k.waiting waited.1))
+  left-at stage k far waited = rw far.0 refl
 
   -- the place of an enter before the end
   pub here-at : (stage : Stage) (k : Configuration R D) → IsAsFar k (reached stage old) → Waited stage text old → (sight g text k).enter_place ≡ (sight_at stage (sight g text old)).enter_place
-  here-at end_waits k far waited = rw (far.0, far.1) refl
-  here-at byte_waits k far waited = rw (far.0, far.1) refl
   here-at byte_read k far waited = let byte = waited.0 in rw (far.0, far.1, byte) (sym (next-left g text old.position Nothing waited.1))
+  here-at stage k far waited = rw (far.0, far.1) refl
 
   read-far : (stage : Stage) (k : Configuration R D) → stage ≡ byte_waits → IsAsFar k (reached stage old) → IsAsFar (consumed k) (consumed old)
-  read-far end_waits k e h = absurd (cc)
   read-far byte_waits k e h = (ap (λ n. n + 1) h.0, refl, refl)
-  read-far byte_read k e h = absurd (cc)
+  read-far stage k e h = absurd (cc)
 
   waited-read : (stage : Stage) → stage ≡ byte_waits → Waited stage text old → CanRead text old
   waited-read end_waits e h = absurd (cc)
-  waited-read byte_waits e h = h
-  waited-read byte_read e h = h
+  waited-read stage e h = h
 
   chosen-below : (kind : AttemptKind) (ok nok : State) (stack : List EventName) (k : Configuration R D) → k.stack ≡ stack → IsBelow stack (choice_made_at kind ok nok k)
-  chosen-below Check ok nok stack k h = omega (arith, ap length h)
   chosen-below Attempt ok Nok stack k h = tt
-  chosen-below Attempt ok (Next name) stack k h = omega (arith, ap length h)
-  chosen-below Attempt ok (Retry name) stack k h = omega (arith, ap length h)
-  chosen-below Attempt ok Ok stack k h = omega (arith, ap length h)
-  chosen-below Attempt ok (Error message) stack k h = omega (arith, ap length h)
+  chosen-below kind ok nok stack k h = omega (arith, ap length h)
 
   -- an act that is allowed leaves the shape after it
   pub has-after : (act : Act R D) (p : Shape) (base : List EventName) (s : Sight) (k : Configuration R D) (choices : List Choice) → allows act p ≡ true → IsSeenAhead p.stage s
@@ -232,20 +219,12 @@ module _ {R D : Type 0} (g : Given) (text : Text) (old : Configuration R D) wher
 
 module _ {R D : Type 0} where
   pub sees-after : (act : Act R D) (p : Shape) (s : Sight) → IsSeenAhead p.stage s → IsSeenAhead (after act p).stage (seen_after act s)
-  sees-after (enters name link) p s sees = sees
-  sees-after (exit name) p s sees = sees
   sees-after consume p s sees = record { begins = λ e. at-place s.next; later = λ q. before-is-upto s.next q }
-  sees-after (links previous next) p s sees = sees
-  sees-after (write f) p s sees = sees
-  sees-after (choose kind ok nok) p s sees = sees
+  sees-after act p s sees = sees
 
   pub sight-after : (act : Act R D) (p : Shape) (first s : Sight) → allows act p ≡ true → s ≡ sight_at p.stage first → seen_after act s ≡ sight_at (after act p).stage first
-  sight-after (enters name link) p first s can e = e
-  sight-after (exit name) p first s can e = e
   sight-after consume p first s can e = let waits = waiting-stage p.stage can in ap past (rw waits at e)
-  sight-after (links previous next) p first s can e = e
-  sight-after (write f) p first s can e = e
-  sight-after (choose kind ok nok) p first s can e = e
+  sight-after act p first s can e = e
 
   -- acts that are allowed leave the shape after them
   pub has-after-all : (acts : List (Act R D)) (p : Shape) (base : List EventName) (s : Sight) (g : Given) (text : Text) (old k : Configuration R D) (choices : List Choice) → allows_all acts p ≡ true
@@ -285,11 +264,7 @@ module _ {R D : Type 0} where
   -- the choices that a row makes wait above the old ones
   chosen-append : (act : Act R D) (k : Configuration R D) (xs ys : List Choice) → with_choice_of act k xs ++ ys ≡ with_choice_of act k (xs ++ ys)
   chosen-append (enters name link) k xs ys = refl
-  chosen-append (exit name) k xs ys = refl
-  chosen-append consume k xs ys = refl
-  chosen-append (links previous next) k xs ys = refl
-  chosen-append (write f) k xs ys = refl
-  chosen-append (choose kind ok nok) k xs ys = refl
+  chosen-append act k xs ys = refl
 
   pub chooses-append : (acts : List (Act R D)) (s : Sight) (k : Configuration R D) (xs ys : List Choice) → chooses acts s k xs ++ ys ≡ chooses acts s k (xs ++ ys)
   chooses-append [] s k xs ys = refl
@@ -302,10 +277,8 @@ module _ {R D : Type 0} where
   pub adds-one : (act : Act R D) (s : Sight) (k : Configuration R D) → AddsEvents (outline k) (done act s k)
   adds-one (enters name link) s k = (_, map-append unlinked k.events (record { kind = Enter; name = name; point = s.enter_place; link = link } ∷ []))
   adds-one (exit name) s k = (_, map-append unlinked k.events (record { kind = Exit; name = name; point = s.exit_place; link = None } ∷ []))
-  adds-one consume s k = ([], sym (append-nil (outline k)))
   adds-one (links previous next) s k = ([], linked-unlinked (previous k) (next k) k.events ∙ sym (append-nil (outline k)))
-  adds-one (write f) s k = ([], sym (append-nil (outline k)))
-  adds-one (choose kind ok nok) s k = ([], sym (append-nil (outline k)))
+  adds-one act s k = ([], sym (append-nil (outline k)))
 
   pub adds-all : (acts : List (Act R D)) (s : Sight) (k : Configuration R D) → AddsEvents (outline k) (does acts s k)
   adds-all [] s k = ([], sym (append-nil (outline k)))

@@ -52,16 +52,11 @@ module _ {A : Type 0} where
 all-passed : (acts_pass spans_pass choices_pass rows_pass calls_pass : Bool)
     → unless acts_pass act (unless spans_pass spans (unless choices_pass choice (unless rows_pass answer (unless calls_pass unpaid None)))) ≡ None → (rows_pass ≡ true) × (calls_pass ≡ true)
 all-passed true true true true true h = (refl, refl)
-all-passed true true true true false h = absurd (cc)
-all-passed true true true false calls_pass h = absurd (cc)
-all-passed true true false rows_pass calls_pass h = absurd (cc)
-all-passed true false choices_pass rows_pass calls_pass h = absurd (cc)
-all-passed false spans_pass choices_pass rows_pass calls_pass h = absurd (cc)
+all-passed acts_pass spans_pass choices_pass rows_pass calls_pass h = absurd (cc)
 
 called-none : (b : Bool) (name : Name) (o : Option Reason) → b ≡ true → with_reason name (cond b o None) ≡ [] → o ≡ None
 called-none true name None called h = refl
-called-none true name (Some reason) called h = absurd (cc)
-called-none false name o called h = absurd (cc)
+called-none b name o called h = absurd (cc)
 
 starts-none : (b : Bool) (name : Name) → cond {A = List (Name × Reason)} b [] ((name, start) ∷ []) ≡ [] → b ≡ true
 starts-none true name h = refl

@@ -41,17 +41,15 @@ bound byte_waits n = n + 1
 bound _ n = n
 
 stage-most : (st : Stage) (c : Calls) (m n : ℕ) → m ≤ bound st n → at_most c m ≤ at_most (at_stage st c) n
-stage-most end_waits c m n h = more-most c m n h
 stage-most byte_waits c m n h = omega (arith, mul-le-mul_left c.per_byte h)
-stage-most byte_read c m n h = more-most c m n h
+stage-most st c m n h = more-most c m n h
 
 fed-most : (c d : Calls) (n : ℕ) → calls_le c (at_stage byte_waits d) ≡ true → at_most c n ≤ at_most d (n + 1)
 fed-most c d n h = omega (arith, le-most c (at_stage byte_waits d) n h)
 
 read-left : (st : Stage) (n total p : ℕ) → total - p ≤ bound st n → total - (p + 1) ≤ n
 read-left end_waits n total p left = omega arith
-read-left byte_waits n total p left = omega arith
-read-left byte_read n total p left = omega arith
+read-left st n total p left = omega arith
 
 module _ {W R D : Type 0} (table : Table W R D) (g : Given) (late : Bool) where
   -- if a state says how many calls are left, that is its cost
@@ -75,18 +73,13 @@ module _ {W R D : Type 0} (table : Table W R D) (g : Given) (late : Bool) where
 
   counted-state : (a : State) (text : Text) (p : ℕ) → counts_answer table.states a ≡ true → state_price table text p a ≤ at_most (next_calls table.states a) (length text.seats - p)
   counted-state (Next name) text p h = counted-next (named table.states name) text p h
-  counted-state (Retry name) text p h = omega arith
-  counted-state Ok text p h = omega arith
-  counted-state Nok text p h = omega arith
-  counted-state (Error message) text p h = omega arith
+  counted-state a text p h = omega arith
 
   counted-answer : (b w : Option W) (a : State) (text : Text) (p : ℕ) → counts_answer table.states a ≡ true
       → answer_price table b w text p a ≤ at_most (answer_calls table.states (λ name. calls_at table.states table.states b w (named table.states name)) a) (length text.seats - p - 1)
   counted-answer b w (Next name) text p h = let fewer : length text.seats - (p + 1) ≡ length text.seats - p - 1 = omega arith in subst (λ n. next_price table text (p + 1) (named table.states name) ≤ at_most (fed_calls table.states (named table.states name)) n) fewer (counted-next (named table.states name) text (p + 1) h)
   counted-answer b w (Retry name) text p h = counted-retry b w (named table.states name) text p h
-  counted-answer b w Ok text p h = omega arith
-  counted-answer b w Nok text p h = omega arith
-  counted-answer b w (Error message) text p h = omega arith
+  counted-answer b w a text p h = omega arith
 
   -- behind a position fewer bytes are left
   behind-most : (late : Bool) (c : Calls) (total p : ℕ) → at_most c (total - behind late p) ≤ at_most c (total - p)
@@ -196,13 +189,12 @@ module _ {W R D : Type 0} (table : Table W R D) (g : Given) (late : Bool) where
   -- the state that a call returns costs what was counted for it
   answer-costs : (st : Stage) (b w : Option W) (p : Shape) (a : State) (text : Text) (k k' : Configuration R D) → fits_answer table.states st b w p a ≡ true → IsAsFar k' (reached st k)
       → table_cost table g text k' a ≤ answer_price table (before_class table g text k) (of_class table g text k) text k.position a
-  answer-costs st b w p Ok text k k' fit far = omega arith
-  answer-costs st b w p Nok text k k' fit far = omega arith
-  answer-costs st b w p (Error message) text k k' fit far = omega arith
   answer-costs byte_read b w p (Next name) text k k' fit far = rw far.0 (omega arith)
+  answer-costs st b w p (Next name) text k k' fit far = absurd (cc)
   answer-costs byte_waits b (Some w) p (Retry name) text k k' fit far = rw (far.0, far.1) (omega arith)
   answer-costs end_waits b None p (Retry name) text k k' fit far = rw (far.0, far.1) (omega arith)
-  answer-costs st b w p a text k k' fit far = absurd (cc)
+  answer-costs st b w p (Retry name) text k k' fit far = absurd (cc)
+  answer-costs st b w p a text k k' fit far = omega arith
 
   -- what a choice goes on with, if it saved this
   abbrev reserved : Text → Choice → ℕ
@@ -212,10 +204,7 @@ module _ {W R D : Type 0} (table : Table W R D) (g : Given) (late : Bool) where
   choice-costs : (kind : AttemptKind) (ok nok : State) (text : Text) (k : Configuration R D) → reserved text (choice_made_at kind ok nok k) ≤ choice_price table late text k.position kind ok nok
   choice-costs Check ok nok text k = omega arith
   choice-costs Attempt ok Nok text k = omega arith
-  choice-costs Attempt ok (Next name) text k = omega arith
-  choice-costs Attempt ok (Retry name) text k = omega arith
-  choice-costs Attempt ok Ok text k = omega arith
-  choice-costs Attempt ok (Error message) text k = omega arith
+  choice-costs kind ok nok text k = omega arith
 
   choices-cost : (acts : List (Act R D)) (text : Text) (s : Sight) (k : Configuration R D) (choices : List Choice)
       → sum_by (reserved text) (chooses acts s k choices) ≤ chosen_price table late text k.position acts + sum_by (reserved text) choices
@@ -246,18 +235,12 @@ module _ {W R D : Type 0} (table : Table W R D) (g : Given) (late : Bool) where
 
     state-falls : (a : State) (text : Text) (p q : ℕ) → falls_on falling a ≡ true → p ≤ q → state_price table text q a ≤ state_price table text p a
     state-falls (Next name) text p q may h = found-falls name (named table.states name) text p q refl may h
-    state-falls (Retry name) text p q may h = omega arith
-    state-falls Ok text p q may h = omega arith
-    state-falls Nok text p q may h = omega arith
-    state-falls (Error message) text p q may h = omega arith
+    state-falls a text p q may h = omega arith
 
     -- what goes on where a choice was made costs what its state does
     go-costs : (f : Frame W) (waits : Option W) (a : State) (text : Text) (k : Configuration R D) → may_go_on table.states f waits a ≡ true → table_cost table g text k a ≤ state_price table text k.position a
-    go-costs f waits (Next name) text k h = omega arith
     go-costs f waits (Retry name) text k h = absurd (cc)
-    go-costs f waits Ok text k h = omega arith
-    go-costs f waits Nok text k h = omega arith
-    go-costs f waits (Error message) text k h = omega arith
+    go-costs f waits a text k h = omega arith
 
     module _ (c : Choice) (f : Frame W) (stack : List EventName) (text : Text) (k : Configuration R D) where
       -- what was saved is far enough behind
@@ -280,15 +263,11 @@ module _ {W R D : Type 0} (table : Table W R D) (g : Given) (late : Bool) where
           let cost = go-costs f f.waits c.ok text (restored (Some saved) k) (and_parts (may_go_on table.states f f.waits c.ok) (may_go_on table.states f f.waits c.nok) fit).0 in
           rw back (omega (arith, cost))
       well-costs Check false saved is fit h may far back = absurd (cc)
-      well-costs kind true None is fit h may far back = absurd h
-      well-costs kind false (Some saved) is fit h may far back = absurd h
+      well-costs kind b saved is fit h may far back = absurd h
 
       unsaved-costs : (a : State) → saves Attempt a ≡ false → table_cost table g text (unfed k) a ≤ 0
       unsaved-costs Nok is = omega arith
-      unsaved-costs (Next name) is = absurd (cc)
-      unsaved-costs (Retry name) is = absurd (cc)
-      unsaved-costs Ok is = absurd (cc)
-      unsaved-costs (Error message) is = absurd (cc)
+      unsaved-costs a is = absurd (cc)
 
       attempt-goes : fits_choice table.states f Attempt c.ok c.nok ≡ true → may_go_on table.states f f.waits c.nok ≡ true
       attempt-goes fit =
@@ -303,8 +282,7 @@ module _ {W R D : Type 0} (table : Table W R D) (g : Given) (late : Bool) where
           let cost = go-costs f f.waits c.nok text (restored (Some saved) k) (and_parts (may_go_on table.states f f.waits c.ok) (may_go_on table.states f f.waits c.nok) fit).1 in
           omega (arith, cost)
       badly-costs Check false saved is fit h = absurd (cc)
-      badly-costs kind true None is fit h = absurd h
-      badly-costs kind false (Some saved) is fit h = absurd h
+      badly-costs kind b saved is fit h = absurd h
 
     -- feeding costs nothing
     fed-byte-costs : (b : Option W) (w : W) (state : StateRows W R D) (text : Text) (p : ℕ) → p < length text.seats → fits_calls table.states b (Some w) state state.calls ≡ true
@@ -386,18 +364,14 @@ goes-back Check = refl
 
 every-falls : (a : State) → falls_on every a ≡ true
 every-falls (Next name) = refl
-every-falls (Retry name) = refl
-every-falls Ok = refl
-every-falls Nok = refl
-every-falls (Error message) = refl
+every-falls a = refl
 
 -- what was saved is not after the current position
 is-behind : {W : Type 0} (class : ℕ → W) (g : Given) (text : Text) (p : ℕ) (events : List Event) (stack : List EventName) (f : Frame W) (b : Bool) (saved : Option Saved) → IsSaved class g text p events stack f b saved
     → IfSome saved (λ saved. behind false saved.position ≤ p)
 is-behind class g text p events stack f true (Some saved) h = h.behind
 is-behind class g text p events stack f false None h = tt
-is-behind class g text p events stack f true None h = absurd h
-is-behind class g text p events stack f false (Some saved) h = absurd h
+is-behind class g text p events stack f b saved h = absurd h
 
 pub table-cost_pays : {W R D : Type 0} (table : Table W R D) (g : Given) → IsFit table → CostPays g (table_rules table g)
 table-cost_pays table g fit = record {

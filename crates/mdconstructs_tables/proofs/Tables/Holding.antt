@@ -1,6 +1,6 @@
 -- The invariant of a table: if it holds before a call, it holds at the state returned, once that is fed, when a choice ends, and when the
 -- text goes on.
-use Rattle.mdconstructs_tables.proofs.Prelude.{◌≡◌, ◌≢◌, ℕ, zero, suc, ◌≤◌, ◌&&◌, ◌||◌, not, List, [], ◌∷◌, ◌++◌, Bool, true, false, Option, Some, None, length, map, refl, sym, ap, ◌∙◌, subst, arith, ◌⊎◌, inl, inr, take, drop, All, IfSome, nat_lt, last_or, ltb-true, ltb-false, and_parts, not-true, append-nil, take-append-drop, take-map, slice_get_past, All-nil, All-cons, All-head, All-tail, Point, Name, State, Next, Retry, Ok, Nok, Error, unlinked, stands_before, or-leads, Waits, Nothing, Byte, End, AttemptKind, Attempt, Check, Given, Text, IsText, empty_text, Configuration, Local, Choice, Saved, start_configuration, Sight, sight, sight_in, current_of, seat_before, byte_of, consumed, with_local, fed, unfed, restored, settled_at, IsAsFar, begins-before_end, began-before_next, ends-before_next, upto-before, Row, Begun, before, at_byte, here, Called, anywhere, at_a_byte, at_bytes, Needs, nothing, a_choice, a_choice_once_read, StateRows, Table, class_of, does, chooses, row_at, named, is_void_last, saves, Stage, end_waits, byte_waits, byte_read, Shape, Frame, after_all, is_at, is_end, is_fresh, is_fresh_fed, fresh_at, fresh_fed, needs_choice, is_called_at, is_some, may_go_on, fits_choice, fits_answer, fits_calls, start_shape, first_stage, is_bare, may_start, outline, EndsWithEnter, Began, upto, since, IsOpen, SightIsInOrder, IsFed, exit_place_at, class_in, is_read, AnyWait, IsSavedIn, IsSaved, position_of, events_saved, IsBelow, AreWaiting, began_at, IsStateAt, HoldsAt}
+use Rattle.mdconstructs_tables.proofs.Prelude.{◌≡◌, ◌≢◌, ℕ, zero, suc, ◌≤◌, ◌&&◌, ◌||◌, not, List, [], ◌∷◌, ◌++◌, Bool, true, false, Option, Some, None, length, map, refl, sym, ap, ◌∙◌, subst, arith, ◌⊎◌, inl, inr, take, drop, All, IfSome, nat_lt, last_or, ltb-true, ltb-false, and_parts, not-true, append-nil, take-append-drop, take-map, slice_get_past, All-nil, All-cons, All-head, All-tail, Point, Name, State, Next, Retry, Ok, Nok, Error, unlinked, stands_before, or-leads, Waits, Nothing, Byte, End, AttemptKind, Attempt, Check, Given, Text, IsText, empty_text, Configuration, Local, Choice, Saved, start_configuration, Sight, sight, sight_in, current_of, seat_before, byte_of, consumed, with_local, fed, unfed, restored, settled_at, IsAsFar, begins-before_end, began-before_next, ends-before_next, upto-before, Row, Begun, before, at_byte, here, Called, anywhere, at_a_byte, at_bytes, Needs, nothing, StateRows, Table, class_of, does, chooses, row_at, named, is_void_last, saves, Stage, end_waits, byte_waits, byte_read, Shape, Frame, after_all, is_at, is_end, is_fresh, is_fresh_fed, fresh_at, fresh_fed, needs_choice, is_called_at, is_some, may_go_on, fits_choice, fits_answer, fits_calls, start_shape, first_stage, is_bare, may_start, outline, EndsWithEnter, Began, upto, since, IsOpen, SightIsInOrder, IsFed, exit_place_at, class_in, is_read, AnyWait, IsSavedIn, IsSaved, position_of, events_saved, IsBelow, AreWaiting, began_at, IsStateAt, HoldsAt}
 use Rattle.markdown_base.specs.declared.event.Name.{Name as EventName}
 use Rattle.mdconstructs_tables.proofs.Rows.Laws.{same_names-true, Waited, reached, IsSeenAhead, sight_at, HasShape, to-before, before-is-upto, began-on, left-at}
 use Rattle.mdconstructs_tables.proofs.GrowingTexts.{seat-at, Extends, waits-longer}
@@ -18,16 +18,14 @@ upto-fits false on place q fit h = upto-any on place q h
 
 since-fits : (fresh on : Bool) (s : Sight) (q : Point) → (not fresh || on) ≡ true → (stands_before q s.exit_place ≡ true → stands_before q s.next ≡ true)
     → since fresh byte_waits s q ≡ true → since on byte_waits s q ≡ true
-since-fits true true s q fit later h = h
 since-fits true false s q fit later h = absurd (cc)
 since-fits false true s q fit later h = later h
-since-fits false false s q fit later h = h
+since-fits fresh on s q fit later h = h
 
 -- more is needed once a byte was read
 needs-more : (n : Needs) (read : Bool) → needs_choice n read ≡ true → needs_choice n true ≡ true
 needs-more nothing read h = absurd (cc)
-needs-more a_choice read h = refl
-needs-more a_choice_once_read read h = refl
+needs-more n read h = refl
 
 module _ {W R D : Type 0} (table : Table W R D) (g : Given) where
   abbrev pub of_class : Text → Configuration R D → Option W
@@ -82,10 +80,9 @@ module _ {W R D : Type 0} (table : Table W R D) (g : Given) where
   -- a state that may be called where that waits may be called there
   called-more : (called : Called W) (waits there : Option W) → ((w : W) → waits ≡ Some w → there ≡ Some w) → is_called_at called waits ≡ true → is_called_at called there ≡ true
   called-more anywhere waits there same h = refl
-  called-more at_a_byte None there same h = absurd (cc)
   called-more at_a_byte (Some w) there same h = rw (same w refl) refl
-  called-more (at_bytes test) None there same h = absurd (cc)
   called-more (at_bytes test) (Some w) there same h = rw (same w refl) h
+  called-more called None there same h = absurd (cc)
 
   -- if something waits, it is what is next in the text
   pub waits-at : (w : Waits) (text : Text) (p : ℕ) (ended : Bool) → IsFed w p ended text → class_in table.class text p ≡ class_of table.class (current_of text p w)
@@ -146,29 +143,20 @@ module _ {W R D : Type 0} (table : Table W R D) (g : Given) where
 
   pub once : (st : Stage) (b w : Option W) (p : Shape) (a : State) (text : Text) (k k' : Configuration R D) → fits_answer table.states st b w p a ≡ true → IsAsFar k' (reached st k) → Waited st text k
       → (IsAsFar k' k × ((n : Name) → a ≢ Next n)) ⊎ ((k.waiting ≡ Byte) × IsAsFar k' (consumed k) × ((n : Name) → a ≢ Retry n))
-  once byte_read b w p (Next name) text k k' fit far waited = inr (waited.0, far, λ n e. cc)
-  once byte_read b w p Ok text k k' fit far waited = inr (waited.0, far, λ n e. cc)
-  once byte_read b w p Nok text k k' fit far waited = inr (waited.0, far, λ n e. cc)
-  once byte_read b w p (Error message) text k k' fit far waited = inr (waited.0, far, λ n e. cc)
-  once byte_waits b w p Ok text k k' fit far waited = inl (far, λ n e. cc)
-  once byte_waits b w p Nok text k k' fit far waited = inl (far, λ n e. cc)
-  once byte_waits b w p (Error message) text k k' fit far waited = inl (far, λ n e. cc)
-  once end_waits b w p Ok text k k' fit far waited = inl (far, λ n e. cc)
-  once end_waits b w p Nok text k k' fit far waited = inl (far, λ n e. cc)
-  once end_waits b w p (Error message) text k k' fit far waited = inl (far, λ n e. cc)
-  once byte_waits b (Some w) p (Retry name) text k k' fit far waited = inl (far, λ n e. cc)
-  once end_waits b None p (Retry name) text k k' fit far waited = inl (far, λ n e. cc)
-  once st b w p a text k k' fit far waited = absurd (cc)
+  once byte_read b w p (Retry name) text k k' fit far waited = absurd (cc)
+  once byte_read b w p a text k k' fit far waited = inr (waited.0, far, λ n e. cc)
+  once byte_waits b None p (Retry name) text k k' fit far waited = absurd (cc)
+  once end_waits b (Some w) p (Retry name) text k k' fit far waited = absurd (cc)
+  once st b w p (Next name) text k k' fit far waited = absurd (cc)
+  once st b w p a text k k' fit far waited = inl (far, λ n e. cc)
 
   pub inside-at : (st : Stage) (text : Text) (k k' : Configuration R D) → IsAsFar k' (reached st k) → Waited st text k → k.position ≤ length text.seats → k'.position ≤ length text.seats
-  inside-at end_waits text k k' far waited inside = omega (arith, far.0)
-  inside-at byte_waits text k k' far waited inside = omega (arith, far.0)
   inside-at byte_read text k k' far waited inside = omega (arith, far.0, waited.1)
+  inside-at st text k k' far waited inside = omega (arith, far.0)
 
   ended-at : (st : Stage) (text : Text) (k k' : Configuration R D) → IsAsFar k' (reached st k) → Waited st text k → is_end st ≡ true → k'.ended ≡ true
   ended-at end_waits text k k' far waited e = far.2 ∙ waited.0
-  ended-at byte_waits text k k' far waited e = absurd (cc)
-  ended-at byte_read text k k' far waited e = absurd (cc)
+  ended-at st text k k' far waited e = absurd (cc)
 
   any-or-ended : (within end : Bool) (choices : List Choice) (ended : Bool) → (within || end) ≡ true → (within ≡ true → AnyWait choices) → (end ≡ true → ended ≡ true) → AnyWait choices ⊎ (ended ≡ true)
   any-or-ended true end choices ended h any at = inl (any refl)
@@ -239,9 +227,7 @@ module _ {W R D : Type 0} (table : Table W R D) (g : Given) where
             (λ v. h.bare (or-leads (is_void_last (last_or None p.spans)) p.bare bare v)) waiting h.within
             (λ n e. ap (needs_choice n) (read ∙ ap is_read (sym far.0)) ∙ e) (λ v e. absurd (cc))),
       )
-  answered byte_read b w p above (Retry name) text k k' choices read waits order class met fit at h waiting = absurd (cc)
-  answered byte_waits b w p above a text k k' choices read waits order class met fit at h waiting = absurd (cc)
-  answered end_waits b w p above a text k k' choices read waits order class met fit at h waiting = absurd (cc)
+  answered st b w p above a text k k' choices read waits order class met fit at h waiting = absurd (cc)
 
   -- if the text goes on, the invariant at a state returned still holds
   state-longer : (o : Option (StateRows W R D)) (where_to : StateRows W R D → Point → Bool) (text more : Text) (k : Configuration R D) (choices : List Choice) → Extends text more → k.position ≤ length text.seats
@@ -302,8 +288,7 @@ module _ {W R D : Type 0} (table : Table W R D) (g : Given) where
 
   fed-end : (begun : Begun W) (s : Sight) (q : Point) → upto (fresh_fed begun) s.exit_place q ≡ true → since (fresh_at begun None) end_waits s q ≡ true
   fed-end before s q h = h
-  fed-end (at_byte test) s q h = h
-  fed-end here s q h = h
+  fed-end begun s q h = h
 
   pub fed-at : (b : Bool) (text : Text) (k : Configuration R D) (choices : List Choice) (name : Name) → IsText g text → nat_lt k.position (length text.seats) ≡ b → HoldsAt table g text k choices (Next name)
       → HoldsAt table g text (fed text k) choices (Retry name)
@@ -384,8 +369,7 @@ module _ {W R D : Type 0} (table : Table W R D) (g : Given) where
     on true (Some saved) h waiting =
         more-waiting table.class table.states g text choices below saved.position k.position (take saved.events (outline k)) (outline k) (drop saved.events (outline k)) h.behind (sym (take-append-drop saved.events (outline k))) waiting
     on false None h waiting = waiting
-    on true None h waiting = absurd h
-    on false (Some saved) h waiting = absurd h
+    on b saved h waiting = absurd h
 
     pub well : (kind : AttemptKind) (a nok : State) (b : Bool) (saved : Option Saved) → saves kind nok ≡ b → fits_choice table.states f kind a nok ≡ true → IsSaved table.class g text k.position (outline k) base f b saved
         → AreWaiting table.class table.states g text (position_of saved k.position) (events_saved saved (outline k)) below choices → k.stack ≡ base → Began (upto false (exit_place_at g text k.position)) (outline k)
@@ -402,10 +386,7 @@ module _ {W R D : Type 0} (table : Table W R D) (g : Given) where
     -- an attempt that saves nothing goes on with Nok
     badly-unsaved : (a : State) → saves Attempt a ≡ false → may_go_on table.states f f.waits a ≡ true → AreWaiting table.class table.states g text k.position (outline k) below choices → HoldsAt table g text (unfed k) choices a
     badly-unsaved Nok is fit waiting = record { base = below; waiting = waiting; any = any fit }
-    badly-unsaved (Next name) is fit waiting = absurd (cc)
-    badly-unsaved (Retry name) is fit waiting = absurd (cc)
-    badly-unsaved Ok is fit waiting = absurd (cc)
-    badly-unsaved (Error message) is fit waiting = absurd (cc)
+    badly-unsaved a is fit waiting = absurd (cc)
 
     pub badly : (kind : AttemptKind) (ok a : State) (b : Bool) (saved : Option Saved) → saves kind a ≡ b → fits_choice table.states f kind ok a ≡ true → IsSaved table.class g text k.position (outline k) base f b saved
         → AreWaiting table.class table.states g text (position_of saved k.position) (events_saved saved (outline k)) below choices → HoldsAt table g text (settled_at kind saved Nok k) choices a
@@ -415,25 +396,20 @@ module _ {W R D : Type 0} (table : Table W R D) (g : Given) where
         back saved a (and_parts (not (is_void_last (last_or None f.spans))) (may_go_on table.states f f.waits a) (and_parts (may_go_on table.states f None ok) (not (is_void_last (last_or None f.spans)) && may_go_on table.states f f.waits a) fit).1).1 h waiting
     badly Attempt ok a false None is fit h waiting =
         badly-unsaved a is (and_parts (not (is_void_last (last_or None f.spans))) (may_go_on table.states f f.waits a) (and_parts (may_go_on table.states f None ok) (not (is_void_last (last_or None f.spans)) && may_go_on table.states f f.waits a) fit).1).1 waiting
-    badly kind ok a true None is fit h waiting = absurd h
-    badly kind ok a false (Some saved) is fit h waiting = absurd h
+    badly kind ok a b saved is fit h waiting = absurd h
 
   -- no more was read than there is when a choice is settled
   restored-inside : (b : Bool) (saved : Option Saved) (text : Text) (k : Configuration R D) (base : List EventName) (f : Frame W) → k.position ≤ length text.seats → IsSaved table.class g text k.position (outline k) base f b saved
       → (restored saved k).position ≤ length text.seats
   restored-inside true (Some saved) text k base f inside h = omega (arith, h.behind)
   restored-inside false None text k base f inside h = inside
-  restored-inside true None text k base f inside h = absurd h
-  restored-inside false (Some saved) text k base f inside h = absurd h
+  restored-inside b saved text k base f inside h = absurd h
 
   pub inside-after : (kind : AttemptKind) (saved : Option Saved) (a : State) (b : Bool) (text : Text) (k : Configuration R D) (base : List EventName) (f : Frame W) → k.position ≤ length text.seats
       → IsSaved table.class g text k.position (outline k) base f b saved → (settled_at kind saved a k).position ≤ length text.seats
   inside-after Check saved a b text k base f inside h = restored-inside b saved text k base f inside h
   inside-after Attempt saved Nok b text k base f inside h = restored-inside b saved text k base f inside h
-  inside-after Attempt saved (Next name) b text k base f inside h = inside
-  inside-after Attempt saved (Retry name) b text k base f inside h = inside
-  inside-after Attempt saved Ok b text k base f inside h = inside
-  inside-after Attempt saved (Error message) b text k base f inside h = inside
+  inside-after Attempt saved a b text k base f inside h = inside
 
   -- as far as a choice saved it, the stack is kept
   keeps-one : (old new : List EventName) (saved : Option Saved) → IfSome saved (λ s. take (length s.stack) new ≡ s.stack) → IfSome saved (λ s. take (length s.stack) old ≡ s.stack)

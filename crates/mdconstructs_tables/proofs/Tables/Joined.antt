@@ -1,5 +1,5 @@
 -- The laws of two machines in one, from the laws of each.
-use Rattle.mdconstructs_tables.proofs.Prelude.{◌≡◌, ◌+◌, ◌≤◌, inl, inr, List, [], ◌∷◌, ◌++◌, Bool, true, false, cond, Option, Some, None, refl, sym, ap, ◌∙◌, subst, arith, ◌==◌, sum_by, nat_tests, Contains-append_cases, false_from_ne_true, Point, Name, State, Next, Retry, Ok, Nok, Error, Given, Text, IsText, Configuration, Choice, Step, sight, Rules, ForEachCall, ConsumesOnce, OnlyAdds, EndsWhenRead, KeepsInvariant, CostPays, ResolversKeep, StateRows, Table, named, is_some, IsStateAt, table_holds, AreApart, has_state, joined_cost, joined_rules}
+use Rattle.mdconstructs_tables.proofs.Prelude.{◌≡◌, ◌+◌, ◌≤◌, inl, inr, List, [], ◌∷◌, ◌++◌, Bool, true, false, cond, Option, Some, None, refl, sym, ap, ◌∙◌, subst, arith, ◌==◌, sum_by, nat_tests, Contains-append_cases, false_from_ne_true, Point, Name, State, Next, Retry, Ok, Nok, Given, Text, IsText, Configuration, Choice, Step, sight, Rules, ForEachCall, ConsumesOnce, OnlyAdds, EndsWhenRead, KeepsInvariant, CostPays, ResolversKeep, StateRows, Table, named, is_some, IsStateAt, table_holds, AreApart, has_state, joined_cost, joined_rules}
 
 either : (b : Bool) → b ≡ true → b ≡ false → ⊥
 either true e f = cc
@@ -77,16 +77,12 @@ module _ {R D : Type 0} (is_first : Name → Bool) (g : Given) (first second : R
   first-costs : (text : Text) (k : Configuration R D) (choices : List Choice) (state : State) → first.holds text k choices state → joined_cost is_first first second text k state ≤ first.cost text k state
   first-costs text k choices (Next name) h = let e = apart.first_fed text k choices name h in rw e (omega arith)
   first-costs text k choices (Retry name) h = let e = apart.first_called text k choices name h in rw e (omega arith)
-  first-costs text k choices Ok h = omega arith
-  first-costs text k choices Nok h = omega arith
-  first-costs text k choices (Error message) h = omega arith
+  first-costs text k choices state h = omega arith
 
   second-costs : (text : Text) (k : Configuration R D) (choices : List Choice) (state : State) → second.holds text k choices state → joined_cost is_first first second text k state ≤ second.cost text k state
   second-costs text k choices (Next name) h = let e = apart.second_fed text k choices name h in rw e (omega arith)
   second-costs text k choices (Retry name) h = let e = apart.second_called text k choices name h in rw e (omega arith)
-  second-costs text k choices Ok h = omega arith
-  second-costs text k choices Nok h = omega arith
-  second-costs text k choices (Error message) h = omega arith
+  second-costs text k choices state h = omega arith
 
   first-price : (text : Text) (k : Configuration R D) (choices : List Choice) (name : Name) → first.holds text k choices (Retry name) → first.cost text k (Retry name) ≡ joined_cost is_first first second text k (Retry name)
   first-price text k choices name h = ap (λ b. cond b (first.cost text k (Retry name)) (second.cost text k (Retry name))) (sym (apart.first_called text k choices name h))

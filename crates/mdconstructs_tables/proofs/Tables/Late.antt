@@ -1,5 +1,5 @@
 -- The laws of a machine whose choices end with Ok late, from the test of its table.
-use Rattle.mdconstructs_tables.proofs.Prelude.{◌≡◌, ℕ, ◌+◌, ◌<◌, ◌≤◌, ◌||◌, not, List, [], ◌∷◌, ◌++◌, Bool, true, false, Option, Some, refl, sym, ap, subst, arith, inl, inr, filter, IfSome, and_parts, not-false, Name, State, Next, Retry, Ok, Nok, Error, none-mapped, AttemptKind, Attempt, Check, Given, Text, IsText, followed_by, Configuration, Choice, Step, Sight, sight, consumed, with_local, saved_at, settled_at, ConsumesOnce, OnlyAdds, EndsWhenRead, KeepsInvariant, CostPays, Act, enters, exit, consume, links, write, choose, StateRows, Table, past, class_of, choice_made_at, done, does, chooses, named, step_at, table_step, table_holds, falls_on, CanGoBack, is_early_end, is_early, fits_late, are_late, is_at_last, is_late_row, is_late_state, AreFallingBehind, IsLate, late_holds, late_rules}
+use Rattle.mdconstructs_tables.proofs.Prelude.{◌≡◌, ℕ, ◌+◌, ◌<◌, ◌≤◌, ◌||◌, not, List, [], ◌∷◌, ◌++◌, Bool, true, false, Option, Some, refl, sym, ap, subst, arith, inl, inr, filter, IfSome, and_parts, not-false, Name, State, Retry, Ok, Nok, Error, none-mapped, AttemptKind, Attempt, Check, Given, Text, IsText, followed_by, Configuration, Choice, Step, Sight, sight, consumed, with_local, saved_at, settled_at, ConsumesOnce, OnlyAdds, EndsWhenRead, KeepsInvariant, CostPays, Act, enters, exit, consume, links, write, choose, StateRows, Table, past, class_of, choice_made_at, done, does, chooses, named, step_at, table_step, table_holds, falls_on, CanGoBack, is_early_end, is_early, fits_late, are_late, is_at_last, is_late_row, is_late_state, AreFallingBehind, IsLate, late_holds, late_rules}
 use Rattle.mdconstructs_tables.proofs.Rows.Misfits.{named-out, named-same}
 use Rattle.mdconstructs_tables.proofs.Rows.Laws.{chooses-append}
 use Rattle.mdconstructs_tables.proofs.GrowingTexts.{Extends, extends, fed-position, waits-longer}
@@ -32,14 +32,10 @@ module _ {W R D : Type 0} (table : Table W R D) (early : Name → Option W → B
       → AreFallingBehind table early falling true k.position (choice_made_at kind ok nok k ∷ choices)
   chosen-behind at_last k Check ok nok choices fit h = absurd (cc)
   chosen-behind at_last k Attempt ok Nok choices fit h = absurd (cc)
-  chosen-behind at_last k Attempt ok (Next name) choices fit h =
-      let (may, fits) = and_parts (falls_on falling ok) (not at_last || false) fit in (saved_at k, refl, refl, may, omega arith, (λ e. absurd (cc)), stays-or at_last false k.position choices fits h)
-  chosen-behind at_last k Attempt ok (Retry name) choices fit h =
-      let (may, fits) = and_parts (falls_on falling ok) (not at_last || false) fit in (saved_at k, refl, refl, may, omega arith, (λ e. absurd (cc)), stays-or at_last false k.position choices fits h)
-  chosen-behind at_last k Attempt ok Ok choices fit h =
-      let (may, fits) = and_parts (falls_on falling ok) (not at_last || false) fit in (saved_at k, refl, refl, may, omega arith, (λ e. absurd (cc)), stays-or at_last false k.position choices fits h)
   chosen-behind at_last k Attempt ok (Error message) choices fit h =
       let (may, fits) = and_parts (falls_on falling ok) (not at_last || true) fit in (saved_at k, refl, refl, may, omega arith, (λ e. absurd (cc)), stays-or at_last true k.position choices fits h)
+  chosen-behind at_last k Attempt ok nok choices fit h =
+      let (may, fits) = and_parts (falls_on falling ok) (not at_last || false) fit in (saved_at k, refl, refl, may, omega arith, (λ e. absurd (cc)), stays-or at_last false k.position choices fits h)
 
   acts-behind : (acts : List (Act R D)) (at_last : Bool) (s : Sight) (k : Configuration R D) (choices : List Choice) → are_late falling at_last acts ≡ true → AreFallingBehind table early falling at_last k.position choices
       → AreFallingBehind table early falling (is_at_last at_last acts) (does acts s k).position (chooses acts s k choices)
@@ -66,10 +62,9 @@ module _ {W R D : Type 0} (table : Table W R D) (early : Name → Option W → B
         → AreFallingBehind table early falling at_last p choices → AreFallingBehind table early falling (is_early early w' a) p choices
     answer-behind (Retry name) at_last w w' p choices same e h =
         subst (λ v. AreFallingBehind table early falling (early name v) p choices) (sym (same name refl)) (stays-or at_last (early name w) p choices e h)
-    answer-behind (Next name) at_last w w' p choices same e h = stays-or at_last false p choices e h
-    answer-behind Ok at_last w w' p choices same e h = stays-or at_last false p choices e h
     answer-behind Nok at_last w w' p choices same e h = stays-or at_last true p choices e h
     answer-behind (Error message) at_last w w' p choices same e h = stays-or at_last true p choices e h
+    answer-behind a at_last w w' p choices same e h = stays-or at_last false p choices e h
 
     pub late-consumes_once : ConsumesOnce g (late_rules table early falling g)
     late-consumes_once text k choices name is h = table-consumes_once table g is_late.fit text k choices name is h.0
@@ -130,10 +125,7 @@ module _ {W R D : Type 0} (table : Table W R D) (early : Name → Option W → B
 
     end-behind : (a : State) (w : Option W) (p : ℕ) (choices : List Choice) → AreFallingBehind table early falling (is_early_end a) p choices → AreFallingBehind table early falling (is_early early w a) p choices
     end-behind (Retry name) w p choices h = may-stay (early name w) p choices h
-    end-behind (Next name) w p choices h = h
-    end-behind Ok w p choices h = h
-    end-behind Nok w p choices h = h
-    end-behind (Error message) w p choices h = h
+    end-behind a w p choices h = h
 
     -- more of the document does not change what is called, or what waits
     longer-behind : (a : State) (text more : Text) (k : Configuration R D) (choices : List Choice) → Extends text more → k.ended ≡ false → table_holds table g text k choices a
@@ -141,10 +133,7 @@ module _ {W R D : Type 0} (table : Table W R D) (early : Name → Option W → B
     longer-behind (Retry name) text more k choices e fresh h behind =
         let (fed, seen) = waits-longer g text more k.position k.ended k.waiting e fresh h.1.0 in
         subst (λ s. AreFallingBehind table early falling (early name (class_of table.class s.current)) k.position choices) (sym seen) behind
-    longer-behind (Next name) text more k choices e fresh h behind = behind
-    longer-behind Ok text more k choices e fresh h behind = behind
-    longer-behind Nok text more k choices e fresh h behind = behind
-    longer-behind (Error message) text more k choices e fresh h behind = behind
+    longer-behind a text more k choices e fresh h behind = behind
 
     pub late-invariant_kept : KeepsInvariant g (late_rules table early falling g)
     late-invariant_kept = let law = table-invariant_kept table g is_late.fit in record {

@@ -1,15 +1,13 @@
 -- A table without links and writes keeps that nothing is there to resolve.
-use Rattle.mdconstructs_tables.proofs.Prelude.{◌≡◌, List, [], ◌∷◌, Bool, true, false, cond, Option, Some, None, refl, subst, ◌==◌, and_parts, Name, Given, Configuration, Sight, with_local, IsPlain, KeepsPlain, no-links-more, Act, enters, exit, consume, links, write, choose, Rows, row, when, Row, StateRows, Table, class_of, done, seen_after, does, picked, row_at, named, step_at, table_step, is_plain_act, are_plain_acts, are_plain_rows, are_plain_states, IsPlainTable}
+use Rattle.mdconstructs_tables.proofs.Prelude.{◌≡◌, List, [], ◌∷◌, Bool, true, false, cond, Option, Some, None, refl, subst, ◌==◌, and_parts, Name, Given, Configuration, Sight, with_local, IsPlain, KeepsPlain, no-links-more, Act, enters, exit, consume, choose, Rows, row, when, Row, StateRows, Table, class_of, done, seen_after, does, picked, row_at, named, step_at, table_step, is_plain_act, are_plain_acts, are_plain_rows, are_plain_states, IsPlainTable}
 
 module _ {R D : Type 0} where
   done-plain : (act : Act R D) (s : Sight) (k : Configuration R D) → is_plain_act act ≡ true → IsPlain k → IsPlain (done act s k)
   done-plain (enters name None) s k e h = (h.0, h.1, no-links-more k.events _ refl h.2)
-  done-plain (enters name (Some link)) s k e h = absurd (cc)
   done-plain (exit name) s k e h = (h.0, h.1, no-links-more k.events _ refl h.2)
   done-plain consume s k e h = h
-  done-plain (links previous next) s k e h = absurd (cc)
-  done-plain (write f) s k e h = absurd (cc)
   done-plain (choose kind ok nok) s k e h = h
+  done-plain act s k e h = absurd (cc)
 
   does-plain : (acts : List (Act R D)) (s : Sight) (k : Configuration R D) → are_plain_acts acts ≡ true → IsPlain k → IsPlain (does acts s k)
   does-plain [] s k e h = h

@@ -1,5 +1,5 @@
 -- A table without links whose writes are plain keeps that nothing is there to resolve.
-use Rattle.mdconstructs_tables.proofs.Prelude.{List, [], ◌∷◌, Bool, true, false, cond, Option, Some, None, refl, subst, ◌==◌, Name, Given, Configuration, Sight, with_local, consumed, IsPlain, KeepsPlain, no-links-more, Act, enters, exit, consume, links, write, choose, Rows, row, when, Row, StateRows, Table, class_of, past, done, does, picked, named, table_step, WritePlain, RowsWritePlain, StatesWritePlain, WritesPlain}
+use Rattle.mdconstructs_tables.proofs.Prelude.{List, [], ◌∷◌, Bool, true, false, cond, Option, Some, None, refl, subst, ◌==◌, Name, Given, Configuration, Sight, with_local, consumed, IsPlain, KeepsPlain, no-links-more, Act, enters, exit, consume, write, choose, Rows, row, when, Row, StateRows, Table, class_of, past, done, does, picked, named, table_step, WritePlain, RowsWritePlain, StatesWritePlain, WritesPlain}
 use Rattle.mdconstructs_tables.proofs.Tables.Plain.{step-plain}
 
 module _ {R D : Type 0} where
@@ -7,12 +7,11 @@ module _ {R D : Type 0} where
   acts-beside : (acts : List (Act R D)) (P : Type 0) → WritePlain acts P → P
   acts-beside [] P h = h
   acts-beside (enters name None ∷ acts) P h = acts-beside acts P h
-  acts-beside (enters name (Some link) ∷ acts) P h = absurd h
-  acts-beside (links previous next ∷ acts) P h = absurd h
   acts-beside (write f ∷ acts) P h = acts-beside acts P h.1
   acts-beside (exit name ∷ acts) P h = acts-beside acts P h
   acts-beside (consume ∷ acts) P h = acts-beside acts P h
   acts-beside (choose kind ok nok ∷ acts) P h = acts-beside acts P h
+  acts-beside acts P h = absurd h
 
   rows-beside : (rows : Rows R D) (P : Type 0) → RowsWritePlain rows P → P
   rows-beside (row acts answer) P h = acts-beside acts P h
@@ -21,12 +20,11 @@ module _ {R D : Type 0} where
   does-plain : (acts : List (Act R D)) (s : Sight) (k : Configuration R D) (P : Type 0) → WritePlain acts P → IsPlain k → IsPlain (does acts s k)
   does-plain [] s k P h plain = plain
   does-plain (enters name None ∷ acts) s k P h plain = does-plain acts s (done (enters name None) s k) P h (plain.0, plain.1, no-links-more k.events _ refl plain.2)
-  does-plain (enters name (Some link) ∷ acts) s k P h plain = absurd h
-  does-plain (links previous next ∷ acts) s k P h plain = absurd h
   does-plain (write f ∷ acts) s k P h plain = does-plain acts s (with_local k (f k)) P h.1 (h.0 k plain)
   does-plain (exit name ∷ acts) s k P h plain = does-plain acts s (done (exit name) s k) P h (plain.0, plain.1, no-links-more k.events _ refl plain.2)
   does-plain (consume ∷ acts) s k P h plain = does-plain acts (past s) (consumed k) P h plain
   does-plain (choose kind ok nok ∷ acts) s k P h plain = does-plain acts s k P h plain
+  does-plain acts s k P h plain = absurd h
 
   one-of : (b : Bool) (x y : Row R D) (s : Sight) (k : Configuration R D) → IsPlain (does x.acts s k) → IsPlain (does y.acts s k) → IsPlain (does (cond b x y).acts s k)
   one-of true x y s k h l = h

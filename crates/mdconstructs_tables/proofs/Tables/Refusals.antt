@@ -1,5 +1,5 @@
 -- A machine whose table refuses nothing refuses no document.
-use Rattle.mdconstructs_tables.proofs.Prelude.{◌≡◌, ◌≢◌, ℕ, List, [], ◌∷◌, ◌++◌, Bool, true, false, cond, Option, Some, None, ◌⊎◌, ⊎_elim, refl, filter, list_any, or_parts, Message, Name, State, Next, Ok, Error, none-mapped, Subresult, Attempt, Check, Given, Text, Configuration, Choice, Step, start_configuration, with_local, with_resolvers, whole_text, IsRunRefused, Reading, EndsIn, Resolved, refused, resolved_by, with_more, taken, found, IsResolvingRefused, Rules, Sight, sight, Act, enters, exit, consume, links, write, choose, Rows, row, when, Row, StateRows, Table, class_of, seen_after, with_choice_of, chooses, picked, named, step_of, step_at, table_step, is_message, act_refuses, rows_refuse, refusing, RulesRefuseNothing}
+use Rattle.mdconstructs_tables.proofs.Prelude.{◌≡◌, ◌≢◌, ℕ, List, [], ◌∷◌, ◌++◌, Bool, true, false, cond, Option, Some, None, ◌⊎◌, ⊎_elim, refl, filter, list_any, or_parts, Message, Name, State, Next, Ok, Error, none-mapped, Subresult, Attempt, Check, Given, Text, Configuration, Choice, Step, start_configuration, with_local, with_resolvers, whole_text, IsRunRefused, Reading, EndsIn, Resolved, refused, resolved_by, with_more, taken, found, IsResolvingRefused, Rules, Sight, sight, Act, choose, Rows, row, when, Row, StateRows, Table, class_of, seen_after, with_choice_of, chooses, picked, named, step_of, step_at, table_step, is_message, act_refuses, rows_refuse, refusing, RulesRefuseNothing}
 use Rattle.markdown_tokenizer.specs.Resolving.{done}
 use Rattle.mdconstructs_tables.specs.Rows.{done as act_done}
 use Rattle.mdconstructs_tables.proofs.KeptByReading.{IsKept, kept-refused}
@@ -39,13 +39,9 @@ module _ {R D : Type 0} (g : Given) (step : Sight → Configuration R D → Name
 
 module _ {R D : Type 0} where
   chosen-taken : (act : Act R D) (k : Configuration R D) (cs : List Choice) → act_refuses act ≡ false → AreTaken cs → AreTaken (with_choice_of act k cs)
-  chosen-taken (enters name link) k cs e h = h
-  chosen-taken (exit name) k cs e h = h
-  chosen-taken consume k cs e h = h
-  chosen-taken (links previous next) k cs e h = h
-  chosen-taken (write f) k cs e h = h
   chosen-taken (choose Attempt ok nok) k cs e h = let parts = or_parts (is_message ok) (is_message nok) e in (parts.0, parts.1, h)
   chosen-taken (choose Check ok nok) k cs e h = let parts = or_parts (is_message ok) (is_message nok) e in (parts.0, parts.1, h)
+  chosen-taken act k cs e h = h
 
   chooses-taken : (acts : List (Act R D)) (s : Sight) (k : Configuration R D) (cs : List Choice) → list_any act_refuses acts ≡ false → AreTaken cs → AreTaken (chooses acts s k cs)
   chooses-taken [] s k cs e h = h

@@ -1,5 +1,5 @@
 -- Choices that wait, in the invariant of a table: what acts make of them, and that they stay if the text goes on.
-use Rattle.mdconstructs_tables.proofs.Prelude.{◌≡◌, ℕ, ◌+◌, ◌≤◌, ◌||◌, not, List, [], ◌∷◌, ◌++◌, Bool, true, false, Option, Some, None, length, refl, sym, ap, ◌∙◌, subst, arith, take, length-append, append_assoc, inl, inr, All, IfSome, slice_get, last_or, take-append_seam, and_parts, append-nil, take-append-le, length-map, take_all, All-nil, All-cons, none-some, slice_get_cases, slice_get_past, slice_get_within, Event, State, Next, Retry, Ok, Nok, Error, unlinked, stands_before, shown, or-leads, AttemptKind, Attempt, Check, Given, Text, Configuration, Choice, Saved, Sight, sight, current_of, byte_of, saved_at, IsAsFar, Act, enters, exit, consume, links, write, choose, StateRows, class_of, choice_made_at, with_choice_of, done, seen_after, does, chooses, is_void_last, saves, Stage, end_waits, byte_waits, byte_read, Shape, Frame, frame_of, allows, after, allows_all, fits_choice, fits_choices, waits_in, outline, EndsWithEnter, Began, upto, since, exit_place_at, class_in, IsSavedIn, IsSaved, position_of, events_saved, IsBelow, AreWaiting}
+use Rattle.mdconstructs_tables.proofs.Prelude.{◌≡◌, ℕ, ◌+◌, ◌≤◌, ◌||◌, not, List, [], ◌∷◌, ◌++◌, Bool, true, false, Option, Some, None, length, refl, sym, ap, ◌∙◌, subst, arith, take, length-append, append_assoc, inl, inr, All, IfSome, slice_get, last_or, take-append_seam, and_parts, append-nil, take-append-le, length-map, take_all, All-nil, All-cons, none-some, slice_get_cases, slice_get_past, slice_get_within, Event, State, Nok, unlinked, stands_before, shown, or-leads, AttemptKind, Attempt, Given, Text, Configuration, Choice, Saved, Sight, sight, current_of, byte_of, saved_at, IsAsFar, Act, enters, exit, consume, links, write, choose, StateRows, class_of, choice_made_at, with_choice_of, done, seen_after, does, chooses, is_void_last, saves, Stage, byte_waits, Shape, Frame, frame_of, allows, after, allows_all, fits_choice, fits_choices, waits_in, outline, EndsWithEnter, Began, upto, since, exit_place_at, class_in, IsSavedIn, IsSaved, position_of, events_saved, IsBelow, AreWaiting}
 use Rattle.markdown_base.specs.declared.event.Name.{Name as EventName}
 use Rattle.mdconstructs_tables.proofs.Rows.Laws.{Waited, reached, IsSeenAhead, sight_at, HasShape, below_after, below_all, to-before, below-more, adds-one, began-on, left-at, has-after, sees-after, sight-after}
 use Rattle.mdconstructs_tables.proofs.GrowingTexts.{Extends, left-kept, seat-append}
@@ -24,8 +24,7 @@ module _ {W R D : Type 0} (class : ℕ → W) (states : List (StateRows W R D)) 
         subst (λ es. AreWaiting class states g text saved.position es below cs) (sym same) rest,
       )
   saved-on stack f false None cs below p p' events events' more further longer on h rest = (h, on rest)
-  saved-on stack f true None cs below p p' events events' more further longer on h rest = absurd h
-  saved-on stack f false (Some saved) cs below p p' events events' more further longer on h rest = absurd h
+  saved-on stack f b saved cs below p p' events events' more further longer on h rest = absurd h
 
   pub more-waiting : (cs : List Choice) (base : List EventName) (p p' : ℕ) (events events' more : List Event) → p ≤ p' → events' ≡ events ++ more → AreWaiting class states g text p events base cs → AreWaiting class states g text p' events' base cs
   more-waiting [] base p p' events events' more further longer h = h
@@ -38,8 +37,7 @@ module _ {W R D : Type 0} (class : ℕ → W) (states : List (StateRows W R D)) 
   saved-below : (stack : List EventName) (f : Frame W) (b : Bool) (saved : Option Saved) (p : ℕ) (events : List Event) → IsSaved class g text p events stack f b saved → IfSome saved (λ s. length s.stack ≤ length stack)
   saved-below stack f true (Some saved) p events h = omega (arith, ap length h.stack_is)
   saved-below stack f false None p events h = tt
-  saved-below stack f true None p events h = absurd h
-  saved-below stack f false (Some saved) p events h = absurd h
+  saved-below stack f b saved p events h = absurd h
 
   pub all-below : (cs : List Choice) (base : List EventName) (p : ℕ) (events : List Event) → AreWaiting class states g text p events base cs → All (IsBelow base) cs
   all-below [] base p events h = All-nil (IsBelow base)
@@ -53,8 +51,7 @@ module _ {W R D : Type 0} (class : ℕ → W) (states : List (StateRows W R D)) 
       → IfSome saved (λ s. take (length s.stack) (stack ++ more) ≡ s.stack)
   saved-front stack more f true (Some saved) p events h = rw h.stack_is (take-append_seam stack more)
   saved-front stack more f false None p events h = tt
-  saved-front stack more f true None p events h = absurd h
-  saved-front stack more f false (Some saved) p events h = absurd h
+  saved-front stack more f b saved p events h = absurd h
 
   abbrev pub IsFront : List EventName → Choice → Type 0
   IsFront stack c = IfSome c.saved (λ s. take (length s.stack) stack ≡ s.stack)
@@ -74,9 +71,8 @@ module _ {W R D : Type 0} (class : ℕ → W) (states : List (StateRows W R D)) 
     whole = take_all (length k.events) (outline k) (omega (arith, length-map k.events unlinked))
 
     byte-left : (stage : Stage) → IsAsFar k (reached stage old) → Waited stage text old → (v : W) → waits_in stage w ≡ Some v → class_in class text k.position ≡ Some v
-    byte-left end_waits far waited v e = absurd (cc)
     byte-left byte_waits far waited v e = ap (class_in class text) far.0 ∙ subst (λ x. class_of class (current_of text old.position x) ≡ w) waited.0 here ∙ e
-    byte-left byte_read far waited v e = absurd (cc)
+    byte-left stage far waited v e = absurd (cc)
 
     is-saved : not p.fresh ≡ true → (not (is_void_last (last_or None p.spans)) || p.bare) ≡ true → IsSavedIn class g text k.position (outline k) (base ++ p.spans) (frame_of w p) (saved_at k)
     is-saved old_spans void =
@@ -93,12 +89,8 @@ module _ {W R D : Type 0} (class : ℕ → W) (states : List (StateRows W R D)) 
 
     made : (kind : AttemptKind) (ok nok : State) → fits_choice states (frame_of w p) kind ok nok ≡ true → IsSavedIn class g text k.position (outline k) (base ++ p.spans) (frame_of w p) (saved_at k)
         → AreWaiting class states g text k.position (outline k) (base ++ p.spans) (choice_made_at kind ok nok k ∷ choices)
-    made Check ok nok fit saved = (record { frame = frame_of w p; below = base; stack_is = refl; fits = fit; saved = saved; within = h.within }, subst (λ es. AreWaiting class states g text k.position es base choices) (sym whole) waiting)
     made Attempt ok Nok fit saved = (record { frame = frame_of w p; below = base; stack_is = refl; fits = fit; saved = tt; within = h.within }, waiting)
-    made Attempt ok (Next name) fit saved = (record { frame = frame_of w p; below = base; stack_is = refl; fits = fit; saved = saved; within = h.within }, subst (λ es. AreWaiting class states g text k.position es base choices) (sym whole) waiting)
-    made Attempt ok (Retry name) fit saved = (record { frame = frame_of w p; below = base; stack_is = refl; fits = fit; saved = saved; within = h.within }, subst (λ es. AreWaiting class states g text k.position es base choices) (sym whole) waiting)
-    made Attempt ok Ok fit saved = (record { frame = frame_of w p; below = base; stack_is = refl; fits = fit; saved = saved; within = h.within }, subst (λ es. AreWaiting class states g text k.position es base choices) (sym whole) waiting)
-    made Attempt ok (Error message) fit saved = (record { frame = frame_of w p; below = base; stack_is = refl; fits = fit; saved = saved; within = h.within }, subst (λ es. AreWaiting class states g text k.position es base choices) (sym whole) waiting)
+    made kind ok nok fit saved = (record { frame = frame_of w p; below = base; stack_is = refl; fits = fit; saved = saved; within = h.within }, subst (λ es. AreWaiting class states g text k.position es base choices) (sym whole) waiting)
 
   -- choices wait after an act
   waits-after : (act : Act R D) (acts : List (Act R D)) (old : Configuration R D) (w : Option W) → class_of class (sight g text old).current ≡ w → (p : Shape) (base : List EventName) (s : Sight) (k : Configuration R D) (choices : List Choice) → allows act p ≡ true
