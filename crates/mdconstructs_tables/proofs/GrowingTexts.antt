@@ -1,5 +1,5 @@
 -- Texts to which a piece is added, and events to which one is added.
-use Rattle.mdconstructs_tables.proofs.Prelude.{◌≡◌, ℕ, zero, suc, ◌+◌, ◌≤◌, ◌<◌, List, [], ◌∷◌, ◌++◌, Bool, true, false, cond, Option, Some, length, refl, sym, ap, ◌∙◌, arith, inl, inr, add-one, length-append, slice_get, nat_lt, filter, last_or, slice_get_cases, append-nil, Event, Point, Seat, virtual, denotes_same, open_after, open_events_from, Waits, Nothing, Byte, End, Given, Text, Piece, pushed, passed, followed_by, in_range, Configuration, sight_in, end_place, fed, IsFed}
+use Rattle.mdconstructs_tables.proofs.Prelude.{◌≡◌, ℕ, zero, suc, ◌+◌, ◌≤◌, ◌<◌, List, [], ◌∷◌, ◌++◌, Bool, true, false, cond, Option, Some, length, refl, sym, ap, ◌∙◌, arith, inl, inr, add-one, length-append, slice_get, nat_lt, filter, last_or, slice_get_cases, append-nil, Event, Point, Seat, virtual, denotes_same, open_after, open_events_from, Waits, Nothing, Byte, End, Given, Text, Piece, pushed, passed, followed_by, in_range, Configuration, sight_in, end_place, fed, IsFed, get-front}
 
 -- the seat of a byte that waits
 abbrev pub SeatAt : Text → ℕ → Type 0
@@ -38,13 +38,8 @@ pub extends : (g : Given) (text : Text) (piece : Piece) → Extends text (follow
 extends g text (pushed from to) = record { more = filter (in_range from to) (virtual g.tab g.bytes); start = refl; seats = refl }
 extends g text (passed p) = extends-at (denotes_same g.tab g.bytes p text.end) text p
 
-pub seat-append : (xs ys : List Seat) (i : ℕ) → i < length xs → slice_get (xs ++ ys) i ≡ slice_get xs i
-seat-append [] ys i h = absurd (omega arith)
-seat-append (x ∷ xs) ys zero h = refl
-seat-append (x ∷ xs) ys (suc i) h = seat-append xs ys i (omega arith)
-
 pub seat-kept : (text longer : Text) (i : ℕ) → Extends text longer → i < length text.seats → slice_get longer.seats i ≡ slice_get text.seats i
-seat-kept text longer i e h = rw e.seats (seat-append text.seats e.more i h)
+seat-kept text longer i e h = rw e.seats (get-front text.seats e.more i h)
 
 pub left-kept : (text longer : Text) (p : ℕ) → Extends text longer → p ≤ length text.seats → end_place longer p ≡ end_place text p
 left-kept text longer zero e h = e.start

@@ -13,9 +13,8 @@ module _ {R D : Type 0} (g : Given) (step : Sight → Configuration R D → Name
   abbrev HoldsIn : List Choice → Configuration R D → State → Type 0
   HoldsIn cs k Ok = P k cs Ok
   HoldsIn cs k Nok = P k cs Nok
-  HoldsIn cs k (Next name) = Unit {0}
-  HoldsIn cs k (Retry name) = Unit {0}
   HoldsIn cs k (Error m) = (ds : List Choice) × P k ds (Error m)
+  HoldsIn cs k _ = Unit {0}
 
   abbrev HoldsOf : List Choice → Reading R D → Type 0
   HoldsOf cs r = HoldsIn cs r.configuration r.answer
@@ -38,9 +37,7 @@ module _ {R D : Type 0} (g : Given) (step : Sight → Configuration R D → Name
       let at = settled_at c.kind c.saved Ok k in of-more n cs (f at c.ok) r (λ q i. keeps at c.ok cs q (kept.by_ok k c cs h) i) e
   of-settled f keeps c cs k Nok n r h e =
       let at = settled_at c.kind c.saved Nok k in of-more n cs (f at c.nok) r (λ q i. keeps at c.nok cs q (kept.by_nok k c cs h) i) e
-  of-settled f keeps c cs k (Next name) n r h e = of-some cs (record { configuration = k; answer = Next name; calls = n }) r tt e
-  of-settled f keeps c cs k (Retry name) n r h e = of-some cs (record { configuration = k; answer = Retry name; calls = n }) r tt e
-  of-settled f keeps c cs k (Error m) n r h e = of-some cs (record { configuration = k; answer = Error m; calls = n }) r h e
+  of-settled f keeps c cs k s n r h e = of-some cs (record { configuration = k; answer = s; calls = n }) r h e
 
   of-choices : (f : Configuration R D → State → Option (Reading R D)) → Keeps f → (xs cs : List Choice) (o : Option (Reading R D)) (r : Reading R D)
       → ((q : Reading R D) → o ≡ Some q → HoldsOf (xs ++ cs) q) → after_choices f xs o ≡ Some r → HoldsOf cs r
@@ -58,13 +55,12 @@ module _ {R D : Type 0} (g : Given) (step : Sight → Configuration R D → Name
       (λ q i. of-choices f keeps s.choices cs (f s.configuration s.answer) q (λ p j. keeps s.configuration s.answer (s.choices ++ cs) p (kept.by_calls k cs name h) j) i) e
 
   reads : (b : ℕ) → Keeps (read g step text b)
-  reads b k Ok cs r h e = of-some cs (record { configuration = k; answer = Ok; calls = 0 }) r h e
-  reads b k Nok cs r h e = of-some cs (record { configuration = k; answer = Nok; calls = 0 }) r h e
   reads b k (Error m) cs r h e = of-some cs (record { configuration = k; answer = Error m; calls = 0 }) r (cs, h) e
   reads zero k (Next name) cs r h e = absurd (cc)
   reads zero k (Retry name) cs r h e = absurd (cc)
   reads (suc b) k (Next name) cs r h e = of-call b (reads b) (fed text k) name cs r (kept.by_feeding k cs name h) e
   reads (suc b) k (Retry name) cs r h e = of-call b (reads b) k name cs r h e
+  reads b k s cs r h e = of-some cs (record { configuration = k; answer = s; calls = 0 }) r h e
 
   module _ (calls : ℕ) (k : Configuration R D) (s : State) (r : Reading R D) (h : P k [] s) (ends : EndsIn g step text calls k [] s r) where
     ended : HoldsOf [] r

@@ -1,10 +1,5 @@
 -- The links of events stay in shape if events are added, and if two are linked.
-use Rattle.mdconstructs_tables.proofs.Prelude.{◌≡◌, ℕ, zero, suc, ◌+◌, ◌<◌, ◌≤◌, List, [], ◌∷◌, ◌++◌, Option, Some, None, length, refl, sym, ap, ◌∙◌, subst, arith, ◌⊎◌, inl, inr, length-append, All, IfSome, slice_get, option_map, option_and_then, All-cons, All-head, All-tail, All-push, All-weaker, Event, Link, EachEnd, EndsBelow, next_set, previous_set, with_next, with_previous, updated_at, linked_to, next_of, previous_of, updated-length, next_end, previous_end, AreInShape}
-
-same-or-not : (i p : ℕ) → (i ≡ p) ⊎ (i ≡ p → ⊥)
-same-or-not zero zero = inl refl
-same-or-not (suc i) (suc p) = elim (same-or-not i p) [ inl e ↦ inl (ap suc e) | inr apart ↦ inr (λ e. apart (omega (arith, e))) ]
-same-or-not i p = inr (λ e. absurd (omega (arith, e)))
+use Rattle.mdconstructs_tables.proofs.Prelude.{◌≡◌, ℕ, zero, suc, ◌+◌, ◌<◌, ◌≤◌, List, [], ◌∷◌, ◌++◌, Option, Some, None, length, refl, sym, ap, ◌∙◌, subst, arith, inl, inr, length-append, All, IfSome, slice_get, option_map, option_and_then, All-cons, All-head, All-tail, All-push, All-weaker, Event, Link, EachEnd, EndsBelow, next_set, previous_set, with_next, with_previous, updated_at, linked_to, next_of, previous_of, updated-length, next_end, previous_end, AreInShape, cases_eq, IfSome_then, none-some}
 
 -- Events that are added
 pub next-more : (xs : List Event) (e : Event) (i : ℕ) → next_end e ≡ None → next_of (xs ++ e ∷ []) i ≡ next_of xs i
@@ -17,13 +12,8 @@ previous-more [] e zero h = h
 previous-more (x ∷ xs) e (suc i) h = previous-more xs e i h
 previous-more xs e i h = refl
 
-end-more : (n m : ℕ) (o : Option ℕ) → n ≤ m → IfSome o (λ k. k < n) → IfSome o (λ k. k < m)
-end-more n m None less h = tt
-end-more n m (Some k) less h = omega (arith, h, less)
-
 below-more : (n m : ℕ) (o : Option Link) → n ≤ m → IfSome o (EachEnd (λ k. k < n)) → IfSome o (EachEnd (λ k. k < m))
-below-more n m None less h = tt
-below-more n m (Some l) less h = (end-more n m l.previous less h.0, end-more n m l.next less h.1)
+below-more n m o less h = IfSome_then o h (λ l k. (IfSome_then l.previous k.0 (λ i r. omega (arith, r, less)), IfSome_then l.next k.1 (λ i r. omega (arith, r, less))))
 
 no-ends-below : (n : ℕ) (o : Option Link) → option_and_then (λ (l : Link). l.next) o ≡ None → option_and_then (λ (l : Link). l.previous) o ≡ None → IfSome o (EachEnd (λ k. k < n))
 no-ends-below n None h k = tt
@@ -41,23 +31,10 @@ more-shape xs e ends begins h =
     }
 
 -- Events that are linked
-next-of-set : (n : ℕ) (o : Option Link) (l : Link) → o ≡ Some l → option_and_then (λ (l : Link). l.next) (option_map (next_set n) o) ≡ Some n
-next-of-set n None l h = absurd (cc)
-next-of-set n (Some m) l h = refl
-
-previous-of-set : (n : ℕ) (o : Option Link) (l : Link) → o ≡ Some l → option_and_then (λ (l : Link). l.previous) (option_map (previous_set n) o) ≡ Some n
-previous-of-set n None l h = absurd (cc)
-previous-of-set n (Some m) l h = refl
-
-next-set-at : (p n : ℕ) (xs : List Event) (e : Event) (l : Link) → slice_get xs p ≡ Some e → e.link ≡ Some l → next_of (updated_at p (with_next n) xs) p ≡ Some n
-next-set-at p n [] e l is link = absurd (cc)
-next-set-at zero n (x ∷ xs) e l is link = let same : x ≡ e = cc in next-of-set n x.link l (ap (λ (e : Event). e.link) same ∙ link)
-next-set-at (suc p) n (x ∷ xs) e l is link = next-set-at p n xs e l is link
-
-previous-set-at : (p n : ℕ) (xs : List Event) (e : Event) (l : Link) → slice_get xs p ≡ Some e → e.link ≡ Some l → previous_of (updated_at p (with_previous n) xs) p ≡ Some n
-previous-set-at p n [] e l is link = absurd (cc)
-previous-set-at zero n (x ∷ xs) e l is link = let same : x ≡ e = cc in previous-of-set n x.link l (ap (λ (e : Event). e.link) same ∙ link)
-previous-set-at (suc p) n (x ∷ xs) e l is link = previous-set-at p n xs e l is link
+get-at : (p : ℕ) (f : Event → Event) (xs : List Event) → slice_get (updated_at p f xs) p ≡ option_map f (slice_get xs p)
+get-at p f [] = refl
+get-at zero f (x ∷ xs) = refl
+get-at (suc p) f (x ∷ xs) = get-at p f xs
 
 pub get-other : (p i : ℕ) (f : Event → Event) (xs : List Event) → (i ≡ p → ⊥) → slice_get (updated_at p f xs) i ≡ slice_get xs i
 get-other p i f [] apart = refl
@@ -105,9 +82,6 @@ inside-set zero m f (x ∷ xs) keeps h = All-cons (EndsBelow m) (f x) xs (keeps 
 inside-set (suc p) m f (x ∷ xs) keeps h =
     All-cons (EndsBelow m) x (updated_at p f xs) (All-head (EndsBelow m) x xs h) (inside-set p m f xs keeps (All-tail (EndsBelow m) x xs h))
 
-some-none : {A : Type 0} (o : Option A) (x : A) → o ≡ Some x → o ≡ None → ⊥
-some-none o x e f = let same : Some x ≡ None = sym e ∙ f in absurd (cc)
-
 module _ (xs : List Event) (p n : ℕ) (e f : Event) (l m : Link) (at_p : slice_get xs p ≡ Some e) (link_p : e.link ≡ Some l) (at_n : slice_get xs n ≡ Some f) (link_n : f.link ≡ Some m)
     (order : p < n) (within : n < length xs) (last : next_of xs p ≡ None) (first : previous_of xs n ≡ None) (h : AreInShape xs) where
   abbrev one : List Event
@@ -120,33 +94,31 @@ module _ (xs : List Event) (p n : ℕ) (e f : Event) (l m : Link) (at_p : slice_
   previous-linked j apart = previous-other n j (with_previous p) one apart ∙ previous-kept p n j xs
 
   next-there : next_of (linked_to p n xs) p ≡ Some n
-  next-there = next-kept n p p one ∙ next-set-at p n xs e l at_p link_p
+  next-there = next-kept n p p one ∙ rw (get-at p (with_next n) xs, at_p, link_p)
 
   previous-there : previous_of (linked_to p n xs) n ≡ Some p
-  previous-there = previous-set-at n p one f m (get-other p n (with_next n) xs (λ same. absurd (omega (arith, order, same))) ∙ at_n) link_n
+  previous-there = rw (get-at n (with_previous p) one, get-other p n (with_next n) xs (λ same. absurd (omega (arith, order, same))), at_n, link_n)
 
   goes-on : (i j : ℕ) → next_of (linked_to p n xs) i ≡ Some j → previous_of (linked_to p n xs) j ≡ Some i
-  goes-on i j is = elim (same-or-not i p) [
+  goes-on i j is = elim (cases_eq i p) [
     | inl e ↦
         let there : next_of (linked_to p n xs) i ≡ Some n = ap (next_of (linked_to p n xs)) e ∙ next-there in
-        let both : Some j ≡ Some n = sym is ∙ there in
         let j_is : j ≡ n = cc in
         ap (previous_of (linked_to p n xs)) j_is ∙ previous-there ∙ ap Some (sym e)
     | inr apart ↦
         let old = h.on i j (sym (next-linked i apart) ∙ is) in
-        previous-linked j (λ e. some-none (previous_of xs j) i old (ap (previous_of xs) e ∙ first)) ∙ old
+        previous-linked j (λ e. none-some i (sym first ∙ ap (previous_of xs) (sym e) ∙ old)) ∙ old
   ]
 
   goes-back : (i j : ℕ) → previous_of (linked_to p n xs) j ≡ Some i → next_of (linked_to p n xs) i ≡ Some j
-  goes-back i j is = elim (same-or-not j n) [
+  goes-back i j is = elim (cases_eq j n) [
     | inl e ↦
         let there : previous_of (linked_to p n xs) j ≡ Some p = ap (previous_of (linked_to p n xs)) e ∙ previous-there in
-        let both : Some i ≡ Some p = sym is ∙ there in
         let i_is : i ≡ p = cc in
         ap (next_of (linked_to p n xs)) i_is ∙ next-there ∙ ap Some (sym e)
     | inr apart ↦
         let old = h.back i j (sym (previous-linked j apart) ∙ is) in
-        next-linked i (λ e. some-none (next_of xs i) j old (ap (next_of xs) e ∙ last)) ∙ old
+        next-linked i (λ e. none-some j (sym last ∙ ap (next_of xs) (sym e) ∙ old)) ∙ old
   ]
 
   pub linked-shape : AreInShape (linked_to p n xs)

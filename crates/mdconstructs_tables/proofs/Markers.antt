@@ -1,19 +1,11 @@
 -- A byte that waits can be a span of its own.
-use Rattle.mdconstructs_tables.proofs.Prelude.{◌≡◌, ℕ, ◌<◌, ◌≤◌, List, [], ◌∷◌, ◌++◌, true, Option, Some, None, length, refl, sym, ap, ◌∙◌, subst, arith, length-append, All, IfSome, last_or, All-weaker, Event, Enter, open_events, stands_before, Nothing, Byte, Choice, Saved, TokenizerValue, at_configuration, sight_of, CanExit, consumed, entered, StateRows, IsBelow, IsAtState, IsMarkable}
+use Rattle.mdconstructs_tables.proofs.Prelude.{◌≡◌, ℕ, ◌<◌, ◌≤◌, List, [], ◌∷◌, ◌++◌, true, Some, None, length, refl, sym, ap, ◌∙◌, subst, arith, length-append, All, IfSome, last_or, All-weaker, Event, Enter, open_events, stands_before, Nothing, Byte, Choice, TokenizerValue, at_configuration, sight_of, CanExit, consumed, entered, StateRows, IsBelow, IsAtState, IsMarkable, IfSome_then}
 use Rattle.markdown_base.specs.declared.event.Name.{Name}
 use Rattle.mdconstructs_tables.proofs.GrowingTexts.{open-more, last-more, next-left}
 
-longer : (base more stack : List Name) (saved : Option Saved) → stack ≡ base ++ more → IfSome saved (λ s. length s.stack ≤ length base) → IfSome saved (λ s. length s.stack ≤ length stack)
-longer base more stack None same h = tt
-longer base more stack (Some saved) same h = omega (arith, ap length same, length-append base more, h)
-
-fewer : (name : Name) (stack : List Name) (saved : Option Saved) → IfSome saved (λ s. length s.stack ≤ length stack) → IfSome saved (λ s. length s.stack < length (stack ++ name ∷ []))
-fewer name stack None h = tt
-fewer name stack (Some saved) h = omega (arith, length-append stack (name ∷ []), h)
-
 -- choices that are below some spans saved no more of the stack than there is
 pub stack-below : (base more stack : List Name) (cs : List Choice) → stack ≡ base ++ more → All (IsBelow base) cs → All (IsBelow stack) cs
-stack-below base more stack cs same h = All-weaker (IsBelow base) (IsBelow stack) (λ c. longer base more stack c.saved same) cs h
+stack-below base more stack cs same h = All-weaker (IsBelow base) (IsBelow stack) (λ c k. IfSome_then c.saved k (λ s r. omega (arith, r, ap length same, length-append base more))) cs h
 
 -- a state is called and a byte waits
 pub markable : {M W R D : Type 0} (class : ℕ → W) (state : StateRows W R D) (t : TokenizerValue M R D) → IsAtState class state t → t.configuration.waiting ≡ Byte → IsMarkable t
@@ -44,5 +36,5 @@ module _ {M R D : Type 0} (name : Name) (t : TokenizerValue M R D) (can : IsMark
         top = last-more None k.stack name;
         read = λ e is. subst (λ e. stands_before e.point (sight_of read).exit_place ≡ true) (is-last e is) (subst (λ q. stands_before (sight_of t).enter_place q ≡ true) (sym left) can.in_order);
         void = λ v. (x, last-more None k.events x, refl);
-        above = All-weaker (λ c. IfSome c.saved (λ s. length s.stack ≤ length k.stack)) (λ c. IfSome c.saved (λ s. length s.stack < length (k.stack ++ name ∷ []))) (λ c. fewer name k.stack c.saved) t.choices can.below;
+        above = All-weaker (λ c. IfSome c.saved (λ s. length s.stack ≤ length k.stack)) (λ c. IfSome c.saved (λ s. length s.stack < length (k.stack ++ name ∷ []))) (λ c h. IfSome_then c.saved h (λ s r. omega (arith, r, length-append k.stack (name ∷ [])))) t.choices can.below;
       }

@@ -2,15 +2,15 @@
 pub use Rattle.std.proofs.Common.{Bool, List, None, Option, Some, [], add-one, ap, append_assoc, arith, cond, drop, false, inl, inr, length, length-append, map, not, refl, subst, suc, sum_by, sym, take, true, zero, ℕ, ⊎_elim, ◌&&◌, ◌++◌, ◌+◌, ◌-◌, ◌<◌, ◌==◌, ◌||◌, ◌∙◌, ◌∷◌, ◌≡◌, ◌≢◌, ◌≤◌, ◌⊎◌}
 pub use Rattle.std.proofs.Math.Nat.{mul-le-mul_left, mul-le-mul_right}
 pub use Rattle.std.proofs.Math.Seq.{take-append_seam}
-pub use Rattle.std.proofs.lemmas.Bool.{and_from, and_parts, false_from_ne_true, leb-true, ltb-false, ltb-true, not-false, not-true, or_parts}
+pub use Rattle.std.proofs.lemmas.Bool.{and_from, and_parts, cases_eq, cond-false, cond_both, false_from_ne_true, leb-true, ltb-false, ltb-true, not-false, not-true, or_parts}
 pub use Rattle.std.proofs.lemmas.Bool.Decides.{nat_tests}
 pub use Rattle.std.proofs.lemmas.List.{append-nil, length-map, map-append, take-append-drop, take-append-le, take-map, take_all}
 pub use Rattle.std.proofs.lemmas.List.Elements.{All-cons, All-contains, All-head, All-nil, All-push, All-tail, All-take, All-weaker, Contains-append_cases}
 pub use Rattle.std.proofs.lemmas.List.Sums.{sum_by-cons}
-pub use Rattle.std.proofs.lemmas.Option.{none-some, slice_get_cases, slice_get_past, slice_get_within}
+pub use Rattle.std.proofs.lemmas.Option.{IfSome_then, none-some, slice_get_cases, slice_get_past, slice_get_within}
 pub use Rattle.std.specs.List.{flat_map, last_or, list_any}
 pub use Rattle.std.specs.Prelude.{All, Contains, IfSome, filter, max, nat_lt, option_and_then, option_map, reverse, slice_get}
-pub use Rattle.markdown_base.proofs.Common.{none-mapped, or-leads}
+pub use Rattle.markdown_base.proofs.Common.{get-front, none-mapped, or-leads}
 pub use Rattle.markdown_base.proofs.OpenEvents.{open_events_from-unlinked}
 pub use Rattle.markdown_base.proofs.Seats.{stands-self}
 pub use Rattle.markdown_base.specs.Events.{EachEnd, EndsBelow, is_void, open_after, open_events, open_events_from, unlinked}

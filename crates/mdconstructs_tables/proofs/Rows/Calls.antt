@@ -1,5 +1,5 @@
 -- What the code of a state may do where it is called, from the test of its acts.
-use Rattle.mdconstructs_tables.proofs.Prelude.{◌≡◌, ◌≢◌, ◌==◌, ℕ, ◌<◌, ◌≤◌, ◌&&◌, ◌||◌, not, List, [], ◌∷◌, ◌++◌, Bool, true, false, cond, Option, Some, None, length, map, refl, sym, ap, ◌∙◌, subst, arith, append_assoc, length-append, All, IfSome, reverse, last_or, nat_tests, All-head, All-tail, All-weaker, and_parts, slice_get_past, Event, Enter, Name, Retry, open_events, is_void, unlinked, stands_before, or-leads, Waits, Nothing, Byte, End, Text, Configuration, Local, Choice, Saved, TokenizerValue, sight, sight_of, byte_of, CanExit, IsAsFar, Act, enters, exit, consume, done, with_choice_of, StateRows, Called, Table, class_of, does, chooses, named, Stage, byte_read, Shape, is_last, allows_all, after_all, start_shape, is_called_at, is_some, EndsWithEnter, since, IsFed, class_in, begun, IsBelow, table_holds, IsAtState, once_read, CanEnd, IsCallable, IsMarkable}
+use Rattle.mdconstructs_tables.proofs.Prelude.{◌≡◌, ◌≢◌, ◌==◌, ℕ, ◌<◌, ◌≤◌, ◌&&◌, ◌||◌, not, List, [], ◌∷◌, ◌++◌, Bool, true, false, Option, Some, None, length, map, refl, sym, ap, ◌∙◌, subst, arith, append_assoc, length-append, All, IfSome, reverse, last_or, nat_tests, All-head, All-tail, All-weaker, and_parts, slice_get_past, Event, Enter, Name, Retry, open_events, is_void, unlinked, stands_before, or-leads, Waits, Nothing, Byte, End, Text, Configuration, Local, Choice, TokenizerValue, sight, sight_of, byte_of, CanExit, IsAsFar, Act, enters, exit, consume, done, with_choice_of, StateRows, Called, Table, class_of, does, chooses, named, Stage, byte_read, Shape, is_last, allows_all, after_all, start_shape, is_called_at, is_some, EndsWithEnter, since, IsFed, class_in, begun, IsBelow, table_holds, IsAtState, once_read, CanEnd, IsCallable, IsMarkable, cond-false, IfSome_then}
 use Rattle.markdown_base.specs.declared.event.Name.{Name as EventName}
 use Rattle.mdconstructs_tables.proofs.Rows.Laws.{Waited, reached, sight_at, HasShape, below_all, is-last, last-above, last-long, to-before, open-unlinked, left-at, here-at, has-after-all, does-then, chooses-then, allows-then, allows-front}
 use Rattle.mdconstructs_tables.proofs.GrowingTexts.{next-left}
@@ -22,12 +22,8 @@ ends-linked [] h = absurd (let none = h.1 in cc)
 ends-linked (x ∷ es) h = last-linked x es h.0 h.1 h.2
 
 -- choices that are below some spans began with fewer than those and more
-above-one : (base spans stack : List EventName) (saved : Option Saved) → stack ≡ base ++ spans → 1 ≤ length spans → IfSome saved (λ s. length s.stack ≤ length base) → IfSome saved (λ s. length s.stack < length stack)
-above-one base spans stack None same some h = tt
-above-one base spans stack (Some saved) same some h = omega (arith, ap length same, length-append base spans, some, h)
-
 above-all : (base spans stack : List EventName) (cs : List Choice) → stack ≡ base ++ spans → 1 ≤ length spans → All (IsBelow base) cs → All (λ c. IfSome c.saved (λ s. length s.stack < length stack)) cs
-above-all base spans stack cs same some h = All-weaker (IsBelow base) (λ c. IfSome c.saved (λ s. length s.stack < length stack)) (λ c. above-one base spans stack c.saved same some) cs h
+above-all base spans stack cs same some h = All-weaker (IsBelow base) (λ c. IfSome c.saved (λ s. length s.stack < length stack)) (λ c k. IfSome_then c.saved k (λ s r. omega (arith, r, ap length same, length-append base spans, some))) cs h
 
 -- if a byte still waits, nothing was read
 still-waiting : {R D : Type 0} (stage : Stage) (k k' : Configuration R D) → IsAsFar k' (reached stage k) → k'.waiting ≡ Byte → (k'.position ≡ k.position) × (k'.waiting ≡ k.waiting)
@@ -36,30 +32,12 @@ still-waiting stage k k' far is = (far.0, far.1)
 
 -- the tokenizer after one act
 abbrev pub acted_once : {M R D : Type 0} → Act R D → TokenizerValue M R D → TokenizerValue M R D
-acted_once act t = record {
-  given = t.given;
-  machine = t.machine;
-  text = t.text;
-  configuration = done act (sight_of t) t.configuration;
-  choices = with_choice_of act t.configuration t.choices;
-  calls = t.calls;
-  closed = t.closed;
-  phase = t.phase;
-}
+acted_once act t = record t { configuration = done act (sight_of t) t.configuration; choices = with_choice_of act t.configuration t.choices }
 
 module _ {M W R D : Type 0} (class : ℕ → W) (state : StateRows W R D) (b w : Option W) (t : TokenizerValue M R D) where
   -- and after acts
   abbrev pub acted : List (Act R D) → TokenizerValue M R D
-  acted acts = record {
-    given = t.given;
-    machine = t.machine;
-    text = t.text;
-    configuration = does acts (sight_of t) t.configuration;
-    choices = chooses acts (sight_of t) t.configuration t.choices;
-    calls = t.calls;
-    closed = t.closed;
-    phase = t.phase;
-  }
+  acted acts = record t { configuration = does acts (sight_of t) t.configuration; choices = chooses acts (sight_of t) t.configuration t.choices }
 
   -- the acts are allowed at the state
   abbrev pub are_allowed : List (Act R D) → Bool
@@ -120,8 +98,8 @@ module _ {M W R D : Type 0} (class : ℕ → W) (state : StateRows W R D) (b w :
         done-at act p (acted acts).configuration h.far h.waited
         ∙ sym (does-then acts act (start_shape b w state) (sight_of t) (sight_of t) t.configuration before (start-sight classes t.given w (sight_of t))) in
         two ∙ ap (acted_once act) one
-        ∙ ap (λ k. record { given = t.given; machine = t.machine; text = t.text; configuration = k; choices = with_choice_of act (acted acts).configuration (acted acts).choices; calls = t.calls; closed = t.closed; phase = t.phase }) k''
-        ∙ ap (λ cs. record { given = t.given; machine = t.machine; text = t.text; configuration = (acted (acts ++ act ∷ [])).configuration; choices = cs; calls = t.calls; closed = t.closed; phase = t.phase })
+        ∙ ap (λ k. record t { configuration = k; choices = with_choice_of act (acted acts).configuration (acted acts).choices }) k''
+        ∙ ap (λ cs. record t { configuration = (acted (acts ++ act ∷ [])).configuration; choices = cs })
         (sym (chooses-then acts act (sight_of t) t.configuration t.choices))
 
     -- and so may spans that allowed acts exit, one after another
@@ -198,16 +176,12 @@ abbrev pub IsNoneOf : {W R D : Type 0} → List (StateRows W R D) → Name → T
 IsNoneOf [] name = Unit {0}
 IsNoneOf (state ∷ states) name = (name.number ≢ state.name.number) × IsNoneOf states name
 
-skipped : {W R D : Type 0} (b : Bool) (state : StateRows W R D) (rest : Option (StateRows W R D)) → b ≡ false → cond b (Some state) rest ≡ rest
-skipped true state rest h = absurd (cc)
-skipped false state rest h = refl
-
 pub not-named : {W R D : Type 0} (states : List (StateRows W R D)) (name : Name) → IsNoneOf states name → named states name ≡ None
 not-named [] name h = refl
 not-named (state ∷ states) name h =
     let other = h.0 in
     let not : (name.number == state.name.number) ≡ false = grind (arith, nat_tests) in
-    skipped (name.number == state.name.number) state (named states name) not ∙ not-named states name h.1
+    cond-false (name.number == state.name.number) (Some state) (named states name) not ∙ not-named states name h.1
 
 -- such a name is never called
 pub never-called : {M W R D : Type 0} (table : Table W R D) (name : Name) (t : TokenizerValue M R D) → IsNoneOf table.states name → table_holds table t.given t.text t.configuration t.choices (Retry name) → ⊥

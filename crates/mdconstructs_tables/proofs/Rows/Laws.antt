@@ -1,5 +1,6 @@
 -- What a row keeps: lemmas for the laws of tables.
-use Rattle.mdconstructs_tables.proofs.Prelude.{◌≡◌, suc, ◌+◌, ◌-◌, ◌<◌, ◌≤◌, not, List, [], ◌∷◌, ◌++◌, Bool, true, false, Option, Some, None, length, map, refl, sym, ap, ◌∙◌, subst, arith, take, append_assoc, length-append, All, IfSome, last_or, and_from, and_parts, append-nil, map-append, All-push, All-take, All-weaker, All-cons, Event, Enter, Exit, Point, State, Nok, open_events, unlinked, stands_before, open_events_from-unlinked, stands-self, Nothing, Byte, AttemptKind, Attempt, Given, Text, Configuration, Choice, Saved, Sight, sight, consumed, linked-unlinked, IsAsFar, same_name-true, before-upto, Act, enters, exit, consume, links, write, choose, past, done, seen_after, choice_made_at, with_choice_of, does, chooses, Stage, end_waits, byte_waits, byte_read, Shape, is_byte_waiting, is_end, is_last, allows, after, allows_all, after_all, same_names, outline, EndsWithEnter, Began, upto, since, AnyWait, IsBelow}
+use Rattle.mdconstructs_tables.proofs.Markers.{stack-below}
+use Rattle.mdconstructs_tables.proofs.Prelude.{◌≡◌, suc, ◌+◌, ◌-◌, ◌<◌, ◌≤◌, not, List, [], ◌∷◌, ◌++◌, Bool, true, false, Option, Some, None, length, map, refl, sym, ap, ◌∙◌, subst, arith, take, append_assoc, length-append, All, last_or, and_from, and_parts, append-nil, map-append, All-push, All-take, All-weaker, All-cons, Event, Enter, Exit, Point, State, Nok, open_events, unlinked, stands_before, open_events_from-unlinked, stands-self, Nothing, Byte, AttemptKind, Attempt, Given, Text, Configuration, Choice, Sight, sight, consumed, linked-unlinked, IsAsFar, same_name-true, before-upto, Act, enters, exit, consume, links, write, choose, past, done, seen_after, choice_made_at, with_choice_of, does, chooses, Stage, end_waits, byte_waits, byte_read, Shape, is_byte_waiting, is_end, is_last, allows, after, allows_all, after_all, same_names, outline, EndsWithEnter, Began, upto, since, AnyWait, IsBelow}
 use Rattle.markdown_base.specs.declared.event.Name.{Name as EventName}
 use Rattle.mdconstructs_tables.proofs.GrowingTexts.{open-more, last-more, next-left}
 
@@ -103,14 +104,6 @@ to-before false stage s q fit h = h
 pub began-on : (from to : Point → Bool) (events : List Event) → ((q : Point) → from q ≡ true → to q ≡ true) → Began from events → Began to events
 began-on from to events f h = All-weaker (λ e. from e.point ≡ true) (λ e. to e.point ≡ true) (λ e. f e.point) (open_events events) h
 
--- choices that are below some spans are below those and more
-longer-below : (base more : List EventName) (c : Choice) (saved : Option Saved) → IfSome saved (λ s. length s.stack ≤ length base) → IfSome saved (λ s. length s.stack ≤ length (base ++ more))
-longer-below base more c None h = tt
-longer-below base more c (Some saved) h = omega (arith, h, length-append base more)
-
-pub below-more : (base more : List EventName) (cs : List Choice) → All (IsBelow base) cs → All (IsBelow (base ++ more)) cs
-below-more base more cs h = All-weaker (IsBelow base) (IsBelow (base ++ more)) (λ c. longer-below base more c c.saved) cs h
-
 module _ {R D : Type 0} where
   -- the spans below after one act, and after all
   abbrev pub below_after : Act R D → Shape → List EventName → List EventName
@@ -213,7 +206,7 @@ module _ {R D : Type 0} (g : Given) (text : Text) (old : Configuration R D) wher
     bare = λ is. absurd (cc);
     far = h.far;
     waited = h.waited;
-    below = All-cons (IsBelow (base ++ p.spans)) (choice_made_at kind ok nok k) choices (chosen-below kind ok nok (base ++ p.spans) k h.stack) (below-more base p.spans choices h.below);
+    below = All-cons (IsBelow (base ++ p.spans)) (choice_made_at kind ok nok k) choices (chosen-below kind ok nok (base ++ p.spans) k h.stack) (stack-below base p.spans (base ++ p.spans) choices refl h.below);
     within = λ _. tt;
   }
 

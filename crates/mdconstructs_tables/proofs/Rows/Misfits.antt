@@ -1,5 +1,5 @@
 -- What the test of a table says of each state if it names none.
-use Rattle.mdconstructs_tables.proofs.Prelude.{◌≡◌, ◌==◌, List, [], ◌∷◌, ◌++◌, Bool, true, false, cond, Option, Some, refl, subst, arith, nat_tests, All, filter, None, flat_map, All-nil, All-cons, Name, StateRows, named, all_rows, fits_row, fits_calls, is_called, may_start, Reason, act, spans, choice, answer, unpaid, start, unless, with_reason, acts_fit, spans_fit, choices_fit, misfit, named_misfit, named_start}
+use Rattle.mdconstructs_tables.proofs.Prelude.{◌≡◌, ◌==◌, List, [], ◌∷◌, ◌++◌, Bool, true, false, cond, Option, Some, refl, subst, arith, nat_tests, All, filter, None, flat_map, All-nil, All-cons, Name, StateRows, named, all_rows, fits_row, fits_calls, is_called, may_start, Reason, act, spans, choice, answer, unpaid, start, unless, with_reason, acts_fit, spans_fit, choices_fit, misfit, named_misfit, named_start, cond_both}
 
 pub none-left : {A : Type 0} (xs ys : List A) → xs ++ ys ≡ [] → (xs ≡ []) × (ys ≡ [])
 none-left [] ys h = (refl, h)
@@ -9,27 +9,24 @@ first-out : {A : Type 0} (test : A → Bool) (x : A) (b : Bool) (xs : List A) �
 first-out test x true xs h = absurd (cc)
 first-out test x false xs h = (refl, h)
 
-module _ {W R D : Type 0} (test : StateRows W R D → Bool) where
-  picked-out : (b : Bool) (x state : StateRows W R D) (rest : Option (StateRows W R D)) → test x ≡ false → (rest ≡ Some state → test state ≡ false) → cond b (Some x) rest ≡ Some state → test state ≡ false
-  picked-out true x state rest t f is = let e : x ≡ state = cc in subst (λ y. test y ≡ false) e t
-  picked-out false x state rest t f is = f is
+module _ {W R D : Type 0} where
+  -- what a list of states says of its first, and of the rest, is so of the state of a name, and that state has the name
+  pub named-in : (A : List (StateRows W R D) → Type 0) (P : StateRows W R D → Type 0) → ((x : StateRows W R D) (xs : List (StateRows W R D)) → A (x ∷ xs) → P x × A xs)
+      → (states : List (StateRows W R D)) (name : Name) (state : StateRows W R D) → A states → named states name ≡ Some state → P state × (name.number ≡ state.name.number)
+  named-in A P split [] name state h is = absurd (cc)
+  named-in A P split (x ∷ xs) name state h is =
+      let (one, rest) = split x xs h in
+      cond_both (name.number == x.name.number) (Some x) (named xs name) (λ o. o ≡ Some state → P state × (name.number ≡ state.name.number))
+      (λ e is. let same : x ≡ state = cc in subst (λ y. P y × (name.number ≡ y.name.number)) same (one, grind (arith, nat_tests)))
+      (λ e is. named-in A P split xs name state rest is) is
 
   -- a test that no state passes is not passed by the state of a name
-  pub named-out : (states : List (StateRows W R D)) (name : Name) (state : StateRows W R D) → filter test states ≡ [] → named states name ≡ Some state → test state ≡ false
-  named-out [] name state h is = absurd (cc)
-  named-out (x ∷ xs) name state h is =
-      let (one, rest) = first-out test x (test x) (filter test xs) h in
-      picked-out _ x state (named xs name) one (λ e. named-out xs name state rest e) is
+  pub named-out : (test : StateRows W R D → Bool) (states : List (StateRows W R D)) (name : Name) (state : StateRows W R D) → filter test states ≡ [] → named states name ≡ Some state → test state ≡ false
+  named-out test states name state h is = (named-in (λ l. filter test l ≡ []) (λ x. test x ≡ false) (λ x xs. first-out test x (test x) (filter test xs)) states name state h is).0
 
-same-or : {W R D : Type 0} (b : Bool) (name : Name) (x state : StateRows W R D) (rest : Option (StateRows W R D)) → (b ≡ true → name.number ≡ x.name.number)
-    → (rest ≡ Some state → name.number ≡ state.name.number) → cond b (Some x) rest ≡ Some state → name.number ≡ state.name.number
-same-or true name x state rest same later is = let e : x ≡ state = cc in subst (λ y. name.number ≡ y.name.number) e (same refl)
-same-or false name x state rest same later is = later is
-
--- the state of a name has that name
-pub named-same : {W R D : Type 0} (states : List (StateRows W R D)) (name : Name) (state : StateRows W R D) → named states name ≡ Some state → name.number ≡ state.name.number
-named-same [] name state is = absurd (cc)
-named-same (x ∷ xs) name state is = same-or (name.number == x.name.number) name x state (named xs name) (λ e. grind (arith, nat_tests)) (λ e. named-same xs name state e) is
+  -- the state of a name has that name
+  pub named-same : (states : List (StateRows W R D)) (name : Name) (state : StateRows W R D) → named states name ≡ Some state → name.number ≡ state.name.number
+  named-same states name state is = (named-in (λ l. Unit {0}) (λ x. Unit {0}) (λ x xs h. (tt, tt)) states name state tt is).1
 
 -- if a list of lists has no elements in all, none of the lists has any
 module _ {A : Type 0} where
@@ -37,16 +34,8 @@ module _ {A : Type 0} where
   none-made f [] h = All-nil (λ x. f x ≡ [])
   none-made f (x ∷ xs) h = let (one, rest) = none-left (f x) (flat_map f xs) h in All-cons (λ x. f x ≡ []) x xs one (none-made f xs rest)
 
-  module _ {W R D : Type 0} (f : StateRows W R D → List A) where
-    picked-none : (b : Bool) (x state : StateRows W R D) (rest : Option (StateRows W R D)) → f x ≡ [] → (rest ≡ Some state → f state ≡ []) → cond b (Some x) rest ≡ Some state → f state ≡ []
-    picked-none true x state rest none later is = let e : x ≡ state = cc in subst (λ y. f y ≡ []) e none
-    picked-none false x state rest none later is = later is
-
-    pub named-none : (states : List (StateRows W R D)) (name : Name) (state : StateRows W R D) → flat_map f states ≡ [] → named states name ≡ Some state → f state ≡ []
-    named-none [] name state h is = absurd (cc)
-    named-none (x ∷ xs) name state h is =
-        let (one, rest) = none-left (f x) (flat_map f xs) h in
-        picked-none (name.number == x.name.number) x state (named xs name) one (λ e. named-none xs name state rest e) is
+  pub named-none : {W R D : Type 0} (f : StateRows W R D → List A) (states : List (StateRows W R D)) (name : Name) (state : StateRows W R D) → flat_map f states ≡ [] → named states name ≡ Some state → f state ≡ []
+  named-none f states name state h is = (named-in (λ l. flat_map f l ≡ []) (λ x. f x ≡ []) (λ x xs. none-left (f x) (flat_map f xs)) states name state h is).0
 
 -- no reason is given only where each test is passed
 all-passed : (acts_pass spans_pass choices_pass rows_pass calls_pass : Bool)

@@ -1,7 +1,7 @@
 -- The calls of a machine whose table passes the test are paid for.
-use Rattle.mdconstructs_tables.proofs.Prelude.{◌≡◌, ℕ, ◌+◌, ◌-◌, ◌<◌, ◌≤◌, ◌&&◌, List, [], ◌∷◌, Bool, true, false, cond, Option, Some, None, length, refl, sym, subst, arith, sum_by, nat_lt, max, not, IfSome, last_or, mul-le-mul_left, mul-le-mul_right, leb-true, ltb-true, ltb-false, and_parts, slice_get_past, sum_by-cons, Event, Name, State, Next, Retry, Ok, Nok, Error, AttemptKind, Attempt, Check, Given, Text, IsText, Configuration, Choice, Saved, Sight, sight, byte_of, consumed, with_local, fed, unfed, restored, settled_at, IsAsFar, CostPays, Act, enters, exit, consume, links, write, choose, Rows, row, when, Row, Calls, StateRows, Table, past, class_of, choice_made_at, done, chooses, picked, named, table_step, is_void_last, saves, Stage, end_waits, byte_waits, byte_read, Shape, Frame, may_go_on, fits_choice, fits_answer, fits_calls, is_some, first_stage, plus, larger, at_stage, calls_le, calls_or, fed_calls, next_calls, choice_calls, chosen_calls, answer_calls, calls_at, is_counted, counts_answer, counts_choice, counts_choices, pays_row, feeds, all_rows, is_called_at, is_called, outline, IsSaved, price_by, at_most, IsStateAt, next_price, retry_price, state_price, choice_price, chosen_price, answer_price, row_price, AreWithin, Stands, is_read, behind, class_at, PaysRows, ArePaid, table_holds, table_cost, reserve_of, table_rules, upto, exit_place_at, fresh_fed, falls_on, CanGoBack, Falls, AllFall, IsFitBy, IsFit, every}
+use Rattle.mdconstructs_tables.proofs.Prelude.{◌≡◌, ℕ, ◌+◌, ◌-◌, ◌<◌, ◌≤◌, ◌&&◌, List, [], ◌∷◌, Bool, true, false, Option, Some, None, length, refl, sym, subst, arith, sum_by, nat_lt, max, not, IfSome, last_or, mul-le-mul_left, mul-le-mul_right, leb-true, ltb-true, ltb-false, and_parts, slice_get_past, sum_by-cons, Event, Name, State, Next, Retry, Ok, Nok, Error, AttemptKind, Attempt, Check, Given, Text, IsText, Configuration, Choice, Saved, Sight, sight, byte_of, consumed, with_local, fed, unfed, restored, settled_at, IsAsFar, CostPays, Act, consume, choose, Rows, row, when, Row, Calls, StateRows, Table, past, class_of, choice_made_at, done, chooses, picked, named, table_step, is_void_last, saves, Stage, end_waits, byte_waits, byte_read, Shape, Frame, may_go_on, fits_choice, fits_answer, fits_calls, is_some, first_stage, plus, larger, at_stage, calls_le, calls_or, fed_calls, next_calls, choice_calls, chosen_calls, answer_calls, calls_at, is_counted, counts_answer, counts_choice, counts_choices, pays_row, feeds, all_rows, is_called_at, is_called, outline, IsSaved, price_by, at_most, IsStateAt, next_price, retry_price, state_price, choice_price, chosen_price, answer_price, row_price, AreWithin, Stands, is_read, behind, class_at, PaysRows, ArePaid, table_holds, table_cost, reserve_of, table_rules, upto, exit_place_at, fresh_fed, falls_on, CanGoBack, Falls, AllFall, IsFitBy, IsFit, every, cond_both}
 use Rattle.markdown_base.specs.declared.event.Name.{Name as EventName}
-use Rattle.mdconstructs_tables.proofs.Rows.Misfits.{named-same}
+use Rattle.mdconstructs_tables.proofs.Rows.Misfits.{named-same, named-in}
 use Rattle.mdconstructs_tables.proofs.Rows.Laws.{Waited, reached}
 use Rattle.mdconstructs_tables.proofs.GrowingTexts.{seat-at}
 use Rattle.mdconstructs_tables.proofs.Tables.Holding.{read-before, waits-at, of_class, before_class, row_of, left_by}
@@ -115,10 +115,6 @@ module _ {W R D : Type 0} (table : Table W R D) (g : Given) (late : Bool) where
   counted-chosen : (acts : List (Act R D)) (st : Stage) (n : ℕ) (text : Text) (p : ℕ) → length text.seats - p ≤ bound st n → counts_choices table.states acts ≡ true
       → chosen_price table late text p acts ≤ at_most (chosen_calls table.states st acts) n
   counted-chosen [] st n text p left h = omega arith
-  counted-chosen (enters name link ∷ acts) st n text p left h = counted-chosen acts st n text p left h
-  counted-chosen (exit name ∷ acts) st n text p left h = counted-chosen acts st n text p left h
-  counted-chosen (links previous next ∷ acts) st n text p left h = counted-chosen acts st n text p left h
-  counted-chosen (write f ∷ acts) st n text p left h = counted-chosen acts st n text p left h
   counted-chosen (consume ∷ acts) st n text p left h = counted-chosen acts byte_read n text (p + 1) (read-left st n (length text.seats) p left) h
   counted-chosen (choose kind ok nok ∷ acts) st n text p left h =
       let (first, more) = and_parts (counts_choice table.states kind ok nok) (counts_choices table.states acts) h in
@@ -127,6 +123,7 @@ module _ {W R D : Type 0} (table : Table W R D) (g : Given) (late : Bool) where
       let staged = stage-most st c (length text.seats - p) n left in
       let rest = counted-chosen acts st n text p left more in
       omega (arith, one, staged, rest, plus-most (at_stage st c) (chosen_calls table.states st acts) n)
+  counted-chosen (act ∷ acts) st n text p left h = counted-chosen acts st n text p left h
 
   first-left : (w : Option W) (text : Text) (p : ℕ) → Stands w text p → length text.seats - p ≤ bound (first_stage w) (length text.seats - p - 1)
   first-left None text p h = omega (arith, h)
@@ -152,27 +149,17 @@ module _ {W R D : Type 0} (table : Table W R D) (g : Given) (late : Bool) where
       )
 
   -- the row that is picked is within what all are
-  one-within : (b w : Option W) (text : Text) (p price : ℕ) (test : Bool) (x y : Row R D) → row_price table late b w text p x ≤ price → row_price table late b w text p y ≤ price → row_price table late b w text p (cond test x y) ≤ price
-  one-within b w text p price true x y h k = h
-  one-within b w text p price false x y h k = k
-
   picked-within : (b w : Option W) (text : Text) (p price : ℕ) (rows : Rows R D) (s : Sight) (k : Configuration R D) → AreWithin table late b w text p price rows → row_price table late b w text p (picked rows g s k) ≤ price
   picked-within b w text p price (row acts answer) s k h = h
   picked-within b w text p price (when by one other) s k h =
-      one-within b w text p price (by g s k) (picked one g s k) (picked other g s k) (picked-within b w text p price one s k h.0) (picked-within b w text p price other s k h.1)
+      cond_both (by g s k) (picked one g s k) (picked other g s k) (λ r. row_price table late b w text p r ≤ price) (λ e. picked-within b w text p price one s k h.0) (λ e. picked-within b w text p price other s k h.1)
 
   -- what holds for all states, by their calls, holds for the state of a name
-  found : (P : StateRows W R D → Type 0) (x state : StateRows W R D) (b : Bool) (rest : Option (StateRows W R D)) → P x → (rest ≡ Some state → P state) → cond b (Some x) rest ≡ Some state → P state
-  found P x state true rest one more is = let e : x ≡ state = cc in subst P e one
-  found P x state false rest one more is = more is
+  named-paid : (name : Name) (state : StateRows W R D) → ArePaid table late table.states → named table.states name ≡ Some state → PaysRows table late state state.calls
+  named-paid name state h is = (named-in (ArePaid table late) (λ y. PaysRows table late y y.calls) (λ x xs h. h) table.states name state h is).0
 
-  named-paid : (states : List (StateRows W R D)) (name : Name) (state : StateRows W R D) → ArePaid table late states → named states name ≡ Some state → PaysRows table late state state.calls
-  named-paid [] name state h is = absurd (cc)
-  named-paid (x ∷ xs) name state h is = found (λ y. PaysRows table late y y.calls) x state _ (named xs name) h.0 (λ e. named-paid xs name state h.1 e) is
-
-  named-falls : (falling : Name → Bool) (states : List (StateRows W R D)) (name : Name) (state : StateRows W R D) → AllFall falling states → named states name ≡ Some state → Falls falling state state.calls
-  named-falls falling [] name state h is = absurd (cc)
-  named-falls falling (x ∷ xs) name state h is = found (λ y. Falls falling y y.calls) x state _ (named xs name) h.0 (λ e. named-falls falling xs name state h.1 e) is
+  named-falls : (falling : Name → Bool) (name : Name) (state : StateRows W R D) → AllFall falling table.states → named table.states name ≡ Some state → Falls falling state state.calls
+  named-falls falling name state h is = (named-in (AllFall falling) (λ y. Falls falling y y.calls) (λ x xs h. h) table.states name state h is).0
 
   -- a row of a state is within what the state costs
   row-within : (b w : Option W) (state : StateRows W R D) (s : Sight) (k : Configuration R D) (text : Text) (p : ℕ) → is_some b ≡ is_read p → Stands w text p → class_at table text p ≡ w → is_called_at state.called w ≡ true → PaysRows table late state state.calls
@@ -209,13 +196,10 @@ module _ {W R D : Type 0} (table : Table W R D) (g : Given) (late : Bool) where
   choices-cost : (acts : List (Act R D)) (text : Text) (s : Sight) (k : Configuration R D) (choices : List Choice)
       → sum_by (reserved text) (chooses acts s k choices) ≤ chosen_price table late text k.position acts + sum_by (reserved text) choices
   choices-cost [] text s k choices = omega arith
-  choices-cost (enters name link ∷ acts) text s k choices = choices-cost acts text s (done (enters name link) s k) choices
-  choices-cost (exit name ∷ acts) text s k choices = choices-cost acts text s (done (exit name) s k) choices
-  choices-cost (links previous next ∷ acts) text s k choices = choices-cost acts text s (done (links previous next) s k) choices
-  choices-cost (write f ∷ acts) text s k choices = choices-cost acts text s (done (write f) s k) choices
   choices-cost (consume ∷ acts) text s k choices = choices-cost acts text (past s) (consumed k) choices
   choices-cost (choose kind ok nok ∷ acts) text s k choices =
       omega (arith, choice-costs kind ok nok text k, choices-cost acts text s k (choice_made_at kind ok nok k ∷ choices), sum_by-cons (reserved text) (choice_made_at kind ok nok k) choices)
+  choices-cost (act ∷ acts) text s k choices = choices-cost acts text s (done act s k) choices
 
   stands-at : (w : Option W) (text : Text) (k : Configuration R D) → Waited (first_stage w) text k → Stands w text k.position
   stands-at None text k met = met.1
@@ -231,7 +215,7 @@ module _ {W R D : Type 0} (table : Table W R D) (g : Given) (late : Bool) where
         elim state.calls as (λ c. Falls falling state c → price_by c (state.own text q) (λ c. at_most c (length text.seats - q)) ≤ price_by c (state.own text p) (λ c. at_most c (length text.seats - p))) [
           | None ↦ λ falls. falls there text p q h
           | Some c ↦ λ falls. more-most c (length text.seats - q) (length text.seats - p) (omega (arith, h))
-        ] (named-falls falling table.states name state fit.falls is)
+        ] (named-falls falling name state fit.falls is)
 
     state-falls : (a : State) (text : Text) (p q : ℕ) → falls_on falling a ≡ true → p ≤ q → state_price table text q a ≤ state_price table text p a
     state-falls (Next name) text p q may h = found-falls name (named table.states name) text p q refl may h
@@ -342,7 +326,7 @@ module _ {W R D : Type 0} (table : Table W R D) (g : Given) (late : Bool) where
         let answer = answer-costs _ b w _ r.answer text k (left_by table g text k c.state) c.fits_it c.shape.far in
         let made = choices-cost r.acts text s k1 [] in
         let seen = waits-at table g k.waiting text k.position k.ended h.1.0 in
-        let within = row-within b w c.state s k1 text k.position (read-before table g text k.position h.0) (stands-at w text k c.met) seen c.called (named-paid table.states name c.state fit.paid c.is) c.fits_calls_too in
+        let within = row-within b w c.state s k1 text k.position (read-before table g text k.position h.0) (stands-at w text k c.met) seen c.called (named-paid name c.state fit.paid c.is) c.fits_calls_too in
         rw c.is (omega (arith, answer, made, within)))
 
     pub feeding-pays : (text : Text) (k : Configuration R D) (choices : List Choice) (name : Name) → table_holds table g text k choices (Next name)

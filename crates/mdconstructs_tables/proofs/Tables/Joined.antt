@@ -1,13 +1,6 @@
 -- The laws of two machines in one, from the laws of each.
-use Rattle.mdconstructs_tables.proofs.Prelude.{◌≡◌, ◌+◌, ◌≤◌, inl, inr, List, [], ◌∷◌, ◌++◌, Bool, true, false, cond, Option, Some, None, refl, sym, ap, ◌∙◌, subst, arith, ◌==◌, sum_by, nat_tests, Contains-append_cases, false_from_ne_true, Point, Name, State, Next, Retry, Ok, Nok, Given, Text, IsText, Configuration, Choice, Step, sight, Rules, ForEachCall, ConsumesOnce, OnlyAdds, EndsWhenRead, KeepsInvariant, CostPays, ResolversKeep, StateRows, Table, named, is_some, IsStateAt, table_holds, AreApart, has_state, joined_cost, joined_rules}
-
-either : (b : Bool) → b ≡ true → b ≡ false → ⊥
-either true e f = cc
-either false e f = cc
-
-none-in-front : (xs ys : List Choice) → xs ++ ys ≡ [] → xs ≡ []
-none-in-front [] ys h = refl
-none-in-front (x ∷ xs) ys h = absurd (cc)
+use Rattle.mdconstructs_tables.proofs.Rows.Misfits.{none-left}
+use Rattle.mdconstructs_tables.proofs.Prelude.{◌≡◌, ◌+◌, ◌≤◌, inl, inr, List, [], ◌∷◌, ◌++◌, Bool, true, false, cond, Option, Some, None, refl, sym, ap, ◌∙◌, subst, arith, ◌==◌, sum_by, nat_tests, Contains-append_cases, false_from_ne_true, Point, Name, State, Next, Retry, Ok, Nok, Given, Text, IsText, Configuration, Choice, Step, sight, Rules, ForEachCall, ConsumesOnce, OnlyAdds, EndsWhenRead, KeepsInvariant, CostPays, ResolversKeep, StateRows, Table, named, is_some, IsStateAt, table_holds, AreApart, has_state, joined_cost, joined_rules, cond_both, map, length, All, IfSome, take, unlinked}
 
 module _ {R D : Type 0} (is_first : Name → Bool) (g : Given) (first second : Rules R D) (apart : AreApart is_first first second) where
   abbrev both : Rules R D
@@ -16,10 +9,10 @@ module _ {R D : Type 0} (is_first : Name → Bool) (g : Given) (first second : R
   -- what holds where a state is called, by the machine of its name
   pub of-first : (text : Text) (k : Configuration R D) (choices : List Choice) (name : Name) → is_first name ≡ true → both.holds text k choices (Retry name) → first.holds text k choices (Retry name)
   of-first text k choices name e (inl h) = h
-  of-first text k choices name e (inr h) = absurd (either (is_first name) e (apart.second_called text k choices name h))
+  of-first text k choices name e (inr h) = let other = apart.second_called text k choices name h in absurd (cc)
 
   pub of-second : (text : Text) (k : Configuration R D) (choices : List Choice) (name : Name) → is_first name ≡ false → both.holds text k choices (Retry name) → second.holds text k choices (Retry name)
-  of-second text k choices name e (inl h) = absurd (either (is_first name) (apart.first_called text k choices name h) e)
+  of-second text k choices name e (inl h) = let other = apart.first_called text k choices name h in absurd (cc)
   of-second text k choices name e (inr h) = h
 
   -- a law about each call of either machine is a law about both
@@ -38,14 +31,8 @@ module _ {R D : Type 0} (is_first : Name → Bool) (g : Given) (first second : R
 
   pub joined-only_adds : OnlyAdds g first → OnlyAdds g second → OnlyAdds g both
   joined-only_adds one other = record {
-    events = λ text k choices name is h. elim h [
-      | inl h ↦ let e = apart.first_called text k choices name h in rw e (one.events text k choices name is h)
-      | inr h ↦ let e = apart.second_called text k choices name h in rw e (other.events text k choices name is h)
-    ];
-    stack = λ text k choices name is h. elim h [
-      | inl h ↦ let e = apart.first_called text k choices name h in rw e (one.stack text k choices name is h)
-      | inr h ↦ let e = apart.second_called text k choices name h in rw e (other.stack text k choices name is h)
-    ];
+    events = each-call (λ text k choices name s. map unlinked (take (length k.events) s.configuration.events) ≡ map unlinked k.events) one.events other.events;
+    stack = each-call (λ text k choices name s. All (λ c. IfSome c.saved (λ v. take (length v.stack) s.configuration.stack ≡ take (length v.stack) k.stack)) choices) one.stack other.stack;
   }
 
   pub joined-ends_when_read : EndsWhenRead g first → EndsWhenRead g second → EndsWhenRead g both
@@ -90,9 +77,6 @@ module _ {R D : Type 0} (is_first : Name → Bool) (g : Given) (first second : R
   second-price : (text : Text) (k : Configuration R D) (choices : List Choice) (name : Name) → second.holds text k choices (Retry name) → second.cost text k (Retry name) ≡ joined_cost is_first first second text k (Retry name)
   second-price text k choices name h = ap (λ b. cond b (first.cost text k (Retry name)) (second.cost text k (Retry name))) (sym (apart.second_called text k choices name h))
 
-  no-reserve : (text : Text) (choices : List Choice) → choices ≡ [] → sum_by (second.reserve text) choices ≡ 0
-  no-reserve text choices h = ap (sum_by (second.reserve text)) h
-
   module _ (one : KeepsInvariant g first) (other : KeepsInvariant g second) where
     pub joined-cost_pays : CostPays g first → CostPays g second → CostPays g both
     joined-cost_pays pays others = record {
@@ -100,8 +84,8 @@ module _ {R D : Type 0} (is_first : Name → Bool) (g : Given) (first second : R
           (λ text k choices name is h.
           let s = first.step (sight g text k) k name in
           let after = one.by_calls text k choices name is h in
-          let none = none-in-front s.choices choices (apart.no_choice text s.configuration (s.choices ++ choices) s.answer after) in
-          omega (arith, pays.for_calls text k choices name is h, first-costs text s.configuration (s.choices ++ choices) s.answer after, first-price text k choices name h, no-reserve text s.choices none))
+          let none = (none-left s.choices choices (apart.no_choice text s.configuration (s.choices ++ choices) s.answer after)).0 in
+          omega (arith, pays.for_calls text k choices name is h, first-costs text s.configuration (s.choices ++ choices) s.answer after, first-price text k choices name h, ap (sum_by (second.reserve text)) none))
           (λ text k choices name is h.
           let s = second.step (sight g text k) k name in
           let after = other.by_calls text k choices name is h in
@@ -138,15 +122,11 @@ HaveOtherNames [] others = Unit {0}
 HaveOtherNames (state ∷ states) others = (named others state.name ≡ None) × HaveOtherNames states others
 
 module _ {V W R D : Type 0} where
-  other-or : (b : Bool) (name : Name) (state : StateRows V R D) (rest : Option (StateRows V R D)) (others : List (StateRows W R D)) → (b ≡ true → name.number ≡ state.name.number)
-      → named others state.name ≡ None → (is_some rest ≡ true → named others name ≡ None) → is_some (cond b (Some state) rest) ≡ true → named others name ≡ None
-  other-or true name state rest others same none later h = ap (λ n. named others (record { number = n })) (same refl) ∙ none
-  other-or false name state rest others same none later h = later h
-
   pub other-name : (states : List (StateRows V R D)) (others : List (StateRows W R D)) (name : Name) → HaveOtherNames states others → has_state states name ≡ true → named others name ≡ None
   other-name [] others name apart h = absurd (cc)
   other-name (state ∷ states) others name apart h =
-      other-or (name.number == state.name.number) name state (named states name) others (λ e. grind (arith, nat_tests)) apart.0 (other-name states others name apart.1) h
+      cond_both (name.number == state.name.number) (Some state) (named states name) (λ o. is_some o ≡ true → named others name ≡ None)
+      (λ e h. let same : name.number ≡ state.name.number = grind (arith, nat_tests) in ap (λ n. named others (record { number = n })) same ∙ apart.0) (λ e. other-name states others name apart.1) h
 
 module _ {W R D : Type 0} (table : Table W R D) (g : Given) (text : Text) (k : Configuration R D) (choices : List Choice) where
   -- if a table's invariant holds, the name is one of its states'

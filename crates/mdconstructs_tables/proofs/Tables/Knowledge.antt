@@ -1,18 +1,15 @@
 -- The laws of a machine that knows more than its table says, from the table's laws and from what each row keeps.
-use Rattle.mdconstructs_tables.proofs.Prelude.{◌≡◌, List, [], ◌∷◌, Bool, true, false, cond, Option, Some, refl, sym, subst, ◌==◌, arith, nat_lt, length, All-contains, nat_tests, Event, Name, State, Next, Retry, Byte, End, Given, Configuration, Local, Choice, start_configuration, Sight, sight, with_local, IsAsFar, ConsumesOnce, OnlyAdds, EndsWhenRead, KeepsInvariant, CostPays, ResolversKeep, Rows, row, when, Row, StateRows, Table, class_of, picked, step_of, named, step_at, table_step, IsFit, EachRow, LeavesShape, KnownAfter, KeepsKnowing, AllKeepKnowing, IsKnown, knowing_rules}
+use Rattle.mdconstructs_tables.proofs.Rows.Misfits.{named-in}
+use Rattle.mdconstructs_tables.proofs.Prelude.{◌≡◌, List, [], Bool, true, false, cond, Some, refl, sym, subst, nat_lt, length, All-contains, Event, Name, State, Next, Retry, Byte, End, Given, Configuration, Local, Choice, start_configuration, Sight, sight, with_local, IsAsFar, ConsumesOnce, OnlyAdds, EndsWhenRead, KeepsInvariant, CostPays, ResolversKeep, Rows, row, when, Row, StateRows, Table, class_of, picked, step_of, named, step_at, table_step, IsFit, EachRow, LeavesShape, KnownAfter, KeepsKnowing, AllKeepKnowing, IsKnown, knowing_rules, cond_both}
 use Rattle.mdconstructs_tables.proofs.Tables.Laws.{is-call, table-consumes_once, table-only_adds, table-ends_when_read, table-invariant_kept}
 use Rattle.mdconstructs_tables.proofs.Tables.Costs.{table-cost_pays}
 
 -- what holds of each of the rows, by the tests that pick it, holds of the one that is picked
 module _ {R D : Type 0} (P : Row R D → Type 0) (g : Given) (s : Sight) (k : Configuration R D) where
-  one-of : (b : Bool) (x y : Row R D) → (b ≡ true → P x) → (b ≡ false → P y) → P (cond b x y)
-  one-of true x y p q = p refl
-  one-of false x y p q = q refl
-
   pub picked-row : (rows : Rows R D) → EachRow P g s k rows → P (picked rows g s k)
   picked-row (row acts answer) h = h
   picked-row (when test one other) h =
-      one-of (test g s k) (picked one g s k) (picked other g s k) (λ e. picked-row one (h.0 e)) (λ e. picked-row other (h.1 e))
+      cond_both (test g s k) (picked one g s k) (picked other g s k) P (λ e. picked-row one (h.0 e)) (λ e. picked-row other (h.1 e))
 
 module _ {W R D : Type 0} (table : Table W R D) (knows : List Event → Local R D → List Choice → State → Type 0) where
   fed-known : (b : Bool) (k : Configuration R D) (choices : List Choice) (state : State) → knows k.events k.local choices state
@@ -21,20 +18,10 @@ module _ {W R D : Type 0} (table : Table W R D) (knows : List Event → Local R 
   fed-known false k choices state h = h
 
   module _ (g : Given) (s : Sight) (k : Configuration R D) (choices : List Choice) where
-    this-or : (b : Bool) (name : Name) (x state : StateRows W R D) (rest : Option (StateRows W R D)) → (b ≡ true → name.number ≡ x.name.number) → KeepsKnowing table knows x
-        → (rest ≡ Some state → KeepsKnowing table knows state × (name.number ≡ state.name.number)) → cond b (Some x) rest ≡ Some state → KeepsKnowing table knows state × (name.number ≡ state.name.number)
-    this-or true name x state rest same keeps later is = let e : x ≡ state = cc in subst (λ y. KeepsKnowing table knows y × (name.number ≡ y.name.number)) e (keeps, same refl)
-    this-or false name x state rest same keeps later is = later is
-
-    named-keeps : (states : List (StateRows W R D)) (name : Name) (state : StateRows W R D) → AllKeepKnowing table knows states → named states name ≡ Some state → KeepsKnowing table knows state × (name.number ≡ state.name.number)
-    named-keeps [] name state h is = absurd (cc)
-    named-keeps (x ∷ xs) name state h is =
-        this-or (name.number == x.name.number) name x state (named xs name) (λ e. grind (arith, nat_tests)) h.0 (λ e. named-keeps xs name state h.1 e) is
-
     step-known : (name : Name) (state : StateRows W R D) → AllKeepKnowing table knows table.states → named table.states name ≡ Some state → knows k.events k.local choices (Retry name)
         → KnownAfter table knows (table_step table g s k name) choices
     step-known name state keeps is h =
-        let (one, same) = named-keeps table.states name state keeps is in
+        let (one, same) = named-in (AllKeepKnowing table knows) (KeepsKnowing table knows) (λ x xs h. h) table.states name state keeps is in
         let there = subst (λ n. knows k.events k.local choices (Retry (record { number = n }))) same h in
         let k1 = with_local k (table.first k.local) in
         let b = class_of table.class s.previous in

@@ -1,5 +1,5 @@
 -- The laws of a machine whose choices end with Ok late, from the test of its table.
-use Rattle.mdconstructs_tables.proofs.Prelude.{◌≡◌, ℕ, ◌+◌, ◌<◌, ◌≤◌, ◌||◌, not, List, [], ◌∷◌, ◌++◌, Bool, true, false, Option, Some, refl, sym, ap, subst, arith, inl, inr, filter, IfSome, and_parts, not-false, Name, State, Retry, Ok, Nok, Error, none-mapped, AttemptKind, Attempt, Check, Given, Text, IsText, followed_by, Configuration, Choice, Step, Sight, sight, consumed, with_local, saved_at, settled_at, ConsumesOnce, OnlyAdds, EndsWhenRead, KeepsInvariant, CostPays, Act, enters, exit, consume, links, write, choose, StateRows, Table, past, class_of, choice_made_at, done, does, chooses, named, step_at, table_step, table_holds, falls_on, CanGoBack, is_early_end, is_early, fits_late, are_late, is_at_last, is_late_row, is_late_state, AreFallingBehind, IsLate, late_holds, late_rules}
+use Rattle.mdconstructs_tables.proofs.Prelude.{◌≡◌, ℕ, ◌+◌, ◌<◌, ◌≤◌, ◌||◌, not, List, [], ◌∷◌, ◌++◌, Bool, true, false, Option, Some, refl, sym, ap, subst, arith, inl, inr, filter, IfSome, and_parts, not-false, Name, State, Retry, Ok, Nok, Error, none-mapped, AttemptKind, Attempt, Check, Given, Text, IsText, followed_by, Configuration, Choice, Step, Sight, sight, consumed, with_local, saved_at, settled_at, ConsumesOnce, OnlyAdds, EndsWhenRead, KeepsInvariant, CostPays, Act, consume, choose, StateRows, Table, past, class_of, choice_made_at, done, does, chooses, named, step_at, table_step, table_holds, falls_on, CanGoBack, is_early_end, is_early, fits_late, are_late, is_at_last, is_late_row, is_late_state, AreFallingBehind, IsLate, late_holds, late_rules}
 use Rattle.mdconstructs_tables.proofs.Rows.Misfits.{named-out, named-same}
 use Rattle.mdconstructs_tables.proofs.Rows.Laws.{chooses-append}
 use Rattle.mdconstructs_tables.proofs.GrowingTexts.{Extends, extends, fed-position, waits-longer}
@@ -40,14 +40,11 @@ module _ {W R D : Type 0} (table : Table W R D) (early : Name → Option W → B
   acts-behind : (acts : List (Act R D)) (at_last : Bool) (s : Sight) (k : Configuration R D) (choices : List Choice) → are_late falling at_last acts ≡ true → AreFallingBehind table early falling at_last k.position choices
       → AreFallingBehind table early falling (is_at_last at_last acts) (does acts s k).position (chooses acts s k choices)
   acts-behind [] at_last s k choices fit h = h
-  acts-behind (enters name link ∷ acts) at_last s k choices fit h = acts-behind acts at_last s (done (enters name link) s k) choices fit h
-  acts-behind (exit name ∷ acts) at_last s k choices fit h = acts-behind acts at_last s (done (exit name) s k) choices fit h
-  acts-behind (links previous next ∷ acts) at_last s k choices fit h = acts-behind acts at_last s (done (links previous next) s k) choices fit h
-  acts-behind (write f ∷ acts) at_last s k choices fit h = acts-behind acts at_last s (done (write f) s k) choices fit h
   acts-behind (consume ∷ acts) at_last s k choices fit h = acts-behind acts false (past s) (consumed k) choices fit (read-on at_last k.position choices h)
   acts-behind (choose kind ok nok ∷ acts) at_last s k choices fit h =
       let (one, rest) = and_parts (fits_late falling at_last kind ok nok) (are_late falling true acts) fit in
       acts-behind acts true s k (choice_made_at kind ok nok k ∷ choices) rest (chosen-behind at_last k kind ok nok choices one h)
+  acts-behind (act ∷ acts) at_last s k choices fit h = acts-behind acts at_last s (done act s k) choices fit h
 
   module _ (g : Given) (is_late : IsLate table early falling) where
     -- a state of the table ends no choice with Ok at the place where the choice was made

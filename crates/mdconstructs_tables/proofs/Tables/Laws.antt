@@ -1,5 +1,5 @@
 -- The laws of a machine whose table passes the test.
-use Rattle.mdconstructs_tables.proofs.Prelude.{◌≡◌, ◌≢◌, ◌≤◌, List, [], ◌++◌, Bool, true, false, cond, Option, Some, None, length, map, refl, sym, ap, ◌∙◌, subst, arith, ◌⊎◌, inl, inr, take, length-append, All, IfSome, Contains, nat_lt, flat_map, take-append_seam, and_parts, take-map, length-map, All-contains, Event, Name, Next, Retry, Ok, Nok, unlinked, Byte, Given, Text, IsText, followed_by, Configuration, Choice, Step, Sight, sight, consumed, with_local, IsAsFar, ConsumesOnce, OnlyAdds, EndsWhenRead, KeepsInvariant, Rows, row, when, Row, StateRows, Table, with_choice_of, chooses, picked, step_of, row_at, named, step_at, table_step, IsFitBy, named_misfit, named_start, saves, allows_all, is_called_at, is_called, fits_choices, fits_row, fits_calls, start_shape, all_rows, may_start, outline, SightIsInOrder, IsFed, class_in, began_at, IsStateAt, HoldsAt, table_holds, table_rules}
+use Rattle.mdconstructs_tables.proofs.Prelude.{◌≡◌, ◌≢◌, ◌≤◌, List, [], ◌++◌, Bool, true, Option, Some, None, length, map, refl, sym, ap, ◌∙◌, subst, arith, ◌⊎◌, inl, inr, take, length-append, All, IfSome, Contains, nat_lt, flat_map, take-append_seam, and_parts, take-map, length-map, All-contains, Event, Name, Next, Retry, Ok, Nok, unlinked, Byte, Given, Text, IsText, followed_by, Configuration, Choice, Step, Sight, sight, consumed, with_local, IsAsFar, ConsumesOnce, OnlyAdds, EndsWhenRead, KeepsInvariant, Rows, row, when, Row, StateRows, Table, with_choice_of, chooses, picked, step_of, row_at, named, step_at, table_step, IsFitBy, named_misfit, named_start, saves, allows_all, is_called_at, is_called, fits_choices, fits_row, fits_calls, start_shape, all_rows, may_start, outline, SightIsInOrder, IsFed, class_in, began_at, IsStateAt, HoldsAt, table_holds, table_rules, cond_both}
 use Rattle.markdown_base.specs.declared.event.Name.{Name as EventName}
 use Rattle.mdconstructs_tables.proofs.Rows.Misfits.{none-left, none-made, named-none, fits-unnamed, starts-unnamed}
 use Rattle.mdconstructs_tables.proofs.Rows.Laws.{below_all, has-after-all, chooses-append, adds-all}
@@ -9,14 +9,10 @@ use Rattle.mdconstructs_tables.proofs.Tables.Holding.{of_class, before_class, me
 
 -- a test that all rows pass is passed by the one that is picked
 module _ {R D : Type 0} where
-  one-passes : (test : Row R D → Bool) (b : Bool) (x y : Row R D) → test x ≡ true → test y ≡ true → test (cond b x y) ≡ true
-  one-passes test true x y h k = h
-  one-passes test false x y h k = k
-
   pub picked-passes : (test : Row R D → Bool) (rows : Rows R D) (g : Given) (s : Sight) (k : Configuration R D) → all_rows test rows ≡ true → test (picked rows g s k) ≡ true
   picked-passes test (row acts answer) g s k h = h
   picked-passes test (when by one other) g s k h =
-      let (first, second) = and_parts _ _ h in one-passes test (by g s k) (picked one g s k) (picked other g s k) (picked-passes test one g s k first) (picked-passes test other g s k second)
+      let (first, second) = and_parts _ _ h in cond_both (by g s k) (picked one g s k) (picked other g s k) (λ r. test r ≡ true) (λ e. picked-passes test one g s k first) (λ e. picked-passes test other g s k second)
 
 module _ {W R D : Type 0} (table : Table W R D) (g : Given) {late : Bool} {falling : Name → Bool} (fit : IsFitBy table late falling) where
   -- a state that is called fits

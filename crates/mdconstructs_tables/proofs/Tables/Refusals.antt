@@ -1,5 +1,5 @@
 -- A machine whose table refuses nothing refuses no document.
-use Rattle.mdconstructs_tables.proofs.Prelude.{◌≡◌, ◌≢◌, ℕ, List, [], ◌∷◌, ◌++◌, Bool, true, false, cond, Option, Some, None, ◌⊎◌, ⊎_elim, refl, filter, list_any, or_parts, Message, Name, State, Next, Ok, Error, none-mapped, Subresult, Attempt, Check, Given, Text, Configuration, Choice, Step, start_configuration, with_local, with_resolvers, whole_text, IsRunRefused, Reading, EndsIn, Resolved, refused, resolved_by, with_more, taken, found, IsResolvingRefused, Rules, Sight, sight, Act, choose, Rows, row, when, Row, StateRows, Table, class_of, seen_after, with_choice_of, chooses, picked, named, step_of, step_at, table_step, is_message, act_refuses, rows_refuse, refusing, RulesRefuseNothing}
+use Rattle.mdconstructs_tables.proofs.Prelude.{◌≡◌, ◌≢◌, ℕ, List, [], ◌∷◌, ◌++◌, Bool, true, false, cond, Option, Some, None, ◌⊎◌, ⊎_elim, refl, filter, list_any, or_parts, Message, Name, State, Next, Ok, Error, none-mapped, Subresult, Attempt, Check, Given, Text, Configuration, Choice, Step, start_configuration, with_local, with_resolvers, whole_text, IsRunRefused, Reading, EndsIn, Resolved, refused, resolved_by, with_more, taken, found, IsResolvingRefused, Rules, Sight, sight, Act, choose, Rows, row, when, StateRows, Table, class_of, seen_after, with_choice_of, chooses, picked, named, step_of, step_at, table_step, is_message, act_refuses, rows_refuse, refusing, RulesRefuseNothing, cond_both}
 use Rattle.markdown_tokenizer.specs.Resolving.{done}
 use Rattle.mdconstructs_tables.specs.Rows.{done as act_done}
 use Rattle.mdconstructs_tables.proofs.KeptByReading.{IsKept, kept-refused}
@@ -49,16 +49,12 @@ module _ {R D : Type 0} where
       let parts = or_parts (act_refuses act) (list_any act_refuses acts) e in
       chooses-taken acts (seen_after act s) (act_done act s k) (with_choice_of act k cs) parts.1 (chosen-taken act k cs parts.0 h)
 
-  one-of : (b : Bool) (x y : Row R D) (s : Sight) (k : Configuration R D) → StepRefusesNothing (step_of x s k) → StepRefusesNothing (step_of y s k) → StepRefusesNothing (step_of (cond b x y) s k)
-  one-of true x y s k h l = h
-  one-of false x y s k h l = l
-
   picked-taken : (rows : Rows R D) (g : Given) (s : Sight) (at k : Configuration R D) → rows_refuse rows ≡ false → StepRefusesNothing (step_of (picked rows g s at) s k)
   picked-taken (row acts answer) g s at k e =
       let parts = or_parts (is_message answer) (list_any act_refuses acts) e in record { answer = parts.0; choices = chooses-taken acts s k [] parts.1 tt }
   picked-taken (when test one other) g s at k e =
       let parts = or_parts (rows_refuse one) (rows_refuse other) e in
-      one-of (test g s at) (picked one g s at) (picked other g s at) s k (picked-taken one g s at k parts.0) (picked-taken other g s at k parts.1)
+      cond_both (test g s at) (picked one g s at) (picked other g s at) (λ r. StepRefusesNothing (step_of r s k)) (λ e. picked-taken one g s at k parts.0) (λ e. picked-taken other g s at k parts.1)
 
 module _ {W R D : Type 0} (table : Table W R D) (none : (previous current : Option W) → refusing table previous current ≡ []) where
   of-state : (g : Given) (s : Sight) (k : Configuration R D) (name : Name) (o : Option (StateRows W R D)) → named table.states name ≡ o → StepRefusesNothing (step_at table g o s k)
@@ -103,8 +99,7 @@ module _ {R D : Type 0} where
 
   -- of two steps, whichever it is
   pub either-step : (b : Bool) (s u : Step R D) → StepRefusesNothing s → StepRefusesNothing u → StepRefusesNothing (cond b s u)
-  either-step true s u h l = h
-  either-step false s u h l = l
+  either-step b s u h l = cond_both b s u StepRefusesNothing (λ e. h) (λ e. l)
 
   -- what finds nothing refuses nothing
   pub nothing-found : (k : Configuration R D) (m : Message) → done k None ≢ refused m

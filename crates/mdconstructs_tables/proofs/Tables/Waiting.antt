@@ -1,8 +1,9 @@
 -- Choices that wait, in the invariant of a table: what acts make of them, and that they stay if the text goes on.
-use Rattle.mdconstructs_tables.proofs.Prelude.{◌≡◌, ℕ, ◌+◌, ◌≤◌, ◌||◌, not, List, [], ◌∷◌, ◌++◌, Bool, true, false, Option, Some, None, length, refl, sym, ap, ◌∙◌, subst, arith, take, length-append, append_assoc, inl, inr, All, IfSome, slice_get, last_or, take-append_seam, and_parts, append-nil, take-append-le, length-map, take_all, All-nil, All-cons, none-some, slice_get_cases, slice_get_past, slice_get_within, Event, State, Nok, unlinked, stands_before, shown, or-leads, AttemptKind, Attempt, Given, Text, Configuration, Choice, Saved, Sight, sight, current_of, byte_of, saved_at, IsAsFar, Act, enters, exit, consume, links, write, choose, StateRows, class_of, choice_made_at, with_choice_of, done, seen_after, does, chooses, is_void_last, saves, Stage, byte_waits, Shape, Frame, frame_of, allows, after, allows_all, fits_choice, fits_choices, waits_in, outline, EndsWithEnter, Began, upto, since, exit_place_at, class_in, IsSavedIn, IsSaved, position_of, events_saved, IsBelow, AreWaiting}
+use Rattle.mdconstructs_tables.proofs.Markers.{stack-below}
+use Rattle.mdconstructs_tables.proofs.Prelude.{◌≡◌, ℕ, ◌+◌, ◌≤◌, ◌||◌, not, List, [], ◌∷◌, ◌++◌, Bool, true, false, Option, Some, None, length, refl, sym, ap, ◌∙◌, subst, arith, take, length-append, append_assoc, inl, inr, All, IfSome, slice_get, last_or, take-append_seam, and_parts, append-nil, take-append-le, length-map, take_all, All-nil, All-cons, none-some, slice_get_cases, slice_get_past, slice_get_within, Event, State, Nok, unlinked, stands_before, shown, or-leads, AttemptKind, Attempt, Given, Text, Configuration, Choice, Saved, Sight, sight, current_of, byte_of, saved_at, IsAsFar, Act, consume, choose, StateRows, class_of, choice_made_at, with_choice_of, done, seen_after, does, chooses, is_void_last, saves, Stage, byte_waits, Shape, Frame, frame_of, allows, after, allows_all, fits_choice, fits_choices, waits_in, outline, EndsWithEnter, Began, upto, since, exit_place_at, class_in, IsSavedIn, IsSaved, position_of, events_saved, IsBelow, AreWaiting, get-front}
 use Rattle.markdown_base.specs.declared.event.Name.{Name as EventName}
-use Rattle.mdconstructs_tables.proofs.Rows.Laws.{Waited, reached, IsSeenAhead, sight_at, HasShape, below_after, below_all, to-before, below-more, adds-one, began-on, left-at, has-after, sees-after, sight-after}
-use Rattle.mdconstructs_tables.proofs.GrowingTexts.{Extends, left-kept, seat-append}
+use Rattle.mdconstructs_tables.proofs.Rows.Laws.{Waited, reached, IsSeenAhead, sight_at, HasShape, below_after, below_all, to-before, adds-one, began-on, left-at, has-after, sees-after, sight-after}
+use Rattle.mdconstructs_tables.proofs.GrowingTexts.{Extends, left-kept}
 
 -- What was saved
 module _ {W R D : Type 0} (class : ℕ → W) (states : List (StateRows W R D)) (g : Given) (text : Text) where
@@ -44,7 +45,7 @@ module _ {W R D : Type 0} (class : ℕ → W) (states : List (StateRows W R D)) 
   all-below (c ∷ cs) base p events h =
       let w = h.0 in
       let rest = all-below cs w.below (position_of c.saved p) (events_saved c.saved events) h.1 in
-      All-cons (IsBelow base) c cs (saved-below base w.frame (saves c.kind c.nok) c.saved p events w.saved) (subst (λ b. All (IsBelow b) cs) (sym w.stack_is) (below-more w.below w.frame.spans cs rest))
+      All-cons (IsBelow base) c cs (saved-below base w.frame (saves c.kind c.nok) c.saved p events w.saved) (stack-below w.below w.frame.spans base cs w.stack_is rest)
 
   -- and it is a front of each stack above them
   saved-front : (stack more : List EventName) (f : Frame W) (b : Bool) (saved : Option Saved) (p : ℕ) (events : List Event) → IsSaved class g text p events stack f b saved
@@ -96,18 +97,13 @@ module _ {W R D : Type 0} (class : ℕ → W) (states : List (StateRows W R D)) 
   waits-after : (act : Act R D) (acts : List (Act R D)) (old : Configuration R D) (w : Option W) → class_of class (sight g text old).current ≡ w → (p : Shape) (base : List EventName) (s : Sight) (k : Configuration R D) (choices : List Choice) → allows act p ≡ true
       → fits_choices states w (act ∷ acts) p ≡ true → HasShape p base s g text old k choices → s ≡ sight_at p.stage (sight g text old) → AreWaiting class states g text k.position (outline k) base choices
       → AreWaiting class states g text (done act s k).position (outline (done act s k)) (below_after act p base) (with_choice_of act k choices) × (fits_choices states w acts (after act p) ≡ true)
-  waits-after (enters name link) acts old w here p base s k choices can fit h seen waiting =
-      let (more, grown) = adds-one (enters name link) s k in (more-waiting choices base k.position k.position (outline k) _ more (omega arith) grown waiting, fit)
-  waits-after (exit name) acts old w here p base s k choices can fit h seen waiting =
-      let (more, grown) = adds-one (exit name) s k in (more-waiting choices base k.position k.position (outline k) _ more (omega arith) grown waiting, fit)
   waits-after consume acts old w here p base s k choices can fit h seen waiting = (more-waiting choices base k.position (k.position + 1) (outline k) (outline k) [] (omega arith) (sym (append-nil (outline k))) waiting, fit)
-  waits-after (links previous next) acts old w here p base s k choices can fit h seen waiting =
-      let (more, grown) = adds-one (links previous next) s k in (more-waiting choices base k.position k.position (outline k) _ more (omega arith) grown waiting, fit)
-  waits-after (write f) acts old w here p base s k choices can fit h seen waiting = (waiting, fit)
   waits-after (choose kind ok nok) acts old w here p base s k choices can fit h seen waiting =
       let (one, rest) = and_parts _ _ fit in
       let (old_spans, void) = and_parts _ _ can in
       (made old w here p base s k choices h seen waiting kind ok nok one (is-saved old w here p base s k choices h seen waiting old_spans void), rest)
+  waits-after act acts old w here p base s k choices can fit h seen waiting =
+      let (more, grown) = adds-one act s k in (more-waiting choices base k.position k.position (outline k) _ more (omega arith) grown waiting, fit)
 
   pub waits-after-all : (acts : List (Act R D)) (old : Configuration R D) (w : Option W) → class_of class (sight g text old).current ≡ w → (p : Shape) (base : List EventName) (s : Sight) (k : Configuration R D) (choices : List Choice) → allows_all acts p ≡ true
       → fits_choices states w acts p ≡ true → IsSeenAhead p.stage s → HasShape p base s g text old k choices → s ≡ sight_at p.stage (sight g text old) → AreWaiting class states g text k.position (outline k) base choices
@@ -127,7 +123,7 @@ module _ {W R D : Type 0} (class : ℕ → W) (states : List (StateRows W R D)) 
   -- the byte at a position stays
   pub class-kept : (p : ℕ) (w : W) → class_in class text p ≡ Some w → class_in class more p ≡ Some w
   class-kept p w is = elim (slice_get_cases text.seats p).1 [
-    | inl there ↦ ap (λ l. class_of class (byte_of (slice_get l p))) e.seats ∙ ap (λ o. class_of class (byte_of o)) (seat-append text.seats e.more p (slice_get_within text.seats p there.0 there.2)) ∙ is
+    | inl there ↦ ap (λ l. class_of class (byte_of (slice_get l p))) e.seats ∙ ap (λ o. class_of class (byte_of o)) (get-front text.seats e.more p (slice_get_within text.seats p there.0 there.2)) ∙ is
     | inr past ↦ let none : class_in class text p ≡ None = ap (λ o. class_of class (byte_of o)) (slice_get_past text.seats p past.0) in absurd (none-some w (sym none ∙ is))
   ]
 
