@@ -44,20 +44,16 @@ seat-kept text longer i e h = rw e.seats (get-front text.seats e.more i h)
 pub left-kept : (text longer : Text) (p : ℕ) → Extends text longer → p ≤ length text.seats → end_place longer p ≡ end_place text p
 left-kept text longer zero e h = e.start
 left-kept text longer (suc q) e h =
-    let same = seat-kept text longer q e (omega arith) in
-    rw (same, e.start) refl
+    rw (seat-kept text longer q e (omega arith), e.start) refl
 
 -- what a state sees is the same where a byte waits that was there before
 sight-kept : (g : Given) (text longer : Text) (p : ℕ) → Extends text longer → p < length text.seats → sight_in g longer p Byte ≡ sight_in g text p Byte
 sight-kept g text longer zero e h =
-    let same = seat-kept text longer 0 e h in
     let (s, is) = seat-at text 0 h in
-    rw (same, is, e.start) refl
+    rw (seat-kept text longer 0 e h, is, e.start) refl
 sight-kept g text longer (suc q) e h =
-    let before = seat-kept text longer q e (omega arith) in
-    let same = seat-kept text longer (suc q) e h in
     let (s, is) = seat-at text (suc q) h in
-    rw (same, is, before, e.start) refl
+    rw (seat-kept text longer (suc q) e h, is, seat-kept text longer q e (omega arith), e.start) refl
 
 -- if a piece is added before the end is fed, the same waits, and a state sees the same
 pub waits-longer : (g : Given) (text longer : Text) (p : ℕ) (ended : Bool) (w : Waits) → Extends text longer → ended ≡ false → IsFed w p ended text

@@ -9,14 +9,12 @@ stack-below base more stack cs same h = All-weaker (IsBelow base) (IsBelow stack
 
 -- a state is called and a byte waits
 pub markable : {M W R D : Type 0} (class : ℕ → W) (state : StateRows W R D) (t : TokenizerValue M R D) → IsAtState class state t → t.configuration.waiting ≡ Byte → IsMarkable t
-markable class state t can waits =
-    let k = t.configuration in
-    record {
-      waits = waits;
-      inside = rw waits at can.fed;
-      in_order = can.in_order.begins waits;
-      below = stack-below can.base state.spans k.stack t.choices can.spans.stack can.spans.below;
-    }
+markable class state t can waits = record {
+  waits = waits;
+  inside = rw waits at can.fed;
+  in_order = can.in_order.begins waits;
+  below = stack-below can.base state.spans t.configuration.stack t.choices can.spans.stack can.spans.below;
+}
 
 module _ {M R D : Type 0} (name : Name) (t : TokenizerValue M R D) (can : IsMarkable t) where
   abbrev read : TokenizerValue M R D

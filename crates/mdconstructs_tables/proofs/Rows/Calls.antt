@@ -92,10 +92,9 @@ module _ {M W R D : Type 0} (class : ℕ → W) (state : StateRows W R D) (b w :
     pub then : (acts : List (Act R D)) (act : Act R D) (t' t'' : TokenizerValue M R D) → are_allowed (acts ++ act ∷ []) ≡ true → t' ≡ acted acts → t'' ≡ acted_once act t' → t'' ≡ acted (acts ++ act ∷ [])
     then acts act t' t'' allowed one two =
         let (before, last) = allows-then acts act (start_shape b w state) allowed in
-        let p = after_all acts (start_shape b w state) in
         let h = shaped acts before in
         let k'' : done act (sight_of (acted acts)) (acted acts).configuration ≡ (acted (acts ++ act ∷ [])).configuration =
-        done-at act p (acted acts).configuration h.far h.waited
+        done-at act (after_all acts (start_shape b w state)) (acted acts).configuration h.far h.waited
         ∙ sym (does-then acts act (start_shape b w state) (sight_of t) (sight_of t) t.configuration before (start-sight classes t.given w (sight_of t))) in
         two ∙ ap (acted_once act) one
         ∙ ap (λ k. record t { configuration = k; choices = with_choice_of act (acted acts).configuration (acted acts).choices }) k''

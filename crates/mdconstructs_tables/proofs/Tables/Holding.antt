@@ -16,11 +16,10 @@ upto-fits true true place q fit h = h
 upto-fits true false place q fit h = absurd (cc)
 upto-fits false on place q fit h = upto-any on place q h
 
-since-fits : (fresh on : Bool) (s : Sight) (q : Point) → (not fresh || on) ≡ true → (stands_before q s.exit_place ≡ true → stands_before q s.next ≡ true)
-    → since fresh byte_waits s q ≡ true → since on byte_waits s q ≡ true
-since-fits true false s q fit later h = absurd (cc)
-since-fits false true s q fit later h = later h
-since-fits fresh on s q fit later h = h
+since-fits : (fresh on : Bool) (stage : Stage) (s : Sight) (q : Point) → (since false stage s q ≡ true → since true stage s q ≡ true) → (not fresh || on) ≡ true → since fresh stage s q ≡ true → since on stage s q ≡ true
+since-fits true false stage s q later fit h = absurd (cc)
+since-fits false true stage s q later fit h = later h
+since-fits fresh on stage s q later fit h = h
 
 -- more is needed once a byte was read
 needs-more : (n : Needs) (read : Bool) → needs_choice n read ≡ true → needs_choice n true ≡ true
@@ -162,6 +161,27 @@ module _ {W R D : Type 0} (table : Table W R D) (g : Given) where
   any-or-ended true end choices ended h any at = inl (any refl)
   any-or-ended false end choices ended h any at = inr (at h)
 
+  -- a state goes on with what waits
+  retried : (b w : Option W) (p : Shape) (above : List EventName) (name : Name) (text : Text) (k k' : Configuration R D) (choices : List Choice) → is_some b ≡ is_read k.position
+      → IsFed k.waiting k.position k.ended text → SightIsInOrder k.waiting (sight g text k) → of_class text k ≡ w → IsSeenAhead (first_stage w) (sight g text k) → IsAsFar k' k
+      → (is_bare p && (is_at table.states p.spans p.within w (is_some b) (named table.states name) && (not p.fresh || is_fresh table.states w (named table.states name)))) ≡ true
+      → Began (since p.fresh (first_stage w) (sight g text k)) (outline k') → HasShape p above (sight_at p.stage (sight g text k)) g text k k' choices
+      → AreWaiting table.class table.states g text k'.position (outline k') above choices → IsNext text k'.position w → HoldsAt table g text k' choices (Retry name)
+  retried b w p above name text k k' choices read waits order class ahead far fit began h waiting next =
+      let s = sight g text k in
+      let o = named table.states name in
+      let (bare, rest) = and_parts (is_bare p) _ fit in
+      let (shaped, fresh) = and_parts _ _ rest in
+      let there : (state : StateRows W R D) → o ≡ Some state → Began (began_at w state s) (outline k') = λ state e.
+      let f : (not p.fresh || fresh_at state.begun w) ≡ true = subst (λ o. (not p.fresh || is_fresh table.states w o) ≡ true) e fresh in
+      began-on (since p.fresh (first_stage w) s) (began_at w state s) (outline k') (λ q. since-fits p.fresh (fresh_at state.begun w) (first_stage w) s q (ahead.later q) f) began in (
+        rw (far.0, far.1, far.2) waits,
+        stays-in-order text k k' far order,
+        stays-open o w text k k' choices far class
+            (at-state p.spans p.within w (is_some b) o (λ state. began_at w state s) text k' above choices shaped h.stack there (λ v. h.bare (or-leads (is_void_last (last_or None p.spans)) p.bare bare v)) waiting h.within
+            (λ n e. ap (needs_choice n) (read ∙ ap is_read (sym far.0)) ∙ e) next),
+      )
+
   -- the invariant holds for the state returned
   pub answered : (st : Stage) (b w : Option W) (p : Shape) (above : List EventName) (a : State) (text : Text) (k k' : Configuration R D) (choices : List Choice) → is_some b ≡ is_read k.position
       → IsFed k.waiting k.position k.ended text → SightIsInOrder k.waiting (sight g text k) → of_class text k ≡ w → Waited (first_stage w) text k
@@ -196,37 +216,10 @@ module _ {W R D : Type 0} (table : Table W R D) (g : Given) where
       let read_on : (n : Needs) → needs_choice n (is_read k'.position) ≡ true → needs_choice n true ≡ true = λ n. needs-more n (is_read k'.position) in
       (far.1, at-state p.spans p.within None true o (λ state. upto (fresh_fed state.begun) (exit_place_at g text k'.position)) text k' above choices shaped h.stack began (λ v. h.bare (or-leads (is_void_last (last_or None p.spans)) p.bare bare v)) waiting h.within read_on (λ v e. absurd (cc)))
   answered byte_waits b (Some w) p above (Retry name) text k k' choices read waits order class met fit at h waiting =
-      let far = rw at at h.far in
-      let s = sight g text k in
-      let o = named table.states name in
-      let (bare, rest) = and_parts (is_bare p) _ fit in
-      let (shaped, fresh) = and_parts _ _ rest in
-      let began : (state : StateRows W R D) → o ≡ Some state → Began (since (fresh_at state.begun (Some w)) byte_waits s) (outline k') = λ state e.
-      let f : (not p.fresh || fresh_at state.begun (Some w)) ≡ true = subst (λ o. (not p.fresh || is_fresh table.states (Some w) o) ≡ true) e fresh in
-      began-on (since p.fresh byte_waits s) (since (fresh_at state.begun (Some w)) byte_waits s) (outline k') (λ q. since-fits p.fresh (fresh_at state.begun (Some w)) s q f (order.later met.0 q)) (rw at at h.began) in (
-        rw (far.0, far.1, far.2) waits,
-        stays-in-order text k k' far order,
-        stays-open o (Some w) text k k' choices far class
-            (at-state p.spans p.within (Some w) (is_some b) o (λ state. began_at (Some w) state s) text k' above choices shaped h.stack began
-            (λ v. h.bare (or-leads (is_void_last (last_or None p.spans)) p.bare bare v)) waiting h.within
-            (λ n e. ap (needs_choice n) (read ∙ ap is_read (sym far.0)) ∙ e) (λ v e. ap (class_in table.class text) far.0 ∙ subst (λ x. class_of table.class (current_of text k.position x) ≡ Some w) met.0 class ∙ e)),
-      )
+      retried b (Some w) p above name text k k' choices read waits order class (ahead-at (Some w) text k met order) (rw at at h.far) fit (rw at at h.began) h waiting
+      (λ v e. ap (class_in table.class text) (rw at at h.far).0 ∙ subst (λ x. class_of table.class (current_of text k.position x) ≡ Some w) met.0 class ∙ e)
   answered end_waits b None p above (Retry name) text k k' choices read waits order class met fit at h waiting =
-      let far = rw at at h.far in
-      let s = sight g text k in
-      let o = named table.states name in
-      let (bare, rest) = and_parts (is_bare p) _ fit in
-      let (shaped, fresh) = and_parts _ _ rest in
-      let began : (state : StateRows W R D) → o ≡ Some state → Began (upto (fresh_at state.begun None) s.exit_place) (outline k') = λ state e.
-      let f : (not p.fresh || fresh_at state.begun None) ≡ true = subst (λ o. (not p.fresh || is_fresh table.states None o) ≡ true) e fresh in
-      began-on (upto p.fresh s.exit_place) (upto (fresh_at state.begun None) s.exit_place) (outline k') (λ q. upto-fits p.fresh (fresh_at state.begun None) s.exit_place q f) (rw at at h.began) in (
-        rw (far.0, far.1, far.2) waits,
-        stays-in-order text k k' far order,
-        stays-open o None text k k' choices far class
-            (at-state p.spans p.within None (is_some b) o (λ state. began_at None state s) text k' above choices shaped h.stack began
-            (λ v. h.bare (or-leads (is_void_last (last_or None p.spans)) p.bare bare v)) waiting h.within
-            (λ n e. ap (needs_choice n) (read ∙ ap is_read (sym far.0)) ∙ e) (λ v e. absurd (cc))),
-      )
+      retried b None p above name text k k' choices read waits order class (ahead-at None text k met order) (rw at at h.far) fit (rw at at h.began) h waiting (λ v e. absurd (cc))
   answered st b w p above a text k k' choices read waits order class met fit at h waiting = absurd (cc)
 
   -- if the text goes on, the invariant at a state returned still holds
@@ -283,7 +276,7 @@ module _ {W R D : Type 0} (table : Table W R D) (g : Given) where
   fed-byte : (begun : Begun W) (w : W) (s : Sight) (q : Point) → (stands_before q s.exit_place ≡ true → stands_before q s.next ≡ true) → (stands_before s.exit_place q ≡ false → stands_before q s.next ≡ true)
       → upto (fresh_fed begun) s.exit_place q ≡ true → since (fresh_at begun (Some w)) byte_waits s q ≡ true
   fed-byte before w s q later soon h = h
-  fed-byte (at_byte test) w s q later soon h = since-fits false (test w) s q refl later h
+  fed-byte (at_byte test) w s q later soon h = since-fits false (test w) byte_waits s q later refl h
   fed-byte here w s q later soon h = soon (not-true (stands_before s.exit_place q) h)
 
   fed-end : (begun : Begun W) (s : Sight) (q : Point) → upto (fresh_fed begun) s.exit_place q ≡ true → since (fresh_at begun None) end_waits s q ≡ true
