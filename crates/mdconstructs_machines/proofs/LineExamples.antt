@@ -16,10 +16,10 @@ abbrev back_of : List ℕ → List Event
 back_of bytes = back_events bytes (virtual 4 bytes)
 
 -- events at a place of the document: a line, a column and a byte index
-abbrev begins : Name → (line column index : ℕ) → Event
+abbrev pub begins : Name → (line column index : ℕ) → Event
 begins name line column index = record { kind = Enter; name = name; point = point line column index 0; link = None }
 
-abbrev ends : Name → (line column index : ℕ) → Event
+abbrev pub ends : Name → (line column index : ℕ) → Event
 ends name line column index = record { kind = Exit; name = name; point = point line column index 0; link = None }
 
 -- data in a line, by the columns and indices of its start and end, and the paragraph of it

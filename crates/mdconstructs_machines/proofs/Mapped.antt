@@ -8,15 +8,14 @@ mapped f (suc n) [] = []
 mapped f (suc n) (x ∷ xs) = f x ∷ mapped f n xs
 
 pub mapped-all : {A : Type 0} (f : A → A) (n : ℕ) (xs : List A) → length xs ≤ n → mapped f n xs ≡ map f xs
-mapped-all f zero [] le = refl
-mapped-all f (suc n) [] le = refl
 mapped-all f zero (x ∷ xs) le = absurd (omega arith)
 mapped-all f (suc n) (x ∷ xs) le = ap (λ ys. f x ∷ ys) (mapped-all f n xs (omega arith))
+mapped-all f zero [] le = refl
+mapped-all f (suc n) [] le = refl
 
 pub mapped-length : {A : Type 0} (f : A → A) (n : ℕ) (xs : List A) → length (mapped f n xs) ≡ length xs
-mapped-length f zero xs = refl
-mapped-length f (suc n) [] = refl
 mapped-length f (suc n) (x ∷ xs) = ap suc (mapped-length f n xs)
+mapped-length f n xs = refl
 
 -- f of one more
 pub mapped-more : {A : Type 0} (f : A → A) (n : ℕ) (xs : List A) (d : A) → n < length xs → slice_set (mapped f n xs) n (f (get_or (mapped f n xs) n d)) ≡ mapped f (suc n) xs

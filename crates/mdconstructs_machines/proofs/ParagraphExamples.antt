@@ -1,18 +1,11 @@
 -- Documents, and the events of their paragraphs written out: examples of the definition, each proved by computing.
-use Rattle.mdconstructs_machines.proofs.Prelude.{◌≡◌, ℕ, List, [], ◌∷◌, Option, Some, None, refl, codes, Event, Enter, Exit, Paragraph, Data, BlankLineEnding, BlockQuoteMarker, point, virtual, paragraph_events}
+use Rattle.mdconstructs_machines.proofs.Prelude.{◌≡◌, ℕ, List, [], ◌∷◌, Option, Some, None, refl, codes, Event, Enter, Paragraph, Data, BlankLineEnding, BlockQuoteMarker, point, virtual, paragraph_events}
 use Rattle.markdown_base.specs.declared.event.Content.TheVariants.{Text}
-use Rattle.markdown_base.specs.declared.event.Name.{Name}
+use Rattle.mdconstructs_machines.proofs.LineExamples.{begins, ends}
 
 -- the events of a whole document, with tab stops at every four columns
 abbrev events_of : List ℕ → List Event
 events_of bytes = paragraph_events bytes (virtual 4 bytes)
-
--- events at a place of the document: a line, a column and a byte index
-abbrev begins : Name → (line column index : ℕ) → Event
-begins name line column index = record { kind = Enter; name = name; point = point line column index 0; link = None }
-
-abbrev ends : Name → (line column index : ℕ) → Event
-ends name line column index = record { kind = Exit; name = name; point = point line column index 0; link = None }
 
 -- a chunk begins: at which indices the chunks before and after it begin, and where
 abbrev chunk : (previous next : Option ℕ) → (line column index : ℕ) → Event

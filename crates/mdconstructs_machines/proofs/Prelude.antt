@@ -67,3 +67,4 @@ pub use Rattle.mdconstructs_machines.specs.Tables.{LineByte, counts, line_byte, 
 pub use Rattle.mdconstructs_machines.specs.Unfit.{editing, uncounted_lines}
 pub use Rattle.mdconstructs_machines.specs.Words.{blanks, tag, word, word_start, words}
 pub use Rattle.mdconstructs_machines.specs.Wrap.{renamed, wrap}
+pub use Rattle.std.proofs.lemmas.List.Folds.{position_or_len_push}

@@ -43,10 +43,9 @@ after-less s ss = let then : length (after_line ss) ≤ length ss = after-shorte
 pub lines-are : (s : Seat) (ss : List Seat) → lines_in (s ∷ ss) ≡ first_line (s ∷ ss) ∷ lines_in (after_line (s ∷ ss))
 lines-are s [] = elim (is_line_ending s) as (λ b. cond b ((s ∷ []) ∷ []) (joined s []) ≡ cond b (s ∷ []) (s ∷ []) ∷ lines_in (cond b [] [])) [ true ↦ refl | false ↦ refl ]
 lines-are s (r ∷ rs) =
-    let then = lines-are r rs in
     elim (is_line_ending s) as (λ b. cond b ((s ∷ []) ∷ lines_in (r ∷ rs)) (joined s (lines_in (r ∷ rs))) ≡ cond b (s ∷ []) (s ∷ first_line (r ∷ rs)) ∷ lines_in (cond b (r ∷ rs) (after_line (r ∷ rs)))) [
       | true ↦ refl
-      | false ↦ ap (joined s) then
+      | false ↦ ap (joined s) (lines-are r rs)
     ]
 
 -- a line ending that begins a line is a blank line

@@ -1,5 +1,5 @@
 -- Marked events, one more at a time: how their links change.
-use Rattle.mdconstructs_machines.proofs.Prelude.{AllByRecursion, ◌≡◌, ℕ, zero, suc, ◌+◌, ◌<◌, ◌≤◌, ◌==◌, ◌∷◌, ◌++◌, [], List, Bool, true, false, cond, Option, Some, None, ◌⊎◌, inl, inr, refl, sym, ◌∙◌, ap, subst, arith, length, length-append, ◌&&◌, map, position, nat_lt, not, position_or_len, lt-ltb, le-ltb, nat_tests, append_assoc, map-append, length-map, every-map, every-append, Event, updated_at, with_next, with_previous, linked_to, text_link, Marked, begins, chunk_at, as_linked, with_links}
+use Rattle.mdconstructs_machines.proofs.Prelude.{AllByRecursion, ◌≡◌, ℕ, zero, suc, ◌+◌, ◌<◌, ◌≤◌, ◌==◌, ◌∷◌, ◌++◌, [], List, Bool, true, false, cond, Option, Some, None, ◌⊎◌, inl, inr, refl, sym, ◌∙◌, ap, subst, arith, length, length-append, map, position, nat_lt, not, position_or_len, lt-ltb, le-ltb, nat_tests, append_assoc, map-append, length-map, every-map, every-append, Event, updated_at, with_next, with_previous, linked_to, text_link, Marked, begins, chunk_at, as_linked, with_links, position_or_len_push}
 use Rattle.markdown_base.specs.declared.event.Content.TheVariants.{Text}
 use Rattle.mdconstructs_machines.specs.ParagraphEvents.{chunk_before}
 
@@ -13,26 +13,15 @@ abbrev pub IsPlain : Marked → Type 0
 IsPlain (e, None) = Unit {0}
 IsPlain (e, Some c) = ⊥
 
-and-no : (t : Bool) → (t && false) ≡ false
-and-no true = refl
-and-no false = refl
-
--- two chunks that are not the same
-other-block : (b c k m : ℕ) → (b == c) ≡ false → ((b == c) && (k == m)) ≡ false
-other-block b c k m h = ap (λ t. t && (k == m)) h
-
-other-line : (b c k m : ℕ) → (k == m) ≡ false → ((b == c) && (k == m)) ≡ false
-other-line b c k m h = ap (λ t. (b == c) && t) h ∙ and-no (b == c)
-
 self : (b n : ℕ) (e : Event) → begins (b, n) (e, Some (b, n)) ≡ true
-self b n e = let one : (b == b) ≡ true = grind (arith, nat_tests) in let two : (n == n) ≡ true = grind (arith, nat_tests) in ap (λ t. t && (n == n)) one ∙ two
+self b n e = grind (arith, nat_tests)
 
 -- what is before a chunk begins none from there on in that block
 away : (b n : ℕ) (x : Marked) → IsBefore b n x → (k : ℕ) → n ≤ k → begins (b, k) x ≡ false
 away b n (e, None) h k l = refl
 away b n (e, Some (c, m)) h k l = elim h [
-  | inl less ↦ let no : (b == c) ≡ false = grind (arith, nat_tests) in other-block b c k m no
-  | inr same ↦ let less = same.1 in let no : (k == m) ≡ false = grind (arith, nat_tests) in other-line b c k m no
+  | inl less ↦ grind (arith, nat_tests)
+  | inr same ↦ let less = same.1 in grind (arith, nat_tests)
 ]
 
 all-away : (b n : ℕ) (xs : List Marked) → AllByRecursion (IsBefore b n) xs → (k : ℕ) → n ≤ k → AllByRecursion (λ x. begins (b, k) x ≡ false) xs
@@ -41,6 +30,10 @@ all-away b n xs h k l = every-map (IsBefore b n) (λ x. begins (b, k) x ≡ fals
 plain-away : (b k : ℕ) (x : Marked) → IsPlain x → begins (b, k) x ≡ false
 plain-away b k (e, None) h = refl
 plain-away b k (e, Some c) h = absurd h
+
+-- an index within a length, or past it and then past the next one too
+same-first : (n l : ℕ) → cond (nat_lt (cond (n == l) (l + 1) n) (l + 1)) (Some (cond (n == l) (l + 1) n)) None ≡ cond (nat_lt n l) (Some n) None
+same-first n l = grind (arith, nat_tests)
 
 -- Positions in lists
 module _ (p : Marked → Bool) where
@@ -77,39 +70,14 @@ module _ (p : Marked → Bool) where
       let yes : nat_lt n (length (front ++ x ∷ tail)) ≡ true = lt-ltb n (length (front ++ x ∷ tail)) (omega (arith, first, long)) in
       ap (λ t. cond t (Some n) None) yes ∙ ap (λ m. Some m) first
 
-  -- The first that passes
-  record First (xs : List Marked) : Type 0 where
-    pub front : List Marked
-    pub event : Marked
-    pub tail : List Marked
-    pub are : xs ≡ front ++ event ∷ tail
-    pub fail : AllByRecursion Fails front
-    pub passes : p event ≡ true
-
-  -- none passes, or a first one does
-  first-of : (xs : List Marked) → AllByRecursion Fails xs ⊎ First xs
-  first-of [] = inl tt
-  first-of (x ∷ xs) =
-      let then = first-of xs in
-      elim (p x) as (λ t. p x ≡ t → AllByRecursion Fails (x ∷ xs) ⊎ First (x ∷ xs)) [
-        | true ↦ λ is. inr (record { front = []; event = x; tail = xs; are = refl; fail = tt; passes = is })
-        | false ↦ λ fails. elim then [
-          | inl none ↦ inl (fails, none)
-          | inr first ↦ inr (record { front = x ∷ first.front; event = first.event; tail = first.tail; are = ap (λ l. x ∷ l) first.are; fail = (fails, first.fail); passes = first.passes })
-        ]
-      ] refl
-
   -- an event more that does not pass changes nothing
   at-more : (xs : List Marked) (y : Marked) → p y ≡ false → position p (xs ++ y ∷ []) ≡ position p xs
-  at-more xs y fails = elim (first-of xs) [
-    | inl none ↦ at-none (xs ++ y ∷ []) (every-append Fails xs (y ∷ []) none (fails, tt)) ∙ sym (at-none xs none)
-    | inr first ↦
-        let again : xs ++ y ∷ [] ≡ first.front ++ first.event ∷ (first.tail ++ y ∷ []) = ap (λ l. l ++ y ∷ []) first.are ∙ append_assoc first.front (first.event ∷ first.tail) (y ∷ []) in
-        ap (position p) again
-        ∙ at-first first.front first.event (first.tail ++ y ∷ []) first.fail first.passes
-        ∙ sym (at-first first.front first.event first.tail first.fail first.passes)
-        ∙ ap (position p) (sym first.are)
-  ]
+  at-more xs y fails =
+      let n = position_or_len p xs in
+      let now : position_or_len p (xs ++ y ∷ []) ≡ cond (n == length xs) (length xs + 1) n = position_or_len_push p xs y ∙ ap (λ t. cond (n == length xs) (length xs + cond t 0 1) n) fails in
+      let long : length (xs ++ y ∷ []) ≡ length xs + 1 = length-append xs (y ∷ []) in
+      ap (λ i. cond (nat_lt i (length (xs ++ y ∷ []))) (Some i) None) now ∙ ap (λ l. cond (nat_lt (cond (n == length xs) (length xs + 1) n) l) (Some (cond (n == length xs) (length xs + 1) n)) None) long
+      ∙ same-first n (length xs)
 
 -- the event, linked to these
 abbrev link_of : Event → (previous next : Option ℕ) → Event
@@ -153,18 +121,15 @@ every P (x ∷ xs) h = (h x, every P xs h)
 no-first : (e : Event) (b : ℕ) (x : Marked) → IsBefore b 0 x → NoNeighbour (e, Some (b, 0)) x
 no-first e b (f, None) h = tt
 no-first e b (f, Some (c, m)) h = elim h [
-  | inl less ↦ let apart : (c == b) ≡ false = grind (arith, nat_tests) in (other-block c b (suc m) 0 apart, λ j is. other-block c b j 0 apart)
+  | inl less ↦ (grind (arith, nat_tests), λ j is. grind (arith, nat_tests))
   | inr same ↦ absurd (omega (arith, same.1))
 ]
 
 no-next : (e : Event) (b n : ℕ) (x : Marked) → IsBefore b n x → NoNeighbour (e, Some (b, suc n)) x
 no-next e b n (f, None) h = tt
 no-next e b n (f, Some (c, m)) h = elim h [
-  | inl less ↦ let apart : (c == b) ≡ false = grind (arith, nat_tests) in (other-block c b (suc m) (suc n) apart, λ j is. other-block c b j (suc n) apart)
-  | inr same ↦
-      let less = same.1 in
-      let apart : (suc m == suc n) ≡ false = grind (arith, nat_tests) in
-      (other-line c b (suc m) (suc n) apart, λ j is. let apart : (j == suc n) ≡ false = grind (arith, nat_tests) in other-line c b j (suc n) apart)
+  | inl less ↦ (grind (arith, nat_tests), λ j is. grind (arith, nat_tests))
+  | inr same ↦ let less = same.1 in (grind (arith, nat_tests), λ j is. grind (arith, nat_tests))
 ]
 
 plain-no : (y x : Marked) → IsPlain x → NoNeighbour y x
@@ -185,8 +150,7 @@ alone e = record e { link = Some text_link }
 pub links-first : (ms : List Marked) (e : Event) (b : ℕ) → AllByRecursion (IsBefore b 0) ms → with_links (ms ++ (e, Some (b, 0)) ∷ []) ≡ with_links ms ++ alone e ∷ []
 links-first ms e b before =
     let y : Marked = (e, Some (b, 0)) in
-    let apart : (1 == 0) ≡ false = refl in
-    let none : chunk_at (ms ++ y ∷ []) (b, 1) ≡ None = at-none (begins (b, 1)) (ms ++ y ∷ []) (every-append (λ x. begins (b, 1) x ≡ false) ms (y ∷ []) (all-away b 0 ms before 1 (omega arith)) (other-line b b 1 0 apart, tt)) in
+    let none : chunk_at (ms ++ y ∷ []) (b, 1) ≡ None = at-none (begins (b, 1)) (ms ++ y ∷ []) (every-append (λ x. begins (b, 1) x ≡ false) ms (y ∷ []) (all-away b 0 ms before 1 (omega arith)) (grind (arith, nat_tests), tt)) in
     map-append (as_linked (ms ++ y ∷ [])) ms (y ∷ [])
     ∙ ap (λ l. l ++ as_linked (ms ++ y ∷ []) y ∷ []) (same-links ms y ms (every-map (IsBefore b 0) (NoNeighbour y) (no-first e b) ms before))
     ∙ ap (λ o. with_links ms ++ link_of e None o ∷ []) none
@@ -204,9 +168,8 @@ pub record EndsIn (b n : ℕ) (ms : List Marked) (index : ℕ) : Type 0 where
 -- Lists with one event changed
 updated-mid : (f : Event → Event) (xs : List Event) (e : Event) (ys : List Event) (i : ℕ) → i ≡ length xs → updated_at i f (xs ++ e ∷ ys) ≡ xs ++ f e ∷ ys
 updated-mid f [] e ys zero h = refl
-updated-mid f [] e ys (suc i) h = absurd (omega (arith, h))
-updated-mid f (x ∷ xs) e ys zero h = absurd (omega (arith, h))
 updated-mid f (x ∷ xs) e ys (suc i) h = ap (λ l. x ∷ l) (updated-mid f xs e ys i (omega (arith, h)))
+updated-mid f xs e ys i h = absurd (omega (arith, h))
 
 -- The list that ends with a chunk behind another: the links of both change, and nothing else
 module _ (e : Event) (b n : ℕ) (front : List Marked) (f : Event) (tail : List Marked) (before : AllByRecursion (IsBefore b n) front) (plain : AllByRecursion IsPlain tail) where
@@ -225,9 +188,8 @@ module _ (e : Event) (b n : ℕ) (front : List Marked) (f : Event) (tail : List 
   -- no chunk from this line on begins elsewhere
   elsewhere : (k : ℕ) → n < k → AllByRecursion (λ x. begins (b, k) x ≡ false) olds
   elsewhere k h =
-      let apart : (k == n) ≡ false = grind (arith, nat_tests) in
       every-append (λ x. begins (b, k) x ≡ false) front (last ∷ tail) (all-away b n front before k (omega (arith, h)))
-      (other-line b b k n apart, every-map IsPlain (λ x. begins (b, k) x ≡ false) (plain-away b k) tail plain)
+      (grind (arith, nat_tests), every-map IsPlain (λ x. begins (b, k) x ≡ false) (plain-away b k) tail plain)
 
   new-at : chunk_at more (b, suc n) ≡ Some (length olds)
   new-at = at-first (begins (b, suc n)) olds new [] (elsewhere (suc n) (omega arith)) (self b (suc n) e)
@@ -239,13 +201,12 @@ module _ (e : Event) (b n : ℕ) (front : List Marked) (f : Event) (tail : List 
 
   none-at : chunk_at more (b, suc (suc n)) ≡ None
   none-at =
-      let apart : (suc (suc n) == suc n) ≡ false = grind (arith, nat_tests) in
       at-none (begins (b, suc (suc n))) more
-      (every-append (λ x. begins (b, suc (suc n)) x ≡ false) olds (new ∷ []) (elsewhere (suc (suc n)) (omega arith)) (other-line b b (suc (suc n)) (suc n) apart, tt))
+      (every-append (λ x. begins (b, suc (suc n)) x ≡ false) olds (new ∷ []) (elsewhere (suc (suc n)) (omega arith)) (grind (arith, nat_tests), tt))
 
   last-next : as_linked more last ≡ with_next (length olds) (as_linked olds last)
   last-next =
-      let line : (j : ℕ) → suc j ≡ n → begins (b, j) new ≡ false = λ j is. (let apart : (j == suc n) ≡ false = grind (arith, nat_tests) in other-line b b j (suc n) apart) in
+      let line : (j : ℕ) → suc j ≡ n → begins (b, j) new ≡ false = λ j is. grind (arith, nat_tests) in
       link-same f (chunk_before more (b, n)) (chunk_before olds (b, n)) (chunk_at more (b, suc n)) (Some (length olds)) (same-before olds new b n line) new-at
 
   new-previous : as_linked more new ≡ with_previous (length front) (alone e)

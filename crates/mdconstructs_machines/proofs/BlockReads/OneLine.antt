@@ -1,6 +1,6 @@
 -- One line of a paragraph is read: its quote mark, and its chunk.
 use Rattle.mdconstructs_machines.proofs.Prelude.{AllByRecursion, ◌≡◌, ℕ, suc, ◌+◌, ◌==◌, ◌∷◌, ◌++◌, [], List, Bool, true, false, cond, ◌⊎◌, inl, inr, refl, sym, ◌∙◌, ap, subst, Option, Some, None, take, drop, slice_get, append_assoc, append-nil, Event, Enter, Exit, Paragraph, Data, BlockQuoteMarker, Point, Name, Next, Retry, FlowStart, ParagraphLineStart, ParagraphStart, Seat, end_after, Nothing, Byte, End, Given, Text, Configuration, Local, Step, Sight, sight, byte_of, end_or, point_or, Rows, row, enter, exit, consume, picked, step_of, is_line_ending, event, line_ending, other, counts, paragraph_line_start_rows, is_quote_mark, Chunk, Marked, is_quoted, marked_span, line_marks, with_links}
-use Rattle.mdconstructs_machines.proofs.BlockReads.Lines.{first_line, after_line, line-on, behind-on, Stops}
+use Rattle.mdconstructs_machines.proofs.BlockReads.Lines.{first_line, after_line, line-on, Stops}
 use Rattle.mdconstructs_machines.proofs.BlockReads.Links.{IsBefore, EndsIn, KnowsLast, links-plain, known-before, known-plain, known-chunk, before-next}
 use Rattle.mdconstructs_machines.proofs.BlockReads.Reads.{in_paragraph, connects, begins_at, Stands, stands-next, ReadsBlocks, reads-rest, start-end, begins-chunk}
 use Rattle.mdconstructs_machines.proofs.LineReads.Rows.{is-class, leads-row}
@@ -46,37 +46,45 @@ module _ (g : Given) (text : Text) (step : Sight → Configuration Unit Unit →
   abbrev Goes : Configuration Unit Unit → Name → Configuration Unit Unit → Name → Type 0
   Goes k name k' name' = Leads g text step k [] (Retry name) k' [] (Retry name')
 
-  -- A chunk is read from its first byte on
-  record ReadsChunk (s : Seat) (ss : List Seat) (p : ℕ) (b : Bool) (place : Point) (block n : ℕ) (ms : List Marked) (local : Local Unit Unit) : Type 0 where
+  -- From here on a line is read up to the next, which is at this place: what is before the next block, and what is known if anything is left
+  pub record ReadsLine (k : Configuration Unit Unit) (name : Name) (rest : List Seat) (place : Point) (block n : ℕ) (marks : List Marked) : Type 0 where
     pub to : ℕ
     pub ended : Bool
     pub after : Local Unit Unit
-    pub stands : Stands text to (after_line (s ∷ ss)) (end_after place (first_line (s ∷ ss)))
-    pub known : KnowsLast block (suc n) (ms ++ chunk_marks g.bytes (block, n) s ss place) (connects after) (begins_at after)
-    pub goes : Goes (held in_paragraph p Byte b (with_links ms) local) ParagraphStart
-        (shows (after_line (s ∷ ss)) in_paragraph to ended (with_links (ms ++ chunk_marks g.bytes (block, n) s ss place)) after) ParagraphLineStart
+    pub stands : Stands text to rest place
+    pub before : AllByRecursion (IsBefore (suc block) 0) marks
+    pub known : (rest ≡ []) ⊎ KnowsLast block (suc n) marks (connects after) (begins_at after)
+    pub goes : Goes k name (shows rest in_paragraph to ended (with_links marks) after) ParagraphLineStart
 
+  -- and so it is from what leads there
+  reads-before : (k k' : Configuration Unit Unit) (name name' : Name) (rest : List Seat) (place : Point) (block n : ℕ) (marks : List Marked) → Goes k name k' name'
+      → ReadsLine k' name' rest place block n marks → ReadsLine k name rest place block n marks
+  reads-before k k' name name' rest place block n marks leads r =
+      record { to = r.to; ended = r.ended; after = r.after; stands = r.stands; before = r.before; known = r.known; goes = λ es h. leads es (r.goes es h) }
+
+  -- A chunk is read from its first byte on
   reads-chunk : (s : Seat) (ss : List Seat) (p : ℕ) (b : Bool) (place : Point) (block n : ℕ) (ms : List Marked) (local : Local Unit Unit) → Stands text p (s ∷ ss) place → KnowsLast block n ms (connects local) (begins_at local)
-      → ReadsChunk s ss p b place block n ms local
+      → ReadsLine (held in_paragraph p Byte b (with_links ms) local) ParagraphStart (after_line (s ∷ ss)) (end_after place (first_line (s ∷ ss))) block n (ms ++ chunk_marks g.bytes (block, n) s ss place)
   reads-chunk s ss p b place block n ms local here known =
       let first : Marked = (event g.bytes Enter Data s.point, Some (block, n)) in
       let e = event g.bytes Exit Data (end_after place (first_line (s ∷ ss))) in
       let one = ms ++ first ∷ [] in
+      let two = one ++ (e, None) ∷ [] in
       let begins = begins-chunk g text step reads s p b block n ms local (at-front text.seats p s ss here.0) known in
       let rest = reads-rest g text step reads (s ∷ ss) p b place (with_links one) begins.after here in
-      let both : one ++ (e, None) ∷ [] ≡ ms ++ first ∷ (e, None) ∷ [] = append_assoc ms (first ∷ []) ((e, None) ∷ []) in
       let ends : EndsIn block n one (begins_at rest.after) = subst (EndsIn block n one) (sym (rest.index ∙ begins.index)) (known-chunk block n ms (connects local) (begins_at local) (event g.bytes Enter Data s.point) known) in
-      let so : KnowsLast block (suc n) one (connects rest.after) (begins_at rest.after) = (rest.connect ∙ begins.connect, ends) in record {
+      let knows : KnowsLast block (suc n) two (connects rest.after) (begins_at rest.after) = known-plain block (suc n) one (connects rest.after) (begins_at rest.after) e (rest.connect ∙ begins.connect, ends) in
+      subst (ReadsLine (held in_paragraph p Byte b (with_links ms) local) ParagraphStart (after_line (s ∷ ss)) (end_after place (first_line (s ∷ ss))) block n) (append_assoc ms (first ∷ []) ((e, None) ∷ [])) (record {
         to = rest.to;
         ended = rest.ended;
         after = rest.after;
         stands = rest.stands;
-        known = subst (λ l. KnowsLast block (suc n) l (connects rest.after) (begins_at rest.after)) both (known-plain block (suc n) one (connects rest.after) (begins_at rest.after) e so);
+        before = before-next block (suc n) two (known-before block (suc n) two (connects rest.after) (begins_at rest.after) knows);
+        known = inr knows;
         goes = λ es h.
             begins.goes es
-            (rest.goes es
-            (subst (λ l. EndsWith g text step (shows (after_line (s ∷ ss)) in_paragraph rest.to rest.ended l rest.after) [] (Retry ParagraphLineStart) es) (ap with_links (sym both) ∙ links-plain one e) h));
-      }
+            (rest.goes es (subst (λ l. EndsWith g text step (shows (after_line (s ∷ ss)) in_paragraph rest.to rest.ended l rest.after) [] (Retry ParagraphLineStart) es) (links-plain one e) h));
+      })
 
   -- Before a line of a paragraph: by whether it begins with a quote mark
   abbrev line_step : Configuration Unit Unit → Configuration Unit Unit → Bool → Step Unit Unit
@@ -104,55 +112,22 @@ module _ (g : Given) (text : Text) (step : Sight → Configuration Unit Unit →
       line-starts p b events local s at no_end true quoted es
       (subst (λ o. EndsWith g text step (held in_paragraph (p + 1) Nothing false (marked_line events o) (counts local)) [] (Next ParagraphStart) es) (sym at) h)
 
-  -- A line is read, up to the next: what is before the next block, and what is known if anything is left
-  pub record ReadsLine (s : Seat) (ss : List Seat) (p : ℕ) (b : Bool) (place : Point) (block n : ℕ) (ms : List Marked) (local : Local Unit Unit) : Type 0 where
-    pub to : ℕ
-    pub ended : Bool
-    pub after : Local Unit Unit
-    pub stands : Stands text to (after_line (s ∷ ss)) (end_after place (first_line (s ∷ ss)))
-    pub before : AllByRecursion (IsBefore (suc block) 0) (ms ++ line_marks g.bytes (block, n) (first_line (s ∷ ss)))
-    pub known : (after_line (s ∷ ss) ≡ []) ⊎ KnowsLast block (suc n) (ms ++ line_marks g.bytes (block, n) (first_line (s ∷ ss))) (connects after) (begins_at after)
-    pub goes : Goes (held in_paragraph p Byte b (with_links ms) local) ParagraphLineStart
-        (shows (after_line (s ∷ ss)) in_paragraph to ended (with_links (ms ++ line_marks g.bytes (block, n) (first_line (s ∷ ss)))) after) ParagraphLineStart
-
   -- Behind a quote mark: the chunk, if anything is left
-  record ReadsBehind (ss : List Seat) (p : ℕ) (place : Point) (block n : ℕ) (ms : List Marked) (local : Local Unit Unit) : Type 0 where
-    pub to : ℕ
-    pub ended : Bool
-    pub after : Local Unit Unit
-    pub stands : Stands text to (after_line ss) (end_after place (first_line ss))
-    pub before : AllByRecursion (IsBefore (suc block) 0) (ms ++ marked_span g.bytes (Some (block, n)) Data (first_line ss) [])
-    pub known : (after_line ss ≡ []) ⊎ KnowsLast block (suc n) (ms ++ marked_span g.bytes (Some (block, n)) Data (first_line ss) []) (connects after) (begins_at after)
-    pub goes : Goes (shows ss in_paragraph p false (with_links ms) local) ParagraphStart
-        (shows (after_line ss) in_paragraph to ended (with_links (ms ++ marked_span g.bytes (Some (block, n)) Data (first_line ss) [])) after) ParagraphLineStart
-
   reads-behind : (ss : List Seat) (p : ℕ) (place : Point) (block n : ℕ) (ms : List Marked) (local : Local Unit Unit) → Stands text p ss place → KnowsLast block n ms (connects local) (begins_at local)
-      → ReadsBehind ss p place block n ms local
+      → ReadsLine (shows ss in_paragraph p false (with_links ms) local) ParagraphStart (after_line ss) (end_after place (first_line ss)) block n (ms ++ marked_span g.bytes (Some (block, n)) Data (first_line ss) [])
   reads-behind [] p place block n ms local here known =
-      let none : ms ≡ ms ++ [] = sym (append-nil ms) in record {
+      subst (ReadsLine (held in_paragraph p End true (with_links ms) local) ParagraphStart [] place block n) (sym (append-nil ms)) (record {
         to = p;
         ended = true;
         after = counts local;
         stands = here;
-        before = subst (AllByRecursion (IsBefore (suc block) 0)) none (before-next block n ms (known-before block n ms (connects local) (begins_at local) known));
+        before = before-next block n ms (known-before block n ms (connects local) (begins_at local) known);
         known = inl refl;
-        goes = λ es h.
-            start-end g text step reads p (with_links ms) local es
-            (subst (λ l. EndsWith g text step (held in_paragraph p End true (with_links l) (counts local)) [] (Retry ParagraphLineStart) es) (sym none) h);
-      }
+        goes = start-end g text step reads p (with_links ms) local;
+      })
   reads-behind (r ∷ rs) p place block n ms local here known =
-      let chunk = reads-chunk r rs p false place block n ms local here known in
-      let marks = marked_span g.bytes (Some (block, n)) Data (first_line (r ∷ rs)) [] in
-      let same : ms ++ marks ≡ ms ++ chunk_marks g.bytes (block, n) r rs place = ap (λ l. ms ++ l) (chunk-marks g.bytes (block, n) r rs place) in
-      let knows = subst (λ l. KnowsLast block (suc n) l (connects chunk.after) (begins_at chunk.after)) (sym same) chunk.known in record {
-        to = chunk.to;
-        ended = chunk.ended;
-        after = chunk.after;
-        stands = chunk.stands;
-        before = before-next block (suc n) (ms ++ marks) (known-before block (suc n) (ms ++ marks) (connects chunk.after) (begins_at chunk.after) knows);
-        known = inr knows;
-        goes = λ es h. chunk.goes es (subst (λ l. EndsWith g text step (shows (after_line (r ∷ rs)) in_paragraph chunk.to chunk.ended (with_links l) chunk.after) [] (Retry ParagraphLineStart) es) same h);
-      }
+      subst (λ marks. ReadsLine (held in_paragraph p Byte false (with_links ms) local) ParagraphStart (after_line (r ∷ rs)) (end_after place (first_line (r ∷ rs))) block n (ms ++ marks))
+      (sym (chunk-marks g.bytes (block, n) r rs place)) (reads-chunk r rs p false place block n ms local here known)
 
   module _ (s : Seat) (ss : List Seat) (p : ℕ) (b : Bool) (place : Point) (block n : ℕ) (ms : List Marked) (local : Local Unit Unit) (here : Stands text p (s ∷ ss) place)
       (known : KnowsLast block n ms (connects local) (begins_at local)) (no_end : is_line_ending s ≡ false) where
@@ -163,21 +138,15 @@ module _ (g : Given) (text : Text) (step : Sight → Configuration Unit Unit →
     abbrev its_marks : List Marked
     its_marks = line_marks g.bytes (block, n) (first_line (s ∷ ss))
 
-    from-plain : (s.byte == 62) ≡ false → ReadsLine s ss p b place block n ms local
+    -- and where the line begins
+    abbrev begins : Configuration Unit Unit
+    begins = held in_paragraph p Byte b (with_links ms) local
+
+    from-plain : (s.byte == 62) ≡ false → ReadsLine begins ParagraphLineStart (after_line (s ∷ ss)) (end_after place (first_line (s ∷ ss))) block n (ms ++ its_marks)
     from-plain plain =
-        let chunk = reads-chunk s ss p b place block n ms (counts local) here known in
-        let same : ms ++ its_marks ≡ ms ++ chunk_marks g.bytes (block, n) s ss place = ap (λ l. ms ++ l) (plain-marks g.bytes (block, n) s ss no_end plain ∙ chunk-marks g.bytes (block, n) s ss place) in
-        let knows = subst (λ l. KnowsLast block (suc n) l (connects chunk.after) (begins_at chunk.after)) (sym same) chunk.known in record {
-          to = chunk.to;
-          ended = chunk.ended;
-          after = chunk.after;
-          stands = chunk.stands;
-          before = before-next block (suc n) (ms ++ its_marks) (known-before block (suc n) (ms ++ its_marks) (connects chunk.after) (begins_at chunk.after) knows);
-          known = inr knows;
-          goes = λ es h.
-              line-starts p b (with_links ms) local s at no_end false plain es
-              (chunk.goes es (subst (λ l. EndsWith g text step (shows (after_line (s ∷ ss)) in_paragraph chunk.to chunk.ended (with_links l) chunk.after) [] (Retry ParagraphLineStart) es) same h));
-        }
+        subst (λ marks. ReadsLine begins ParagraphLineStart (after_line (s ∷ ss)) (end_after place (first_line (s ∷ ss))) block n (ms ++ marks))
+        (sym (plain-marks g.bytes (block, n) s ss no_end plain ∙ chunk-marks g.bytes (block, n) s ss place))
+        (reads-before begins _ ParagraphLineStart ParagraphStart _ _ block n _ (line-starts p b (with_links ms) local s at no_end false plain) (reads-chunk s ss p b place block n ms (counts local) here known))
 
     -- the quote mark, as it is entered and exited
     abbrev mark_begins : Event
@@ -197,34 +166,24 @@ module _ (g : Given) (text : Text) (step : Sight → Configuration Unit Unit →
         known-plain block n (ms ++ (mark_begins, None) ∷ []) (connects local) (begins_at local) mark_ends
         (known-plain block n ms (connects local) (begins_at local) mark_begins known)
 
-    from-quoted : (s.byte == 62) ≡ true → ReadsLine s ss p b place block n ms local
+    from-quoted : (s.byte == 62) ≡ true → ReadsLine begins ParagraphLineStart (after_line (s ∷ ss)) (end_after place (first_line (s ∷ ss))) block n (ms ++ its_marks)
     from-quoted quoted =
         let next = stands-next text p s ss place here in
-        let then = reads-behind ss (p + 1) s.end block n with_mark (counts local) next mark-known in
         let marks = marked_span g.bytes (Some (block, n)) Data (first_line ss) [] in
-        let same : ms ++ its_marks ≡ with_mark ++ marks = ap (λ l. ms ++ l) (quoted-marks g.bytes (block, n) s ss no_end quoted) ∙ sym (three ms (mark_begins, None) (mark_ends, None) marks) in
-        let line = line-on s ss no_end in
-        let behind = behind-on s ss no_end in record {
-          to = then.to;
-          ended = then.ended;
-          after = then.after;
-          stands = subst (λ l. Stands text then.to l (end_after place (first_line (s ∷ ss)))) (sym behind) (subst (λ l. Stands text then.to (after_line ss) (end_after place l)) (sym line) then.stands);
-          before = subst (AllByRecursion (IsBefore (suc block) 0)) (sym same) then.before;
-          known = elim then.known [
-            | inl none ↦ inl (behind ∙ none)
-            | inr knows ↦ inr (subst (λ l. KnowsLast block (suc n) l (connects then.after) (begins_at then.after)) (sym same) knows)
-          ];
-          goes = λ es h.
-              starts-quoted p b (with_links ms) local s at no_end quoted es
-              (goes-next g text step ss in_paragraph (p + 1) false (marked_line (with_links ms) (Some s)) (counts local) [] ParagraphStart next.0 es
-              (subst (λ l. EndsWith g text step (shows ss in_paragraph (p + 1) false l (counts local)) [] (Retry ParagraphStart) es) mark-linked
-              (then.goes es
-              (subst (λ l. EndsWith g text step (shows l in_paragraph then.to then.ended (with_links (with_mark ++ marks)) then.after) [] (Retry ParagraphLineStart) es) behind
-              (subst (λ l. EndsWith g text step (shows (after_line (s ∷ ss)) in_paragraph then.to then.ended (with_links l) then.after) [] (Retry ParagraphLineStart) es) same h)))));
-        }
+        let same : with_mark ++ marks ≡ ms ++ its_marks = three ms (mark_begins, None) (mark_ends, None) marks ∙ ap (λ l. ms ++ l) (sym (quoted-marks g.bytes (block, n) s ss no_end quoted)) in
+        let leads : Goes begins ParagraphLineStart (shows ss in_paragraph (p + 1) false (with_links with_mark) (counts local)) ParagraphStart = λ es h.
+        starts-quoted p b (with_links ms) local s at no_end quoted es
+        (goes-next g text step ss in_paragraph (p + 1) false (marked_line (with_links ms) (Some s)) (counts local) [] ParagraphStart next.0 es
+        (subst (λ l. EndsWith g text step (shows ss in_paragraph (p + 1) false l (counts local)) [] (Retry ParagraphStart) es) mark-linked h)) in
+        subst (λ t. ReadsLine begins ParagraphLineStart (cond t ss (after_line ss)) (end_after place (cond t (s ∷ []) (s ∷ first_line ss))) block n (ms ++ its_marks)) (sym no_end)
+        (subst (ReadsLine begins ParagraphLineStart (after_line ss) (end_after s.end (first_line ss)) block n) same
+        (reads-before begins _ ParagraphLineStart ParagraphStart _ _ block n _ leads (reads-behind ss (p + 1) s.end block n with_mark (counts local) next mark-known)))
 
-    pub reads-line : ReadsLine s ss p b place block n ms local
-    reads-line = elim (s.byte == 62) as (λ c. (s.byte == 62) ≡ c → ReadsLine s ss p b place block n ms local) [ true ↦ from-quoted | false ↦ from-plain ] refl
+    pub reads-line : ReadsLine begins ParagraphLineStart (after_line (s ∷ ss)) (end_after place (first_line (s ∷ ss))) block n (ms ++ its_marks)
+    reads-line = elim (s.byte == 62) as (λ c. (s.byte == 62) ≡ c → ReadsLine begins ParagraphLineStart (after_line (s ∷ ss)) (end_after place (first_line (s ∷ ss))) block n (ms ++ its_marks)) [
+      | true ↦ from-quoted
+      | false ↦ from-plain
+    ] refl
 
   -- Where no line of a paragraph begins, it ends
   pub paragraph-ends : (l : List Seat) (p : ℕ) (b : Bool) (place : Point) (events : List Event) (local : Local Unit Unit) → Stands text p l place → Stops l

@@ -2,7 +2,7 @@
 use Rattle.mdconstructs_machines.proofs.Prelude.{◌≡◌, ℕ, zero, suc, ◌+◌, ◌-◌, ◌∷◌, ◌++◌, [], List, Bool, true, false, cond, refl, sym, ◌∙◌, ap, subst, Option, Some, None, arith, length, drop, slice_get, length-append, length-map, drop-next, Event, Enter, Exit, Paragraph, Data, Point, Name, Next, Retry, FlowStart, ParagraphLineStart, ParagraphStart, ParagraphInside, Seat, end_after, Nothing, Byte, End, Given, Text, Configuration, Local, Step, Sight, sight, end_place, end_or, point_or, Rows, row, enter_link, links, write, picked, step_of, updated_at, with_next, with_previous, linked_to, updated-length, is_line_ending, event, line_ending, other, counts, flow_start_rows, paragraph_line_start_rows, paragraph_start_rows, text_link, chunk_before, last_event, connected, Marked, as_linked, with_links}
 use Rattle.markdown_base.specs.declared.event.Name.{Name as EventName}
 use Rattle.mdconstructs_machines.specs.Paragraphs.{paragraph_inside_rows}
-use Rattle.mdconstructs_machines.proofs.BlockReads.Lines.{first_line, after_line, line-on, behind-on}
+use Rattle.mdconstructs_machines.proofs.BlockReads.Lines.{first_line, after_line}
 use Rattle.mdconstructs_machines.proofs.BlockReads.Links.{alone, KnowsLast, links-first, links-next}
 use Rattle.mdconstructs_machines.proofs.LineReads.Rows.{HasRows, is-class, leads-row}
 use Rattle.mdconstructs_machines.proofs.LineReads.Steps.{EndsWith, Leads, held, shows, goes-next, at-front}
@@ -67,73 +67,57 @@ module _ (g : Given) (text : Text) (step : Sight → Configuration Unit Unit →
       leads-row g text step ParagraphInside paragraph_inside_rows reads.inside (held in_chunk p Byte b events local) [] (Some other) (is-class g text p s false at no_end) es h
 
   -- All of a chunk was read, up to the next line; of chunks it is known what was known
-  pub record ReadsRest (l : List Seat) (p : ℕ) (b : Bool) (place : Point) (events : List Event) (local : Local Unit Unit) : Type 0 where
+  pub record ReadsRest (k : Configuration Unit Unit) (rest : List Seat) (place : Point) (events : List Event) (local : Local Unit Unit) : Type 0 where
     pub to : ℕ
     pub ended : Bool
     pub after : Local Unit Unit
     pub connect : connects after ≡ connects local
     pub index : begins_at after ≡ begins_at local
-    pub stands : Stands text to (after_line l) (end_after place (first_line l))
-    pub goes : Goes (shows l in_chunk p b events local) ParagraphInside
-        (shows (after_line l) in_paragraph to ended (events ++ event g.bytes Exit Data (end_after place (first_line l)) ∷ []) after) ParagraphLineStart
+    pub stands : Stands text to rest place
+    pub goes : Goes k ParagraphInside (shows rest in_paragraph to ended (events ++ event g.bytes Exit Data place ∷ []) after) ParagraphLineStart
 
   -- by what its first byte is
   rest-ending : (s : Seat) (ss : List Seat) (p : ℕ) (b : Bool) (place : Point) (events : List Event) (local : Local Unit Unit) → Stands text p (s ∷ ss) place → is_line_ending s ≡ true
-      → ReadsRest (s ∷ ss) p b place events local
+      → ReadsRest (held in_chunk p Byte b events local) (after_line (s ∷ ss)) (end_after place (first_line (s ∷ ss))) events local
   rest-ending s ss p b place events local here is =
-      let line : first_line (s ∷ ss) ≡ s ∷ [] = ap (λ t. cond t (s ∷ []) (s ∷ first_line ss)) is in
-      let behind : after_line (s ∷ ss) ≡ ss = ap (λ t. cond t ss (after_line ss)) is in
       let next = stands-next text p s ss place here in
-      let es1 = events ++ event g.bytes Exit Data s.end ∷ [] in record {
+      subst (λ t. ReadsRest (held in_chunk p Byte b events local) (cond t ss (after_line ss)) (end_after place (cond t (s ∷ []) (s ∷ first_line ss))) events local) (sym is) (record {
         to = p + 1;
         ended = false;
         after = counts local;
         connect = refl;
         index = refl;
-        stands = subst (λ l. Stands text (p + 1) l (end_after place (first_line (s ∷ ss)))) (sym behind) (subst (λ l. Stands text (p + 1) ss (end_after place l)) (sym line) next);
+        stands = next;
         goes = λ es h.
             inside-ending p b events local s (at-front text.seats p s ss here.0) is es
-            (goes-next g text step ss in_paragraph (p + 1) false es1 (counts local) [] ParagraphLineStart next.0 es
-            (subst (λ l. EndsWith g text step (shows l in_paragraph (p + 1) false es1 (counts local)) [] (Retry ParagraphLineStart) es) behind
-            (subst (λ l. EndsWith g text step (shows (after_line (s ∷ ss)) in_paragraph (p + 1) false (events ++ event g.bytes Exit Data (end_after place l) ∷ []) (counts local)) [] (Retry ParagraphLineStart) es) line h)));
-      }
+            (goes-next g text step ss in_paragraph (p + 1) false (events ++ event g.bytes Exit Data s.end ∷ []) (counts local) [] ParagraphLineStart next.0 es h);
+      })
 
   rest-other : (s : Seat) (ss : List Seat) (p : ℕ) (b : Bool) (place : Point) (events : List Event) (local : Local Unit Unit) → Stands text p (s ∷ ss) place → is_line_ending s ≡ false
-      → ReadsRest ss (p + 1) false s.end events (counts local) → ReadsRest (s ∷ ss) p b place events local
+      → ReadsRest (shows ss in_chunk (p + 1) false events (counts local)) (after_line ss) (end_after s.end (first_line ss)) events (counts local)
+      → ReadsRest (held in_chunk p Byte b events local) (after_line (s ∷ ss)) (end_after place (first_line (s ∷ ss))) events local
   rest-other s ss p b place events local here no_end then =
-      let line = line-on s ss no_end in
-      let behind = behind-on s ss no_end in
-      let next = stands-next text p s ss place here in record {
+      let next = stands-next text p s ss place here in
+      subst (λ t. ReadsRest (held in_chunk p Byte b events local) (cond t ss (after_line ss)) (end_after place (cond t (s ∷ []) (s ∷ first_line ss))) events local) (sym no_end) (record {
         to = then.to;
         ended = then.ended;
         after = then.after;
         connect = then.connect;
         index = then.index;
-        stands = subst (λ l. Stands text then.to l (end_after place (first_line (s ∷ ss)))) (sym behind) (subst (λ l. Stands text then.to (after_line ss) (end_after place l)) (sym line) then.stands);
+        stands = then.stands;
         goes = λ es h.
             inside-other p b events local s (at-front text.seats p s ss here.0) no_end es
-            (goes-next g text step ss in_chunk (p + 1) false events (counts local) [] ParagraphInside next.0 es
-            (then.goes es
-            (subst (λ l. EndsWith g text step (shows l in_paragraph then.to then.ended (events ++ event g.bytes Exit Data (end_after s.end (first_line ss)) ∷ []) then.after) [] (Retry ParagraphLineStart) es) behind
-            (subst (λ l. EndsWith g text step (shows (after_line (s ∷ ss)) in_paragraph then.to then.ended (events ++ event g.bytes Exit Data (end_after place l) ∷ []) then.after) [] (Retry ParagraphLineStart) es) line h))));
-      }
+            (goes-next g text step ss in_chunk (p + 1) false events (counts local) [] ParagraphInside next.0 es (then.goes es h));
+      })
 
-  pub reads-rest : (l : List Seat) (p : ℕ) (b : Bool) (place : Point) (events : List Event) (local : Local Unit Unit) → Stands text p l place → ReadsRest l p b place events local
-  reads-rest [] p b place events local here = record {
-    to = p;
-    ended = true;
-    after = counts local;
-    connect = refl;
-    index = refl;
-    stands = here;
-    goes = λ es h.
-        inside-end p events local es
-        (subst (λ q. EndsWith g text step (held in_paragraph p End true (events ++ event g.bytes Exit Data q ∷ []) (counts local)) [] (Retry ParagraphLineStart) es) (sym here.1) h);
-  }
+  pub reads-rest : (l : List Seat) (p : ℕ) (b : Bool) (place : Point) (events : List Event) (local : Local Unit Unit) → Stands text p l place
+      → ReadsRest (shows l in_chunk p b events local) (after_line l) (end_after place (first_line l)) events local
+  reads-rest [] p b place events local here =
+      subst (λ q. ReadsRest (held in_chunk p End true events local) [] q events local) here.1 (record { to = p; ended = true; after = counts local; connect = refl; index = refl; stands = (here.0, refl); goes = inside-end p events local })
   reads-rest (s ∷ ss) p b place events local here =
       let then = reads-rest ss (p + 1) false s.end events (counts local) (stands-next text p s ss place here) in
-      elim (is_line_ending s) as (λ t. is_line_ending s ≡ t → ReadsRest (s ∷ ss) p b place events local) [
-        | true ↦ λ is. rest-ending s ss p b place events local here is
+      elim (is_line_ending s) as (λ t. is_line_ending s ≡ t → ReadsRest (held in_chunk p Byte b events local) (after_line (s ∷ ss)) (end_after place (first_line (s ∷ ss))) events local) [
+        | true ↦ rest-ending s ss p b place events local here
         | false ↦ λ no_end. rest-other s ss p b place events local here no_end then
       ] refl
 

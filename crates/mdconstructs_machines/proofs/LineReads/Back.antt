@@ -1,9 +1,11 @@
 -- The machine that goes back reads the first line as data, and all the rest as data, with a look in between that fails.
-use Rattle.mdconstructs_machines.proofs.Prelude.{◌≡◌, ℕ, ◌+◌, ◌∷◌, ◌++◌, [], List, Bool, true, false, cond, refl, sym, ◌∙◌, ap, subst, Some, None, drop, take, slice_get, drop-next, Event, Enter, Exit, Data, Point, Name, Next, Retry, TextStart, TextBefore, DataStart, DataInside, StringStart, DataAtBreak, StringBefore, Seat, end_after, Check, Byte, End, with_local, Given, Text, Configuration, Local, Choice, Step, start_configuration, Sight, byte_of, point_or, end_place, whole_text, class_of, back_rules, text_start_rows, text_before_rows, data_start_rows, data_inside_rows, string_start_rows, data_at_break_rows, string_before_rows, is_line_ending, joined, lines_in, all_of, back_events, IsReadAs, event, leaf, line_ending, other, line_byte, counts}
+use Rattle.mdconstructs_machines.proofs.BlockReads.Accounts.{lines-are-all}
+use Rattle.mdconstructs_machines.proofs.LineReads.Events.{joined-first}
+use Rattle.mdconstructs_machines.proofs.Prelude.{◌≡◌, ℕ, ◌+◌, ◌∷◌, ◌++◌, [], List, Bool, true, false, cond, refl, sym, ◌∙◌, ap, subst, Some, None, drop, take, slice_get, drop-next, Event, Enter, Exit, Data, Point, Name, Next, Retry, TextStart, TextBefore, DataStart, DataInside, StringStart, DataAtBreak, StringBefore, Seat, end_after, Check, Byte, End, with_local, Given, Text, Configuration, Local, Choice, Step, Sight, byte_of, point_or, end_place, whole_text, class_of, back_rules, text_start_rows, text_before_rows, data_start_rows, data_inside_rows, string_start_rows, data_at_break_rows, string_before_rows, is_line_ending, joined, lines_in, all_of, back_events, IsReadAs, event, leaf, line_ending, other, line_byte, counts}
 use Rattle.markdown_base.specs.declared.event.Name.{Name as EventName}
 use Rattle.mdconstructs_machines.proofs.LineReads.Looks.{FailsTo, goes-back, shows-events, place-behind}
-use Rattle.mdconstructs_machines.proofs.LineReads.Rows.{HasRows, leads-row, waits_class, is-class}
-use Rattle.mdconstructs_machines.proofs.LineReads.Steps.{EndsWith, held, shows, ended, goes-next, reads-as, at-front}
+use Rattle.mdconstructs_machines.proofs.LineReads.Rows.{leads-row, waits_class, is-class}
+use Rattle.mdconstructs_machines.proofs.LineReads.Steps.{EndsWith, held, shows, ended, goes-next, reads-from, at-front}
 
 -- the first line, and all the rest
 abbrev first_line : List Seat → List Seat
@@ -12,24 +14,9 @@ first_line l = all_of (take 1 (lines_in l))
 abbrev other_lines : List Seat → List Seat
 other_lines l = all_of (drop 1 (lines_in l))
 
-all-joined : (s : Seat) (lines : List (List Seat)) → all_of (joined s lines) ≡ s ∷ all_of lines
-all-joined s [] = refl
-all-joined s (line ∷ lines) = refl
-
-all-lines : (l : List Seat) → all_of (lines_in l) ≡ l
-all-lines [] = refl
-all-lines (s ∷ ss) = elim (is_line_ending s) as (λ t. all_of (cond t ((s ∷ []) ∷ lines_in ss) (joined s (lines_in ss))) ≡ s ∷ ss) [
-  | true ↦ ap (λ l. s ∷ l) (all-lines ss)
-  | false ↦ all-joined s (lines_in ss) ∙ ap (λ l. s ∷ l) (all-lines ss)
-]
-
 first-joined : (s : Seat) (lines : List (List Seat)) → all_of (take 1 (joined s lines)) ≡ s ∷ all_of (take 1 lines)
 first-joined s [] = refl
 first-joined s (line ∷ lines) = refl
-
-others-joined : (s : Seat) (lines : List (List Seat)) → all_of (drop 1 (joined s lines)) ≡ all_of (drop 1 lines)
-others-joined s [] = refl
-others-joined s (line ∷ lines) = refl
 
 -- the events still to come in the first line, if the previous byte ended here, and in the rest
 module _ (bytes : List ℕ) where
@@ -39,13 +26,13 @@ module _ (bytes : List ℕ) where
   first-ends : (place : Point) (s : Seat) (ss : List Seat) → is_line_ending s ≡ true → in_first place (s ∷ ss) ≡ event bytes Exit Data s.end ∷ leaf bytes Data ss
   first-ends place s ss e =
       ap (λ b. let lines = cond b ((s ∷ []) ∷ lines_in ss) (joined s (lines_in ss)) in event bytes Exit Data (end_after place (all_of (take 1 lines))) ∷ leaf bytes Data (all_of (drop 1 lines))) e
-      ∙ ap (λ l. event bytes Exit Data s.end ∷ leaf bytes Data l) (all-lines ss)
+      ∙ ap (λ l. event bytes Exit Data s.end ∷ leaf bytes Data l) (lines-are-all ss)
 
   first-goes-on : (place : Point) (s : Seat) (ss : List Seat) → is_line_ending s ≡ false → in_first place (s ∷ ss) ≡ in_first s.end ss
   first-goes-on place s ss e =
       ap (λ b. let lines = cond b ((s ∷ []) ∷ lines_in ss) (joined s (lines_in ss)) in event bytes Exit Data (end_after place (all_of (take 1 lines))) ∷ leaf bytes Data (all_of (drop 1 lines))) e
       ∙ ap (λ l. event bytes Exit Data (end_after place l) ∷ leaf bytes Data (all_of (drop 1 (joined s (lines_in ss))))) (first-joined s (lines_in ss))
-      ∙ ap (λ l. event bytes Exit Data (end_after s.end (first_line ss)) ∷ leaf bytes Data l) (others-joined s (lines_in ss))
+      ∙ ap (λ l. event bytes Exit Data (end_after s.end (first_line ss)) ∷ leaf bytes Data l) (ap all_of (joined-first s (lines_in ss)))
 
   -- from the first byte on
   begins-first : (place : Point) (s : Seat) (ss : List Seat) → event bytes Enter Data s.point ∷ in_first place (s ∷ ss) ≡ back_events bytes (s ∷ ss)
@@ -63,27 +50,6 @@ module _ (bytes : List ℕ) where
 module _ (g : Given) (text : Text) where
   abbrev step : Sight → Configuration Unit Unit → Name → Step Unit Unit
   step = (back_rules g).step
-
-  start-rows : HasRows g text step TextStart text_start_rows
-  start-rows k = refl
-
-  first-rows : HasRows g text step TextBefore text_before_rows
-  first-rows k = refl
-
-  next-rows : HasRows g text step DataStart data_start_rows
-  next-rows k = refl
-
-  look-rows : HasRows g text step DataInside data_inside_rows
-  look-rows k = refl
-
-  looked-rows : HasRows g text step StringStart string_start_rows
-  looked-rows k = refl
-
-  break-rows : HasRows g text step DataAtBreak data_at_break_rows
-  break-rows k = refl
-
-  rest-rows : HasRows g text step StringBefore string_before_rows
-  rest-rows k = refl
 
   abbrev in_data : List EventName
   in_data = Data ∷ []
@@ -107,14 +73,14 @@ module _ (g : Given) (text : Text) where
       → EndsWith g text step (shows l in_data p b events local) [] (Retry StringBefore) (exited events (end_after (end_place text p) l))
   in-rest [] p b events local here =
       let es = exited events (end_place text p) in
-      leads-row g text step StringBefore string_before_rows rest-rows (at_end p events local) [] None refl es (ended g text step (held [] p End true es (counts local)))
+      leads-row g text step StringBefore string_before_rows (λ k. refl) (at_end p events local) [] None refl es (ended g text step (held [] p End true es (counts local)))
   in-rest (s ∷ ss) p b events local here =
       let at = at-front text.seats p s ss here in
       let next = drop-next text.seats p s ss here in
       let es = exited events (end_after (end_place text (p + 1)) ss) in
       let same : es ≡ exited events (end_after s.end ss) = ap (λ q. exited events (end_after q ss)) (place-behind text p s at) in
       subst (EndsWith g text step (at_byte p b events local) [] (Retry StringBefore)) same
-      (leads-row g text step StringBefore string_before_rows rest-rows (at_byte p b events local) [] (Some (line_byte s.byte)) (any-class p s at) es
+      (leads-row g text step StringBefore string_before_rows (λ k. refl) (at_byte p b events local) [] (Some (line_byte s.byte)) (any-class p s at) es
       (goes-next g text step ss in_data (p + 1) false events (counts local) [] StringBefore next es (in-rest ss (p + 1) false events (counts local) next)))
 
   -- the look fails, wherever it ends
@@ -122,21 +88,21 @@ module _ (g : Given) (text : Text) where
       → EndsWith g text step (shows l in_data p b events local) cs (Retry StringStart) all
   looked l p b events local cs all back =
       let k = shows l in_data p b events local in
-      leads-row g text step StringStart string_start_rows looked-rows k cs (waits_class g text k) refl all (back (with_local k (counts k.local)) (shows-events l in_data p b events local))
+      leads-row g text step StringStart string_start_rows (λ k. refl) k cs (waits_class g text k) refl all (back (with_local k (counts k.local)) (shows-events l in_data p b events local))
 
   looks : (l : List Seat) (p : ℕ) (b : Bool) (events : List Event) (local : Local Unit Unit) (cs : List Choice) (all : List Event) → drop p text.seats ≡ l → FailsTo g text step cs events all
       → EndsWith g text step (shows l in_data p b events local) cs (Retry DataInside) all
   looks [] p b events local cs all here back =
-      leads-row g text step DataInside data_inside_rows look-rows (at_end p events local) cs None refl all (back (at_end p events (counts local)) refl)
+      leads-row g text step DataInside data_inside_rows (λ k. refl) (at_end p events local) cs None refl all (back (at_end p events (counts local)) refl)
   looks (s ∷ ss) p b events local cs all here back =
       let at = at-front text.seats p s ss here in
       let next = drop-next text.seats p s ss here in
       elim (is_line_ending s) as (λ t. is_line_ending s ≡ t → EndsWith g text step (at_byte p b events local) cs (Retry DataInside) all) [
         | true ↦ λ e.
-            leads-row g text step DataInside data_inside_rows look-rows (at_byte p b events local) cs (Some line_ending) (is-class g text p s true at e) all
+            leads-row g text step DataInside data_inside_rows (λ k. refl) (at_byte p b events local) cs (Some line_ending) (is-class g text p s true at e) all
             (goes-next g text step ss in_data (p + 1) false events (counts local) cs StringStart next all (looked ss (p + 1) false events (counts local) cs all back))
         | false ↦ λ e.
-            leads-row g text step DataInside data_inside_rows look-rows (at_byte p b events local) cs (Some other) (is-class g text p s false at e) all
+            leads-row g text step DataInside data_inside_rows (λ k. refl) (at_byte p b events local) cs (Some other) (is-class g text p s false at e) all
             (goes-next g text step ss in_data (p + 1) false events (counts local) cs DataInside next all (looks ss (p + 1) false events (counts local) cs all next back))
       ] refl
 
@@ -145,19 +111,19 @@ module _ (g : Given) (text : Text) where
       → EndsWith g text step (shows l in_data p b (begun ∷ []) local) [] (Retry DataStart) (begun ∷ event g.bytes Exit Data (end_place text p) ∷ leaf g.bytes Data l)
   before-next [] p b begun local here =
       let es = begun ∷ event g.bytes Exit Data (end_place text p) ∷ [] in
-      leads-row g text step DataStart data_start_rows next-rows (at_end p (begun ∷ []) local) [] None refl es (ended g text step (held [] p End true es (counts local)))
+      leads-row g text step DataStart data_start_rows (λ k. refl) (at_end p (begun ∷ []) local) [] None refl es (ended g text step (held [] p End true es (counts local)))
   before-next (s ∷ ss) p b begun local here =
       let at = at-front text.seats p s ss here in
       let exit = event g.bytes Exit Data (end_place text p) in
       let enter = event g.bytes Enter Data s.point in
       let es = begun ∷ exit ∷ enter ∷ [] in
       let all = exited es (end_after (end_place text p) (s ∷ ss)) in
-      leads-row g text step DataStart data_start_rows next-rows (at_byte p b (begun ∷ []) local) [] (Some (line_byte s.byte)) (any-class p s at) all
+      leads-row g text step DataStart data_start_rows (λ k. refl) (at_byte p b (begun ∷ []) local) [] (Some (line_byte s.byte)) (any-class p s at) all
       (looks (s ∷ ss) p b (begun ∷ []) (counts local) _ all here
       (goes-back g text step Check (Next DataAtBreak) DataAtBreak p b 1 in_data [] (begun ∷ []) all
       (λ local.
       goes-next g text step (s ∷ ss) in_data p b (begun ∷ []) local [] DataAtBreak here all
-      (leads-row g text step DataAtBreak data_at_break_rows break-rows (at_byte p b (begun ∷ []) local) [] (Some (line_byte s.byte)) (any-class p s at) all
+      (leads-row g text step DataAtBreak data_at_break_rows (λ k. refl) (at_byte p b (begun ∷ []) local) [] (Some (line_byte s.byte)) (any-class p s at) all
       (subst (λ o. EndsWith g text step (at_byte p b (begun ∷ exit ∷ event g.bytes Enter Data (point_or text.end o) ∷ []) (counts local)) [] (Retry StringBefore) all) (sym at)
       (in-rest (s ∷ ss) p b es (counts local) here))))))
 
@@ -166,7 +132,7 @@ module _ (g : Given) (text : Text) where
       → EndsWith g text step (shows l in_data p b (begun ∷ []) local) [] (Retry TextBefore) (begun ∷ in_first g.bytes (end_place text p) l)
   in-first [] p b begun local here =
       let es = begun ∷ event g.bytes Exit Data (end_place text p) ∷ [] in
-      leads-row g text step TextBefore text_before_rows first-rows (at_end p (begun ∷ []) local) [] None refl es (ended g text step (held [] p End true es (counts local)))
+      leads-row g text step TextBefore text_before_rows (λ k. refl) (at_end p (begun ∷ []) local) [] None refl es (ended g text step (held [] p End true es (counts local)))
   in-first (s ∷ ss) p b begun local here =
       let at = at-front text.seats p s ss here in
       let next = drop-next text.seats p s ss here in
@@ -179,32 +145,29 @@ module _ (g : Given) (text : Text) where
             let same : all ≡ begun ∷ in_first g.bytes place (s ∷ ss) =
             ap (λ q. begun ∷ event g.bytes Exit Data q ∷ leaf g.bytes Data ss) (place-behind text p s at) ∙ ap (λ l. begun ∷ l) (sym (first-ends g.bytes place s ss e)) in
             subst (EndsWith g text step k [] (Retry TextBefore)) same
-            (leads-row g text step TextBefore text_before_rows first-rows k [] (Some line_ending) (is-class g text p s true at e) all
+            (leads-row g text step TextBefore text_before_rows (λ k. refl) k [] (Some line_ending) (is-class g text p s true at e) all
             (goes-next g text step ss in_data (p + 1) false (begun ∷ []) (counts local) [] DataStart next all (before-next ss (p + 1) false begun (counts local) next)))
         | false ↦ λ e.
             let all = begun ∷ in_first g.bytes behind ss in
             let same : all ≡ begun ∷ in_first g.bytes place (s ∷ ss) =
             ap (λ q. begun ∷ in_first g.bytes q ss) (place-behind text p s at) ∙ ap (λ l. begun ∷ l) (sym (first-goes-on g.bytes place s ss e)) in
             subst (EndsWith g text step k [] (Retry TextBefore)) same
-            (leads-row g text step TextBefore text_before_rows first-rows k [] (Some other) (is-class g text p s false at e) all
+            (leads-row g text step TextBefore text_before_rows (λ k. refl) k [] (Some other) (is-class g text p s false at e) all
             (goes-next g text step ss in_data (p + 1) false (begun ∷ []) (counts local) [] TextBefore next all (in-first ss (p + 1) false begun (counts local) next)))
       ] refl
 
   -- from the start
   from-start : (l : List Seat) (local : Local Unit Unit) → drop 0 text.seats ≡ l → EndsWith g text step (shows l [] 0 false [] local) [] (Retry TextStart) (back_events g.bytes l)
   from-start [] local here =
-      leads-row g text step TextStart text_start_rows start-rows (held [] 0 End true [] local) [] None refl [] (ended g text step (held [] 0 End true [] (counts local)))
+      leads-row g text step TextStart text_start_rows (λ k. refl) (held [] 0 End true [] local) [] None refl [] (ended g text step (held [] 0 End true [] (counts local)))
   from-start (s ∷ ss) local here =
       let at = at-front text.seats 0 s ss here in
       let k = held [] 0 Byte false [] local in
       let all = event g.bytes Enter Data s.point ∷ in_first g.bytes (end_place text 0) (s ∷ ss) in
       subst (EndsWith g text step k [] (Retry TextStart)) (begins-first g.bytes (end_place text 0) s ss)
-      (leads-row g text step TextStart text_start_rows start-rows k [] (Some (line_byte s.byte)) (any-class 0 s at) all
+      (leads-row g text step TextStart text_start_rows (λ k. refl) k [] (Some (line_byte s.byte)) (any-class 0 s at) all
       (subst (λ o. EndsWith g text step (at_byte 0 false (event g.bytes Enter Data (point_or text.end o) ∷ []) (counts local)) [] (Retry TextBefore) all) (sym at)
       (in-first (s ∷ ss) 0 false (event g.bytes Enter Data s.point) (counts local) here)))
 
 pub back-reads : IsReadAs back_rules TextStart back_events
-back-reads = reads-as back_rules TextStart back_events (λ g.
-    let text = whole_text g in
-    let k : Configuration Unit Unit = start_configuration false in
-    goes-next g text (back_rules g).step text.seats [] 0 false [] k.local [] TextStart refl (back_events g.bytes text.seats) (from-start g text text.seats k.local refl))
+back-reads = reads-from back_rules TextStart back_events (λ g local. from-start g (whole_text g) (whole_text g).seats local refl)

@@ -1,10 +1,10 @@
 -- The machine that tries something at every byte fails each time, and then reads data.
-use Rattle.mdconstructs_machines.proofs.Prelude.{◌≡◌, ℕ, ◌+◌, ◌∷◌, [], List, Bool, true, false, refl, ◌∙◌, ap, Some, None, drop, slice_get, drop-next, Event, Name, Next, Retry, StringStart, StringBefore, DataStart, Seat, Attempt, Byte, End, Given, Text, Configuration, Local, Choice, Step, start_configuration, Sight, byte_of, seat_before, whole_text, class_of, deep_rules, data_events, IsReadAs, line_byte, counts}
+use Rattle.mdconstructs_machines.proofs.Prelude.{◌≡◌, ℕ, ◌+◌, ◌∷◌, [], List, Bool, true, false, refl, ◌∙◌, ap, Some, None, drop, slice_get, drop-next, Event, Name, Next, Retry, StringStart, StringBefore, DataStart, Seat, Attempt, Byte, End, Given, Text, Configuration, Local, Choice, Step, Sight, byte_of, seat_before, whole_text, class_of, deep_rules, data_events, IsReadAs, line_byte, counts}
 use Rattle.mdconstructs_machines.specs.Deep.{string_start_rows, string_before_rows}
 use Rattle.mdconstructs_machines.proofs.LineReads.Data.{ReadsData, data-read}
 use Rattle.mdconstructs_machines.proofs.LineReads.Looks.{Passes, FailsAtEnd, FailsTo, goes-back, looks-on, seat-behind}
 use Rattle.mdconstructs_machines.proofs.LineReads.Rows.{HasRows, leads-row, row_step, waits_class}
-use Rattle.mdconstructs_machines.proofs.LineReads.Steps.{EndsWith, held, shows, ended, goes-next, reads-as, leads-step, at-front}
+use Rattle.mdconstructs_machines.proofs.LineReads.Steps.{EndsWith, held, shows, ended, goes-next, reads-from, leads-step, at-front}
 
 module _ (g : Given) (text : Text) where
   abbrev step : Sight → Configuration Unit Unit → Name → Step Unit Unit
@@ -16,15 +16,12 @@ module _ (g : Given) (text : Text) where
   start-rows : HasRows g text step StringStart string_start_rows
   start-rows k = refl
 
-  again-rows : HasRows g text step StringBefore string_before_rows
-  again-rows k = refl
-
   passes : Passes g text step StringBefore []
   passes p b events local cs s at es h =
-      leads-row g text step StringBefore string_before_rows again-rows (held [] p Byte b events local) cs (Some (line_byte s.byte)) (ap (λ o. class_of line_byte (byte_of o)) at) es h
+      leads-row g text step StringBefore string_before_rows (λ k. refl) (held [] p Byte b events local) cs (Some (line_byte s.byte)) (ap (λ o. class_of line_byte (byte_of o)) at) es h
 
   fails : FailsAtEnd g text step StringBefore []
-  fails p events local cs es h = leads-row g text step StringBefore string_before_rows again-rows (held [] p End true events local) cs None refl es h
+  fails p events local cs es h = leads-row g text step StringBefore string_before_rows (λ k. refl) (held [] p End true events local) cs None refl es h
 
   -- the class of the byte at a position, and of the one before
   class-at : (p : ℕ) (s : Seat) → slice_get text.seats p ≡ Some s → class_of line_byte (byte_of (slice_get text.seats p)) ≡ Some (line_byte s.byte)
@@ -71,7 +68,4 @@ module _ (g : Given) (text : Text) where
       (λ local. data-read g text step reads-data (s ∷ ss) 0 false [] local here))))
 
 pub deep-reads : IsReadAs deep_rules StringStart data_events
-deep-reads = reads-as deep_rules StringStart data_events (λ g.
-    let text = whole_text g in
-    let k : Configuration Unit Unit = start_configuration false in
-    goes-next g text (deep_rules g).step text.seats [] 0 false [] k.local [] StringStart refl (data_events g.bytes text.seats) (from-start g text text.seats k.local refl))
+deep-reads = reads-from deep_rules StringStart data_events (λ g local. from-start g (whole_text g) (whole_text g).seats local refl)

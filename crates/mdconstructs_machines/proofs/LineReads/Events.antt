@@ -1,5 +1,10 @@
 -- The events of lines, from one virtual byte to the next.
-use Rattle.mdconstructs_machines.proofs.Prelude.{◌≡◌, ◌∷◌, ◌++◌, [], List, true, false, cond, refl, sym, ◌∙◌, ap, not, flat_map, append_assoc, append-nil, Event, Point, Seat, end_after, is_line_ending, joined, lines_in, line_text, ending_of}
+use Rattle.mdconstructs_machines.proofs.Prelude.{◌≡◌, ◌∷◌, ◌++◌, [], List, true, false, cond, refl, sym, ◌∙◌, ap, not, flat_map, append_assoc, append-nil, Event, Point, Seat, end_after, is_line_ending, joined, lines_in, line_text, ending_of, drop}
+
+-- one more byte changes only the first line
+pub joined-first : (s : Seat) (lines : List (List Seat)) → drop 1 (joined s lines) ≡ drop 1 lines
+joined-first s [] = refl
+joined-first s (line ∷ lines) = refl
 
 -- How a line is read: the events over its text, which begin and end with these, and the events over a line ending
 module _ (over ending : List Seat → List Event) (opening closing : Point → List Event) where

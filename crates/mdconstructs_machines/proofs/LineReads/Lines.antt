@@ -1,21 +1,15 @@
 -- The machine of lines reads each line as a paragraph of data.
-use Rattle.mdconstructs_machines.proofs.Prelude.{◌≡◌, ℕ, ◌+◌, ◌∷◌, ◌++◌, [], List, true, false, refl, sym, ◌∙◌, ap, subst, Some, None, slice_get, Event, Enter, Exit, Paragraph, Data, LineEnding, Point, Name, Next, Retry, Ok, FlowStart, ParagraphInside, Seat, Nothing, Byte, End, Given, Text, Configuration, Step, start_configuration, Sight, point_or, whole_text, line_events, lines_rules, paragraph_inside_rows, IsReadAs, event, span, leaf, line_ending, other, counts}
+use Rattle.mdconstructs_machines.proofs.Prelude.{◌≡◌, ℕ, ◌+◌, ◌∷◌, ◌++◌, [], List, true, false, refl, sym, ◌∙◌, ap, subst, Some, None, slice_get, Event, Enter, Exit, Paragraph, Data, LineEnding, Point, Name, Next, Retry, Ok, FlowStart, ParagraphInside, Seat, Nothing, Byte, End, Given, Text, Configuration, Step, Sight, point_or, whole_text, line_events, lines_rules, paragraph_inside_rows, IsReadAs, event, span, leaf, line_ending, other, counts}
 use Rattle.markdown_base.specs.declared.event.Name.{Name as EventName}
 use Rattle.mdconstructs_machines.specs.Lines.{flow_start_rows}
 use Rattle.mdconstructs_machines.proofs.LineReads.Events.{IsWritten}
 use Rattle.mdconstructs_machines.proofs.LineReads.Reads.{ReadsLines, from-start}
-use Rattle.mdconstructs_machines.proofs.LineReads.Rows.{HasRows, leads-row, is-class, line-ending-read, two}
-use Rattle.mdconstructs_machines.proofs.LineReads.Steps.{EndsWith, held, goes-next, reads-as}
+use Rattle.mdconstructs_machines.proofs.LineReads.Rows.{leads-row, is-class, line-ending-read, two}
+use Rattle.mdconstructs_machines.proofs.LineReads.Steps.{EndsWith, held, reads-from}
 
 module _ (g : Given) (text : Text) where
   abbrev step : Sight → Configuration Unit Unit → Name → Step Unit Unit
   step = (lines_rules g).step
-
-  start-rows : HasRows g text step FlowStart flow_start_rows
-  start-rows k = refl
-
-  inside-rows : HasRows g text step ParagraphInside paragraph_inside_rows
-  inside-rows k = refl
 
   -- the spans of a line
   abbrev in_line : List EventName
@@ -41,26 +35,24 @@ module _ (g : Given) (text : Text) where
 
   reads-lines : ReadsLines g text step FlowStart ParagraphInside in_line opening closing
   reads-lines = record {
-    at_end = λ p events local es h. leads-row g text step FlowStart flow_start_rows start-rows (held [] p End true events local) [] None refl es h;
+    at_end = λ p events local es h. leads-row g text step FlowStart flow_start_rows (λ k. refl) (held [] p End true events local) [] None refl es h;
     at_ending = λ p b events local s at e es h.
-        leads-row g text step FlowStart flow_start_rows start-rows (held [] p Byte b events local) [] (Some line_ending) (is-class g text p s true at e) es
+        leads-row g text step FlowStart flow_start_rows (λ k. refl) (held [] p Byte b events local) [] (Some line_ending) (is-class g text p s true at e) es
         (subst (λ l. EndsWith g text step (held [] (p + 1) Nothing false l (counts local)) [] (Next FlowStart) es) (sym (line-ending-read g text events p s at)) h);
     begins = λ p b events local s at e es h.
-        leads-row g text step FlowStart flow_start_rows start-rows (held [] p Byte b events local) [] (Some other) (is-class g text p s false at e) es
+        leads-row g text step FlowStart flow_start_rows (λ k. refl) (held [] p Byte b events local) [] (Some other) (is-class g text p s false at e) es
         (subst (λ l. EndsWith g text step (held in_line p Byte b l (counts local)) [] (Retry ParagraphInside) es) (opened p s events at) h);
     ends_at_end = λ p events local es h.
-        leads-row g text step ParagraphInside paragraph_inside_rows inside-rows (held in_line p End true events local) [] None refl es
+        leads-row g text step ParagraphInside paragraph_inside_rows (λ k. refl) (held in_line p End true events local) [] None refl es
         (subst (λ l. EndsWith g text step (held [] p End true l (counts local)) [] Ok es) (sym (two events _ _)) h);
     ends_at_ending = λ p b events local s at e es h.
-        leads-row g text step ParagraphInside paragraph_inside_rows inside-rows (held in_line p Byte b events local) [] (Some line_ending) (is-class g text p s true at e) es
+        leads-row g text step ParagraphInside paragraph_inside_rows (λ k. refl) (held in_line p Byte b events local) [] (Some line_ending) (is-class g text p s true at e) es
         (subst (λ l. EndsWith g text step (held [] p Byte b l (counts local)) [] (Retry FlowStart) es) (sym (two events _ _)) h);
     goes_on = λ p b events local s at e es h.
-        leads-row g text step ParagraphInside paragraph_inside_rows inside-rows (held in_line p Byte b events local) [] (Some other) (is-class g text p s false at e) es h;
+        leads-row g text step ParagraphInside paragraph_inside_rows (λ k. refl) (held in_line p Byte b events local) [] (Some other) (is-class g text p s false at e) es h;
   }
 
 pub lines-read : IsReadAs lines_rules FlowStart line_events
-lines-read = reads-as lines_rules FlowStart line_events (λ g.
+lines-read = reads-from lines_rules FlowStart line_events (λ g local.
     let text = whole_text g in
-    let k : Configuration Unit Unit = start_configuration false in
-    goes-next g text (lines_rules g).step text.seats [] 0 false [] k.local [] FlowStart refl (line_events g.bytes text.seats)
-    (from-start g text (lines_rules g).step FlowStart ParagraphInside (in_line g text) (opening g text) (closing g text) (reads-lines g text) (over g text) (written g text) text.seats 0 false [] k.local refl))
+    from-start g text (lines_rules g).step FlowStart ParagraphInside (in_line g text) (opening g text) (closing g text) (reads-lines g text) (over g text) (written g text) text.seats 0 false [] local refl)

@@ -1,7 +1,8 @@
 -- A machine that reads each line with two states: the events that it makes from there on.
-use Rattle.mdconstructs_machines.proofs.Prelude.{◌≡◌, ℕ, suc, ◌+◌, ◌∷◌, ◌++◌, [], List, Bool, true, false, refl, sym, ◌∙◌, ap, subst, Some, arith, drop, slice_get, append_assoc, append-nil, drop-next, Event, LineEnding, Point, Name, Next, Retry, Ok, Seat, Nothing, Byte, End, Given, Text, Configuration, Local, Step, Sight, end_place, end_or, is_line_ending, lines_in, leaf, counts}
+use Rattle.mdconstructs_machines.proofs.Prelude.{◌≡◌, ℕ, ◌+◌, ◌∷◌, ◌++◌, [], List, Bool, true, false, refl, sym, ◌∙◌, ap, subst, Some, drop, slice_get, append_assoc, append-nil, drop-next, Event, LineEnding, Point, Name, Next, Retry, Ok, Seat, Nothing, Byte, End, Given, Text, Configuration, Local, Step, Sight, end_place, is_line_ending, lines_in, leaf, counts}
 use Rattle.markdown_base.specs.declared.event.Name.{Name as EventName}
 use Rattle.mdconstructs_machines.proofs.LineReads.Events.{IsWritten, of_lines, rest_of, at-ending, rest-ending, at-other, rest-other}
+use Rattle.mdconstructs_machines.proofs.LineReads.Looks.{place-behind}
 use Rattle.mdconstructs_machines.proofs.LineReads.Steps.{EndsWith, Leads, ended, held, shows, goes-next, at-front}
 
 module _ (g : Given) (text : Text) (step : Sight → Configuration Unit Unit → Name → Step Unit Unit) (start inside : Name) (stack : List EventName) (opening closing : Point → List Event) where
@@ -36,31 +37,25 @@ module _ (g : Given) (text : Text) (step : Sight → Configuration Unit Unit →
     FromInside l = (p : ℕ) (b : Bool) (events : List Event) (local : Local Unit Unit) → drop p text.seats ≡ l
         → EndsWith g text step (shows l stack p b events local) [] (Retry inside) (events ++ rest (end_place text p) l)
 
-    -- one byte on, the byte before ends where that byte does
-    place-next : (p : ℕ) (s : Seat) → slice_get text.seats p ≡ Some s → end_place text (p + 1) ≡ s.end
-    place-next p s at = let one : p + 1 ≡ suc p = omega arith in ap (end_place text) one ∙ ap (end_or text.start) at
-
     module _ (s : Seat) (ss : List Seat) (from_start : FromStart ss) (from_inside : FromInside ss) where
       -- at a line ending
       start-ending : is_line_ending s ≡ true → FromStart (s ∷ ss)
       start-ending e p b events local here =
-          let at = at-front text.seats p s ss here in
           let next = drop-next text.seats p s ss here in
           let es = events ++ leaf g.bytes LineEnding (s ∷ []) in
           let same : es ++ all ss ≡ events ++ all (s ∷ ss) = append_assoc events _ _ ∙ ap (λ l. events ++ l) (sym (at-ending over (leaf g.bytes LineEnding) opening closing is s ss e)) in
           subst (EndsWith g text step (held [] p Byte b events local) [] (Retry start)) same
-          (reads.at_ending p b events local s at e (es ++ all ss)
+          (reads.at_ending p b events local s (at-front text.seats p s ss here) e (es ++ all ss)
           (goes-next g text step ss [] (p + 1) false es (counts local) [] start next (es ++ all ss) (from_start (p + 1) false es (counts local) next)))
 
       inside-ending : is_line_ending s ≡ true → FromInside (s ∷ ss)
       inside-ending e p b events local here =
-          let at = at-front text.seats p s ss here in
           let place = end_place text p in
           let es = events ++ closing place in
           let same : es ++ all (s ∷ ss) ≡ events ++ rest place (s ∷ ss) =
           append_assoc events _ _ ∙ ap (λ l. events ++ l) (sym (rest-ending over (leaf g.bytes LineEnding) opening closing is place s ss e)) in
           subst (EndsWith g text step (held stack p Byte b events local) [] (Retry inside)) same
-          (reads.ends_at_ending p b events local s at e (es ++ all (s ∷ ss)) (start-ending e p b es (counts local) here))
+          (reads.ends_at_ending p b events local s (at-front text.seats p s ss here) e (es ++ all (s ∷ ss)) (start-ending e p b es (counts local) here))
 
       -- at another byte
       inside-other : is_line_ending s ≡ false → FromInside (s ∷ ss)
@@ -69,14 +64,13 @@ module _ (g : Given) (text : Text) (step : Sight → Configuration Unit Unit →
           let next = drop-next text.seats p s ss here in
           let place = end_place text p in
           let same : rest (end_place text (p + 1)) ss ≡ rest place (s ∷ ss) =
-          ap (λ q. rest q ss) (place-next p s at) ∙ sym (rest-other over (leaf g.bytes LineEnding) opening closing is place s ss e) in
+          ap (λ q. rest q ss) (place-behind text p s at) ∙ sym (rest-other over (leaf g.bytes LineEnding) opening closing is place s ss e) in
           subst (λ l. EndsWith g text step (held stack p Byte b events local) [] (Retry inside) (events ++ l)) same
           (reads.goes_on p b events local s at e (events ++ rest (end_place text (p + 1)) ss)
           (goes-next g text step ss stack (p + 1) false events (counts local) [] inside next (events ++ rest (end_place text (p + 1)) ss) (from_inside (p + 1) false events (counts local) next)))
 
       start-other : is_line_ending s ≡ false → FromStart (s ∷ ss)
       start-other e p b events local here =
-          let at = at-front text.seats p s ss here in
           let place = end_place text p in
           let es = events ++ opening s.point in
           let same : es ++ rest place (s ∷ ss) ≡ events ++ all (s ∷ ss) =
@@ -84,7 +78,7 @@ module _ (g : Given) (text : Text) (step : Sight → Configuration Unit Unit →
           ∙ ap (λ l. events ++ (opening s.point ++ l)) (rest-other over (leaf g.bytes LineEnding) opening closing is place s ss e)
           ∙ ap (λ l. events ++ l) (sym (at-other over (leaf g.bytes LineEnding) opening closing is s ss e)) in
           subst (EndsWith g text step (held [] p Byte b events local) [] (Retry start)) same
-          (reads.begins p b events local s at e (es ++ rest place (s ∷ ss)) (inside-other e p b es (counts local) here))
+          (reads.begins p b events local s (at-front text.seats p s ss here) e (es ++ rest place (s ∷ ss)) (inside-other e p b es (counts local) here))
 
     -- from both states, whatever is left
     from-both : (l : List Seat) → FromStart l × FromInside l

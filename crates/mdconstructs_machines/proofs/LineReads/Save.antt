@@ -1,18 +1,15 @@
 -- The machine that saves its place passes the first line, goes back to where it ended, and reads data.
-use Rattle.mdconstructs_machines.proofs.Prelude.{◌≡◌, ℕ, ◌+◌, ◌∷◌, [], List, Bool, true, false, cond, refl, sym, ◌∙◌, ap, subst, Some, None, drop, flat_map, drop-next, Name, Next, Retry, TextStart, TextBefore, DataStart, Seat, Attempt, Nothing, Byte, End, with_local, Given, Text, Configuration, Local, Step, start_configuration, Sight, whole_text, is_line_ending, joined, lines_in, data_line, data_events, save_events, IsReadAs, save_rules, line_ending, other, counts}
+use Rattle.mdconstructs_machines.proofs.LineReads.Events.{joined-first}
+use Rattle.mdconstructs_machines.proofs.Prelude.{◌≡◌, ℕ, ◌+◌, ◌∷◌, [], List, Bool, true, false, cond, refl, sym, ◌∙◌, ap, subst, Some, None, drop, flat_map, drop-next, Name, Next, Retry, TextStart, TextBefore, DataStart, Seat, Attempt, Nothing, Byte, End, with_local, Given, Text, Configuration, Local, Step, Sight, whole_text, is_line_ending, joined, lines_in, data_line, data_events, save_events, IsReadAs, save_rules, line_ending, other, counts}
 use Rattle.mdconstructs_machines.specs.Save.{text_start_rows, text_before_rows}
 use Rattle.mdconstructs_machines.proofs.LineReads.Data.{ReadsData, data-read}
 use Rattle.mdconstructs_machines.proofs.LineReads.Looks.{goes-back, shows-events}
-use Rattle.mdconstructs_machines.proofs.LineReads.Rows.{HasRows, leads-row, waits_class, is-class}
-use Rattle.mdconstructs_machines.proofs.LineReads.Steps.{EndsWith, held, shows, ended, goes-next, reads-as, at-front}
+use Rattle.mdconstructs_machines.proofs.LineReads.Rows.{leads-row, waits_class, is-class}
+use Rattle.mdconstructs_machines.proofs.LineReads.Steps.{EndsWith, held, shows, ended, goes-next, reads-from, at-front}
 
 -- the lines after the first are the lines of the virtual bytes after its ending
 first-ends : (bytes : List ℕ) (s : Seat) (ss : List Seat) → is_line_ending s ≡ true → save_events bytes (s ∷ ss) ≡ data_events bytes ss
 first-ends bytes s ss e = ap (λ b. flat_map (data_line bytes) (drop 1 (cond b ((s ∷ []) ∷ lines_in ss) (joined s (lines_in ss))))) e
-
-joined-first : (s : Seat) (lines : List (List Seat)) → drop 1 (joined s lines) ≡ drop 1 lines
-joined-first s [] = refl
-joined-first s (line ∷ lines) = refl
 
 first-goes-on : (bytes : List ℕ) (s : Seat) (ss : List Seat) → is_line_ending s ≡ false → save_events bytes (s ∷ ss) ≡ save_events bytes ss
 first-goes-on bytes s ss e =
@@ -25,25 +22,19 @@ module _ (g : Given) (text : Text) where
   reads-data : ReadsData g text step
   reads-data = record { start = λ k. refl; inside = λ k. refl }
 
-  start-rows : HasRows g text step TextStart text_start_rows
-  start-rows k = refl
-
-  tried-rows : HasRows g text step TextBefore text_before_rows
-  tried-rows k = refl
-
   -- after the line ending an attempt is made, which fails
   behind-first : (l : List Seat) (p : ℕ) (local : Local Unit Unit) → drop p text.seats ≡ l
       → EndsWith g text step (held [] p Nothing false [] local) (record { kind = Attempt; ok = Next DataStart; nok = Next DataStart; saved = Some (record { position = p; ended = false; events = 0; stack = [] }) } ∷ []) (Next TextBefore) (data_events g.bytes l)
   behind-first l p local here =
       let k = shows l [] p false [] local in
       goes-next g text step l [] p false [] local _ TextBefore here (data_events g.bytes l)
-      (leads-row g text step TextBefore text_before_rows tried-rows k _ (waits_class g text k) refl (data_events g.bytes l)
+      (leads-row g text step TextBefore text_before_rows (λ k. refl) k _ (waits_class g text k) refl (data_events g.bytes l)
       (goes-back g text step Attempt (Next DataStart) DataStart p false 0 [] [] [] (data_events g.bytes l)
       (λ local. data-read g text step reads-data l p false [] local here) (with_local k (counts k.local)) (shows-events l [] p false [] local)))
 
   -- in the first line
   in-first : (l : List Seat) (p : ℕ) (b : Bool) (local : Local Unit Unit) → drop p text.seats ≡ l → EndsWith g text step (shows l [] p b [] local) [] (Retry TextStart) (save_events g.bytes l)
-  in-first [] p b local here = leads-row g text step TextStart text_start_rows start-rows (held [] p End true [] local) [] None refl [] (ended g text step (held [] p End true [] (counts local)))
+  in-first [] p b local here = leads-row g text step TextStart text_start_rows (λ k. refl) (held [] p End true [] local) [] None refl [] (ended g text step (held [] p End true [] (counts local)))
   in-first (s ∷ ss) p b local here =
       let at = at-front text.seats p s ss here in
       let next = drop-next text.seats p s ss here in
@@ -51,15 +42,12 @@ module _ (g : Given) (text : Text) where
       elim (is_line_ending s) as (λ t. is_line_ending s ≡ t → EndsWith g text step k [] (Retry TextStart) (save_events g.bytes (s ∷ ss))) [
         | true ↦ λ e.
             subst (EndsWith g text step k [] (Retry TextStart)) (sym (first-ends g.bytes s ss e))
-            (leads-row g text step TextStart text_start_rows start-rows k [] (Some line_ending) (is-class g text p s true at e) (data_events g.bytes ss) (behind-first ss (p + 1) (counts local) next))
+            (leads-row g text step TextStart text_start_rows (λ k. refl) k [] (Some line_ending) (is-class g text p s true at e) (data_events g.bytes ss) (behind-first ss (p + 1) (counts local) next))
         | false ↦ λ e.
             subst (EndsWith g text step k [] (Retry TextStart)) (sym (first-goes-on g.bytes s ss e))
-            (leads-row g text step TextStart text_start_rows start-rows k [] (Some other) (is-class g text p s false at e) (save_events g.bytes ss)
+            (leads-row g text step TextStart text_start_rows (λ k. refl) k [] (Some other) (is-class g text p s false at e) (save_events g.bytes ss)
             (goes-next g text step ss [] (p + 1) false [] (counts local) [] TextStart next (save_events g.bytes ss) (in-first ss (p + 1) false (counts local) next)))
       ] refl
 
 pub save-reads : IsReadAs save_rules TextStart save_events
-save-reads = reads-as save_rules TextStart save_events (λ g.
-    let text = whole_text g in
-    let k : Configuration Unit Unit = start_configuration false in
-    goes-next g text (save_rules g).step text.seats [] 0 false [] k.local [] TextStart refl (save_events g.bytes text.seats) (in-first g text text.seats 0 false k.local refl))
+save-reads = reads-from save_rules TextStart save_events (λ g local. in-first g (whole_text g) (whole_text g).seats 0 false local refl)

@@ -4,10 +4,10 @@ use Rattle.markdown_base.specs.declared.event.Name.{Name as EventName}
 
 -- the element at a position
 pub at-front : {X : Type 0} (xs : List X) (p : ℕ) (x : X) (rest : List X) → drop p xs ≡ x ∷ rest → slice_get xs p ≡ Some x
-at-front [] zero x rest h = absurd (cc)
-at-front [] (suc p) x rest h = absurd (cc)
 at-front (y ∷ ys) zero x rest h = let e : y ≡ x = cc in ap Some e
 at-front (y ∷ ys) (suc p) x rest h = at-front ys p x rest h
+at-front [] zero x rest h = absurd (cc)
+at-front [] (suc p) x rest h = absurd (cc)
 
 -- a position with nothing at it is past the end
 past-end : {X : Type 0} (xs : List X) (p : ℕ) → drop p xs ≡ [] → length xs ≤ p
@@ -83,3 +83,12 @@ reads-as rules start events_of reads g events sub document run =
     let there = reads g 0 in
     let same = one-end g (rules g).step (whole_text g) 0 (start_configuration false) [] (Next start) run.result there.0 run.ends there.1.0 in
     run.events ∙ ap (λ (k : Configuration Unit Unit). k.events) run.resolved.0 ∙ ap (λ r. r.configuration.events) same ∙ there.1.2
+
+-- and so does one whose reading from the first byte on ends with them
+pub reads-from : (rules : Given → Rules Unit Unit) (start : Name) (events_of : List ℕ → List Seat → List Event)
+    → ((g : Given) (local : Local Unit Unit) → let l = (whole_text g).seats in EndsWith g (whole_text g) (rules g).step (shows l [] 0 false [] local) [] (Retry start) (events_of g.bytes l))
+    → IsReadAs rules start events_of
+reads-from rules start events_of reads = reads-as rules start events_of (λ g.
+    let k : Configuration Unit Unit = start_configuration false in
+    let l = (whole_text g).seats in
+    goes-next g (whole_text g) (rules g).step l [] 0 false [] k.local [] start refl (events_of g.bytes l) (reads g k.local))
