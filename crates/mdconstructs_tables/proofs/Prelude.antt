@@ -19,6 +19,7 @@ pub use Rattle.markdown_base.specs.Virtual.{Seat, virtual}
 pub use Rattle.markdown_base.specs.declared.event.Event.{Event}
 pub use Rattle.markdown_base.specs.declared.event.Kind.TheVariants.{Enter, Exit}
 pub use Rattle.markdown_base.specs.declared.event.Link.{Link}
+pub use Rattle.markdown_base.specs.declared.event.Name.{Name as EventName}
 pub use Rattle.markdown_base.specs.declared.event.Point.{Point}
 pub use Rattle.markdown_base.specs.declared.message.Message.{Message}
 pub use Rattle.markdown_base.specs.declared.state.Name.{Name}

@@ -1,6 +1,5 @@
 -- What the prover finds by itself in the code of a machine: a state that is called may be called.
-use Rattle.mdconstructs_tables.proofs.Prelude.{◌≡◌, ◌==◌, ℕ, List, [], ◌∷◌, true, false, cond, Option, Some, ◌⊎◌, inl, inr, refl, sym, ap, ◌∙◌, arith, nat_tests, Name, Retry, CanExit, Local, TokenizerValue, sight_of, marked, enter, exit, consume, StateRows, Table, class_of, named, table_holds, begun, IsCallable}
-use Rattle.markdown_base.specs.declared.event.Name.{Name as EventName}
+use Rattle.mdconstructs_tables.proofs.Prelude.{◌≡◌, ◌==◌, ℕ, List, [], ◌∷◌, true, false, cond, Option, Some, ◌⊎◌, inl, inr, refl, sym, ap, ◌∙◌, arith, nat_tests, Name, Retry, CanExit, Local, TokenizerValue, sight_of, marked, enter, exit, consume, StateRows, Table, class_of, named, table_holds, begun, IsCallable, EventName}
 use Rattle.mdconstructs_tables.proofs.Rows.Calls.{are_allowed, callable, can-exit}
 
 -- one of these states has the name, and can be called

@@ -1,6 +1,5 @@
 -- The calls of a machine whose table passes the test are paid for.
-use Rattle.mdconstructs_tables.proofs.Prelude.{◌≡◌, ℕ, ◌+◌, ◌-◌, ◌<◌, ◌≤◌, ◌&&◌, List, [], ◌∷◌, Bool, true, false, Option, Some, None, length, refl, sym, subst, arith, sum_by, nat_lt, max, not, IfSome, last_or, mul-le-mul_left, mul-le-mul_right, leb-true, ltb-true, ltb-false, and_parts, slice_get_past, sum_by-cons, Event, Name, State, Next, Retry, Ok, Nok, Error, AttemptKind, Attempt, Check, Given, Text, IsText, Configuration, Choice, Saved, Sight, sight, byte_of, consumed, with_local, fed, unfed, restored, settled_at, IsAsFar, CostPays, Act, consume, choose, Rows, row, when, Row, Calls, StateRows, Table, past, class_of, choice_made_at, done, chooses, picked, named, table_step, is_void_last, saves, Stage, end_waits, byte_waits, byte_read, Shape, Frame, may_go_on, fits_choice, fits_answer, fits_calls, is_some, first_stage, plus, larger, at_stage, calls_le, calls_or, fed_calls, next_calls, choice_calls, chosen_calls, answer_calls, calls_at, is_counted, counts_answer, counts_choice, counts_choices, pays_row, feeds, all_rows, is_called_at, is_called, outline, IsSaved, price_by, at_most, IsStateAt, next_price, retry_price, state_price, choice_price, chosen_price, answer_price, row_price, AreWithin, Stands, is_read, behind, class_at, PaysRows, ArePaid, table_holds, table_cost, reserve_of, table_rules, upto, exit_place_at, fresh_fed, falls_on, CanGoBack, Falls, AllFall, IsFitBy, IsFit, every, cond_both}
-use Rattle.markdown_base.specs.declared.event.Name.{Name as EventName}
+use Rattle.mdconstructs_tables.proofs.Prelude.{◌≡◌, ℕ, ◌+◌, ◌-◌, ◌<◌, ◌≤◌, ◌&&◌, List, [], ◌∷◌, Bool, true, false, Option, Some, None, length, refl, sym, subst, arith, sum_by, nat_lt, max, not, IfSome, last_or, mul-le-mul_left, mul-le-mul_right, leb-true, ltb-true, ltb-false, and_parts, slice_get_past, sum_by-cons, Event, Name, State, Next, Retry, Ok, Nok, Error, AttemptKind, Attempt, Check, Given, Text, IsText, Configuration, Choice, Saved, Sight, sight, byte_of, consumed, with_local, fed, unfed, restored, settled_at, IsAsFar, CostPays, Act, consume, choose, Rows, row, when, Row, Calls, StateRows, Table, past, class_of, choice_made_at, done, chooses, picked, named, table_step, is_void_last, saves, Stage, end_waits, byte_waits, byte_read, Shape, Frame, may_go_on, fits_choice, fits_answer, fits_calls, is_some, first_stage, plus, larger, at_stage, calls_le, calls_or, fed_calls, next_calls, choice_calls, chosen_calls, answer_calls, calls_at, is_counted, counts_answer, counts_choice, counts_choices, pays_row, feeds, all_rows, is_called_at, is_called, outline, IsSaved, price_by, at_most, IsStateAt, next_price, retry_price, state_price, choice_price, chosen_price, answer_price, row_price, AreWithin, Stands, is_read, behind, class_at, PaysRows, ArePaid, table_holds, table_cost, reserve_of, table_rules, upto, exit_place_at, fresh_fed, falls_on, CanGoBack, Falls, AllFall, IsFitBy, IsFit, every, cond_both, EventName}
 use Rattle.mdconstructs_tables.proofs.Rows.Misfits.{named-same, named-in}
 use Rattle.mdconstructs_tables.proofs.Rows.Laws.{Waited, reached}
 use Rattle.mdconstructs_tables.proofs.GrowingTexts.{seat-at}
@@ -107,10 +106,7 @@ module _ {W R D : Type 0} (table : Table W R D) (g : Given) (late : Bool) where
       let c = fed_calls table.states (named table.states name) in
       let there = counted-next (named table.states name) text (behind late p) one in
       counted-saved kind (Next name) nok text p saved (omega (arith, there, behind-most late c (length text.seats) p)) other
-  counted-choice kind (Retry name) nok text p h = counted-other (saves kind nok) kind (Retry name) nok text p refl refl (omega arith) h
-  counted-choice kind Ok nok text p h = counted-other (saves kind nok) kind Ok nok text p refl refl (omega arith) h
-  counted-choice kind Nok nok text p h = counted-other (saves kind nok) kind Nok nok text p refl refl (omega arith) h
-  counted-choice kind (Error message) nok text p h = counted-other (saves kind nok) kind (Error message) nok text p refl refl (omega arith) h
+  counted-choice kind ok nok text p h = counted-other (saves kind nok) kind ok nok text p refl refl (omega arith) h
 
   counted-chosen : (acts : List (Act R D)) (st : Stage) (n : ℕ) (text : Text) (p : ℕ) → length text.seats - p ≤ bound st n → counts_choices table.states acts ≡ true
       → chosen_price table late text p acts ≤ at_most (chosen_calls table.states st acts) n

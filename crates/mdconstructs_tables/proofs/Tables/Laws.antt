@@ -1,6 +1,5 @@
 -- The laws of a machine whose table passes the test.
-use Rattle.mdconstructs_tables.proofs.Prelude.{◌≡◌, ◌≢◌, ◌≤◌, List, [], ◌++◌, Bool, true, Option, Some, None, length, map, refl, sym, ap, ◌∙◌, subst, arith, ◌⊎◌, inl, inr, take, length-append, All, IfSome, Contains, nat_lt, flat_map, take-append_seam, and_parts, take-map, length-map, All-contains, Event, Name, Next, Retry, Ok, Nok, unlinked, Byte, Given, Text, IsText, followed_by, Configuration, Choice, Step, Sight, sight, consumed, with_local, IsAsFar, ConsumesOnce, OnlyAdds, EndsWhenRead, KeepsInvariant, Rows, row, when, Row, StateRows, Table, with_choice_of, chooses, picked, step_of, row_at, named, step_at, table_step, IsFitBy, named_misfit, named_start, saves, allows_all, is_called_at, is_called, fits_choices, fits_row, fits_calls, start_shape, all_rows, may_start, outline, SightIsInOrder, IsFed, class_in, began_at, IsStateAt, HoldsAt, table_holds, table_rules, cond_both}
-use Rattle.markdown_base.specs.declared.event.Name.{Name as EventName}
+use Rattle.mdconstructs_tables.proofs.Prelude.{◌≡◌, ◌≢◌, ◌≤◌, List, [], ◌++◌, Bool, true, Option, Some, None, length, map, refl, sym, ap, ◌∙◌, subst, arith, ◌⊎◌, inl, inr, take, length-append, All, IfSome, Contains, nat_lt, flat_map, take-append_seam, and_parts, take-map, length-map, All-contains, Event, Name, Next, Retry, Ok, Nok, unlinked, Byte, Given, Text, IsText, followed_by, Configuration, Choice, Step, Sight, sight, consumed, with_local, IsAsFar, ConsumesOnce, OnlyAdds, EndsWhenRead, KeepsInvariant, Rows, row, when, Row, StateRows, Table, with_choice_of, chooses, picked, step_of, row_at, named, step_at, table_step, IsFitBy, named_misfit, named_start, saves, allows_all, is_called_at, is_called, fits_choices, fits_row, fits_calls, start_shape, all_rows, may_start, outline, SightIsInOrder, IsFed, class_in, began_at, IsStateAt, HoldsAt, table_holds, table_rules, cond_both, EventName}
 use Rattle.mdconstructs_tables.proofs.Rows.Misfits.{none-left, none-made, named-none, fits-unnamed, starts-unnamed}
 use Rattle.mdconstructs_tables.proofs.Rows.Laws.{below_all, has-after-all, chooses-append, adds-all}
 use Rattle.mdconstructs_tables.proofs.GrowingTexts.{fed-position, extends}

@@ -1,7 +1,6 @@
 -- Choices that wait, in the invariant of a table: what acts make of them, and that they stay if the text goes on.
 use Rattle.mdconstructs_tables.proofs.Markers.{stack-below}
-use Rattle.mdconstructs_tables.proofs.Prelude.{◌≡◌, ℕ, ◌+◌, ◌≤◌, ◌||◌, not, List, [], ◌∷◌, ◌++◌, Bool, true, false, Option, Some, None, length, refl, sym, ap, ◌∙◌, subst, arith, take, length-append, append_assoc, inl, inr, All, IfSome, slice_get, last_or, take-append_seam, and_parts, append-nil, take-append-le, length-map, take_all, All-nil, All-cons, none-some, slice_get_cases, slice_get_past, slice_get_within, Event, State, Nok, unlinked, stands_before, shown, or-leads, AttemptKind, Attempt, Given, Text, Configuration, Choice, Saved, Sight, sight, current_of, byte_of, saved_at, IsAsFar, Act, consume, choose, StateRows, class_of, choice_made_at, with_choice_of, done, seen_after, does, chooses, is_void_last, saves, Stage, byte_waits, Shape, Frame, frame_of, allows, after, allows_all, fits_choice, fits_choices, waits_in, outline, EndsWithEnter, Began, upto, since, exit_place_at, class_in, IsSavedIn, IsSaved, position_of, events_saved, IsBelow, AreWaiting, get-front}
-use Rattle.markdown_base.specs.declared.event.Name.{Name as EventName}
+use Rattle.mdconstructs_tables.proofs.Prelude.{◌≡◌, ℕ, ◌+◌, ◌≤◌, ◌||◌, not, List, [], ◌∷◌, ◌++◌, Bool, true, false, Option, Some, None, length, refl, sym, ap, ◌∙◌, subst, arith, take, length-append, append_assoc, inl, inr, All, IfSome, slice_get, last_or, take-append_seam, and_parts, append-nil, take-append-le, length-map, take_all, All-nil, All-cons, none-some, slice_get_cases, slice_get_past, slice_get_within, Event, State, Nok, unlinked, stands_before, shown, or-leads, AttemptKind, Attempt, Given, Text, Configuration, Choice, Saved, Sight, sight, current_of, byte_of, saved_at, IsAsFar, Act, consume, choose, StateRows, class_of, choice_made_at, with_choice_of, done, seen_after, does, chooses, is_void_last, saves, Stage, byte_waits, Shape, Frame, frame_of, allows, after, allows_all, fits_choice, fits_choices, waits_in, outline, EndsWithEnter, Began, upto, since, exit_place_at, class_in, IsSavedIn, IsSaved, position_of, events_saved, IsBelow, AreWaiting, get-front, EventName}
 use Rattle.mdconstructs_tables.proofs.Rows.Laws.{Waited, reached, IsSeenAhead, sight_at, HasShape, below_after, below_all, to-before, adds-one, began-on, left-at, has-after, sees-after, sight-after}
 use Rattle.mdconstructs_tables.proofs.GrowingTexts.{Extends, left-kept}
 
