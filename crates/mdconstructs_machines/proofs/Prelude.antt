@@ -14,6 +14,7 @@ pub use Rattle.markdown_base.specs.declared.event.Event.{Event}
 pub use Rattle.markdown_base.specs.declared.event.Kind.{Kind}
 pub use Rattle.markdown_base.specs.declared.event.Kind.TheVariants.{Enter, Exit}
 pub use Rattle.markdown_base.specs.declared.event.Name.TheVariants.{BlankLineEnding, BlockQuoteMarker, Data, LineEnding, Paragraph}
+pub use Rattle.markdown_base.specs.declared.event.Name.{Name as EventName}
 pub use Rattle.markdown_base.specs.declared.event.Point.{Point}
 pub use Rattle.markdown_base.specs.declared.state.Name.{Name}
 pub use Rattle.markdown_base.specs.declared.state.State.{State}

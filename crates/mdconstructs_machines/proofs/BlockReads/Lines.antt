@@ -11,19 +11,9 @@ abbrev pub after_line : List Seat → List Seat
 after_line [] = []
 after_line (s ∷ ss) = cond (is_line_ending s) ss (after_line ss)
 
-pub splits : (l : List Seat) → l ≡ first_line l ++ after_line l
-splits [] = refl
-splits (s ∷ ss) = let then = splits ss in elim (is_line_ending s) as (λ b. s ∷ ss ≡ cond b (s ∷ []) (s ∷ first_line ss) ++ cond b ss (after_line ss)) [
-  | true ↦ refl
-  | false ↦ ap (λ l. s ∷ l) then
-]
-
 -- a line that begins with another byte than a line ending goes on behind it
 pub line-on : (s : Seat) (ss : List Seat) → is_line_ending s ≡ false → first_line (s ∷ ss) ≡ s ∷ first_line ss
 line-on s ss other = ap (λ b. cond b (s ∷ []) (s ∷ first_line ss)) other
-
-pub behind-on : (s : Seat) (ss : List Seat) → is_line_ending s ≡ false → after_line (s ∷ ss) ≡ after_line ss
-behind-on s ss other = ap (λ b. cond b ss (after_line ss)) other
 
 -- what is behind a line is shorter
 pub after-shorter : (l : List Seat) → length (after_line l) ≤ length l
@@ -71,19 +61,17 @@ Stops (s ∷ ss) = is_line_ending s ≡ true
 pub record Run (l : List Seat) : Type 0 where
   pub lines : List (List Seat)
   pub rest : List Seat
-  pub splits : l ≡ all_of lines ++ rest
   pub goes_on : (line : List Seat) → continued line (blocks_of (lines_in l)) ≡ paragraph (line ∷ lines) ∷ blocks_of (lines_in rest)
   pub stops : Stops rest
   pub shorter : length rest ≤ length l
 
 abbrev pub run_end : Run []
-run_end = record { lines = []; rest = []; splits = refl; goes_on = λ line. refl; stops = tt; shorter = omega arith }
+run_end = record { lines = []; rest = []; goes_on = λ line. refl; stops = tt; shorter = omega arith }
 
 abbrev pub run_blank : (s : Seat) (ss : List Seat) → is_line_ending s ≡ true → Run (s ∷ ss)
 run_blank s ss is = record {
   lines = [];
   rest = s ∷ ss;
-  splits = refl;
   goes_on = λ line. ap (continued line) (blank-block s ss is) ∙ ap (λ bs. paragraph (line ∷ []) ∷ bs) (sym (blank-block s ss is));
   stops = is;
   shorter = omega arith;
@@ -96,7 +84,6 @@ run_on s ss other run =
     let then = run.shorter in record {
       lines = line ∷ run.lines;
       rest = run.rest;
-      splits = splits (s ∷ ss) ∙ ap (λ l. line ++ l) run.splits ∙ sym (append_assoc line (all_of run.lines) run.rest);
       goes_on = λ before. ap (continued before) (other-block s ss other ∙ run.goes_on line);
       stops = run.stops;
       shorter = omega (arith, less, then);

@@ -39,8 +39,7 @@ module _ (bytes : List ℕ) (c : Chunk) where
 
 -- two more, and the rest
 pub three : (xs : List Marked) (a b : Marked) (rest : List Marked) → ((xs ++ a ∷ []) ++ b ∷ []) ++ rest ≡ xs ++ a ∷ b ∷ rest
-three [] a b rest = refl
-three (x ∷ xs) a b rest = ap (λ l. x ∷ l) (three xs a b rest)
+three xs a b rest = simp append_assoc
 
 module _ (g : Given) (text : Text) (step : Sight → Configuration Unit Unit → Name → Step Unit Unit) (reads : ReadsBlocks g text step) where
   abbrev Goes : Configuration Unit Unit → Name → Configuration Unit Unit → Name → Type 0

@@ -15,8 +15,7 @@ end-append p (x ∷ xs) ys = end-append x.end xs ys
 -- what is added one after another
 nest : (ms : List Marked) (x : Marked) (one more : List Marked) (y : Marked) (rest : List Marked)
     → ((((ms ++ x ∷ []) ++ one) ++ more) ++ y ∷ []) ++ rest ≡ ms ++ ((x ∷ ((one ++ more) ++ y ∷ [])) ++ rest)
-nest [] x one more y rest = refl
-nest (m ∷ ms) x one more y rest = ap (λ l. m ∷ l) (nest ms x one more y rest)
+nest ms x one more y rest = simp append_assoc
 
 -- The marks of a paragraph over these lines, the first of which begins with this byte
 module _ (bytes : List ℕ) (s : Seat) (ss : List Seat) (lines : List (List Seat)) (place : Point) (inside : List Marked) where
@@ -46,60 +45,47 @@ module _ (g : Given) (text : Text) (step : Sight → Configuration Unit Unit →
   abbrev Goes : Configuration Unit Unit → Name → Configuration Unit Unit → Name → Type 0
   Goes k name k' name' = Leads g text step k [] (Retry name) k' [] (Retry name')
 
-  -- The lines that go on a paragraph were read
-  record ReadsRun (l : List Seat) (p : ℕ) (b : Bool) (place : Point) (block n : ℕ) (ms : List Marked) (local : Local Unit Unit) : Type 0 where
-    pub run : Run l
+  -- The lines that go on a paragraph were read, up to this place
+  record ReadsRun (k : Configuration Unit Unit) (rest : List Seat) (place : Point) (block : ℕ) (marks : List Marked) : Type 0 where
     pub to : ℕ
     pub ended : Bool
     pub after : Local Unit Unit
-    pub stands : Stands text to run.rest (end_after place (all_of run.lines))
-    pub before : AllByRecursion (IsBefore (suc block) 0) (ms ++ lines_marks g.bytes block n run.lines)
-    pub goes : Goes (shows l in_paragraph p b (with_links ms) local) ParagraphLineStart
-        (shows run.rest in_paragraph to ended (with_links (ms ++ lines_marks g.bytes block n run.lines)) after) ParagraphLineStart
+    pub stands : Stands text to rest place
+    pub before : AllByRecursion (IsBefore (suc block) 0) marks
+    pub goes : Goes k ParagraphLineStart (shows rest in_paragraph to ended (with_links marks) after) ParagraphLineStart
+
+  -- which they are, and that they were
+  abbrev RunRead : (l : List Seat) → Configuration Unit Unit → Point → (block n : ℕ) → List Marked → Type 0
+  RunRead l k place block n ms = (run : Run l) × ReadsRun k run.rest (end_after place (all_of run.lines)) block (ms ++ lines_marks g.bytes block n run.lines)
 
   -- none goes on
-  stops-there : (l : List Seat) (run : Run l) (p : ℕ) (b : Bool) (place : Point) (block n : ℕ) (ms : List Marked) (local : Local Unit Unit) → Stands text p l place
-      → AllByRecursion (IsBefore (suc block) 0) ms → run.lines ≡ [] → run.rest ≡ l → ReadsRun l p b place block n ms local
-  stops-there l run p b place block n ms local here before none same =
-      let marks : ms ++ lines_marks g.bytes block n run.lines ≡ ms = ap (λ ls. ms ++ lines_marks g.bytes block n ls) none ∙ append-nil ms in record {
-        run = run;
-        to = p;
-        ended = b;
-        after = local;
-        stands = subst (λ r. Stands text p r (end_after place (all_of run.lines))) (sym same) (subst (λ ls. Stands text p l (end_after place (all_of ls))) (sym none) here);
-        before = subst (AllByRecursion (IsBefore (suc block) 0)) (sym marks) before;
-        goes = λ es h.
-            subst (λ r. EndsWith g text step (shows r in_paragraph p b (with_links ms) local) [] (Retry ParagraphLineStart) es) same
-            (subst (λ l. EndsWith g text step (shows run.rest in_paragraph p b (with_links l) local) [] (Retry ParagraphLineStart) es) marks h);
-      }
+  stops-there : (l : List Seat) (p : ℕ) (b : Bool) (place : Point) (block : ℕ) (ms : List Marked) (local : Local Unit Unit) → Stands text p l place → AllByRecursion (IsBefore (suc block) 0) ms
+      → ReadsRun (shows l in_paragraph p b (with_links ms) local) l place block (ms ++ [])
+  stops-there l p b place block ms local here before =
+      subst (ReadsRun (shows l in_paragraph p b (with_links ms) local) l place block) (sym (append-nil ms)) (record { to = p; ended = b; after = local; stands = here; before = before; goes = λ es h. h })
 
   reads-run : (m : ℕ) (l : List Seat) → length l ≤ m → (p : ℕ) (b : Bool) (place : Point) (block n : ℕ) (ms : List Marked) (local : Local Unit Unit) → Stands text p l place
-      → AllByRecursion (IsBefore (suc block) 0) ms → (l ≡ []) ⊎ KnowsLast block n ms (connects local) (begins_at local) → ReadsRun l p b place block n ms local
-  reads-run m [] few p b place block n ms local here before known = stops-there [] run_end p b place block n ms local here before refl refl
+      → AllByRecursion (IsBefore (suc block) 0) ms → (l ≡ []) ⊎ KnowsLast block n ms (connects local) (begins_at local) → RunRead l (shows l in_paragraph p b (with_links ms) local) place block n ms
+  reads-run m [] few p b place block n ms local here before known = (run_end, stops-there [] p b place block ms local here before)
   reads-run zero (s ∷ ss) few p b place block n ms local here before known = absurd (omega (arith, few))
   reads-run (suc m) (s ∷ ss) few p b place block n ms local here before known =
-      elim (is_line_ending s) as (λ t. is_line_ending s ≡ t → ReadsRun (s ∷ ss) p b place block n ms local) [
-        | true ↦ λ is. stops-there (s ∷ ss) (run_blank s ss is) p b place block n ms local here before refl refl
+      elim (is_line_ending s) as (λ t. is_line_ending s ≡ t → RunRead (s ∷ ss) (held in_paragraph p Byte b (with_links ms) local) place block n ms) [
+        | true ↦ λ is. (run_blank s ss is, stops-there (s ∷ ss) p b place block ms local here before)
         | false ↦ λ no_end. elim known [
           | inl none ↦ absurd (cc)
           | inr knows ↦
+              let first = first_line (s ∷ ss) in
               let line = reads-line g text step reads s ss p b place block n ms local here knows no_end in
-              let marks = line_marks g.bytes (block, n) (first_line (s ∷ ss)) in
+              let marks = line_marks g.bytes (block, n) first in
               let less = after-less s ss in
-              let then = reads-run m (after_line (s ∷ ss)) (omega (arith, less, few)) line.to line.ended (end_after place (first_line (s ∷ ss))) block (suc n) (ms ++ marks) line.after line.stands line.before line.known in
-              let run = run_on s ss no_end then.run in
-              let same : (ms ++ marks) ++ lines_marks g.bytes block (suc n) then.run.lines ≡ ms ++ lines_marks g.bytes block n run.lines = append_assoc ms marks (lines_marks g.bytes block (suc n) then.run.lines) in record {
-                run = run;
-                to = then.to;
-                ended = then.ended;
-                after = then.after;
-                stands = subst (Stands text then.to then.run.rest) (sym (end-append place (first_line (s ∷ ss)) (all_of then.run.lines))) then.stands;
-                before = subst (AllByRecursion (IsBefore (suc block) 0)) same then.before;
-                goes = λ es h.
-                    line.goes es
-                    (then.goes es
-                    (subst (λ l. EndsWith g text step (shows then.run.rest in_paragraph then.to then.ended (with_links l) then.after) [] (Retry ParagraphLineStart) es) (sym same) h));
-              }
+              let then = reads-run m (after_line (s ∷ ss)) (omega (arith, less, few)) line.to line.ended (end_after place first) block (suc n) (ms ++ marks) line.after line.stands line.before line.known in
+              let run = then.0 in
+              let r = then.1 in (
+                run_on s ss no_end run,
+                subst (λ q. ReadsRun (held in_paragraph p Byte b (with_links ms) local) run.rest q block (ms ++ (marks ++ lines_marks g.bytes block (suc n) run.lines))) (sym (end-append place first (all_of run.lines)))
+                    (subst (ReadsRun (held in_paragraph p Byte b (with_links ms) local) run.rest (end_after (end_after place first) (all_of run.lines)) block) (append_assoc ms marks (lines_marks g.bytes block (suc n) run.lines))
+                    (record { to = r.to; ended = r.ended; after = r.after; stands = r.stands; before = r.before; goes = λ es h. line.goes es (r.goes es h) })),
+              )
         ]
       ] refl
 
@@ -163,18 +149,19 @@ module _ (g : Given) (text : Text) (step : Sight → Configuration Unit Unit →
       let first = first_line (s ∷ ss) in
       let marks = line_marks g.bytes (block, 0) first in
       let less = after-less s ss in
-      let run = reads-run m (after_line (s ∷ ss)) (omega (arith, less, few)) line.to line.ended (end_after place first) block 1 (one ++ marks) line.after line.stands line.before line.known in
-      let lines = run.run.lines in
-      let rest = run.run.rest in
+      let found = reads-run m (after_line (s ∷ ss)) (omega (arith, less, few)) line.to line.ended (end_after place first) block 1 (one ++ marks) line.after line.stands line.before line.known in
+      let r = found.1 in
+      let lines = found.0.lines in
+      let rest = found.0.rest in
       let more = lines_marks g.bytes block 1 lines in
       let all = (one ++ marks) ++ more in
       let last = end_after (end_after place first) (all_of lines) in
       let exits = event g.bytes Exit Paragraph last in
       let closed = all ++ (exits, None) ∷ [] in
-      let shorter = run.run.shorter in
+      let shorter = found.0.shorter in
       let others = blocks_marks g.bytes (suc block) (blocks_of (lines_in rest)) in
-      let after : AllByRecursion (IsBefore (suc block) 0) closed = every-append (IsBefore (suc block) 0) all ((exits, None) ∷ []) run.before (tt, tt) in
-      let blocks : blocks_of (lines_in (s ∷ ss)) ≡ paragraph (first ∷ lines) ∷ blocks_of (lines_in rest) = other-block s ss no_end ∙ run.run.goes_on first in
+      let after : AllByRecursion (IsBefore (suc block) 0) closed = every-append (IsBefore (suc block) 0) all ((exits, None) ∷ []) r.before (tt, tt) in
+      let blocks : blocks_of (lines_in (s ∷ ss)) ≡ paragraph (first ∷ lines) ∷ blocks_of (lines_in rest) = other-block s ss no_end ∙ found.0.goes_on first in
       let same : closed ++ others ≡ ms ++ blocks_marks g.bytes block (blocks_of (lines_in (s ∷ ss))) =
       subst (λ bs. closed ++ others ≡ ms ++ blocks_marks g.bytes block bs) (sym blocks) (paragraph-marked g.bytes s ss lines place block ms (blocks_of (lines_in rest)) no_end) in
       let end = with_links (closed ++ others) in
@@ -182,10 +169,10 @@ module _ (g : Given) (text : Text) (step : Sight → Configuration Unit Unit →
       (flow-other p b (with_links ms) local s (at-front text.seats p s ss here.0) no_end end
       (subst (λ l. EndsWith g text step (held in_paragraph p Byte b l begun) [] (Retry ParagraphLineStart) end) (links-plain ms enters)
       (line.goes end
-      (run.goes end
-      (paragraph-ends g text step reads rest run.to run.ended last (with_links all) run.after run.stands run.run.stops end
-      (subst (λ l. at_flow rest run.to run.ended l (counts run.after) end) (links-plain all exits)
-      (then rest (omega (arith, less, few, shorter)) run.to run.ended last (suc block) closed (counts run.after) run.stands after)))))))
+      (r.goes end
+      (paragraph-ends g text step reads rest r.to r.ended last (with_links all) r.after r.stands found.0.stops end
+      (subst (λ l. at_flow rest r.to r.ended l (counts r.after) end) (links-plain all exits)
+      (then rest (omega (arith, less, few, shorter)) r.to r.ended last (suc block) closed (counts r.after) r.stands after)))))))
 
   reads-blocks : (m : ℕ) (l : List Seat) → length l ≤ m → FromFlow l
   reads-blocks m [] few = λ p b place block ms local here before. subst (at_flow [] p b (with_links ms) local) (ap with_links (sym (append-nil ms))) (flow-end p b (with_links ms) local)

@@ -1,10 +1,9 @@
 -- The machine that goes back reads the first line as data, and all the rest as data, with a look in between that fails.
 use Rattle.mdconstructs_machines.proofs.BlockReads.Accounts.{lines-are-all}
 use Rattle.mdconstructs_machines.proofs.LineReads.Events.{joined-first}
-use Rattle.mdconstructs_machines.proofs.Prelude.{◌≡◌, ℕ, ◌+◌, ◌∷◌, ◌++◌, [], List, Bool, true, false, cond, refl, sym, ◌∙◌, ap, subst, Some, None, drop, take, slice_get, drop-next, Event, Enter, Exit, Data, Point, Name, Next, Retry, TextStart, TextBefore, DataStart, DataInside, StringStart, DataAtBreak, StringBefore, Seat, end_after, Check, Byte, End, with_local, Given, Text, Configuration, Local, Choice, Step, Sight, byte_of, point_or, end_place, whole_text, class_of, back_rules, text_start_rows, text_before_rows, data_start_rows, data_inside_rows, string_start_rows, data_at_break_rows, string_before_rows, is_line_ending, joined, lines_in, all_of, back_events, IsReadAs, event, leaf, line_ending, other, line_byte, counts}
-use Rattle.markdown_base.specs.declared.event.Name.{Name as EventName}
+use Rattle.mdconstructs_machines.proofs.Prelude.{◌≡◌, ℕ, ◌+◌, ◌∷◌, ◌++◌, [], List, Bool, true, false, cond, refl, sym, ◌∙◌, ap, subst, Some, None, drop, take, slice_get, drop-next, Event, Enter, Exit, Data, Point, Name, Next, Retry, TextStart, TextBefore, DataStart, DataInside, StringStart, DataAtBreak, StringBefore, Seat, end_after, Check, Byte, End, with_local, Given, Text, Configuration, Local, Choice, Step, Sight, byte_of, point_or, end_place, whole_text, class_of, back_rules, text_start_rows, text_before_rows, data_start_rows, data_inside_rows, string_start_rows, data_at_break_rows, string_before_rows, is_line_ending, joined, lines_in, all_of, back_events, IsReadAs, event, leaf, line_ending, other, line_byte, counts, EventName}
 use Rattle.mdconstructs_machines.proofs.LineReads.Looks.{FailsTo, goes-back, shows-events, place-behind}
-use Rattle.mdconstructs_machines.proofs.LineReads.Rows.{leads-row, waits_class, is-class}
+use Rattle.mdconstructs_machines.proofs.LineReads.Rows.{leads-row, waits_class, is-class, byte-class}
 use Rattle.mdconstructs_machines.proofs.LineReads.Steps.{EndsWith, held, shows, ended, goes-next, reads-from, at-front}
 
 -- the first line, and all the rest
@@ -64,10 +63,6 @@ module _ (g : Given) (text : Text) where
   abbrev exited : List Event → Point → List Event
   exited events place = events ++ event g.bytes Exit Data place ∷ []
 
-  -- the class of the byte that waits
-  any-class : (p : ℕ) (s : Seat) → slice_get text.seats p ≡ Some s → class_of line_byte (byte_of (slice_get text.seats p)) ≡ Some (line_byte s.byte)
-  any-class p s at = ap (λ o. class_of line_byte (byte_of o)) at
-
   -- in all the rest
   in-rest : (l : List Seat) (p : ℕ) (b : Bool) (events : List Event) (local : Local Unit Unit) → drop p text.seats ≡ l
       → EndsWith g text step (shows l in_data p b events local) [] (Retry StringBefore) (exited events (end_after (end_place text p) l))
@@ -80,7 +75,7 @@ module _ (g : Given) (text : Text) where
       let es = exited events (end_after (end_place text (p + 1)) ss) in
       let same : es ≡ exited events (end_after s.end ss) = ap (λ q. exited events (end_after q ss)) (place-behind text p s at) in
       subst (EndsWith g text step (at_byte p b events local) [] (Retry StringBefore)) same
-      (leads-row g text step StringBefore string_before_rows (λ k. refl) (at_byte p b events local) [] (Some (line_byte s.byte)) (any-class p s at) es
+      (leads-row g text step StringBefore string_before_rows (λ k. refl) (at_byte p b events local) [] (Some (line_byte s.byte)) (byte-class g text p s at) es
       (goes-next g text step ss in_data (p + 1) false events (counts local) [] StringBefore next es (in-rest ss (p + 1) false events (counts local) next)))
 
   -- the look fails, wherever it ends
@@ -118,12 +113,12 @@ module _ (g : Given) (text : Text) where
       let enter = event g.bytes Enter Data s.point in
       let es = begun ∷ exit ∷ enter ∷ [] in
       let all = exited es (end_after (end_place text p) (s ∷ ss)) in
-      leads-row g text step DataStart data_start_rows (λ k. refl) (at_byte p b (begun ∷ []) local) [] (Some (line_byte s.byte)) (any-class p s at) all
+      leads-row g text step DataStart data_start_rows (λ k. refl) (at_byte p b (begun ∷ []) local) [] (Some (line_byte s.byte)) (byte-class g text p s at) all
       (looks (s ∷ ss) p b (begun ∷ []) (counts local) _ all here
       (goes-back g text step Check (Next DataAtBreak) DataAtBreak p b 1 in_data [] (begun ∷ []) all
       (λ local.
       goes-next g text step (s ∷ ss) in_data p b (begun ∷ []) local [] DataAtBreak here all
-      (leads-row g text step DataAtBreak data_at_break_rows (λ k. refl) (at_byte p b (begun ∷ []) local) [] (Some (line_byte s.byte)) (any-class p s at) all
+      (leads-row g text step DataAtBreak data_at_break_rows (λ k. refl) (at_byte p b (begun ∷ []) local) [] (Some (line_byte s.byte)) (byte-class g text p s at) all
       (subst (λ o. EndsWith g text step (at_byte p b (begun ∷ exit ∷ event g.bytes Enter Data (point_or text.end o) ∷ []) (counts local)) [] (Retry StringBefore) all) (sym at)
       (in-rest (s ∷ ss) p b es (counts local) here))))))
 
@@ -165,7 +160,7 @@ module _ (g : Given) (text : Text) where
       let k = held [] 0 Byte false [] local in
       let all = event g.bytes Enter Data s.point ∷ in_first g.bytes (end_place text 0) (s ∷ ss) in
       subst (EndsWith g text step k [] (Retry TextStart)) (begins-first g.bytes (end_place text 0) s ss)
-      (leads-row g text step TextStart text_start_rows (λ k. refl) k [] (Some (line_byte s.byte)) (any-class 0 s at) all
+      (leads-row g text step TextStart text_start_rows (λ k. refl) k [] (Some (line_byte s.byte)) (byte-class g text 0 s at) all
       (subst (λ o. EndsWith g text step (at_byte 0 false (event g.bytes Enter Data (point_or text.end o) ∷ []) (counts local)) [] (Retry TextBefore) all) (sym at)
       (in-first (s ∷ ss) 0 false (event g.bytes Enter Data s.point) (counts local) here)))
 

@@ -3,7 +3,7 @@ use Rattle.mdconstructs_machines.proofs.Prelude.{◌≡◌, ℕ, ◌+◌, ◌∷
 use Rattle.mdconstructs_machines.specs.Deep.{string_start_rows, string_before_rows}
 use Rattle.mdconstructs_machines.proofs.LineReads.Data.{ReadsData, data-read}
 use Rattle.mdconstructs_machines.proofs.LineReads.Looks.{Passes, FailsAtEnd, FailsTo, goes-back, looks-on, seat-behind}
-use Rattle.mdconstructs_machines.proofs.LineReads.Rows.{HasRows, leads-row, row_step, waits_class}
+use Rattle.mdconstructs_machines.proofs.LineReads.Rows.{HasRows, leads-row, row_step, waits_class, byte-class}
 use Rattle.mdconstructs_machines.proofs.LineReads.Steps.{EndsWith, held, shows, ended, goes-next, reads-from, leads-step, at-front}
 
 module _ (g : Given) (text : Text) where
@@ -18,17 +18,10 @@ module _ (g : Given) (text : Text) where
 
   passes : Passes g text step StringBefore []
   passes p b events local cs s at es h =
-      leads-row g text step StringBefore string_before_rows (λ k. refl) (held [] p Byte b events local) cs (Some (line_byte s.byte)) (ap (λ o. class_of line_byte (byte_of o)) at) es h
+      leads-row g text step StringBefore string_before_rows (λ k. refl) (held [] p Byte b events local) cs (Some (line_byte s.byte)) (byte-class g text p s at) es h
 
   fails : FailsAtEnd g text step StringBefore []
   fails p events local cs es h = leads-row g text step StringBefore string_before_rows (λ k. refl) (held [] p End true events local) cs None refl es h
-
-  -- the class of the byte at a position, and of the one before
-  class-at : (p : ℕ) (s : Seat) → slice_get text.seats p ≡ Some s → class_of line_byte (byte_of (slice_get text.seats p)) ≡ Some (line_byte s.byte)
-  class-at p s at = ap (λ o. class_of line_byte (byte_of o)) at
-
-  class-before : (p : ℕ) (r : Seat) → seat_before text p ≡ Some r → class_of line_byte (byte_of (seat_before text p)) ≡ Some (line_byte r.byte)
-  class-before p r behind = ap (λ o. class_of line_byte (byte_of o)) behind
 
   -- from a byte on that is not the first, whatever waits
   tries : (l : List Seat) (p : ℕ) (b : Bool) (local : Local Unit Unit) (r : Seat) → drop p text.seats ≡ l → seat_before text p ≡ Some r
@@ -36,15 +29,15 @@ module _ (g : Given) (text : Text) where
   tries [] p b local r here behind cs all back =
       let k = held [] p End true [] local in
       leads-step g text step k cs StringStart (row_step g text k (string_start_rows (Some (line_byte r.byte)) None))
-      (start-rows k ∙ ap (λ c. row_step g text k (string_start_rows c None)) (class-before p r behind)) all
+      (start-rows k ∙ ap (λ c. row_step g text k (string_start_rows c None)) (ap (λ o. class_of line_byte (byte_of o)) behind)) all
       (back (held [] p End true [] (counts local)) refl)
   tries (s ∷ ss) p b local r here behind cs all back =
       let k = held [] p Byte b [] local in
       let at = at-front text.seats p s ss here in
       let next = drop-next text.seats p s ss here in
       leads-step g text step k cs StringStart (row_step g text k (string_start_rows (Some (line_byte r.byte)) (Some (line_byte s.byte))))
-      (start-rows k ∙ ap (λ c. row_step g text k (string_start_rows c (waits_class g text k))) (class-before p r behind)
-      ∙ ap (λ c. row_step g text k (string_start_rows (Some (line_byte r.byte)) c)) (class-at p s at)) all
+      (start-rows k ∙ ap (λ c. row_step g text k (string_start_rows c (waits_class g text k))) (ap (λ o. class_of line_byte (byte_of o)) behind)
+      ∙ ap (λ c. row_step g text k (string_start_rows (Some (line_byte r.byte)) c)) (byte-class g text p s at)) all
       (goes-next g text step ss [] (p + 1) false [] (counts local) _ StringStart next all
       (tries ss (p + 1) false (counts local) s next (seat-behind text p s at) _ all
       (goes-back g text step Attempt (Next StringBefore) StringBefore p b 0 [] cs [] all
@@ -61,7 +54,7 @@ module _ (g : Given) (text : Text) where
       let at = at-front text.seats 0 s ss here in
       let next = drop-next text.seats 0 s ss here in
       leads-step g text step k [] StringStart (row_step g text k (string_start_rows None (Some (line_byte s.byte))))
-      (start-rows k ∙ ap (λ c. row_step g text k (string_start_rows None c)) (class-at 0 s at)) all
+      (start-rows k ∙ ap (λ c. row_step g text k (string_start_rows None c)) (byte-class g text 0 s at)) all
       (goes-next g text step ss [] (0 + 1) false [] (counts local) _ StringStart next all
       (tries ss (0 + 1) false (counts local) s next (seat-behind text 0 s at) _ all
       (goes-back g text step Attempt (Next DataStart) DataStart 0 false 0 [] [] [] all

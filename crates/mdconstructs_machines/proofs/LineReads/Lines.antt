@@ -1,6 +1,5 @@
 -- The machine of lines reads each line as a paragraph of data.
-use Rattle.mdconstructs_machines.proofs.Prelude.{◌≡◌, ℕ, ◌+◌, ◌∷◌, ◌++◌, [], List, true, false, refl, sym, ◌∙◌, ap, subst, Some, None, slice_get, Event, Enter, Exit, Paragraph, Data, LineEnding, Point, Name, Next, Retry, Ok, FlowStart, ParagraphInside, Seat, Nothing, Byte, End, Given, Text, Configuration, Step, Sight, point_or, whole_text, line_events, lines_rules, paragraph_inside_rows, IsReadAs, event, span, leaf, line_ending, other, counts}
-use Rattle.markdown_base.specs.declared.event.Name.{Name as EventName}
+use Rattle.mdconstructs_machines.proofs.Prelude.{◌≡◌, ℕ, ◌+◌, ◌∷◌, ◌++◌, [], List, true, false, refl, sym, ◌∙◌, ap, subst, Some, None, slice_get, Event, Enter, Exit, Paragraph, Data, LineEnding, Point, Name, Next, Retry, Ok, FlowStart, ParagraphInside, Seat, Nothing, Byte, End, Given, Text, Configuration, Step, Sight, point_or, whole_text, line_events, lines_rules, paragraph_inside_rows, IsReadAs, event, span, leaf, line_ending, other, counts, EventName}
 use Rattle.mdconstructs_machines.specs.Lines.{flow_start_rows}
 use Rattle.mdconstructs_machines.proofs.LineReads.Events.{IsWritten}
 use Rattle.mdconstructs_machines.proofs.LineReads.Reads.{ReadsLines, from-start}

@@ -1,6 +1,5 @@
 -- Looks that fail: a state passes bytes, and what was saved is put back.
-use Rattle.mdconstructs_machines.proofs.Prelude.{◌≡◌, ℕ, suc, ◌+◌, ◌∷◌, [], List, Bool, true, false, refl, sym, ◌∙◌, ap, subst, Some, arith, drop, take, slice_get, drop-next, Event, Name, State, Next, Retry, Nok, Seat, AttemptKind, Attempt, Check, Nothing, Byte, End, Given, Text, Configuration, Local, Choice, Saved, Step, Sight, end_place, end_or, seat_before, counts}
-use Rattle.markdown_base.specs.declared.event.Name.{Name as EventName}
+use Rattle.mdconstructs_machines.proofs.Prelude.{◌≡◌, ℕ, suc, ◌+◌, ◌∷◌, [], List, Bool, true, false, refl, sym, ◌∙◌, ap, subst, Some, arith, drop, take, slice_get, drop-next, Event, Name, State, Next, Retry, Nok, Seat, AttemptKind, Attempt, Check, Nothing, Byte, End, Given, Text, Configuration, Local, Choice, Saved, Step, Sight, end_place, end_or, seat_before, counts, EventName}
 use Rattle.mdconstructs_machines.proofs.LineReads.Steps.{EndsWith, Leads, held, shows, goes-next, leads-nok, at-front}
 
 -- one byte on, that byte is the one before

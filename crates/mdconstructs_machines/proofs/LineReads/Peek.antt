@@ -3,7 +3,7 @@ use Rattle.mdconstructs_machines.proofs.Prelude.{◌≡◌, ◌∷◌, [], List,
 use Rattle.mdconstructs_machines.specs.Peek.{text_start_rows, text_before_rows}
 use Rattle.mdconstructs_machines.proofs.LineReads.Data.{ReadsData, data-read}
 use Rattle.mdconstructs_machines.proofs.LineReads.Looks.{Passes, FailsAtEnd, goes-back, looks-on}
-use Rattle.mdconstructs_machines.proofs.LineReads.Rows.{leads-row, waits_class}
+use Rattle.mdconstructs_machines.proofs.LineReads.Rows.{leads-row, waits_class, byte-class}
 use Rattle.mdconstructs_machines.proofs.LineReads.Steps.{EndsWith, held, shows, reads-from}
 
 module _ (g : Given) (text : Text) where
@@ -15,7 +15,7 @@ module _ (g : Given) (text : Text) where
 
   passes : Passes g text step TextBefore []
   passes p b events local cs s at es h =
-      leads-row g text step TextBefore text_before_rows (λ k. refl) (held [] p Byte b events local) cs (Some (line_byte s.byte)) (ap (λ o. class_of line_byte (byte_of o)) at) es h
+      leads-row g text step TextBefore text_before_rows (λ k. refl) (held [] p Byte b events local) cs (Some (line_byte s.byte)) (byte-class g text p s at) es h
 
   fails : FailsAtEnd g text step TextBefore []
   fails p events local cs es h = leads-row g text step TextBefore text_before_rows (λ k. refl) (held [] p End true events local) cs None refl es h

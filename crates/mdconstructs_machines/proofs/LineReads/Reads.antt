@@ -1,6 +1,5 @@
 -- A machine that reads each line with two states: the events that it makes from there on.
-use Rattle.mdconstructs_machines.proofs.Prelude.{◌≡◌, ℕ, ◌+◌, ◌∷◌, ◌++◌, [], List, Bool, true, false, refl, sym, ◌∙◌, ap, subst, Some, drop, slice_get, append_assoc, append-nil, drop-next, Event, LineEnding, Point, Name, Next, Retry, Ok, Seat, Nothing, Byte, End, Given, Text, Configuration, Local, Step, Sight, end_place, is_line_ending, lines_in, leaf, counts}
-use Rattle.markdown_base.specs.declared.event.Name.{Name as EventName}
+use Rattle.mdconstructs_machines.proofs.Prelude.{◌≡◌, ℕ, ◌+◌, ◌∷◌, ◌++◌, [], List, Bool, true, false, refl, sym, ◌∙◌, ap, subst, Some, drop, slice_get, append_assoc, append-nil, drop-next, Event, LineEnding, Point, Name, Next, Retry, Ok, Seat, Nothing, Byte, End, Given, Text, Configuration, Local, Step, Sight, end_place, is_line_ending, lines_in, leaf, counts, EventName}
 use Rattle.mdconstructs_machines.proofs.LineReads.Events.{IsWritten, of_lines, rest_of, at-ending, rest-ending, at-other, rest-other}
 use Rattle.mdconstructs_machines.proofs.LineReads.Looks.{place-behind}
 use Rattle.mdconstructs_machines.proofs.LineReads.Steps.{EndsWith, Leads, ended, held, shows, goes-next, at-front}

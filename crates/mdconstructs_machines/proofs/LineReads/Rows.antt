@@ -1,11 +1,10 @@
 -- How a machine of a table of lines reads on, by the row of what waits.
-use Rattle.mdconstructs_machines.proofs.Prelude.{◌≡◌, ℕ, ◌∷◌, ◌++◌, [], List, Bool, cond, refl, ◌∙◌, ap, Option, Some, slice_get, Event, Enter, Exit, LineEnding, Name, Retry, Seat, Given, Text, with_local, Configuration, Choice, Step, Sight, sight, byte_of, point_or, end_or, Rows, class_of, picked, step_of, is_line_ending, event, leaf, LineByte, line_ending, other, line_byte, counts}
+use Rattle.mdconstructs_machines.proofs.Prelude.{◌≡◌, ℕ, ◌∷◌, ◌++◌, [], List, Bool, cond, refl, ◌∙◌, ap, Option, Some, slice_get, Event, Enter, Exit, LineEnding, Name, Retry, Seat, Given, Text, with_local, Configuration, Choice, Step, Sight, sight, byte_of, point_or, end_or, Rows, class_of, picked, step_of, is_line_ending, event, leaf, LineByte, line_ending, other, line_byte, counts, append_assoc}
 use Rattle.mdconstructs_machines.proofs.LineReads.Steps.{EndsWith, leads-step}
 
 -- two events more
 pub two : (es : List Event) (a b : Event) → (es ++ a ∷ []) ++ b ∷ [] ≡ es ++ a ∷ b ∷ []
-two [] a b = refl
-two (x ∷ es) a b = ap (λ l. x ∷ l) (two es a b)
+two es a b = append_assoc es (a ∷ []) (b ∷ [])
 
 module _ (g : Given) (text : Text) where
   -- the class of what waits
@@ -25,6 +24,9 @@ module _ (g : Given) (text : Text) where
 
   pub is-class : (p : ℕ) (s : Seat) (b : Bool) → slice_get text.seats p ≡ Some s → is_line_ending s ≡ b → class_here p ≡ Some (cond b line_ending other)
   is-class p s b at e = ap (λ o. class_of line_byte (byte_of o)) at ∙ ap (λ b. Some (cond b line_ending other)) e
+
+  pub byte-class : (p : ℕ) (s : Seat) → slice_get text.seats p ≡ Some s → class_here p ≡ Some (line_byte s.byte)
+  byte-class p s at = ap (λ o. class_of line_byte (byte_of o)) at
 
   -- a line ending, as it is entered, consumed and exited
   pub line-ending-read : (events : List Event) (p : ℕ) (s : Seat) → slice_get text.seats p ≡ Some s

@@ -1,6 +1,5 @@
 -- How a machine reads on, in small steps: to come to these events it is enough to come to them from further on.
-use Rattle.mdconstructs_machines.proofs.Prelude.{◌≡◌, ℕ, zero, suc, ◌+◌, ◌-◌, ◌≤◌, ◌∷◌, ◌++◌, [], List, Bool, true, false, cond, Some, refl, sym, ◌∙◌, ap, subst, arith, length, drop, slice_get, lt-ltb, le-ltb, length-drop, slice_get_within, Event, Name, State, Next, Retry, Ok, Nok, Seat, virtual, Waits, Nothing, Byte, End, Given, Text, Configuration, Local, Choice, Step, start_configuration, Sight, sight, Reading, EndsIn, fed, settled_at, Rules, whole_text, called-ends, fed-ends, settled-nok-ends, one-end, IsReadAs}
-use Rattle.markdown_base.specs.declared.event.Name.{Name as EventName}
+use Rattle.mdconstructs_machines.proofs.Prelude.{◌≡◌, ℕ, zero, suc, ◌+◌, ◌-◌, ◌≤◌, ◌∷◌, ◌++◌, [], List, Bool, true, false, cond, Some, refl, sym, ◌∙◌, ap, subst, arith, length, drop, slice_get, lt-ltb, le-ltb, length-drop, slice_get_within, Event, Name, State, Next, Retry, Ok, Nok, Seat, virtual, Waits, Nothing, Byte, End, Given, Text, Configuration, Local, Choice, Step, start_configuration, Sight, sight, Reading, EndsIn, fed, settled_at, Rules, whole_text, called-ends, fed-ends, settled-nok-ends, one-end, IsReadAs, EventName}
 
 -- the element at a position
 pub at-front : {X : Type 0} (xs : List X) (p : ℕ) (x : X) (rest : List X) → drop p xs ≡ x ∷ rest → slice_get xs p ≡ Some x
