@@ -1,5 +1,5 @@
 -- The calls of a machine whose table passes the test are paid for.
-use Rattle.mdconstructs_tables.proofs.Prelude.{◌≡◌, ℕ, ◌+◌, ◌-◌, ◌<◌, ◌≤◌, ◌&&◌, List, [], ◌∷◌, Bool, true, false, Option, Some, None, length, refl, sym, subst, arith, sum_by, nat_lt, max, not, IfSome, last_or, mul-le-mul_left, mul-le-mul_right, leb-true, ltb-true, ltb-false, and_parts, slice_get_past, sum_by-cons, Event, Name, State, Next, Retry, Ok, Nok, Error, AttemptKind, Attempt, Check, Given, Text, IsText, Configuration, Choice, Saved, Sight, sight, byte_of, consumed, with_local, fed, unfed, restored, settled_at, IsAsFar, CostPays, Act, consume, choose, Rows, row, when, Row, Calls, StateRows, Table, past, class_of, choice_made_at, done, chooses, picked, named, table_step, is_void_last, saves, Stage, end_waits, byte_waits, byte_read, Shape, Frame, may_go_on, fits_choice, fits_answer, fits_calls, is_some, first_stage, plus, larger, at_stage, calls_le, calls_or, fed_calls, next_calls, choice_calls, chosen_calls, answer_calls, calls_at, is_counted, counts_answer, counts_choice, counts_choices, pays_row, feeds, all_rows, is_called_at, is_called, outline, IsSaved, price_by, at_most, IsStateAt, next_price, retry_price, state_price, choice_price, chosen_price, answer_price, row_price, AreWithin, Stands, is_read, behind, class_at, PaysRows, ArePaid, table_holds, table_cost, reserve_of, table_rules, upto, exit_place_at, fresh_fed, falls_on, CanGoBack, Falls, AllFall, IsFitBy, IsFit, every, cond_both, EventName}
+use Rattle.mdconstructs_tables.proofs.Prelude.{◌≡◌, ℕ, ◌+◌, ◌-◌, ◌<◌, ◌≤◌, ◌&&◌, List, [], ◌∷◌, Bool, true, false, Option, Some, None, length, refl, sym, subst, arith, sum_by, nat_lt, max, not, IfSome, last_or, mul-le-mul_left, mul-le-mul_right, leb-true, ltb-true, ltb-false, and_parts, slice_get_past, sum_by-cons, Event, Name, State, Next, Retry, Ok, Nok, AttemptKind, Attempt, Check, Given, Text, IsText, Configuration, Choice, Saved, Sight, sight, byte_of, consumed, with_local, fed, unfed, restored, settled_at, IsAsFar, CostPays, Act, consume, choose, Rows, row, when, Row, Calls, StateRows, Table, past, class_of, choice_made_at, done, chooses, picked, named, table_step, is_void_last, saves, Stage, end_waits, byte_waits, byte_read, Shape, Frame, may_go_on, fits_choice, fits_answer, fits_calls, is_some, first_stage, plus, larger, at_stage, calls_le, calls_or, fed_calls, next_calls, choice_calls, chosen_calls, answer_calls, calls_at, is_counted, counts_answer, counts_choice, counts_choices, pays_row, feeds, all_rows, is_called_at, is_called, outline, IsSaved, price_by, at_most, IsStateAt, next_price, retry_price, state_price, choice_price, chosen_price, answer_price, row_price, AreWithin, Stands, is_read, behind, class_at, PaysRows, ArePaid, table_holds, table_cost, reserve_of, table_rules, upto, exit_place_at, fresh_fed, falls_on, CanGoBack, Falls, AllFall, IsFitBy, IsFit, every, cond_both, EventName}
 use Rattle.mdconstructs_tables.proofs.Rows.Misfits.{named-same, named-in}
 use Rattle.mdconstructs_tables.proofs.Rows.Laws.{Waited, reached}
 use Rattle.mdconstructs_tables.proofs.GrowingTexts.{seat-at}
