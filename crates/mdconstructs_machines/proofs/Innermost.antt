@@ -1,6 +1,5 @@
 -- Events that account for virtual bytes, with more events in front.
-use Rattle.mdconstructs_machines.proofs.Prelude.{◌≡◌, ℕ, ◌∷◌, ◌++◌, [], List, cond, refl, ◌∙◌, ap, Event, Kind, Enter, Exit, Point, is_enter, shown, Seat, end_after, innermost_spans, ended_next, span_over, AccountFor, leaf}
-use Rattle.markdown_base.specs.declared.event.Name.{Name}
+use Rattle.mdconstructs_machines.proofs.Prelude.{◌≡◌, ℕ, ◌∷◌, ◌++◌, [], List, cond, refl, ◌∙◌, ap, Event, Kind, Enter, Exit, Point, is_enter, shown, Seat, end_after, innermost_spans, ended_next, span_over, AccountFor, leaf, EventName}
 
 module _ (bytes : List ℕ) where
   -- an exit that ends a span around others
@@ -38,6 +37,6 @@ module _ (bytes : List ℕ) where
   }
 
   -- one of a name, if there are virtual bytes
-  pub leaf-more : (name : Name) (l : List Seat) (events : List Event) (seats : List Seat) → AccountFor events bytes seats → AccountFor (leaf bytes name l ++ events) bytes (l ++ seats)
+  pub leaf-more : (name : EventName) (l : List Seat) (events : List Event) (seats : List Seat) → AccountFor events bytes seats → AccountFor (leaf bytes name l ++ events) bytes (l ++ seats)
   leaf-more name [] events seats h = h
   leaf-more name (s ∷ ss) events seats h = span-more _ _ events s ss seats refl refl refl refl h

@@ -1,6 +1,5 @@
 -- Documents, and the events of their lines written out: examples of the definitions, each proved by computing.
-use Rattle.mdconstructs_machines.proofs.Prelude.{◌≡◌, ℕ, ◌+◌, List, [], ◌∷◌, ◌++◌, None, refl, codes, Event, Enter, Exit, Paragraph, Data, LineEnding, point, virtual, data_events, line_events, save_events, back_events}
-use Rattle.markdown_base.specs.declared.event.Name.{Name}
+use Rattle.mdconstructs_machines.proofs.Prelude.{◌≡◌, ℕ, ◌+◌, List, [], ◌∷◌, ◌++◌, None, refl, codes, Event, Enter, Exit, Paragraph, Data, LineEnding, point, virtual, data_events, line_events, save_events, back_events, EventName}
 
 -- the events of a whole document, with tab stops at every four columns
 abbrev lines_of : List ℕ → List Event
@@ -16,10 +15,10 @@ abbrev back_of : List ℕ → List Event
 back_of bytes = back_events bytes (virtual 4 bytes)
 
 -- events at a place of the document: a line, a column and a byte index
-abbrev pub begins : Name → (line column index : ℕ) → Event
+abbrev pub begins : EventName → (line column index : ℕ) → Event
 begins name line column index = record { kind = Enter; name = name; point = point line column index 0; link = None }
 
-abbrev pub ends : Name → (line column index : ℕ) → Event
+abbrev pub ends : EventName → (line column index : ℕ) → Event
 ends name line column index = record { kind = Exit; name = name; point = point line column index 0; link = None }
 
 -- data in a line, by the columns and indices of its start and end, and the paragraph of it

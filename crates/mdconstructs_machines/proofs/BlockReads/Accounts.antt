@@ -1,6 +1,5 @@
 -- What paragraphs are read as accounts for each virtual byte.
-use Rattle.mdconstructs_machines.proofs.Prelude.{◌≡◌, ℕ, suc, ◌==◌, ◌∷◌, ◌++◌, [], List, true, false, cond, refl, sym, ◌∙◌, ap, subst, Option, Some, None, map, flat_map, append_assoc, append-nil, map-append, Event, Enter, Exit, Paragraph, Data, BlankLineEnding, BlockQuoteMarker, FlowStart, Seat, virtual, end_after, Rules, Given, AccountFor, AccountsForDocuments, is_line_ending, joined, lines_in, all_of, Block, blank, paragraph, is_blank, continued, blocks_of, mark_of, chunk_of, Chunk, Marked, marked_span, line_marks, lines_marks, block_marks, blocks_marks, as_linked, paragraph_events, IsReadAs, event}
-use Rattle.markdown_base.specs.declared.event.Name.{Name}
+use Rattle.mdconstructs_machines.proofs.Prelude.{◌≡◌, ℕ, suc, ◌==◌, ◌∷◌, ◌++◌, [], List, true, false, cond, refl, sym, ◌∙◌, ap, subst, Option, Some, None, map, flat_map, append_assoc, append-nil, map-append, Event, Enter, Exit, Paragraph, Data, BlankLineEnding, BlockQuoteMarker, FlowStart, Seat, virtual, end_after, Rules, Given, AccountFor, AccountsForDocuments, is_line_ending, joined, lines_in, all_of, Block, blank, paragraph, is_blank, continued, blocks_of, mark_of, chunk_of, Chunk, Marked, marked_span, line_marks, lines_marks, block_marks, blocks_marks, as_linked, paragraph_events, IsReadAs, event, EventName}
 use Rattle.mdconstructs_machines.proofs.Innermost.{enter-more, exit-more, span-more}
 
 -- lines are all there is
@@ -66,7 +65,7 @@ module _ (bytes : List ℕ) (all : List Marked) where
       (subst (AccountFor (linked xs ++ (linked ys ++ events)) bytes) (sym (append_assoc seats others more)) (h (linked ys ++ events) (others ++ more) (k events more rest)))
 
   -- a span that holds no other
-  leaf-accounts : (o : Option Chunk) (name : Name) (l : List Seat) → Accounts (marked_span bytes o name l []) l
+  leaf-accounts : (o : Option Chunk) (name : EventName) (l : List Seat) → Accounts (marked_span bytes o name l []) l
   leaf-accounts o name [] events more h = h
   leaf-accounts o name (s ∷ ss) events more h = span-more bytes _ _ events s ss more (as-enter (event bytes Enter name s.point) o) refl (as-placed (event bytes Enter name s.point) o) refl h
 

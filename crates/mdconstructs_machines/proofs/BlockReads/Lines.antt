@@ -1,5 +1,5 @@
 -- The lines of a text, one by one, and the blocks that they are in.
-use Rattle.mdconstructs_machines.proofs.Prelude.{◌≡◌, suc, ◌≤◌, ◌∷◌, ◌++◌, [], List, true, false, cond, refl, sym, ◌∙◌, ap, arith, length, append_assoc, Seat, is_line_ending, joined, lines_in, all_of, blank, paragraph, is_blank, continued, blocks_of}
+use Rattle.mdconstructs_machines.proofs.Prelude.{◌≡◌, suc, ◌≤◌, ◌∷◌, [], List, true, false, cond, refl, sym, ◌∙◌, ap, arith, length, Seat, is_line_ending, joined, lines_in, blank, paragraph, is_blank, continued, blocks_of}
 
 -- the line at the front
 abbrev pub first_line : List Seat → List Seat

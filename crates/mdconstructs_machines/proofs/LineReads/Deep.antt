@@ -1,5 +1,5 @@
 -- The machine that tries something at every byte fails each time, and then reads data.
-use Rattle.mdconstructs_machines.proofs.Prelude.{◌≡◌, ℕ, ◌+◌, ◌∷◌, [], List, Bool, true, false, refl, ◌∙◌, ap, Some, None, drop, slice_get, drop-next, Event, Name, Next, Retry, StringStart, StringBefore, DataStart, Seat, Attempt, Byte, End, Given, Text, Configuration, Local, Choice, Step, Sight, byte_of, seat_before, whole_text, class_of, deep_rules, data_events, IsReadAs, line_byte, counts}
+use Rattle.mdconstructs_machines.proofs.Prelude.{◌≡◌, ℕ, ◌+◌, ◌∷◌, [], List, Bool, true, false, refl, ◌∙◌, ap, Some, None, drop, drop-next, Event, Name, Next, Retry, StringStart, StringBefore, DataStart, Seat, Attempt, Byte, End, Given, Text, Configuration, Local, Choice, Step, Sight, byte_of, seat_before, whole_text, class_of, deep_rules, data_events, IsReadAs, line_byte, counts}
 use Rattle.mdconstructs_machines.specs.Deep.{string_start_rows, string_before_rows}
 use Rattle.mdconstructs_machines.proofs.LineReads.Data.{ReadsData, data-read}
 use Rattle.mdconstructs_machines.proofs.LineReads.Looks.{Passes, FailsAtEnd, FailsTo, goes-back, looks-on, seat-behind}

@@ -1,5 +1,5 @@
 -- The machine that peeks looks over the whole text, fails, and then reads data.
-use Rattle.mdconstructs_machines.proofs.Prelude.{◌≡◌, ◌∷◌, [], List, true, false, refl, ap, Some, None, drop, Name, Next, Retry, TextStart, TextBefore, DataStart, Seat, Check, Byte, End, Given, Text, Configuration, Local, Step, Sight, byte_of, whole_text, class_of, data_events, peek_rules, IsReadAs, line_byte, counts}
+use Rattle.mdconstructs_machines.proofs.Prelude.{◌≡◌, ◌∷◌, [], List, true, false, refl, Some, None, drop, Name, Next, Retry, TextStart, TextBefore, DataStart, Seat, Check, Byte, End, Given, Text, Configuration, Local, Step, Sight, whole_text, data_events, peek_rules, IsReadAs, line_byte, counts}
 use Rattle.mdconstructs_machines.specs.Peek.{text_start_rows, text_before_rows}
 use Rattle.mdconstructs_machines.proofs.LineReads.Data.{ReadsData, data-read}
 use Rattle.mdconstructs_machines.proofs.LineReads.Looks.{Passes, FailsAtEnd, goes-back, looks-on}

@@ -1,5 +1,5 @@
 -- How a machine of a table of lines reads on, by the row of what waits.
-use Rattle.mdconstructs_machines.proofs.Prelude.{◌≡◌, ℕ, ◌∷◌, ◌++◌, [], List, Bool, cond, refl, ◌∙◌, ap, Option, Some, slice_get, Event, Enter, Exit, LineEnding, Name, Retry, Seat, Given, Text, with_local, Configuration, Choice, Step, Sight, sight, byte_of, point_or, end_or, Rows, class_of, picked, step_of, is_line_ending, event, leaf, LineByte, line_ending, other, line_byte, counts, append_assoc}
+use Rattle.mdconstructs_machines.proofs.Prelude.{◌≡◌, ℕ, ◌∷◌, ◌++◌, [], List, Bool, cond, ◌∙◌, ap, Option, Some, slice_get, Event, Enter, Exit, LineEnding, Name, Retry, Seat, Given, Text, with_local, Configuration, Choice, Step, Sight, sight, byte_of, point_or, end_or, Rows, class_of, picked, step_of, is_line_ending, event, leaf, LineByte, line_ending, other, line_byte, counts, append_assoc}
 use Rattle.mdconstructs_machines.proofs.LineReads.Steps.{EndsWith, leads-step}
 
 -- two events more
