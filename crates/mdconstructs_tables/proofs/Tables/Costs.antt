@@ -150,13 +150,6 @@ module _ {W R D : Type 0} (table : Table W R D) (g : Given) (late : Bool) where
   picked-within b w text p price (when by one other) s k h =
       cond_both (by g s k) (picked one g s k) (picked other g s k) (λ r. row_price table late b w text p r ≤ price) (λ e. picked-within b w text p price one s k h.0) (λ e. picked-within b w text p price other s k h.1)
 
-  -- what holds for all states, by their calls, holds for the state of a name
-  named-paid : (name : Name) (state : StateRows W R D) → ArePaid table late table.states → named table.states name ≡ Some state → PaysRows table late state state.calls
-  named-paid name state h is = (named-in (ArePaid table late) (λ y. PaysRows table late y y.calls) (λ x xs h. h) table.states name state h is).0
-
-  named-falls : (falling : Name → Bool) (name : Name) (state : StateRows W R D) → AllFall falling table.states → named table.states name ≡ Some state → Falls falling state state.calls
-  named-falls falling name state h is = (named-in (AllFall falling) (λ y. Falls falling y y.calls) (λ x xs h. h) table.states name state h is).0
-
   -- a row of a state is within what the state costs
   row-within : (b w : Option W) (state : StateRows W R D) (s : Sight) (k : Configuration R D) (text : Text) (p : ℕ) → is_some b ≡ is_read p → Stands w text p → class_at table text p ≡ w → is_called_at state.called w ≡ true → PaysRows table late state state.calls
       → fits_calls table.states b w state state.calls ≡ true → row_price table late b w text p (picked (state.rows b w) g s k) ≤ retry_price table b w text p (Some state)
@@ -211,7 +204,7 @@ module _ {W R D : Type 0} (table : Table W R D) (g : Given) (late : Bool) where
         elim state.calls as (λ c. Falls falling state c → price_by c (state.own text q) (λ c. at_most c (length text.seats - q)) ≤ price_by c (state.own text p) (λ c. at_most c (length text.seats - p))) [
           | None ↦ λ falls. falls there text p q h
           | Some c ↦ λ falls. more-most c (length text.seats - q) (length text.seats - p) (omega (arith, h))
-        ] (named-falls falling name state fit.falls is)
+        ] (named-in (AllFall falling) (λ y. Falls falling y y.calls) (λ x xs h. h) table.states name state fit.falls is).0
 
     state-falls : (a : State) (text : Text) (p q : ℕ) → falls_on falling a ≡ true → p ≤ q → state_price table text q a ≤ state_price table text p a
     state-falls (Next name) text p q may h = found-falls name (named table.states name) text p q refl may h
@@ -322,7 +315,8 @@ module _ {W R D : Type 0} (table : Table W R D) (g : Given) (late : Bool) where
         let answer = answer-costs _ b w _ r.answer text k (left_by table g text k c.state) c.fits_it c.shape.far in
         let made = choices-cost r.acts text s k1 [] in
         let seen = waits-at table g k.waiting text k.position k.ended h.1.0 in
-        let within = row-within b w c.state s k1 text k.position (read-before table g text k.position h.0) (stands-at w text k c.met) seen c.called (named-paid name c.state fit.paid c.is) c.fits_calls_too in
+        let paid = (named-in (ArePaid table late) (λ y. PaysRows table late y y.calls) (λ x xs h. h) table.states name c.state fit.paid c.is).0 in
+        let within = row-within b w c.state s k1 text k.position (read-before table g text k.position h.0) (stands-at w text k c.met) seen c.called paid c.fits_calls_too in
         rw c.is (omega (arith, answer, made, within)))
 
     pub feeding-pays : (text : Text) (k : Configuration R D) (choices : List Choice) (name : Name) → table_holds table g text k choices (Next name)

@@ -109,9 +109,6 @@ module _ {W R D : Type 0} (table : Table W R D) (early : Name → Option W → B
       ok = λ text k is h. law.ok text k is h.0;
     }
 
-    fed-behind : (at_last : Bool) (p q : ℕ) (choices : List Choice) → q ≡ p → AreFallingBehind table early falling false p choices → AreFallingBehind table early falling at_last q choices
-    fed-behind at_last p q choices e h = subst (λ n. AreFallingBehind table early falling at_last n choices) (sym e) (may-stay at_last p choices h)
-
     ok-behind : (text : Text) (k : Configuration R D) (choice : Choice) (choices : List Choice) → AreFallingBehind table early falling false k.position (choice ∷ choices)
         → AreFallingBehind table early falling false (settled_at choice.kind choice.saved Ok k).position choices
     ok-behind text k choice choices h = let e = h.2 in let before = h.5 refl in rw e (further (is_early_end choice.nok) h.0.position k.position choices before h.6)
@@ -137,7 +134,7 @@ module _ {W R D : Type 0} (table : Table W R D) (early : Name → Option W → B
       at_starts = λ p flag name is start. (law.at_starts p flag name is start, tt);
       unfed = λ text k choices name is h. law.unfed text k choices name is h.0;
       waits = λ text k choices name is h. law.waits text k choices name is h.0;
-      by_feeding = λ text k choices name is h. (law.by_feeding text k choices name is h.0, fed-behind _ k.position _ choices (fed-position text k) h.1);
+      by_feeding = λ text k choices name is h. (law.by_feeding text k choices name is h.0, may-stay _ _ choices (subst (λ n. AreFallingBehind table early falling false n choices) (sym (fed-position text k)) h.1));
       by_calls = λ text k choices name is h. (law.by_calls text k choices name is h.0, step-behind text k choices name is h);
       by_ok = λ text k choice choices is h. (law.by_ok text k choice choices is h.0, may-stay _ _ choices (ok-behind text k choice choices h.1));
       by_nok = λ text k choice choices is h. (law.by_nok text k choice choices is h.0, end-behind choice.nok _ _ choices (nok-behind text k choice choices h.1));
