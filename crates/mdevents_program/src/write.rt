@@ -12,11 +12,13 @@ use markdown::event::Event;
 use std::io::Write;
 
 /// Writes a line for each event and nothing else, through a buffer of [`SIZE`] bytes. Takes no memory. Returns
-/// `Failure::Write` for any error of the writer, and for a write of 0 bytes; a beginning of the lines was then written.
+/// `Failure::Write` for any error of the writer, and for a write of 0 bytes; a beginning of the lines was then written. No
+/// events need no write.
 pub fn write_lines<W: Write>(writer: &mut W, events: &[Event]) -> Result<(), Failure>
     ensures all { OnOk result (Appends (W.contents writer.old) (W.contents writer.new) (printed_events events.now)) }
     ensures failed { OnErr result ((count : ℕ) × Appends (W.contents writer.old) (W.contents writer.new) (take count (printed_events events.now))) }
     ensures cause { IsOkUnless result Failure.Write }
+    ensures asked { OnErr result (0 < length events.now) }
 {
     let mut lines = Buffer::new();
     let mut last = LastPoint::new();

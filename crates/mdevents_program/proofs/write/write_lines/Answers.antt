@@ -1,4 +1,4 @@
-use Rattle.std.proofs.Common.{◌≡◌, ◌≤◌, ◌++◌, ◌+◌, ◌∷◌, ℕ, List, [], length, take, drop, Option, refl, sym, subst, ◌∙◌, ap, append_assoc, append-nil, take-append-drop}
+use Rattle.std.proofs.Common.{arith, ◌≡◌, ◌<◌, ◌≤◌, ◌++◌, ◌+◌, ◌∷◌, ℕ, List, [], length, take, drop, Option, refl, sym, subst, ◌∙◌, ap, append_assoc, append-nil, length-append, take-append-drop}
 use Rattle.std.specs.Io.KnownBytes.{Appends}
 use Rattle.std.proofs.KnownBytes.{Appends-nil, Appends-trans}
 use Rattle.std.proofs.lemmas.Grind.{flat_map-append}
@@ -41,6 +41,11 @@ module _ (events : List Event) (n : ℕ) (a b c : Option (List ℕ)) (text waite
   whole : length events ≤ n → Appends b c waited → Appends a c (printed_events events)
   whole last second = subst (Appends a c) (e ∙ ap printed_events (take_all n events last)) (Appends-trans a b c text waited first second)
 
+-- if lines wait, they are of some event
+some-event : (events : List Event) (text waited : List ℕ) → text ++ waited ≡ printed_events events → 0 < length waited → 0 < length events
+some-event [] text waited e some = omega (arith, ap length e, length-append text waited, some)
+some-event (event ∷ events) text waited e some = omega arith
+
 pub loop-event-init : goal.loop-event-init
 loop-event-init g c = ([], Appends-nil _, c.new-lines.ensures)
 
@@ -72,3 +77,10 @@ returns-clause-failed g c =
     let (text, first, e) = c.loop-event.invariant in
     let same = ap (λ x. text ++ x) c.as_slice.ensures ∙ e in
     on_err_weaker c.write_all.result (λ (count, second). cut-short c.args.events.now c.loop-event.event-index _ _ _ text _ first same count second) c.write_all.ensures.failed
+
+pub returns-clause-asked : goal.returns-clause-asked
+returns-clause-asked g c =
+    let events = c.args.events.now in
+    let (text, first, e) = c.loop-event.invariant in
+    let all = ap (λ x. text ++ x) c.as_slice.ensures ∙ e ∙ ap printed_events (take_all c.loop-event.event-index events c.loop-event-test.false) in
+    on_err_weaker c.write_all.result (λ some. some-event events text _ all some) c.write_all.ensures.asked
