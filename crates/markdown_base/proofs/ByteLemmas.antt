@@ -1,13 +1,6 @@
 -- Lemmas on the bytes between two places.
-use Rattle.std.proofs.Common.{◌≡◌, ℕ, zero, suc, ◌+◌, ◌-◌, ◌≤◌, inl, inr, min, max, Bool, true, false, List, [], ◌∷◌, length, take, drop, get_or, refl, sym, ap, ◌∙◌, arith, ltb-true, ltb-false, lt-ltb, le-ltb, eqb-true}
-use Rattle.std.specs.Prelude.{◌==◌, ◌&&◌, not, nat_lt, filter, map, slice_index, slice_range}
-use Rattle.std.specs.List.{range_with_len}
-use Rattle.std.proofs.lemmas.Bool.{cases_lt, eqb-false}
+use Rattle.markdown_base.proofs.Prelude.{◌≡◌, ℕ, zero, suc, ◌+◌, ◌-◌, ◌≤◌, inl, inr, min, max, Bool, true, false, List, [], ◌∷◌, length, take, drop, get_or, refl, sym, ap, ◌∙◌, arith, ltb-true, ltb-false, lt-ltb, le-ltb, eqb-true, ◌==◌, ◌&&◌, not, nat_lt, filter, map, slice_index, slice_range, range_with_len, cases_lt, eqb-false, Point, stands_before, lies_between, byte_place, bytes_between, first_byte}
 use Rattle.std.proofs.Math.Seq.{drop-cons}
-use Rattle.markdown_base.specs.declared.event.Point.{Point}
-use Rattle.markdown_base.specs.Places.{stands_before, lies_between}
-use Rattle.markdown_base.specs.Slices.{byte_place, bytes_between}
-use Rattle.markdown_base.specs.SlicesInner.{first_byte}
 
 -- the bytes before a place are the bytes before the first one that is not before it
 before_first : (p : Point) (index : ℕ) → stands_before (byte_place index) p ≡ nat_lt index (first_byte p)

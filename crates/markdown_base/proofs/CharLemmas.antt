@@ -1,18 +1,7 @@
 -- Lemmas on the characters of a part of a text, and on how a code point is shown.
-use Rattle.std.proofs.Common.{◌≡◌, ℕ, zero, suc, ◌+◌, ◌-◌, ◌<◌, ◌≤◌, ◌^◌, Bool, true, false, List, [], ◌∷◌, ◌++◌, length, take, drop, get_or, refl, sym, ap, ◌∙◌, arith, subst, rules, tests, drop-cons, lt-ltb}
-use Rattle.std.specs.Prelude.{Option, Some, None, slice_get, nat_lt, IsUtf8, IsCharBoundary, replicate, codes, String, string_bytes, Result, Ok, Err, IfOk, IfSome, option_map}
-use Rattle.std.specs.List.{last_or}
-use Rattle.std.specs.Fmt.{digits, padded_integral, format_spec, char_count, digits_output, styled_digits_output, option_append}
-use Rattle.markdown_base.specs.CharTexts.{code_point}
-use Rattle.std.proofs.lemmas.Str.{IsCharBoundary-start, IsUtf8-between, IsUtf8-take, chars-append, chars-nil, encodes-chars, IsCharBoundary-after_ascii}
-use Rattle.std.proofs.lemmas.Bool.{false≢true}
-use Rattle.std.specs.Str.{encode_utf8_all, chars}
-use Rattle.std.proofs.Math.Seq.{take-add, drop-length}
-use native.Mathlib.Numerals.{unary_clauses}
-use Rattle.std.proofs.lemmas.List.{take-append-drop, drop-drop, length-take, length-drop, append-nil}
-use Rattle.markdown_base.specs.Classes.{char_before, char_after, IsClassOfOpt}
-use Rattle.std.specs.Char.{is_ascii_whitespace, is_whitespace, is_ascii_punctuation}
-use Rattle.markdown_base.specs.declared.util.char.Kind.TheVariants.{Whitespace, Punctuation}
+use Rattle.markdown_base.proofs.Prelude.{◌≡◌, ℕ, zero, suc, ◌+◌, ◌-◌, ◌<◌, ◌≤◌, ◌^◌, Bool, true, false, List, [], ◌∷◌, ◌++◌, length, take, drop, get_or, refl, sym, ap, ◌∙◌, arith, subst, rules, tests, drop-cons, lt-ltb, Option, Some, None, slice_get, nat_lt, IsUtf8, IsCharBoundary, replicate, codes, String, string_bytes, Result, Ok, Err, IfOk, IfSome, option_map, last_or, digits, format_spec, digits_output, styled_digits_output, option_append, code_point, IsCharBoundary-start, IsUtf8-between, IsUtf8-take, chars-append, chars-nil, encodes-chars, IsCharBoundary-after_ascii, false≢true, encode_utf8_all, take-add, drop-length, unary_clauses, take-append-drop, drop-drop, length-take, length-drop, append-nil, char_before, char_after, IsClassOfOpt, is_ascii_whitespace, is_whitespace, is_ascii_punctuation, Whitespace, Punctuation}
+use Rattle.std.specs.Fmt.{padded_integral, char_count}
+use Rattle.std.specs.Str.{chars}
 
 -- a byte that goes on with a character is not the first
 pub some_before : (bs : List ℕ) (i : ℕ) → IsUtf8 bs → i < length bs → 128 ≤ get_or bs i 0 → get_or bs i 0 < 192 → 1 ≤ i

@@ -1,17 +1,5 @@
 -- Lemmas on tabs that a place cuts: how many of their virtual bytes lie between two places.
-use Rattle.std.proofs.Common.{◌≡◌, ◌≢◌, ℕ, zero, suc, ◌+◌, ◌-◌, ◌*◌, ◌/◌, ◌%◌, ◌<◌, ◌≤◌, ◌⊎◌, inl, inr, min, max, Bool, true, false, List, [], ◌∷◌, ◌++◌, length, drop, get_or, refl, sym, ap, ◌∙◌, arith, subst, leb-true, leb-false, ltb-true, ltb-false, lt-ltb, eq-eqb, ne_eqb, le-ltb}
-use Rattle.std.specs.Prelude.{◌==◌, ◌&&◌, not, nat_lt, nat_le, filter}
-use Rattle.std.specs.List.{AllByRecursion}
-use Rattle.std.proofs.lemmas.Bool.{false≢true, cases_lt}
-use Rattle.std.proofs.Math.Bool.{and-false}
-use Rattle.std.proofs.lemmas.Nat.{mod-mul-add, div-add-mod'}
-use Rattle.std.proofs.lemmas.List.Elements.{filter-append}
-use Rattle.std.proofs.lemmas.List.{append-nil}
-use Rattle.markdown_base.specs.declared.event.Point.{Point}
-use Rattle.markdown_base.specs.Virtual.{Seat, point, tab_width, end_in_tab, in_tab, begins_with_lf, virtual_from, virtual}
-use Rattle.markdown_base.specs.Places.{stands_before, in_range, IsPointOf}
-use Rattle.markdown_base.specs.Slices.{spaces_between, spaces_before, spaces_after}
-use Rattle.markdown_base.specs.SlicesInner.{first_byte}
+use Rattle.markdown_base.proofs.Prelude.{◌≡◌, ◌≢◌, ℕ, zero, suc, ◌+◌, ◌-◌, ◌*◌, ◌/◌, ◌%◌, ◌<◌, ◌≤◌, ◌⊎◌, inl, inr, min, max, Bool, true, false, List, [], ◌∷◌, ◌++◌, length, drop, get_or, refl, sym, ap, ◌∙◌, arith, subst, leb-true, leb-false, ltb-true, ltb-false, lt-ltb, eq-eqb, ne_eqb, le-ltb, ◌==◌, ◌&&◌, not, nat_lt, nat_le, filter, AllByRecursion, false≢true, cases_lt, and-false, mod-mul-add, div-add-mod', filter-append, append-nil, Point, Seat, point, tab_width, end_in_tab, in_tab, begins_with_lf, virtual_from, virtual, stands_before, in_range, IsPointOf, spaces_between, spaces_before, spaces_after, first_byte}
 use Rattle.markdown_base.proofs.Common.{every-append, every-map, filter-none}
 use Rattle.markdown_base.proofs.Scans.{IsReached, IsSeatPlace, IsPlace, IsOfTab, of_tab, place-of, byte_here}
 

@@ -1,13 +1,7 @@
 -- Lemmas on the equality of events.
-use Rattle.std.proofs.Common.{◌≡◌, ◌↔◌, Bool, true, false, ◌&&◌, refl, ap, ◌∙◌, subst, eqb-true, eq-eqb}
-use Rattle.std.specs.Prelude.{Option, Some, None, nat_eq}
-use Rattle.std.specs.Option.{option_eq}
-use Rattle.std.proofs.lemmas.Bool.{false≢true}
-use denote.Enum.Bare.{sameb, same_true, true_same}
+use Rattle.markdown_base.proofs.Prelude.{◌≡◌, ◌↔◌, Bool, true, false, ◌&&◌, refl, ap, ◌∙◌, subst, eqb-true, eq-eqb, Option, Some, None, nat_eq, option_eq, false≢true, sameb, same_true, true_same, Event, Link}
 use Rattle.markdown_base.specs.contracts.event.Kind.{the_type as kinds}
 use Rattle.markdown_base.specs.contracts.event.Name.{the_type as names}
-use Rattle.markdown_base.specs.declared.event.Event.{Event}
-use Rattle.markdown_base.specs.declared.event.Link.{Link}
 
 -- a conjunction of seven, as the derive nests them
 abbrev all_seven : (k n l c i v o : Bool) → Bool

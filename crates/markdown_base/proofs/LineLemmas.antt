@@ -1,15 +1,6 @@
 -- Lemmas on lines: lists of indices that pass a test, how many are not above a number, and the greatest of these.
-use Rattle.std.proofs.Common.{◌≡◌, ℕ, zero, suc, ◌+◌, ◌-◌, ◌<◌, ◌≤◌, ◌^◌, Bool, true, false, cond, leb, List, [], ◌∷◌, ◌++◌, length, take, drop, get_or, refl, sym, ap, ◌∙◌, arith, add-one, append-nil, drop-cons, max, nat_le, subst, leb-false, leb-true, le-leb}
-use native.Mathlib.Numerals.{unary_clauses}
-use Rattle.std.specs.Prelude.{filter, fold, take_while, Option, Some, slice_index}
-use Rattle.std.specs.List.{range_with_len, last_or, AllWithin, prefix_len}
-use Rattle.std.specs.List.Sorted.{IsNonDecreasingBy, IsPartitionPoint}
-use Rattle.std.proofs.Math.Nat.{max-eq_right}
-use Rattle.std.proofs.lemmas.List.{map-id, get_or-take, length-take, length-take-le}
-use Rattle.std.proofs.lemmas.List.FromFn.{filter_of_map_range_with_len_more, get_or-range_with_len, length-range_with_len}
-use Rattle.std.proofs.lemmas.List.Sorted.{IsNonDecreasingBy-take}
-use Rattle.std.proofs.lemmas.List.Kept.{IsNonDecreasingBy-filter}
-use Rattle.markdown_base.specs.Lines.{is_line_start, IsKept, greatest, point_in}
+use Rattle.markdown_base.proofs.Prelude.{◌≡◌, ℕ, zero, suc, ◌+◌, ◌-◌, ◌<◌, ◌≤◌, ◌^◌, Bool, true, false, cond, leb, List, [], ◌∷◌, ◌++◌, length, take, drop, get_or, refl, sym, ap, ◌∙◌, arith, add-one, drop-cons, max, nat_le, subst, leb-false, leb-true, le-leb, unary_clauses, filter, fold, take_while, Option, Some, slice_index, range_with_len, last_or, AllWithin, prefix_len, IsNonDecreasingBy, IsPartitionPoint, max-eq_right, map-id, get_or-take, length-take, length-take-le, filter_of_map_range_with_len_more, get_or-range_with_len, length-range_with_len, IsNonDecreasingBy-take, IsNonDecreasingBy-filter, is_line_start, IsKept, greatest, point_in}
+use Rattle.std.proofs.Common.{append-nil}
 
 -- the indices below the next one that pass a test
 pub passing_more : (p : ℕ → Bool) (n : ℕ) → filter p (range_with_len 0 (n + 1)) ≡ filter p (range_with_len 0 n) ++ cond (p n) (n ∷ []) []

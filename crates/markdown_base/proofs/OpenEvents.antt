@@ -1,11 +1,5 @@
 -- Lemmas on the enters that are open after events, without regard to the events' links.
-use Rattle.std.proofs.Common.{◌≡◌, ◌-◌, List, [], ◌∷◌, length, take, refl, sym, ap, ◌∙◌}
-use Rattle.std.proofs.lemmas.List.{take-map, map-append, length-map}
-use Rattle.std.specs.Prelude.{map}
-use Rattle.markdown_base.specs.declared.event.Event.{Event}
-use Rattle.markdown_base.specs.declared.event.Kind.{Kind}
-use Rattle.markdown_base.specs.declared.event.Kind.TheVariants.{Enter, Exit}
-use Rattle.markdown_base.specs.Events.{unlinked, open_after, open_events_from}
+use Rattle.markdown_base.proofs.Prelude.{◌≡◌, ◌-◌, List, [], ◌∷◌, length, take, refl, sym, ap, ◌∙◌, take-map, map-append, length-map, map, Event, Kind, Enter, Exit, unlinked, open_after, open_events_from}
 
 -- one event more
 pub open_after-unlinked : (kind : Kind) (e : Event) (before : List Event) → open_after kind (unlinked e) (map unlinked before) ≡ map unlinked (open_after kind e before)

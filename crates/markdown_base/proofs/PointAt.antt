@@ -1,15 +1,6 @@
 -- Lemmas on the point of a place that the virtual text reaches, and on how it moves along a line.
-use Rattle.std.proofs.Common.{◌≡◌, ◌≢◌, ℕ, zero, suc, ◌+◌, ◌-◌, ◌*◌, ◌<◌, ◌≤◌, inl, inr, Bool, true, false, cond, List, [], ◌∷◌, ◌++◌, length, drop, get_or, refl, ap, ◌∙◌, arith, subst, eqb-true, eq-eqb, ne_eqb}
-use Rattle.std.specs.Prelude.{◌==◌, ◌&&◌, slice_index, find, Some}
-use Rattle.std.specs.List.{AllByRecursion, flat_map}
-use Rattle.std.proofs.lemmas.Bool.{false≢true}
-use Rattle.std.proofs.Math.Nat.{mul-le-mul_left}
+use Rattle.markdown_base.proofs.Prelude.{◌≡◌, ◌≢◌, ℕ, zero, suc, ◌+◌, ◌-◌, ◌*◌, ◌<◌, ◌≤◌, inl, inr, Bool, true, false, cond, List, [], ◌∷◌, ◌++◌, length, drop, get_or, refl, ap, ◌∙◌, arith, subst, eqb-true, eq-eqb, ne_eqb, ◌==◌, ◌&&◌, slice_index, find, Some, AllByRecursion, flat_map, false≢true, mul-le-mul_left, flat_map-append, Point, Seat, point, tab_width, in_tab, other_byte, begins_with_lf, virtual_from, end_after, document_end, shown, follows_cr, point_at, IsPointOf, HasNoLineEnding}
 use Rattle.std.proofs.lemmas.List.{append_assoc}
-use Rattle.std.proofs.lemmas.List.Concat.{flat_map-append}
-use Rattle.markdown_base.specs.declared.event.Point.{Point}
-use Rattle.markdown_base.specs.Virtual.{Seat, point, tab_width, in_tab, other_byte, begins_with_lf, virtual_from, end_after, document_end}
-use Rattle.markdown_base.specs.Places.{shown, follows_cr, point_at, IsPointOf}
-use Rattle.markdown_base.specs.Lines.{HasNoLineEnding}
 use Rattle.markdown_base.proofs.Scans.{IsReached, IsPlace, drop_is, reached-tab, reached-plain, tab_width-least, place-of}
 
 -- the test that seeks the place of an index, no virtual byte of a tab behind its first

@@ -1,13 +1,6 @@
 -- Lemmas on the virtual text of a document from an index on, and on where its places lie.
-use Rattle.std.proofs.Common.{◌≡◌, ℕ, zero, suc, ◌+◌, ◌-◌, ◌*◌, ◌<◌, ◌≤◌, ◌⊎◌, inl, inr, Bool, true, false, List, [], ◌∷◌, ◌++◌, length, drop, get_or, refl, sym, ap, ◌∙◌, arith, subst, drop-cons, eqb-true}
+use Rattle.markdown_base.proofs.Prelude.{◌≡◌, ℕ, zero, suc, ◌+◌, ◌-◌, ◌*◌, ◌<◌, ◌≤◌, ◌⊎◌, inl, inr, Bool, true, false, List, [], ◌∷◌, ◌++◌, length, drop, get_or, refl, sym, ap, ◌∙◌, arith, subst, drop-cons, eqb-true, mod-lt, ◌==◌, ◌&&◌, slice_index, false≢true, AllByRecursion, flat_map, Point, Seat, point, tab_width, in_tab, line_feed, other_byte, begins_with_lf, virtual_from, virtual, end_after, document_end, shown, follows_cr, points, IsPointOf}
 use Rattle.std.proofs.lemmas.List.{append_assoc}
-use Rattle.std.proofs.Math.Nat.{mod-lt}
-use Rattle.std.specs.Prelude.{◌==◌, ◌&&◌, slice_index}
-use Rattle.std.proofs.lemmas.Bool.{false≢true}
-use Rattle.std.specs.List.{AllByRecursion, flat_map}
-use Rattle.markdown_base.specs.declared.event.Point.{Point}
-use Rattle.markdown_base.specs.Virtual.{Seat, point, tab_width, in_tab, line_feed, other_byte, begins_with_lf, virtual_from, virtual, end_after, document_end}
-use Rattle.markdown_base.specs.Places.{shown, follows_cr, points, IsPointOf}
 use Rattle.markdown_base.proofs.Common.{and-right, every-append, every-map}
 use Rattle.markdown_base.proofs.Seats.{end-after-append}
 

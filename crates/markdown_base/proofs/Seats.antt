@@ -1,9 +1,5 @@
 -- Lemmas on seats: where they end, and the order of their places.
-use Rattle.std.proofs.Common.{◌≡◌, false, List, [], ◌∷◌, ◌++◌, refl, arith}
-use Rattle.std.proofs.lemmas.Bool.Decides.{nat_tests}
-use Rattle.markdown_base.specs.declared.event.Point.{Point}
-use Rattle.markdown_base.specs.Places.{stands_before}
-use Rattle.markdown_base.specs.Virtual.{Seat, end_after}
+use Rattle.markdown_base.proofs.Prelude.{◌≡◌, false, List, [], ◌∷◌, ◌++◌, refl, arith, nat_tests, Point, stands_before, Seat, end_after}
 
 -- two lists of seats end where the second ends, after the first
 pub end-after-append : (p : Point) (a b : List Seat) → end_after p (a ++ b) ≡ end_after (end_after p a) b

@@ -1,4 +1,4 @@
-use Rattle.std.proofs.Common.{rules}
+use Rattle.markdown_base.proofs.Prelude.{rules}
 use Rattle.markdown_base.proofs.EqualityLemmas.{event-same}
 use Rattle.markdown_base.proofs.laws.equal_events_are_one.Goals as goal
 

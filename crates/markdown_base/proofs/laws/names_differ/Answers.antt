@@ -1,10 +1,5 @@
-use Rattle.std.proofs.Common.{◌≡◌, ℕ, ◌<◌, get_or, refl, sym, ap, ◌∙◌, arith}
-use Rattle.std.specs.Prelude.{map}
-use Rattle.std.specs.List.{range_with_len}
-use Rattle.std.proofs.lemmas.List.{get_or-map}
-use Rattle.std.proofs.lemmas.List.FromFn.{get_or-range_with_len}
+use Rattle.markdown_base.proofs.Prelude.{◌≡◌, ℕ, ◌<◌, get_or, refl, sym, ap, ◌∙◌, arith, map, range_with_len, get_or-map, get_or-range_with_len, state_names}
 use Rattle.markdown_base.specs.declared.state.Name.{Name}
-use Rattle.markdown_base.specs.StateNames.{state_names}
 use Rattle.markdown_base.proofs.laws.names_differ.Goals as goal
 
 numbers : map (λ (n : Name). n.number) state_names ≡ range_with_len 0 317

@@ -1,4 +1,4 @@
-use Rattle.std.proofs.Common.{refl}
+use Rattle.markdown_base.proofs.Prelude.{refl}
 use Rattle.markdown_base.proofs.laws.numbers_are_stated.Goals as goal
 
 pub returns : goal.returns

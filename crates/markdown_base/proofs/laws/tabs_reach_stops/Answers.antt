@@ -1,6 +1,4 @@
-use Rattle.std.proofs.Common.{◌≡◌, ◌+◌, ◌-◌, ◌*◌, ◌/◌, ◌%◌, ap, ◌∙◌, arith}
-use Rattle.std.proofs.lemmas.Nat.{mod-mul-add, div-add-mod', mod_below}
-use Rattle.markdown_base.specs.Virtual.{tab_width}
+use Rattle.markdown_base.proofs.Prelude.{◌≡◌, ◌+◌, ◌-◌, ◌*◌, ◌/◌, ◌%◌, ap, ◌∙◌, arith, mod-mul-add, div-add-mod', mod_below, tab_width}
 use Rattle.markdown_base.proofs.laws.tabs_reach_stops.Goals as goal
 
 pub returns-clause-stop : goal.returns-clause-stop

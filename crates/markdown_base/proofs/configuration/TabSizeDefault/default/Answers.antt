@@ -1,4 +1,4 @@
-use Rattle.std.proofs.Common.{refl}
+use Rattle.markdown_base.proofs.Prelude.{refl}
 use Rattle.markdown_base.proofs.configuration.TabSizeDefault.default.Goals as goal
 
 pub returns : goal.returns

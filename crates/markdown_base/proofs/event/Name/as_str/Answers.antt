@@ -1,5 +1,4 @@
-use Rattle.std.proofs.Common.{arith}
-use Rattle.std.proofs.lemmas.Grind.{common_steps}
+use Rattle.markdown_base.proofs.Prelude.{arith, common_steps}
 use Rattle.markdown_base.proofs.event.Name.as_str.Goals as goal
 
 pub returns : goal.returns

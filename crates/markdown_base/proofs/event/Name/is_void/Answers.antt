@@ -1,10 +1,4 @@
-use Rattle.std.proofs.Common.{◌≡◌, ◌⊎◌, ◌||◌, Bool, true, false, List, [], ◌∷◌, sym, refl, ⊎_elim}
-use Rattle.std.specs.List.{list_any}
-use denote.Enum.Bare.{true_same, false_same}
-use Rattle.markdown_base.specs.contracts.event.Name.{the_type}
-use Rattle.markdown_base.specs.declared.event.Name.{Name}
-use Rattle.markdown_base.specs.Events.{same_name}
-use Rattle.markdown_base.specs.VoidNames.{void_names}
+use Rattle.markdown_base.proofs.Prelude.{◌≡◌, ◌⊎◌, ◌||◌, Bool, true, false, List, [], ◌∷◌, sym, refl, ⊎_elim, list_any, true_same, false_same, the_type, Name, same_name, void_names}
 use Rattle.markdown_base.proofs.event.Name.is_void.Goals as goal
 
 -- the name is in a pattern

@@ -1,6 +1,4 @@
-use Rattle.std.proofs.Common.{◌≡◌, ◌+◌, ◌-◌, ◌<◌, ℕ, List, suc, length, get_or, take, drop, arith, sym, ap, ◌∙◌, subst}
-use Rattle.std.proofs.lemmas.List.{get_or-take, get_or-drop, length-take}
-use Rattle.markdown_base.specs.Virtual.{tab_width}
+use Rattle.markdown_base.proofs.Prelude.{◌≡◌, ◌+◌, ◌-◌, ◌<◌, ℕ, List, suc, length, get_or, take, drop, arith, sym, ap, ◌∙◌, subst, get_or-take, get_or-drop, length-take, tab_width}
 use Rattle.markdown_base.proofs.Scans.{IsReached}
 use Rattle.markdown_base.proofs.PointAt.{point-of_reached, reached-of_point, moved-tab, moved-plain, column-fits}
 use Rattle.markdown_base.proofs.event.Point.shift_to.Goals as goal

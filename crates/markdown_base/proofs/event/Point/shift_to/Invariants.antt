@@ -1,4 +1,4 @@
-use Rattle.std.proofs.Common.{◌+◌}
+use Rattle.markdown_base.proofs.Prelude.{◌+◌}
 use Rattle.markdown_base.proofs.Scans.{IsReached}
 use Rattle.markdown_base.proofs.event.Point.shift_to.Given as goal
 

@@ -1,4 +1,4 @@
-use Rattle.std.proofs.Common.{◌≡◌, rules}
+use Rattle.markdown_base.proofs.Prelude.{◌≡◌, rules}
 use Rattle.markdown_base.proofs.message.Message.try_clone.Goals as goal
 use Rattle.markdown_base.proofs.message.Message.try_clone.Goals.{in-Some+in_ok-new-in-Some, in-None}
 

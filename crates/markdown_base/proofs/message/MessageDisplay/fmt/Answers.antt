@@ -1,6 +1,4 @@
-use mathlib.Core.List.{append_assoc}
-use Rattle.std.proofs.Common.{refl}
-use Rattle.std.proofs.lemmas.Grind.{put_two}
+use Rattle.markdown_base.proofs.Prelude.{append_assoc, refl, put_two}
 use Rattle.markdown_base.proofs.message.MessageDisplay.fmt.Goals as goal
 
 pub returns-clause-writes : goal.returns-clause-writes

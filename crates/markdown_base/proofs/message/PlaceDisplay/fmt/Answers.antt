@@ -1,4 +1,4 @@
-use mathlib.Core.List.{append_assoc}
+use Rattle.markdown_base.proofs.Prelude.{append_assoc}
 use Rattle.markdown_base.proofs.message.PlaceDisplay.fmt.Goals as goal
 
 pub returns-in-Position-clause-writes : goal.returns-in-Position-clause-writes

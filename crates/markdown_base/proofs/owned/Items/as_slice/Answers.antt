@@ -1,4 +1,4 @@
-use Rattle.std.proofs.Common.{◌∙◌}
+use Rattle.markdown_base.proofs.Prelude.{◌∙◌}
 use Rattle.markdown_base.proofs.owned.Items.as_slice.Goals as goal
 
 pub returns : goal.returns

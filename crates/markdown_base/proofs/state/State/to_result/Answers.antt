@@ -1,7 +1,4 @@
-use Rattle.std.proofs.Common.{◌≡◌}
-use Rattle.std.specs.Prelude.{Result, Ok, Err}
-use Rattle.markdown_base.specs.declared.message.Message.{Message}
-use Rattle.markdown_base.specs.declared.state.State.{State}
+use Rattle.markdown_base.proofs.Prelude.{◌≡◌, Result, Ok, Err, Message, State}
 use Rattle.markdown_base.specs.declared.state.State.TheVariants as state
 use Rattle.markdown_base.proofs.state.State.to_result.Goals as goal
 

@@ -1,4 +1,4 @@
-use Rattle.std.proofs.Common.{refl, sym}
+use Rattle.markdown_base.proofs.Prelude.{refl, sym}
 use Rattle.markdown_base.proofs.state.State.try_clone.Goals as goal
 
 pub returns-in-Next : goal.returns-in-Next

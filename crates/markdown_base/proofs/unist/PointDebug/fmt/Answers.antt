@@ -1,4 +1,4 @@
-use mathlib.Core.List.{append_assoc}
+use Rattle.markdown_base.proofs.Prelude.{append_assoc}
 use Rattle.markdown_base.proofs.unist.PointDebug.fmt.Goals as goal
 
 pub returns : goal.returns

@@ -1,6 +1,4 @@
-use Rattle.std.proofs.Common.{ap, sym, ◌∙◌, arith}
-use Rattle.std.specs.Prelude.{chars, slice_get}
-use Rattle.std.proofs.lemmas.Str.{IsUtf8-between}
+use Rattle.markdown_base.proofs.Prelude.{ap, sym, ◌∙◌, arith, chars, slice_get, IsUtf8-between}
 use Rattle.markdown_base.proofs.CharLemmas.{char_after_part, none_after}
 use Rattle.markdown_base.proofs.util.char.after_index.Goals as goal
 

@@ -1,7 +1,4 @@
-use Rattle.std.proofs.Common.{◌-◌, ap, sym, ◌∙◌, take, drop, arith}
-use Rattle.std.specs.Prelude.{None}
-use Rattle.std.specs.List.{last_or}
-use Rattle.std.proofs.lemmas.Str.{IsUtf8-between, Chars-Drains, encodes-chars}
+use Rattle.markdown_base.proofs.Prelude.{◌-◌, ap, sym, ◌∙◌, take, drop, arith, None, last_or, IsUtf8-between, Chars-Drains, encodes-chars}
 use Rattle.markdown_base.proofs.CharLemmas.{char_before_part, none_before}
 use Rattle.markdown_base.proofs.util.char.before_index.Goals as goal
 

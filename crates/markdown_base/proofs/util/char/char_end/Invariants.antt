@@ -1,4 +1,4 @@
-use Rattle.std.proofs.Common.{length, ◌-◌, ◌<◌, ◌≤◌}
+use Rattle.markdown_base.proofs.Prelude.{length, ◌-◌, ◌<◌, ◌≤◌}
 use Rattle.markdown_base.proofs.util.char.char_end.Given as goal
 
 abbrev pub invariant-loop-end : goal.invariant-loop-end

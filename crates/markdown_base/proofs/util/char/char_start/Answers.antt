@@ -1,4 +1,4 @@
-use Rattle.std.proofs.Common.{◌≤◌, arith}
+use Rattle.markdown_base.proofs.Prelude.{◌≤◌, arith}
 use Rattle.markdown_base.proofs.CharLemmas.{some_before}
 use Rattle.markdown_base.proofs.util.char.char_start.Goals as goal
 use Rattle.markdown_base.proofs.util.char.char_start.Goals.{In-loop-start}

@@ -1,4 +1,4 @@
-use Rattle.std.proofs.Common.{◌<◌}
+use Rattle.markdown_base.proofs.Prelude.{◌<◌}
 use Rattle.markdown_base.proofs.util.char.char_start.Given as goal
 
 abbrev pub invariant-loop-start : goal.invariant-loop-start

@@ -1,7 +1,4 @@
-use Rattle.std.proofs.Common.{◌≡◌, ◌≤◌, ℕ, ◌∷◌, ◌++◌, arith, rules, tests}
-use Rattle.std.specs.Prelude.{codes}
-use Rattle.std.proofs.lemmas.Str.{encode_ascii}
-use Rattle.markdown_base.specs.CharTexts.{code_point, shown_char}
+use Rattle.markdown_base.proofs.Prelude.{◌≡◌, ◌≤◌, ℕ, ◌∷◌, ◌++◌, arith, rules, tests, codes, encode_ascii, code_point, shown_char}
 use Rattle.markdown_base.proofs.util.char.format.Goals as goal
 
 visible : (c : ℕ) → (c ≡ 96 → ⊥) → 33 ≤ c → c ≤ 126 → shown_char c ≡ codes "`" ++ (c ∷ codes "` (" ++ (code_point c ++ codes ")"))

@@ -1,4 +1,4 @@
-use Rattle.std.proofs.Common.{sym}
+use Rattle.markdown_base.proofs.Prelude.{sym}
 use Rattle.markdown_base.proofs.util.char.format_byte.Goals as goal
 
 pub returns : goal.returns

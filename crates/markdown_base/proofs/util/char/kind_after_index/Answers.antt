@@ -1,4 +1,4 @@
-use Rattle.std.proofs.Common.{◌≡◌, arith, refl, sym, length}
+use Rattle.markdown_base.proofs.Prelude.{◌≡◌, arith, refl, sym, length}
 use Rattle.markdown_base.proofs.CharLemmas.{none_after, class_of_white, class_of_punctuation}
 use Rattle.markdown_base.proofs.util.char.kind_after_index.Goals as goal
 

@@ -1,8 +1,4 @@
-use Rattle.std.proofs.Common.{◌≡◌, Bool}
-use Rattle.markdown_base.specs.declared.event.Event.{Event}
-use Rattle.markdown_base.specs.declared.event.Kind.TheVariants.{Enter}
-use Rattle.markdown_base.specs.Events.{same_name}
-use Rattle.markdown_base.specs.Slices.{is_enter_of}
+use Rattle.markdown_base.proofs.Prelude.{◌≡◌, Bool, Event, Enter, same_name, is_enter_of}
 use Rattle.markdown_base.proofs.util.slice.is_enter_of.Goals as goal
 use Rattle.markdown_base.proofs.util.slice.is_enter_of.Goals.{in-Enter, in_default}
 

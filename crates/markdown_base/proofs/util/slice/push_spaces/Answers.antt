@@ -1,5 +1,4 @@
-use Rattle.std.proofs.Common.{◌++◌, arith, ap, ◌∙◌}
-use Rattle.std.specs.Prelude.{string_bytes}
+use Rattle.markdown_base.proofs.Prelude.{◌++◌, arith, ap, ◌∙◌, string_bytes}
 use Rattle.markdown_base.proofs.SliceLemmas.{space_pushed}
 use Rattle.markdown_base.proofs.util.slice.push_spaces.Goals as goal
 

@@ -1,5 +1,4 @@
-use Rattle.std.proofs.Common.{◌≡◌, ◌++◌, replicate}
-use Rattle.std.specs.Prelude.{string_bytes}
+use Rattle.markdown_base.proofs.Prelude.{◌≡◌, ◌++◌, replicate, string_bytes}
 use Rattle.markdown_base.proofs.util.slice.push_spaces.Given as goal
 
 abbrev pub invariant-loop-i : goal.invariant-loop-i

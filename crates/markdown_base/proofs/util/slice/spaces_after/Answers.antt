@@ -1,5 +1,4 @@
-use Rattle.std.proofs.Common.{arith, sym, inl, inr, ap, not, eq-eqb, ◌∙◌}
-use Rattle.std.proofs.lemmas.Bool.{false≢true}
+use Rattle.markdown_base.proofs.Prelude.{arith, sym, inl, inr, ap, not, eq-eqb, ◌∙◌, false≢true}
 use Rattle.markdown_base.proofs.Cuts.{spaces-after_is}
 use Rattle.markdown_base.proofs.util.slice.spaces_after.Goals as goal
 use Rattle.markdown_base.proofs.util.slice.spaces_after.Goals.{then-start-eq0, else-start-eq0}

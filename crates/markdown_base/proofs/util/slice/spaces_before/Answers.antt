@@ -1,4 +1,4 @@
-use Rattle.std.proofs.Common.{arith, sym, ◌∙◌}
+use Rattle.markdown_base.proofs.Prelude.{arith, sym, ◌∙◌}
 use Rattle.markdown_base.proofs.Cuts.{spaces-in_one_tab, spaces-behind_start, at_lower_index, not_behind}
 use Rattle.markdown_base.proofs.util.slice.spaces_before.Goals as goal
 

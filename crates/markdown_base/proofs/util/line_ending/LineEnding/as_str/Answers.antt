@@ -1,4 +1,4 @@
-use Rattle.std.proofs.Common.{refl}
+use Rattle.markdown_base.proofs.Prelude.{refl}
 use Rattle.markdown_base.proofs.util.line_ending.LineEnding.as_str.Goals as goal
 
 pub returns-in-CarriageReturn : goal.returns-in-CarriageReturn

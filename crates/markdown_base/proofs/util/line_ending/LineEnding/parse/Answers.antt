@@ -1,7 +1,4 @@
-use Rattle.std.proofs.Common.{◌≡◌, ℕ, List, [], ◌∷◌, refl}
-use Rattle.markdown_base.specs.LineEndings.{ending_text}
-use Rattle.markdown_base.specs.declared.util.line_ending.LineEnding.{LineEnding}
-use Rattle.markdown_base.specs.declared.util.line_ending.LineEnding.TheVariants.{CarriageReturnLineFeed, CarriageReturn, LineFeed}
+use Rattle.markdown_base.proofs.Prelude.{◌≡◌, ℕ, List, [], ◌∷◌, refl, ending_text, LineEnding, CarriageReturnLineFeed, CarriageReturn, LineFeed}
 use Rattle.markdown_base.proofs.util.line_ending.LineEnding.parse.Goals as goal
 
 -- a text that is none of the three is the text of no line ending

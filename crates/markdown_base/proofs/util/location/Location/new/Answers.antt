@@ -1,7 +1,6 @@
-use Rattle.std.proofs.Common.{◌≡◌, ◌+◌, sym, ◌∙◌, ap, arith, ◌<◌, ◌^◌, length, subst}
-use Rattle.std.specs.List.{filter, range_with_len}
+use Rattle.markdown_base.proofs.Prelude.{◌≡◌, ◌+◌, sym, ◌∙◌, ap, arith, ◌<◌, ◌^◌, length, subst, range_with_len, is_line_start, IsKept}
+use Rattle.std.specs.List.{filter}
 use Rattle.markdown_base.proofs.LineLemmas.{passing_pushed, passing_kept, lines_are_kept}
-use Rattle.markdown_base.specs.Lines.{is_line_start, IsKept}
 use Rattle.markdown_base.proofs.util.location.Location.new.Goals as goal
 use Rattle.markdown_base.proofs.util.location.Location.new.Goals.{then-starts_line+in_ok-push, else-starts_line}
 

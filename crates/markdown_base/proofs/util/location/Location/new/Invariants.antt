@@ -1,6 +1,5 @@
-use Rattle.std.proofs.Common.{◌≡◌}
-use Rattle.std.specs.List.{filter, range_with_len}
-use Rattle.markdown_base.specs.Lines.{is_line_start}
+use Rattle.markdown_base.proofs.Prelude.{◌≡◌, range_with_len, is_line_start}
+use Rattle.std.specs.List.{filter}
 use Rattle.markdown_base.proofs.util.location.Location.new.Given as goal
 
 abbrev pub invariant-loop-index : goal.invariant-loop-index

@@ -1,6 +1,4 @@
-use Rattle.std.proofs.Common.{◌≡◌, ◌<◌, ◌∙◌, ◌+◌, ◌-◌, ◌^◌, ℕ, zero, suc, Bool, false, List, [], ◌∷◌, length, get_or, drop, sym, ap, subst, refl, nat_le, arith, rules, tests}
-use Rattle.std.specs.Prelude.{Option, None, option_map, take_while, IfSome}
-use Rattle.std.specs.List.{last_or}
+use Rattle.markdown_base.proofs.Prelude.{◌≡◌, ◌<◌, ◌∙◌, ◌+◌, ◌-◌, ◌^◌, ℕ, zero, suc, Bool, false, List, [], ◌∷◌, length, get_or, drop, sym, ap, subst, refl, nat_le, arith, rules, tests, Option, None, option_map, take_while, IfSome, last_or}
 use Rattle.markdown_base.proofs.LineLemmas.{leading_turn}
 use Rattle.markdown_base.proofs.util.location.Location.relative_to_absolute.Goals as goal
 use Rattle.markdown_base.proofs.util.location.Location.relative_to_absolute.Goals.{Left-loop-stop, else-loop-stop-test, then-loop-stop-test+then-stop-relative}

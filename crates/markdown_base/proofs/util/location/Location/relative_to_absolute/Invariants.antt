@@ -1,7 +1,4 @@
-use Rattle.std.proofs.Common.{◌≡◌, ◌≤◌, ℕ, drop, nat_le}
-use Rattle.std.specs.Prelude.{take_while, None}
-use Rattle.std.specs.List.{last_or}
-use Rattle.std.specs.Option.{ForSome}
+use Rattle.markdown_base.proofs.Prelude.{◌≡◌, ◌≤◌, ℕ, drop, nat_le, take_while, None, last_or, ForSome}
 use Rattle.markdown_base.proofs.util.location.Location.relative_to_absolute.Given as goal
 
 -- going on over the rest gives the result, and the last one that passed begins at or before the offset

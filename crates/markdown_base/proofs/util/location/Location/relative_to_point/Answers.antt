@@ -1,7 +1,4 @@
-use Rattle.std.proofs.Common.{◌≡◌, sym, rules}
-use Rattle.std.specs.Option.{MatchOption}
-use Rattle.std.specs.Prelude.{Option, Some, None, option_and_then}
-use Rattle.markdown_base.specs.Lines.{point_in}
+use Rattle.markdown_base.proofs.Prelude.{◌≡◌, sym, rules, MatchOption, Option, Some, None, option_and_then, point_in}
 use Rattle.markdown_base.proofs.util.location.Location.relative_to_point.Goals as goal
 
 -- what holds in each case of a call holds of its result

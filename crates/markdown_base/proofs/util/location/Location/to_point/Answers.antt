@@ -1,7 +1,4 @@
-use Rattle.std.proofs.Common.{rules, ◌≡◌, ◌≤◌, ◌<◌, suc, leb, true, false, arith, length, ◌-◌, subst}
-use Rattle.std.proofs.lemmas.List.{get_or_read}
-use Rattle.std.specs.List.Sorted.{IsPartitionPoint}
-use Rattle.std.proofs.lemmas.List.Sorted.{IsPartitionPoint-from_clause, IsPartitionedBy-leb}
+use Rattle.markdown_base.proofs.Prelude.{rules, ◌≡◌, ◌≤◌, ◌<◌, suc, leb, true, false, arith, length, ◌-◌, subst, get_or_read, IsPartitionPoint, IsPartitionPoint-from_clause, IsPartitionedBy-leb}
 use Rattle.markdown_base.proofs.LineLemmas.{Divides, some_line, starts_before, point_found}
 use Rattle.markdown_base.proofs.util.location.Location.to_point.Goals as goal
 use Rattle.markdown_base.proofs.util.location.Location.to_point.Goals.{After-partition_point-line}

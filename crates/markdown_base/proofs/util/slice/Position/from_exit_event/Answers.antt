@@ -1,11 +1,4 @@
-use Rattle.std.proofs.Common.{◌≡◌, ◌∙◌, ap, sym, take, get_or, rules, tests, Bor}
-use Rattle.std.specs.Prelude.{option_map}
-use Rattle.std.proofs.lemmas.Bool.{false≢true}
-use Rattle.std.proofs.lemmas.Option.{slice_get-get_or}
-use Rattle.std.proofs.lemmas.Iterator.Search.{find_from_yields_List}
-use Rattle.std.proofs.lemmas.Iterator.Adapters.{YieldsList-from_rev_slice}
-use Rattle.markdown_base.specs.declared.event.Event.{Event}
-use Rattle.markdown_base.specs.Slices.{is_enter_of, nearest_enter}
+use Rattle.markdown_base.proofs.Prelude.{◌≡◌, ◌∙◌, ap, sym, take, get_or, rules, tests, Bor, option_map, false≢true, slice_get-get_or, find_from_yields_List, YieldsList-from_rev_slice, Event, is_enter_of, nearest_enter}
 use Rattle.markdown_base.proofs.SliceLemmas.{filler, nearest_is, exit_inside}
 use Rattle.markdown_base.proofs.util.slice.Position.from_exit_event.Goals as goal
 use Rattle.markdown_base.proofs.util.slice.Position.from_exit_event.Goals.{After-find}

@@ -1,8 +1,4 @@
-use Rattle.std.proofs.Common.{◌≡◌, ◌<◌, ◌≤◌, ℕ, arith, ap, sym, subst, ◌∙◌}
-use Rattle.std.specs.Prelude.{slice_range}
-use Rattle.markdown_base.specs.Places.{IsPointOf}
-use Rattle.markdown_base.specs.Slices.{spaces_before}
-use Rattle.markdown_base.specs.SlicesInner.{first_byte}
+use Rattle.markdown_base.proofs.Prelude.{◌≡◌, ◌<◌, ◌≤◌, ℕ, arith, ap, sym, subst, ◌∙◌, slice_range, IsPointOf, spaces_before, first_byte}
 use Rattle.markdown_base.proofs.ByteLemmas.{bytes-between}
 use Rattle.markdown_base.proofs.Cuts.{cut_place, first_ordered, place_inside}
 use Rattle.markdown_base.proofs.util.slice.Slice.from_position.Goals as goal
