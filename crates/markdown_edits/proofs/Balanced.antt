@@ -1,13 +1,5 @@
 -- Balanced lists, by the stack of open names.
-use Rattle.std.proofs.Common.{◌≡◌, Bool, true, false, cond, List, [], ◌∷◌, ◌++◌, Option, Some, None, refl, sym, ◌∙◌, ap, subst, append_assoc}
-use denote.Enum.Bare.{same_true, true_same}
-use Rattle.markdown_base.specs.contracts.event.Name.{the_type}
-use Rattle.markdown_base.specs.declared.event.Event.{Event}
-use Rattle.markdown_base.specs.declared.event.Kind.{Kind}
-use Rattle.markdown_base.specs.declared.event.Kind.TheVariants.{Enter, Exit}
-use Rattle.markdown_base.specs.declared.event.Name.{Name}
-use Rattle.markdown_base.specs.Events.{IsBalanced, empty, span, same_name}
-use Rattle.markdown_edits.specs.OpenNames.{names_after, names_after_all}
+use Rattle.markdown_edits.proofs.Prelude.{◌≡◌, Bool, true, false, cond, List, [], ◌∷◌, ◌++◌, Option, Some, None, refl, sym, ◌∙◌, ap, subst, append_assoc, same_true, true_same, the_type, Event, Kind, Enter, Exit, Name, IsBalanced, empty, span, same_name, names_after, names_after_all}
 
 pub names_after_all-append : (o : Option (List Name)) (xs ys : List Event) → names_after_all o (xs ++ ys) ≡ names_after_all (names_after_all o xs) ys
 names_after_all-append None xs ys = refl

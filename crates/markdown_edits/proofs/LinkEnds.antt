@@ -1,8 +1,6 @@
 -- Lists with one event changed.
-use Rattle.std.proofs.Common.{◌≡◌, ℕ, zero, suc, ◌<◌, List, [], ◌∷◌, length, get_or, set, length-set, refl, ap, ◌∙◌, arith}
-use Rattle.std.specs.Prelude.{IsSomeAnd, slice_get}
-use Rattle.markdown_base.specs.declared.event.Event.{Event}
-use Rattle.markdown_edits.specs.Links.{with_next, with_previous, updated_at, linked_to}
+use Rattle.markdown_edits.proofs.Prelude.{◌≡◌, ℕ, zero, suc, ◌<◌, List, [], ◌∷◌, length, get_or, set, length-set, refl, ap, ◌∙◌, arith, IsSomeAnd, Event, with_next, with_previous, updated_at, linked_to}
+use Rattle.std.specs.Prelude.{slice_get}
 
 -- as many events as before
 pub updated-length : (i : ℕ) (f : Event → Event) (xs : List Event) → length (updated_at i f xs) ≡ length xs

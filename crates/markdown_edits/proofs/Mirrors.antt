@@ -1,16 +1,5 @@
 -- Lists seen from behind: a walk back is a walk over the mirror, and goes as far as the longest run that ends there.
-use Rattle.std.proofs.Common.{◌≡◌, ℕ, zero, suc, ◌+◌, ◌-◌, ◌<◌, ◌≤◌, true, false, cond, Some, List, [], ◌∷◌, ◌++◌, length, take, drop, get_or, refl, sym, ◌∙◌, ap, subst, arith, append_assoc, append-nil, length-append, length-drop, take-append-drop}
-use Rattle.std.proofs.Math.Seq.{drop-append_seam}
-use Rattle.std.proofs.lemmas.List.{length-take-le}
-use Rattle.std.specs.List.{between}
-use Rattle.markdown_base.specs.declared.event.Event.{Event}
-use Rattle.markdown_base.specs.declared.event.Kind.{Kind}
-use Rattle.markdown_base.specs.declared.event.Kind.TheVariants.{Enter, Exit}
-use Rattle.markdown_base.specs.declared.event.Name.{Name}
-use Rattle.markdown_base.specs.Events.{IsBalanced, empty, span}
-use Rattle.markdown_edits.specs.OpenNames.{names_after_all}
-use Rattle.markdown_edits.specs.SpanWalks.{IsSpanRun, no_span, one_more, is_wanted, IsLongestRunTo, IsFront}
-use Rattle.markdown_edits.specs.SpanWalksInner.{run_len, is_stop, depth_after, flip, flip_kind, mirror}
+use Rattle.markdown_edits.proofs.Prelude.{◌≡◌, ℕ, zero, suc, ◌+◌, ◌-◌, ◌<◌, ◌≤◌, true, false, cond, Some, List, [], ◌∷◌, ◌++◌, length, take, drop, get_or, refl, sym, ◌∙◌, ap, subst, arith, append_assoc, append-nil, length-append, length-drop, take-append-drop, drop-append_seam, length-take-le, between, Event, Kind, Enter, Exit, Name, IsBalanced, empty, span, names_after_all, IsSpanRun, no_span, one_more, is_wanted, IsLongestRunTo, IsFront, run_len, is_stop, depth_after, flip, flip_kind, mirror}
 use Rattle.markdown_edits.proofs.Balanced.{IsBalanced-append}
 use Rattle.markdown_edits.proofs.SpanRuns.{span_and_run, span_parts, run_len-run, run_len-le, suffix_closes}
 

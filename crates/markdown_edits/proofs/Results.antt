@@ -1,6 +1,5 @@
 -- What a result says at one variant.
-use Rattle.std.proofs.Common.{◌≡◌, true, false, Result, Ok, Err}
-use Rattle.std.specs.Result.{OnErr, OnOk, is_err}
+use Rattle.markdown_edits.proofs.Prelude.{◌≡◌, true, false, Result, Ok, Err, OnErr, OnOk, is_err}
 
 -- what holds anyway holds if there is an error
 pub OnErr_from : {T E : Type 0} (r : Result T E) (P : Type 0) → P → OnErr r P

@@ -1,17 +1,5 @@
 -- The walk over wanted spans goes as far as the longest run.
-use Rattle.std.proofs.Common.{◌≡◌, ℕ, suc, ◌+◌, ◌-◌, ◌≤◌, Bool, true, false, cond, Option, Some, None, List, [], ◌∷◌, ◌++◌, length, take, drop, refl, sym, ◌∙◌, ap, subst, arith, append_assoc, append-nil, length-append, length-drop, take-append-drop, eqb}
-use Rattle.std.proofs.Math.Bool.{and-false}
-use Rattle.std.proofs.Math.Seq.{take-append-add}
-use Rattle.std.proofs.lemmas.Bool.{ne_eqb}
-use Rattle.std.proofs.lemmas.List.{length-take-le}
-use Rattle.markdown_base.specs.declared.event.Event.{Event}
-use Rattle.markdown_base.specs.declared.event.Kind.TheVariants.{Enter, Exit}
-use Rattle.markdown_base.specs.declared.event.Name.{Name}
-use Rattle.markdown_base.specs.Events.{IsBalanced, empty, span}
-use Rattle.markdown_edits.specs.SpanWalks.{IsSpan, IsSpanRun, no_span, one_more, is_wanted, IsLongestRunFrom}
-use Rattle.markdown_base.specs.Events.{is_enter}
-use Rattle.markdown_edits.specs.SpanWalksInner.{run_len, is_stop, depth_after}
-use Rattle.markdown_edits.specs.OpenNames.{names_after_all}
+use Rattle.markdown_edits.proofs.Prelude.{◌≡◌, ℕ, suc, ◌+◌, ◌-◌, ◌≤◌, Bool, true, false, cond, Option, Some, None, List, [], ◌∷◌, ◌++◌, length, take, drop, refl, sym, ◌∙◌, ap, subst, arith, append_assoc, append-nil, length-append, length-drop, take-append-drop, eqb, and-false, take-append-add, ne_eqb, length-take-le, Event, Enter, Exit, Name, IsBalanced, empty, span, IsSpan, IsSpanRun, no_span, one_more, is_wanted, IsLongestRunFrom, is_enter, run_len, is_stop, depth_after, names_after_all}
 use Rattle.markdown_edits.proofs.Balanced.{Closes, all_closed, closing, closes_from_open, names_after_all-append, names_after_balanced, none_is_not_some}
 
 eqb_suc : (d : ℕ) → eqb (suc d) 0 ≡ false

@@ -1,18 +1,5 @@
 -- Changes of the entries, as changes of what they mean.
-use Rattle.std.proofs.Common.{◌≡◌, ℕ, ◌+◌, ◌<◌, ◌≤◌, Bool, true, false, cond, eqb, ltb, List, [], ◌∷◌, ◌++◌, Option, Some, None, refl, sym, ◌∙◌, ap, ⊎_elim, arith}
-use Rattle.std.specs.Ordering.{nat_cmp, is_eq}
-use Rattle.std.specs.BTreeMap.{is_at, insert_entry}
-use Rattle.std.specs.Map.{lookup, set_value, keys_of}
-use Rattle.std.specs.List.{AllByRecursion}
-use Rattle.std.specs.List.Sorted.{IsStrictlySortedBy}
-use Rattle.std.specs.declared.cmp.Ordering.TheVariants.{Less, Greater}
-use Rattle.std.proofs.lemmas.Bool.{ne_eqb, eq-eqb, lt-ltb, le-ltb, cases_order}
-use Rattle.std.proofs.lemmas.Map.Keys.{sorted_head, sorted_tail}
-use Rattle.markdown_base.specs.declared.event.Event.{Event}
-use Rattle.markdown_base.proofs.Common.{every-append, every-map}
-use Rattle.markdown_edits.specs.Edits.{Edit, merged, put_by, removal_at}
-use Rattle.markdown_edits.specs.Stored.{as_edit, edits_of, IsAscending}
-use Rattle.markdown_edits.specs.declared.replacement.Replacement.{Replacement}
+use Rattle.markdown_edits.proofs.Prelude.{◌≡◌, ℕ, ◌+◌, ◌<◌, ◌≤◌, Bool, true, false, cond, eqb, ltb, List, [], ◌∷◌, ◌++◌, Option, Some, None, refl, sym, ◌∙◌, ap, ⊎_elim, arith, nat_cmp, is_eq, is_at, insert_entry, lookup, set_value, keys_of, AllByRecursion, IsStrictlySortedBy, Less, Greater, ne_eqb, eq-eqb, lt-ltb, le-ltb, cases_order, sorted_head, sorted_tail, Event, every-append, every-map, Edit, merged, put_by, removal_at, as_edit, edits_of, IsAscending, Replacement}
 use Rattle.markdown_edits.proofs.Edits.Puts.{put-same, put-more}
 
 at_same : (k x : ℕ) → k ≡ x → is_at (nat_cmp k) x ≡ true

@@ -1,11 +1,5 @@
 -- The places of the events of a list after disjoint changes.
-use Rattle.std.proofs.Common.{◌≡◌, ℕ, suc, ◌+◌, ◌-◌, ◌<◌, ◌≤◌, Bool, true, false, cond, eqb, ltb, List, [], ◌∷◌, ◌++◌, length, take, drop, Option, Some, None, refl, sym, ap, subst, ⊎_elim, arith, length-drop}
-use Rattle.std.specs.List.{AllByRecursion}
-use Rattle.std.specs.Option.{option_map}
-use Rattle.std.proofs.lemmas.Bool.{ne_eqb, eq-eqb, lt-ltb, le-ltb, cases_lt, cases_eq}
-use Rattle.std.proofs.lemmas.List.{length-take-le}
-use Rattle.markdown_base.specs.declared.event.Event.{Event}
-use Rattle.markdown_edits.specs.Woven.{Identity, of_list, Tagged, place_in, is_same, Change}
+use Rattle.markdown_edits.proofs.Prelude.{◌≡◌, ℕ, suc, ◌+◌, ◌-◌, ◌<◌, ◌≤◌, Bool, true, false, cond, eqb, ltb, List, [], ◌∷◌, ◌++◌, length, take, drop, Option, Some, None, refl, sym, ap, subst, ⊎_elim, arith, length-drop, AllByRecursion, option_map, ne_eqb, eq-eqb, lt-ltb, le-ltb, cases_lt, cases_eq, length-take-le, Event, Identity, of_list, Tagged, place_in, is_same, Change}
 use Rattle.markdown_edits.proofs.Edits.Passes.{olds, pass, AreApart, AreApart-le}
 
 -- the place in the first of two lists, or that in the second behind n

@@ -1,10 +1,6 @@
 -- The list after disjoint changes, as one pass over changes and events gives it.
-use Rattle.std.proofs.Common.{◌≡◌, ℕ, zero, suc, ◌+◌, ◌-◌, ◌<◌, ◌≤◌, true, false, eqb, ltb, leb, List, [], ◌∷◌, ◌++◌, length, take, drop, refl, sym, ◌∙◌, ap, subst, arith, append_assoc, append-nil, length-drop, add-zero}
-use Rattle.std.proofs.lemmas.List.{drop-drop}
-use Rattle.std.proofs.lemmas.Bool.{ne_eqb, eq-eqb, lt-ltb, le-ltb, le-leb, lt-leb}
-use Rattle.markdown_base.specs.declared.event.Event.{Event}
+use Rattle.markdown_edits.proofs.Prelude.{◌≡◌, ℕ, zero, suc, ◌+◌, ◌-◌, ◌<◌, ◌≤◌, true, false, eqb, ltb, leb, List, [], ◌∷◌, ◌++◌, length, take, drop, refl, sym, ◌∙◌, ap, subst, arith, append_assoc, append-nil, length-drop, add-zero, drop-drop, ne_eqb, eq-eqb, lt-ltb, le-ltb, le-leb, lt-leb, Event, Change, events_at, is_removed, Tagged, as_listed, woven}
 pub use Rattle.markdown_edits.specs.Woven.{AreApart}
-use Rattle.markdown_edits.specs.Woven.{Change, events_at, is_removed, Tagged, as_listed, woven}
 
 -- events that stay, from index i on
 abbrev pub olds : ℕ → List Event → List Tagged

@@ -1,14 +1,5 @@
 -- Edits whose additions are parts of one list.
-use Rattle.std.proofs.Common.{◌≡◌, ℕ, zero, suc, ◌+◌, ◌-◌, ◌<◌, ◌≤◌, List, [], ◌∷◌, ◌++◌, length, map, take, drop, Some, refl, ◌∙◌, ap, arith, length-append, length-drop}
-use Rattle.std.specs.List.{All, AllByRecursion, between, slice_get}
-use Rattle.std.proofs.Math.Seq.{drop-append-add}
-use Rattle.std.proofs.lemmas.List.{map-append, drop-append-le, take-append-le, take_all}
-use Rattle.std.proofs.lemmas.List.Elements.{All-head, All-tail, All-map}
-use Rattle.std.proofs.lemmas.Option.{same_Some}
-use Rattle.markdown_base.specs.declared.event.Event.{Event}
-use Rattle.markdown_edits.specs.Edits.{Edit, edit_at}
-use Rattle.markdown_edits.specs.Stored.{part_edit, pooled, IsPart, moved_by, IsAscending}
-use Rattle.markdown_edits.specs.declared.pool.Entry.{Entry}
+use Rattle.markdown_edits.proofs.Prelude.{◌≡◌, ℕ, zero, suc, ◌+◌, ◌-◌, ◌<◌, ◌≤◌, List, [], ◌∷◌, ◌++◌, length, map, take, drop, Some, refl, ◌∙◌, ap, arith, length-append, length-drop, All, AllByRecursion, between, slice_get, drop-append-add, map-append, drop-append-le, take-append-le, take_all, All-head, All-tail, All-map, same_Some, Event, Edit, edit_at, part_edit, pooled, IsPart, moved_by, IsAscending, Entry}
 
 module _ (xs ys : List Event) where
   between-more : (s t : ℕ) → s ≤ t → t ≤ length xs → between s t (xs ++ ys) ≡ between s t xs

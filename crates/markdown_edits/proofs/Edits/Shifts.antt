@@ -1,15 +1,6 @@
 -- The table of shifts: what it says of a place, and how it is searched.
-use Rattle.std.proofs.Common.{◌≡◌, ℕ, zero, suc, ◌+◌, ◌-◌, ◌<◌, ◌≤◌, ◌^◌, true, false, cond, ltb, List, [], ◌∷◌, length, get_or, Option, Some, None, IfSome, refl, sym, ap, subst, arith}
-use Rattle.std.specs.List.{All}
-use Rattle.std.specs.List.Sorted.{IsNonDecreasingBy}
-use Rattle.std.proofs.lemmas.Bool.{lt-ltb, le-ltb}
-use Rattle.markdown_base.specs.declared.event.Event.{Event}
-use Rattle.markdown_base.specs.declared.event.Link.{Link}
-use Rattle.markdown_base.specs.Events.{EndsBelow, EachEnd}
-use Rattle.markdown_edits.specs.Edits.{Edit, AreDisjoint, added_by}
-use Rattle.markdown_edits.specs.Shifts.{shifts, place_by, AreShifts, EndsFit}
-use Rattle.markdown_edits.specs.Spliced.{place_from}
-use Rattle.markdown_edits.specs.declared.shift.Shift.{Shift}
+use Rattle.markdown_edits.proofs.Prelude.{◌≡◌, ℕ, zero, suc, ◌+◌, ◌-◌, ◌<◌, ◌≤◌, ◌^◌, true, false, cond, ltb, List, [], ◌∷◌, length, get_or, Option, Some, None, refl, sym, ap, subst, arith, All, IsNonDecreasingBy, lt-ltb, le-ltb, Event, Link, EndsBelow, EachEnd, Edit, AreDisjoint, added_by, shifts, place_by, AreShifts, EndsFit, place_from, Shift}
+use Rattle.std.proofs.Common.{IfSome}
 
 -- the table gives the places that the edits give
 pub place_by-shifts : (es : List Edit) (removed added n : ℕ) → place_by (shifts removed added es) removed added n ≡ place_from es removed added n

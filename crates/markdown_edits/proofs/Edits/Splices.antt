@@ -1,18 +1,5 @@
 -- The edited list by identities is the one by prefix sums.
-use Rattle.std.proofs.Common.{◌≡◌, ℕ, ◌+◌, ◌-◌, ◌<◌, cond, ltb, List, [], ◌∷◌, ◌++◌, map, length, take, drop, Option, Some, None, refl, sym, ◌∙◌, ap, subst, arith}
-use Rattle.std.specs.Option.{option_map, option_and_then, IfSome}
-use Rattle.std.specs.List.{All}
-use Rattle.std.proofs.lemmas.List.{map-append, length-map}
-use Rattle.std.proofs.lemmas.List.Elements.{All-head, All-tail, All-take, All-drop, All-from_recursion}
-use Rattle.markdown_base.specs.declared.event.Event.{Event}
-use Rattle.markdown_base.specs.declared.event.Link.{Link}
-use Rattle.markdown_base.specs.Events.{relinked, with_ends, EndsBelow, EachEnd}
-use Rattle.markdown_edits.specs.Edits.{Edit, AreDisjoint}
-use Rattle.markdown_edits.specs.Edited.{as_addition, as_change, edited}
-use Rattle.markdown_edits.specs.Woven.{Change, of_list, Tagged, place_in, placed_end, woven, placed_in}
-use Rattle.markdown_edits.specs.Survivors.{AreNew}
-use Rattle.markdown_edits.specs.Shifts.{shifts, place_by}
-use Rattle.markdown_edits.specs.Spliced.{place_from, moved, spliced}
+use Rattle.markdown_edits.proofs.Prelude.{◌≡◌, ℕ, ◌+◌, ◌-◌, ◌<◌, cond, ltb, List, [], ◌∷◌, ◌++◌, map, length, take, drop, Option, Some, None, refl, sym, ◌∙◌, ap, subst, arith, option_map, option_and_then, IfSome, All, map-append, length-map, All-head, All-tail, All-take, All-drop, All-from_recursion, Event, Link, relinked, with_ends, EndsBelow, EachEnd, Edit, AreDisjoint, as_addition, as_change, edited, Change, of_list, Tagged, place_in, placed_end, woven, placed_in, AreNew, shifts, place_by, place_from, moved, spliced}
 use Rattle.markdown_edits.proofs.Edits.Passes.{olds, pass, AreApart, woven-pass}
 use Rattle.markdown_edits.proofs.Edits.FinalPlaces.{HasNo, old_place, old_place-pass}
 use Rattle.markdown_edits.proofs.Edits.Shifts.{place_by-shifts}

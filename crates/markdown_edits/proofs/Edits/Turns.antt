@@ -1,9 +1,5 @@
 -- One turn of a loop over the edits.
-use Rattle.std.proofs.Common.{◌≡◌, ℕ, zero, suc, ◌+◌, ◌<◌, ◌≤◌, List, [], ◌∷◌, length, drop, get_or, refl, ◌∙◌, ap, subst, arith}
-use Rattle.markdown_base.specs.declared.event.Event.{Event}
-use Rattle.markdown_edits.specs.Edits.{Edit, AreDisjoint}
-use Rattle.markdown_edits.specs.Stored.{part_edit, pooled}
-use Rattle.markdown_edits.specs.declared.pool.Entry.{Entry}
+use Rattle.markdown_edits.proofs.Prelude.{◌≡◌, ℕ, zero, suc, ◌+◌, ◌<◌, ◌≤◌, List, [], ◌∷◌, length, drop, get_or, refl, ◌∙◌, ap, subst, arith, Event, Edit, AreDisjoint, part_edit, pooled, Entry}
 
 -- the edits that are left begin with the one at this index
 drop-turn : (es : List Entry) (i : ℕ) (d : Entry) → i < length es → drop i es ≡ get_or es i d ∷ drop (suc i) es

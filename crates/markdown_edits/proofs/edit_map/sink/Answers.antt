@@ -1,5 +1,4 @@
-use Rattle.std.proofs.Common.{sym, subst}
-use Rattle.markdown_edits.specs.Stored.{IsAscending}
+use Rattle.markdown_edits.proofs.Prelude.{sym, subst, IsAscending}
 use Rattle.markdown_edits.proofs.Edits.Puts.{IsAscending-first}
 use Rattle.markdown_edits.proofs.edit_map.sink.Goals as goal
 

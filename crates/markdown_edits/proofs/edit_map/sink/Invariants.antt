@@ -1,4 +1,4 @@
-use Rattle.std.proofs.Common.{◌≡◌, ◌++◌, length}
+use Rattle.markdown_edits.proofs.Prelude.{◌≡◌, ◌++◌, length}
 use Rattle.markdown_edits.proofs.edit_map.sink.Given as goal
 
 abbrev pub invariant-loop-front : goal.invariant-loop-front

@@ -1,6 +1,4 @@
-use Rattle.std.proofs.Common.{◌≡◌, ◌++◌, ◌∷◌, [], ◌-◌, List, length, take, append_assoc, ap, subst, ◌∙◌}
-use Rattle.markdown_edits.specs.Edits.{Edit, edit_at}
-use Rattle.markdown_edits.specs.Stored.{IsAscending}
+use Rattle.markdown_edits.proofs.Prelude.{◌≡◌, ◌++◌, ◌∷◌, [], ◌-◌, List, length, take, append_assoc, ap, subst, ◌∙◌, Edit, edit_at, IsAscending}
 use Rattle.markdown_edits.proofs.Edits.Puts.{above-next}
 use Rattle.markdown_edits.proofs.edit_map.sink_last.Goals as goal
 

@@ -1,6 +1,5 @@
-use Rattle.std.proofs.Common.{◌<◌, length, arith}
+use Rattle.markdown_edits.proofs.Prelude.{◌<◌, length, arith, IsLinkedEnter}
 use Rattle.markdown_edits.proofs.LinkEnds.{set-linked_to, some-within}
-use Rattle.markdown_edits.specs.Links.{IsLinkedEnter}
 use Rattle.markdown_edits.proofs.links.link_to.Goals as goal
 
 pub returns : goal.returns

@@ -1,5 +1,4 @@
-use Rattle.std.proofs.Common.{◌≡◌, ◌+◌, ◌-◌, ◌≤◌, ◌++◌, length, map, take}
-use Rattle.markdown_edits.specs.Stored.{moved_by}
+use Rattle.markdown_edits.proofs.Prelude.{◌≡◌, ◌+◌, ◌-◌, ◌≤◌, ◌++◌, length, map, take, moved_by}
 use Rattle.markdown_edits.proofs.pool.push_shifted.Given as goal
 
 abbrev pub invariant-loop-entry : goal.invariant-loop-entry

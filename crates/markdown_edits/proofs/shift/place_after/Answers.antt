@@ -1,10 +1,4 @@
-use Rattle.std.proofs.Common.{◌≡◌, ℕ, ◌+◌, ◌-◌, ◌<◌, ◌≤◌, ◌^◌, true, false, leb, ltb, List, length, get_or, None, Some, refl, sym, ap, ◌∙◌, arith, rules}
-use Rattle.std.specs.List.Sorted.{IsPartitionPoint}
-use Rattle.std.proofs.lemmas.Bool.{leb-true, leb-false, lt-ltb, le-ltb}
-use Rattle.std.proofs.lemmas.List.{get_or_default}
-use Rattle.std.proofs.lemmas.List.Sorted.{IsPartitionPoint-from_clause, IsPartitionedBy-leb}
-use Rattle.markdown_edits.specs.Shifts.{place_by, AreShifts}
-use Rattle.markdown_edits.specs.declared.shift.Shift.{Shift}
+use Rattle.markdown_edits.proofs.Prelude.{◌≡◌, ℕ, ◌+◌, ◌-◌, ◌<◌, ◌≤◌, ◌^◌, true, false, leb, ltb, List, length, get_or, None, Some, refl, sym, ap, ◌∙◌, arith, rules, IsPartitionPoint, leb-true, leb-false, lt-ltb, le-ltb, get_or_default, IsPartitionPoint-from_clause, IsPartitionedBy-leb, place_by, AreShifts, Shift}
 use Rattle.markdown_edits.proofs.Edits.Shifts.{IsNonDecreasingBy-shifts, place_at, place_by-front, place_by-row, row_fits}
 use Rattle.markdown_edits.proofs.shift.place_after.Goals as goal
 

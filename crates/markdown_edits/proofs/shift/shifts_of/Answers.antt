@@ -1,9 +1,4 @@
-use Rattle.std.proofs.Common.{◌≡◌, ◌+◌, ◌-◌, [], ◌++◌, drop, append-nil, sym, ap, subst, ◌∙◌, arith}
-use Rattle.std.proofs.lemmas.List.{drop_all}
-use Rattle.markdown_edits.specs.Shifts.{shifts, AreShifts}
-use Rattle.markdown_edits.specs.Edits.{added_by}
-use Rattle.markdown_edits.specs.Stored.{pooled}
-use Rattle.markdown_edits.specs.declared.pool.Entry.{Entry}
+use Rattle.markdown_edits.proofs.Prelude.{◌≡◌, ◌+◌, ◌-◌, [], ◌++◌, drop, append-nil, sym, ap, subst, ◌∙◌, arith, drop_all, shifts, AreShifts, added_by, pooled, Entry}
 use Rattle.markdown_edits.proofs.Edits.Shifts.{AreShifts-shifts}
 use Rattle.markdown_edits.proofs.Edits.Turns.{pooled-turn, disjoint_next}
 use Rattle.markdown_edits.proofs.shift.shifts_of.Goals as goal

@@ -1,7 +1,4 @@
-use Rattle.std.proofs.Common.{◌≡◌, ℕ, ◌+◌, ◌-◌, ◌≤◌, ◌++◌, drop}
-use Rattle.markdown_edits.specs.Edits.{AreDisjoint, added_by}
-use Rattle.markdown_edits.specs.Shifts.{shifts}
-use Rattle.markdown_edits.specs.Stored.{pooled}
+use Rattle.markdown_edits.proofs.Prelude.{◌≡◌, ℕ, ◌+◌, ◌-◌, ◌≤◌, ◌++◌, drop, AreDisjoint, added_by, shifts, pooled}
 use Rattle.markdown_edits.proofs.shift.shifts_of.Given as goal
 
 abbrev pub invariant-loop-edit : goal.invariant-loop-edit

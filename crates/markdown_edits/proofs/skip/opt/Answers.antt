@@ -1,4 +1,4 @@
-use Rattle.std.proofs.Common.{arith}
+use Rattle.markdown_edits.proofs.Prelude.{arith}
 use Rattle.markdown_edits.proofs.SpanRuns.{IsLongestRunFrom-walk, IsLongestRunFrom-past}
 use Rattle.markdown_edits.proofs.skip.opt.Goals as goal
 

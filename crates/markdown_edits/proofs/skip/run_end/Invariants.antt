@@ -1,5 +1,4 @@
-use Rattle.std.proofs.Common.{◌≡◌, ◌+◌, ◌-◌, ◌≤◌, length, drop}
-use Rattle.markdown_edits.specs.SpanWalksInner.{run_len}
+use Rattle.markdown_edits.proofs.Prelude.{◌≡◌, ◌+◌, ◌-◌, ◌≤◌, length, drop, run_len}
 use Rattle.markdown_edits.proofs.skip.run_end.Given as goal
 
 abbrev pub invariant-loop-at : goal.invariant-loop-at

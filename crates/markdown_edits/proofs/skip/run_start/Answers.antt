@@ -1,6 +1,4 @@
-use Rattle.std.proofs.Common.{◌≡◌, ◌+◌, ◌-◌, arith, take, sym, ap, ◌∙◌}
-use Rattle.markdown_base.specs.declared.event.Kind.{Kind}
-use Rattle.markdown_edits.specs.SpanWalksInner.{depth_after, run_len, mirror}
+use Rattle.markdown_edits.proofs.Prelude.{◌≡◌, ◌+◌, ◌-◌, arith, take, sym, ap, ◌∙◌, Kind, depth_after, run_len, mirror}
 use Rattle.markdown_edits.proofs.Mirrors.{back_stops, back_goes}
 use Rattle.markdown_edits.proofs.skip.run_start.Goals as goal
 use Rattle.markdown_edits.proofs.skip.run_start.Goals.{in-Enter, in-Exit}

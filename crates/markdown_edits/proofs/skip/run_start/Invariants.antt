@@ -1,5 +1,4 @@
-use Rattle.std.proofs.Common.{◌≡◌, ◌+◌, ◌≤◌, take}
-use Rattle.markdown_edits.specs.SpanWalksInner.{run_len, mirror}
+use Rattle.markdown_edits.proofs.Prelude.{◌≡◌, ◌+◌, ◌≤◌, take, run_len, mirror}
 use Rattle.markdown_edits.proofs.skip.run_start.Given as goal
 
 abbrev pub invariant-loop-at : goal.invariant-loop-at

@@ -1,4 +1,4 @@
-use Rattle.std.proofs.Common.{arith, rules}
+use Rattle.markdown_edits.proofs.Prelude.{arith, rules}
 use Rattle.markdown_edits.proofs.skip.to.Goals as goal
 
 pub loop-first-init : goal.loop-first-init

@@ -1,6 +1,4 @@
-use Rattle.std.proofs.Common.{◌≡◌, ℕ, ◌-◌, ◌≤◌, ◌<◌, false, length, get_or, max}
-use Rattle.markdown_base.specs.declared.event.Event.{Event}
-use Rattle.markdown_edits.specs.SpanWalks.{is_wanted}
+use Rattle.markdown_edits.proofs.Prelude.{◌≡◌, ℕ, ◌-◌, ◌≤◌, ◌<◌, false, length, get_or, max, Event, is_wanted}
 use Rattle.markdown_edits.proofs.skip.to.Given as goal
 
 abbrev pub invariant-loop-first : goal.invariant-loop-first

@@ -1,7 +1,4 @@
-use Rattle.std.proofs.Common.{◌≡◌, ◌+◌, ◌<◌, length, take, refl, sym, ap, ◌∙◌, arith}
-use Rattle.std.proofs.lemmas.List.{get_or_default, get_or-take, length-take-le}
-use Rattle.markdown_base.specs.declared.event.Event.{Event}
-use Rattle.markdown_edits.specs.SpanWalks.{is_wanted}
+use Rattle.markdown_edits.proofs.Prelude.{◌≡◌, ◌+◌, ◌<◌, length, take, refl, sym, ap, ◌∙◌, arith, get_or_default, get_or-take, length-take-le, Event, is_wanted}
 use Rattle.markdown_edits.proofs.skip.to_back.Goals as goal
 
 pub loop-last-init : goal.loop-last-init

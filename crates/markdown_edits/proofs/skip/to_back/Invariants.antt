@@ -1,6 +1,4 @@
-use Rattle.std.proofs.Common.{◌≡◌, ℕ, ◌≤◌, ◌<◌, false, true, length, get_or}
-use Rattle.markdown_base.specs.declared.event.Event.{Event}
-use Rattle.markdown_edits.specs.SpanWalks.{is_wanted}
+use Rattle.markdown_edits.proofs.Prelude.{◌≡◌, ℕ, ◌≤◌, ◌<◌, false, true, length, get_or, Event, is_wanted}
 use Rattle.markdown_edits.proofs.skip.to_back.Given as goal
 
 abbrev pub invariant-loop-last : goal.invariant-loop-last

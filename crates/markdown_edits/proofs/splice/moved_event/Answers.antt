@@ -1,4 +1,4 @@
-use Rattle.std.proofs.Common.{refl}
+use Rattle.markdown_edits.proofs.Prelude.{refl}
 use Rattle.markdown_edits.proofs.splice.moved_event.Goals as goal
 
 pub returns-in-Some : goal.returns-in-Some

@@ -1,6 +1,4 @@
-use Rattle.std.proofs.Common.{◌≡◌, ◌++◌, ◌-◌, take, drop}
-use Rattle.markdown_edits.specs.Shifts.{place_by}
-use Rattle.markdown_edits.specs.Spliced.{moved}
+use Rattle.markdown_edits.proofs.Prelude.{◌≡◌, ◌++◌, ◌-◌, take, drop, place_by, moved}
 use Rattle.markdown_edits.proofs.splice.push_moved.Given as goal
 
 abbrev pub invariant-loop-event : goal.invariant-loop-event

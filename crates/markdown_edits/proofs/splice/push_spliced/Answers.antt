@@ -1,5 +1,4 @@
-use Rattle.std.proofs.Common.{arith, length}
-use Rattle.markdown_edits.specs.declared.pool.Entry.{Entry}
+use Rattle.markdown_edits.proofs.Prelude.{arith, length, Entry}
 use Rattle.markdown_edits.proofs.Edits.Turns.{pooled-turn, disjoint_next}
 use Rattle.markdown_edits.proofs.splice.push_spliced.Goals as goal
 

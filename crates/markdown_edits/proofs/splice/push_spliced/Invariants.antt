@@ -1,8 +1,4 @@
-use Rattle.std.proofs.Common.{◌≡◌, ◌++◌, drop, length}
-use Rattle.markdown_edits.specs.Edits.{AreDisjoint}
-use Rattle.markdown_edits.specs.Shifts.{place_by}
-use Rattle.markdown_edits.specs.Spliced.{spliced}
-use Rattle.markdown_edits.specs.Stored.{pooled}
+use Rattle.markdown_edits.proofs.Prelude.{◌≡◌, ◌++◌, drop, length, AreDisjoint, place_by, spliced, pooled}
 use Rattle.markdown_edits.proofs.splice.push_spliced.Given as goal
 
 abbrev pub invariant-loop-edit : goal.invariant-loop-edit

@@ -1,4 +1,4 @@
-use Rattle.std.proofs.Common.{length}
+use Rattle.markdown_edits.proofs.Prelude.{length}
 use Rattle.markdown_edits.proofs.Edits.Shifts.{EndsFit-all}
 use Rattle.markdown_edits.proofs.splice.spliced_events.Goals as goal
 

@@ -1,5 +1,4 @@
-use Rattle.std.proofs.Common.{◌≡◌, ◌++◌, ◌≤◌, length, take}
-use Rattle.markdown_edits.specs.Stored.{edits_of}
+use Rattle.markdown_edits.proofs.Prelude.{◌≡◌, ◌++◌, ◌≤◌, length, take, edits_of}
 use Rattle.markdown_edits.proofs.tree.push_all.Given as goal
 
 abbrev pub invariant-loop-index : goal.invariant-loop-index

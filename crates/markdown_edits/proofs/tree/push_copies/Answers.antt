@@ -1,10 +1,4 @@
-use Rattle.std.proofs.Common.{◌≡◌, ℕ, ◌++◌, ◌∷◌, [], ◌≤◌, List, length, take, append_assoc, sym, ap, subst, ◌∙◌, arith}
-use Rattle.std.specs.Map.Iter.{deref_pair}
-use Rattle.std.proofs.lemmas.List.{length-map, length_push, take-append-le, take-map}
-use Rattle.std.proofs.lemmas.Map.Iter.{rest_more}
-use Rattle.markdown_edits.specs.Edits.{Edit}
-use Rattle.markdown_edits.specs.Stored.{as_edit, edits_of, IsAscending}
-use Rattle.markdown_edits.specs.declared.replacement.Replacement.{Replacement}
+use Rattle.markdown_edits.proofs.Prelude.{◌≡◌, ℕ, ◌++◌, ◌∷◌, [], ◌≤◌, List, length, take, append_assoc, sym, ap, subst, ◌∙◌, arith, deref_pair, length-map, length_push, take-append-le, take-map, rest_more, Edit, as_edit, edits_of, IsAscending, Replacement}
 use Rattle.markdown_edits.proofs.Results.{OnErr-holds, OnOk-holds}
 use Rattle.markdown_edits.proofs.Edits.Entries.{IsAscending-entries, IsAscending-behind, below-next}
 use Rattle.markdown_edits.proofs.tree.push_copies.Goals as goal

@@ -1,8 +1,4 @@
-use Rattle.std.proofs.Common.{◌++◌, ◌∷◌, [], ap, ◌∙◌, List}
-use Rattle.std.proofs.lemmas.List.{map-append}
-use Rattle.markdown_base.specs.declared.event.Event.{Event}
-use Rattle.markdown_edits.specs.Stored.{as_edit, edits_of}
-use Rattle.markdown_edits.specs.Edits.{edit_at}
+use Rattle.markdown_edits.proofs.Prelude.{◌++◌, ◌∷◌, [], ap, ◌∙◌, List, map-append, Event, as_edit, edits_of, edit_at}
 use Rattle.markdown_edits.proofs.Edits.Entries.{insert_behind}
 use Rattle.markdown_edits.proofs.tree.push_copy.Goals as goal
 

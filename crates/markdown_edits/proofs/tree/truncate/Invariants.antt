@@ -1,4 +1,4 @@
-use Rattle.std.proofs.Common.{◌≡◌, ◌≤◌, length, take}
+use Rattle.markdown_edits.proofs.Prelude.{◌≡◌, ◌≤◌, length, take}
 use Rattle.markdown_edits.proofs.tree.truncate.Given as goal
 
 abbrev pub invariant-loop-edits : goal.invariant-loop-edits

@@ -1,6 +1,4 @@
-use Rattle.std.proofs.Common.{◌≡◌, ◌++◌, false, List, sym, subst, ap, ◌∙◌}
-use Rattle.markdown_edits.specs.Edits.{Edit, edit_at, is_no_edit, put_by}
-use Rattle.markdown_edits.specs.Stored.{IsAscending}
+use Rattle.markdown_edits.proofs.Prelude.{◌≡◌, ◌++◌, false, List, sym, subst, ap, ◌∙◌, Edit, edit_at, is_no_edit, put_by, IsAscending}
 use Rattle.markdown_edits.proofs.Edits.Puts.{joined, put-end, added-put, IsAscending-put, IsAscending-first}
 use Rattle.markdown_edits.proofs.edit_map.EditMap.add_copies.Goals as goal
 

@@ -1,7 +1,4 @@
-use Rattle.std.proofs.Common.{◌≡◌, ◌++◌, ◌∷◌, [], ◌≤◌, false, List, sym, subst, ap, ◌∙◌, arith}
-use Rattle.markdown_base.specs.declared.event.Event.{Event}
-use Rattle.markdown_edits.specs.Edits.{Edit, edit_at, is_no_edit, put_by, removal_at}
-use Rattle.markdown_edits.specs.Stored.{IsAscending}
+use Rattle.markdown_edits.proofs.Prelude.{◌≡◌, ◌++◌, ◌∷◌, [], ◌≤◌, false, List, sym, subst, ap, ◌∙◌, arith, Event, Edit, edit_at, is_no_edit, put_by, removal_at, IsAscending}
 use Rattle.markdown_edits.proofs.Edits.Puts.{joined, put-end, put-second, added-put, removal_at-behind, IsAscending-put, IsAscending-first}
 use Rattle.markdown_edits.proofs.edit_map.EditMap.add_impl.Goals as goal
 

@@ -1,7 +1,4 @@
-use Rattle.std.proofs.Common.{◌≡◌, ◌++◌, [], ◌≤◌, ◌<◌, List, append_assoc, sym, subst, ap, ◌∙◌}
-use Rattle.std.specs.List.{AllByRecursion}
-use Rattle.markdown_edits.specs.Edits.{Edit, AreBehind}
-use Rattle.markdown_edits.specs.Stored.{IsAscending}
+use Rattle.markdown_edits.proofs.Prelude.{◌≡◌, ◌++◌, [], ◌≤◌, ◌<◌, List, append_assoc, sym, subst, ap, ◌∙◌, AllByRecursion, Edit, AreBehind, IsAscending}
 use Rattle.markdown_edits.proofs.Edits.Entries.{IsAscending-behind}
 use Rattle.markdown_edits.proofs.Edits.Puts.{joined-nil, every-last, none-below, IsAscending-last}
 use Rattle.markdown_edits.proofs.edit_map.EditMap.append.Goals as goal

@@ -1,4 +1,4 @@
-use Rattle.std.proofs.Common.{sym, ◌∙◌}
+use Rattle.markdown_edits.proofs.Prelude.{sym, ◌∙◌}
 use Rattle.markdown_edits.proofs.Edits.Splices.{edited-none, edited-spliced}
 use Rattle.markdown_edits.proofs.edit_map.EditMap.consume.Goals as goal
 

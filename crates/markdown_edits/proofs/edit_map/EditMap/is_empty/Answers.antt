@@ -1,4 +1,4 @@
-use Rattle.std.proofs.Common.{sym, ◌∙◌}
+use Rattle.markdown_edits.proofs.Prelude.{sym, ◌∙◌}
 use Rattle.markdown_edits.proofs.Edits.Puts.{nil-both}
 use Rattle.markdown_edits.proofs.edit_map.EditMap.is_empty.Goals as goal
 

@@ -1,10 +1,4 @@
-use Rattle.std.proofs.Common.{◌≡◌, ◌++◌, List, length, map, sym, ap, subst, ◌∙◌}
-use Rattle.std.specs.List.{All}
-use Rattle.std.proofs.lemmas.List.Elements.{All-append}
-use Rattle.markdown_base.specs.declared.event.Event.{Event}
-use Rattle.markdown_edits.specs.Edits.{Edit}
-use Rattle.markdown_edits.specs.Stored.{pooled, IsPart, moved_by}
-use Rattle.markdown_edits.specs.declared.pool.Entry.{Entry}
+use Rattle.markdown_edits.proofs.Prelude.{◌≡◌, ◌++◌, List, length, map, sym, ap, subst, ◌∙◌, All, All-append, Event, Edit, pooled, IsPart, moved_by, Entry}
 use Rattle.markdown_edits.proofs.Edits.Pools.{parts-more, parts-behind, pooled-both}
 use Rattle.markdown_edits.proofs.pool.Pool.append.Goals as goal
 

@@ -1,9 +1,4 @@
-use Rattle.std.proofs.Common.{◌-◌, ◌<◌, length, sym, subst, arith}
-use Rattle.std.proofs.lemmas.Bool.{ltb-true}
-use Rattle.std.proofs.lemmas.Option.{slice_get_within}
-use Rattle.std.specs.List.{AllByRecursion}
-use Rattle.markdown_edits.specs.Edits.{Edit}
-use Rattle.markdown_edits.specs.Stored.{IsAscending}
+use Rattle.markdown_edits.proofs.Prelude.{◌-◌, ◌<◌, length, sym, subst, arith, ltb-true, slice_get_within, AllByRecursion, Edit, IsAscending}
 use Rattle.markdown_edits.proofs.Edits.Pools.{all-before}
 use Rattle.markdown_edits.proofs.pool.Pool.ends_before.Goals as goal
 

@@ -1,8 +1,4 @@
-use Rattle.std.proofs.Common.{◌≡◌, ◌++◌, ◌∷◌, [], ◌+◌, List, length, length-append, ap, ◌∙◌}
-use Rattle.markdown_base.specs.declared.event.Event.{Event}
-use Rattle.markdown_edits.specs.Edits.{Edit, edit_at}
-use Rattle.markdown_edits.specs.Stored.{pooled}
-use Rattle.markdown_edits.specs.declared.pool.Entry.{Entry}
+use Rattle.markdown_edits.proofs.Prelude.{◌≡◌, ◌++◌, ◌∷◌, [], ◌+◌, List, length, length-append, ap, ◌∙◌, Event, Edit, edit_at, pooled, Entry}
 use Rattle.markdown_edits.proofs.Results.{OnErr_from}
 use Rattle.markdown_edits.proofs.Edits.Pools.{pooled-more, pooled-push}
 use Rattle.markdown_edits.proofs.pool.Pool.push.Goals as goal

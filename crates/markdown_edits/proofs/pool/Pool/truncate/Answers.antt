@@ -1,6 +1,4 @@
-use Rattle.std.proofs.Common.{take, sym, ap, ◌∙◌}
-use Rattle.std.proofs.lemmas.List.{take-map}
-use Rattle.markdown_edits.specs.Stored.{part_edit, pooled}
+use Rattle.markdown_edits.proofs.Prelude.{take, sym, ap, ◌∙◌, take-map, part_edit, pooled}
 use Rattle.markdown_edits.proofs.pool.Pool.truncate.Goals as goal
 
 pub returns : goal.returns

@@ -1,4 +1,4 @@
-use Rattle.std.proofs.Common.{refl}
+use Rattle.markdown_edits.proofs.Prelude.{refl}
 use Rattle.markdown_edits.proofs.replacement.Replacement.append.Goals as goal
 
 pub returns-clause-remove : goal.returns-clause-remove

@@ -1,4 +1,4 @@
-use Rattle.std.proofs.Common.{◌++◌, ap, ◌∙◌}
+use Rattle.markdown_edits.proofs.Prelude.{◌++◌, ap, ◌∙◌}
 use Rattle.markdown_edits.proofs.replacement.Replacement.prepend.Goals as goal
 
 pub returns-clause-additions : goal.returns-clause-additions

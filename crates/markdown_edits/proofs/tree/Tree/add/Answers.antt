@@ -1,9 +1,4 @@
-use Rattle.std.proofs.Common.{◌≡◌, cond, ℕ, ◌≤◌, List, sym, ap, ◌∙◌, refl, arith}
-use Rattle.std.specs.Ordering.{nat_cmp}
-use Rattle.std.specs.BTreeMap.{BTreeMap, insert_entry}
-use Rattle.markdown_edits.specs.Edits.{Edit, edit_at, put_by, put_before, put_after, removal_at}
-use Rattle.markdown_edits.specs.Stored.{edits_of}
-use Rattle.markdown_edits.specs.declared.replacement.Replacement.{Replacement}
+use Rattle.markdown_edits.proofs.Prelude.{◌≡◌, cond, ℕ, ◌≤◌, List, sym, ap, ◌∙◌, refl, arith, nat_cmp, BTreeMap, insert_entry, Edit, edit_at, put_by, put_before, put_after, removal_at, edits_of, Replacement}
 use Rattle.markdown_edits.proofs.Results.{OnErr_from}
 use Rattle.markdown_edits.proofs.Edits.Entries.{set_same, set_put, insert_put, remove-le-removal_at}
 use Rattle.markdown_edits.proofs.Edits.Puts.{joined, put-joined}

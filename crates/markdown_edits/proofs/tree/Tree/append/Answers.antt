@@ -1,5 +1,4 @@
-use Rattle.std.proofs.Common.{ap}
-use Rattle.markdown_edits.specs.Stored.{edits_of}
+use Rattle.markdown_edits.proofs.Prelude.{ap, edits_of}
 use Rattle.markdown_edits.proofs.tree.Tree.append.Goals as goal
 
 pub returns-clause-ok : goal.returns-clause-ok

@@ -1,7 +1,4 @@
-use Rattle.std.proofs.Common.{◌≡◌, ℕ, [], ap}
-use Rattle.std.specs.BTreeMap.{BTreeMap, IsEmpty}
-use Rattle.markdown_edits.specs.declared.replacement.Replacement.{Replacement}
-use Rattle.markdown_edits.specs.Stored.{edits_of}
+use Rattle.markdown_edits.proofs.Prelude.{◌≡◌, ℕ, [], ap, BTreeMap, IsEmpty, Replacement, edits_of}
 use Rattle.markdown_edits.proofs.tree.Tree.new.Goals as goal
 
 -- a map with no entries has no edits

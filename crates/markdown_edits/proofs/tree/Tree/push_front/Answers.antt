@@ -1,7 +1,4 @@
-use Rattle.std.proofs.Common.{◌≡◌, ◌∷◌, List, ap, ◌∙◌}
-use Rattle.markdown_base.specs.declared.event.Event.{Event}
-use Rattle.markdown_edits.specs.Edits.{edit_at}
-use Rattle.markdown_edits.specs.Stored.{edits_of}
+use Rattle.markdown_edits.proofs.Prelude.{◌≡◌, ◌∷◌, List, ap, ◌∙◌, Event, edit_at, edits_of}
 use Rattle.markdown_edits.proofs.Edits.Entries.{insert_front}
 use Rattle.markdown_edits.proofs.tree.Tree.push_front.Goals as goal
 use Rattle.markdown_edits.proofs.tree.Tree.push_front.Goals.{in-Some-1, in-None-1}
