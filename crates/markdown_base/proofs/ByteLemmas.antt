@@ -1,20 +1,10 @@
 -- Lemmas on the bytes between two places.
-use Rattle.markdown_base.proofs.Prelude.{◌≡◌, ℕ, zero, suc, ◌+◌, ◌-◌, ◌≤◌, inl, inr, min, max, Bool, true, false, List, [], ◌∷◌, length, take, drop, get_or, refl, sym, ap, ◌∙◌, arith, ltb-true, ltb-false, lt-ltb, le-ltb, eqb-true, ◌==◌, ◌&&◌, not, nat_lt, filter, map, slice_index, slice_range, range_with_len, cases_lt, eqb-false, Point, stands_before, lies_between, byte_place, bytes_between, first_byte}
+use Rattle.markdown_base.proofs.Prelude.{◌≡◌, ℕ, zero, suc, ◌+◌, ◌-◌, ◌≤◌, inl, inr, min, max, Bool, true, false, List, [], ◌∷◌, length, take, drop, get_or, refl, sym, ap, ◌∙◌, arith, ltb-true, ltb-false, lt-ltb, le-ltb, eqb-true, ◌==◌, ◌&&◌, not, nat_lt, filter, map, slice_index, slice_range, range_with_len, cases_lt, eqb-false, Point, stands_before, lies_between, byte_place, bytes_between, first_byte, nat_tests}
 use Rattle.std.proofs.Math.Seq.{drop-cons}
 
 -- the bytes before a place are the bytes before the first one that is not before it
 before_first : (p : Point) (index : ℕ) → stands_before (byte_place index) p ≡ nat_lt index (first_byte p)
-before_first p index = go (nat_lt 0 p.vs) (nat_lt index p.index) (index == p.index) refl refl refl
-  where
-    go : (x y z : Bool) → nat_lt 0 p.vs ≡ x → nat_lt index p.index ≡ y → (index == p.index) ≡ z → stands_before (byte_place index) p ≡ nat_lt index (first_byte p)
-    go true true z ex ey ez = rw (ex, ey) (sym (lt-ltb index (suc p.index) (omega (arith, ltb-true index p.index ey))))
-    go true false true ex ey ez = rw (ex, ey, ez) (sym (lt-ltb index (suc p.index) (omega (arith, eqb-true index p.index ez))))
-    go true false false ex ey ez =
-        let later : suc p.index ≤ index = elim (cases_lt p.index index) [ inl lt ↦ lt | inr le ↦ absurd (eqb-false index p.index ez (omega (arith, ltb-false index p.index ey, le))) ] in
-        rw (ex, ey, ez) (sym (le-ltb index (suc p.index) later))
-    go false true z ex ey ez = rw (ex, ey) refl
-    go false false true ex ey ez = rw (ex, ey, ez) refl
-    go false false false ex ey ez = rw (ex, ey, ez) refl
+before_first p index = grind (arith, nat_tests)
 
 abbrev is_within : (low high : ℕ) → ℕ → Bool
 is_within low high i = not (nat_lt i low) && nat_lt i high

@@ -6,8 +6,7 @@ use Rattle.std.specs.Str.{chars}
 -- a byte that goes on with a character is not the first
 pub some_before : (bs : List ℕ) (i : ℕ) → IsUtf8 bs → i < length bs → 128 ≤ get_or bs i 0 → get_or bs i 0 < 192 → 1 ≤ i
 some_before bs zero text within low high =
-    let leads = (IsCharBoundary-start bs text).1 within low in
-    absurd (omega (arith, leads, high))
+    absurd (omega (arith, ((IsCharBoundary-start bs text).1 within low), high))
 some_before bs (suc i) text within low high = omega arith
 
 -- a part, and what comes before it
@@ -81,8 +80,7 @@ none_after bs i e = rw (e, drop-length, chars-nil) refl
 chars-ascii : (b : ℕ) → b < 128 → chars (b ∷ []) ≡ b ∷ []
 unfolding chars
 chars-ascii b small =
-    let less : nat_lt b 128 ≡ true = lt-ltb b 128 small in
-    rw less refl
+    rw (lt-ltb b 128 small) refl
 
 -- the character that begins with an ASCII byte is that byte
 pub char_after_ascii : (bs : List ℕ) (i : ℕ) → IsUtf8 bs → IsCharBoundary bs i → i < length bs → get_or bs i 0 < 128 → char_after bs i ≡ Some (get_or bs i 0)
@@ -119,9 +117,8 @@ module _ (answers : ℕ → Bool → Type 0) (bs : List ℕ) (i b : ℕ) (text :
   pub class_of_punctuation : is_ascii_punctuation b ≡ true → IsClassOfOpt answers (char_after bs i) Punctuation
   class_of_punctuation punctuation =
       let visible = punctuation_is_visible b punctuation in
-      let here = visible_is_not_white b visible.0 visible.1 in
       rw (ascii_here visible.1) (record {
-        white_space = λ white. absurd (false≢true (sym here ∙ white));
+        white_space = λ white. absurd (false≢true (sym (visible_is_not_white b visible.0 visible.1) ∙ white));
         ascii = λ w p. refl;
         other = λ w none. absurd (false≢true (sym none ∙ punctuation));
       })

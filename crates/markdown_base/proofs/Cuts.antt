@@ -1,5 +1,5 @@
 -- Lemmas on tabs that a place cuts: how many of their virtual bytes lie between two places.
-use Rattle.markdown_base.proofs.Prelude.{◌≡◌, ◌≢◌, ℕ, zero, suc, ◌+◌, ◌-◌, ◌*◌, ◌/◌, ◌%◌, ◌<◌, ◌≤◌, ◌⊎◌, inl, inr, min, max, Bool, true, false, List, [], ◌∷◌, ◌++◌, length, drop, get_or, refl, sym, ap, ◌∙◌, arith, subst, leb-true, leb-false, ltb-true, ltb-false, lt-ltb, eq-eqb, ne_eqb, le-ltb, ◌==◌, ◌&&◌, not, nat_lt, nat_le, filter, AllByRecursion, false≢true, cases_lt, and-false, mod-mul-add, div-add-mod', filter-append, append-nil, Point, Seat, point, tab_width, end_in_tab, in_tab, begins_with_lf, virtual_from, virtual, stands_before, in_range, IsPointOf, spaces_between, spaces_before, spaces_after, first_byte}
+use Rattle.markdown_base.proofs.Prelude.{◌≡◌, ◌≢◌, ℕ, zero, suc, ◌+◌, ◌-◌, ◌*◌, ◌/◌, ◌%◌, ◌<◌, ◌≤◌, ◌⊎◌, inl, inr, min, max, Bool, true, false, List, [], ◌∷◌, ◌++◌, length, drop, get_or, refl, sym, ap, ◌∙◌, arith, subst, leb-true, leb-false, ltb-true, ltb-false, lt-ltb, eq-eqb, ne_eqb, le-ltb, ◌==◌, ◌&&◌, not, nat_lt, nat_le, filter, AllByRecursion, false≢true, cases_lt, and-false, mod-mul-add, div-add-mod', filter-append, append-nil, Point, Seat, point, tab_width, end_in_tab, in_tab, begins_with_lf, virtual_from, virtual, stands_before, in_range, IsPointOf, spaces_between, spaces_before, spaces_after, first_byte, nat_tests}
 use Rattle.markdown_base.proofs.Common.{every-append, every-map, filter-none}
 use Rattle.markdown_base.proofs.Scans.{IsReached, IsSeatPlace, IsPlace, IsOfTab, of_tab, place-of, byte_here}
 
@@ -76,11 +76,7 @@ tab_count t bytes line column index r within is low high h same =
 
 -- not before a place inside a tab, which is behind the tab byte
 behind_cut : (low vs : ℕ) (r : Bool) → 0 < low → (nat_lt 0 vs && (not (nat_lt vs low) && r)) ≡ (nat_le low vs && r)
-behind_cut low vs r some = go (nat_le low vs) refl
-  where
-    go : (x : Bool) → nat_le low vs ≡ x → (nat_lt 0 vs && (not (nat_lt vs low) && r)) ≡ (nat_le low vs && r)
-    go true e = rw (e, lt-ltb 0 vs (omega (arith, leb-true low vs e)), le-ltb vs low (leb-true low vs e)) refl
-    go false e = rw (e, lt-ltb vs low (leb-false low vs e)) (and-false (nat_lt 0 vs))
+behind_cut low vs r some = grind (arith, nat_tests)
 
 -- of two places at one index, and of a place at a later one
 before_here : (s p : Point) → s.index ≡ p.index → stands_before s p ≡ nat_lt s.vs p.vs
@@ -94,28 +90,11 @@ before_earlier s p lt = rw (le-ltb s.index p.index (omega arith), ne_eqb s.index
 
 -- a place that is not before another
 not_before : (p q : Point) → stands_before q p ≡ false → (p.index < q.index) ⊎ ((p.index ≡ q.index) × (p.vs ≤ q.vs))
-not_before p q h = go (cases_lt q.index p.index)
-  where
-    go : (q.index < p.index) ⊎ (p.index ≤ q.index) → (p.index < q.index) ⊎ ((p.index ≡ q.index) × (p.vs ≤ q.vs))
-    go (inl lt) = absurd (false≢true (sym h ∙ before_later q p lt))
-    go (inr le) = go2 (cases_lt p.index q.index)
-      where
-        go2 : (p.index < q.index) ⊎ (q.index ≤ p.index) → (p.index < q.index) ⊎ ((p.index ≡ q.index) × (p.vs ≤ q.vs))
-        go2 (inl lt) = inl lt
-        go2 (inr ge) =
-            let same : q.index ≡ p.index = omega arith in
-            inr (sym same, ltb-false q.vs p.vs (sym (before_here q p same) ∙ h))
+not_before p q h = grind (arith, nat_tests)
 
 -- the first byte from a place on, and that from a later place on
 pub first_ordered : (p q : Point) → stands_before q p ≡ false → first_byte p ≤ first_byte q
-first_ordered p q ordered = go (nat_lt 0 p.vs) (nat_lt 0 q.vs) refl refl (not_before p q ordered)
-  where
-    go : (x y : Bool) → nat_lt 0 p.vs ≡ x → nat_lt 0 q.vs ≡ y → (p.index < q.index) ⊎ ((p.index ≡ q.index) × (p.vs ≤ q.vs)) → first_byte p ≤ first_byte q
-    go true true ex ey h = rw (ex, ey) (elim h [ inl lt ↦ omega arith | inr same ↦ omega (arith, same.0) ])
-    go true false ex ey (inl lt) = rw (ex, ey) lt
-    go true false ex ey (inr same) = absurd (omega (arith, same.1, ltb-true 0 p.vs ex, ltb-false 0 q.vs ey))
-    go false true ex ey h = rw (ex, ey) (elim h [ inl lt ↦ omega arith | inr same ↦ omega (arith, same.0) ])
-    go false false ex ey h = rw (ex, ey) (elim h [ inl lt ↦ omega arith | inr same ↦ omega (arith, same.0) ])
+first_ordered p q ordered = grind (arith, nat_tests)
 
 -- the place of a virtual byte that is no tab byte
 pub cut_place : (t : ℕ) → 0 < t → (bytes : List ℕ) (p : Point) → IsPointOf t bytes p → 0 < p.vs → IsSeatPlace t bytes p
@@ -157,8 +136,7 @@ spaces-behind_start t some bytes p q is cut later =
     let tab = place.in_tab cut in
     let count = tab_count t bytes p.line place.column p.index place.reached tab.0 tab.1 p.vs (tab_width t place.column) (λ s. nat_lt 0 s.point.vs && in_range p q s)
     (λ s e lt. rw (before_here s.point p e, before_later s.point q (omega arith), lt-ltb s.point.vs (tab_width t place.column) lt) (behind_cut p.vs s.point.vs true cut)) in
-    let left = tab_left t place.column p.vs some place.reached.first tab.2 in
-    rw (lt-ltb 0 p.vs cut) (count ∙ (omega arith) ∙ left ∙ ap (λ c. tab_width t c) (sym place.across))
+    rw (lt-ltb 0 p.vs cut) (count ∙ (omega arith) ∙ tab_left t place.column p.vs some place.reached.first tab.2 ∙ ap (λ c. tab_width t c) (sym place.across))
 
 -- of a tab that only the end cuts
 pub spaces-before_end : (t : ℕ) → 0 < t → (bytes : List ℕ) (p q : Point) → IsPointOf t bytes q → 0 < q.vs → (p.index < q.index) ⊎ ((p.index ≡ q.index) × (p.vs ≡ 0)) → spaces_between t bytes q.index p q ≡ q.vs - 1

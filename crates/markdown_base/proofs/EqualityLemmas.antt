@@ -1,5 +1,5 @@
 -- Lemmas on the equality of events.
-use Rattle.markdown_base.proofs.Prelude.{◌≡◌, ◌↔◌, Bool, true, false, ◌&&◌, refl, ap, ◌∙◌, subst, eqb-true, eq-eqb, Option, Some, None, nat_eq, option_eq, false≢true, sameb, same_true, true_same, Event, Link}
+use Rattle.markdown_base.proofs.Prelude.{◌≡◌, ◌↔◌, Bool, true, false, ◌&&◌, refl, ap, ◌∙◌, subst, eqb-true, eq-eqb, Option, Some, None, nat_eq, option_eq, false≢true, sameb, same_true, true_same, Event, Link, rules, tests}
 use Rattle.markdown_base.specs.contracts.event.Kind.{the_type as kinds}
 use Rattle.markdown_base.specs.contracts.event.Name.{the_type as names}
 
@@ -8,13 +8,7 @@ abbrev all_seven : (k n l c i v o : Bool) → Bool
 all_seven k n l c i v o = k && (n && ((l && (c && (i && v))) && o))
 
 pieces : (k n l c i v o : Bool) → all_seven k n l c i v o ≡ true → (k ≡ true) × (n ≡ true) × (l ≡ true) × (c ≡ true) × (i ≡ true) × (v ≡ true) × (o ≡ true)
-pieces false n l c i v o h = absurd (false≢true h)
-pieces true false l c i v o h = absurd (false≢true h)
-pieces true true false c i v o h = absurd (false≢true h)
-pieces true true true false i v o h = absurd (false≢true h)
-pieces true true true true false v o h = absurd (false≢true h)
-pieces true true true true true false o h = absurd (false≢true h)
-pieces true true true true true true o h = (refl, refl, refl, refl, refl, refl, h)
+pieces k n l c i v o h = search (rules, tests)
 
 module _ (E : Link → Link → Bool) (link : (x y : Link) → (E x y ≡ true) ↔ (x ≡ y)) where
   same-link : (x y : Option Link) → option_eq E x y ≡ true → x ≡ y

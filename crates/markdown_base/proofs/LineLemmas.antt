@@ -21,10 +21,9 @@ passing_kept p n xs old fails = rw (passing_more p n, fails, append-nil) old
 -- what `Location::new` collects is what a `Location` keeps
 pub lines_are_kept : (bytes : List ℕ) → length bytes + 1 < 2 ^ 64 → IsKept (length bytes) (filter (is_line_start bytes) (range_with_len 0 (length bytes + 1)))
 lines_are_kept bytes fits =
-    let ascend = IsNonDecreasingBy-filter (λ x. x) (is_line_start bytes) (range_with_len 0 (length bytes + 1)) (range-ascends 0 (length bytes + 1)) in
     let P : ℕ → Type 0 = λ n. (0 < length (filter (is_line_start bytes) (range_with_len 0 n))) × (slice_index (filter (is_line_start bytes) (range_with_len 0 n)) 0 ≡ 0) in
     let first = subst P (sym (add-one (length bytes))) (omega arith, refl) in
-    (fits, first.0, first.1, ascend)
+    (fits, first.0, first.1, (IsNonDecreasingBy-filter (λ x. x) (is_line_start bytes) (range_with_len 0 (length bytes + 1)) (range-ascends 0 (length bytes + 1))))
 
 none_passes : (p : ℕ → Bool) (xs : List ℕ) → AllWithin (λ y. p y ≡ false) xs 0 (length xs) → filter p xs ≡ []
 none_passes p [] none = refl
@@ -53,8 +52,7 @@ from_zero-ascends xs ascend (suc i) (suc j) d low high = ascend i j d (omega ari
 pub greatest_of_leading : (xs : List ℕ) (k : ℕ) → IsNonDecreasingBy (λ x. x) xs → k < length xs → greatest (take (suc k) xs) ≡ get_or xs k 0
 greatest_of_leading xs k ascend within =
     let long : length (take (suc k) xs) ≡ suc k = grind (arith, length-take) in
-    let last = greatest_from_first 0 (take (suc k) xs) (from_zero-ascends (take (suc k) xs) (IsNonDecreasingBy-take (λ x. x) (suc k) xs ascend)) in
-    rw long at last ∙ get_or-take (suc k) xs k 0 (omega arith)
+    rw long at (greatest_from_first 0 (take (suc k) xs) (from_zero-ascends (take (suc k) xs) (IsNonDecreasingBy-take (λ x. x) (suc k) xs ascend))) ∙ get_or-take (suc k) xs k 0 (omega arith)
 
 take_while-first : (p : ℕ × ℕ → Bool) (x : ℕ × ℕ) (xs : List (ℕ × ℕ)) → p x ≡ true → take_while p (x ∷ xs) ≡ x ∷ take_while p xs
 take_while-first p x xs passes =
@@ -89,8 +87,5 @@ pub point_found : (end offset : ℕ) (starts : List ℕ) (line : ℕ) → IsKept
     → Some (record { line = line; column = offset - get_or starts (line - 1) 0 + 1; offset = offset }) ≡ point_in (record { end = end; starts = starts }) offset
 point_found end offset starts zero kept inside within h = absurd (omega (arith, some_line end offset starts zero kept h))
 point_found end offset starts (suc k) kept inside within h =
-    let reaches : nat_le offset end ≡ true = le-leb offset end inside in
-    let leading = passing_are_leading (λ y. leb y offset) starts (suc k) within h in
-    let long = length-take-le (suc k) starts within in
     let last = greatest_of_leading starts k kept.3 (omega arith) in
-    rw (reaches, leading, long, last) (simp unary_clauses)
+    rw (le-leb offset end inside, passing_are_leading (λ y. leb y offset) starts (suc k) within h, length-take-le (suc k) starts within, last) (simp unary_clauses)

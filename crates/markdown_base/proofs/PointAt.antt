@@ -51,8 +51,7 @@ find_first t some bytes line column index b rest end is true x y z ew ex ey ez =
 find_first t some bytes line column index b [] end is false true true z ew ex ey ez = absurd (false≢true ey)
 find_first t some bytes line column index b (b2 ∷ rest) end is false true true z ew ex ey ez =
     let here = drop_is bytes index b (b2 ∷ rest) is in
-    let lf = drop_is bytes (suc index) b2 rest here.2 in
-    let shown_cr : ((slice_index bytes (suc index) == 10) && follows_cr bytes (suc index)) ≡ true = rw (lf.1, ey, here.1, ex) refl in
+    let shown_cr : ((slice_index bytes (suc index) == 10) && follows_cr bytes (suc index)) ≡ true = rw ((drop_is bytes (suc index) b2 rest here.2).1, ey, here.1, ex) refl in
     let same : suc index - 1 ≡ index = omega arith in
     rw (ew, ex, ey, shown_cr, same) (find_here index line column (point line column (suc index) 0 ∷ (flat_map (both bytes) (virtual_from t (suc line) 1 (suc (suc index)) rest) ++ end ∷ [])))
 find_first t some bytes line column index b rest end is false true false z ew ex ey ez = rw (ew, ex, ey) (find_shown bytes line column index _)
@@ -75,8 +74,7 @@ point-of_reached t some bytes line column index r =
   where
     go : (left : List ℕ) → drop index bytes ≡ left → find (is_at index) (flat_map (both bytes) (virtual_from t line column index (drop index bytes)) ++ document_end t bytes ∷ []) ≡ Some (point line column index 0)
     go [] e =
-        let end : document_end t bytes ≡ point line column index 0 = r.ends ∙ ap (λ bs. end_after (point line column index 0) (virtual_from t line column index bs)) e in
-        rw (e, end) (find_here index line column [])
+        rw (e, r.ends ∙ ap (λ bs. end_after (point line column index 0) (virtual_from t line column index bs)) e) (find_here index line column [])
     go (b ∷ left) e = rw e (find_first t some bytes line column index b left (document_end t bytes) e (b == 10) (b == 13) (begins_with_lf left) (b == 9) refl refl refl refl)
 
 -- a place before bytes that end no line is reached at its own column

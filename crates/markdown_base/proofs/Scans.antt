@@ -158,59 +158,40 @@ placed-tab : (t : ℕ) (bytes : List ℕ) (line column index : ℕ) → IsReache
     → (s : Seat) → IsOfTab line column index (tab_width t column) s → IsPlaced t bytes s
 placed-tab t bytes line column index r within is s h =
     let P : Point → Type 0 = λ p. IsPlace t bytes p × ((get_or bytes p.index 0 == 10) ≡ false) in
-    let tab : IsPlace t bytes (point line (column + h.0) index h.0) = inl (record { column = column; reached = r; across = refl; in_tab = λ some. (within, is, h.1) }) in
-    let placed = subst P (sym h.2) (tab, rw is refl) in
+    let placed = subst P (sym h.2) ((inl (record { column = column; reached = r; across = refl; in_tab = λ some. (within, is, h.1) })), rw is refl) in
     placed-other t bytes s placed.0 placed.1
 
 -- the next byte's virtual bytes are placed, if the ones after it are
-placed-more : (t : ℕ) → 0 < t → (bytes : List ℕ) (line column index b : ℕ) (rest : List ℕ) → drop index bytes ≡ b ∷ rest → IsReached t bytes line column index
-    → ((line' column' : ℕ) → IsReached t bytes line' column' (suc index) → ArePlaced t bytes line' column' (suc index) rest)
-    → (w x y z : Bool) → (b == 10) ≡ w → (b == 13) ≡ x → begins_with_lf rest ≡ y → (b == 9) ≡ z → ArePlaced t bytes line column index (b ∷ rest)
-placed-more t some bytes line column index b rest is r next true x y z ew ex ey ez =
-    let here = drop_is bytes index b rest is in
-    let lf : (get_or bytes index 0 == 10) ≡ true = rw here.1 ew in
-    let more = next (suc line) 1 (reached-line_feed t bytes line column index r here.0 lf) in
-    rw ew ((placed-line_feed t bytes line column index r here.0, more.0), more.1)
-placed-more t some bytes line column index b rest is r next false true true z ew ex ey ez =
-    let here = drop_is bytes index b rest is in
-    let not_lf : (get_or bytes index 0 == 10) ≡ false = rw here.1 ew in
-    let cr : (get_or bytes index 0 == 13) ≡ true = rw here.1 ex in
-    let lf : begins_with_lf (drop (suc index) bytes) ≡ true = rw here.2 ey in
-    let more = next line column (reached-crlf t bytes line column index r here.0 not_lf cr lf) in
-    rw (ew, ex, ey) (more.0, subst (IsPlace t bytes) (crlf_end t line column (suc index) (point line column (suc index) 0) (point line column index 0) rest ey) more.1)
-placed-more t some bytes line column index b rest is r next false true false z ew ex ey ez =
-    let here = drop_is bytes index b rest is in
-    let not_lf : (get_or bytes index 0 == 10) ≡ false = rw here.1 ew in
-    let cr : (get_or bytes index 0 == 13) ≡ true = rw here.1 ex in
-    let alone : begins_with_lf (drop (suc index) bytes) ≡ false = rw here.2 ey in
-    let more = next (suc line) 1 (reached-return t bytes line column index r here.0 not_lf cr alone) in
-    rw (ew, ex, ey) ((placed-other t bytes (line_feed line column index) (placed-here t bytes line column index r) not_lf, more.0), more.1)
-placed-more t some bytes line column index b rest is r next false false y true ew ex ey ez =
-    let here = drop_is bytes index b rest is in
-    let not_lf : (get_or bytes index 0 == 10) ≡ false = rw here.1 ew in
-    let nor : (get_or bytes index 0 == 13) ≡ false = rw here.1 ex in
-    let tab : (get_or bytes index 0 == 9) ≡ true = rw here.1 ez in
-    let width = tab_width t column in
-    let after = reached-tab t bytes line column index r here.0 some not_lf nor tab in
-    let more = next line (column + tab_width t column) after in
-    let seats = every-map (IsOfTab line column index (tab_width t column)) (IsPlaced t bytes) (placed-tab t bytes line column index r here.0 (eqb-true (get_or bytes index 0) 9 tab)) (in_tab 9 (tab_width t column) line column index 0) (of_tab line column index (tab_width t column)) in
-    let rest' = virtual_from t line (column + tab_width t column) (suc index) rest in
-    let ends = end-after-append (point line column index 0) (in_tab 9 (tab_width t column) line column index 0) rest' ∙ ap (λ p. end_after p rest') (tab_end (point line column index 0) (tab_width t column) line column index (tab_width-least t column some)) in
-    rw (ew, ex, ez) (every-append (IsPlaced t bytes) (in_tab 9 (tab_width t column) line column index 0) rest' seats more.0, subst (IsPlace t bytes) (sym ends) more.1)
-placed-more t some bytes line column index b rest is r next false false y false ew ex ey ez =
-    let here = drop_is bytes index b rest is in
-    let not_lf : (get_or bytes index 0 == 10) ≡ false = rw here.1 ew in
-    let nor : (get_or bytes index 0 == 13) ≡ false = rw here.1 ex in
-    let not_tab : (get_or bytes index 0 == 9) ≡ false = rw here.1 ez in
-    let more = next line (suc column) (reached-plain t bytes line column index r here.0 some not_lf nor not_tab) in
-    rw (ew, ex, ez) ((placed-other t bytes (other_byte b line column index) (placed-here t bytes line column index r) not_lf, more.0), more.1)
+placed-more : (t : ℕ) → 0 < t → (bytes : List ℕ) (line column index : ℕ) → index < length bytes → IsReached t bytes line column index
+    → ((line' column' : ℕ) → IsReached t bytes line' column' (suc index) → ArePlaced t bytes line' column' (suc index) (drop (suc index) bytes))
+    → (w x y z : Bool) → (get_or bytes index 0 == 10) ≡ w → (get_or bytes index 0 == 13) ≡ x → begins_with_lf (drop (suc index) bytes) ≡ y → (get_or bytes index 0 == 9) ≡ z
+    → ArePlaced t bytes line column index (get_or bytes index 0 ∷ drop (suc index) bytes)
+placed-more t some bytes line column index within r next true x y z lf ex ey ez =
+    let more = next (suc line) 1 (reached-line_feed t bytes line column index r within lf) in
+    rw lf ((placed-line_feed t bytes line column index r within, more.0), more.1)
+placed-more t some bytes line column index within r next false true true z not_lf cr lf ez =
+    let more = next line column (reached-crlf t bytes line column index r within not_lf cr lf) in
+    rw (not_lf, cr, lf) (more.0, subst (IsPlace t bytes) (crlf_end t line column (suc index) (point line column (suc index) 0) (point line column index 0) (drop (suc index) bytes) lf) more.1)
+placed-more t some bytes line column index within r next false true false z not_lf cr alone ez =
+    let more = next (suc line) 1 (reached-return t bytes line column index r within not_lf cr alone) in
+    rw (not_lf, cr, alone) ((placed-other t bytes (line_feed line column index) (placed-here t bytes line column index r) not_lf, more.0), more.1)
+placed-more t some bytes line column index within r next false false y true not_lf nor ey tab =
+    let rest = virtual_from t line (column + tab_width t column) (suc index) (drop (suc index) bytes) in
+    let more = next line (column + tab_width t column) (reached-tab t bytes line column index r within some not_lf nor tab) in
+    let seats = every-map (IsOfTab line column index (tab_width t column)) (IsPlaced t bytes) (placed-tab t bytes line column index r within (eqb-true (get_or bytes index 0) 9 tab)) (in_tab 9 (tab_width t column) line column index 0) (of_tab line column index (tab_width t column)) in
+    let ends = end-after-append (point line column index 0) (in_tab 9 (tab_width t column) line column index 0) rest ∙ ap (λ p. end_after p rest) (tab_end (point line column index 0) (tab_width t column) line column index (tab_width-least t column some)) in
+    rw (not_lf, nor, tab) (every-append (IsPlaced t bytes) (in_tab 9 (tab_width t column) line column index 0) rest seats more.0, subst (IsPlace t bytes) (sym ends) more.1)
+placed-more t some bytes line column index within r next false false y false not_lf nor ey not_tab =
+    let more = next line (suc column) (reached-plain t bytes line column index r within some not_lf nor not_tab) in
+    rw (not_lf, nor, not_tab) ((placed-other t bytes (other_byte (get_or bytes index 0) line column index) (placed-here t bytes line column index r) not_lf, more.0), more.1)
 
 placed-from : (t : ℕ) → 0 < t → (bytes : List ℕ) (line column index : ℕ) (rest : List ℕ) → drop index bytes ≡ rest → IsReached t bytes line column index → ArePlaced t bytes line column index rest
 placed-from t some bytes line column index [] is r = (tt, placed-here t bytes line column index r)
 placed-from t some bytes line column index (b ∷ rest) is r =
-    placed-more t some bytes line column index b rest is r
-    (λ line' column' r'. placed-from t some bytes line' column' (suc index) rest ((drop_is bytes index b rest is).2) r')
-    (b == 10) (b == 13) (begins_with_lf rest) (b == 9) refl refl refl refl
+    let here = drop_is bytes index b rest is in
+    let next : (line' column' : ℕ) → IsReached t bytes line' column' (suc index) → ArePlaced t bytes line' column' (suc index) (drop (suc index) bytes) = λ line' column' r'. rw here.2 (placed-from t some bytes line' column' (suc index) rest here.2 r') in
+    subst (ArePlaced t bytes line column index) (sym (byte_here t bytes line column index r here.0) ∙ is)
+    (placed-more t some bytes line column index here.0 r next (get_or bytes index 0 == 10) (get_or bytes index 0 == 13) (begins_with_lf (drop (suc index) bytes)) (get_or bytes index 0 == 9) refl refl refl refl)
 
 places-of : (t : ℕ) (bytes : List ℕ) (seats : List Seat) (end : Point) → AllByRecursion (IsPlaced t bytes) seats → IsPlace t bytes end
     → AllByRecursion (IsPlace t bytes) (flat_map (λ s. shown bytes s.point ∷ s.point ∷ []) seats ++ end ∷ [])

@@ -28,8 +28,7 @@ overflow_add-column c =
     let fits = column-fits t some bytes c.args.self.now.line column at c.loop-byte.invariant inside in
     elim c.if-byte-eq9.branch [
       | then-byte-eq9 w ↦
-          let width : c.if-byte-eq9.column ≡ tab_width t column = w.column-is ∙ w.tab_width.ensures.width ∙ ap (λ n. tab_width n column) c.get-t.ensures.columns in
-          omega (arith, fits.0, width)
+          omega (arith, fits.0, (w.column-is ∙ w.tab_width.ensures.width ∙ ap (λ n. tab_width n column) c.get-t.ensures.columns))
       | else-byte-eq9 w ↦ omega (arith, w.column-is, fits.1)
     ]
 

@@ -7,8 +7,7 @@ returns-then-index-bytes c = record { character = sym (none_after c.args.bytes.n
 
 pub returns-in-Ok : goal.returns-in-Ok
 returns-in-Ok c =
-    let bs = c.args.bytes.now in
-    let part = char_after_part bs c.args.index c.char_end-end.result c.requires.text c.char_end-end.ensures.after c.char_end-end.ensures.inside c.requires.boundary c.char_end-end.ensures.boundary in
+    let part = char_after_part c.args.bytes.now c.args.index c.char_end-end.result c.requires.text c.char_end-end.ensures.after c.char_end-end.ensures.inside c.requires.boundary c.char_end-end.ensures.boundary in
     record { character = c.next.ensures.steps.2 ∙ ap (λ xs. slice_get (chars xs) 0) (c.chars.ensures.rest ∙ c.in-Ok.ensures.cases.0) ∙ sym part }
 
 pub returns-in-Err : goal.returns-in-Err

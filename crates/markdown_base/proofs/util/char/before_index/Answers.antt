@@ -11,8 +11,7 @@ returns-in-Ok c =
     let start = c.char_start-start.result in
     let part = char_before_part bs start c.args.index c.requires.text c.char_start-start.ensures.before c.requires.boundary.0 c.char_start-start.ensures.boundary c.requires.boundary in
     let text = IsUtf8-between bs start c.args.index c.requires.text (omega arith) c.char_start-start.ensures.boundary c.requires.boundary in
-    let whole = encodes-chars (take (c.args.index - start) (drop start bs)) text ∙ sym (c.chars.ensures.rest ∙ c.in-Ok.ensures.cases.0) in
-    let drained = Chars-Drains _ c.last.ensures.ran.0 c.chars.result whole c.last.ensures.ran.1 in
+    let drained = Chars-Drains _ c.last.ensures.ran.0 c.chars.result (encodes-chars (take (c.args.index - start) (drop start bs)) text ∙ sym (c.chars.ensures.rest ∙ c.in-Ok.ensures.cases.0)) c.last.ensures.ran.1 in
     record { character = c.last.ensures.ran.2 ∙ ap (λ xs. last_or None xs) drained ∙ sym part }
 
 pub returns-in-Err : goal.returns-in-Err

@@ -14,5 +14,4 @@ pub invariant_of-result : goal.invariant_of-result
 invariant_of-result c =
     let all : c.loop-index.index ≡ length c.args.bytes.now + 1 = omega arith in
     let fits : length c.args.bytes.now + 1 < 2 ^ 64 = omega arith in
-    let items : c.loop-index.starts.items ≡ filter (is_line_start c.args.bytes.now) (range_with_len 0 (length c.args.bytes.now + 1)) = c.loop-index.invariant ∙ ap (λ n. filter (is_line_start c.args.bytes.now) (range_with_len 0 n)) all in
-    subst (IsKept (length c.args.bytes.now)) (sym items) (lines_are_kept c.args.bytes.now fits)
+    subst (IsKept (length c.args.bytes.now)) (sym (c.loop-index.invariant ∙ ap (λ n. filter (is_line_start c.args.bytes.now) (range_with_len 0 n)) all)) (lines_are_kept c.args.bytes.now fits)

@@ -27,8 +27,7 @@ loop-stop-preserved c = record {
 
 pub returns-in_err-start : goal.returns-in_err-start
 returns-in_err-start c =
-    let last = left (goal.at.returns-in_err-start c).Left-loop-stop in
-    record { offset = c.from_residual.ensures ∙ ap (λ o. option_map (λ (stop : ℕ × ℕ). stop.1 + (c.args.relative - stop.0)) o) (sym c.in_err-start.was ∙ last) }
+    record { offset = c.from_residual.ensures ∙ ap (λ o. option_map (λ (stop : ℕ × ℕ). stop.1 + (c.args.relative - stop.0)) o) (sym c.in_err-start.was ∙ (left (goal.at.returns-in_err-start c).Left-loop-stop)) }
 
 pub overflow_add-result : goal.overflow_add-result
 overflow_add-result c =
@@ -39,5 +38,4 @@ overflow_add-result c =
 
 pub returns : goal.returns
 returns c =
-    let last = left (goal.at.returns c).Left-loop-stop in
-    record { offset = ap (λ o. option_map (λ (stop : ℕ × ℕ). stop.1 + (c.args.relative - stop.0)) o) (sym c.in_ok-start.was ∙ last) }
+    record { offset = ap (λ o. option_map (λ (stop : ℕ × ℕ). stop.1 + (c.args.relative - stop.0)) o) (sym c.in_ok-start.was ∙ (left (goal.at.returns c).Left-loop-stop)) }

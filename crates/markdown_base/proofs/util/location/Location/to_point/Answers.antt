@@ -24,9 +24,8 @@ overflow_sub-offset c =
     let xs = c.self.inside.starts.items in
     let least = some_line c.self.inside.end c.args.offset xs n c.self.invariant (divides p) in
     let within : n - 1 < length xs = omega (arith, inside p) in
-    let read = get_or_read xs (n - 1) _ within c.index.ensures 0 in
     let next : n ≡ suc (n - 1) = omega arith in
-    omega (arith, read, starts_before c.args.offset xs (n - 1) (subst (Divides c.args.offset xs) next (divides p)))
+    omega (arith, (get_or_read xs (n - 1) _ within c.index.ensures 0), starts_before c.args.offset xs (n - 1) (subst (Divides c.args.offset xs) next (divides p)))
 
 pub returns : goal.returns
 returns c =
@@ -35,6 +34,5 @@ returns c =
     let xs = c.self.inside.starts.items in
     let least = some_line c.self.inside.end c.args.offset xs n c.self.invariant (divides p) in
     let within : n - 1 < length xs = omega (arith, inside p) in
-    let read = get_or_read xs (n - 1) _ within c.index.ensures 0 in
     let found = point_found c.self.inside.end c.args.offset xs n c.self.invariant c.if-offset-self.false (inside p) (divides p) in
-    record { point = rw (c.new.ensures, read, ← c.self.view_is) found }
+    record { point = rw (c.new.ensures, get_or_read xs (n - 1) _ within c.index.ensures 0, ← c.self.view_is) found }

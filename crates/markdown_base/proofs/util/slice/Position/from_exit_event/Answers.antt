@@ -13,13 +13,11 @@ found c =
 
 pub unreachable-requires : goal.unreachable-requires
 unreachable-requires c =
-    let none = ap (λ o. option_map (λ (y : Bor Event). y.now) o) (sym c.in-None.is) ∙ found (goal.at.unreachable-requires c).After-find in
-    false≢true (rw (← none) at c.requires.opened)
+    false≢true (rw (← (ap (λ o. option_map (λ (y : Bor Event). y.now) o) (sym c.in-None.is) ∙ found (goal.at.unreachable-requires c).After-find)) at c.requires.opened)
 
 pub returns-clause-start : goal.returns-clause-start
 returns-clause-start c =
-    let is = ap (λ o. option_map (λ (y : Bor Event). y.now) o) (sym c.in-Some.is) ∙ found (goal.at.returns-clause-start c).After-find in
-    ap (λ o. option_map (λ (e : Event). e.point) o) (sym is)
+    ap (λ o. option_map (λ (e : Event). e.point) o) (sym (ap (λ o. option_map (λ (y : Bor Event). y.now) o) (sym c.in-Some.is) ∙ found (goal.at.returns-clause-start c).After-find))
 
 pub returns-clause-end : goal.returns-clause-end
 returns-clause-end c = ap (λ o. option_map (λ (e : Event). e.point) o) (slice_get-get_or c.args.events.now c.args.index filler (exit_inside c.args.events.now c.args.index c.requires.opened))

@@ -14,18 +14,15 @@ spaces_before-requires c =
 
 pub first_byte-from-requires : goal.first_byte-from-requires
 first_byte-from-requires c =
-    let inside = place_inside c.args.tab_size (some c.get-t.ensures.columns c.get-t.ensures.least) c.args.bytes.now c.args.position.now.start.now c.requires.start_is_place in
-    record { fits = omega (arith, inside.0) }
+    record { fits = omega (arith, (place_inside c.args.tab_size (some c.get-t.ensures.columns c.get-t.ensures.least) c.args.bytes.now c.args.position.now.start.now c.requires.start_is_place).0) }
 
 pub first_byte-to-requires : goal.first_byte-to-requires
 first_byte-to-requires c =
-    let inside = place_inside c.args.tab_size (some c.get-t.ensures.columns c.get-t.ensures.least) c.args.bytes.now c.args.position.now.end.now c.requires.end_is_place in
-    record { fits = omega (arith, inside.0) }
+    record { fits = omega (arith, (place_inside c.args.tab_size (some c.get-t.ensures.columns c.get-t.ensures.least) c.args.bytes.now c.args.position.now.end.now c.requires.end_is_place).0) }
 
 pub slice_bounds-result-end : goal.slice_bounds-result-end
 slice_bounds-result-end c =
-    let inside = place_inside c.args.tab_size (some c.get-t.ensures.columns c.get-t.ensures.least) c.args.bytes.now c.args.position.now.end.now c.requires.end_is_place in
-    omega (arith, inside.1)
+    omega (arith, (place_inside c.args.tab_size (some c.get-t.ensures.columns c.get-t.ensures.least) c.args.bytes.now c.args.position.now.end.now c.requires.end_is_place).1)
 
 pub returns-clause-bytes : goal.returns-clause-bytes
 returns-clause-bytes c =
