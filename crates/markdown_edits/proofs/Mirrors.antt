@@ -1,5 +1,5 @@
 -- Lists seen from behind: a walk back is a walk over the mirror, and goes as far as the longest run that ends there.
-use Rattle.markdown_edits.proofs.Prelude.{◌≡◌, ℕ, zero, suc, ◌+◌, ◌-◌, ◌<◌, ◌≤◌, true, false, cond, Some, List, [], ◌∷◌, ◌++◌, length, take, drop, get_or, refl, sym, ◌∙◌, ap, subst, arith, append_assoc, append-nil, length-append, length-drop, take-append-drop, drop-append_seam, length-take-le, between, Event, Kind, Enter, Exit, Name, IsBalanced, empty, span, names_after_all, IsSpanRun, no_span, one_more, is_wanted, IsLongestRunTo, IsFront, run_len, is_stop, depth_after, flip, flip_kind, mirror}
+use Rattle.markdown_edits.proofs.Prelude.{◌≡◌, ℕ, zero, suc, ◌+◌, ◌-◌, ◌<◌, ◌≤◌, true, false, cond, Some, List, [], ◌∷◌, ◌++◌, length, take, drop, get_or, refl, sym, ◌∙◌, ap, subst, arith, append_assoc, append-nil, length-append, length-drop, take-append-drop, drop-append_seam, drop-take, length-take-le, between, Event, Kind, Enter, Exit, Name, IsBalanced, empty, span, names_after_all, IsSpanRun, no_span, one_more, is_wanted, IsLongestRunTo, IsFront, run_len, is_stop, depth_after, flip, flip_kind, mirror}
 use Rattle.markdown_edits.proofs.Balanced.{IsBalanced-append}
 use Rattle.markdown_edits.proofs.SpanRuns.{span_and_run, span_parts, run_len-run, run_len-le, suffix_closes}
 
@@ -62,16 +62,10 @@ module _ (names : List Name) where
       sym (drop-append_seam (mirror (drop n m)) (mirror (take n m))) ∙ ap (λ k. drop k (mirror (drop n m) ++ mirror (take n m))) len ∙ ap (drop (length xs - n)) whole
 
   -- a stretch is a back of a front, or a front of a back
-  drop_take : (a b : ℕ) (xs : List Event) → drop a (take b xs) ≡ take (b - a) (drop a xs)
-  drop_take zero b xs = let z : b ≡ b - 0 = omega arith in ap (λ k. take k xs) z
-  drop_take (suc a) zero [] = let z : 0 ≡ 0 - suc a = omega arith in ap (λ k. take {A = Event} k []) z
-  drop_take (suc a) (suc b) [] = nil (suc b - suc a)
-    where
-      nil : (k : ℕ) → [] ≡ take {A = Event} k []
-      nil zero = refl
-      nil (suc k) = refl
-  drop_take (suc a) zero (x ∷ xs) = let z : 0 ≡ 0 - suc a = omega arith in ap (λ k. take k (drop a xs)) z
-  drop_take (suc a) (suc b) (x ∷ xs) = let z : b - a ≡ suc b - suc a = omega arith in drop_take a b xs ∙ ap (λ k. take k (drop a xs)) z
+  drop_take : (a b : ℕ) (xs : List Event) → a ≤ b → drop a (take b xs) ≡ take (b - a) (drop a xs)
+  drop_take a b xs l =
+      let z : a + (b - a) ≡ b = omega arith in
+      subst (λ k. drop a (take k xs) ≡ take (b - a) (drop a xs)) z (drop-take a (b - a) xs)
 
   -- the walk back from an index of a front of a balanced list
   pub IsLongestRunTo-walk : (events : List Event) (i j : ℕ) → IsFront events → i < length events → j + run_len names 0 (mirror (take (i + 1) events)) ≡ i + 1 → IsLongestRunTo names events i j
@@ -82,21 +76,19 @@ module _ (names : List Name) where
       let parts : f ++ rest ≡ events ++ b.0 = sym (append_assoc f (drop (i + 1) events) b.0) ∙ ap (λ t. t ++ b.0) (take-append-drop (i + 1) events) in
       let whole : IsBalanced (mirror rest ++ mirror f) = subst IsBalanced (mirror-append f rest) (IsBalanced-mirror (subst IsBalanced (sym parts) b.1)) in
       let n : ℕ = run_len names 0 (mirror f) in
-      let ran : IsSpanRun names (take n (mirror f)) = suffix_closes names (mirror rest) (mirror f) whole (names_after_all (Some []) (mirror rest)) refl in
       let nle : n ≤ length f = omega (arith, run_len-le names 0 (mirror f), length-mirror f) in
       let at : length f - n ≡ j = omega arith in
-      let back : mirror (take n (mirror f)) ≡ between j (i + 1) events = mirror_take n f nle ∙ ap (λ k. drop k f) at ∙ drop_take j (i + 1) events in
+      let back : mirror (take n (mirror f)) ≡ between j (i + 1) events = mirror_take n f nle ∙ ap (λ k. drop k f) at ∙ drop_take j (i + 1) events (omega arith) in
       record {
-        run = subst (IsSpanRun names) back (IsSpanRun-mirror ran);
+        run = subst (IsSpanRun names) back (IsSpanRun-mirror (suffix_closes names (mirror rest) (mirror f) whole (names_after_all (Some []) (mirror rest)) refl));
         order = omega arith;
-        longest = λ m k r. longest f flen e m k (subst (IsSpanRun names) (sym (drop_take m (i + 1) events)) r);
+        longest = λ m k r. longest f flen e m k (subst (IsSpanRun names) (sym (drop_take m (i + 1) events k)) r);
       }
     where
       longest : (f : List Event) → length f ≡ i + 1 → j + run_len names 0 (mirror f) ≡ i + 1 → (m : ℕ) → m ≤ i + 1 → IsSpanRun names (drop m f) → j ≤ m
       longest f flen e m k r =
-          let over = run_len-run names (IsSpanRun-mirror r) (mirror (take m f)) in
           let all : run_len names 0 (mirror f) ≡ length (mirror (drop m f)) + run_len names 0 (mirror (take m f)) =
-          ap (run_len names 0) (ap mirror (sym (take-append-drop m f)) ∙ mirror-append (take m f) (drop m f)) ∙ over in
+          ap (run_len names 0) (ap mirror (sym (take-append-drop m f)) ∙ mirror-append (take m f) (drop m f)) ∙ (run_len-run names (IsSpanRun-mirror r) (mirror (take m f))) in
           omega (arith, all, length-mirror (drop m f), length-drop m f)
 
 -- one event more in front

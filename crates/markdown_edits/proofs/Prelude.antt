@@ -3,7 +3,7 @@ pub use Rattle.std.proofs.Common.{Bool, Err, List, None, Ok, Option, Result, Som
 pub use Rattle.std.proofs.Math.Bool.{and-false}
 pub use Rattle.std.proofs.Math.Seq.{drop-append-add, drop-append_seam, take-append-add}
 pub use Rattle.std.proofs.lemmas.Bool.{cases_eq, cases_lt, cases_order, eq-eqb, eqb-true, le-leb, le-ltb, leb-false, leb-true, lt-leb, lt-ltb, ltb-true, ne_eqb}
-pub use Rattle.std.proofs.lemmas.List.{drop-append-le, drop-drop, drop_all, get_or-take, get_or_default, length-map, length-take-le, length_push, map-append, take-append-le, take-map, take_all}
+pub use Rattle.std.proofs.lemmas.List.{drop-take, drop-append-le, drop-drop, drop_all, get_or-take, get_or_default, length-map, length-take-le, length_push, map-append, take-append-le, take-map, take_all}
 pub use Rattle.std.proofs.lemmas.List.Elements.{All-append, All-drop, All-from_recursion, All-head, All-map, All-tail, All-take, recursion_from_All}
 pub use Rattle.std.proofs.lemmas.List.Sorted.{IsPartitionPoint-from_clause, IsPartitionedBy-leb}
 pub use Rattle.std.proofs.lemmas.Map.Iter.{rest_more}
@@ -42,3 +42,5 @@ pub use Rattle.markdown_edits.specs.Woven.{Change, Identity, Tagged, as_listed, 
 pub use Rattle.markdown_edits.specs.declared.pool.Entry.{Entry}
 pub use Rattle.markdown_edits.specs.declared.replacement.Replacement.{Replacement}
 pub use Rattle.markdown_edits.specs.declared.shift.Shift.{Shift}
+pub use Rattle.std.proofs.lemmas.Bool.Decides.{nat_tests}
+pub use Rattle.std.proofs.lemmas.Grind.{common_steps}

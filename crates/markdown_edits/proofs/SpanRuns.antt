@@ -1,9 +1,6 @@
 -- The walk over wanted spans goes as far as the longest run.
-use Rattle.markdown_edits.proofs.Prelude.{◌≡◌, ℕ, suc, ◌+◌, ◌-◌, ◌≤◌, Bool, true, false, cond, Option, Some, None, List, [], ◌∷◌, ◌++◌, length, take, drop, refl, sym, ◌∙◌, ap, subst, arith, append_assoc, append-nil, length-append, length-drop, take-append-drop, eqb, and-false, take-append-add, ne_eqb, length-take-le, Event, Enter, Exit, Name, IsBalanced, empty, span, IsSpan, IsSpanRun, no_span, one_more, is_wanted, IsLongestRunFrom, is_enter, run_len, is_stop, depth_after, names_after_all}
+use Rattle.markdown_edits.proofs.Prelude.{◌≡◌, ℕ, suc, ◌+◌, ◌-◌, ◌≤◌, Bool, true, false, cond, Option, Some, None, List, [], ◌∷◌, ◌++◌, length, take, drop, refl, sym, ◌∙◌, ap, subst, arith, append_assoc, append-nil, length-append, length-drop, take-append-drop, eqb, and-false, take-append-add, ne_eqb, length-take-le, Event, Enter, Exit, Name, IsBalanced, empty, span, IsSpan, IsSpanRun, no_span, one_more, is_wanted, IsLongestRunFrom, is_enter, run_len, is_stop, depth_after, names_after_all, nat_tests}
 use Rattle.markdown_edits.proofs.Balanced.{Closes, all_closed, closing, closes_from_open, names_after_all-append, names_after_balanced, none_is_not_some}
-
-eqb_suc : (d : ℕ) → eqb (suc d) 0 ≡ false
-eqb_suc d = let ne : suc d ≡ 0 → ⊥ = omega arith in ne_eqb (suc d) 0 ne
 
 module _ (names : List Name) where
   -- a span in front of a run
@@ -18,22 +15,13 @@ module _ (names : List Name) where
 
   -- one event on, inside a span
   enter_inside : (e : Event) (es : List Event) (d : ℕ) → e.kind ≡ Enter → run_len names (suc d) (e ∷ es) ≡ suc (run_len names (suc (suc d)) es)
-  enter_inside e es d k =
-      let a : suc d + 1 ≡ suc (suc d) = omega arith in
-      let b : 1 + run_len names (suc (suc d)) es ≡ suc (run_len names (suc (suc d)) es) = omega arith in
-      rw (eqb_suc d, k, a) b
+  enter_inside e es d k = grind (arith, nat_tests)
 
   exit_inside : (e : Event) (es : List Event) (d : ℕ) → e.kind ≡ Exit → run_len names (suc d) (e ∷ es) ≡ suc (run_len names d es)
-  exit_inside e es d k =
-      let a : suc d - 1 ≡ d = omega arith in
-      let b : 1 + run_len names d es ≡ suc (run_len names d es) = omega arith in
-      rw (eqb_suc d, k, a) b
+  exit_inside e es d k = grind (arith, nat_tests)
 
   enter_wanted : (e : Event) (es : List Event) → e.kind ≡ Enter → is_wanted names e.name ≡ true → run_len names 0 (e ∷ es) ≡ suc (run_len names 1 es)
-  enter_wanted e es k w =
-      let a : 0 + 1 ≡ 1 = omega arith in
-      let b : 1 + run_len names 1 es ≡ suc (run_len names 1 es) = omega arith in
-      rw (k, w) b
+  enter_wanted e es k w = grind (arith, nat_tests)
 
   enter_other : (e : Event) (es : List Event) → is_wanted names e.name ≡ false → run_len names 0 (e ∷ es) ≡ 0
   enter_other e es w = rw (w, and-false (is_enter e.kind)) refl
@@ -82,9 +70,8 @@ module _ (names : List Name) where
       wanted_or_not : (w : Bool) → is_wanted names e.name ≡ w → IsSpanRun names (take (run_len names 0 (vs ++ ys)) (vs ++ ys)) → IsSpanRun names (take (run_len names 0 (e ∷ (us ++ f ∷ (vs ++ ys)))) (e ∷ (us ++ f ∷ (vs ++ ys))))
       wanted_or_not false w r = rw (enter_other e (us ++ f ∷ (vs ++ ys)) w) no_span
       wanted_or_not true w r =
-          let front : take (length us + suc (run_len names 0 (vs ++ ys))) (us ++ f ∷ (vs ++ ys)) ≡ us ++ f ∷ take (run_len names 0 (vs ++ ys)) (vs ++ ys) = take-append-add us (f ∷ (vs ++ ys)) (suc (run_len names 0 (vs ++ ys))) in
           rw (run_len-span e f us (vs ++ ys) en w ex b)
-          (span_and_run e f us (take (run_len names 0 (vs ++ ys)) (vs ++ ys)) (ap (λ (t : List Event). e ∷ t) front) en w ex same b r)
+          (span_and_run e f us (take (run_len names 0 (vs ++ ys)) (vs ++ ys)) (ap (λ (t : List Event). e ∷ t) (take-append-add us (f ∷ (vs ++ ys)) (suc (run_len names 0 (vs ++ ys))))) en w ex same b r)
 
   -- what is left of a balanced list
   IsSpanRun-closes : {st : List Name} {l : List Event} → Closes st l → IsSpanRun names (take (run_len names 0 l) l)
@@ -94,8 +81,7 @@ module _ (names : List Name) where
   -- the rest of a balanced list after a front of it: a walk over it goes over a run
   pub suffix_closes : (front rest : List Event) → IsBalanced (front ++ rest) → (o : Option (List Name)) → names_after_all (Some []) front ≡ o → IsSpanRun names (take (run_len names 0 rest) rest)
   suffix_closes front rest b None e =
-      let no : None ≡ Some [] = ap (λ o. names_after_all o rest) (sym e) ∙ sym (names_after_all-append (Some []) front rest) ∙ names_after_balanced b [] in
-      none_is_not_some [] (IsSpanRun names (take (run_len names 0 rest) rest)) no
+      none_is_not_some [] (IsSpanRun names (take (run_len names 0 rest) rest)) (ap (λ o. names_after_all o rest) (sym e) ∙ sym (names_after_all-append (Some []) front rest) ∙ names_after_balanced b [])
   suffix_closes front rest b (Some st) e =
       IsSpanRun-closes (closes_from_open rest st (ap (λ o. names_after_all o rest) (sym e) ∙ sym (names_after_all-append (Some []) front rest) ∙ names_after_balanced b []))
 
@@ -122,11 +108,9 @@ module _ (names : List Name) where
     where
       longest : (m : ℕ) → m ≤ length events → IsSpanRun names (take (m - i) (drop i events)) → m ≤ j
       longest m k r =
-          let len : length (take (m - i) (drop i events)) ≡ m - i = length-take-le (m - i) (drop i events) (omega (arith, length-drop i events)) in
-          let over = run_len-run r (drop (m - i) (drop i events)) in
           let all : run_len names 0 (drop i events) ≡ length (take (m - i) (drop i events)) + run_len names 0 (drop (m - i) (drop i events)) =
-          ap (run_len names 0) (sym (take-append-drop (m - i) (drop i events))) ∙ over in
-          omega (arith, all, len)
+          ap (run_len names 0) (sym (take-append-drop (m - i) (drop i events))) ∙ (run_len-run r (drop (m - i) (drop i events))) in
+          omega (arith, all, (length-take-le (m - i) (drop i events) (omega (arith, length-drop i events))))
 
   -- past the end of a list the longest run is empty
   pub IsLongestRunFrom-past : (events : List Event) (i : ℕ) → length events ≤ i → IsLongestRunFrom names events i i

@@ -1,37 +1,18 @@
 -- Changes of the entries, as changes of what they mean.
-use Rattle.markdown_edits.proofs.Prelude.{◌≡◌, ℕ, ◌+◌, ◌<◌, ◌≤◌, Bool, true, false, cond, eqb, ltb, List, [], ◌∷◌, ◌++◌, Option, Some, None, refl, sym, ◌∙◌, ap, ⊎_elim, arith, nat_cmp, is_eq, is_at, insert_entry, lookup, set_value, keys_of, AllByRecursion, IsStrictlySortedBy, Less, Greater, ne_eqb, eq-eqb, lt-ltb, le-ltb, cases_order, sorted_head, sorted_tail, Event, every-append, every-map, Edit, merged, put_by, removal_at, as_edit, edits_of, IsAscending, Replacement}
+use Rattle.markdown_edits.proofs.Prelude.{◌≡◌, ℕ, ◌+◌, ◌<◌, ◌≤◌, Bool, true, false, cond, eqb, ltb, List, [], ◌∷◌, ◌++◌, Option, Some, None, refl, sym, ◌∙◌, ap, ⊎_elim, arith, nat_cmp, is_eq, is_at, insert_entry, lookup, set_value, keys_of, AllByRecursion, IsStrictlySortedBy, Less, Greater, ne_eqb, eq-eqb, lt-ltb, le-ltb, cases_order, sorted_head, sorted_tail, Event, every-append, every-map, Edit, merged, put_by, removal_at, as_edit, edits_of, IsAscending, Replacement, nat_tests}
 use Rattle.markdown_edits.proofs.Edits.Puts.{put-same, put-more}
 
 at_same : (k x : ℕ) → k ≡ x → is_at (nat_cmp k) x ≡ true
-at_same k x e =
-    let a : ltb k x ≡ false = le-ltb k x (omega arith) in
-    let b : eqb k x ≡ true = eq-eqb k x e in
-    rw (a, b) refl
+at_same k x e = grind (arith, nat_tests)
 
 at_less : (k x : ℕ) → k < x → is_at (nat_cmp k) x ≡ false
-at_less k x l = let a : ltb k x ≡ true = lt-ltb k x l in rw a refl
+at_less k x l = grind (arith, nat_tests)
 
 at_more : (k x : ℕ) → x < k → is_at (nat_cmp k) x ≡ false
-at_more k x l =
-    let a : ltb k x ≡ false = le-ltb k x (omega arith) in
-    let b : eqb k x ≡ false = ne_eqb k x (omega arith) in
-    rw (a, b) refl
+at_more k x l = grind (arith, nat_tests)
 
 less_from_cmp : (x y : ℕ) → nat_cmp x y ≡ Less → x < y
-less_from_cmp x y e = ⊎_elim
-    (λ (q : x ≡ y). let t : is_at (nat_cmp x) y ≡ true = at_same x y q in absurd (no (sym (ap is_eq e) ∙ t)))
-    (⊎_elim (λ (q : x < y). q) (λ (q : y < x).
-    let a : ltb x y ≡ false = le-ltb x y (omega arith) in
-    let b : eqb x y ≡ false = ne_eqb x y (omega arith) in
-    let g : nat_cmp x y ≡ Greater = rw (a, b) refl in
-    absurd (no' (sym g ∙ e))))
-    (cases_order x y)
-  where
-    no : false ≡ true → ⊥
-    no e = cc
-
-    no' : Greater ≡ Less → ⊥
-    no' e = cc
+less_from_cmp x y e = grind (arith, nat_tests)
 
 none_above : (es : List (ℕ × Replacement)) (k x : ℕ) → k < x → AllByRecursion (λ y. nat_cmp x y ≡ Less) (keys_of es) → lookup (is_at (nat_cmp k)) es ≡ None
 none_above [] k x l h = refl
@@ -43,14 +24,11 @@ none_above (e ∷ es) k x l h =
 same_edit : (k : ℕ) (v w x : Replacement) → w.remove ≡ v.remove → w.additions.items ≡ v.additions.items → x ≡ v → as_edit (k, w) ≡ as_edit (k, x)
 same_edit k v w x r a q = λ i. let d : Edit = record { index = k; remove = (r ∙ sym (ap (λ (y : Replacement). y.remove) q)) i; additions = (a ∙ sym (ap (λ (y : Replacement). y.additions.items) q)) i } in d
 
-set_same_step : (b : Bool) (e : ℕ × Replacement) (es fs : List (ℕ × Replacement)) (o : Option Replacement) (v w : Replacement) → w.remove ≡ v.remove → w.additions.items ≡ v.additions.items → cond b (Some e.1) o ≡ Some v
-    → (o ≡ Some v → edits_of fs ≡ edits_of es) → edits_of (cond b ((e.0, w) ∷ es) (e ∷ fs)) ≡ edits_of (e ∷ es)
-set_same_step true e es fs o v w r a h rest = ap (λ d. d ∷ edits_of es) (same_edit e.0 v w e.1 r a cc)
-set_same_step false e es fs o v w r a h rest = ap (λ ds. as_edit e ∷ ds) (rest h)
-
 pub set_same : (test : ℕ → Bool) (es : List (ℕ × Replacement)) (v w : Replacement) → lookup test es ≡ Some v → w.remove ≡ v.remove → w.additions.items ≡ v.additions.items → edits_of (set_value test es w) ≡ edits_of es
 set_same test [] v w h r a = refl
-set_same test (e ∷ es) v w h r a = set_same_step (test e.0) e es (set_value test es w) (lookup test es) v w r a h (λ h. set_same test es v w h r a)
+set_same test (e ∷ es) v w h r a =
+    let rest : lookup test es ≡ Some v → edits_of (set_value test es w) ≡ edits_of es = λ found. set_same test es v w found r a in
+    grind (arith, nat_tests)
 
 -- a value changed at a key that is there
 pub set_put : (f : List Event → List Event → List Event) (k : ℕ) (es : List (ℕ × Replacement)) (v w : Replacement) (d : Edit) → IsStrictlySortedBy nat_cmp (keys_of es) → lookup (is_at (nat_cmp k)) es ≡ Some v
@@ -67,8 +45,7 @@ set_put f k (e ∷ es) v w d s h i r a = ⊎_elim
     (⊎_elim
     (λ (q : k < e.0).
     let later : lookup (is_at (nat_cmp k)) es ≡ Some v = rw (at_less k e.0 q) at h in
-    let none : lookup (is_at (nat_cmp k)) es ≡ None = none_above es k e.0 q (sorted_head nat_cmp e.0 (keys_of es) s) in
-    absurd (no_both (lookup (is_at (nat_cmp k)) es) v none later))
+    absurd (no_both (lookup (is_at (nat_cmp k)) es) v (none_above es k e.0 q (sorted_head nat_cmp e.0 (keys_of es) s)) later))
     (λ (q : e.0 < k).
     let later : lookup (is_at (nat_cmp k)) es ≡ Some v = rw (at_more k e.0 q) at h in
     rw (at_more k e.0 q) (ap (λ ds. as_edit e ∷ ds) (set_put f k es v w d (sorted_tail nat_cmp e.0 (keys_of es) s) later i r a) ∙ sym (put-more f (as_edit e) d (edits_of es) (omega arith)))))
@@ -83,42 +60,11 @@ set_put f k (e ∷ es) v w d s h i r a = ⊎_elim
 -- a new key
 pub insert_put : (f : List Event → List Event → List Event) (k : ℕ) (es : List (ℕ × Replacement)) (w : Replacement) → lookup (is_at (nat_cmp k)) es ≡ None → edits_of (insert_entry nat_cmp es k w) ≡ put_by f (edits_of es) (as_edit (k, w))
 insert_put f k [] w h = refl
-insert_put f k (e ∷ es) w h = ⊎_elim
-    (λ (q : k ≡ e.0).
-    let found : Some e.1 ≡ None = rw (at_same k e.0 q) at h in
-    absurd (no_value e.1 found))
-    (⊎_elim
-    (λ (q : k < e.0). let a : ltb k e.0 ≡ true = lt-ltb k e.0 q in rw a refl)
-    (λ (q : e.0 < k).
-    let a : ltb k e.0 ≡ false = le-ltb k e.0 (omega arith) in
-    let b : eqb k e.0 ≡ false = ne_eqb k e.0 (omega arith) in
-    let later : lookup (is_at (nat_cmp k)) es ≡ None = rw (at_more k e.0 q) at h in
-    rw (a, b) (ap (λ ds. as_edit e ∷ ds) (insert_put f k es w later))))
-    (cases_order k e.0)
-  where
-    no_value : (v : Replacement) → Some v ≡ None → ⊥
-    no_value v e = cc
+insert_put f k (e ∷ es) w h = let rest = insert_put f k es w in grind (arith, nat_tests)
 
 pub remove-le-removal_at : (k : ℕ) (es : List (ℕ × Replacement)) (v : Replacement) → lookup (is_at (nat_cmp k)) es ≡ Some v → v.remove ≤ removal_at (edits_of es) k
-remove-le-removal_at k [] v h = no_value v h
-  where
-    no_value : (v : Replacement) → None ≡ Some v → v.remove ≤ 0
-    no_value v e = cc
-remove-le-removal_at k (e ∷ es) v h = ⊎_elim
-    (λ (q : k ≡ e.0).
-    let found : Some e.1 ≡ Some v = rw (at_same k e.0 q) at h in
-    let x : e.1 ≡ v = cc in
-    let m : e.1.remove ≡ v.remove = ap (λ (y : Replacement). y.remove) x in
-    let t : eqb e.0 k ≡ true = eq-eqb e.0 k (sym q) in
-    counted (eqb e.0 k) t m)
-    (⊎_elim
-    (λ (q : k < e.0). let later : lookup (is_at (nat_cmp k)) es ≡ Some v = rw (at_less k e.0 q) at h in omega (arith, remove-le-removal_at k es v later))
-    (λ (q : e.0 < k). let later : lookup (is_at (nat_cmp k)) es ≡ Some v = rw (at_more k e.0 q) at h in omega (arith, remove-le-removal_at k es v later)))
-    (cases_order k e.0)
-  where
-    counted : (b : Bool) → b ≡ true → e.1.remove ≡ v.remove → v.remove ≤ cond b e.1.remove 0 + removal_at (edits_of es) k
-    counted true t m = omega arith
-    counted false t m = cc
+remove-le-removal_at k [] v h = cc
+remove-le-removal_at k (e ∷ es) v h = let rest = remove-le-removal_at k es v in grind (arith, nat_tests)
 
 keys-below : (k : ℕ) (es : List (ℕ × Replacement)) → AllByRecursion (λ y. nat_cmp k y ≡ Less) (keys_of es) → AllByRecursion (λ (d : Edit). k < d.index) (edits_of es)
 keys-below k [] h = tt
@@ -149,10 +95,9 @@ below-next (e ∷ es) d ds h = (head-of (λ (x : Edit). e.index < x.index) es d 
 pub insert_behind : (k : ℕ) (es : List (ℕ × Replacement)) (w : Replacement) → AllByRecursion (λ (e : Edit). e.index < k) (edits_of es) → insert_entry nat_cmp es k w ≡ es ++ (k, w) ∷ []
 insert_behind k [] w h = refl
 insert_behind k (e ∷ es) w h =
-    let q : e.0 < k = h.0 in
-    let a : ltb k e.0 ≡ false = le-ltb k e.0 (omega arith) in
-    let b : eqb k e.0 ≡ false = ne_eqb k e.0 (omega arith) in
-    rw (a, b) (ap (λ ds. e ∷ ds) (insert_behind k es w h.1))
+    let below : e.0 < k = h.0 in
+    let rest = insert_behind k es w h.1 in
+    grind (arith, nat_tests)
 
 -- a new key before all
 pub insert_front : (k : ℕ) (es : List (ℕ × Replacement)) (w : Replacement) → AllByRecursion (λ (e : Edit). k < e.index) (edits_of es) → insert_entry nat_cmp es k w ≡ (k, w) ∷ es

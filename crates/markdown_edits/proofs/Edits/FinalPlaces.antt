@@ -1,5 +1,5 @@
 -- The places of the events of a list after disjoint changes.
-use Rattle.markdown_edits.proofs.Prelude.{◌≡◌, ℕ, suc, ◌+◌, ◌-◌, ◌<◌, ◌≤◌, Bool, true, false, cond, eqb, ltb, List, [], ◌∷◌, ◌++◌, length, take, drop, Option, Some, None, refl, sym, ap, subst, ⊎_elim, arith, length-drop, AllByRecursion, option_map, ne_eqb, eq-eqb, lt-ltb, le-ltb, cases_lt, cases_eq, length-take-le, Event, Identity, of_list, Tagged, place_in, is_same, Change}
+use Rattle.markdown_edits.proofs.Prelude.{◌≡◌, ℕ, suc, ◌+◌, ◌-◌, ◌<◌, ◌≤◌, Bool, true, false, cond, eqb, ltb, List, [], ◌∷◌, ◌++◌, length, take, drop, Option, Some, None, refl, sym, ap, subst, ⊎_elim, arith, length-drop, AllByRecursion, option_map, ne_eqb, eq-eqb, lt-ltb, le-ltb, cases_lt, cases_eq, length-take-le, Event, Identity, of_list, Tagged, place_in, is_same, Change, nat_tests}
 use Rattle.markdown_edits.proofs.Edits.Passes.{olds, pass, AreApart, AreApart-le}
 
 -- the place in the first of two lists, or that in the second behind n
@@ -8,14 +8,10 @@ or_after n None o = option_map (λ p. n + p) o
 or_after n (Some p) o = Some p
 
 or_after-step : (c : Bool) (n : ℕ) (a o : Option ℕ) → cond c (Some 0) (option_map suc (or_after n a o)) ≡ or_after (suc n) (cond c (Some 0) (option_map suc a)) o
-or_after-step true n a o = refl
-or_after-step false n (Some p) o = refl
-or_after-step false n None None = refl
-or_after-step false n None (Some q) = let e : suc (n + q) ≡ suc n + q = omega arith in ap Some e
+or_after-step c n a o = grind (arith, nat_tests)
 
 or_after-zero : (o : Option ℕ) → o ≡ or_after 0 None o
-or_after-zero None = refl
-or_after-zero (Some p) = let e : p ≡ 0 + p = omega arith in ap Some e
+or_after-zero o = grind (arith, nat_tests)
 
 pub place_in-append : (b : Identity) (xs ys : List Tagged) → place_in b (xs ++ ys) ≡ or_after (length xs) (place_in b xs) (place_in b ys)
 place_in-append b [] ys = or_after-zero (place_in b ys)
@@ -37,26 +33,15 @@ old_place (e ∷ es) removed added n =
 
 pub place_in-olds : (n i : ℕ) (xs : List Event) → i ≤ n → n < i + length xs → place_in (of_list n) (olds i xs) ≡ Some (n - i)
 place_in-olds n i [] l m = absurd (omega arith)
-place_in-olds n i (x ∷ xs) l m = ⊎_elim
-    (λ (e : n ≡ i). let here : eqb n i ≡ true = eq-eqb n i e in let z : 0 ≡ n - i = omega arith in rw here (ap Some z))
-    (λ (ne : n ≡ i → ⊥).
-    let there : eqb n i ≡ false = ne_eqb n i ne in
-    let more : place_in (of_list n) (olds (i + 1) xs) ≡ Some (n - (i + 1)) = place_in-olds n (i + 1) xs (omega arith) (omega arith) in
-    let z : suc (n - (i + 1)) ≡ n - i = omega arith in
-    rw (there, more) (ap Some z))
-    (cases_eq n i)
+place_in-olds n i (x ∷ xs) l m = let rest = place_in-olds n (i + 1) xs in grind (arith, nat_tests)
 
 pub place_in-olds_below : (n i : ℕ) (xs : List Event) → n < i → place_in (of_list n) (olds i xs) ≡ None
 place_in-olds_below n i [] h = refl
-place_in-olds_below n i (x ∷ xs) h =
-    let there : eqb n i ≡ false = ne_eqb n i (omega arith) in
-    rw (there, place_in-olds_below n (i + 1) xs (omega arith)) refl
+place_in-olds_below n i (x ∷ xs) h = let rest = place_in-olds_below n (i + 1) xs (omega arith) in grind (arith, nat_tests)
 
 pub place_in-olds_above : (n i : ℕ) (xs : List Event) → i + length xs ≤ n → place_in (of_list n) (olds i xs) ≡ None
 place_in-olds_above n i [] h = refl
-place_in-olds_above n i (x ∷ xs) h =
-    let there : eqb n i ≡ false = ne_eqb n i (omega arith) in
-    rw (there, place_in-olds_above n (i + 1) xs (omega arith)) refl
+place_in-olds_above n i (x ∷ xs) h = let rest = place_in-olds_above n (i + 1) xs (omega arith) in grind (arith, nat_tests)
 
 -- one part of a pass: events that stay, those that come, and the rest
 pub place_in-part : (n i : ℕ) (xs : List Event) (adds ts : List Tagged) → place_in (of_list n) adds ≡ None → place_in (of_list n) (olds i xs ++ (adds ++ ts)) ≡ or_after (length xs) (place_in (of_list n) (olds i xs)) (or_after (length adds) None (place_in (of_list n) ts))
@@ -93,8 +78,7 @@ old_place-pass (e ∷ es) n i removed added xs h d r l m =
     let z : i - removed + added + (n - i) ≡ n - removed + added = omega arith in
     rw (t, place_in-olds n i (take (e.index - i) xs) l (omega arith)) (ap Some z))
     (λ (c : e.index ≤ n).
-    let t : ltb n e.index ≡ false = le-ltb n e.index c in
-    rw (t, place_in-olds_above n i (take (e.index - i) xs) (omega arith))
+    rw (le-ltb n e.index c, place_in-olds_above n i (take (e.index - i) xs) (omega arith))
     (⊎_elim
     (λ (u : n < e.index + e.remove).
     let v : ltb n (e.index + e.remove) ≡ true = lt-ltb n (e.index + e.remove) u in

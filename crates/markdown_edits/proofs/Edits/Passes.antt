@@ -1,5 +1,5 @@
 -- The list after disjoint changes, as one pass over changes and events gives it.
-use Rattle.markdown_edits.proofs.Prelude.{◌≡◌, ℕ, zero, suc, ◌+◌, ◌-◌, ◌<◌, ◌≤◌, true, false, eqb, ltb, leb, List, [], ◌∷◌, ◌++◌, length, take, drop, refl, sym, ◌∙◌, ap, subst, arith, append_assoc, append-nil, length-drop, add-zero, drop-drop, ne_eqb, eq-eqb, lt-ltb, le-ltb, le-leb, lt-leb, Event, Change, events_at, is_removed, Tagged, as_listed, woven}
+use Rattle.markdown_edits.proofs.Prelude.{◌≡◌, ℕ, zero, suc, ◌+◌, ◌-◌, ◌<◌, ◌≤◌, true, false, eqb, ltb, leb, List, [], ◌∷◌, ◌++◌, length, take, drop, refl, sym, ◌∙◌, ap, subst, arith, append_assoc, append-nil, length-drop, add-zero, drop-drop, ne_eqb, eq-eqb, lt-ltb, le-ltb, le-leb, lt-leb, Event, Change, events_at, is_removed, Tagged, as_listed, woven, nat_tests}
 pub use Rattle.markdown_edits.specs.Woven.{AreApart}
 
 -- events that stay, from index i on
@@ -18,59 +18,43 @@ pub events_at-none : (es : List Change) (from n i : ℕ) → AreApart from es n 
 events_at-none [] from n i d l = refl
 events_at-none (e ∷ es) from n i d l =
     let a : from ≤ e.index = d.0 in
-    let ne : eqb e.index i ≡ false = ne_eqb e.index i (omega arith) in
-    rw ne (events_at-none es (e.index + e.remove) n i d.1 (omega arith))
+    let rest = events_at-none es (e.index + e.remove) n i d.1 (omega arith) in
+    grind (arith, nat_tests)
 
 -- nothing is removed below the first change
 pub is_removed-none : (es : List Change) (from n i : ℕ) → AreApart from es n → i < from → is_removed es i ≡ false
 is_removed-none [] from n i d l = refl
 is_removed-none (e ∷ es) from n i d l =
     let a : from ≤ e.index = d.0 in
-    let no : leb e.index i ≡ false = lt-leb e.index i (omega arith) in
-    rw no (is_removed-none es (e.index + e.remove) n i d.1 (omega arith))
+    let rest = is_removed-none es (e.index + e.remove) n i d.1 (omega arith) in
+    grind (arith, nat_tests)
 
 -- a change does not matter behind its end
 pub woven-past : (e : Change) (es : List Change) (i : ℕ) (xs : List Event) → e.index < i → e.index + e.remove ≤ i → woven (e ∷ es) i xs ≡ woven es i xs
-woven-past e es i [] l m = let ne : eqb e.index i ≡ false = ne_eqb e.index i (omega arith) in rw ne refl
-woven-past e es i (x ∷ xs) l m =
-    let ne : eqb e.index i ≡ false = ne_eqb e.index i (omega arith) in
-    let yes : leb e.index i ≡ true = le-leb e.index i (omega arith) in
-    let no : ltb i (e.index + e.remove) ≡ false = le-ltb i (e.index + e.remove) m in
-    rw (ne, yes, no, woven-past e es (i + 1) xs (omega arith) (omega arith)) refl
+woven-past e es i [] l m = grind (arith, nat_tests)
+woven-past e es i (x ∷ xs) l m = let rest = woven-past e es (i + 1) xs (omega arith) (omega arith) in grind (arith, nat_tests)
 
 -- inside a change, behind its index: its other events go
 pub woven-inside : (e : Change) (es : List Change) (n r i : ℕ) (xs : List Event) → AreApart (e.index + e.remove) es n → e.index < i → i + r ≡ e.index + e.remove → r ≤ length xs → woven (e ∷ es) i xs ≡ woven es (i + r) (drop r xs)
 woven-inside e es n zero i xs d l m f = rw add-zero (woven-past e es i xs l (omega arith))
 woven-inside e es n (suc r) i [] d l m f = absurd (omega arith)
 woven-inside e es n (suc r) i (x ∷ xs) d l m f =
-    let ne : eqb e.index i ≡ false = ne_eqb e.index i (omega arith) in
-    let yes : leb e.index i ≡ true = le-leb e.index i (omega arith) in
-    let in' : ltb i (e.index + e.remove) ≡ true = lt-ltb i (e.index + e.remove) (omega arith) in
     let none : events_at es i ≡ [] = events_at-none es (e.index + e.remove) n i d (omega arith) in
-    let more : woven (e ∷ es) (i + 1) xs ≡ woven es (i + 1 + r) (drop r xs) = woven-inside e es n r (i + 1) xs d (omega arith) (omega arith) (omega arith) in
-    let here : i + 1 + r ≡ i + suc r = omega arith in
-    rw (ne, yes, in', none, more, here) refl
+    let rest = woven-inside e es n r (i + 1) xs d (omega arith) (omega arith) (omega arith) in
+    grind (arith, nat_tests)
 
 -- at a change's index: the events that come, then the events after its end
 pub woven-at : (e : Change) (es : List Change) (n r : ℕ) (xs : List Event) → AreApart (e.index + e.remove) es n → e.remove ≡ r → r ≤ length xs → woven (e ∷ es) e.index xs ≡ e.events ++ woven es (e.index + r) (drop r xs)
 woven-at e es n zero [] d m f =
-    let yes : eqb e.index e.index ≡ true = eq-eqb e.index e.index refl in
-    rw (yes, add-zero) refl
+    rw (eq-eqb e.index e.index refl, add-zero) refl
 woven-at e es n zero (x ∷ xs) d m f =
-    let yes : eqb e.index e.index ≡ true = eq-eqb e.index e.index refl in
-    let below : leb e.index e.index ≡ true = le-leb e.index e.index (omega arith) in
-    let no : ltb e.index (e.index + e.remove) ≡ false = le-ltb e.index (e.index + e.remove) (omega arith) in
-    let more : woven (e ∷ es) (e.index + 1) xs ≡ woven es (e.index + 1) xs = woven-past e es (e.index + 1) xs (omega arith) (omega arith) in
-    rw (yes, below, no, more, add-zero, append_assoc) refl
+    let rest = woven-past e es (e.index + 1) xs (omega arith) (omega arith) in
+    grind (arith, nat_tests, add-zero, append_assoc)
 woven-at e es n (suc r) [] d m f = absurd (omega arith)
 woven-at e es n (suc r) (x ∷ xs) d m f =
-    let yes : eqb e.index e.index ≡ true = eq-eqb e.index e.index refl in
-    let below : leb e.index e.index ≡ true = le-leb e.index e.index (omega arith) in
-    let in' : ltb e.index (e.index + e.remove) ≡ true = lt-ltb e.index (e.index + e.remove) (omega arith) in
     let none : events_at es e.index ≡ [] = events_at-none es (e.index + e.remove) n e.index d (omega arith) in
-    let more : woven (e ∷ es) (e.index + 1) xs ≡ woven es (e.index + 1 + r) (drop r xs) = woven-inside e es n r (e.index + 1) xs d (omega arith) (omega arith) (omega arith) in
-    let here : e.index + 1 + r ≡ e.index + suc r = omega arith in
-    rw (yes, below, in', none, more, here, append-nil) refl
+    let rest = woven-inside e es n r (e.index + 1) xs d (omega arith) (omega arith) (omega arith) in
+    grind (arith, nat_tests, append-nil)
 
 -- below a change's index the events stay
 pub woven-below : (e : Change) (es : List Change) (n k i : ℕ) (xs : List Event) → AreApart i (e ∷ es) n → i + k ≡ e.index → k ≤ length xs → woven (e ∷ es) i xs ≡ olds i (take k xs) ++ woven (e ∷ es) e.index (drop k xs)

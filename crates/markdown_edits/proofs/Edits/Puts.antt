@@ -1,21 +1,15 @@
 -- Edits put into a list in the order of the indices.
-use Rattle.markdown_edits.proofs.Prelude.{◌≡◌, ℕ, ◌<◌, ◌≤◌, Bool, true, false, cond, eqb, ltb, List, [], ◌∷◌, ◌++◌, append-nil, append_assoc, refl, sym, ◌∙◌, ap, subst, ⊎_elim, arith, AllByRecursion, ne_eqb, eq-eqb, lt-ltb, le-ltb, cases_order, Event, every-map, Edit, merged, put_by, put_before, put_after, removal_at, is_no_edit, added_after, added_before, IsAscending}
+use Rattle.markdown_edits.proofs.Prelude.{◌≡◌, ℕ, ◌<◌, ◌≤◌, Bool, true, false, cond, eqb, ltb, List, [], ◌∷◌, ◌++◌, append-nil, append_assoc, refl, sym, ◌∙◌, ap, subst, ⊎_elim, arith, AllByRecursion, ne_eqb, eq-eqb, lt-ltb, le-ltb, cases_order, Event, every-map, Edit, merged, put_by, put_before, put_after, removal_at, is_no_edit, added_after, added_before, IsAscending, nat_tests}
 
 module _ (f : List Event → List Event → List Event) where
   pub put-less : (e d : Edit) (es : List Edit) → d.index < e.index → put_by f (e ∷ es) d ≡ d ∷ e ∷ es
-  put-less e d es l = let a : ltb d.index e.index ≡ true = lt-ltb d.index e.index l in rw a refl
+  put-less e d es l = grind (arith, nat_tests)
 
   pub put-same : (e d : Edit) (es : List Edit) → d.index ≡ e.index → put_by f (e ∷ es) d ≡ merged f e d ∷ es
-  put-same e d es l =
-      let a : ltb d.index e.index ≡ false = le-ltb d.index e.index (omega arith) in
-      let b : eqb d.index e.index ≡ true = eq-eqb d.index e.index l in
-      rw (a, b) refl
+  put-same e d es l = grind (arith, nat_tests)
 
   pub put-more : (e d : Edit) (es : List Edit) → e.index < d.index → put_by f (e ∷ es) d ≡ e ∷ put_by f es d
-  put-more e d es l =
-      let a : ltb d.index e.index ≡ false = le-ltb d.index e.index (omega arith) in
-      let b : eqb d.index e.index ≡ false = ne_eqb d.index e.index (omega arith) in
-      rw (a, b) refl
+  put-more e d es l = grind (arith, nat_tests)
 
   -- an edit behind the first ones is put into the others
   pub put-behind : (es ds : List Edit) (d : Edit) → AllByRecursion (λ (e : Edit). e.index < d.index) es → put_by f (es ++ ds) d ≡ es ++ put_by f ds d

@@ -12,8 +12,7 @@ place_by-shifts (e ∷ es) removed added n =
 pub AreShifts-shifts : (es : List Edit) (from removed added n : ℕ) → AreDisjoint from es n → removed ≤ from → n + added + added_by es < 2 ^ 64 → AreShifts n from (shifts removed added es)
 AreShifts-shifts [] from removed added n d r f = tt
 AreShifts-shifts (e ∷ es) from removed added n d r f =
-    let a : from ≤ e.index = d.0 in
-    (a, (omega arith), (omega arith), (omega arith), AreShifts-shifts es (e.index + e.remove) (removed + e.remove) (added + length e.additions) n d.1 (omega arith) (omega arith))
+    (d.0, (omega arith), (omega arith), (omega arith), AreShifts-shifts es (e.index + e.remove) (removed + e.remove) (added + length e.additions) n d.1 (omega arith) (omega arith))
 
 -- a smaller index is not moved too far either
 pub AreShifts-le : (ss : List Shift) (m n from : ℕ) → m ≤ n → AreShifts n from ss → AreShifts m from ss
@@ -58,14 +57,11 @@ pub place_by-row : (ss : List Shift) (k removed added n from : ℕ) (s : Shift) 
 place_by-row [] k removed added n from s h l g a b = absurd (omega arith)
 place_by-row (r ∷ ss) zero removed added n from s h l g a b =
     let same : s ≡ r = g in
-    let i : ltb n r.index ≡ false = le-ltb n r.index (omega (arith, ap (λ (x : Shift). x.index) same)) in
-    rw (i, place_by-front ss r.removed r.added n (λ d m. b d (omega arith))) (ap (λ (x : Shift). place_at x n) (sym same))
+    rw (le-ltb n r.index (omega (arith, ap (λ (x : Shift). x.index) same)), place_by-front ss r.removed r.added n (λ d m. b d (omega arith))) (ap (λ (x : Shift). place_at x n) (sym same))
 place_by-row (r ∷ ss) (suc k) removed added n from s h l g a b =
     let c : r.index ≤ r.end = h.1 in
     let e : r.end ≤ s.index = row_above ss k s h.4 (omega arith) g in
-    let i : ltb n r.index ≡ false = le-ltb n r.index (omega arith) in
-    let j : ltb n r.end ≡ false = le-ltb n r.end (omega arith) in
-    rw (i, j) (place_by-row ss k r.removed r.added n r.end s h.4 (omega arith) g a (λ d m. later d m))
+    rw (le-ltb n r.index (omega arith), le-ltb n r.end (omega arith)) (place_by-row ss k r.removed r.added n r.end s h.4 (omega arith) g a (λ d m. later d m))
   where
     later : (d : Shift) → k + 1 < length ss → n < (get_or ss (k + 1) d).index
     later d m = let z : suc k + 1 ≡ suc (k + 1) = omega arith in subst (λ (q : ℕ). n < (get_or (r ∷ ss) q d).index) z (b d (omega arith))

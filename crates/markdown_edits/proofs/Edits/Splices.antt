@@ -67,14 +67,12 @@ placed_in-olds ts place n i (x ∷ xs) h b =
 pub placed_in-pass : (ts : List Tagged) (place : ℕ → Option ℕ) (n : ℕ) → ((k : ℕ) → k < n → place_in (of_list k) ts ≡ place k) → (es : List Edit) (i : ℕ) (xs : List Event) → All (EndsBelow n) xs → placed_in ts (pass (map as_change es) i xs) ≡ spliced place es i xs
 placed_in-pass ts place n h [] i xs b = placed_in-olds ts place n i xs h b
 placed_in-pass ts place n h (e ∷ es) i xs b =
-    let rest = placed_in-pass ts place n h es (e.index + e.remove) (drop (e.index + e.remove - i) xs) (All-drop (EndsBelow n) (e.index + e.remove - i) xs b) in
-    let front = placed_in-olds ts place n i (take (e.index - i) xs) h (All-take (EndsBelow n) (e.index - i) xs b) in
     rw (
       placed_in-append ts (olds i (take (e.index - i) xs)) (map as_addition e.additions ++ pass (map as_change es) (e.index + e.remove) (drop (e.index + e.remove - i) xs)),
       placed_in-append ts (map as_addition e.additions) (pass (map as_change es) (e.index + e.remove) (drop (e.index + e.remove - i) xs)),
       placed_in-additions ts e.additions,
-      front,
-      rest,
+      (placed_in-olds ts place n i (take (e.index - i) xs) h (All-take (EndsBelow n) (e.index - i) xs b)),
+      (placed_in-pass ts place n h es (e.index + e.remove) (drop (e.index + e.remove - i) xs) (All-drop (EndsBelow n) (e.index + e.remove - i) xs b)),
     ) refl
 
 -- a place that nothing has shifted
@@ -116,8 +114,7 @@ link_stays (Some l) = rw (end_stays l.previous, end_stays l.next) refl
 moved-none : (xs : List Event) → moved (place_by [] 0 0) xs ≡ xs
 moved-none [] = refl
 moved-none (x ∷ xs) =
-    let e : relinked (place_by [] 0 0) x ≡ x = ap (λ (l : Option Link). record x { link = l }) (link_stays x.link) in
-    rw (e, moved-none xs) refl
+    rw (ap (λ (l : Option Link). record x { link = l }) (link_stays x.link), moved-none xs) refl
 
 -- no edits change nothing
 pub edited-none : (xs : List Event) → All (EndsBelow (length xs)) xs → edited [] xs ≡ xs

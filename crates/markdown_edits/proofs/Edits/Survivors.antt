@@ -1,14 +1,14 @@
 -- The events of a list that stay through changes keep their order, and links between them.
-use Rattle.markdown_edits.proofs.Prelude.{◌≡◌, ℕ, suc, ◌+◌, ◌-◌, ◌<◌, ◌≤◌, ◌⊎◌, ◌↔◌, Bool, true, false, not, cond, eqb, List, [], ◌∷◌, ◌++◌, length, Option, Some, None, refl, sym, ◌∙◌, ap, inl, inr, ⊎_elim, arith, slice_get, option_map, option_and_then, is_some, ne_eqb, eq-eqb, eqb-true, cases_eq, cases_order, none-some, same_Some, slice_get-map, recursion_from_All, Event, Link, relinked, with_ends, next_of, previous_of, Identity, of_list, Tagged, as_listed, place_in, placed_end, Change, events_at, is_removed, woven, changed, AreNew, place_after, StaysUnlessRemoved, StaysAsItWas, KeepsOrder, KeepsLinks}
+use Rattle.markdown_edits.proofs.Prelude.{◌≡◌, ℕ, suc, ◌+◌, ◌-◌, ◌<◌, ◌≤◌, ◌⊎◌, ◌↔◌, Bool, true, false, not, cond, eqb, List, [], ◌∷◌, ◌++◌, length, Option, Some, None, refl, sym, ◌∙◌, ap, inl, inr, ⊎_elim, arith, slice_get, option_map, option_and_then, is_some, ne_eqb, eq-eqb, eqb-true, cases_eq, cases_order, none-some, same_Some, slice_get-map, recursion_from_All, Event, Link, relinked, with_ends, next_of, previous_of, Identity, of_list, Tagged, as_listed, place_in, placed_end, Change, events_at, is_removed, woven, changed, AreNew, place_after, StaysUnlessRemoved, StaysAsItWas, KeepsOrder, KeepsLinks, nat_tests, common_steps}
 use Rattle.markdown_edits.proofs.Edits.FinalPlaces.{HasNo, place_in-append}
 
 place_in-events_at : (b : Identity) (ws : List Change) (i : ℕ) → HasNo b ws → place_in b (events_at ws i) ≡ None
 place_in-events_at b [] i h = refl
-place_in-events_at b (w ∷ ws) i h = here (eqb w.index i) (place_in-events_at b ws i h.1)
-  where
-    here : (c : Bool) → place_in b (events_at ws i) ≡ None → place_in b (cond c w.events [] ++ events_at ws i) ≡ None
-    here true none = rw (place_in-append b w.events (events_at ws i), h.0, none) refl
-    here false none = none
+place_in-events_at b (w ∷ ws) i h =
+    let rest = place_in-events_at b ws i h.1 in
+    let both = place_in-append b w.events (events_at ws i) in
+    let none = h.0 in
+    grind (arith, nat_tests)
 
 -- the place in the list from the next index on, counted after the events at this one
 abbrev behind : ℕ → Bool → Bool → Option ℕ → Option ℕ
@@ -42,11 +42,7 @@ woven_cases ws n i p x xs h e =
   where
     told : (gone here : Bool) (o : Option ℕ) → is_removed ws i ≡ gone → eqb n i ≡ here → place_in (of_list n) (woven ws (i + 1) xs) ≡ o
         → behind (length (events_at ws i)) gone here o ≡ Some p → Here ws n i p ⊎ There ws n i xs p
-    told true here None g a f q = absurd (none-some p q)
-    told true here (Some k) g a f q = inr (record { place = k; found = f; sum = rw g (omega (arith, same_Some (length (events_at ws i) + k) p q)) })
-    told false true o g a f q = inl (record { same = eqb-true n i a; stays = g; first = omega (arith, same_Some (length (events_at ws i) + 0) p q) })
-    told false false None g a f q = absurd (none-some p q)
-    told false false (Some k) g a f q = inr (record { place = k; found = f; sum = rw g (omega (arith, same_Some (length (events_at ws i) + suc k) p q)) })
+    told gone here o g a f q = grind (arith, nat_tests)
 
 -- no event has a place if none of its kind is left
 le_of_place : (ws : List Change) (n i p : ℕ) (xs : List Event) → HasNo (of_list n) ws → place_in (of_list n) (woven ws i xs) ≡ Some p → i ≤ n
@@ -57,34 +53,16 @@ le_of_place ws n i p (x ∷ xs) h e = ⊎_elim
     (woven_cases ws n i p x xs h e)
 
 place_in-below : (ws : List Change) (n i : ℕ) (xs : List Event) → HasNo (of_list n) ws → n < i → place_in (of_list n) (woven ws i xs) ≡ None
-place_in-below ws n i xs h l = none (place_in (of_list n) (woven ws i xs)) (λ p e. let m = le_of_place ws n i p xs h e in omega arith)
-  where
-    none : (o : Option ℕ) → ((p : ℕ) → o ≡ Some p → ⊥) → o ≡ None
-    none None f = refl
-    none (Some p) f = absurd (f p refl)
+place_in-below ws n i xs h l = let least = λ (p : ℕ). le_of_place ws n i p xs h in grind (arith, nat_tests)
 
 -- an event stays unless it is removed
 stays : (ws : List Change) (n i : ℕ) (xs : List Event) → HasNo (of_list n) ws → i ≤ n → n < i + length xs → is_some (place_in (of_list n) (woven ws i xs)) ≡ not (is_removed ws n)
 stays ws n i [] h l m = absurd (omega arith)
-stays ws n i (x ∷ xs) h l m = ap is_some (place_in-woven_cons ws n i x xs h) ∙ ⊎_elim
-    (λ (e : n ≡ i).
-    let at : eqb n i ≡ true = eq-eqb n i e in
-    let none : place_in (of_list n) (woven ws (i + 1) xs) ≡ None = place_in-below ws n (i + 1) xs h (omega arith) in
-    rw (at, none) (now (length (events_at ws i)) (is_removed ws i) ∙ ap (λ k. not (is_removed ws k)) (sym e)))
-    (λ (ne : n ≡ i → ⊥).
-    let at : eqb n i ≡ false = ne_eqb n i ne in
-    rw at (later (length (events_at ws i)) (is_removed ws i) (place_in (of_list n) (woven ws (i + 1) xs)) ∙ stays ws n (i + 1) xs h (omega arith) (omega arith)))
-    (cases_eq n i)
-  where
-    now : (k : ℕ) (gone : Bool) → is_some (behind k gone true None) ≡ not gone
-    now k true = refl
-    now k false = refl
-
-    later : (k : ℕ) (gone : Bool) (o : Option ℕ) → is_some (behind k gone false o) ≡ is_some o
-    later k true None = refl
-    later k true (Some p) = refl
-    later k false None = refl
-    later k false (Some p) = refl
+stays ws n i (x ∷ xs) h l m =
+    let here = place_in-woven_cons ws n i x xs h in
+    let below = place_in-below ws n (i + 1) xs h in
+    let rest = stays ws n (i + 1) xs h in
+    grind (arith, nat_tests)
 
 -- events that stay keep their order
 order : (ws : List Change) (n m i p q : ℕ) (xs : List Event) → HasNo (of_list n) ws → HasNo (of_list m) ws
@@ -102,8 +80,8 @@ order ws n m i p q (x ∷ xs) h k e f l = ⊎_elim
     (woven_cases ws n i p x xs h e)
 
 pub slice_get-behind : {X : Type 0} (xs ys : List X) (k : ℕ) → slice_get (xs ++ ys) (length xs + k) ≡ slice_get ys k
-slice_get-behind [] ys k = let z : 0 + k ≡ k = omega arith in ap (slice_get ys) z
-slice_get-behind (x ∷ xs) ys k = let z : suc (length xs) + k ≡ suc (length xs + k) = omega arith in ap (slice_get (x ∷ (xs ++ ys))) z ∙ slice_get-behind xs ys k
+slice_get-behind [] ys k = grind (arith, common_steps)
+slice_get-behind (x ∷ xs) ys k = let rest = slice_get-behind xs ys k in grind (arith, common_steps)
 
 -- the event at an event's place
 same_event : (ws : List Change) (n i p : ℕ) (xs : List Event) → HasNo (of_list n) ws → place_in (of_list n) (woven ws i xs) ≡ Some p
@@ -117,9 +95,8 @@ same_event ws n i p (x ∷ xs) h e = ⊎_elim
     ∙ slice_get-behind (events_at ws i) (cond (is_removed ws i) [] (as_listed i x ∷ []) ++ woven ws (i + 1) xs) 0
     ∙ rw (a.stays, y, a.same) refl)
     (λ (a : There ws n i xs p).
-    let l = le_of_place ws n (i + 1) a.place xs h a.found in
     let z : p ≡ length (events_at ws i) + (cond (is_removed ws i) 0 1 + a.place) = omega (arith, a.sum) in
-    let y : n - i ≡ suc (n - (i + 1)) = omega (arith, l) in
+    let y : n - i ≡ suc (n - (i + 1)) = omega (arith, (le_of_place ws n (i + 1) a.place xs h a.found)) in
     ap (slice_get (woven ws i (x ∷ xs))) z
     ∙ slice_get-behind (events_at ws i) (cond (is_removed ws i) [] (as_listed i x ∷ []) ++ woven ws (i + 1) xs) (cond (is_removed ws i) 0 1 + a.place)
     ∙ rest (is_removed ws i) a.place (woven ws (i + 1) xs)

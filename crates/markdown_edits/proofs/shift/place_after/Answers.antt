@@ -41,14 +41,12 @@ fits ss n i d some l h =
 pub overflow_sub-result : goal.overflow_sub-result
 overflow_sub-result c =
     let d : Shift = record { index = 0; end = 0; removed = 0; added = 0 } in
-    let f = fits c.args.shifts.now c.args.index c.partition_point-begun.result d c.if-begun-eq0.false c.partition_point-begun.ensures.bound c.requires in
-    omega (arith, f.0, c.if-index-last.false)
+    omega (arith, (fits c.args.shifts.now c.args.index c.partition_point-begun.result d c.if-begun-eq0.false c.partition_point-begun.ensures.bound c.requires).0, c.if-index-last.false)
 
 pub overflow_add-result : goal.overflow_add-result
 overflow_add-result c =
     let d : Shift = record { index = 0; end = 0; removed = 0; added = 0 } in
-    let f = fits c.args.shifts.now c.args.index c.partition_point-begun.result d c.if-begun-eq0.false c.partition_point-begun.ensures.bound c.requires in
-    omega (arith, f.1)
+    omega (arith, (fits c.args.shifts.now c.args.index c.partition_point-begun.result d c.if-begun-eq0.false c.partition_point-begun.ensures.bound c.requires).1)
 
 pub returns-then-index-last : goal.returns-then-index-last
 returns-then-index-last c =

@@ -9,8 +9,7 @@ loop-last-init c =
       past = λ _. refl;
       ahead = λ l.
           let a = c.requires l in
-          let whole : length (take (index + 1) events) ≡ index + 1 = length-take-le (index + 1) events (omega (arith, l)) in
-          let inside : a.0 < index + 1 = omega (arith, a.2, whole) in (
+          let inside : a.0 < index + 1 = omega (arith, a.2, (length-take-le (index + 1) events (omega (arith, l)))) in (
             a.0,
             omega (arith, inside),
             λ d. ap (λ (e : Event). is_wanted c.args.names.now e.name) (get_or_default events a.0 d a.1 (omega (arith, inside, l)) ∙ sym (get_or-take (index + 1) events a.0 a.1 inside) ∙ a.3) ∙ a.4,

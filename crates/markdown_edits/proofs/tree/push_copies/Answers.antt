@@ -12,8 +12,7 @@ push_copy-requires c =
     let all : IsAscending (old ++ more) =
     IsAscending-behind c.requires.0 old more c.requires.1 c.requires.2 (IsAscending-entries c.args.edits.now.entries c.len-len.ensures.ordered) (IsAscending-entries c.args.more.now.entries c.into_iter-index-iterator.ensures.into_iter_gives.5) in
     let turn = rest_more deref_pair c.loop-index.index-iterator c.next.new.self c.next.result (c.in-Some.index, c.in-Some.edit) c.in-Some.is c.next.ensures.steps in
-    let parted : old ++ more ≡ here ++ next ∷ edits_of c.next.new.self = sym c.loop-index.invariant.built ∙ ap (λ es. here ++ edits_of es) turn in
-    below-next here next (edits_of c.next.new.self) (subst IsAscending parted all)
+    below-next here next (edits_of c.next.new.self) (subst IsAscending (sym c.loop-index.invariant.built ∙ ap (λ es. here ++ edits_of es) turn) all)
 
 -- one edit more, after the edits of the loop
 step : (len : ℕ) (es fs rest mores : List (ℕ × Replacement)) (e : ℕ × Replacement) (old more : List Edit) → mores ≡ e ∷ rest → edits_of fs ≡ edits_of es ++ as_edit e ∷ []
@@ -29,9 +28,8 @@ pub loop-index-preserved : goal.loop-index-preserved
 loop-index-preserved c =
     let i = c.loop-index.invariant in
     let turn = rest_more deref_pair c.loop-index.index-iterator c.next.new.self c.next.result (c.in-Some.index, c.in-Some.edit) c.in-Some.is c.next.ensures.steps in
-    let made = OnOk-holds c.push_copy.result _ (sym c.is_err.ensures.value ∙ c.if-is_err.false) c.push_copy.ensures.ok in
     let s = step c.len-len.result c.loop-index.edits.entries c.push_copy.new.edits.entries c.next.new.self c.loop-index.index-iterator (c.in-Some.index.now, c.in-Some.edit.now)
-    (edits_of c.args.edits.now.entries) (edits_of c.args.more.now.entries) turn made i.built i.front i.room in
+    (edits_of c.args.edits.now.entries) (edits_of c.args.more.now.entries) turn (OnOk-holds c.push_copy.result _ (sym c.is_err.ensures.value ∙ c.if-is_err.false) c.push_copy.ensures.ok) i.built i.front i.room in
     record { built = s.0; front = s.1; room = s.2 }
 
 pub returns-then-is_err-clause-err : goal.returns-then-is_err-clause-err

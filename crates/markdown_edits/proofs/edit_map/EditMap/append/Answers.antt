@@ -38,14 +38,12 @@ invariant_of-self-2 c =
     let behind = c.self.inside.behind in
     let rest = c.sink.new.behind in
     let all = all-second c.sink.new.front rest (c.more.inside.front ++ c.more.inside.behind) c.args.more.now c.in_ok-sink.ensures.ok c.sink.ensures.same c.more.view_is in
-    let ascending = IsAscending-last c.sink.new.front rest (subst IsAscending (sym c.sink.ensures.same) c.more.invariant) in
     subst IsAscending (sym (ap (λ (es : List Edit). front ++ es) c.in_ok-append-2.ensures.ok.0 ∙ sym (append_assoc front behind rest)))
-    (both (front ++ behind) rest c.args.self.now c.args.more.now c.self.view_is all c.requires c.self.invariant ascending)
+    (both (front ++ behind) rest c.args.self.now c.args.more.now c.self.view_is all c.requires c.self.invariant (IsAscending-last c.sink.new.front rest (subst IsAscending (sym c.sink.ensures.same) c.more.invariant)))
 
 pub invariant_of-more-2 : goal.invariant_of-more-2
 invariant_of-more-2 c =
-    let none : c.sink.new.front ++ c.append-2.new.more ≡ [] = ap (λ (es : List Edit). es ++ c.append-2.new.more) (none-below c.sink.new.front c.in_ok-sink.ensures.ok) ∙ c.in_ok-append-2.ensures.ok.1 in
-    subst IsAscending (sym none) tt
+    subst IsAscending (sym (ap (λ (es : List Edit). es ++ c.append-2.new.more) (none-below c.sink.new.front c.in_ok-sink.ensures.ok) ∙ c.in_ok-append-2.ensures.ok.1)) tt
 
 pub returns-clause-ok : goal.returns-clause-ok
 returns-clause-ok c =

@@ -8,11 +8,10 @@ invariant_of-self-2 c =
     let ys = c.more.inside.additions.items in
     let es = c.self.inside.entries.items in
     let fs = c.more.inside.entries.items in
-    let additions : c.append.new.self.items ≡ xs ++ ys = c.in_ok-append.ensures.items ∙ ap (λ (zs : List Event). zs ++ ys) c.reserve.ensures.items in
     let shift : c.len-shift.result ≡ length xs = c.len-shift.ensures ∙ c.self.inside.additions.ok.0 in
     let entries : c.push_shifted.new.entries.items ≡ es ++ map (moved_by (length xs)) fs =
     c.in_ok-push_shifted.ensures.ok ∙ ap (λ (gs : List Entry). es ++ map (moved_by c.len-shift.result) gs) c.as_slice.ensures.value ∙ ap (λ n. es ++ map (moved_by n) fs) shift in
-    subst (λ (zs : List Event). All (IsPart (length zs)) c.push_shifted.new.entries.items) (sym additions)
+    subst (λ (zs : List Event). All (IsPart (length zs)) c.push_shifted.new.entries.items) (sym (c.in_ok-append.ensures.items ∙ ap (λ (zs : List Event). zs ++ ys) c.reserve.ensures.items))
     (subst (All (IsPart (length (xs ++ ys)))) (sym entries)
     (All-append (IsPart (length (xs ++ ys))) es (map (moved_by (length xs)) fs) (parts-more xs ys es c.self.invariant) (parts-behind xs ys fs c.more.invariant)))
 
