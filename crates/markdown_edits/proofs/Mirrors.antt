@@ -1,5 +1,5 @@
 -- Lists seen from behind: a walk back is a walk over the mirror, and goes as far as the longest run that ends there.
-use Rattle.markdown_edits.proofs.Prelude.{◌≡◌, ℕ, zero, suc, ◌+◌, ◌-◌, ◌<◌, ◌≤◌, true, false, cond, Some, List, [], ◌∷◌, ◌++◌, length, take, drop, get_or, refl, sym, ◌∙◌, ap, subst, arith, append_assoc, append-nil, length-append, length-drop, take-append-drop, drop-append_seam, drop-take, length-take-le, between, Event, Kind, Enter, Exit, Name, IsBalanced, empty, span, names_after_all, IsSpanRun, no_span, one_more, is_wanted, IsLongestRunTo, IsFront, run_len, is_stop, depth_after, flip, flip_kind, mirror}
+use Rattle.markdown_edits.proofs.Prelude.{◌≡◌, ℕ, zero, suc, ◌+◌, ◌-◌, ◌<◌, ◌≤◌, true, false, cond, Some, List, [], ◌∷◌, ◌++◌, length, take, drop, get_or, refl, sym, ◌∙◌, ap, subst, arith, append_assoc, append-nil, length-append, length-drop, take-append-drop, drop-append_seam, drop-take, length-take-le, between, Event, Kind, Enter, Exit, Name, IsBalanced, empty, span, names_after_all, IsSpanRun, no_span, one_more, is_wanted, IsLongestRunTo, IsFront, run_len, is_stop, depth_after, flip, flip_kind, mirror, nat_tests}
 use Rattle.markdown_edits.proofs.Balanced.{IsBalanced-append}
 use Rattle.markdown_edits.proofs.SpanRuns.{span_and_run, span_parts, run_len-run, run_len-le, suffix_closes}
 
@@ -105,13 +105,8 @@ back_more names xs at depth d p l =
     ap (λ k. run_len names depth (mirror (take k xs))) z ∙ ap (run_len names depth) (mirror_more xs (at - 1) d (omega arith))
 
 pub back_stops : (names : List Name) (xs : List Event) (at depth : ℕ) (d event : Event) → event ≡ flip (get_or xs (at - 1) d) → is_stop names event depth ≡ true → 0 < at → at ≤ length xs → run_len names depth (mirror (take at xs)) ≡ 0
-back_stops names xs at depth d event e s p l =
-    back_more names xs at depth d p l
-    ∙ ap (λ b. cond b 0 (1 + run_len names (depth_after (flip (get_or xs (at - 1) d)).kind depth) (mirror (take (at - 1) xs)))) (ap (λ x. is_stop names x depth) (sym e) ∙ s)
+back_stops names xs at depth d event e s p l = let more = back_more names xs at depth d p l in grind (arith, nat_tests)
 
 pub back_goes : (names : List Name) (xs : List Event) (at depth : ℕ) (d event : Event) → event ≡ flip (get_or xs (at - 1) d) → is_stop names event depth ≡ false → 0 < at → at ≤ length xs
     → run_len names depth (mirror (take at xs)) ≡ 1 + run_len names (depth_after event.kind depth) (mirror (take (at - 1) xs))
-back_goes names xs at depth d event e s p l =
-    back_more names xs at depth d p l
-    ∙ ap (λ b. cond b 0 (1 + run_len names (depth_after (flip (get_or xs (at - 1) d)).kind depth) (mirror (take (at - 1) xs)))) (ap (λ x. is_stop names x depth) (sym e) ∙ s)
-    ∙ ap (λ (x : Event). 1 + run_len names (depth_after x.kind depth) (mirror (take (at - 1) xs))) (sym e)
+back_goes names xs at depth d event e s p l = let more = back_more names xs at depth d p l in grind (arith, nat_tests)

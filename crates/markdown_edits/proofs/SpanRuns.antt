@@ -33,14 +33,8 @@ module _ (names : List Name) where
   pub run_len-balanced : {xs : List Event} → IsBalanced xs → (ys : List Event) (d : ℕ) → run_len names (suc d) (xs ++ ys) ≡ length xs + run_len names (suc d) ys
   run_len-balanced empty ys d = omega arith
   run_len-balanced (span e f us vs {l} is en ex same b c) ys d =
-      let n : length l ≡ suc (length us + suc (length vs)) = ap length is ∙ ap suc (length-append us (f ∷ vs)) in
-      ap (λ (l : List Event). run_len names (suc d) (l ++ ys)) is
-      ∙ enter_inside e ((us ++ f ∷ vs) ++ ys) d en
-      ∙ ap (λ (l : List Event). suc (run_len names (suc (suc d)) l)) (append_assoc us (f ∷ vs) ys)
-      ∙ ap suc (run_len-balanced b (f ∷ (vs ++ ys)) (suc d))
-      ∙ ap (λ k. suc (length us + k)) (exit_inside f (vs ++ ys) (suc d) ex)
-      ∙ ap (λ k. suc (length us + suc k)) (run_len-balanced c ys d)
-      ∙ omega arith
+      rw (is, append_assoc us (f ∷ vs) ys, enter_inside e (us ++ f ∷ (vs ++ ys)) d en, run_len-balanced b (f ∷ (vs ++ ys)) (suc d), exit_inside f (vs ++ ys) (suc d) ex, run_len-balanced c ys d)
+      (omega (arith, length-append us (f ∷ vs)))
 
   -- a whole span
   run_len-span : (e f : Event) (us vs : List Event) → e.kind ≡ Enter → is_wanted names e.name ≡ true → f.kind ≡ Exit → IsBalanced us → run_len names 0 (e ∷ (us ++ f ∷ vs)) ≡ suc (length us + suc (run_len names 0 vs))
@@ -52,12 +46,8 @@ module _ (names : List Name) where
   run_len-run no_span ys = omega arith
   run_len-run (one_more first vs {l} is s c) ys =
       let parts : l ≡ s.enter ∷ (s.inside ++ s.exit ∷ vs) = span_parts first vs is s in
-      let n : length l ≡ suc (length s.inside + suc (length vs)) = ap length parts ∙ ap suc (length-append s.inside (s.exit ∷ vs)) in
-      ap (λ (l : List Event). run_len names 0 (l ++ ys)) parts
-      ∙ ap (λ (l : List Event). run_len names 0 (s.enter ∷ l)) (append_assoc s.inside (s.exit ∷ vs) ys)
-      ∙ run_len-span s.enter s.exit s.inside (vs ++ ys) s.enters s.wanted s.exits s.balanced
-      ∙ ap (λ k. suc (length s.inside + suc k)) (run_len-run c ys)
-      ∙ omega arith
+      rw (parts, append_assoc s.inside (s.exit ∷ vs) ys, run_len-span s.enter s.exit s.inside (vs ++ ys) s.enters s.wanted s.exits s.balanced, run_len-run c ys)
+      (omega (arith, length-append s.inside (s.exit ∷ vs)))
 
   -- a walk over a balanced list, behind which it stops, goes over a run
   pub IsSpanRun-run_len : {b : List Event} (ys : List Event) → IsBalanced b → run_len names 0 ys ≡ 0 → IsSpanRun names (take (run_len names 0 (b ++ ys)) (b ++ ys))

@@ -21,9 +21,6 @@ none_above (e ∷ es) k x l h =
     rw (at_less k e.0 (omega arith)) (none_above es k x l h.1)
 
 -- a value that means what the old one did
-same_edit : (k : ℕ) (v w x : Replacement) → w.remove ≡ v.remove → w.additions.items ≡ v.additions.items → x ≡ v → as_edit (k, w) ≡ as_edit (k, x)
-same_edit k v w x r a q = λ i. let d : Edit = record { index = k; remove = (r ∙ sym (ap (λ (y : Replacement). y.remove) q)) i; additions = (a ∙ sym (ap (λ (y : Replacement). y.additions.items) q)) i } in d
-
 pub set_same : (test : ℕ → Bool) (es : List (ℕ × Replacement)) (v w : Replacement) → lookup test es ≡ Some v → w.remove ≡ v.remove → w.additions.items ≡ v.additions.items → edits_of (set_value test es w) ≡ edits_of es
 set_same test [] v w h r a = refl
 set_same test (e ∷ es) v w h r a =
@@ -33,29 +30,12 @@ set_same test (e ∷ es) v w h r a =
 -- a value changed at a key that is there
 pub set_put : (f : List Event → List Event → List Event) (k : ℕ) (es : List (ℕ × Replacement)) (v w : Replacement) (d : Edit) → IsStrictlySortedBy nat_cmp (keys_of es) → lookup (is_at (nat_cmp k)) es ≡ Some v
     → d.index ≡ k → w.remove ≡ v.remove + d.remove → w.additions.items ≡ f v.additions.items d.additions → edits_of (set_value (is_at (nat_cmp k)) es w) ≡ put_by f (edits_of es) d
-set_put f k [] v w d s h i r a = no_value v h
-  where
-    no_value : (v : Replacement) → None ≡ Some v → [] ≡ d ∷ []
-    no_value v e = cc
-set_put f k (e ∷ es) v w d s h i r a = ⊎_elim
-    (λ (q : k ≡ e.0).
-    let found : Some e.1 ≡ Some v = rw (at_same k e.0 q) at h in
-    let x : e.1 ≡ v = cc in
-    rw (at_same k e.0 q) (ap (λ t. t ∷ edits_of es) (same x) ∙ sym (put-same f (as_edit e) d (edits_of es) (i ∙ q))))
-    (⊎_elim
-    (λ (q : k < e.0).
-    let later : lookup (is_at (nat_cmp k)) es ≡ Some v = rw (at_less k e.0 q) at h in
-    absurd (no_both (lookup (is_at (nat_cmp k)) es) v (none_above es k e.0 q (sorted_head nat_cmp e.0 (keys_of es) s)) later))
-    (λ (q : e.0 < k).
-    let later : lookup (is_at (nat_cmp k)) es ≡ Some v = rw (at_more k e.0 q) at h in
-    rw (at_more k e.0 q) (ap (λ ds. as_edit e ∷ ds) (set_put f k es v w d (sorted_tail nat_cmp e.0 (keys_of es) s) later i r a) ∙ sym (put-more f (as_edit e) d (edits_of es) (omega arith)))))
-    (cases_order k e.0)
-  where
-    no_both : (o : Option Replacement) (v : Replacement) → o ≡ None → o ≡ Some v → ⊥
-    no_both o v p q = cc
-
-    same : e.1 ≡ v → as_edit (e.0, w) ≡ merged f (as_edit e) d
-    same x = λ j. let t : Edit = record { index = e.0; remove = (r ∙ ap (λ (y : Replacement). y.remove + d.remove) (sym x)) j; additions = (a ∙ ap (λ (y : Replacement). f y.additions.items d.additions) (sym x)) j } in t
+set_put f k [] v w d s h i r a = cc
+set_put f k (e ∷ es) v w d s h i r a =
+    let none = none_above es k e.0 in
+    let above = sorted_head nat_cmp e.0 (keys_of es) s in
+    let rest = set_put f k es v w d (sorted_tail nat_cmp e.0 (keys_of es) s) in
+    grind (arith, nat_tests)
 
 -- a new key
 pub insert_put : (f : List Event → List Event → List Event) (k : ℕ) (es : List (ℕ × Replacement)) (w : Replacement) → lookup (is_at (nat_cmp k)) es ≡ None → edits_of (insert_entry nat_cmp es k w) ≡ put_by f (edits_of es) (as_edit (k, w))

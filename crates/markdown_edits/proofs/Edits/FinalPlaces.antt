@@ -71,24 +71,13 @@ old_place-pass (e ∷ es) n i removed added xs h d r l m =
     let m' : i + length xs ≡ e.index + e.remove + length (drop (e.index + e.remove - i) xs) = omega (arith, length-drop (e.index + e.remove - i) xs) in
     let d' : AreApart (e.index + e.remove) es (e.index + e.remove + length (drop (e.index + e.remove - i) xs)) = subst (λ k. AreApart (e.index + e.remove) es k) m' d.1 in
     let front : length (take (e.index - i) xs) ≡ e.index - i = length-take-le (e.index - i) xs (omega arith) in
-    rw (place_in-part n i (take (e.index - i) xs) e.events (pass es (e.index + e.remove) (drop (e.index + e.remove - i) xs)) h.0, front)
-    (⊎_elim
-    (λ (c : n < e.index).
-    let t : ltb n e.index ≡ true = lt-ltb n e.index c in
-    let z : i - removed + added + (n - i) ≡ n - removed + added = omega arith in
-    rw (t, place_in-olds n i (take (e.index - i) xs) l (omega arith)) (ap Some z))
-    (λ (c : e.index ≤ n).
-    rw (le-ltb n e.index c, place_in-olds_above n i (take (e.index - i) xs) (omega arith))
-    (⊎_elim
-    (λ (u : n < e.index + e.remove).
-    let v : ltb n (e.index + e.remove) ≡ true = lt-ltb n (e.index + e.remove) u in
-    rw (v, place_in-pass_below es n (e.index + e.remove) (drop (e.index + e.remove - i) xs) h.1 d' u) refl)
-    (λ (u : e.index + e.remove ≤ n).
-    let v : ltb n (e.index + e.remove) ≡ false = le-ltb n (e.index + e.remove) u in
-    let more = old_place-pass es n (e.index + e.remove) (removed + e.remove) (added + length e.events) (drop (e.index + e.remove - i) xs) h.1 d' (omega arith) u (omega arith) in
-    rw (v, sym more) (shifted i (e.index - i) (length e.events) (e.index + e.remove) removed added (removed + e.remove) (place_in (of_list n) (pass es (e.index + e.remove) (drop (e.index + e.remove - i) xs))) (omega arith)))
-    (cases_lt n (e.index + e.remove))))
-    (cases_lt n e.index))
+    let parts = place_in-part n i (take (e.index - i) xs) e.events (pass es (e.index + e.remove) (drop (e.index + e.remove - i) xs)) h.0 in
+    let inside = place_in-olds n i (take (e.index - i) xs) l in
+    let past = place_in-olds_above n i (take (e.index - i) xs) in
+    let below = place_in-pass_below es n (e.index + e.remove) (drop (e.index + e.remove - i) xs) h.1 d' in
+    let more = old_place-pass es n (e.index + e.remove) (removed + e.remove) (added + length e.events) (drop (e.index + e.remove - i) xs) h.1 d' (omega arith) in
+    let sum = shifted i (e.index - i) (length e.events) (e.index + e.remove) removed added (removed + e.remove) (place_in (of_list n) (pass es (e.index + e.remove) (drop (e.index + e.remove - i) xs))) (omega arith) in
+    grind (arith, nat_tests)
   where
     shifted : (i k g j removed added removed' : ℕ) (o : Option ℕ) → i - removed + added + (k + g) ≡ j - removed' + (added + g) → option_map (λ p. i - removed + added + p) (or_after k None (or_after g None o)) ≡ option_map (λ p. j - removed' + (added + g) + p) o
     shifted i k g j removed added removed' None e = refl

@@ -63,6 +63,14 @@ pub added-put : (before : Bool) (es : List Edit) (d : Edit) → is_no_edit d ≡
 added-put true es d e = rw e refl
 added-put false es d e = rw e refl
 
+-- an edit pushed to the first of two lists, whose second is empty
+module _ (before : Bool) (front behind pushed old : List Edit) (d : Edit) (push : pushed ≡ front ++ d ∷ []) (none : behind ≡ []) (all : AllByRecursion (λ (e : Edit). e.index < d.index) front) where
+  pub IsAscending-pushed : IsAscending (front ++ behind) → IsAscending (pushed ++ behind)
+  IsAscending-pushed a = rw (push, put-end (joined before) front behind d none all) (IsAscending-put (joined before) (front ++ behind) d a)
+
+  pub added-pushed : front ++ behind ≡ old → is_no_edit d ≡ false → pushed ++ behind ≡ cond before (added_before old d) (added_after old d)
+  added-pushed view some = rw (push, put-end (joined before) front behind d none all, view) (sym (added-put before old d some))
+
 -- no more is removed by the last edits than by all
 pub removal_at-behind : (es ds : List Edit) (i : ℕ) → removal_at ds i ≤ removal_at (es ++ ds) i
 removal_at-behind [] ds i = omega arith

@@ -1,5 +1,5 @@
 -- The table of shifts: what it says of a place, and how it is searched.
-use Rattle.markdown_edits.proofs.Prelude.{◌≡◌, ℕ, zero, suc, ◌+◌, ◌-◌, ◌<◌, ◌≤◌, ◌^◌, true, false, cond, ltb, List, [], ◌∷◌, length, get_or, Option, Some, None, refl, sym, ap, subst, arith, All, IsNonDecreasingBy, lt-ltb, le-ltb, Event, Link, EndsBelow, EachEnd, Edit, AreDisjoint, added_by, shifts, place_by, AreShifts, EndsFit, place_from, Shift}
+use Rattle.markdown_edits.proofs.Prelude.{◌≡◌, ℕ, zero, suc, ◌+◌, ◌-◌, ◌<◌, ◌≤◌, ◌^◌, true, false, cond, ltb, List, [], ◌∷◌, length, get_or, Option, Some, None, refl, sym, ap, subst, arith, All, IsNonDecreasingBy, lt-ltb, le-ltb, Event, Link, EndsBelow, EachEnd, Edit, AreDisjoint, added_by, shifts, place_by, AreShifts, EndsFit, place_from, Shift, nat_tests}
 use Rattle.std.proofs.Common.{IfSome}
 
 -- the table gives the places that the edits give
@@ -56,12 +56,13 @@ place_at s n = cond (ltb n s.end) None (Some (n - s.removed + s.added))
 pub place_by-row : (ss : List Shift) (k removed added n from : ℕ) (s : Shift) → AreShifts n from ss → k < length ss → s ≡ get_or ss k s → s.index ≤ n → ((d : Shift) → k + 1 < length ss → n < (get_or ss (k + 1) d).index) → place_by ss removed added n ≡ place_at s n
 place_by-row [] k removed added n from s h l g a b = absurd (omega arith)
 place_by-row (r ∷ ss) zero removed added n from s h l g a b =
-    let same : s ≡ r = g in
-    rw (le-ltb n r.index (omega (arith, ap (λ (x : Shift). x.index) same)), place_by-front ss r.removed r.added n (λ d m. b d (omega arith))) (ap (λ (x : Shift). place_at x n) (sym same))
+    let front = place_by-front ss r.removed r.added n (λ d m. b d (omega arith)) in
+    grind (arith, nat_tests)
 place_by-row (r ∷ ss) (suc k) removed added n from s h l g a b =
     let c : r.index ≤ r.end = h.1 in
     let e : r.end ≤ s.index = row_above ss k s h.4 (omega arith) g in
-    rw (le-ltb n r.index (omega arith), le-ltb n r.end (omega arith)) (place_by-row ss k r.removed r.added n r.end s h.4 (omega arith) g a (λ d m. later d m))
+    let rest = place_by-row ss k r.removed r.added n r.end s h.4 (omega arith) g a (λ d m. later d m) in
+    grind (arith, nat_tests)
   where
     later : (d : Shift) → k + 1 < length ss → n < (get_or ss (k + 1) d).index
     later d m = let z : suc k + 1 ≡ suc (k + 1) = omega arith in subst (λ (q : ℕ). n < (get_or (r ∷ ss) q d).index) z (b d (omega arith))

@@ -29,12 +29,10 @@ old_place-edits (e ∷ es) removed added n =
 
 -- ends that are left as they are
 end_same : (o : Option ℕ) → option_and_then Some o ≡ o
-end_same None = refl
-end_same (Some n) = refl
+end_same o = grind arith
 
 link_same : (o : Option Link) → option_map (with_ends Some) o ≡ o
-link_same None = refl
-link_same (Some l) = rw (end_same l.previous, end_same l.next) refl
+link_same o = grind arith
 
 pub relinked-same : (e : Event) → relinked Some e ≡ e
 relinked-same e = ap (λ (l : Option Link). record e { link = l }) (link_same e.link)
@@ -77,8 +75,7 @@ placed_in-pass ts place n h (e ∷ es) i xs b =
 
 -- a place that nothing has shifted
 pub same_shift : (o : Option ℕ) → option_map (λ p. 0 - 0 + 0 + p) o ≡ o
-same_shift None = refl
-same_shift (Some p) = let e : 0 - 0 + 0 + p ≡ p = omega arith in ap Some e
+same_shift o = grind arith
 
 -- an event's place by prefix sums
 pub place_in-woven : (es : List Edit) (xs : List Event) → AreDisjoint 0 es (length xs) → (k : ℕ) → k < length xs → place_in (of_list k) (woven (map as_change es) 0 xs) ≡ place_from es 0 0 k
@@ -103,19 +100,12 @@ edited-spliced es xs d b =
     ap (placed_in all) (woven-pass (map as_change es) 0 xs d')
     ∙ placed_in-pass all (place_after es) (length xs) (λ k l. place_in-woven es xs d k l ∙ sym (place_by-shifts es 0 0 k)) es 0 xs b
 
-end_stays : (o : Option ℕ) → option_and_then (place_by [] 0 0) o ≡ o
-end_stays None = refl
-end_stays (Some n) = let z : n - 0 + 0 ≡ n = omega arith in ap Some z
-
-link_stays : (o : Option Link) → option_map (with_ends (place_by [] 0 0)) o ≡ o
-link_stays None = refl
-link_stays (Some l) = rw (end_stays l.previous, end_stays l.next) refl
-
-moved-none : (xs : List Event) → moved (place_by [] 0 0) xs ≡ xs
-moved-none [] = refl
-moved-none (x ∷ xs) =
-    rw (ap (λ (l : Option Link). record x { link = l }) (link_stays x.link), moved-none xs) refl
+moved-none : (n : ℕ) (xs : List Event) → All (EndsBelow n) xs → moved (place_by [] 0 0) xs ≡ xs
+moved-none n [] b = refl
+moved-none n (x ∷ xs) b =
+    let stays : (k : ℕ) → k < n → place_by [] 0 0 k ≡ Some k = λ k l. grind arith in
+    rw (relinked-agree (place_by [] 0 0) Some n x stays (All-head (EndsBelow n) x xs b), relinked-same x, moved-none n xs (All-tail (EndsBelow n) x xs b)) refl
 
 -- no edits change nothing
 pub edited-none : (xs : List Event) → All (EndsBelow (length xs)) xs → edited [] xs ≡ xs
-edited-none xs b = edited-spliced [] xs (omega arith) b ∙ moved-none xs
+edited-none xs b = edited-spliced [] xs (omega arith) b ∙ moved-none (length xs) xs b

@@ -47,10 +47,7 @@ woven_cases ws n i p x xs h e =
 -- no event has a place if none of its kind is left
 le_of_place : (ws : List Change) (n i p : ℕ) (xs : List Event) → HasNo (of_list n) ws → place_in (of_list n) (woven ws i xs) ≡ Some p → i ≤ n
 le_of_place ws n i p [] h e = absurd (none-some p (sym (place_in-events_at (of_list n) ws i h) ∙ e))
-le_of_place ws n i p (x ∷ xs) h e = ⊎_elim
-    (λ (k : Here ws n i p). omega (arith, k.same))
-    (λ (k : There ws n i xs p). omega (arith, le_of_place ws n (i + 1) k.place xs h k.found))
-    (woven_cases ws n i p x xs h e)
+le_of_place ws n i p (x ∷ xs) h e = elim (woven_cases ws n i p x xs h e) [ inl k ↦ omega (arith, k.same) | inr k ↦ omega (arith, le_of_place ws n (i + 1) k.place xs h k.found) ]
 
 place_in-below : (ws : List Change) (n i : ℕ) (xs : List Event) → HasNo (of_list n) ws → n < i → place_in (of_list n) (woven ws i xs) ≡ None
 place_in-below ws n i xs h l = let least = λ (p : ℕ). le_of_place ws n i p xs h in grind (arith, nat_tests)
@@ -68,16 +65,12 @@ stays ws n i (x ∷ xs) h l m =
 order : (ws : List Change) (n m i p q : ℕ) (xs : List Event) → HasNo (of_list n) ws → HasNo (of_list m) ws
     → place_in (of_list n) (woven ws i xs) ≡ Some p → place_in (of_list m) (woven ws i xs) ≡ Some q → n < m → p < q
 order ws n m i p q [] h k e f l = absurd (none-some p (sym (place_in-events_at (of_list n) ws i h) ∙ e))
-order ws n m i p q (x ∷ xs) h k e f l = ⊎_elim
-    (λ (a : Here ws n i p). ⊎_elim
-    (λ (b : Here ws m i q). absurd (omega (arith, a.same, b.same)))
-    (λ (b : There ws m i xs q). let s = rw a.stays at b.sum in omega (arith, a.first, s))
-    (woven_cases ws m i q x xs k f))
-    (λ (a : There ws n i xs p). ⊎_elim
-    (λ (b : Here ws m i q). absurd (omega (arith, b.same, le_of_place ws n (i + 1) a.place xs h a.found)))
-    (λ (b : There ws m i xs q). omega (arith, a.sum, b.sum, order ws n m (i + 1) a.place b.place xs h k a.found b.found l))
-    (woven_cases ws m i q x xs k f))
-    (woven_cases ws n i p x xs h e)
+order ws n m i p q (x ∷ xs) h k e f l =
+    let second = woven_cases ws m i q x xs k f in
+    elim (woven_cases ws n i p x xs h e) [
+      | inl a ↦ elim second [ inl b ↦ absurd (omega (arith, a.same, b.same)) | inr b ↦ let s = rw a.stays at b.sum in omega (arith, a.first, s) ]
+      | inr a ↦ elim second [ inl b ↦ absurd (omega (arith, b.same, le_of_place ws n (i + 1) a.place xs h a.found)) | inr b ↦ omega (arith, a.sum, b.sum, order ws n m (i + 1) a.place b.place xs h k a.found b.found l) ]
+    ]
 
 pub slice_get-behind : {X : Type 0} (xs ys : List X) (k : ℕ) → slice_get (xs ++ ys) (length xs + k) ≡ slice_get ys k
 slice_get-behind [] ys k = grind (arith, common_steps)
@@ -133,21 +126,11 @@ stays_as_it_was ws xs new n p e =
 
 pub next_moved : (f : ℕ → Option ℕ) (o : Option Event) → option_and_then (λ (e : Event). option_and_then (λ (l : Link). l.next) e.link) (option_map (relinked f) o)
     ≡ option_and_then f (option_and_then (λ (e : Event). option_and_then (λ (l : Link). l.next) e.link) o)
-next_moved f None = refl
-next_moved f (Some e) = link e.link
-  where
-    link : (o : Option Link) → option_and_then (λ (l : Link). l.next) (option_map (with_ends f) o) ≡ option_and_then f (option_and_then (λ (l : Link). l.next) o)
-    link None = refl
-    link (Some l) = refl
+next_moved f o = grind arith
 
 pub previous_moved : (f : ℕ → Option ℕ) (o : Option Event) → option_and_then (λ (e : Event). option_and_then (λ (l : Link). l.previous) e.link) (option_map (relinked f) o)
     ≡ option_and_then f (option_and_then (λ (e : Event). option_and_then (λ (l : Link). l.previous) e.link) o)
-previous_moved f None = refl
-previous_moved f (Some e) = link e.link
-  where
-    link : (o : Option Link) → option_and_then (λ (l : Link). l.previous) (option_map (with_ends f) o) ≡ option_and_then f (option_and_then (λ (l : Link). l.previous) o)
-    link None = refl
-    link (Some l) = refl
+previous_moved f o = grind arith
 
 -- no two events have the same new place
 one_place : (ws : List Change) (xs : List Event) → AreNew ws → (n m p : ℕ) → place_after ws xs n ≡ Some p → place_after ws xs m ≡ Some p → n ≡ m

@@ -1,16 +1,9 @@
 -- One turn of a loop over the edits.
-use Rattle.markdown_edits.proofs.Prelude.{◌≡◌, ℕ, zero, suc, ◌+◌, ◌<◌, ◌≤◌, List, [], ◌∷◌, length, drop, get_or, refl, ◌∙◌, ap, subst, arith, Event, Edit, AreDisjoint, part_edit, pooled, Entry}
+use Rattle.markdown_edits.proofs.Prelude.{◌≡◌, ℕ, zero, suc, ◌+◌, ◌<◌, ◌≤◌, List, [], ◌∷◌, length, drop, get_or, refl, ◌∙◌, ap, subst, arith, Event, Edit, AreDisjoint, part_edit, pooled, Entry, drop-cons, add-one}
 
 -- the edits that are left begin with the one at this index
-drop-turn : (es : List Entry) (i : ℕ) (d : Entry) → i < length es → drop i es ≡ get_or es i d ∷ drop (suc i) es
-drop-turn [] i d l = absurd (omega arith)
-drop-turn (e ∷ es) zero d l = refl
-drop-turn (e ∷ es) (suc i) d l = drop-turn es i d (omega arith)
-
-pub pooled-turn : (xs : List Event) (es : List Entry) (i : ℕ) (d : Entry) → i < length es → pooled xs (drop i es) ≡ part_edit xs (get_or es i d) ∷ pooled xs (drop (i + 1) es)
-pooled-turn xs es i d l =
-    let next : suc i ≡ i + 1 = omega arith in
-    ap (pooled xs) (drop-turn es i d l) ∙ ap (λ n. part_edit xs (get_or es i d) ∷ pooled xs (drop n es)) next
+pooled-turn : (xs : List Event) (es : List Entry) (i : ℕ) (d : Entry) → i < length es → pooled xs (drop i es) ≡ part_edit xs (get_or es i d) ∷ pooled xs (drop (i + 1) es)
+pooled-turn xs es i d l = rw (drop-cons es i d, add-one) refl
 
 -- the indices of disjoint edits lie within the list
 pub AreDisjoint-le : (es : List Edit) (from n : ℕ) → AreDisjoint from es n → from ≤ n
@@ -23,7 +16,11 @@ pub record Next (from : ℕ) (e : Edit) (rest : List Edit) (n : ℕ) : Type 0 wh
   pub ends : e.index + e.remove ≤ n
   pub others : AreDisjoint (e.index + e.remove) rest n
 
-pub disjoint_next : (es rest : List Edit) (e : Edit) (from n : ℕ) → es ≡ e ∷ rest → AreDisjoint from es n → Next from e rest n
-disjoint_next es rest e from n g d =
-    let d' : AreDisjoint from (e ∷ rest) n = subst (λ es. AreDisjoint from es n) g d in
-    record { starts = d'.0; ends = AreDisjoint-le rest (e.index + e.remove) n d'.1; others = d'.1 }
+-- the entry that the code's reads give past the end
+abbrev pub no_entry : Entry
+no_entry = record { index = 0; remove = 0; start = 0; end = 0 }
+
+pub next_edit : (xs : List Event) (es : List Entry) (i from n : ℕ) → i < length es → AreDisjoint from (pooled xs (drop i es)) n → Next from (part_edit xs (get_or es i no_entry)) (pooled xs (drop (i + 1) es)) n
+next_edit xs es i from n l d =
+    let h : AreDisjoint from (part_edit xs (get_or es i no_entry) ∷ pooled xs (drop (i + 1) es)) n = subst (λ es. AreDisjoint from es n) (pooled-turn xs es i no_entry l) d in
+    record { starts = h.0; ends = AreDisjoint-le _ _ n h.1; others = h.1 }

@@ -1,20 +1,18 @@
 use Rattle.markdown_edits.proofs.Prelude.{◌≡◌, ◌+◌, ◌-◌, [], ◌++◌, drop, append-nil, sym, ap, subst, ◌∙◌, arith, drop_all, shifts, AreShifts, added_by, pooled, Entry}
 use Rattle.markdown_edits.proofs.Edits.Shifts.{AreShifts-shifts}
-use Rattle.markdown_edits.proofs.Edits.Turns.{pooled-turn, disjoint_next}
+use Rattle.markdown_edits.proofs.Edits.Turns.{next_edit}
 use Rattle.markdown_edits.proofs.shift.shifts_of.Goals as goal
 
 pub overflow_add-removed : goal.overflow_add-removed
 overflow_add-removed c =
-    let d : Entry = record { index = 0; remove = 0; start = 0; end = 0 } in
     let i = c.loop-edit.invariant.rest in
-    let next = disjoint_next _ _ _ i.0 c.args.len (pooled-turn c.args.additions.now c.args.edits.now c.loop-edit.edit-index d c.loop-edit-test.true) i.2 in
+    let next = next_edit c.args.additions.now c.args.edits.now c.loop-edit.edit-index i.0 c.args.len c.loop-edit-test.true i.2 in
     omega (arith, next.starts, next.ends, i.1, c.ranges.len.fits)
 
 pub overflow_add-edit : goal.overflow_add-edit
 overflow_add-edit c =
-    let d : Entry = record { index = 0; remove = 0; start = 0; end = 0 } in
     let i = c.loop-edit.invariant.rest in
-    let next = disjoint_next _ _ _ i.0 c.args.len (pooled-turn c.args.additions.now c.args.edits.now c.loop-edit.edit-index d c.loop-edit-test.true) i.2 in
+    let next = next_edit c.args.additions.now c.args.edits.now c.loop-edit.edit-index i.0 c.args.len c.loop-edit-test.true i.2 in
     omega (arith, next.ends, c.ranges.len.fits)
 
 pub returns-clause-fits : goal.returns-clause-fits

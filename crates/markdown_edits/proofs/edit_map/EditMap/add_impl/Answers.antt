@@ -1,5 +1,5 @@
 use Rattle.markdown_edits.proofs.Prelude.{◌≡◌, ◌++◌, ◌∷◌, [], ◌≤◌, false, List, sym, subst, ap, ◌∙◌, arith, Event, Edit, edit_at, is_no_edit, put_by, removal_at, IsAscending}
-use Rattle.markdown_edits.proofs.Edits.Puts.{joined, put-end, put-second, added-put, removal_at-behind, IsAscending-put, IsAscending-first}
+use Rattle.markdown_edits.proofs.Edits.Puts.{joined, IsAscending-pushed, added-pushed, put-second, added-put, removal_at-behind, IsAscending-put, IsAscending-first}
 use Rattle.markdown_edits.proofs.edit_map.EditMap.add_impl.Goals as goal
 
 pub is_last-requires : goal.is_last-requires
@@ -8,22 +8,15 @@ is_last-requires c = IsAscending-first c.self.inside.front c.self.inside.behind 
 pub invariant_of-self-then-is_last : goal.invariant_of-self-then-is_last
 invariant_of-self-then-is_last c =
     let d : Edit = edit_at c.args.index c.args.remove c.args.additions.items in
-    let front = c.self.inside.front in
-    let behind = c.self.inside.behind in
-    let put = ap (λ (es : List Edit). es ++ behind) (c.in_ok-push.ensures.ok ∙ ap (λ (xs : List Event). front ++ edit_at c.args.index c.args.remove xs ∷ []) c.deref-then-is_last.ensures.value)
-    ∙ put-end (joined c.args.before) front behind d (c.is_last.ensures.none c.if-is_last.true) (c.is_last.ensures.all c.if-is_last.true) in
-    subst IsAscending (sym put) (IsAscending-put (joined c.args.before) (front ++ behind) d c.self.invariant)
+    let push = c.in_ok-push.ensures.ok ∙ ap (λ (xs : List Event). c.self.inside.front ++ edit_at c.args.index c.args.remove xs ∷ []) c.deref-then-is_last.ensures.value in
+    IsAscending-pushed c.args.before c.self.inside.front c.self.inside.behind _ [] d push (c.is_last.ensures.none c.if-is_last.true) (c.is_last.ensures.all c.if-is_last.true) c.self.invariant
 
 pub returns-then-is_last-clause-ok : goal.returns-then-is_last-clause-ok
 returns-then-is_last-clause-ok c =
     let d : Edit = edit_at c.args.index c.args.remove c.args.additions.items in
-    let some : is_no_edit d ≡ false =
-    sym (c.is_nothing.ensures ∙ ap (λ (xs : List Event). is_no_edit (edit_at 0 c.args.remove xs)) c.deref.ensures.value) ∙ c.if-is_nothing.false in
-    let front = c.self.inside.front in
-    let behind = c.self.inside.behind in
-    ap (λ (es : List Edit). es ++ behind) (c.in_ok-push.ensures.ok ∙ ap (λ (xs : List Event). front ++ edit_at c.args.index c.args.remove xs ∷ []) c.deref-then-is_last.ensures.value)
-    ∙ put-end (joined c.args.before) front behind d (c.is_last.ensures.none c.if-is_last.true) (c.is_last.ensures.all c.if-is_last.true)
-    ∙ ap (λ (es : List Edit). put_by (joined c.args.before) es d) c.self.view_is ∙ sym (added-put c.args.before c.args.self.now d some)
+    let some : is_no_edit d ≡ false = sym (c.is_nothing.ensures ∙ ap (λ (xs : List Event). is_no_edit (edit_at 0 c.args.remove xs)) c.deref.ensures.value) ∙ c.if-is_nothing.false in
+    let push = c.in_ok-push.ensures.ok ∙ ap (λ (xs : List Event). c.self.inside.front ++ edit_at c.args.index c.args.remove xs ∷ []) c.deref-then-is_last.ensures.value in
+    added-pushed c.args.before c.self.inside.front c.self.inside.behind _ _ d push (c.is_last.ensures.none c.if-is_last.true) (c.is_last.ensures.all c.if-is_last.true) c.self.view_is some
 
 pub add-requires : goal.add-requires
 add-requires c =
