@@ -41,11 +41,10 @@ bytes_at bytes start (suc n) within =
 
 filter-as : (f g : ℕ → Bool) → ((i : ℕ) → f i ≡ g i) → (xs : List ℕ) → filter f xs ≡ filter g xs
 filter-as f g same [] = refl
-filter-as f g same (x ∷ xs) = go (g x) refl (filter-as f g same xs)
-  where
-    go : (b : Bool) → g x ≡ b → filter f xs ≡ filter g xs → filter f (x ∷ xs) ≡ filter g (x ∷ xs)
-    go true e more = rw (same x, e) (ap (λ ys. x ∷ ys) more)
-    go false e more = rw (same x, e) more
+filter-as f g same (x ∷ xs) =
+    let more = filter-as f g same xs in
+    let here = same x in
+    grind arith
 
 -- the bytes between two places are those from the one's first byte on, up to the other's
 pub bytes-between : (bytes : List ℕ) (p q : Point) → first_byte p ≤ first_byte q → first_byte q ≤ length bytes → slice_range bytes (first_byte p) (first_byte q) ≡ bytes_between bytes p q

@@ -20,31 +20,24 @@ count_in_tab : (f : Seat → Bool) (low high width line index : ℕ) → ((s : S
     → (byte n vs column : ℕ) → vs + n ≤ width → length (filter f (in_tab byte n line column index vs)) ≡ min high (vs + n) - max low vs
 count_in_tab f low high width line index h byte zero vs column le = omega arith
 count_in_tab f low high width line index h byte (suc n) vs column le =
-    go (nat_le low vs) (nat_lt vs high) refl refl (h (record { byte = byte; point = point line column index vs; end = end_in_tab n line column index vs }) refl (omega arith)) (count_in_tab f low high width line index h 32 n (suc vs) (suc column) (omega arith))
-  where
-    go : (x y : Bool) → nat_le low vs ≡ x → nat_lt vs high ≡ y → f (record { byte = byte; point = point line column index vs; end = end_in_tab n line column index vs }) ≡ (nat_le low vs && nat_lt vs high) → length (filter f (in_tab 32 n line (suc column) index (suc vs))) ≡ min high (suc vs + n) - max low (suc vs)
-        → length (filter f (in_tab byte (suc n) line column index vs)) ≡ min high (vs + suc n) - max low vs
-    go true true ex ey e more = rw (e, ex, ey) (omega (arith, more, leb-true low vs ex, ltb-true vs high ey))
-    go true false ex ey e more = rw (e, ex, ey) (omega (arith, more, leb-true low vs ex, ltb-false vs high ey))
-    go false y ex ey e more = rw (e, ex) (omega (arith, more, leb-false low vs ex))
+    let here = h (record { byte = byte; point = point line column index vs; end = end_in_tab n line column index vs }) refl (omega arith) in
+    let rest = count_in_tab f low high width line index h 32 n (suc vs) (suc column) (omega arith) in
+    grind (arith, nat_tests)
 
 -- the virtual bytes from an index on have no lower index
-from-more : (t line column index b : ℕ) (rest : List ℕ) → ((line' column' : ℕ) → AllByRecursion (λ s. suc index ≤ s.point.index) (virtual_from t line' column' (suc index) rest))
-    → (w x y z : Bool) → (b == 10) ≡ w → (b == 13) ≡ x → begins_with_lf rest ≡ y → (b == 9) ≡ z → AllByRecursion (λ s. index ≤ s.point.index) (virtual_from t line column index (b ∷ rest))
-from-more t line column index b rest next w x y z ew ex ey ez = go w x y z ew ex ey ez
-  where
-    later : (line' column' : ℕ) → AllByRecursion (λ s. index ≤ s.point.index) (virtual_from t line' column' (suc index) rest)
-    later line' column' = every-map (λ s. suc index ≤ s.point.index) (λ s. index ≤ s.point.index) (λ s h. omega arith) (virtual_from t line' column' (suc index) rest) (next line' column')
+module _ (t line column index b : ℕ) (rest : List ℕ) (next : (line' column' : ℕ) → AllByRecursion (λ s. suc index ≤ s.point.index) (virtual_from t line' column' (suc index) rest)) where
+  later : (line' column' : ℕ) → AllByRecursion (λ s. index ≤ s.point.index) (virtual_from t line' column' (suc index) rest)
+  later line' column' = every-map (λ s. suc index ≤ s.point.index) (λ s. index ≤ s.point.index) (λ s h. omega arith) (virtual_from t line' column' (suc index) rest) (next line' column')
 
-    go : (w x y z : Bool) → (b == 10) ≡ w → (b == 13) ≡ x → begins_with_lf rest ≡ y → (b == 9) ≡ z → AllByRecursion (λ s. index ≤ s.point.index) (virtual_from t line column index (b ∷ rest))
-    go true x y z ew ex ey ez = rw ew ((omega arith), later (suc line) 1)
-    go false true true z ew ex ey ez = rw (ew, ex, ey) (later line column)
-    go false true false z ew ex ey ez = rw (ew, ex, ey) ((omega arith), later (suc line) 1)
-    go false false y true ew ex ey ez =
-        rw (ew, ex, ez) (every-append (λ s. index ≤ s.point.index) (in_tab 9 (tab_width t column) line column index 0) (virtual_from t line (column + tab_width t column) (suc index) rest)
-        (every-map (IsOfTab line column index (tab_width t column)) (λ s. index ≤ s.point.index) (λ s h. omega (arith, ap (λ p. p.index) h.2)) (in_tab 9 (tab_width t column) line column index 0) (of_tab line column index (tab_width t column)))
-        (later line (column + tab_width t column)))
-    go false false y false ew ex ey ez = rw (ew, ex, ez) ((omega arith), later line (suc column))
+  from-more : (w x y z : Bool) → (b == 10) ≡ w → (b == 13) ≡ x → begins_with_lf rest ≡ y → (b == 9) ≡ z → AllByRecursion (λ s. index ≤ s.point.index) (virtual_from t line column index (b ∷ rest))
+  from-more true x y z ew ex ey ez = rw ew ((omega arith), later (suc line) 1)
+  from-more false true true z ew ex ey ez = rw (ew, ex, ey) (later line column)
+  from-more false true false z ew ex ey ez = rw (ew, ex, ey) ((omega arith), later (suc line) 1)
+  from-more false false y true ew ex ey ez =
+      rw (ew, ex, ez) (every-append (λ s. index ≤ s.point.index) (in_tab 9 (tab_width t column) line column index 0) (virtual_from t line (column + tab_width t column) (suc index) rest)
+      (every-map (IsOfTab line column index (tab_width t column)) (λ s. index ≤ s.point.index) (λ s h. omega (arith, ap (λ p. p.index) h.2)) (in_tab 9 (tab_width t column) line column index 0) (of_tab line column index (tab_width t column)))
+      (later line (column + tab_width t column)))
+  from-more false false y false ew ex ey ez = rw (ew, ex, ez) ((omega arith), later line (suc column))
 
 from-index : (t line column index : ℕ) (rest : List ℕ) → AllByRecursion (λ s. index ≤ s.point.index) (virtual_from t line column index rest)
 from-index t line column index [] = tt
@@ -98,26 +91,14 @@ first_ordered p q ordered = grind (arith, nat_tests)
 
 -- the place of a virtual byte that is no tab byte
 pub cut_place : (t : ℕ) → 0 < t → (bytes : List ℕ) (p : Point) → IsPointOf t bytes p → 0 < p.vs → IsSeatPlace t bytes p
-cut_place t some bytes p is cut = go (place-of t some bytes p is)
-  where
-    go : IsPlace t bytes p → IsSeatPlace t bytes p
-    go (inl place) = place
-    go (inr h) = absurd (omega (arith, h.0))
+cut_place t some bytes p is cut = elim (place-of t some bytes p is) [ inl place ↦ place | inr h ↦ absurd (omega (arith, h.0)) ]
 
 -- the index of a place, and of the first byte from it on
 pub place_inside : (t : ℕ) → 0 < t → (bytes : List ℕ) (p : Point) → IsPointOf t bytes p → (p.index ≤ length bytes) × (first_byte p ≤ length bytes)
-place_inside t some bytes p is = go (place-of t some bytes p is)
+place_inside t some bytes p is = elim (place-of t some bytes p is) [ inl place ↦ (place.reached.inside, whole place.reached.inside (λ cut. (place.in_tab cut).0)) | inr h ↦ (omega (arith, h.1), whole (omega (arith, h.1)) (λ cut. h.1)) ]
   where
     whole : p.index ≤ length bytes → (0 < p.vs → p.index < length bytes) → first_byte p ≤ length bytes
-    whole le lt = go3 (nat_lt 0 p.vs) refl
-      where
-        go3 : (x : Bool) → nat_lt 0 p.vs ≡ x → first_byte p ≤ length bytes
-        go3 true e = rw e (lt (ltb-true 0 p.vs e))
-        go3 false e = rw e le
-
-    go : IsPlace t bytes p → (p.index ≤ length bytes) × (first_byte p ≤ length bytes)
-    go (inl place) = (place.reached.inside, whole place.reached.inside (λ cut. (place.in_tab cut).0))
-    go (inr h) = ((omega (arith, h.1)), whole (omega (arith, h.1)) (λ cut. h.1))
+    whole le lt = grind (arith, nat_tests)
 
 -- of a tab that two places cut, the virtual bytes between these lie before the slice's bytes
 pub spaces-in_one_tab : (t : ℕ) → 0 < t → (bytes : List ℕ) (p q : Point) → IsPointOf t bytes q → 0 < p.vs → p.index ≡ q.index → p.vs ≤ q.vs → spaces_before t bytes p q ≡ q.vs - p.vs
@@ -155,10 +136,10 @@ spaces-before_end t some bytes p q is cut where_p =
 
 -- the start of a range is at a lower index than its end, or in the same byte and not after it
 pub at_lower_index : (p q : Point) → stands_before q p ≡ false → p.index ≢ q.index → p.index < q.index
-at_lower_index p q ordered other = elim (not_before p q ordered) [ inl lt ↦ lt | inr h ↦ absurd (other h.0) ]
+at_lower_index p q ordered other = grind (arith, nat_tests)
 
 pub not_behind : (p q : Point) → stands_before q p ≡ false → p.index ≡ q.index → p.vs ≤ q.vs
-not_behind p q ordered same = elim (not_before p q ordered) [ inl lt ↦ absurd (omega arith) | inr h ↦ h.1 ]
+not_behind p q ordered same = grind (arith, nat_tests)
 
 -- the tab that the end cuts is not cut by the start
 pub spaces-after_is : (t : ℕ) → 0 < t → (bytes : List ℕ) (p q : Point) → IsPointOf t bytes q → stands_before q p ≡ false → 0 < q.vs → (p.vs ≡ 0) ⊎ (p.index ≢ q.index) → spaces_after t bytes p q ≡ q.vs - 1

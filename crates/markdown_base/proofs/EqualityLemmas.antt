@@ -13,8 +13,8 @@ pieces k n l c i v o h = search (rules, tests)
 module _ (E : Link → Link → Bool) (link : (x y : Link) → (E x y ≡ true) ↔ (x ≡ y)) where
   same-link : (x y : Option Link) → option_eq E x y ≡ true → x ≡ y
   same-link None None h = refl
-  same-link None (Some y) h = absurd (false≢true h)
-  same-link (Some x) None h = absurd (false≢true h)
+  same-link None (Some y) h = cc
+  same-link (Some x) None h = cc
   same-link (Some x) (Some y) h = ap (λ l. Some l) ((link x y).0 h)
 
   self-link : (x : Option Link) → option_eq E x x ≡ true

@@ -1,5 +1,5 @@
 -- Lemmas on the point of a place that the virtual text reaches, and on how it moves along a line.
-use Rattle.markdown_base.proofs.Prelude.{◌≡◌, ◌≢◌, ℕ, zero, suc, ◌+◌, ◌-◌, ◌*◌, ◌<◌, ◌≤◌, inl, inr, Bool, true, false, cond, List, [], ◌∷◌, ◌++◌, length, drop, get_or, refl, ap, ◌∙◌, arith, subst, eqb-true, eq-eqb, ne_eqb, ◌==◌, ◌&&◌, slice_index, find, Some, AllByRecursion, flat_map, false≢true, mul-le-mul_left, flat_map-append, Point, Seat, point, tab_width, in_tab, other_byte, begins_with_lf, virtual_from, end_after, document_end, shown, follows_cr, point_at, IsPointOf, HasNoLineEnding}
+use Rattle.markdown_base.proofs.Prelude.{◌≡◌, ◌≢◌, ℕ, zero, suc, ◌+◌, ◌-◌, ◌*◌, ◌<◌, ◌≤◌, inl, inr, Bool, true, false, cond, List, [], ◌∷◌, ◌++◌, length, drop, get_or, refl, ap, ◌∙◌, arith, subst, eqb-true, eq-eqb, ne_eqb, ◌==◌, ◌&&◌, slice_index, find, Some, AllByRecursion, flat_map, false≢true, mul-le-mul_left, flat_map-append, Point, Seat, point, tab_width, in_tab, other_byte, begins_with_lf, virtual_from, end_after, document_end, shown, follows_cr, point_at, IsPointOf, HasNoLineEnding, nat_tests}
 use Rattle.std.proofs.lemmas.List.{append_assoc}
 use Rattle.markdown_base.proofs.Scans.{IsReached, IsPlace, drop_is, reached-tab, reached-plain, tab_width-least, place-of}
 
@@ -15,11 +15,7 @@ not_at : (index : ℕ) (p : Point) → p.index ≢ index → is_at index p ≡ f
 not_at index p other = rw (ne_eqb p.index index other) refl
 
 shown_below : (bytes : List ℕ) (p : Point) (index : ℕ) → p.index < index → (shown bytes p).index ≢ index
-shown_below bytes p index below = go ((slice_index bytes p.index == 10) && follows_cr bytes p.index) refl
-  where
-    go : (x : Bool) → ((slice_index bytes p.index == 10) && follows_cr bytes p.index) ≡ x → (shown bytes p).index ≢ index
-    go true e = rw e (λ is. omega arith)
-    go false e = rw e (λ is. omega arith)
+shown_below bytes p index below = grind (arith, nat_tests)
 
 -- no place before an index is at it
 find_past : (bytes : List ℕ) (index : ℕ) (front : List Seat) (rest : List Point) → AllByRecursion (λ s. s.point.index < index) front → find (is_at index) (flat_map (both bytes) front ++ rest) ≡ find (is_at index) rest
@@ -33,15 +29,7 @@ find_here index line column rest = rw (eq-eqb index index refl) refl
 
 -- a virtual byte at the index is found there, shown or not
 find_shown : (bytes : List ℕ) (line column index : ℕ) (rest : List Point) → find (is_at index) (shown bytes (point line column index 0) ∷ point line column index 0 ∷ rest) ≡ Some (point line column index 0)
-find_shown bytes line column index rest = go ((slice_index bytes index == 10) && follows_cr bytes index) refl
-  where
-    go : (x : Bool) → ((slice_index bytes index == 10) && follows_cr bytes index) ≡ x → find (is_at index) (shown bytes (point line column index 0) ∷ point line column index 0 ∷ rest) ≡ Some (point line column index 0)
-    go true e = rw e (go2 (index - 1 == index) refl)
-      where
-        go2 : (y : Bool) → (index - 1 == index) ≡ y → cond ((index - 1 == index) && true) (Some (record { line = line; column = column; index = index - 1; vs = 0 })) (find (is_at index) (point line column index 0 ∷ rest)) ≡ Some (point line column index 0)
-        go2 true f = rw f (ap (λ i. Some (point line column i 0)) (eqb-true (index - 1) index f))
-        go2 false f = rw f (find_here index line column rest)
-    go false e = rw e (find_here index line column (point line column index 0 ∷ rest))
+find_shown bytes line column index rest = grind (arith, nat_tests)
 
 -- the first place of the virtual text from an index on
 find_first : (t : ℕ) → 0 < t → (bytes : List ℕ) (line column index b : ℕ) (rest : List ℕ) (end : Point) → drop index bytes ≡ b ∷ rest
@@ -79,13 +67,10 @@ point-of_reached t some bytes line column index r =
 
 -- a place before bytes that end no line is reached at its own column
 pub reached-of_point : (t : ℕ) → 0 < t → (bytes : List ℕ) (p : Point) (to : ℕ) → IsPointOf t bytes p → p.vs ≡ 0 → p.index < to → HasNoLineEnding bytes p.index to → IsReached t bytes p.line p.column p.index
-reached-of_point t some bytes p to is whole forward other_byte = go (place-of t some bytes p is)
-  where
-    go : IsPlace t bytes p → IsReached t bytes p.line p.column p.index
-    go (inl place) =
-        let same : place.column ≡ p.column = omega (arith, place.across) in
-        subst (λ c. IsReached t bytes p.line c p.index) same place.reached
-    go (inr cr) = absurd ((other_byte p.index (omega arith) forward).1 cr.2)
+reached-of_point t some bytes p to is whole forward other_byte = elim (place-of t some bytes p is) [
+  | inl place ↦ let same : place.column ≡ p.column = omega (arith, place.across) in subst (λ c. IsReached t bytes p.line c p.index) same place.reached
+  | inr cr ↦ absurd ((other_byte p.index (omega arith) forward).1 cr.2)
+]
 
 -- one byte on in a line: a tab, and any other byte
 pub moved-tab : (t : ℕ) → 0 < t → (bytes : List ℕ) (line column index : ℕ) → IsReached t bytes line column index → index < length bytes → get_or bytes index 0 ≡ 9 → IsReached t bytes line (column + tab_width t column) (suc index)

@@ -1,5 +1,5 @@
 -- Lemmas on the virtual text of a document from an index on, and on where its places lie.
-use Rattle.markdown_base.proofs.Prelude.{◌≡◌, ℕ, zero, suc, ◌+◌, ◌-◌, ◌*◌, ◌<◌, ◌≤◌, ◌⊎◌, inl, inr, Bool, true, false, List, [], ◌∷◌, ◌++◌, length, drop, get_or, refl, sym, ap, ◌∙◌, arith, subst, drop-cons, eqb-true, mod-lt, ◌==◌, ◌&&◌, slice_index, false≢true, AllByRecursion, flat_map, Point, Seat, point, tab_width, in_tab, line_feed, other_byte, begins_with_lf, virtual_from, virtual, end_after, document_end, shown, follows_cr, points, IsPointOf}
+use Rattle.markdown_base.proofs.Prelude.{◌≡◌, ℕ, zero, suc, ◌+◌, ◌-◌, ◌*◌, ◌<◌, ◌≤◌, ◌⊎◌, inl, inr, Bool, true, false, List, [], ◌∷◌, ◌++◌, length, drop, get_or, refl, sym, ap, ◌∙◌, arith, subst, drop-cons, eqb-true, mod-lt, ◌==◌, ◌&&◌, slice_index, false≢true, AllByRecursion, flat_map, Point, Seat, point, tab_width, in_tab, line_feed, other_byte, begins_with_lf, virtual_from, virtual, end_after, document_end, shown, follows_cr, points, IsPointOf, nat_tests}
 use Rattle.std.proofs.lemmas.List.{append_assoc}
 use Rattle.markdown_base.proofs.Common.{and-right, every-append, every-map}
 use Rattle.markdown_base.proofs.Seats.{end-after-append}
@@ -49,12 +49,10 @@ of_tab line column index width =
     subst (λ c. AllByRecursion (IsOfTab line column index width) (in_tab 9 width line c index 0)) start (in_tab-seats 9 width line column index 0 width (omega arith))
 
 in_tab-end : (p : Point) (byte n line column index vs : ℕ) → end_after p (in_tab byte (suc n) line column index vs) ≡ point line (column + suc n) (suc index) 0
-in_tab-end p byte zero line column index vs =
-    let next : suc column ≡ column + 1 = omega arith in
-    ap (λ c. point line c (suc index) 0) next
+in_tab-end p byte zero line column index vs = grind arith
 in_tab-end p byte (suc n) line column index vs =
-    let next : suc column + suc n ≡ column + suc (suc n) = omega arith in
-    in_tab-end (point line (suc column) index (suc vs)) 32 n line (suc column) index (suc vs) ∙ ap (λ c. point line c (suc index) 0) next
+    let rest = in_tab-end (point line (suc column) index (suc vs)) 32 n line (suc column) index (suc vs) in
+    grind arith
 
 pub tab_width-least : (t column : ℕ) → 0 < t → 1 ≤ tab_width t column
 tab_width-least t column some = omega (arith, mod-lt (column - 1) some)
@@ -134,19 +132,14 @@ placed-other : (t : ℕ) (bytes : List ℕ) (s : Seat) → IsPlace t bytes s.poi
 placed-other t bytes s here not_lf = (here, subst (IsPlace t bytes) (sym (shown-other bytes s.point not_lf)) here)
 
 cr_before : (bytes : List ℕ) (i : ℕ) → follows_cr bytes i ≡ true → i < length bytes → (i - 1 < length bytes) × (get_or bytes (i - 1) 0 ≡ 13)
-cr_before bytes zero is within = absurd (false≢true is)
-cr_before bytes (suc i) is within =
-    let same : i ≡ suc i - 1 = omega arith in
-    (omega arith, subst (λ k. get_or bytes k 0 ≡ 13) same (eqb-true (get_or bytes i 0) 13 is))
+cr_before bytes i is within = grind (arith, nat_tests)
 
 placed-line_feed : (t : ℕ) (bytes : List ℕ) (line column index : ℕ) → IsReached t bytes line column index → index < length bytes → IsPlaced t bytes (line_feed line column index)
 placed-line_feed t bytes line column index r within = (placed-here t bytes line column index r, go ((slice_index bytes index == 10) && follows_cr bytes index) refl)
   where
     go : (x : Bool) → ((slice_index bytes index == 10) && follows_cr bytes index) ≡ x → IsPlace t bytes (shown bytes (point line column index 0))
     go false f = rw f (placed-here t bytes line column index r)
-    go true f =
-        let before = cr_before bytes index (and-right (slice_index bytes index == 10) (follows_cr bytes index) f) within in
-        rw f (inr (refl, before.0, before.1))
+    go true f = let before = cr_before bytes index (and-right (slice_index bytes index == 10) (follows_cr bytes index) f) within in rw f (inr (refl, before.0, before.1))
 
 pub drop_is : (bytes : List ℕ) (i b : ℕ) (rest : List ℕ) → drop i bytes ≡ b ∷ rest → (i < length bytes) × (get_or bytes i 0 ≡ b) × (drop (suc i) bytes ≡ rest)
 drop_is [] zero b rest e = absurd (cc)
