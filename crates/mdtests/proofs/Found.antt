@@ -1,16 +1,5 @@
 -- The invariant of the machine that wraps says nothing of definitions.
-use Rattle.std.proofs.Common.{ℕ, List, Bool, Option, Some, None}
-use Rattle.markdown.specs.declared.event.Point.{Point}
-use Rattle.markdown.specs.declared.state.State.{State}
-use Rattle.markdown.specs.declared.state.State.TheVariants.{Next, Retry, Ok, Nok, Error}
-use Rattle.markdown.specs.Text.{Given, Text}
-use Rattle.markdown.specs.Configuration.{Configuration, Choice}
-use Rattle.mdconstructs.specs.Rows.{StateRows, named}
-use Rattle.mdconstructs.specs.RowInvariant.{IsStateAt}
-use Rattle.mdconstructs.specs.Tables.{LineByte}
-use Rattle.mdconstructs.specs.Wrap.{wrap, wrap_rules}
-use Rattle.mdconstructs.specs.declared.wrap.Resolver.{Resolver}
-use Rattle.mdtests.specs.Found.{with_definition}
+use Rattle.mdtests.proofs.Prelude.{ℕ, List, Bool, Option, Some, None, Point, State, Next, Retry, Ok, Nok, Error, Given, Text, Configuration, Choice, StateRows, named, IsStateAt, LineByte, wrap, wrap_rules, Resolver, with_definition}
 
 module _ (refuse : Bool) (g : Given) (text : Text) (k : Configuration Resolver Unit) (choices : List Choice) (label : List ℕ) where
   at-state : (o : Option (StateRows LineByte Resolver Unit)) (where_to : StateRows LineByte Resolver Unit → Point → Bool) → IsStateAt wrap g text o where_to k choices → IsStateAt wrap g text o where_to (with_definition k label) choices

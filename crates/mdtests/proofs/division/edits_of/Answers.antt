@@ -1,9 +1,4 @@
-use Rattle.markdown.specs.Virtual.{IsWithinLimit}
-use Rattle.std.proofs.Common.{ℕ, None, ◌++◌, List, length, refl, sym, ◌∙◌, ap, subst, arith}
-use Rattle.markdown.specs.Edits.{Edit, AreDisjoint}
-use Rattle.markdown.specs.ChildrenLaws.{HasEndsWithin}
-use Rattle.markdown.specs.Parts.{divided, chain_edits}
-use Rattle.markdown.proofs.ChainOrder.Forward.{forward-chain, within, one-chain-disjoint, ends-inside}
+use Rattle.mdtests.proofs.Prelude.{IsWithinLimit, ℕ, None, ◌++◌, List, length, refl, sym, ◌∙◌, ap, subst, arith, Edit, AreDisjoint, HasEndsWithin, divided, chain_edits, forward-chain, within, one-chain-disjoint, ends-inside}
 use Rattle.mdtests.proofs.division.edits_of.Goals as goal
 
 pub ready-requires : goal.ready-requires

@@ -1,7 +1,4 @@
-use Rattle.std.proofs.Common.{◌≡◌, ℕ, ◌<◌, ⊎_elim, length, get_or, List, [], ◌∷◌, zero, suc, sym, ap, subst, refl, arith, ◌∙◌}
-use Rattle.std.proofs.lemmas.Bool.{cases_eq}
-use Rattle.markdown.specs.declared.event.Event.{Event}
-use Rattle.markdown.specs.Events.{EndsBelow}
+use Rattle.mdtests.proofs.Prelude.{◌≡◌, ℕ, ◌<◌, ⊎_elim, length, get_or, List, [], ◌∷◌, zero, suc, sym, ap, subst, refl, arith, ◌∙◌, cases_eq, Event, EndsBelow}
 use Rattle.mdtests.proofs.division.has_ends_within.Goals as goal
 
 -- inside a list the default for a missing element does not matter

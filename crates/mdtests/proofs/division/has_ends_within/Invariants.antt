@@ -1,6 +1,4 @@
-use Rattle.std.proofs.Common.{ℕ, ◌<◌, length, get_or}
-use Rattle.markdown.specs.declared.event.Event.{Event}
-use Rattle.markdown.specs.Events.{EndsBelow}
+use Rattle.mdtests.proofs.Prelude.{ℕ, ◌<◌, length, get_or, Event, EndsBelow}
 use Rattle.mdtests.proofs.division.has_ends_within.Given as goal
 
 abbrev pub invariant-loop-event : goal.invariant-loop-event

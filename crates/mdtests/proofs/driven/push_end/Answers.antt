@@ -1,4 +1,4 @@
-use Rattle.std.proofs.Common.{◌≡◌, true, false, sym, ◌∙◌}
+use Rattle.mdtests.proofs.Prelude.{◌≡◌, true, false, sym, ◌∙◌}
 use Rattle.mdtests.proofs.driven.push_end.Goals as goal
 
 pub push-requires-clause-range : goal.push-requires-clause-range

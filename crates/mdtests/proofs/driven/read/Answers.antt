@@ -1,5 +1,4 @@
-use Rattle.markdown.specs.Engine.{given_by}
-use Rattle.markdown.proofs.Runs.Whole.{start-is-point}
+use Rattle.mdtests.proofs.Prelude.{given_by, start-is-point}
 use Rattle.mdtests.proofs.driven.read.Goals as goal
 
 pub new-tokenizer-requires : goal.new-tokenizer-requires

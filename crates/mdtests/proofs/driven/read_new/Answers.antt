@@ -1,7 +1,4 @@
-use Rattle.std.proofs.Common.{[], ◌∷◌, length}
-use Rattle.markdown.specs.declared.state.State.TheVariants.{Next}
-use Rattle.markdown.specs.Engine.{given_by}
-use Rattle.markdown.proofs.Runs.Whole.{run-start, run-last, run-range, run-holds, run-pushed}
+use Rattle.mdtests.proofs.Prelude.{[], ◌∷◌, length, Next, given_by, run-start, run-last, run-range, run-holds, run-pushed}
 use Rattle.mdtests.proofs.driven.read_new.Goals as goal
 
 pub push_shown-requires-clause-range : goal.push_shown-requires-clause-range

@@ -1,10 +1,4 @@
-use Rattle.std.proofs.Common.{◌≡◌, ℕ, ◌*◌, ◌<◌, ◌≤◌, [], ◌∷◌, ◌++◌, Option, None, Some, sym, subst, ap, ◌∙◌, arith, rules}
-use Rattle.std.specs.Option.{IfSome}
-use Rattle.std.specs.Prelude.{All}
-use Rattle.std.proofs.lemmas.List.Elements.{All-push}
-use Rattle.markdown.specs.declared.event.Event.{Event}
-use Rattle.markdown.specs.declared.event.Link.{Link}
-use Rattle.markdown.specs.Events.{EndsBelow, EachEnd}
+use Rattle.mdtests.proofs.Prelude.{◌≡◌, ℕ, ◌*◌, ◌<◌, ◌≤◌, [], ◌∷◌, ◌++◌, Option, None, Some, sym, subst, ap, ◌∙◌, arith, rules, IfSome, All, All-push, Event, Link, EndsBelow, EachEnd}
 use Rattle.mdtests.proofs.edit_map.chain.Goals as goal
 
 within : (o : Option ℕ) (m n : ℕ) → m ≤ n → IfSome o (λ k. k < m) → IfSome o (λ k. k < n)

@@ -1,7 +1,4 @@
-use Rattle.std.proofs.Common.{◌≡◌, ℕ, ◌+◌, ◌-◌, ◌*◌, ◌<◌, ◌≤◌, Bool, true, false, cond, List, [], ◌∷◌, ◌++◌, sym, subst, arith, rules}
-use Rattle.markdown.specs.declared.event.Event.{Event}
-use Rattle.markdown.specs.Edits.{Edit, AreDisjoint, edit_at, is_no_edit, added_after, put_after}
-use Rattle.markdown.proofs.Edits.Puts.{put-less}
+use Rattle.mdtests.proofs.Prelude.{◌≡◌, ℕ, ◌+◌, ◌-◌, ◌*◌, ◌<◌, ◌≤◌, Bool, true, false, cond, List, [], ◌∷◌, ◌++◌, sym, subst, arith, rules, Event, Edit, AreDisjoint, edit_at, is_no_edit, added_after, put_after, put-less}
 use Rattle.mdtests.proofs.edit_map.chain_edited.Goals as goal
 
 apart-lower : (es : List Edit) (from n m : ℕ) → n ≤ from → AreDisjoint from es m → AreDisjoint n es m

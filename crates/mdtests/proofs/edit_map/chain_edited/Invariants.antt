@@ -1,5 +1,4 @@
-use Rattle.std.proofs.Common.{◌-◌, ◌*◌}
-use Rattle.markdown.specs.Edits.{AreDisjoint}
+use Rattle.mdtests.proofs.Prelude.{◌-◌, ◌*◌, AreDisjoint}
 use Rattle.mdtests.proofs.edit_map.chain_edited.Given as goal
 
 -- the edits so far are at the last spans

@@ -1,6 +1,4 @@
-use Rattle.markdown.specs.Virtual.{IsWithinLimit}
-use Rattle.std.proofs.Common.{sym, subst}
-use Rattle.markdown.specs.declared.configuration.ParseOptions.{ParseOptions}
+use Rattle.mdtests.proofs.Prelude.{IsWithinLimit, sym, subst, ParseOptions}
 use Rattle.mdtests.proofs.machines.lines_by.Goals as goal
 
 pub cuts_every-requires : goal.cuts_every-requires

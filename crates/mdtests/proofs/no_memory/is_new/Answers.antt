@@ -1,5 +1,4 @@
-use Rattle.markdown.specs.Engine.{given_by}
-use Rattle.markdown.proofs.Runs.Whole.{start-is-point}
+use Rattle.mdtests.proofs.Prelude.{given_by, start-is-point}
 use Rattle.mdtests.proofs.no_memory.is_new.Goals as goal
 
 pub new-t-requires : goal.new-t-requires

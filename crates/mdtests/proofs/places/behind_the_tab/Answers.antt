@@ -1,7 +1,4 @@
-use Rattle.markdown.specs.Virtual.{IsWithinLimit}
-use Rattle.std.proofs.Common.{ℕ, List, [], ◌∷◌, ◌+◌, ◌*◌, ◌^◌, ◌<◌, ◌≤◌, refl, sym, subst, arith}
-use Rattle.markdown.specs.Places.{IsPointOf}
-use Rattle.markdown.specs.Virtual.{point}
+use Rattle.mdtests.proofs.Prelude.{IsWithinLimit, ℕ, List, [], ◌∷◌, ◌+◌, ◌*◌, ◌^◌, ◌<◌, ◌≤◌, refl, sym, subst, arith, IsPointOf, point}
 use Rattle.mdtests.proofs.places.behind_the_tab.Goals as goal
 
 -- the bytes of the document

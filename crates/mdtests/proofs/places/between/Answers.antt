@@ -1,5 +1,4 @@
-use Rattle.std.proofs.Common.{sym, ◌∙◌}
-use Rattle.markdown.proofs.Positions.Points.{found-passes}
+use Rattle.mdtests.proofs.Prelude.{sym, ◌∙◌, found-passes}
 use Rattle.mdtests.proofs.places.between.Goals as goal
 
 pub from_position-requires-clause-start_is_place : goal.from_position-requires-clause-start_is_place

@@ -1,5 +1,4 @@
-use Rattle.markdown.specs.Virtual.{IsWithinLimit}
-use Rattle.std.proofs.Common.{ℕ, sym, subst}
+use Rattle.mdtests.proofs.Prelude.{IsWithinLimit, ℕ, sym, subst}
 use Rattle.mdtests.proofs.places.cuts.Goals as goal
 
 pub cuts_every-requires : goal.cuts_every-requires

@@ -1,4 +1,4 @@
-use Rattle.std.proofs.Common.{refl}
+use Rattle.mdtests.proofs.Prelude.{refl}
 use Rattle.mdtests.proofs.pushed.options_in_tabs.Goals as goal
 
 pub returns : goal.returns

@@ -1,7 +1,4 @@
-use Rattle.std.proofs.Common.{◌+◌, ◌∷◌, ◌∙◌, get_or, None, inl, inr}
-use Rattle.std.specs.Prelude.{drop}
-use Rattle.markdown.specs.Engine.{given_by}
-use Rattle.markdown.proofs.Runs.Ranges.{ranges-start, ranges-at, ranges-gap, ranges-passed, ranges-range, ranges-holds, ranges-pushed}
+use Rattle.mdtests.proofs.Prelude.{◌+◌, ◌∷◌, ◌∙◌, get_or, None, inl, inr, drop, given_by, ranges-start, ranges-at, ranges-gap, ranges-passed, ranges-range, ranges-holds, ranges-pushed}
 use Rattle.mdtests.proofs.pushed.push_all.Goals as goal
 use Rattle.mdtests.proofs.pushed.push_all.Goals.{in-Some+in_ok-define_skip, in_default}
 

@@ -1,5 +1,4 @@
-use Rattle.std.specs.Prelude.{drop}
-use Rattle.markdown.proofs.Runs.Ranges.{HasRanges}
+use Rattle.mdtests.proofs.Prelude.{drop, HasRanges}
 use Rattle.mdtests.proofs.pushed.push_all.Given as goal
 
 abbrev pub invariant-loop-gap : goal.invariant-loop-gap

@@ -1,5 +1,4 @@
-use Rattle.markdown.specs.Virtual.{IsWithinLimit}
-use Rattle.std.proofs.Common.{◌+◌, ◌*◌, ◌^◌, ◌<◌, ℕ, length, sym, subst, rules}
+use Rattle.mdtests.proofs.Prelude.{IsWithinLimit, ◌+◌, ◌*◌, ◌^◌, ◌<◌, ℕ, length, sym, subst, rules}
 use Rattle.mdtests.proofs.ready.is_ready.Goals as goal
 
 pub ready-requires : goal.ready-requires

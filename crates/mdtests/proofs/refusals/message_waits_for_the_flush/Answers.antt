@@ -1,5 +1,4 @@
-use Rattle.std.proofs.Common.{refl}
-use Rattle.markdown.specs.Virtual.{point}
+use Rattle.mdtests.proofs.Prelude.{refl, point}
 use Rattle.mdtests.proofs.refusals.message_waits_for_the_flush.Goals as goal
 
 pub read_refused-requires-clause-cut : goal.read_refused-requires-clause-cut

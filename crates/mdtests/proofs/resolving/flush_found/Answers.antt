@@ -1,13 +1,4 @@
-use Rattle.std.proofs.Common.{[], length, sym, subst, arith}
-use Rattle.markdown.specs.declared.state.State.TheVariants.{Next}
-use Rattle.markdown.specs.StateConstants.Name.{TextStart}
-use Rattle.markdown.specs.Configuration.{TokenizerValue}
-use Rattle.markdown.specs.Engine.{given_of}
-use Rattle.markdown.proofs.Runs.Whole.{run-start, run-last, run-range, run-holds, run-pushed}
-use Rattle.mdconstructs.specs.declared.wrap.Resolver.{Resolver}
-use Rattle.mdconstructs.specs.declared.wrap.Wrap.{Wrap}
-use Rattle.mdconstructs.specs.Wrap.{wrap_rules}
-use Rattle.mdconstructs.specs.Laws.Wrap.{wrap-lawful}
+use Rattle.mdtests.proofs.Prelude.{[], length, sym, subst, arith, Next, TextStart, TokenizerValue, given_of, run-start, run-last, run-range, run-holds, run-pushed, Resolver, Wrap, wrap_rules, wrap-lawful}
 use Rattle.mdtests.proofs.Found.{found-holds}
 use Rattle.mdtests.proofs.resolving.flush_found.Goals as goal
 

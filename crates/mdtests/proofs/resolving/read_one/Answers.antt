@@ -1,5 +1,4 @@
-use Rattle.std.proofs.Common.{refl}
-use Rattle.markdown.specs.Virtual.{point}
+use Rattle.mdtests.proofs.Prelude.{refl, point}
 use Rattle.mdtests.proofs.resolving.read_one.Goals as goal
 
 pub read-requires-clause-cut : goal.read-requires-clause-cut

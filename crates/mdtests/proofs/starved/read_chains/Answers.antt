@@ -1,12 +1,6 @@
-use Rattle.std.proofs.Common.{◌≡◌, Option, Some, None, refl, subst, lit<}
-use Rattle.std.specs.Prelude.{option_and_then, Contains}
-use Rattle.markdown.specs.declared.event.Content.{Content}
-use Rattle.markdown.specs.declared.event.Content.TheVariants.{Flow, String, Text}
+use Rattle.mdtests.proofs.Prelude.{◌≡◌, Option, Some, None, refl, subst, lit<, option_and_then, Contains, Content, Flow, String, Name, ContentDefinitionBefore, StringStart, TextStart, start_name, starved}
+use Rattle.markdown.specs.declared.event.Content.TheVariants.{Text}
 use Rattle.markdown.specs.declared.event.Content.TheVariants as content
-use Rattle.markdown.specs.declared.state.Name.{Name}
-use Rattle.markdown.specs.StateConstants.Name.{ContentDefinitionBefore, StringStart, TextStart}
-use Rattle.markdown.specs.Reads.{start_name}
-use Rattle.mdtests.specs.Starved.{starved}
 use Rattle.mdtests.proofs.starved.read_chains.Goals as goal
 
 -- the machine starts with the state of each content that is read

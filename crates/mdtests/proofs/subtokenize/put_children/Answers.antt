@@ -1,6 +1,4 @@
-use Rattle.markdown.specs.Virtual.{IsWithinLimit}
-use Rattle.std.proofs.Common.{sym, subst}
-use Rattle.markdown.specs.declared.configuration.ParseOptions.{ParseOptions}
+use Rattle.mdtests.proofs.Prelude.{IsWithinLimit, sym, subst, ParseOptions}
 use Rattle.mdtests.proofs.subtokenize.put_children.Goals as goal
 
 pub ready-requires : goal.ready-requires

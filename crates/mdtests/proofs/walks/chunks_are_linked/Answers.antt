@@ -1,4 +1,4 @@
-use Rattle.std.proofs.Common.{refl, arith}
+use Rattle.mdtests.proofs.Prelude.{refl, arith}
 use Rattle.mdtests.proofs.walks.chunks_are_linked.Goals as goal
 
 pub link_to-requires : goal.link_to-requires

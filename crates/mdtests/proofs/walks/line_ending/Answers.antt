@@ -1,5 +1,4 @@
-use Rattle.std.proofs.Common.{sym, ◌∙◌}
-use Rattle.markdown.proofs.Balanced.{IsBalanced-pair}
+use Rattle.mdtests.proofs.Prelude.{sym, ◌∙◌, IsBalanced-pair}
 use Rattle.mdtests.proofs.walks.line_ending.Goals as goal
 
 pub returns : goal.returns

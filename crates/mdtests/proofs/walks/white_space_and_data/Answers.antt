@@ -1,6 +1,4 @@
-use Rattle.std.proofs.Common.{[], ◌∷◌, refl, sym, ◌∙◌, arith}
-use Rattle.markdown.specs.Events.{span, empty}
-use Rattle.markdown.proofs.Balanced.{IsBalanced-pair}
+use Rattle.mdtests.proofs.Prelude.{[], ◌∷◌, refl, sym, ◌∙◌, arith, span, empty, IsBalanced-pair}
 use Rattle.mdtests.proofs.walks.white_space_and_data.Goals as goal
 
 pub returns-clause-balanced : goal.returns-clause-balanced

@@ -1,7 +1,4 @@
-use Rattle.std.proofs.Common.{refl, rules}
-use Rattle.mdconstructs.proofs.Rows.Calls.{callable, never-called}
-use Rattle.mdconstructs.specs.Tables.{counts}
-use Rattle.mdtests.specs.Starved.{starved, text_start}
+use Rattle.mdtests.proofs.Prelude.{refl, rules, callable, never-called, counts, starved, text_start}
 use Rattle.mdtests.proofs.starved.StarvedMachine.call.Goals as goal
 
 pub text_start-requires : goal.text_start-requires

@@ -1,0 +1,42 @@
+-- What the proofs of this crate cite from below them: words of std, of the crates below and of specs.
+pub use Rattle.std.proofs.Common.{All, Bool, List, None, Option, Some, [], ap, arith, cond, false, get_or, inl, inr, length, lit<, refl, rules, subst, suc, sym, true, zero, ℕ, ⊎_elim, ◌*◌, ◌++◌, ◌+◌, ◌-◌, ◌<◌, ◌^◌, ◌∙◌, ◌∷◌, ◌≡◌, ◌≤◌}
+pub use Rattle.std.proofs.lemmas.Bool.{cases_eq}
+pub use Rattle.std.proofs.lemmas.List.Elements.{All-push}
+pub use Rattle.std.specs.Option.{IfSome}
+pub use Rattle.std.specs.Prelude.{Contains, drop, option_and_then}
+pub use Rattle.markdown.proofs.Balanced.{IsBalanced-pair}
+pub use Rattle.markdown.proofs.ChainOrder.Forward.{ends-inside, forward-chain, one-chain-disjoint, within}
+pub use Rattle.markdown.proofs.Edits.Puts.{put-less}
+pub use Rattle.markdown.proofs.Positions.Points.{found-passes}
+pub use Rattle.markdown.proofs.Runs.Ranges.{HasRanges, ranges-at, ranges-gap, ranges-holds, ranges-passed, ranges-pushed, ranges-range, ranges-start}
+pub use Rattle.markdown.proofs.Runs.Whole.{run-holds, run-last, run-pushed, run-range, run-start, start-is-point}
+pub use Rattle.markdown.specs.ChildrenLaws.{HasEndsWithin}
+pub use Rattle.markdown.specs.Configuration.{Choice, Configuration, TokenizerValue}
+pub use Rattle.markdown.specs.Edits.{AreDisjoint, Edit, added_after, edit_at, is_no_edit, put_after}
+pub use Rattle.markdown.specs.Engine.{given_by, given_of}
+pub use Rattle.markdown.specs.Events.{EachEnd, EndsBelow, empty, span}
+pub use Rattle.markdown.specs.Parts.{chain_edits, divided}
+pub use Rattle.markdown.specs.Places.{IsPointOf}
+pub use Rattle.markdown.specs.Reads.{start_name}
+pub use Rattle.markdown.specs.StateConstants.Name.{ContentDefinitionBefore, StringStart, TextStart}
+pub use Rattle.markdown.specs.Text.{Given, Text}
+pub use Rattle.markdown.specs.Virtual.{IsWithinLimit, point}
+pub use Rattle.markdown.specs.declared.configuration.ParseOptions.{ParseOptions}
+pub use Rattle.markdown.specs.declared.event.Content.{Content}
+pub use Rattle.markdown.specs.declared.event.Content.TheVariants.{Flow, String}
+pub use Rattle.markdown.specs.declared.event.Event.{Event}
+pub use Rattle.markdown.specs.declared.event.Link.{Link}
+pub use Rattle.markdown.specs.declared.event.Point.{Point}
+pub use Rattle.markdown.specs.declared.state.Name.{Name}
+pub use Rattle.markdown.specs.declared.state.State.{State}
+pub use Rattle.markdown.specs.declared.state.State.TheVariants.{Error, Next, Nok, Ok, Retry}
+pub use Rattle.mdconstructs.proofs.Rows.Calls.{callable, never-called}
+pub use Rattle.mdconstructs.specs.Laws.Wrap.{wrap-lawful}
+pub use Rattle.mdconstructs.specs.RowInvariant.{IsStateAt}
+pub use Rattle.mdconstructs.specs.Rows.{StateRows, named}
+pub use Rattle.mdconstructs.specs.Tables.{LineByte, counts}
+pub use Rattle.mdconstructs.specs.Wrap.{wrap, wrap_rules}
+pub use Rattle.mdconstructs.specs.declared.wrap.Resolver.{Resolver}
+pub use Rattle.mdconstructs.specs.declared.wrap.Wrap.{Wrap}
+pub use Rattle.mdtests.specs.Found.{with_definition}
+pub use Rattle.mdtests.specs.Starved.{starved, text_start}
