@@ -29,20 +29,18 @@ module _ (f : List Event → List Event → List Event) where
   put-above : (k : ℕ) (es : List Edit) (d : Edit) → k < d.index → AllByRecursion (λ (e : Edit). k < e.index) es → AllByRecursion (λ (e : Edit). k < e.index) (put_by f es d)
   put-above k [] d l h = (l, tt)
   put-above k (e ∷ es) d l h = ⊎_elim
-      (λ (q : d.index ≡ e.index). subst (AllByRecursion (λ (x : Edit). k < x.index)) (sym (put-same e d es q)) h)
-      (⊎_elim
-      (λ (q : d.index < e.index). subst (AllByRecursion (λ (x : Edit). k < x.index)) (sym (put-less e d es q)) (l, h))
-      (λ (q : e.index < d.index). subst (AllByRecursion (λ (x : Edit). k < x.index)) (sym (put-more e d es q)) (h.0, put-above k es d l h.1)))
+      (λ (q : d.index ≡ e.index). rw (put-same e d es q) h)
+      (⊎_elim (λ (q : d.index < e.index). rw (put-less e d es q) (l, h)) (λ (q : e.index < d.index). rw (put-more e d es q) (h.0, put-above k es d l h.1)))
       (cases_order d.index e.index)
 
   -- edits ascend after one more
   pub IsAscending-put : (es : List Edit) (d : Edit) → IsAscending es → IsAscending (put_by f es d)
   IsAscending-put [] d a = (tt, tt)
   IsAscending-put (e ∷ es) d a = ⊎_elim
-      (λ (q : d.index ≡ e.index). subst IsAscending (sym (put-same e d es q)) a)
+      (λ (q : d.index ≡ e.index). rw (put-same e d es q) a)
       (⊎_elim
-      (λ (q : d.index < e.index). subst IsAscending (sym (put-less e d es q)) ((q, every-map (λ (x : Edit). e.index < x.index) (λ (x : Edit). d.index < x.index) (λ x l. omega arith) es a.0), a))
-      (λ (q : e.index < d.index). subst IsAscending (sym (put-more e d es q)) (put-above e.index es d q a.0, IsAscending-put es d a.1)))
+      (λ (q : d.index < e.index). rw (put-less e d es q) ((q, every-map (λ (x : Edit). e.index < x.index) (λ (x : Edit). d.index < x.index) (λ x l. omega arith) es a.0), a))
+      (λ (q : e.index < d.index). rw (put-more e d es q) (put-above e.index es d q a.0, IsAscending-put es d a.1)))
       (cases_order d.index e.index)
 
 -- the additions of two edits at one index, the second one's first or last

@@ -21,8 +21,7 @@ place_in-woven_cons ws n i x xs h =
     (ap (option_map (λ p. length (events_at ws i) + p)) (shape (is_removed ws i) (woven ws (i + 1) xs)))
   where
     shape : (gone : Bool) (ts : List Tagged) → place_in (of_list n) (cond gone [] (as_listed i x ∷ []) ++ ts) ≡ cond gone (place_in (of_list n) ts) (cond (eqb n i) (Some 0) (option_map suc (place_in (of_list n) ts)))
-    shape true ts = refl
-    shape false ts = refl
+    shape gone ts = grind arith
 
 -- a place is the place of the event at this index, or a later one
 record Here (ws : List Change) (n i p : ℕ) : Type 0 where
@@ -98,8 +97,7 @@ same_event ws n i p (x ∷ xs) h e = ⊎_elim
     (woven_cases ws n i p x xs h e)
   where
     rest : (gone : Bool) (k : ℕ) (ts : List Tagged) → slice_get (cond gone [] (as_listed i x ∷ []) ++ ts) (cond gone 0 1 + k) ≡ slice_get ts k
-    rest true k ts = let z : 0 + k ≡ k = omega arith in ap (slice_get ts) z
-    rest false k ts = let z : 1 + k ≡ suc k = omega arith in ap (slice_get (as_listed i x ∷ ts)) z
+    rest gone k ts = grind arith
 
 -- the laws
 
@@ -121,8 +119,7 @@ stays_as_it_was ws xs new n p e =
     ∙ both (slice_get xs n)
   where
     both : (o : Option Event) → option_map (λ (u : Tagged). relinked (placed_end (woven ws 0 xs) u.identity) u.event) (option_map (as_listed n) o) ≡ option_map (relinked (place_after ws xs)) o
-    both None = refl
-    both (Some x) = refl
+    both o = grind arith
 
 pub next_moved : (f : ℕ → Option ℕ) (o : Option Event) → option_and_then (λ (e : Event). option_and_then (λ (l : Link). l.next) e.link) (option_map (relinked f) o)
     ≡ option_and_then f (option_and_then (λ (e : Event). option_and_then (λ (l : Link). l.next) e.link) o)
@@ -142,9 +139,8 @@ one_place ws xs new n m p e f = ⊎_elim
     (cases_order n m)
 
 moved_end : (ws : List Change) (xs : List Event) → AreNew ws → (m q : ℕ) → place_after ws xs m ≡ Some q → (o : Option ℕ) → (o ≡ Some m) ↔ (option_and_then (place_after ws xs) o ≡ Some q)
-moved_end ws xs new m q f None = ((λ e. absurd (none-some m e)), (λ e. absurd (none-some q e)))
-moved_end ws xs new m q f (Some k) =
-    ((λ e. ap (place_after ws xs) (same_Some k m e) ∙ f), (λ e. ap Some (one_place ws xs new k m q e f)))
+moved_end ws xs new m q f None = (λ e. cc, λ e. cc)
+moved_end ws xs new m q f (Some k) = (λ e. cc, λ e. ap Some (one_place ws xs new k m q e f))
 
 pub keeps_links : (ws : List Change) (xs : List Event) → AreNew ws → KeepsLinks ws xs
 keeps_links ws xs new n m p q e f =
