@@ -1,8 +1,5 @@
 -- Bytes that are put after a text, or before one.
-use Rattle.std.proofs.Common.{◌≡◌, ◌+◌, ◌-◌, ◌++◌, ◌≤◌, ℕ, List, ◌∷◌, ◌<◌, set, length-set, length, take, drop, sym, ap, ◌∙◌, arith, append_assoc, length-append, length-drop, length-take-le, take-append-drop, take-take}
-use Rattle.std.specs.Simd.Lanes.{put_chunk}
-use Rattle.std.proofs.lemmas.List.{take_at, drop-set}
-use Rattle.std.proofs.lemmas.Simd.{put_chunk_is}
+use Rattle.mdevents_program.proofs.Prelude.{◌≡◌, ◌+◌, ◌-◌, ◌++◌, ◌≤◌, ℕ, List, ◌∷◌, ◌<◌, set, length-set, length, take, drop, sym, ap, ◌∙◌, arith, append_assoc, length-append, length-drop, length-take-le, take-append-drop, take-take, put_chunk, take_at, drop-set, put_chunk_is}
 
 -- a front that ends in the second of three parts
 front : (xs ys zs : List ℕ) (m n : ℕ) → n ≡ length xs + m → m ≤ length ys → take n (xs ++ (ys ++ zs)) ≡ xs ++ take m ys

@@ -1,33 +1,6 @@
 -- What is read with the children of chains of text: it is refused nowhere where rules refuse nothing, its chains can be read, and the
 -- definitions without states say what is read.
-use Rattle.std.proofs.Common.{◌≡◌, ℕ, List, ⊎_elim, false, true, ap, ◌∙◌}
-use Rattle.markdown.specs.declared.configuration.ParseOptions.{ParseOptions}
-use Rattle.markdown.specs.declared.event.Event.{Event}
-use Rattle.markdown.specs.declared.message.Message.{Message}
-use Rattle.markdown.specs.declared.state.Name.{Name}
-use Rattle.markdown.specs.Configuration.{start_configuration}
-use Rattle.markdown.specs.Engine.{IsRunRefused}
-use Rattle.markdown.specs.Rules.{Rules}
-use Rattle.markdown.specs.Text.{Given, IsDocument}
-use Rattle.markdown.specs.StateConstants.Name.{FlowStart}
-use Rattle.markdown.specs.Chains.{chain_of}
-use Rattle.markdown.specs.Reads.{text_of_chain, IsChildRefused}
-use Rattle.mdconstructs.specs.Refusals.{RulesRefuseNothing}
-use Rattle.mdconstructs.proofs.Tables.Refusals.{none-refused, no-run-refused}
-use Rattle.markdown.specs.Virtual.{Seat}
-use Rattle.mdevents_program.specs.Program.{document, virtual_bytes}
-use Rattle.mdevents_program.specs.Runs.{Gives, GivesDeep, GivesUnready, HasRefusedChild, IsRefusedDeep}
-use Rattle.mdconstructs.specs.ChainTexts.{HasReadableChains, with_data, with_texts}
-use Rattle.mdconstructs.specs.LineEvents.{data_events}
-use Rattle.mdconstructs.specs.ParagraphEvents.{paragraph_events}
-use Rattle.mdconstructs.specs.Paragraphs.{paragraphs_rules}
-use Rattle.mdconstructs.specs.ReadAs.{IsReadAs}
-use Rattle.mdconstructs.specs.TextEvents.{text_events}
-use Rattle.mdconstructs.specs.TextRules.{text_rules}
-use Rattle.mdconstructs.proofs.TextParagraphs.ChainEvents.{chains-read}
-use Rattle.mdconstructs.proofs.TextParagraphs.DataEvents.{reads-as-data}
-use Rattle.mdconstructs.proofs.Texts.Ends.{reads-items}
-use Rattle.mdconstructs.proofs.TextParagraphs.Blocks.{paragraphs-by-blocks, text-by-blocks}
+use Rattle.mdevents_program.proofs.Prelude.{◌≡◌, ℕ, List, ⊎_elim, false, true, ap, ◌∙◌, ParseOptions, Event, Message, Name, start_configuration, IsRunRefused, Rules, Given, IsDocument, FlowStart, chain_of, text_of_chain, IsChildRefused, RulesRefuseNothing, none-refused, no-run-refused, Seat, document, virtual_bytes, Gives, GivesDeep, GivesUnready, HasRefusedChild, IsRefusedDeep, HasReadableChains, with_data, with_texts, data_events, paragraph_events, paragraphs_rules, IsReadAs, text_events, text_rules, chains-read, reads-as-data, reads-items, paragraphs-by-blocks, text-by-blocks}
 
 module _ {R D : Type 0} (rules : Given → Rules R D) (nothing : RulesRefuseNothing rules) where
   no-child-refused : (g : Given) (events : List Event) (c : ℕ) (m : Message) → ¬ IsChildRefused g rules events c m

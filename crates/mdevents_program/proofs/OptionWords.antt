@@ -1,13 +1,5 @@
 -- What words choose, word by word, is what the options that they spell choose.
-use Rattle.std.proofs.Common.{◌≡◌, ◌++◌, ℕ, List, [], ◌∷◌, Option, Some, None, true, false, Bool, refl, sym, ◌∙◌}
-use Rattle.std.specs.Prelude.{codes, filter_map, unwrap_or}
-use Rattle.std.specs.Option.{option_and_then, option_map}
-use Rattle.std.specs.Str.{bytes_eq}
-use Rattle.mdevents_program.specs.declared.arguments.Choice.{Choice}
-use Rattle.mdevents_program.specs.declared.arguments.Which.{Which}
-use Rattle.mdevents_program.specs.declared.arguments.Which.TheVariants.{Lines}
-use Rattle.mdevents_program.specs.Arguments.{Spelled, cut, deep, machine, tab, decimal_of, which_of, tab_size_of, options_of, cut_in, deep_in, machine_in, tab_in, at_most_one, choice_together, choice_of_words}
-use Rattle.mdevents_program.specs.ArgumentsInner.{chosen_after}
+use Rattle.mdevents_program.proofs.Prelude.{◌≡◌, ◌++◌, ℕ, List, [], ◌∷◌, Option, Some, None, true, false, Bool, refl, sym, ◌∙◌, codes, filter_map, unwrap_or, option_and_then, option_map, bytes_eq, Choice, Which, Lines, Spelled, cut, deep, machine, tab, decimal_of, which_of, tab_size_of, options_of, cut_in, deep_in, machine_in, tab_in, at_most_one, choice_together, choice_of_words, chosen_after}
 
 -- what came before of an option with a value
 abbrev given : {A : Type 0} → Option A → List A

@@ -1,10 +1,5 @@
 -- The digits of a number, two at a time.
-use Rattle.std.proofs.Common.{◌≡◌, ℕ, zero, suc, ◌+◌, ◌-◌, ◌*◌, ◌/◌, ◌%◌, ◌^◌, ◌<◌, ◌≤◌, Bool, true, ◌&&◌, T, eqb, List, [], ◌∷◌, ◌++◌, length, get_or, ap, ◌∙◌, inl, inr, arith, eq-zero-or-pos, eqb→eq, append_assoc, length-append, lit<}
-use Rattle.std.proofs.lemmas.Fmt.{decimal_digit, decimal_step, length-decimal-le}
-use Rattle.std.proofs.Math.Nat.{lt_trans}
-use Rattle.std.specs.Fmt.{decimal}
-use lib.Ieee.Fits.{and_l, and_r}
-use Rattle.mdevents_program.specs.declared.digits.TheConstants.{PAIRS}
+use Rattle.mdevents_program.proofs.Prelude.{◌≡◌, ℕ, zero, suc, ◌+◌, ◌-◌, ◌*◌, ◌/◌, ◌%◌, ◌^◌, ◌<◌, ◌≤◌, Bool, true, ◌&&◌, T, eqb, List, [], ◌∷◌, ◌++◌, length, get_or, ap, ◌∙◌, inl, inr, arith, eq-zero-or-pos, eqb→eq, append_assoc, length-append, lit<, decimal_digit, decimal_step, length-decimal-le, lt_trans, decimal, and_l, and_r, PAIRS}
 
 -- the two digits of a number below 100
 abbrev pub pair : ℕ → List ℕ

@@ -1,8 +1,4 @@
-use Rattle.std.proofs.Common.{◌≡◌, ℕ, List, [], ◌∷◌, Some, true, false, refl, sym, ap, ◌∙◌}
-use Rattle.std.specs.Prelude.{map, string_bytes, codes}
-use Rattle.std.specs.Str.{bytes_eq}
-use Rattle.mdevents_program.specs.declared.arguments.SoFar.{SoFar}
-use Rattle.mdevents_program.specs.ArgumentsInner.{with_value, chosen_after}
+use Rattle.mdevents_program.proofs.Prelude.{◌≡◌, ℕ, List, [], ◌∷◌, Some, true, false, refl, sym, ap, ◌∙◌, map, string_bytes, codes, bytes_eq, SoFar, with_value, chosen_after}
 use Rattle.mdevents_program.proofs.arguments.+read_options.Goals as goal
 
 module _ (so_far : SoFar) (option : List ℕ) where

@@ -1,7 +1,4 @@
-use Rattle.std.proofs.Common.{◌≡◌, ◌⊎◌, inl, inr, false, refl}
-use Rattle.mdevents_program.specs.declared.arguments.Which.{Which}
-use Rattle.mdevents_program.specs.declared.arguments.Which.TheVariants.{Lines, Peek, Deep, Back, Save}
-use Rattle.mdevents_program.specs.Arguments.{links_text}
+use Rattle.mdevents_program.proofs.Prelude.{◌≡◌, ◌⊎◌, inl, inr, false, refl, Which, Lines, Peek, Deep, Back, Save, links_text}
 use Rattle.mdevents_program.proofs.arguments.links_text.Goals as goal
 
 -- these machines link nothing

@@ -1,11 +1,4 @@
-use Rattle.std.proofs.Common.{rules, ◌≡◌, ℕ, ◌<◌, ◌^◌, ◌&&◌, ◌∷◌, [], Bool, true, false, List, None, Some, Err, Ok, cond, arith, sym, refl, ◌∙◌, length, nat_lt}
-use Rattle.std.specs.Bool.{then_some}
-use Rattle.std.specs.Char.{is_ascii_digit}
-use Rattle.std.specs.List.{list_all}
-use Rattle.std.specs.Str.Parse.{digits_value}
-use Rattle.std.proofs.lemmas.Bool.Decides.{nat_tests}
-use Rattle.std.proofs.lemmas.Str.Parse.{IsNumeralModel, numerals_by_value, parse_digits}
-use Rattle.mdevents_program.specs.Arguments.{decimal_of}
+use Rattle.mdevents_program.proofs.Prelude.{rules, ◌≡◌, ℕ, ◌<◌, ◌^◌, ◌&&◌, ◌∷◌, [], Bool, true, false, List, None, Some, Err, Ok, cond, arith, sym, refl, ◌∙◌, length, nat_lt, then_some, is_ascii_digit, list_all, digits_value, nat_tests, IsNumeralModel, numerals_by_value, parse_digits, decimal_of}
 use Rattle.mdevents_program.proofs.arguments.read_number.Goals as goal
 
 digits : IsNumeralModel (λ ds. list_all is_ascii_digit ds ≡ true) (digits_value 10)

@@ -1,5 +1,4 @@
-use Rattle.std.proofs.Common.{◌≡◌, ◌<◌, ◌≤◌, ℕ, Bool, true, false, Option, Some, None, cond, nat_lt, refl, arith}
-use Rattle.std.proofs.lemmas.Bool.Decides.{nat_tests}
+use Rattle.mdevents_program.proofs.Prelude.{◌≡◌, ◌<◌, ◌≤◌, ℕ, Bool, true, false, Option, Some, None, cond, nat_lt, refl, arith, nat_tests}
 use Rattle.mdevents_program.proofs.arguments.read_tab.Goals as goal
 
 -- what is the number up to 16, and nothing above

@@ -1,5 +1,4 @@
-use Rattle.std.proofs.Common.{◌∙◌}
-use Rattle.std.specs.Prelude.{map, string_bytes}
+use Rattle.mdevents_program.proofs.Prelude.{◌∙◌, map, string_bytes}
 use Rattle.mdevents_program.proofs.OptionWords.{chosen_after-chosen}
 use Rattle.mdevents_program.proofs.arguments.read_words.Goals as goal
 

@@ -1,6 +1,4 @@
-use Rattle.std.proofs.Common.{◌≡◌, ◌+◌, ◌-◌, refl, ap, length, arith, append_assoc}
-use Rattle.std.proofs.lemmas.Fmt.{decimal_digit}
-use Rattle.std.proofs.lemmas.List.{drop-set}
+use Rattle.mdevents_program.proofs.Prelude.{◌≡◌, ◌+◌, ◌-◌, refl, ap, length, arith, append_assoc, decimal_digit, drop-set}
 use Rattle.mdevents_program.proofs.Pairs.{most-digits, decimal-two, decimal-more, length-more}
 use Rattle.mdevents_program.proofs.digits.write_number.Goals as goal
 

@@ -1,4 +1,5 @@
-use Rattle.std.proofs.Common.{◌≡◌, ◌+◌, ◌≤◌, ◌++◌, length, drop, decimal}
+use Rattle.mdevents_program.proofs.Prelude.{◌≡◌, ◌+◌, ◌≤◌, ◌++◌, length, drop}
+use Rattle.std.proofs.Common.{decimal}
 use Rattle.mdevents_program.proofs.digits.write_number.Given as goal
 
 -- the digits of the rest, before the bytes from `at` on, are the digits of the number before the bytes from `end` on; and there is

@@ -1,5 +1,4 @@
-use Rattle.std.proofs.Common.{◌≡◌, ◌+◌, ◌%◌, set, arith, length-set}
-use Rattle.std.proofs.lemmas.List.{set_comm, drop-set}
+use Rattle.mdevents_program.proofs.Prelude.{◌≡◌, ◌+◌, ◌%◌, set, arith, length-set, set_comm, drop-set}
 use Rattle.mdevents_program.proofs.Pairs.{pair-at}
 use Rattle.mdevents_program.proofs.digits.write_pair.Goals as goal
 

@@ -1,6 +1,4 @@
-use Rattle.std.proofs.Common.{◌≡◌, ◌+◌, ◌-◌, ◌∷◌, ◌++◌, [], set, drop, ap, ◌∙◌, arith, append_assoc, length-set, length-drop}
-use Rattle.std.proofs.lemmas.List.{drop-set}
-use Rattle.mdevents_program.specs.Printed.{printed_point}
+use Rattle.mdevents_program.proofs.Prelude.{◌≡◌, ◌+◌, ◌-◌, ◌∷◌, ◌++◌, [], set, drop, ap, ◌∙◌, arith, append_assoc, length-set, length-drop, drop-set, printed_point}
 use Rattle.mdevents_program.proofs.Blocks.{text-is, put-front, put-front-two}
 use Rattle.mdevents_program.proofs.last_point.write_point.Goals as goal
 

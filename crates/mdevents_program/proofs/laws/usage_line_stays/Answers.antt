@@ -1,4 +1,4 @@
-use Rattle.std.proofs.Common.{refl}
+use Rattle.mdevents_program.proofs.Prelude.{refl}
 use Rattle.mdevents_program.proofs.laws.usage_line_stays.Goals as goal
 
 pub returns : goal.returns

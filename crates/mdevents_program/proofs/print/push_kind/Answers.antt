@@ -1,4 +1,4 @@
-use Rattle.std.proofs.Common.{codes, sym, ◌∙◌, append_assoc}
+use Rattle.mdevents_program.proofs.Prelude.{codes, sym, ◌∙◌, append_assoc}
 use Rattle.mdevents_program.proofs.print.push_kind.Goals as goal
 
 pub returns-in-Enter-clause-bytes : goal.returns-in-Enter-clause-bytes

@@ -1,25 +1,4 @@
-use Rattle.std.proofs.Common.{false}
-use Rattle.markdown.specs.StateConstants.Name.{FlowStart, TextStart, StringStart}
-use Rattle.mdconstructs.proofs.LineReads.Back.{back-reads}
-use Rattle.mdconstructs.proofs.LineReads.Deep.{deep-reads}
-use Rattle.mdconstructs.proofs.LineReads.Lines.{lines-read}
-use Rattle.mdconstructs.proofs.LineReads.Peek.{peek-reads}
-use Rattle.mdconstructs.proofs.LineReads.Save.{save-reads}
-use Rattle.mdconstructs.proofs.TextParagraphs.Blocks.{paragraphs-by-blocks, text-by-blocks}
-use Rattle.mdconstructs.specs.LineEvents.{line_events, data_events, back_events, save_events}
-use Rattle.mdconstructs.specs.ParagraphEvents.{paragraph_events}
-use Rattle.std.proofs.lemmas.Result.{IfOk-weaker}
-use Rattle.mdconstructs.proofs.Tables.Refusals.{no-run-refused}
-use Rattle.mdconstructs.specs.Lines.{lines_rules}
-use Rattle.mdconstructs.specs.Paragraphs.{paragraphs_rules}
-use Rattle.mdconstructs.specs.Peek.{peek_rules}
-use Rattle.mdconstructs.specs.Deep.{deep_rules}
-use Rattle.mdconstructs.specs.Back.{back_rules}
-use Rattle.mdconstructs.specs.Save.{save_rules}
-use Rattle.mdconstructs.proofs.NoRefusals.{lines-refuse-nothing, paragraphs-refuse-nothing, peek-refuses-nothing, deep-refuses-nothing, back-refuses-nothing, save-refuses-nothing}
-use Rattle.mdconstructs.specs.TextRules.{text_rules}
-use Rattle.mdconstructs.proofs.TextNoRefusals.{text-refuses-nothing}
-use Rattle.mdconstructs.proofs.TextParagraphs.Ready.{paragraphs-readable, text-readable}
+use Rattle.mdevents_program.proofs.Prelude.{false, FlowStart, TextStart, StringStart, back-reads, deep-reads, lines-read, peek-reads, save-reads, paragraphs-by-blocks, text-by-blocks, line_events, data_events, back_events, save_events, paragraph_events, IfOk-weaker, no-run-refused, lines_rules, paragraphs_rules, peek_rules, deep_rules, back_rules, save_rules, lines-refuse-nothing, paragraphs-refuse-nothing, peek-refuses-nothing, deep-refuses-nothing, back-refuses-nothing, save-refuses-nothing, text_rules, text-refuses-nothing, paragraphs-readable, text-readable}
 use Rattle.mdevents_program.proofs.DeepEvents.{none-refused-deep, all-ready, flat-events, with-data, with-texts}
 use Rattle.mdevents_program.proofs.program.events_of.Goals as goal
 

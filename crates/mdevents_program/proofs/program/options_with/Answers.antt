@@ -1,4 +1,4 @@
-use Rattle.std.proofs.Common.{refl}
+use Rattle.mdevents_program.proofs.Prelude.{refl}
 use Rattle.mdevents_program.proofs.program.options_with.Goals as goal
 
 pub returns : goal.returns

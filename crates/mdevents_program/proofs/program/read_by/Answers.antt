@@ -1,4 +1,4 @@
-use Rattle.std.proofs.Common.{◌≡◌}
+use Rattle.mdevents_program.proofs.Prelude.{◌≡◌}
 use Rattle.mdevents_program.proofs.program.read_by.Goals as goal
 
 pub returns-in-Ok-clause-events : goal.returns-in-Ok-clause-events

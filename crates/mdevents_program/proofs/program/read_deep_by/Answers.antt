@@ -1,4 +1,4 @@
-use Rattle.std.proofs.Common.{inr}
+use Rattle.mdevents_program.proofs.Prelude.{inr}
 use Rattle.mdevents_program.proofs.program.read_deep_by.Goals as goal
 
 pub returns-clause-message : goal.returns-clause-message

@@ -1,9 +1,4 @@
-use Rattle.std.proofs.Common.{ℕ, take, refl}
-use Rattle.std.specs.Io.KnownBytes.{Appends}
-use Rattle.std.proofs.KnownBytes.{Keeps-refl}
-use Rattle.std.proofs.lemmas.Result.{IfErr-at_err, err_from_is_err_and, on_ok_weaker}
-use Rattle.mdevents_program.specs.Printed.{printed_events}
-use Rattle.mdevents_program.specs.Program.{ArePrintedEvents}
+use Rattle.mdevents_program.proofs.Prelude.{ℕ, take, refl, Appends, Keeps-refl, IfErr-at_err, err_from_is_err_and, on_ok_weaker, printed_events, ArePrintedEvents}
 use Rattle.mdevents_program.proofs.program.write_events.Given
 use Rattle.mdevents_program.proofs.program.write_events.Goals as goal
 

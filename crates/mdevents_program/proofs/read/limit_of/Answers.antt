@@ -1,6 +1,4 @@
-use Rattle.std.proofs.Common.{◌≡◌, ◌+◌, ◌/◌, ◌*◌, ◌^◌, ◌<◌, ◌≤◌, ℕ, arith, sym, subst}
-use Rattle.std.specs.Prelude.{◌↔◌}
-use Rattle.std.proofs.Math.Nat.{le-div_iff_mul-le, mul_comm}
+use Rattle.mdevents_program.proofs.Prelude.{◌≡◌, ◌+◌, ◌/◌, ◌*◌, ◌^◌, ◌<◌, ◌≤◌, ℕ, arith, sym, subst, ◌↔◌, le-div_iff_mul-le, mul_comm}
 use Rattle.mdevents_program.proofs.read.limit_of.Goals as goal
 
 -- a number that fits into another one this many times

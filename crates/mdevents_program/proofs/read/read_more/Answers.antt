@@ -1,4 +1,4 @@
-use Rattle.std.proofs.Common.{◌≤◌, ◌++◌, length, take, length-append, arith}
+use Rattle.mdevents_program.proofs.Prelude.{◌≤◌, ◌++◌, length, take, length-append, arith}
 use Rattle.mdevents_program.proofs.read.read_more.Goals as goal
 
 pub returns-then-count-limit_of-clause-too_long : goal.returns-then-count-limit_of-clause-too_long

@@ -1,6 +1,4 @@
-use Rattle.std.proofs.Common.{◌++◌}
-use Rattle.std.proofs.KnownBytes.{Consumes-trans}
-use Rattle.std.proofs.lemmas.Result.{err_from_is_err_and}
+use Rattle.mdevents_program.proofs.Prelude.{◌++◌, Consumes-trans, err_from_is_err_and}
 use Rattle.mdevents_program.proofs.read.read_to_end.Goals as goal
 
 pub returns-in_err-read_more-clause-too_long : goal.returns-in_err-read_more-clause-too_long

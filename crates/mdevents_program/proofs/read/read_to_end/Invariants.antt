@@ -1,6 +1,4 @@
-use Rattle.std.proofs.Common.{◌-◌, ◌^◌, length}
-use Rattle.std.specs.Io.KnownBytes.{Consumes}
-use Rattle.markdown.specs.Virtual.{IsWithinLimit}
+use Rattle.mdevents_program.proofs.Prelude.{◌-◌, ◌^◌, length, Consumes, IsWithinLimit}
 use Rattle.mdevents_program.proofs.read.read_to_end.Given as goal
 
 -- what the reader gave so far is kept, and is within the limit

@@ -1,7 +1,4 @@
-use Rattle.std.proofs.Common.{arith, length-drop}
-use Rattle.std.proofs.Math.Seq.{take-add}
-use Rattle.std.proofs.KnownBytes.{Appends-trans}
-use Rattle.std.proofs.lemmas.List.{take_rest}
+use Rattle.mdevents_program.proofs.Prelude.{arith, length-drop, take-add, Appends-trans, take_rest}
 use Rattle.mdevents_program.proofs.write.write_all.Goals as goal
 
 pub writing-preserved : goal.writing-preserved

@@ -1,5 +1,4 @@
-use Rattle.std.proofs.Common.{◌≤◌, ◌-◌, length, take}
-use Rattle.std.specs.Io.KnownBytes.{Appends}
+use Rattle.mdevents_program.proofs.Prelude.{◌≤◌, ◌-◌, length, take, Appends}
 use Rattle.mdevents_program.proofs.write.write_all.Given as goal
 
 -- what was written so far is the front of the text

@@ -1,11 +1,4 @@
-use Rattle.std.proofs.Common.{arith, ◌≡◌, ◌<◌, ◌≤◌, ◌++◌, ◌+◌, ◌∷◌, ℕ, List, [], length, take, drop, Option, refl, sym, subst, ◌∙◌, ap, append_assoc, append-nil, length-append, take-append-drop}
-use Rattle.std.specs.Io.KnownBytes.{Appends}
-use Rattle.std.proofs.KnownBytes.{Appends-nil, Appends-trans}
-use Rattle.std.proofs.lemmas.Grind.{flat_map-append}
-use Rattle.std.proofs.lemmas.List.{take_at, take_all, take_more}
-use Rattle.std.proofs.lemmas.Result.{err_from_is_err_and, on_ok_weaker, on_err_weaker}
-use Rattle.markdown.specs.declared.event.Event.{Event}
-use Rattle.mdevents_program.specs.Printed.{event_line, printed_events}
+use Rattle.mdevents_program.proofs.Prelude.{arith, ◌<◌, length-append, ◌≡◌, ◌≤◌, ◌++◌, ◌+◌, ◌∷◌, ℕ, List, [], length, take, drop, Option, refl, sym, subst, ◌∙◌, ap, append_assoc, append-nil, take-append-drop, Appends, Appends-nil, Appends-trans, flat_map-append, take_at, take_all, take_more, err_from_is_err_and, on_ok_weaker, on_err_weaker, Event, event_line, printed_events}
 use Rattle.mdevents_program.proofs.write.write_lines.Goals as goal
 
 -- what was written and a part of what waited are a beginning of all that these begin

@@ -1,6 +1,4 @@
-use Rattle.std.proofs.Common.{◌≡◌, ◌++◌, ℕ, List, take}
-use Rattle.std.specs.Io.KnownBytes.{Appends}
-use Rattle.mdevents_program.specs.Printed.{printed_events}
+use Rattle.mdevents_program.proofs.Prelude.{◌≡◌, ◌++◌, ℕ, List, take, Appends, printed_events}
 use Rattle.mdevents_program.proofs.write.write_lines.Given as goal
 
 -- what was written, and then what waits, are the lines of the events so far

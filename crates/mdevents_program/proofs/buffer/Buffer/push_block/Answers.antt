@@ -1,4 +1,4 @@
-use Rattle.std.proofs.Common.{◌+◌, ◌-◌, ◌++◌, length, take, ap, ◌∙◌, arith, length-append, length-take-le}
+use Rattle.mdevents_program.proofs.Prelude.{◌+◌, ◌-◌, ◌++◌, length, take, ap, ◌∙◌, arith, length-append, length-take-le}
 use Rattle.mdevents_program.proofs.Blocks.{put-block}
 use Rattle.mdevents_program.proofs.buffer.Buffer.push_block.Goals as goal
 

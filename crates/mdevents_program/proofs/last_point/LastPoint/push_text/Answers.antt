@@ -1,6 +1,4 @@
-use Rattle.std.proofs.Common.{◌-◌, ◌∷◌, ◌++◌, [], take, drop, sym, ap, ◌∙◌, arith, append_assoc, length-drop}
-use Rattle.std.proofs.lemmas.List.{take_all}
-use Rattle.mdevents_program.specs.Printed.{printed_point}
+use Rattle.mdevents_program.proofs.Prelude.{◌-◌, ◌∷◌, ◌++◌, [], take, drop, sym, ap, ◌∙◌, arith, append_assoc, length-drop, take_all, printed_point}
 use Rattle.mdevents_program.proofs.last_point.LastPoint.push_text.Goals as goal
 
 pub returns-then-len-le-BLOCK : goal.returns-then-len-le-BLOCK
