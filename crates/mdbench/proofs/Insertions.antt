@@ -1,9 +1,5 @@
 -- Edits that remove nothing are apart in whatever order they are added.
-use Rattle.std.proofs.Common.{◌≡◌, ℕ, ◌+◌, ◌≤◌, Bool, true, false, cond, List, [], ◌∷◌, ◌++◌, inl, inr, refl, sym, subst, arith}
-use Rattle.std.proofs.lemmas.Bool.{cases_lt}
-use Rattle.markdown.specs.declared.event.Event.{Event}
-use Rattle.markdown.specs.Edits.{Edit, AreDisjoint, edit_at, is_no_edit, added_after, put_after}
-use Rattle.markdown.proofs.Edits.Puts.{put-less, put-same, put-more}
+use Rattle.mdbench.proofs.Prelude.{◌≡◌, ℕ, ◌+◌, ◌≤◌, Bool, true, false, cond, List, [], ◌∷◌, ◌++◌, inl, inr, refl, sym, subst, arith, cases_lt, Event, Edit, AreDisjoint, edit_at, is_no_edit, added_after, put_after, put-less, put-same, put-more}
 
 -- edits in order that remove nothing, from an index on, within n events
 abbrev pub AreInsertions : ℕ → List Edit → ℕ → Type 0

@@ -1,1 +1,2 @@
 mod Insertions
+pub mod Prelude

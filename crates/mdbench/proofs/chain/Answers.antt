@@ -1,10 +1,4 @@
-use Rattle.std.proofs.Common.{ℕ, ◌*◌, ◌<◌, ◌≡◌, [], ◌∷◌, ◌++◌, Option, None, sym, subst, ap, ◌∙◌, rules}
-use Rattle.std.specs.Option.{IfSome}
-use Rattle.std.specs.Prelude.{All}
-use Rattle.std.proofs.lemmas.List.Elements.{All-push}
-use Rattle.markdown.specs.declared.event.Event.{Event}
-use Rattle.markdown.specs.declared.event.Link.{Link}
-use Rattle.markdown.specs.Events.{EndsBelow, EachEnd}
+use Rattle.mdbench.proofs.Prelude.{ℕ, ◌*◌, ◌<◌, ◌≡◌, [], ◌∷◌, ◌++◌, Option, None, sym, subst, ap, ◌∙◌, rules, IfSome, All, All-push, Event, Link, EndsBelow, EachEnd}
 use Rattle.mdbench.proofs.chain.Goals as goal
 
 ends-none : (e : Event) (n : ℕ) → e.link ≡ None → EndsBelow n e

@@ -1,5 +1,4 @@
-use Rattle.std.proofs.Common.{◌≡◌, ◌*◌, length, All}
-use Rattle.markdown.specs.Events.{EndsBelow}
+use Rattle.mdbench.proofs.Prelude.{◌≡◌, ◌*◌, length, All, EndsBelow}
 use Rattle.mdbench.proofs.chain.Given as goal
 
 abbrev pub invariant-loop-k : goal.invariant-loop-k

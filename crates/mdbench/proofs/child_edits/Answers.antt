@@ -1,8 +1,4 @@
-use Rattle.std.proofs.Common.{◌++◌, ℕ, None, List, length, refl, sym, ◌∙◌, ap, subst, arith}
-use Rattle.markdown.specs.Edits.{Edit, AreDisjoint}
-use Rattle.markdown.specs.Parts.{divided, chain_edits}
-use Rattle.markdown.specs.Virtual.{IsWithinLimit}
-use Rattle.markdown.proofs.ChainOrder.Forward.{forward-chain, within, one-chain-disjoint}
+use Rattle.mdbench.proofs.Prelude.{◌++◌, ℕ, None, List, length, refl, sym, ◌∙◌, ap, subst, arith, Edit, AreDisjoint, divided, chain_edits, IsWithinLimit, forward-chain, within, one-chain-disjoint}
 use Rattle.mdbench.proofs.child_edits.Goals as goal
 
 pub ready-requires : goal.ready-requires

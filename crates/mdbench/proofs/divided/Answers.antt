@@ -1,6 +1,4 @@
-use Rattle.std.proofs.Common.{ℕ, sym, subst}
-use Rattle.std.specs.Prelude.{All}
-use Rattle.markdown.specs.Events.{EndsBelow}
+use Rattle.mdbench.proofs.Prelude.{ℕ, sym, subst, All, EndsBelow}
 use Rattle.mdbench.proofs.divided.Goals as goal
 
 pub child_edits-requires-clause-ends : goal.child_edits-requires-clause-ends

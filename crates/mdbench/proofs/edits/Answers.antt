@@ -1,5 +1,4 @@
-use Rattle.std.proofs.Common.{ℕ, ◌*◌, List, ◌<◌, sym, subst, arith}
-use Rattle.markdown.specs.Edits.{Edit}
+use Rattle.mdbench.proofs.Prelude.{ℕ, ◌*◌, List, ◌<◌, sym, subst, arith, Edit}
 use Rattle.mdbench.proofs.Insertions.{AreInsertions, apart, added}
 use Rattle.mdbench.proofs.edits.Goals as goal
 

@@ -1,4 +1,4 @@
-use Rattle.std.proofs.Common.{◌*◌}
+use Rattle.mdbench.proofs.Prelude.{◌*◌}
 use Rattle.mdbench.proofs.Insertions.{AreInsertions}
 use Rattle.mdbench.proofs.edits.Given as goal
 

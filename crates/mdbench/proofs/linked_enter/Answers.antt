@@ -1,5 +1,4 @@
-use Rattle.std.proofs.Common.{ℕ, ◌*◌, ◌<◌, ◌≤◌, Option, None, Some, arith}
-use Rattle.std.specs.Option.{IfSome}
+use Rattle.mdbench.proofs.Prelude.{ℕ, ◌*◌, ◌<◌, ◌≤◌, Option, None, Some, arith, IfSome}
 use Rattle.mdbench.proofs.linked_enter.Goals as goal
 
 within : (o : Option ℕ) (m n : ℕ) → m ≤ n → IfSome o (λ k. k < m) → IfSome o (λ k. k < n)
