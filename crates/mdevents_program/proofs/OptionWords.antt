@@ -1,5 +1,5 @@
 -- What words choose, word by word, is what the options that they spell choose.
-use Rattle.mdevents_program.proofs.Prelude.{◌≡◌, ◌++◌, ℕ, List, [], ◌∷◌, Option, Some, None, true, false, Bool, refl, sym, ◌∙◌, codes, filter_map, unwrap_or, option_and_then, option_map, bytes_eq, Choice, Which, Lines, Spelled, cut, deep, machine, tab, decimal_of, which_of, tab_size_of, options_of, cut_in, deep_in, machine_in, tab_in, at_most_one, choice_together, choice_of_words, chosen_after}
+use Rattle.mdevents_program.proofs.Prelude.{arith, ◌≡◌, ◌++◌, ℕ, List, [], ◌∷◌, Option, Some, None, true, false, Bool, refl, ◌∙◌, codes, filter_map, unwrap_or, option_and_then, option_map, bytes_eq, Choice, Which, Lines, Spelled, cut, deep, machine, tab, decimal_of, which_of, tab_size_of, options_of, cut_in, deep_in, machine_in, tab_in, at_most_one, choice_together, choice_of_words, chosen_after}
 
 -- what came before of an option with a value
 abbrev given : {A : Type 0} → Option A → List A
@@ -27,52 +27,31 @@ together n d which t options =
 abbrev after : Option ℕ → Bool → Option Which → Option ℕ → List (List ℕ) → Option Choice
 after n d which t words = chosen_after (record { cut = n; deep = d; machine = which; tab = t }) words
 
-none-of : {A B : Type 0} (o : Option A) → option_and_then {U = B} (λ (x : A). None) o ≡ None
-none-of None = refl
-none-of (Some x) = refl
-
-none-of-two : {A B C : Type 0} (o : Option A) (p : Option B) → option_and_then {U = C} (λ (x : A). option_and_then (λ (y : B). None) p) o ≡ None
-none-of-two None p = refl
-none-of-two (Some x) p = none-of p
-
-none-of-three : {A B C D : Type 0} (o : Option A) (p : Option B) (q : Option C) → option_and_then {U = D} (λ (x : A). option_and_then (λ (y : B). option_and_then (λ (z : C). None) q) p) o ≡ None
-none-of-three None p q = refl
-none-of-three (Some x) p q = none-of-two p q
-
 -- an option that came once, and again
 module _ (n : Option ℕ) (d : Bool) (which : Option Which) (t : Option ℕ) where
   first-cut : (m : ℕ) (options : Option (List Spelled)) → together (Some m) d which t options ≡ together None d which t (option_map (λ rest. cut m ∷ rest) options)
-  first-cut m None = refl
-  first-cut m (Some rest) = refl
+  first-cut m options = grind arith
 
   second-cut : (m k : ℕ) (options : Option (List Spelled)) → None ≡ together (Some m) d which t (option_map (λ rest. cut k ∷ rest) options)
-  second-cut m k None = refl
-  second-cut m k (Some rest) = refl
+  second-cut m k options = grind arith
 
   first-deep : (options : Option (List Spelled)) → together n true which t options ≡ together n false which t (option_map (λ rest. deep ∷ rest) options)
-  first-deep None = refl
-  first-deep (Some rest) = refl
+  first-deep options = grind arith
 
   second-deep : (options : Option (List Spelled)) → None ≡ together n true which t (option_map (λ rest. deep ∷ rest) options)
-  second-deep None = refl
-  second-deep (Some rest) = sym (none-of (at_most_one (given n ++ filter_map cut_in rest)))
+  second-deep options = grind arith
 
   first-machine : (w : Which) (options : Option (List Spelled)) → together n d (Some w) t options ≡ together n d None t (option_map (λ rest. machine w ∷ rest) options)
-  first-machine w None = refl
-  first-machine w (Some rest) = refl
+  first-machine w options = grind arith
 
   second-machine : (v w : Which) (options : Option (List Spelled)) → None ≡ together n d (Some v) t (option_map (λ rest. machine w ∷ rest) options)
-  second-machine v w None = refl
-  second-machine v w (Some rest) = sym (none-of-two (at_most_one (given n ++ filter_map cut_in rest)) (at_most_one (told d ++ filter_map deep_in rest)))
+  second-machine v w options = grind arith
 
   first-tab : (m : ℕ) (options : Option (List Spelled)) → together n d which (Some m) options ≡ together n d which None (option_map (λ rest. tab m ∷ rest) options)
-  first-tab m None = refl
-  first-tab m (Some rest) = refl
+  first-tab m options = grind arith
 
   second-tab : (m k : ℕ) (options : Option (List Spelled)) → None ≡ together n d which (Some m) (option_map (λ rest. tab k ∷ rest) options)
-  second-tab m k None = refl
-  second-tab m k (Some rest) =
-      sym (none-of-three (at_most_one (given n ++ filter_map cut_in rest)) (at_most_one (told d ++ filter_map deep_in rest)) (at_most_one (given which ++ filter_map machine_in rest)))
+  second-tab m k options = grind arith
 
 -- a word that is not `--deep`, and its value
 module _ (words : List (List ℕ)) (known : (n : Option ℕ) (d : Bool) (which : Option Which) (t : Option ℕ) → after n d which t words ≡ together n d which t (options_of words))
@@ -114,8 +93,7 @@ by-deep word words known name is-deep n true which t = rw is-deep (second-deep n
 
 -- without more options
 one-of : {A : Type 0} (o : Option A) → at_most_one (given o ++ []) ≡ Some o
-one-of None = refl
-one-of (Some x) = refl
+one-of o = grind arith
 
 alone : (n : Option ℕ) (d : Bool) (which : Option Which) (t : Option ℕ) → after n d which t [] ≡ together n d which t (Some [])
 alone n true which t = rw (one-of n, one-of which, one-of t) refl

@@ -1,30 +1,21 @@
-use Rattle.mdevents_program.proofs.Prelude.{rules, ◌≡◌, ℕ, ◌<◌, ◌^◌, ◌&&◌, ◌∷◌, [], Bool, true, false, List, None, Some, Err, Ok, cond, arith, sym, refl, ◌∙◌, length, nat_lt, then_some, is_ascii_digit, list_all, digits_value, nat_tests, IsNumeralModel, numerals_by_value, parse_digits, decimal_of}
+use Rattle.mdevents_program.proofs.Prelude.{rules, ◌≡◌, ℕ, ◌<◌, ◌^◌, ◌∷◌, [], true, List, None, Err, Ok, arith, sym, ◌∙◌, length, nat_lt, then_some, is_ascii_digit, list_all, digits_value, nat_tests, IsNumeralModel, numerals_by_value, parse_digits, decimal_of}
 use Rattle.mdevents_program.proofs.arguments.read_number.Goals as goal
 
 digits : IsNumeralModel (λ ds. list_all is_ascii_digit ds ≡ true) (digits_value 10)
 digits = numerals_by_value _ (search rules)
 
-at-least : (b : Bool) (n : ℕ) → then_some b n ≡ cond (b && true) (Some n) None
-at-least true n = refl
-at-least false n = refl
-
 found : (word : List ℕ) (n : ℕ) → list_all is_ascii_digit word ≡ true → n ≡ digits_value 10 word → n < 2 ^ 64 → then_some (nat_lt 0 n) n ≡ decimal_of word
-found word n decimal is fits =
-    let high : nat_lt n (2 ^ 64) ≡ true = grind (arith, nat_tests) in
-    rw (decimal, ← is, high) (at-least (nat_lt 0 n) n)
+found word n decimal is fits = rw (decimal, ← is) (grind (arith, nat_tests))
 
 not-empty : (word : List ℕ) → 0 < digits_value 10 word → 0 < length word
 not-empty [] h = absurd (omega (arith, h))
 not-empty (c ∷ cs) h = omega arith
 
-tested : (n : ℕ) (b : Bool) → nat_lt 0 n && nat_lt n (2 ^ 64) ≡ b → (0 < n → n < 2 ^ 64 → false ≡ b) → cond b (Some n) None ≡ None
-tested n true e never = grind (arith, nat_tests)
-tested n false e never = refl
-
 refused : (word : List ℕ) → list_all is_ascii_digit word ≡ true → (0 < length word × digits_value 10 word < 2 ^ 64 → ⊥) → None ≡ decimal_of word
 refused word decimal never =
-    let v = digits_value 10 word in
-    rw decimal (sym (tested v (nat_lt 0 v && nat_lt v (2 ^ 64)) refl (λ above fits. absurd (never (not-empty word above, fits)))))
+    let some = not-empty word in
+    let out : 0 < digits_value 10 word → digits_value 10 word < 2 ^ 64 → ⊥ = λ above fits. never (some above, fits) in
+    rw decimal (grind (arith, nat_tests))
 
 pub returns-in-Ok-clause-number : goal.returns-in-Ok-clause-number
 returns-in-Ok-clause-number c =

@@ -4,61 +4,48 @@ use Rattle.mdevents_program.proofs.program.events_of.Goals as goal
 
 pub returns-in-Lines-clause-events : goal.returns-in-Lines-clause-events
 returns-in-Lines-clause-events c =
-    let e = c.in-Lines.is in let document = rw c.options_with.ensures at c.read_by.ensures.document in
-    let flat = rw c.options_with.ensures at c.read_by.ensures.events in
-    rw e (IfOk-weaker c.read_by.result _ _ (λ events h. flat-events lines_rules FlowStart line_events lines-read _ c.args.bytes.now document events.items h) flat)
+    let document = rw c.options_with.ensures at c.read_by.ensures.document in
+    rw c.in-Lines.is (IfOk-weaker c.read_by.result _ _ (λ events h. flat-events lines_rules FlowStart line_events lines-read _ c.args.bytes.now document events.items h) (rw c.options_with.ensures at c.read_by.ensures.events))
 
 pub returns-in-Paragraphs-clause-events : goal.returns-in-Paragraphs-clause-events
 returns-in-Paragraphs-clause-events c =
-    let e = c.in-Paragraphs.is in
-    let d = c.if-choice.true in
     let document = rw c.options_with.ensures at c.read_deep_by.ensures.document in
-    let deep = rw c.options_with.ensures at c.read_deep_by.ensures.events in
-    rw (e, d) (IfOk-weaker c.read_deep_by.result _ _ (λ events h. with-data _ c.args.bytes.now document events.items h) deep)
+    rw (c.in-Paragraphs.is, c.if-choice.true) (IfOk-weaker c.read_deep_by.result _ _ (λ events h. with-data _ c.args.bytes.now document events.items h) (rw c.options_with.ensures at c.read_deep_by.ensures.events))
 
 pub returns-in-Paragraphs-2-clause-events : goal.returns-in-Paragraphs-2-clause-events
 returns-in-Paragraphs-2-clause-events c =
-    let e = c.in-Paragraphs-2.is in let d = c.if-choice.false in let document = rw c.options_with.ensures at c.read_by-in-Paragraphs-2.ensures.document in
-    let flat = rw c.options_with.ensures at c.read_by-in-Paragraphs-2.ensures.events in
-    rw (e, d) (IfOk-weaker c.read_by-in-Paragraphs-2.result _ _ (λ events h. flat-events paragraphs_rules FlowStart paragraph_events paragraphs-by-blocks _ c.args.bytes.now document events.items h) flat)
+    let document = rw c.options_with.ensures at c.read_by-in-Paragraphs-2.ensures.document in
+    rw (c.in-Paragraphs-2.is, c.if-choice.false) (IfOk-weaker c.read_by-in-Paragraphs-2.result _ _ (λ events h. flat-events paragraphs_rules FlowStart paragraph_events paragraphs-by-blocks _ c.args.bytes.now document events.items h) (rw c.options_with.ensures at c.read_by-in-Paragraphs-2.ensures.events))
 
 pub returns-in-Peek-clause-events : goal.returns-in-Peek-clause-events
 returns-in-Peek-clause-events c =
-    let e = c.in-Peek.is in let document = rw c.options_with.ensures at c.read_by-in-Peek.ensures.document in
-    let flat = rw c.options_with.ensures at c.read_by-in-Peek.ensures.events in
-    rw e (IfOk-weaker c.read_by-in-Peek.result _ _ (λ events h. flat-events peek_rules TextStart data_events peek-reads _ c.args.bytes.now document events.items h) flat)
+    let document = rw c.options_with.ensures at c.read_by-in-Peek.ensures.document in
+    rw c.in-Peek.is (IfOk-weaker c.read_by-in-Peek.result _ _ (λ events h. flat-events peek_rules TextStart data_events peek-reads _ c.args.bytes.now document events.items h) (rw c.options_with.ensures at c.read_by-in-Peek.ensures.events))
 
 pub returns-in-Deep-clause-events : goal.returns-in-Deep-clause-events
 returns-in-Deep-clause-events c =
-    let e = c.in-Deep.is in let document = rw c.options_with.ensures at c.read_by-in-Deep.ensures.document in
-    let flat = rw c.options_with.ensures at c.read_by-in-Deep.ensures.events in
-    rw e (IfOk-weaker c.read_by-in-Deep.result _ _ (λ events h. flat-events deep_rules StringStart data_events deep-reads _ c.args.bytes.now document events.items h) flat)
+    let document = rw c.options_with.ensures at c.read_by-in-Deep.ensures.document in
+    rw c.in-Deep.is (IfOk-weaker c.read_by-in-Deep.result _ _ (λ events h. flat-events deep_rules StringStart data_events deep-reads _ c.args.bytes.now document events.items h) (rw c.options_with.ensures at c.read_by-in-Deep.ensures.events))
 
 pub returns-in-Back-clause-events : goal.returns-in-Back-clause-events
 returns-in-Back-clause-events c =
-    let e = c.in-Back.is in let document = rw c.options_with.ensures at c.read_by-in-Back.ensures.document in
-    let flat = rw c.options_with.ensures at c.read_by-in-Back.ensures.events in
-    rw e (IfOk-weaker c.read_by-in-Back.result _ _ (λ events h. flat-events back_rules TextStart back_events back-reads _ c.args.bytes.now document events.items h) flat)
+    let document = rw c.options_with.ensures at c.read_by-in-Back.ensures.document in
+    rw c.in-Back.is (IfOk-weaker c.read_by-in-Back.result _ _ (λ events h. flat-events back_rules TextStart back_events back-reads _ c.args.bytes.now document events.items h) (rw c.options_with.ensures at c.read_by-in-Back.ensures.events))
 
 pub returns-in-Save-clause-events : goal.returns-in-Save-clause-events
 returns-in-Save-clause-events c =
-    let e = c.in-Save.is in let document = rw c.options_with.ensures at c.read_by-in-Save.ensures.document in
-    let flat = rw c.options_with.ensures at c.read_by-in-Save.ensures.events in
-    rw e (IfOk-weaker c.read_by-in-Save.result _ _ (λ events h. flat-events save_rules TextStart save_events save-reads _ c.args.bytes.now document events.items h) flat)
+    let document = rw c.options_with.ensures at c.read_by-in-Save.ensures.document in
+    rw c.in-Save.is (IfOk-weaker c.read_by-in-Save.result _ _ (λ events h. flat-events save_rules TextStart save_events save-reads _ c.args.bytes.now document events.items h) (rw c.options_with.ensures at c.read_by-in-Save.ensures.events))
 
 pub returns-in-Text-clause-events : goal.returns-in-Text-clause-events
 returns-in-Text-clause-events c =
-    let e = c.in-Text.is in
-    let d = c.if-choice-2.true in
     let document = rw c.options_with.ensures at c.read_deep_by-in-Text.ensures.document in
-    let deep = rw c.options_with.ensures at c.read_deep_by-in-Text.ensures.events in
-    rw (e, d) (IfOk-weaker c.read_deep_by-in-Text.result _ _ (λ events h. with-texts _ c.args.bytes.now document events.items h) deep)
+    rw (c.in-Text.is, c.if-choice-2.true) (IfOk-weaker c.read_deep_by-in-Text.result _ _ (λ events h. with-texts _ c.args.bytes.now document events.items h) (rw c.options_with.ensures at c.read_deep_by-in-Text.ensures.events))
 
 pub returns-clause-events : goal.returns-clause-events
 returns-clause-events c =
-    let e = c.in-Text-2.is in let d = c.if-choice-2.false in let document = rw c.options_with.ensures at c.read_by-in-Text-2.ensures.document in
-    let flat = rw c.options_with.ensures at c.read_by-in-Text-2.ensures.events in
-    rw (e, d) (IfOk-weaker c.read_by-in-Text-2.result _ _ (λ events h. flat-events text_rules FlowStart paragraph_events text-by-blocks _ c.args.bytes.now document events.items h) flat)
+    let document = rw c.options_with.ensures at c.read_by-in-Text-2.ensures.document in
+    rw (c.in-Text-2.is, c.if-choice-2.false) (IfOk-weaker c.read_by-in-Text-2.result _ _ (λ events h. flat-events text_rules FlowStart paragraph_events text-by-blocks _ c.args.bytes.now document events.items h) (rw c.options_with.ensures at c.read_by-in-Text-2.ensures.events))
 
 pub returns-in-Lines-clause-never_refused : goal.returns-in-Lines-clause-never_refused
 returns-in-Lines-clause-never_refused c = λ m e. no-run-refused lines_rules lines-refuse-nothing _ false _ m (c.read_by.ensures.message m e)
