@@ -1,5 +1,5 @@
 -- Lemmas on the bytes between two places.
-use Rattle.markdown_base.proofs.Prelude.{◌≡◌, ℕ, zero, suc, ◌+◌, ◌-◌, ◌≤◌, inl, inr, min, max, Bool, true, false, List, [], ◌∷◌, length, take, drop, get_or, refl, sym, ap, ◌∙◌, arith, ltb-true, ltb-false, lt-ltb, le-ltb, eqb-true, ◌==◌, ◌&&◌, not, nat_lt, filter, map, slice_index, slice_range, range_with_len, cases_lt, eqb-false, Point, stands_before, lies_between, byte_place, bytes_between, first_byte, nat_tests}
+use Rattle.markdown_base.proofs.Prelude.{◌≡◌, ℕ, zero, suc, ◌+◌, ◌-◌, ◌≤◌, min, max, Bool, true, false, List, [], ◌∷◌, length, take, drop, get_or, refl, sym, ap, ◌∙◌, arith, ltb-true, ltb-false, ◌&&◌, not, nat_lt, filter, map, slice_index, slice_range, range_with_len, Point, stands_before, lies_between, byte_place, bytes_between, first_byte, nat_tests}
 use Rattle.std.proofs.Math.Seq.{drop-cons}
 
 -- the bytes before a place are the bytes before the first one that is not before it

@@ -1,5 +1,5 @@
 -- Lemmas on the characters of a part of a text, and on how a code point is shown.
-use Rattle.markdown_base.proofs.Prelude.{◌≡◌, ℕ, zero, suc, ◌+◌, ◌-◌, ◌<◌, ◌≤◌, ◌^◌, Bool, true, false, List, [], ◌∷◌, ◌++◌, length, take, drop, get_or, refl, sym, ap, ◌∙◌, arith, subst, rules, tests, drop-cons, lt-ltb, Option, Some, None, slice_get, nat_lt, IsUtf8, IsCharBoundary, replicate, codes, String, string_bytes, Result, Ok, Err, IfOk, IfSome, option_map, last_or, digits, format_spec, digits_output, styled_digits_output, option_append, code_point, IsCharBoundary-start, IsUtf8-between, IsUtf8-take, chars-append, chars-nil, encodes-chars, IsCharBoundary-after_ascii, false≢true, encode_utf8_all, take-add, drop-length, unary_clauses, take-append-drop, drop-drop, length-take, length-drop, append-nil, char_before, char_after, IsClassOfOpt, is_ascii_whitespace, is_whitespace, is_ascii_punctuation, Whitespace, Punctuation}
+use Rattle.markdown_base.proofs.Prelude.{◌≡◌, ℕ, zero, suc, ◌+◌, ◌-◌, ◌<◌, ◌≤◌, ◌^◌, Bool, true, false, List, [], ◌∷◌, ◌++◌, length, take, drop, get_or, refl, sym, ap, ◌∙◌, arith, subst, rules, tests, drop-cons, lt-ltb, Option, Some, None, slice_get, IsUtf8, IsCharBoundary, replicate, codes, String, string_bytes, Result, Ok, Err, IfOk, IfSome, option_map, last_or, digits, format_spec, digits_output, styled_digits_output, option_append, code_point, IsCharBoundary-start, IsUtf8-between, IsUtf8-take, chars-append, chars-nil, encodes-chars, IsCharBoundary-after_ascii, false≢true, encode_utf8_all, take-add, drop-length, unary_clauses, take-append-drop, drop-drop, length-take, length-drop, append-nil, char_before, char_after, IsClassOfOpt, is_ascii_whitespace, is_whitespace, is_ascii_punctuation, Whitespace, Punctuation}
 use Rattle.std.specs.Fmt.{padded_integral, char_count}
 use Rattle.std.specs.Str.{chars}
 

@@ -1,7 +1,7 @@
 -- Lemmas on tabs that a place cuts: how many of their virtual bytes lie between two places.
-use Rattle.markdown_base.proofs.Prelude.{◌≡◌, ◌≢◌, ℕ, zero, suc, ◌+◌, ◌-◌, ◌*◌, ◌/◌, ◌%◌, ◌<◌, ◌≤◌, ◌⊎◌, inl, inr, min, max, Bool, true, false, List, [], ◌∷◌, ◌++◌, length, drop, get_or, refl, sym, ap, ◌∙◌, arith, subst, leb-true, leb-false, ltb-true, ltb-false, lt-ltb, eq-eqb, ne_eqb, le-ltb, ◌==◌, ◌&&◌, not, nat_lt, nat_le, filter, AllByRecursion, false≢true, cases_lt, and-false, mod-mul-add, div-add-mod', filter-append, append-nil, Point, Seat, point, tab_width, end_in_tab, in_tab, begins_with_lf, virtual_from, virtual, stands_before, in_range, IsPointOf, spaces_between, spaces_before, spaces_after, first_byte, nat_tests}
+use Rattle.markdown_base.proofs.Prelude.{◌≡◌, ◌≢◌, ℕ, zero, suc, ◌+◌, ◌-◌, ◌*◌, ◌/◌, ◌%◌, ◌<◌, ◌≤◌, ◌⊎◌, inl, inr, min, max, Bool, true, false, List, [], ◌∷◌, ◌++◌, length, drop, get_or, refl, sym, ap, ◌∙◌, arith, subst, lt-ltb, eq-eqb, ne_eqb, le-ltb, ◌==◌, ◌&&◌, not, nat_lt, nat_le, filter, AllByRecursion, and-false, mod-mul-add, div-add-mod', filter-append, append-nil, Point, Seat, point, tab_width, end_in_tab, in_tab, begins_with_lf, virtual_from, virtual, stands_before, in_range, IsPointOf, spaces_between, spaces_before, spaces_after, first_byte, nat_tests}
 use Rattle.markdown_base.proofs.Common.{every-append, every-map, filter-none}
-use Rattle.markdown_base.proofs.Scans.{IsReached, IsSeatPlace, IsPlace, IsOfTab, of_tab, place-of, byte_here}
+use Rattle.markdown_base.proofs.Scans.{IsReached, IsSeatPlace, IsOfTab, of_tab, place-of, byte_here}
 
 -- what is left of a tab at a column inside it
 pub tab_left : (t column vs : ℕ) → 0 < t → 1 ≤ column → vs < tab_width t column → tab_width t column - vs ≡ tab_width t (column + vs)

@@ -1,5 +1,5 @@
 -- Lemmas on the equality of events.
-use Rattle.markdown_base.proofs.Prelude.{◌≡◌, ◌↔◌, Bool, true, false, ◌&&◌, refl, ap, ◌∙◌, subst, eqb-true, eq-eqb, Option, Some, None, nat_eq, option_eq, false≢true, sameb, same_true, true_same, Event, Link, rules, tests}
+use Rattle.markdown_base.proofs.Prelude.{◌≡◌, ◌↔◌, Bool, true, ◌&&◌, refl, ap, ◌∙◌, subst, eqb-true, eq-eqb, Option, Some, None, nat_eq, option_eq, sameb, same_true, true_same, Event, Link, rules, tests}
 use Rattle.markdown_base.specs.contracts.event.Kind.{the_type as kinds}
 use Rattle.markdown_base.specs.contracts.event.Name.{the_type as names}
 

@@ -1,5 +1,5 @@
 -- Lemmas on lines: lists of indices that pass a test, how many are not above a number, and the greatest of these.
-use Rattle.markdown_base.proofs.Prelude.{◌≡◌, ℕ, zero, suc, ◌+◌, ◌-◌, ◌<◌, ◌≤◌, ◌^◌, Bool, true, false, cond, leb, List, [], ◌∷◌, ◌++◌, length, take, drop, get_or, refl, sym, ap, ◌∙◌, arith, add-one, drop-cons, max, nat_le, subst, leb-false, leb-true, le-leb, unary_clauses, filter, fold, take_while, Option, Some, slice_index, range_with_len, last_or, AllWithin, prefix_len, IsNonDecreasingBy, IsPartitionPoint, max-eq_right, map-id, get_or-take, length-take, length-take-le, filter_of_map_range_with_len_more, get_or-range_with_len, length-range_with_len, IsNonDecreasingBy-take, IsNonDecreasingBy-filter, is_line_start, IsKept, greatest, point_in}
+use Rattle.markdown_base.proofs.Prelude.{◌≡◌, ℕ, zero, suc, ◌+◌, ◌-◌, ◌<◌, ◌≤◌, ◌^◌, Bool, true, false, cond, leb, List, [], ◌∷◌, ◌++◌, length, take, drop, get_or, refl, sym, ap, ◌∙◌, arith, add-one, drop-cons, max, subst, leb-false, leb-true, le-leb, unary_clauses, filter, fold, take_while, Option, Some, slice_index, range_with_len, last_or, AllWithin, prefix_len, IsNonDecreasingBy, IsPartitionPoint, max-eq_right, map-id, get_or-take, length-take, length-take-le, filter_of_map_range_with_len_more, get_or-range_with_len, length-range_with_len, IsNonDecreasingBy-take, IsNonDecreasingBy-filter, is_line_start, IsKept, greatest, point_in}
 use Rattle.std.proofs.Common.{append-nil}
 
 -- the indices below the next one that pass a test

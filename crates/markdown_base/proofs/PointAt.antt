@@ -1,7 +1,7 @@
 -- Lemmas on the point of a place that the virtual text reaches, and on how it moves along a line.
-use Rattle.markdown_base.proofs.Prelude.{◌≡◌, ◌≢◌, ℕ, zero, suc, ◌+◌, ◌-◌, ◌*◌, ◌<◌, ◌≤◌, inl, inr, Bool, true, false, cond, List, [], ◌∷◌, ◌++◌, length, drop, get_or, refl, ap, ◌∙◌, arith, subst, eqb-true, eq-eqb, ne_eqb, ◌==◌, ◌&&◌, slice_index, find, Some, AllByRecursion, flat_map, false≢true, mul-le-mul_left, flat_map-append, Point, Seat, point, tab_width, in_tab, other_byte, begins_with_lf, virtual_from, end_after, document_end, shown, follows_cr, point_at, IsPointOf, HasNoLineEnding, nat_tests}
+use Rattle.markdown_base.proofs.Prelude.{◌≡◌, ◌≢◌, ℕ, zero, suc, ◌+◌, ◌-◌, ◌*◌, ◌<◌, ◌≤◌, inl, inr, Bool, true, false, List, [], ◌∷◌, ◌++◌, length, drop, get_or, refl, ap, ◌∙◌, arith, subst, eq-eqb, ne_eqb, ◌==◌, ◌&&◌, slice_index, find, Some, AllByRecursion, flat_map, false≢true, mul-le-mul_left, flat_map-append, Point, Seat, point, tab_width, in_tab, other_byte, begins_with_lf, virtual_from, end_after, document_end, shown, follows_cr, point_at, IsPointOf, HasNoLineEnding, nat_tests}
 use Rattle.std.proofs.lemmas.List.{append_assoc}
-use Rattle.markdown_base.proofs.Scans.{IsReached, IsPlace, drop_is, reached-tab, reached-plain, tab_width-least, place-of}
+use Rattle.markdown_base.proofs.Scans.{IsReached, drop_is, reached-tab, reached-plain, tab_width-least, place-of}
 
 -- the test that seeks the place of an index, no virtual byte of a tab behind its first
 abbrev is_at : ℕ → Point → Bool
