@@ -1,6 +1,5 @@
 -- Changes of the entries, as changes of what they mean.
-use Rattle.markdown_edits.proofs.Prelude.{◌≡◌, ℕ, ◌+◌, ◌<◌, ◌≤◌, Bool, true, false, cond, eqb, ltb, List, [], ◌∷◌, ◌++◌, Option, Some, None, refl, sym, ◌∙◌, ap, ⊎_elim, arith, nat_cmp, is_eq, is_at, insert_entry, lookup, set_value, keys_of, AllByRecursion, IsStrictlySortedBy, Less, Greater, ne_eqb, eq-eqb, lt-ltb, le-ltb, cases_order, sorted_head, sorted_tail, Event, every-append, every-map, Edit, merged, put_by, removal_at, as_edit, edits_of, IsAscending, Replacement, nat_tests}
-use Rattle.markdown_edits.proofs.Edits.Puts.{put-same, put-more}
+use Rattle.markdown_edits.proofs.Prelude.{◌≡◌, ℕ, ◌+◌, ◌<◌, ◌≤◌, Bool, true, false, ltb, List, [], ◌∷◌, ◌++◌, Some, None, refl, arith, nat_cmp, is_at, insert_entry, lookup, set_value, keys_of, AllByRecursion, IsStrictlySortedBy, Less, lt-ltb, sorted_head, sorted_tail, Event, every-append, every-map, Edit, put_by, removal_at, as_edit, edits_of, IsAscending, Replacement, nat_tests}
 
 at_same : (k x : ℕ) → k ≡ x → is_at (nat_cmp k) x ≡ true
 at_same k x e = grind (arith, nat_tests)

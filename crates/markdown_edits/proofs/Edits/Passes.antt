@@ -1,5 +1,5 @@
 -- The list after disjoint changes, as one pass over changes and events gives it.
-use Rattle.markdown_edits.proofs.Prelude.{◌≡◌, ℕ, zero, suc, ◌+◌, ◌-◌, ◌<◌, ◌≤◌, true, false, eqb, ltb, leb, List, [], ◌∷◌, ◌++◌, length, take, drop, refl, sym, ◌∙◌, ap, subst, arith, append_assoc, append-nil, length-drop, add-zero, drop-drop, ne_eqb, eq-eqb, lt-ltb, le-ltb, le-leb, lt-leb, Event, Change, events_at, is_removed, Tagged, as_listed, woven, nat_tests}
+use Rattle.markdown_edits.proofs.Prelude.{◌≡◌, ℕ, zero, suc, ◌+◌, ◌-◌, ◌<◌, ◌≤◌, false, List, [], ◌∷◌, ◌++◌, length, take, drop, refl, sym, ◌∙◌, ap, subst, arith, append_assoc, append-nil, length-drop, add-zero, drop-drop, eq-eqb, Event, Change, events_at, is_removed, Tagged, as_listed, woven, nat_tests}
 pub use Rattle.markdown_edits.specs.Woven.{AreApart}
 
 -- events that stay, from index i on

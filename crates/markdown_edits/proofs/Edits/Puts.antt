@@ -1,5 +1,5 @@
 -- Edits put into a list in the order of the indices.
-use Rattle.markdown_edits.proofs.Prelude.{◌≡◌, ℕ, ◌<◌, ◌≤◌, Bool, true, false, cond, eqb, ltb, List, [], ◌∷◌, ◌++◌, append-nil, append_assoc, refl, sym, ◌∙◌, ap, subst, ⊎_elim, arith, AllByRecursion, ne_eqb, eq-eqb, lt-ltb, le-ltb, cases_order, Event, every-map, Edit, merged, put_by, put_before, put_after, removal_at, is_no_edit, added_after, added_before, IsAscending, nat_tests}
+use Rattle.markdown_edits.proofs.Prelude.{◌≡◌, ℕ, ◌<◌, ◌≤◌, Bool, true, false, cond, List, [], ◌∷◌, ◌++◌, append-nil, append_assoc, refl, sym, ◌∙◌, ap, ⊎_elim, arith, AllByRecursion, cases_order, Event, every-map, Edit, merged, put_by, put_before, put_after, removal_at, is_no_edit, added_after, added_before, IsAscending, nat_tests}
 
 module _ (f : List Event → List Event → List Event) where
   pub put-less : (e d : Edit) (es : List Edit) → d.index < e.index → put_by f (e ∷ es) d ≡ d ∷ e ∷ es

@@ -1,5 +1,5 @@
 -- The table of shifts: what it says of a place, and how it is searched.
-use Rattle.markdown_edits.proofs.Prelude.{◌≡◌, ℕ, zero, suc, ◌+◌, ◌-◌, ◌<◌, ◌≤◌, ◌^◌, true, false, cond, ltb, List, [], ◌∷◌, length, get_or, Option, Some, None, refl, sym, ap, subst, arith, All, IsNonDecreasingBy, lt-ltb, le-ltb, Event, Link, EndsBelow, EachEnd, Edit, AreDisjoint, added_by, shifts, place_by, AreShifts, EndsFit, place_from, Shift, nat_tests}
+use Rattle.markdown_edits.proofs.Prelude.{◌≡◌, ℕ, zero, suc, ◌+◌, ◌-◌, ◌<◌, ◌≤◌, ◌^◌, true, cond, ltb, List, [], ◌∷◌, length, get_or, Option, Some, None, refl, ap, subst, arith, All, IsNonDecreasingBy, lt-ltb, Event, Link, EndsBelow, EachEnd, Edit, AreDisjoint, added_by, shifts, place_by, AreShifts, EndsFit, place_from, Shift, nat_tests}
 use Rattle.std.proofs.Common.{IfSome}
 
 -- the table gives the places that the edits give

@@ -1,5 +1,5 @@
 -- The events of a list that stay through changes keep their order, and links between them.
-use Rattle.markdown_edits.proofs.Prelude.{◌≡◌, ℕ, suc, ◌+◌, ◌-◌, ◌<◌, ◌≤◌, ◌⊎◌, ◌↔◌, Bool, true, false, not, cond, eqb, List, [], ◌∷◌, ◌++◌, length, Option, Some, None, refl, sym, ◌∙◌, ap, inl, inr, ⊎_elim, arith, slice_get, option_map, option_and_then, is_some, ne_eqb, eq-eqb, eqb-true, cases_eq, cases_order, none-some, same_Some, slice_get-map, recursion_from_All, Event, Link, relinked, with_ends, next_of, previous_of, Identity, of_list, Tagged, as_listed, place_in, placed_end, Change, events_at, is_removed, woven, changed, AreNew, place_after, StaysUnlessRemoved, StaysAsItWas, KeepsOrder, KeepsLinks, nat_tests, common_steps}
+use Rattle.markdown_edits.proofs.Prelude.{◌≡◌, ℕ, suc, ◌+◌, ◌-◌, ◌<◌, ◌≤◌, ◌⊎◌, ◌↔◌, Bool, false, not, cond, eqb, List, [], ◌∷◌, ◌++◌, length, Option, Some, None, refl, sym, ◌∙◌, ap, inl, inr, ⊎_elim, arith, slice_get, option_map, option_and_then, is_some, cases_order, none-some, slice_get-map, recursion_from_All, Event, Link, relinked, next_of, previous_of, Identity, of_list, Tagged, as_listed, place_in, placed_end, Change, events_at, is_removed, woven, changed, AreNew, place_after, StaysUnlessRemoved, StaysAsItWas, KeepsOrder, KeepsLinks, nat_tests, common_steps}
 use Rattle.markdown_edits.proofs.Edits.FinalPlaces.{HasNo, place_in-append}
 
 place_in-events_at : (b : Identity) (ws : List Change) (i : ℕ) → HasNo b ws → place_in b (events_at ws i) ≡ None

@@ -1,5 +1,5 @@
 -- One turn of a loop over the edits.
-use Rattle.markdown_edits.proofs.Prelude.{◌≡◌, ℕ, zero, suc, ◌+◌, ◌<◌, ◌≤◌, List, [], ◌∷◌, length, drop, get_or, refl, ◌∙◌, ap, subst, arith, Event, Edit, AreDisjoint, part_edit, pooled, Entry, drop-cons, add-one}
+use Rattle.markdown_edits.proofs.Prelude.{◌≡◌, ℕ, ◌+◌, ◌<◌, ◌≤◌, List, [], ◌∷◌, length, drop, get_or, refl, subst, arith, Event, Edit, AreDisjoint, part_edit, pooled, Entry, drop-cons, add-one}
 
 -- the edits that are left begin with the one at this index
 pooled-turn : (xs : List Event) (es : List Entry) (i : ℕ) (d : Entry) → i < length es → pooled xs (drop i es) ≡ part_edit xs (get_or es i d) ∷ pooled xs (drop (i + 1) es)

@@ -1,4 +1,4 @@
-use Rattle.markdown_edits.proofs.Prelude.{◌≡◌, ℕ, ◌+◌, ◌-◌, ◌<◌, ◌≤◌, ◌^◌, true, false, leb, ltb, List, length, get_or, None, Some, refl, sym, ap, ◌∙◌, arith, rules, IsPartitionPoint, leb-true, leb-false, lt-ltb, le-ltb, get_or_default, IsPartitionPoint-from_clause, IsPartitionedBy-leb, place_by, AreShifts, Shift}
+use Rattle.markdown_edits.proofs.Prelude.{◌≡◌, ℕ, ◌+◌, ◌-◌, ◌<◌, ◌≤◌, ◌^◌, true, false, leb, List, length, get_or, Some, refl, sym, ap, ◌∙◌, arith, rules, IsPartitionPoint, leb-true, leb-false, lt-ltb, le-ltb, get_or_default, IsPartitionPoint-from_clause, IsPartitionedBy-leb, place_by, AreShifts, Shift}
 use Rattle.markdown_edits.proofs.Edits.Shifts.{IsNonDecreasingBy-shifts, place_at, place_by-front, place_by-row, row_fits}
 use Rattle.markdown_edits.proofs.shift.place_after.Goals as goal
 use Rattle.markdown_edits.proofs.shift.place_after.Goals.{After-partition_point-begun}

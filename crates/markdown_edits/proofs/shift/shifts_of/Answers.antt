@@ -1,4 +1,4 @@
-use Rattle.markdown_edits.proofs.Prelude.{◌≡◌, ◌+◌, ◌-◌, [], ◌++◌, drop, append-nil, sym, ap, subst, ◌∙◌, arith, drop_all, shifts, AreShifts, added_by, pooled, Entry}
+use Rattle.markdown_edits.proofs.Prelude.{◌≡◌, ◌+◌, ◌-◌, [], ◌++◌, drop, append-nil, sym, ap, subst, ◌∙◌, arith, drop_all, shifts, AreShifts, added_by, pooled}
 use Rattle.markdown_edits.proofs.Edits.Shifts.{AreShifts-shifts}
 use Rattle.markdown_edits.proofs.Edits.Turns.{next_edit}
 use Rattle.markdown_edits.proofs.shift.shifts_of.Goals as goal

@@ -1,4 +1,4 @@
-use Rattle.markdown_edits.proofs.Prelude.{◌≡◌, ◌+◌, ◌<◌, length, take, refl, sym, ap, ◌∙◌, arith, get_or_default, get_or-take, length-take-le, Event, is_wanted}
+use Rattle.markdown_edits.proofs.Prelude.{◌+◌, ◌<◌, refl, sym, ap, ◌∙◌, arith, get_or_default, get_or-take, length-take-le, Event, is_wanted}
 use Rattle.markdown_edits.proofs.skip.to_back.Goals as goal
 
 pub loop-last-init : goal.loop-last-init
