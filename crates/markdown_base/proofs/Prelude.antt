@@ -3,7 +3,7 @@ pub use Rattle.std.proofs.Common.{Bool, Bor, List, [], add-one, ap, arith, cond,
 pub use Rattle.std.proofs.Math.Bool.{and-false}
 pub use Rattle.std.proofs.Math.Nat.{max-eq_right, mod-lt, mul-le-mul_left}
 pub use Rattle.std.proofs.Math.Seq.{drop-length, take-add}
-pub use Rattle.std.proofs.lemmas.Bool.{cases_lt, eqb-false, false≢true}
+pub use Rattle.std.proofs.lemmas.Bool.{cases_lt, false≢true}
 pub use Rattle.std.proofs.lemmas.Bool.Decides.{nat_tests}
 pub use Rattle.std.proofs.lemmas.Grind.{common_steps, put_two}
 pub use Rattle.std.proofs.lemmas.Iterator.Adapters.{YieldsList-from_rev_slice}

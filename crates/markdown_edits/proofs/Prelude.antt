@@ -2,7 +2,7 @@
 pub use Rattle.std.proofs.Common.{add-one, drop-cons, Bool, Err, List, None, Ok, Option, Result, Some, [], add-zero, ap, append-nil, append_assoc, arith, cond, drop, eqb, false, get_or, inl, inr, leb, length, length-append, length-drop, length-set, ltb, map, max, not, refl, rules, set, subst, suc, sym, take, take-append-drop, true, zero, ℕ, ⊎_elim, ◌++◌, ◌+◌, ◌-◌, ◌<◌, ◌^◌, ◌↔◌, ◌∙◌, ◌∷◌, ◌≡◌, ◌≤◌, ◌⊎◌}
 pub use Rattle.std.proofs.Math.Bool.{and-false}
 pub use Rattle.std.proofs.Math.Seq.{drop-append-add, drop-append_seam, take-append-add}
-pub use Rattle.std.proofs.lemmas.Bool.{cases_eq, cases_lt, cases_order, eq-eqb, eqb-true, le-leb, le-ltb, leb-false, leb-true, lt-leb, lt-ltb, ltb-true, ne_eqb}
+pub use Rattle.std.proofs.lemmas.Bool.{cases_order, eq-eqb, le-ltb, leb-false, leb-true, lt-ltb, ltb-true}
 pub use Rattle.std.proofs.lemmas.List.{drop-take, drop-append-le, drop-drop, drop_all, get_or-take, get_or_default, length-map, length-take-le, length_push, map-append, take-append-le, take-map, take_all}
 pub use Rattle.std.proofs.lemmas.List.Elements.{All-append, All-drop, All-from_recursion, All-head, All-map, All-tail, All-take, recursion_from_All}
 pub use Rattle.std.proofs.lemmas.List.Sorted.{IsPartitionPoint-from_clause, IsPartitionedBy-leb}
@@ -15,10 +15,10 @@ pub use Rattle.std.specs.List.Sorted.{IsNonDecreasingBy, IsPartitionPoint, IsStr
 pub use Rattle.std.specs.Map.{keys_of, lookup, set_value}
 pub use Rattle.std.specs.Map.Iter.{deref_pair}
 pub use Rattle.std.specs.Option.{IfSome, is_some, option_and_then, option_map}
-pub use Rattle.std.specs.Ordering.{is_eq, nat_cmp}
+pub use Rattle.std.specs.Ordering.{nat_cmp}
 pub use Rattle.std.specs.Prelude.{IsSomeAnd}
 pub use Rattle.std.specs.Result.{OnErr, OnOk, is_err}
-pub use Rattle.std.specs.declared.cmp.Ordering.TheVariants.{Greater, Less}
+pub use Rattle.std.specs.declared.cmp.Ordering.TheVariants.{Less}
 pub use Rattle.markdown_base.proofs.Common.{every-append, every-map}
 pub use Rattle.markdown_base.specs.Events.{EachEnd, EndsBelow, IsBalanced, empty, is_enter, relinked, same_name, span, with_ends}
 pub use Rattle.markdown_base.specs.contracts.event.Name.{the_type}
