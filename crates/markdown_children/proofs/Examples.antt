@@ -1,17 +1,7 @@
 -- The definitions on small lists, by computation.
-use Rattle.std.proofs.Common.{◌≡◌, ℕ, List, [], ◌∷◌, length, map, Option, Some, None, refl}
-use Rattle.markdown_base.specs.declared.event.Content.{Content}
-use Rattle.markdown_base.specs.declared.event.Content.TheVariants.{String, Text}
-use Rattle.markdown_base.specs.declared.event.Event.{Event}
-use Rattle.markdown_base.specs.declared.event.Kind.TheVariants.{Enter, Exit}
-use Rattle.markdown_base.specs.declared.event.Link.{Link}
+use Rattle.markdown_children.proofs.Prelude.{◌≡◌, ℕ, List, [], ◌∷◌, length, map, Option, Some, None, refl, Content, String, Event, Enter, Exit, Link, BlockQuote, BlockQuotePrefix, Data, LineEnding, Paragraph, point, next_of, previous_of, chain_of, fitting_starts, parts, with_children}
+use Rattle.markdown_base.specs.declared.event.Content.TheVariants.{Text}
 use Rattle.markdown_base.specs.declared.event.Name.{Name}
-use Rattle.markdown_base.specs.declared.event.Name.TheVariants.{BlockQuote, BlockQuotePrefix, Data, LineEnding, Paragraph}
-use Rattle.markdown_base.specs.Virtual.{point}
-use Rattle.markdown_edits.specs.Links.{next_of, previous_of}
-use Rattle.markdown_children.specs.Chains.{chain_of, fitting_starts}
-use Rattle.markdown_children.specs.Parts.{parts}
-use Rattle.markdown_children.specs.Children.{with_children}
 
 abbrev enter : Name → ℕ → Option Link → Event
 enter n i l = record { kind = Enter; name = n; point = point 1 1 i 0; link = l }

@@ -1,5 +1,6 @@
-pub mod Examples
 pub mod ChainOrder
-pub mod Parts
-pub mod Ready
 pub mod ChildReads
+pub mod Examples
+pub mod Parts
+pub mod Prelude
+pub mod Ready

@@ -1,16 +1,6 @@
 -- The chunks of the chains that fit follow one another.
-use Rattle.std.proofs.Common.{◌≡◌, ℕ, zero, suc, ◌+◌, ◌<◌, ◌≤◌, ⊎_elim, Bool, true, false, cond, List, [], ◌∷◌, ◌++◌, length, Option, Some, None, refl, sym, ◌∙◌, ap, arith}
-use Rattle.std.specs.Prelude.{◌&&◌, filter, flat_map, unwrap_or, option_map, is_none}
-use Rattle.std.specs.List.{range_with_len, AllByRecursion}
-use Rattle.std.proofs.lemmas.Bool.{cases_eq}
-use Rattle.std.proofs.lemmas.Option.{none-some, slice_get_within}
-use Rattle.markdown_base.specs.declared.event.Content.{Content}
-use Rattle.markdown_base.specs.declared.event.Event.{Event}
-use Rattle.markdown_base.specs.declared.event.Kind.TheVariants.{Enter, Exit}
-use Rattle.markdown_edits.specs.Links.{next_of, previous_of}
-use Rattle.markdown_children.specs.Chains.{content_at, some_fits, fits, begins, chain_from, chain_of}
-use Rattle.markdown_children.specs.Ready.{IsChunk, IsGap, IsReady}
-use Rattle.markdown_children.specs.Laws.{LeadOnFrom, IsWholeFrom, AreSpaced, FollowOneAnother}
+use Rattle.markdown_children.proofs.Prelude.{◌≡◌, ℕ, zero, suc, ◌+◌, ◌<◌, ◌≤◌, ⊎_elim, Bool, true, false, cond, List, [], ◌∷◌, ◌++◌, length, Option, Some, None, refl, sym, ◌∙◌, ap, arith, ◌&&◌, filter, flat_map, unwrap_or, is_none, range_with_len, AllByRecursion, cases_eq, none-some, slice_get_within, Content, Event, Enter, Exit, next_of, previous_of, content_at, some_fits, fits, begins, chain_from, chain_of, IsChunk, IsGap, IsReady, LeadOnFrom, IsWholeFrom, AreSpaced, FollowOneAnother}
+use Rattle.std.specs.Prelude.{option_map}
 
 -- ---- one more element of a filter
 

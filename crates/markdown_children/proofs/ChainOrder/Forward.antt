@@ -1,19 +1,6 @@
 -- The chains of a ready list that fit go forward, and the edits of one of them.
-use Rattle.std.proofs.Common.{◌≡◌, ℕ, ◌+◌, ◌<◌, ◌≤◌, ⊎_elim, true, List, [], ◌∷◌, ◌++◌, length, Option, Some, None, refl, sym, ◌∙◌, ap, subst, arith, append-nil}
-use Rattle.std.specs.Prelude.{All, IfSome, slice_get, slice_index_or, is_none, option_and_then}
-use Rattle.std.specs.List.{AllByRecursion}
-use Rattle.std.proofs.lemmas.Bool.{cases_lt, cases_eq}
-use Rattle.std.proofs.lemmas.Option.{none-some, slice_get_past, slice_get-get_or}
-use Rattle.markdown_base.specs.declared.event.Content.{Content}
-use Rattle.markdown_base.specs.declared.event.Event.{Event}
-use Rattle.markdown_base.specs.declared.event.Link.{Link}
-use Rattle.markdown_base.specs.Events.{EndsBelow, EachEnd}
-use Rattle.markdown_edits.specs.Edits.{Edit, AreDisjoint}
-use Rattle.markdown_edits.specs.Links.{next_of, previous_of}
-use Rattle.markdown_children.specs.Chains.{chain_of, fits, begins}
-use Rattle.markdown_children.specs.Ready.{IsReady}
-use Rattle.markdown_children.specs.Laws.{LeadOnFrom, AreSpaced}
-use Rattle.markdown_children.specs.Parts.{divided, chain_edits, IsForward}
+use Rattle.markdown_children.proofs.Prelude.{◌≡◌, ℕ, ◌+◌, ◌<◌, ◌≤◌, ⊎_elim, true, List, [], ◌∷◌, ◌++◌, length, Option, Some, None, refl, sym, ◌∙◌, ap, subst, arith, append-nil, All, IfSome, slice_get, slice_index_or, is_none, AllByRecursion, cases_lt, cases_eq, none-some, slice_get_past, slice_get-get_or, Content, Event, Link, EndsBelow, EachEnd, Edit, AreDisjoint, next_of, previous_of, chain_of, fits, begins, IsReady, LeadOnFrom, AreSpaced, divided, chain_edits, IsForward}
+use Rattle.std.specs.Prelude.{option_and_then}
 use Rattle.markdown_children.proofs.ChainOrder.Following.{both-first, inside, apart, fits_next, whole-from}
 use Rattle.markdown_children.proofs.Parts.Edits.{all_edits-spaced}
 

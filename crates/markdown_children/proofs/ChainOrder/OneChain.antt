@@ -1,14 +1,5 @@
 -- Each chunk that fits belongs to one chain.
-use Rattle.std.proofs.Common.{◌≡◌, ℕ, zero, suc, ◌<◌, ◌⊎◌, inl, inr, true, false, List, [], ◌∷◌, length, get_or, Option, Some, None, refl, sym, ◌∙◌, ap, subst, arith}
-use Rattle.std.specs.Prelude.{◌&&◌, is_none, Contains}
-use Rattle.std.proofs.lemmas.Option.{none-some}
-use Rattle.markdown_base.specs.declared.event.Content.{Content}
-use Rattle.markdown_base.specs.declared.event.Event.{Event}
-use Rattle.markdown_base.proofs.Common.{and-false-never}
-use Rattle.markdown_edits.specs.Links.{next_of, previous_of}
-use Rattle.markdown_children.specs.Chains.{chain_of, fits, begins}
-use Rattle.markdown_children.specs.Ready.{IsReady}
-use Rattle.markdown_children.specs.Laws.{LeadOnFrom, IsInChain, IsInOneChain}
+use Rattle.markdown_children.proofs.Prelude.{◌≡◌, ℕ, zero, suc, ◌<◌, ◌⊎◌, inl, inr, true, false, List, [], ◌∷◌, length, get_or, Option, Some, None, refl, sym, ◌∙◌, ap, subst, arith, ◌&&◌, is_none, Contains, none-some, Content, Event, and-false-never, next_of, previous_of, chain_of, fits, begins, IsReady, LeadOnFrom, IsInChain, IsInOneChain}
 use Rattle.markdown_children.proofs.ChainOrder.Following.{both-first, fits_back, whole-from}
 
 -- an index is among others

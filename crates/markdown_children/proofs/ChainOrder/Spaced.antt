@@ -1,18 +1,5 @@
 -- What children change is apart.
-use Rattle.std.proofs.Common.{◌≡◌, ℕ, suc, ◌+◌, ◌≤◌, List, [], ◌∷◌, ◌++◌, length, map, drop, Option, None, refl, sym, ◌∙◌, ap, subst, arith}
-use Rattle.std.specs.Prelude.{flat_map}
-use Rattle.std.specs.List.{AllByRecursion}
-use Rattle.std.proofs.lemmas.List.Elements.{All-from_recursion}
-use Rattle.markdown_base.specs.declared.event.Content.{Content}
-use Rattle.markdown_base.specs.declared.event.Event.{Event}
-use Rattle.markdown_base.specs.declared.event.Point.{Point}
-use Rattle.markdown_edits.specs.Woven.{of_list, Change, place_in}
-use Rattle.markdown_edits.proofs.Edits.Passes.{AreApart}
-use Rattle.markdown_children.specs.Chains.{chain_of, fitting_starts}
-use Rattle.markdown_children.specs.Ready.{IsReady, place_at}
-use Rattle.markdown_children.specs.Laws.{AreSpaced, ChangesAreApart}
-use Rattle.markdown_children.specs.Parts.{front_until, parts, Divided, divided, divided_over}
-use Rattle.markdown_children.specs.Children.{tagged_child, part_changes, first_chunk, chain_changes, child_changes}
+use Rattle.markdown_children.proofs.Prelude.{◌≡◌, ℕ, suc, ◌+◌, ◌≤◌, List, [], ◌∷◌, ◌++◌, length, map, drop, Option, None, refl, sym, ◌∙◌, ap, subst, arith, flat_map, AllByRecursion, All-from_recursion, Content, Event, Point, of_list, Change, place_in, AreApart, chain_of, fitting_starts, IsReady, place_at, AreSpaced, ChangesAreApart, front_until, parts, Divided, divided, divided_over, tagged_child, part_changes, first_chunk, chain_changes, child_changes}
 use Rattle.markdown_children.proofs.ChainOrder.Following.{follow_one_another}
 
 -- ---- one part a chunk

@@ -1,15 +1,5 @@
 -- One turn along a chain.
-use Rattle.std.proofs.Common.{◌≡◌, ℕ, zero, suc, ◌+◌, ◌<◌, ◌≤◌, List, [], ◌∷◌, ◌++◌, length, drop, Some, None, refl, sym, ◌∙◌, ap, arith, length-drop, length-take}
-use Rattle.std.specs.List.{AllByRecursion}
-use Rattle.std.proofs.lemmas.List.{drop-drop}
-use Rattle.markdown_base.specs.declared.event.Event.{Event}
-use Rattle.markdown_base.specs.declared.event.Point.{Point}
-use Rattle.markdown_edits.specs.Links.{next_of}
-use Rattle.markdown_children.specs.Chains.{chain_from}
-use Rattle.markdown_children.specs.Ready.{place_at}
-use Rattle.markdown_children.specs.Parts.{front_until, IsForward}
-use Rattle.markdown_children.specs.Tables.{rest_table}
-use Rattle.markdown_children.specs.declared.division.Chunk.{Chunk}
+use Rattle.markdown_children.proofs.Prelude.{◌≡◌, ℕ, zero, suc, ◌+◌, ◌<◌, ◌≤◌, List, [], ◌∷◌, ◌++◌, length, drop, Some, None, refl, sym, ◌∙◌, ap, arith, length-drop, length-take, AllByRecursion, drop-drop, Event, Point, next_of, chain_from, place_at, front_until, IsForward, rest_table, Chunk}
 
 -- the last chunk: what is left is its part
 last_table : (events es : List Event) (f i j : ℕ) → next_of events i ≡ None → j ≤ length es

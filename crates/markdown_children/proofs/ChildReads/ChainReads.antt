@@ -1,22 +1,5 @@
 -- The reading of a chain: its pieces are read one after another, by pushes and gaps.
-use Rattle.std.proofs.Common.{◌≡◌, ℕ, ◌<◌, ◌≤◌, ◌⊎◌, inl, inr, arith, List, [], ◌∷◌, Some, Bool, true, false, refl, sym, ap, ◌∙◌, subst}
-use Rattle.std.specs.Prelude.{Contains, ◌↔◌}
-use Rattle.markdown_base.specs.declared.event.Point.{Point}
-use Rattle.markdown_base.specs.declared.message.Message.{Message}
-use Rattle.markdown_base.specs.declared.state.Name.{Name}
-use Rattle.markdown_base.specs.declared.state.State.{State}
-use Rattle.markdown_base.specs.declared.state.State.TheVariants.{Next, Ok, Error}
-use Rattle.markdown_base.specs.Places.{point_at}
-use Rattle.markdown_tokenizer.specs.declared.subtokenize.Subresult.{Subresult}
-use Rattle.markdown_tokenizer.specs.Text.{Given, Text, Piece, pushed, passed, empty_text, followed_by, followed_by_all, FitsAfter, CanFollow, IsText}
-use Rattle.markdown_tokenizer.specs.Configuration.{TokenizerValue, start_seen, start_configuration}
-use Rattle.markdown_tokenizer.specs.Rules.{Rules}
-use Rattle.markdown_tokenizer.specs.Lawful.{KeepsInvariant}
-use Rattle.markdown_tokenizer.specs.Engine.{LeadsOn, KeepsOutcome, CanPush, IsPushed, IsFlushed, IsRefused, budget}
-use Rattle.markdown_tokenizer.specs.Reading.{Reading, EndsIn}
-use Rattle.markdown_tokenizer.specs.Resolving.{IsResolved, IsResolvingRefused}
-use Rattle.markdown_tokenizer.proofs.Positions.Points.{point_at-point}
-use Rattle.markdown_tokenizer.proofs.Runs.Working.{leads-trans, leads-refl, holds-on}
+use Rattle.markdown_children.proofs.Prelude.{◌≡◌, ℕ, ◌<◌, ◌≤◌, ◌⊎◌, inl, inr, arith, List, [], ◌∷◌, Some, Bool, true, false, refl, sym, ap, ◌∙◌, subst, Contains, ◌↔◌, Point, Message, Name, State, Next, Ok, Error, point_at, Subresult, Given, Text, Piece, pushed, passed, empty_text, followed_by, followed_by_all, FitsAfter, CanFollow, IsText, TokenizerValue, start_seen, start_configuration, Rules, KeepsInvariant, LeadsOn, KeepsOutcome, CanPush, IsPushed, IsFlushed, IsRefused, budget, Reading, EndsIn, IsResolved, IsResolvingRefused, point_at-point, leads-trans, leads-refl, holds-on}
 
 -- a tokenizer that has read nothing, with the flag of the first paragraph of a list item
 abbrev pub flagged : {M R D : Type 0} → Given → M → Point → Bool → TokenizerValue M R D

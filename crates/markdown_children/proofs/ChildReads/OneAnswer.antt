@@ -1,21 +1,5 @@
 -- A list has one list of children: each chain has one reading, and resolvers make one result of it.
-use Rattle.std.proofs.Common.{◌≡◌, ◌⊎◌, inl, inr, ⊎_elim, ℕ, List, [], ◌∷◌, ◌++◌, Option, Some, None, Bool, true, false, refl, sym, ap, ◌∙◌, subst}
-use Rattle.std.specs.Prelude.{◌↔◌, flat_map}
-use Rattle.markdown_base.specs.declared.event.Content.{Content}
-use Rattle.markdown_base.specs.declared.event.Event.{Event}
-use Rattle.markdown_base.specs.declared.message.Message.{Message}
-use Rattle.markdown_base.specs.declared.state.Name.{Name}
-use Rattle.markdown_base.specs.declared.state.State.TheVariants.{Next, Ok, Error}
-use Rattle.markdown_tokenizer.specs.declared.subtokenize.Subresult.{Subresult}
-use Rattle.markdown_tokenizer.specs.Text.{Given, Text}
-use Rattle.markdown_tokenizer.specs.Configuration.{Configuration, start_configuration}
-use Rattle.markdown_tokenizer.specs.Rules.{Rules}
-use Rattle.markdown_tokenizer.specs.Reading.{Reading, EndsIn}
-use Rattle.markdown_tokenizer.specs.Resolving.{Resolved, done, refused, resolving, IsResolvingRefused}
-use Rattle.markdown_tokenizer.proofs.Readings.Bounds.{one-end}
-use Rattle.markdown_children.specs.Chains.{chain_of, fitting_starts}
-use Rattle.markdown_children.specs.Children.{with_children}
-use Rattle.markdown_children.specs.Reads.{IsAtFirstParagraph, text_of_chain, Child, lists, IsRead, IsChild, IsChildRefused, AreChildren, HasOneAnswer}
+use Rattle.markdown_children.proofs.Prelude.{◌≡◌, ◌⊎◌, inl, inr, ⊎_elim, ℕ, List, [], ◌∷◌, ◌++◌, Option, Some, None, Bool, true, false, refl, sym, ap, ◌∙◌, subst, ◌↔◌, flat_map, Content, Event, Message, Name, Next, Ok, Error, Subresult, Given, Text, Configuration, start_configuration, Rules, Reading, EndsIn, Resolved, done, refused, resolving, IsResolvingRefused, one-end, chain_of, fitting_starts, with_children, IsAtFirstParagraph, text_of_chain, Child, lists, IsRead, IsChild, IsChildRefused, AreChildren, HasOneAnswer}
 
 same-flag : (a b : Bool) (P : Type 0) → (a ≡ true) ↔ P → (b ≡ true) ↔ P → a ≡ b
 same-flag true true P f h = refl

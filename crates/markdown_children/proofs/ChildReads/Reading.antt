@@ -1,31 +1,6 @@
 -- The reading of a chain of a ready list: from its first chunk on, along its links.
-use Rattle.std.proofs.Common.{◌≡◌, ◌≢◌, ◌+◌, ◌<◌, ℕ, length, List, [], ◌∷◌, Option, Some, None, Bool, true, false, refl, sym, ap, ◌∙◌, subst}
-use Rattle.std.specs.Prelude.{Contains, ◌↔◌}
-use Rattle.std.proofs.lemmas.Option.{none-some}
-use Rattle.markdown_base.specs.declared.configuration.ParseOptions.{ParseOptions}
-use Rattle.markdown_base.specs.declared.event.Content.{Content}
-use Rattle.markdown_base.specs.declared.event.Event.{Event}
-use Rattle.markdown_base.specs.declared.event.Point.{Point}
-use Rattle.markdown_base.specs.declared.message.Message.{Message}
-use Rattle.markdown_base.specs.declared.state.Name.{Name}
-use Rattle.markdown_base.specs.declared.state.State.{State}
-use Rattle.markdown_base.specs.declared.state.State.TheVariants.{Next}
-use Rattle.markdown_base.specs.Places.{IsPointOf}
-use Rattle.markdown_tokenizer.specs.declared.subtokenize.Subresult.{Subresult}
-use Rattle.markdown_tokenizer.specs.declared.tokenizer.fault.Fault.{Fault}
-use Rattle.markdown_tokenizer.specs.declared.tokenizer.fault.Fault.TheVariants.{Memory, Failed}
+use Rattle.markdown_children.proofs.Prelude.{◌≡◌, ◌≢◌, ◌+◌, ◌<◌, ℕ, length, List, [], ◌∷◌, Option, Some, None, Bool, true, false, refl, sym, ap, ◌∙◌, subst, Contains, ◌↔◌, none-some, ParseOptions, Content, Event, Point, Message, Name, State, Next, IsPointOf, Subresult, Fault, Memory, Failed, next_of, Given, pushed, passed, empty_text, followed_by, followed_by_all, FitsAfter, CanFollow, IsDocument, IsText, TokenizerValue, Rules, KeepsInvariant, given_by, CanPush, IsWellFormed, IsPushed, IsFlushed, IsRefused, IsInShape, chain_of, fits, begins, IsReady, place_at, LeadOnFrom, IsAtFirstParagraph, start_at, pieces_behind, pieces_of, text_of_chain, IsChild, IsChildRefused, IsChildFault}
 use Rattle.markdown_tokenizer.specs.declared.tokenizer.fault.Fault.TheVariants as fault
-use Rattle.markdown_edits.specs.Links.{next_of}
-use Rattle.markdown_tokenizer.specs.Text.{Given, pushed, passed, empty_text, followed_by, followed_by_all, FitsAfter, CanFollow, IsDocument, IsText}
-use Rattle.markdown_tokenizer.specs.Configuration.{TokenizerValue}
-use Rattle.markdown_tokenizer.specs.Rules.{Rules}
-use Rattle.markdown_tokenizer.specs.Lawful.{KeepsInvariant}
-use Rattle.markdown_tokenizer.specs.Engine.{given_by, CanPush, IsWellFormed, IsPushed, IsFlushed, IsRefused}
-use Rattle.markdown_tokenizer.specs.Resolving.{IsInShape}
-use Rattle.markdown_children.specs.Chains.{chain_of, fits, begins}
-use Rattle.markdown_children.specs.Ready.{IsReady, place_at}
-use Rattle.markdown_children.specs.Laws.{LeadOnFrom}
-use Rattle.markdown_children.specs.Reads.{IsAtFirstParagraph, start_at, pieces_behind, pieces_of, text_of_chain, IsChild, IsChildRefused, IsChildFault}
 use Rattle.markdown_children.proofs.ChainOrder.Following.{fits_next, whole-from, inside}
 use Rattle.markdown_children.proofs.ChildReads.Pieces.{chunks_can_be_read}
 use Rattle.markdown_children.proofs.ChainOrder.Forward.{begins-fits}

@@ -1,32 +1,6 @@
 -- The loop of `subtokenize`: what is known before the event at an index is looked at.
-use Rattle.std.proofs.Common.{◌≡◌, ℕ, zero, suc, ◌+◌, ◌-◌, ◌*◌, ◌<◌, ◌↔◌, true, false, List, [], ◌∷◌, ◌++◌, length, Option, Some, refl, sym, ◌∙◌, ap, subst, arith, append_assoc, append-nil}
-use Rattle.std.specs.Prelude.{flat_map, filter}
-use Rattle.std.specs.List.{AllByRecursion, AllZip, range_with_len}
-use Rattle.std.proofs.lemmas.List.{map-append, length-map}
-use Rattle.std.proofs.lemmas.List.Elements.{filter-append}
-use Rattle.std.proofs.lemmas.Grind.{flat_map-append}
-use Rattle.markdown_base.specs.declared.event.Content.{Content}
-use Rattle.markdown_base.specs.declared.event.Event.{Event}
-use Rattle.markdown_base.specs.declared.message.Message.{Message}
-use Rattle.markdown_base.specs.Events.{IsBalanced, IsVoidTight, relinked}
-use Rattle.markdown_edits.specs.Edits.{Edit, AreDisjoint, removed_by, added_by}
-use Rattle.markdown_edits.specs.Edited.{edited}
-use Rattle.markdown_edits.proofs.Edits.Turns.{AreDisjoint-le}
-use Rattle.markdown_tokenizer.specs.declared.subtokenize.Subresult.{Subresult}
-use Rattle.markdown_tokenizer.specs.declared.tokenizer.fault.Fault.{Fault}
-use Rattle.markdown_tokenizer.specs.declared.tokenizer.fault.Fault.TheVariants.{Memory, Failed}
+use Rattle.markdown_children.proofs.Prelude.{◌≡◌, ℕ, zero, suc, ◌+◌, ◌-◌, ◌*◌, ◌<◌, ◌↔◌, true, false, List, [], ◌∷◌, ◌++◌, length, Option, Some, refl, sym, ◌∙◌, ap, subst, arith, append_assoc, append-nil, flat_map, filter, AllByRecursion, AllZip, range_with_len, map-append, length-map, filter-append, flat_map-append, Content, Event, Message, IsBalanced, IsVoidTight, relinked, Edit, AreDisjoint, removed_by, added_by, edited, AreDisjoint-le, Subresult, Fault, Memory, Failed, Given, Rules, IsInShape, with_more, AreMutual, chain_of, begins, fitting_starts, IsReady, AreSpaced, HasEndsWithin, Divided, divided, divided_over, child_place, part_edits, chain_edits, all_edits, total, StandBefore, with_children, Child, lists, IsChild, AreChildren, IsChildRefused, IsChildFault, IsSubtokenized, IsSubtokenizeRefused, IsSubtokenizeFault, SoFar, starts_below}
 use Rattle.markdown_tokenizer.specs.declared.tokenizer.fault.Fault.TheVariants as fault
-use Rattle.markdown_tokenizer.specs.Text.{Given}
-use Rattle.markdown_tokenizer.specs.Rules.{Rules}
-use Rattle.markdown_tokenizer.specs.Resolving.{IsInShape, with_more}
-use Rattle.markdown_edits.specs.Links.{AreMutual}
-use Rattle.markdown_children.specs.Chains.{chain_of, begins, fitting_starts}
-use Rattle.markdown_children.specs.Ready.{IsReady}
-use Rattle.markdown_children.specs.Laws.{AreSpaced, HasEndsWithin}
-use Rattle.markdown_children.specs.Parts.{Divided, divided, divided_over, child_place, part_edits, chain_edits, all_edits, total, StandBefore}
-use Rattle.markdown_children.specs.Children.{with_children}
-use Rattle.markdown_children.specs.Reads.{Child, lists, IsChild, AreChildren, IsChildRefused, IsChildFault, IsSubtokenized, IsSubtokenizeRefused, IsSubtokenizeFault}
-use Rattle.markdown_children.specs.SoFar.{SoFar, starts_below}
 use Rattle.markdown_children.proofs.ChainOrder.Following.{filter-yes, filter-no, whole-from, follow_one_another}
 use Rattle.markdown_children.proofs.ChainOrder.Forward.{begins-fits, within}
 use Rattle.markdown_children.proofs.ChainOrder.Spaced.{HasParts, divided-parts, divided_over-parts}

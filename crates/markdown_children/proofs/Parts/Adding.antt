@@ -1,14 +1,5 @@
 -- Edits added in order.
-use Rattle.std.proofs.Common.{◌≡◌, ℕ, zero, suc, ◌+◌, ◌<◌, List, [], ◌∷◌, ◌++◌, length, map, take, get_or, Option, refl, sym, ◌∙◌, ap, arith, add-one}
-use Rattle.std.specs.List.{AllByRecursion}
-use Rattle.std.proofs.Math.Seq.{take-suc}
-use Rattle.std.proofs.lemmas.Bool.{ne_eqb}
-use Rattle.std.proofs.lemmas.List.{map-append}
-use Rattle.markdown_base.specs.declared.event.Event.{Event}
-use Rattle.markdown_edits.specs.Edits.{Edit, put_after, removal_at}
-use Rattle.markdown_edits.proofs.Edits.Puts.{put-last}
-use Rattle.markdown_children.specs.Tables.{AreRising, chunk_edit}
-use Rattle.markdown_children.specs.declared.division.Chunk.{Chunk}
+use Rattle.markdown_children.proofs.Prelude.{◌≡◌, ℕ, zero, suc, ◌+◌, ◌<◌, List, [], ◌∷◌, ◌++◌, length, map, take, get_or, Option, refl, sym, ◌∙◌, ap, arith, add-one, AllByRecursion, take-suc, ne_eqb, map-append, Event, Edit, put_after, removal_at, put-last, AreRising, chunk_edit, Chunk}
 
 removal-none : (es : List Edit) (i : ℕ) → AllByRecursion (λ (e : Edit). e.index < i) es → removal_at es i ≡ 0
 removal-none [] i h = refl

@@ -1,12 +1,5 @@
 -- The parts of a child, event by event.
-use Rattle.std.proofs.Common.{◌≡◌, ℕ, suc, ◌+◌, Bool, true, false, cond, not, List, [], ◌∷◌, ◌++◌, length, drop, refl, sym, ◌∙◌, ap, arith}
-use Rattle.std.specs.Prelude.{flat_map}
-use Rattle.std.proofs.lemmas.List.Sums.{take_while-cons}
-use Rattle.markdown_base.specs.declared.event.Event.{Event}
-use Rattle.markdown_base.specs.declared.event.Point.{Point}
-use Rattle.markdown_base.specs.Places.{stands_before}
-use Rattle.markdown_children.specs.Parts.{front_until, parts}
-use Rattle.markdown_children.specs.Laws.{passed_over, chunk_numbers, part_numbers, AreByChunk}
+use Rattle.markdown_children.proofs.Prelude.{◌≡◌, ℕ, suc, ◌+◌, Bool, true, false, cond, not, List, [], ◌∷◌, ◌++◌, length, drop, refl, sym, ◌∙◌, ap, arith, flat_map, take_while-cons, Event, Point, stands_before, front_until, parts, passed_over, chunk_numbers, part_numbers, AreByChunk}
 use Rattle.markdown_children.proofs.Parts.Kept.{joined, joined-parts}
 
 flat-joined : (ps : List (List Event)) → flat_map (λ (p : List Event). p) ps ≡ joined ps

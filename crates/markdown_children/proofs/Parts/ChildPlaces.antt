@@ -1,14 +1,5 @@
 -- The places of children's events after disjoint changes.
-use Rattle.std.proofs.Common.{◌≡◌, ℕ, suc, ◌+◌, ◌-◌, ◌<◌, ◌≤◌, true, false, cond, eqb, ltb, List, [], ◌∷◌, ◌++◌, length, take, drop, Option, Some, None, refl, sym, ◌∙◌, ap, subst, ⊎_elim, arith, length-drop}
-use Rattle.std.specs.Option.{option_map}
-use Rattle.std.proofs.lemmas.Bool.{ne_eqb, eq-eqb, lt-ltb, le-ltb, cases_lt, cases_eq}
-use Rattle.std.proofs.lemmas.List.{length-take-le}
-use Rattle.markdown_base.specs.declared.event.Event.{Event}
-use Rattle.markdown_edits.specs.Woven.{Identity, of_child, Tagged, place_in, Change}
-use Rattle.markdown_edits.proofs.Edits.Passes.{olds, pass, AreApart, AreApart-le}
-use Rattle.markdown_edits.proofs.Edits.FinalPlaces.{or_after, place_in-append, length-olds, HasNo}
-use Rattle.markdown_children.specs.Parts.{child_place, total}
-use Rattle.markdown_children.specs.Children.{tagged_child, part_changes}
+use Rattle.markdown_children.proofs.Prelude.{◌≡◌, ℕ, suc, ◌+◌, ◌-◌, ◌<◌, ◌≤◌, true, false, cond, eqb, ltb, List, [], ◌∷◌, ◌++◌, length, take, drop, Option, Some, None, refl, sym, ◌∙◌, ap, subst, ⊎_elim, arith, length-drop, option_map, ne_eqb, eq-eqb, lt-ltb, le-ltb, cases_lt, cases_eq, length-take-le, Event, Identity, of_child, Tagged, place_in, Change, olds, pass, AreApart, AreApart-le, or_after, place_in-append, length-olds, HasNo, child_place, total, tagged_child, part_changes}
 
 -- no old event is one of a child
 pub place_in-child_olds : (c n i : ℕ) (xs : List Event) → place_in (of_child c n) (olds i xs) ≡ None

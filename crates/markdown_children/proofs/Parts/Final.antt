@@ -1,22 +1,6 @@
 -- After all edits, each child event is at the place to which links to it lead.
-use Rattle.std.proofs.Common.{◌≡◌, ℕ, ◌+◌, ◌-◌, ◌<◌, ◌≤◌, true, false, cond, List, [], ◌∷◌, ◌++◌, length, map, take, drop, Option, Some, None, option_map, refl, sym, ◌∙◌, ap, subst, arith, nat_lt, length-drop}
-use Rattle.std.specs.Prelude.{slice_get}
-use Rattle.std.proofs.lemmas.Option.{slice_get-map}
-use Rattle.std.proofs.lemmas.Bool.{ltb-true, ltb-false}
-use Rattle.std.proofs.lemmas.List.{length-map, length-take-le}
-use Rattle.markdown_base.specs.declared.event.Event.{Event}
-use Rattle.markdown_base.specs.Events.{relinked}
-use Rattle.markdown_base.proofs.Common.{get-front}
-use Rattle.markdown_edits.specs.Edits.{Edit, removed_by, added_by}
-use Rattle.markdown_edits.specs.Edited.{as_addition, as_change}
-use Rattle.markdown_edits.specs.Woven.{Tagged, Change, woven, placed_end}
-use Rattle.markdown_edits.proofs.Edits.Passes.{AreApart, AreApart-le, olds, pass, woven-pass}
-use Rattle.markdown_edits.proofs.Edits.FinalPlaces.{length-olds}
-use Rattle.markdown_edits.proofs.Edits.Splices.{AreApart-edits, relinked-same}
-use Rattle.markdown_edits.proofs.Edits.Survivors.{slice_get-behind}
-use Rattle.markdown_children.specs.Laws.{IsPlacedWell}
-use Rattle.markdown_children.specs.Parts.{parts, child_place, part_edits, divided}
-use Rattle.markdown_children.specs.Ready.{place_at}
+use Rattle.markdown_children.proofs.Prelude.{◌≡◌, ℕ, ◌+◌, ◌-◌, ◌<◌, ◌≤◌, true, false, cond, List, [], ◌∷◌, ◌++◌, length, map, take, drop, Option, Some, None, refl, sym, ◌∙◌, ap, subst, arith, nat_lt, length-drop, slice_get, slice_get-map, ltb-true, ltb-false, length-map, length-take-le, Event, relinked, get-front, Edit, removed_by, added_by, as_addition, as_change, Tagged, Change, woven, placed_end, AreApart, AreApart-le, olds, pass, woven-pass, length-olds, AreApart-edits, relinked-same, slice_get-behind, IsPlacedWell, parts, child_place, part_edits, divided, place_at}
+use Rattle.std.proofs.Common.{option_map}
 use Rattle.markdown_children.proofs.Parts.Kept.{joined, joined-parts}
 
 -- behind what stays up to a change, and what comes there

@@ -1,10 +1,5 @@
 -- The ends of chunks rise, so the chunk of a child event can be found by binary search.
-use Rattle.std.proofs.Common.{◌≡◌, ℕ, zero, suc, ◌+◌, ◌-◌, ◌*◌, ◌<◌, ◌≤◌, true, false, ltb, leb, List, [], ◌∷◌, length, get_or, Some, None, refl, ◌∙◌, ap, arith}
-use Rattle.std.specs.List.Sorted.{IsNonDecreasingBy, IsPartitionPoint}
-use Rattle.std.proofs.lemmas.Bool.{lt-ltb, le-ltb, leb-true, leb-false}
-use Rattle.markdown_base.specs.declared.event.Event.{Event}
-use Rattle.markdown_children.specs.Tables.{table, table_place, AreAbove}
-use Rattle.markdown_children.specs.declared.division.Chunk.{Chunk}
+use Rattle.markdown_children.proofs.Prelude.{◌≡◌, ℕ, zero, suc, ◌+◌, ◌-◌, ◌*◌, ◌<◌, ◌≤◌, true, false, ltb, leb, List, [], ◌∷◌, length, get_or, Some, None, refl, ◌∙◌, ap, arith, IsNonDecreasingBy, IsPartitionPoint, lt-ltb, le-ltb, leb-true, leb-false, Event, table, table_place, AreAbove, Chunk}
 
 -- the chunks that end at or before event n come before the others
 abbrev pub IsParted : List Chunk → ℕ → ℕ → Type 0

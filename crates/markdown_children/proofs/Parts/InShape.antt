@@ -1,26 +1,5 @@
 -- The list with children is in shape: link ends are indices into it, and its links are mutual if the children's are.
-use Rattle.std.proofs.Common.{◌≡◌, ℕ, ◌+◌, ◌<◌, Bool, cond, eqb, List, [], ◌∷◌, ◌++◌, length, map, Option, Some, None, refl, sym, ◌∙◌, ap, subst, arith, true, false}
-use Rattle.std.specs.Prelude.{flat_map, slice_get, All, IfSome}
-use Rattle.std.specs.List.{AllByRecursion}
-use Rattle.std.specs.Option.{option_map, option_and_then}
-use Rattle.std.proofs.lemmas.Bool.{eq-eqb, ne_eqb}
-use Rattle.std.proofs.lemmas.List.{length-map}
-use Rattle.std.proofs.lemmas.List.Elements.{All-from_recursion, recursion_from_All}
-use Rattle.std.proofs.lemmas.Option.{none-some}
-use Rattle.markdown_base.specs.declared.event.Content.{Content}
-use Rattle.markdown_base.specs.declared.event.Event.{Event}
-use Rattle.markdown_base.specs.declared.event.Link.{Link}
-use Rattle.markdown_base.specs.declared.event.Point.{Point}
-use Rattle.markdown_base.specs.Events.{relinked, with_ends, EachEnd, EndsBelow}
-use Rattle.markdown_edits.specs.Links.{AreMutual}
-use Rattle.markdown_edits.specs.Woven.{of_list, Tagged, Change, place_in, placed_end, placed_in, placed, woven}
-use Rattle.markdown_edits.proofs.Edits.Passes.{AreApart, woven-pass}
-use Rattle.markdown_edits.proofs.Edits.Survivors.{stays_unless_removed, keeps_links}
-use Rattle.markdown_children.specs.Chains.{chain_of, begins, fitting_starts}
-use Rattle.markdown_children.specs.Ready.{IsReady, place_at}
-use Rattle.markdown_children.specs.Laws.{IsWholeFrom, HasEndsWithin, ChildrenFit}
-use Rattle.markdown_children.specs.Parts.{parts, divided_over}
-use Rattle.markdown_children.specs.Children.{part_changes, first_chunk, chain_changes, child_changes, with_children}
+use Rattle.markdown_children.proofs.Prelude.{◌≡◌, ℕ, ◌+◌, ◌<◌, Bool, cond, eqb, List, [], ◌∷◌, ◌++◌, length, map, Option, Some, None, refl, sym, ◌∙◌, ap, subst, arith, true, false, flat_map, slice_get, All, IfSome, AllByRecursion, option_map, option_and_then, eq-eqb, ne_eqb, length-map, All-from_recursion, recursion_from_All, none-some, Content, Event, Link, Point, relinked, with_ends, EachEnd, EndsBelow, AreMutual, of_list, Tagged, Change, place_in, placed_end, placed_in, placed, woven, AreApart, woven-pass, stays_unless_removed, keeps_links, chain_of, begins, fitting_starts, IsReady, place_at, IsWholeFrom, HasEndsWithin, ChildrenFit, parts, divided_over, part_changes, first_chunk, chain_changes, child_changes, with_children}
 use Rattle.markdown_children.proofs.ChainOrder.Following.{follow_one_another}
 use Rattle.markdown_children.proofs.ChainOrder.Spaced.{changes_are_apart}
 use Rattle.markdown_children.proofs.Parts.Kept.{joined-parts, with_children_balanced}

@@ -2,25 +2,8 @@
 --
 -- Between two chunks of a chain is a balanced list, which leaves each stack of open names as it is. So the parts of a child act on the
 -- stack one directly after another, as the child itself would, and that is balanced.
-use Rattle.std.proofs.Common.{◌≡◌, ℕ, zero, suc, true, ◌+◌, ◌-◌, ◌≤◌, List, [], ◌∷◌, ◌++◌, length, map, drop, take, Option, Some, None, refl, sym, ◌∙◌, ap, subst, arith, append-nil, take-append-drop}
-use Rattle.std.specs.Prelude.{flat_map, slice_get}
-use Rattle.std.specs.List.{AllByRecursion, between, range_with_len}
-use Rattle.std.proofs.lemmas.List.{map-append, drop-drop}
-use Rattle.markdown_base.specs.declared.event.Content.{Content}
-use Rattle.markdown_base.specs.declared.event.Event.{Event}
+use Rattle.markdown_children.proofs.Prelude.{◌≡◌, ℕ, zero, suc, true, ◌+◌, ◌-◌, ◌≤◌, List, [], ◌∷◌, ◌++◌, length, map, drop, take, Option, Some, None, refl, sym, ◌∙◌, ap, subst, arith, append-nil, take-append-drop, flat_map, slice_get, AllByRecursion, between, range_with_len, map-append, drop-drop, Content, Event, Point, IsBalanced, drop-at, names_after, names_after_all, Tagged, Change, woven, placed_in, AreApart, olds, pass, woven-pass, names_after_all-append, names_after_balanced, balanced_from_open, IsBalanced-pair, names-none, chain_of, fits, fitting_starts, IsReady, place_at, LeadOnFrom, IsWholeFrom, AreSpaced, front_until, parts, divided_over, tagged_child, part_changes, chain_changes, child_changes, with_children}
 use Rattle.markdown_base.specs.declared.event.Name.{Name}
-use Rattle.markdown_base.specs.declared.event.Point.{Point}
-use Rattle.markdown_base.specs.Events.{IsBalanced}
-use Rattle.markdown_base.proofs.Common.{drop-at}
-use Rattle.markdown_edits.specs.OpenNames.{names_after, names_after_all}
-use Rattle.markdown_edits.specs.Woven.{Tagged, Change, woven, placed_in}
-use Rattle.markdown_edits.proofs.Edits.Passes.{AreApart, olds, pass, woven-pass}
-use Rattle.markdown_edits.proofs.Balanced.{names_after_all-append, names_after_balanced, balanced_from_open, IsBalanced-pair, names-none}
-use Rattle.markdown_children.specs.Chains.{chain_of, fits, fitting_starts}
-use Rattle.markdown_children.specs.Ready.{IsReady, place_at}
-use Rattle.markdown_children.specs.Laws.{LeadOnFrom, IsWholeFrom, AreSpaced}
-use Rattle.markdown_children.specs.Parts.{front_until, parts, divided_over}
-use Rattle.markdown_children.specs.Children.{tagged_child, part_changes, chain_changes, child_changes, with_children}
 use Rattle.markdown_children.proofs.ChainOrder.Following.{chunk, starts_fit, follow_one_another}
 use Rattle.markdown_children.proofs.ChainOrder.Spaced.{length-parts, length-map_ends, changes_are_apart}
 

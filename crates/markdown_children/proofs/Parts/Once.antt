@@ -1,16 +1,6 @@
 -- Each event is in the list with children once.
-use Rattle.std.proofs.Common.{◌≡◌, ℕ, zero, suc, ◌+◌, ◌-◌, ◌<◌, ◌≤◌, Bool, true, false, eqb, List, [], ◌∷◌, ◌++◌, length, take, drop, Some, None, refl, sym, ◌∙◌, ap, subst, arith, length-drop}
-use Rattle.std.specs.Prelude.{◌&&◌, flat_map, slice_get}
-use Rattle.std.specs.List.{AllByRecursion}
-use Rattle.std.proofs.lemmas.Bool.{ne_eqb, eq-eqb, eqb-true}
-use Rattle.std.proofs.lemmas.List.{length-take-le}
-use Rattle.std.proofs.lemmas.Option.{none-some, same_Some}
-use Rattle.markdown_base.specs.declared.event.Event.{Event}
-use Rattle.markdown_edits.specs.Woven.{Identity, of_list, of_child, of_addition, Tagged, is_same, place_in, Change}
-use Rattle.markdown_edits.proofs.Edits.Passes.{olds, pass, AreApart, AreApart-le}
-use Rattle.markdown_edits.proofs.Edits.FinalPlaces.{HasNo, place_in-append, place_in-olds_below, place_in-pass_below}
-use Rattle.markdown_children.specs.Parts.{Divided}
-use Rattle.markdown_children.specs.Children.{tagged_child, part_changes, first_chunk, chain_changes}
+use Rattle.markdown_children.proofs.Prelude.{◌≡◌, ℕ, zero, suc, ◌+◌, ◌-◌, ◌<◌, ◌≤◌, Bool, true, false, eqb, List, [], ◌∷◌, ◌++◌, length, take, drop, Some, None, refl, sym, ◌∙◌, ap, subst, arith, length-drop, ◌&&◌, flat_map, slice_get, AllByRecursion, ne_eqb, eq-eqb, length-take-le, none-some, same_Some, Event, Identity, of_list, of_child, of_addition, Tagged, is_same, place_in, Change, olds, pass, AreApart, AreApart-le, HasNo, place_in-append, place_in-olds_below, place_in-pass_below, Divided, tagged_child, part_changes, first_chunk, chain_changes}
+use Rattle.std.proofs.lemmas.Bool.{eqb-true}
 use Rattle.markdown_children.proofs.Parts.ChildPlaces.{place_in-child_olds}
 use Rattle.markdown_children.proofs.Parts.Placed.{has_no-chain, has_no-append}
 

@@ -1,19 +1,5 @@
 -- Edits that bring each part with its link ends at their final places give the list with children.
-use Rattle.std.proofs.Common.{◌≡◌, ℕ, suc, ◌+◌, ◌-◌, ◌*◌, ◌<◌, cond, List, [], ◌∷◌, ◌++◌, map, length, take, drop, Option, Some, refl, sym, ◌∙◌, ap, subst, arith, append_assoc}
-use Rattle.std.specs.Prelude.{flat_map, All}
-use Rattle.std.specs.Option.{option_map}
-use Rattle.std.specs.List.{AllByRecursion}
-use Rattle.std.proofs.lemmas.List.{map-append}
-use Rattle.std.proofs.lemmas.List.Elements.{All-head, All-tail}
-use Rattle.markdown_base.specs.declared.event.Event.{Event}
-use Rattle.markdown_base.specs.Events.{relinked, EndsBelow}
-use Rattle.markdown_edits.specs.Edited.{as_addition, as_change, edited}
-use Rattle.markdown_edits.specs.Woven.{Identity, of_list, of_child, of_addition, Tagged, as_listed, place_in, is_same, Change, woven, placed, placed_in, placed_end, changed}
-use Rattle.markdown_edits.proofs.Edits.Passes.{AreApart, olds, pass, woven-pass}
-use Rattle.markdown_edits.proofs.Edits.FinalPlaces.{HasNo}
-use Rattle.markdown_edits.proofs.Edits.Splices.{relinked-same, relinked-agree, same_shift}
-use Rattle.markdown_children.specs.Parts.{Divided, child_place, part_edits, chain_edits, total, all_edits}
-use Rattle.markdown_children.specs.Children.{tagged_child, part_changes, first_chunk, chain_changes}
+use Rattle.markdown_children.proofs.Prelude.{◌≡◌, ℕ, suc, ◌+◌, ◌-◌, ◌*◌, ◌<◌, cond, List, [], ◌∷◌, ◌++◌, map, length, take, drop, Option, Some, refl, sym, ◌∙◌, ap, subst, arith, append_assoc, flat_map, All, option_map, AllByRecursion, map-append, All-head, All-tail, Event, relinked, EndsBelow, as_addition, as_change, edited, Identity, of_list, of_child, of_addition, Tagged, as_listed, place_in, is_same, Change, woven, placed, placed_in, placed_end, changed, AreApart, olds, pass, woven-pass, HasNo, relinked-same, relinked-agree, same_shift, Divided, child_place, part_edits, chain_edits, total, all_edits, tagged_child, part_changes, first_chunk, chain_changes}
 use Rattle.markdown_children.proofs.ChainOrder.Spaced.{HasParts}
 use Rattle.markdown_children.proofs.Parts.ChildPlaces.{change_place, change_place-pass, change_place-chain, change_place-behind, place_in-other_child, length-tagged_child, removed_by, added_by}
 

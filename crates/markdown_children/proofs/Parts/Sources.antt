@@ -1,18 +1,5 @@
 -- Each event of the list with children is an event of the list or of a child, and its link ends lead to the new places of their events.
-use Rattle.std.proofs.Common.{◌≡◌, ℕ, suc, ◌+◌, ◌<◌, Bool, true, false, cond, eqb, List, [], ◌∷◌, ◌++◌, length, Option, Some, None, refl, sym, ◌∙◌, ap, arith}
-use Rattle.std.specs.Prelude.{slice_get}
-use Rattle.std.specs.List.{AllByRecursion}
-use Rattle.std.specs.Option.{option_map, option_and_then}
-use Rattle.std.proofs.lemmas.Bool.{eq-eqb}
-use Rattle.std.proofs.lemmas.Option.{none-some, same_Some, slice_get-map, slice_get_within, option_and_then_some}
-use Rattle.markdown_base.specs.declared.event.Event.{Event}
-use Rattle.markdown_base.specs.declared.event.Link.{Link}
-use Rattle.markdown_base.specs.Events.{relinked}
-use Rattle.markdown_base.proofs.Common.{get-front, every-get}
-use Rattle.markdown_edits.specs.Links.{AreMutual}
-use Rattle.markdown_edits.specs.Woven.{Identity, of_list, of_child, of_addition, Tagged, as_listed, is_same, place_in, placed, placed_end, Change, events_at, is_removed, woven}
-use Rattle.markdown_edits.proofs.Edits.Survivors.{slice_get-behind, next_moved, previous_moved}
-use Rattle.markdown_children.specs.Children.{tagged_child, part_changes}
+use Rattle.markdown_children.proofs.Prelude.{◌≡◌, ℕ, suc, ◌+◌, ◌<◌, Bool, true, false, cond, eqb, List, [], ◌∷◌, ◌++◌, length, Option, Some, None, refl, sym, ◌∙◌, ap, arith, slice_get, AllByRecursion, option_map, option_and_then, eq-eqb, none-some, same_Some, slice_get-map, slice_get_within, option_and_then_some, Event, Link, relinked, get-front, every-get, AreMutual, Identity, of_list, of_child, of_addition, Tagged, as_listed, is_same, place_in, placed, placed_end, Change, events_at, is_removed, woven, slice_get-behind, next_moved, previous_moved, tagged_child, part_changes}
 use Rattle.markdown_children.proofs.Parts.Kept.{joined}
 use Rattle.markdown_children.proofs.Parts.Once.{AreOnce, is_same-true, once-place}
 

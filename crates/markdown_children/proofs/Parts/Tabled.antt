@@ -1,25 +1,6 @@
 -- The table of a chain's chunks gives the parts, and the final places of their events.
-use Rattle.std.proofs.Common.{◌≡◌, ℕ, zero, suc, ◌+◌, ◌-◌, ◌*◌, ◌^◌, ◌<◌, ◌≤◌, true, false, ltb, List, [], ◌∷◌, ◌++◌, map, length, take, drop, Option, Some, None, refl, sym, ◌∙◌, ap, ⊎_elim, arith}
-use Rattle.std.specs.Prelude.{All, IfSome}
-use Rattle.std.specs.Option.{option_map, unwrap_or}
-use Rattle.std.specs.List.{between, AllByRecursion}
-use Rattle.std.specs.List.Sorted.{IsNonDecreasingBy}
-use Rattle.std.proofs.lemmas.Bool.{cases_lt, lt-ltb, le-ltb}
-use Rattle.std.proofs.lemmas.List.{drop-drop}
-use Rattle.std.proofs.lemmas.List.Elements.{All-from_recursion}
-use Rattle.std.proofs.Math.Seq.{drop-append_seam}
-use Rattle.markdown_base.specs.declared.event.Event.{Event}
-use Rattle.markdown_base.specs.declared.event.Link.{Link}
-use Rattle.markdown_base.specs.declared.event.Point.{Point}
-use Rattle.markdown_base.specs.Events.{relinked, EachEnd}
-use Rattle.markdown_edits.specs.Edits.{Edit, AreDisjoint, AreBehind, removed_by}
-use Rattle.markdown_edits.specs.Links.{next_of}
-use Rattle.markdown_children.specs.Chains.{chain_from, chain_of}
-use Rattle.markdown_children.specs.Ready.{place_at}
-use Rattle.markdown_children.specs.Laws.{HasEndsWithin}
-use Rattle.markdown_children.specs.Parts.{parts, divided, child_place, part_edits, chain_edits, total, IsForward, StandBefore}
-use Rattle.markdown_children.specs.Tables.{table, rest_table, table_place, AreAbove, AreRising, chunk_edit}
-use Rattle.markdown_children.specs.declared.division.Chunk.{Chunk}
+use Rattle.markdown_children.proofs.Prelude.{◌≡◌, ℕ, zero, suc, ◌+◌, ◌-◌, ◌*◌, ◌^◌, ◌<◌, ◌≤◌, true, false, ltb, List, [], ◌∷◌, ◌++◌, map, length, take, drop, Option, Some, None, refl, sym, ◌∙◌, ap, ⊎_elim, arith, All, IfSome, option_map, between, AllByRecursion, IsNonDecreasingBy, cases_lt, lt-ltb, le-ltb, drop-drop, All-from_recursion, drop-append_seam, Event, Link, Point, relinked, EachEnd, Edit, AreDisjoint, AreBehind, removed_by, next_of, chain_from, chain_of, place_at, HasEndsWithin, parts, divided, child_place, part_edits, chain_edits, total, IsForward, StandBefore, table, rest_table, table_place, AreAbove, AreRising, chunk_edit, Chunk}
+use Rattle.std.specs.Option.{unwrap_or}
 use Rattle.markdown_children.proofs.ChainOrder.Spaced.{length-parts, length-map_ends}
 use Rattle.markdown_children.proofs.Parts.Halves.{table-ends}
 use Rattle.markdown_children.proofs.Parts.Kept.{joined, joined-parts}

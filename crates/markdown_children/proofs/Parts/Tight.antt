@@ -3,23 +3,7 @@
 -- An event of the list is followed by the same event as before, or by a part in place of a chunk, whose enter follows no void enter. An
 -- event of a child is followed by the next one of its part. The last one of a part is followed by the next one of its child, if nothing is
 -- between.
-use Rattle.std.proofs.Common.{◌≡◌, ℕ, zero, suc, ◌+◌, ◌-◌, ◌≤◌, true, List, [], ◌∷◌, ◌++◌, length, map, drop, take, Option, Some, refl, sym, ◌∙◌, ap, subst, arith}
-use Rattle.std.specs.Prelude.{flat_map, slice_get}
-use Rattle.std.specs.List.{AllByRecursion, between, range_with_len}
-use Rattle.std.proofs.lemmas.Option.{none-some, same_Some}
-use Rattle.markdown_base.specs.declared.event.Content.{Content}
-use Rattle.markdown_base.specs.declared.event.Event.{Event}
-use Rattle.markdown_base.specs.declared.event.Kind.TheVariants.{Enter, Exit}
-use Rattle.markdown_base.specs.declared.event.Point.{Point}
-use Rattle.markdown_base.specs.Events.{is_void, relinked, IsVoidTight}
-use Rattle.markdown_base.proofs.Common.{drop-at}
-use Rattle.markdown_edits.specs.Woven.{Tagged, Change, placed_end, placed_in, woven}
-use Rattle.markdown_edits.proofs.Edits.Passes.{AreApart, pass, woven-pass}
-use Rattle.markdown_children.specs.Chains.{chain_of, fits, fitting_starts}
-use Rattle.markdown_children.specs.Ready.{IsReady, place_at}
-use Rattle.markdown_children.specs.Laws.{LeadOnFrom, IsWholeFrom, AreSpaced, EndsInVoidEnter, StandSideBySide, IsTornNowhere, NoneTorn}
-use Rattle.markdown_children.specs.Parts.{Divided, parts, divided_over}
-use Rattle.markdown_children.specs.Children.{tagged_child, part_changes, first_chunk, chain_changes, child_changes, with_children}
+use Rattle.markdown_children.proofs.Prelude.{◌≡◌, ℕ, zero, suc, ◌+◌, ◌-◌, ◌≤◌, true, List, [], ◌∷◌, ◌++◌, length, map, drop, take, Option, Some, refl, sym, ◌∙◌, ap, subst, arith, flat_map, slice_get, AllByRecursion, between, range_with_len, none-some, same_Some, Content, Event, Enter, Exit, Point, is_void, relinked, IsVoidTight, drop-at, Tagged, Change, placed_end, placed_in, woven, AreApart, pass, woven-pass, chain_of, fits, fitting_starts, IsReady, place_at, LeadOnFrom, IsWholeFrom, AreSpaced, EndsInVoidEnter, StandSideBySide, IsTornNowhere, NoneTorn, Divided, parts, divided_over, tagged_child, part_changes, first_chunk, chain_changes, child_changes, with_children}
 use Rattle.markdown_children.proofs.ChainOrder.Following.{chunk, fits_next, starts_fit, follow_one_another}
 use Rattle.markdown_children.proofs.ChainOrder.Spaced.{length-parts, length-map_ends, changes_are_apart}
 use Rattle.markdown_children.proofs.Parts.Kept.{joined, joined-parts, untagged, untagged-olds, untagged-child, after_changes, after-step, split-at}

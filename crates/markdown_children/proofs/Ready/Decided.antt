@@ -1,22 +1,8 @@
 -- The tests together decide whether a list is ready.
-use Rattle.std.proofs.Common.{◌≡◌, ◌≢◌, ℕ, ◌+◌, ◌<◌, ⊎_elim, Bool, true, false, cond, List, length, Option, Some, None, refl, sym, ◌∙◌, ap, subst, arith, Result}
-use Rattle.std.specs.Prelude.{◌&&◌, not, nat_lt, slice_get, unwrap_or, ◌↔◌, IfOk}
+use Rattle.markdown_children.proofs.Prelude.{◌≡◌, ◌≢◌, ℕ, ◌+◌, ◌<◌, ⊎_elim, Bool, true, false, cond, List, length, Option, Some, None, refl, sym, ◌∙◌, ap, subst, arith, Result, ◌&&◌, not, nat_lt, slice_get, unwrap_or, ◌↔◌, IfOk, lt-ltb, not-true, not_from_false, cases_eq, and_parts, sameb, Content, Flow, Event, Link, Point, stands_before, next_of, previous_of, content_at, lets_through, some_fits, fits, place_at, IsShownPlace, IsReady, closes, link_at, is_number, is_chunk, leads_back_to, is_joined_on, leads_on_to, is_joined_back, is_sound, is_sound_at, is_gap_on, is_readable, can_be_read, can_be_read_at, AllBelow, FailsSomewhere, is_place}
 use Rattle.std.specs.declared.result.Result.TheVariants as result
-use Rattle.std.proofs.lemmas.Bool.{lt-ltb, not-true, not_from_false, cases_eq, and_parts}
-use denote.Enum.Bare.{sameb}
 use Rattle.markdown_base.specs.contracts.event.Content.{the_type as contents}
-use Rattle.markdown_base.specs.declared.event.Content.{Content}
-use Rattle.markdown_base.specs.declared.event.Content.TheVariants.{Flow}
-use Rattle.markdown_base.specs.declared.event.Event.{Event}
-use Rattle.markdown_base.specs.declared.event.Link.{Link}
-use Rattle.markdown_base.specs.declared.event.Point.{Point}
-use Rattle.markdown_base.specs.Places.{stands_before}
-use Rattle.markdown_edits.specs.Links.{next_of, previous_of}
 use Rattle.markdown_children.proofs.ChainOrder.Following.{apart, fits_next}
-use Rattle.markdown_children.specs.Chains.{content_at, lets_through, some_fits, fits}
-use Rattle.markdown_children.specs.Ready.{place_at, IsShownPlace, IsReady}
-use Rattle.markdown_children.specs.ReadyTests.{closes, link_at, is_number, is_chunk, leads_back_to, is_joined_on, leads_on_to, is_joined_back, is_sound, is_sound_at, is_gap_on, is_readable, can_be_read, can_be_read_at, AllBelow, FailsSomewhere}
-use Rattle.markdown_children.specs.ByteStarts.{is_place}
 use Rattle.markdown_children.proofs.Ready.Reached.{place-sound, place-complete}
 use Rattle.markdown_children.proofs.Ready.Tests.{and-both, balanced-closes, closes-balanced, content-is, is-content, is-number, content-at, next-at, previous-at, with-content, with-next, with-previous, inside-link, span-void, sound-chunk, sound-joined, sound-forward, sound-content, gap-of, of-gap}
 

@@ -1,16 +1,6 @@
 -- A list that is ready: "ab" in two chunks, linked as Text.
-use Rattle.std.proofs.Common.{◌≡◌, ◌≢◌, ℕ, zero, suc, ◌+◌, true, List, [], ◌∷◌, Option, Some, None, inl, refl, sym, ◌∙◌, ap, subst, arith}
-use Rattle.std.proofs.lemmas.Option.{none-some, same_Some}
-use Rattle.markdown_base.specs.declared.event.Content.{Content}
+use Rattle.markdown_children.proofs.Prelude.{◌≡◌, ◌≢◌, ℕ, zero, suc, ◌+◌, true, List, [], ◌∷◌, Option, Some, None, inl, refl, sym, ◌∙◌, ap, subst, arith, none-some, same_Some, Content, Event, Enter, Exit, Data, point, IsBalanced, empty, span, next_of, previous_of, AreMutual, content_at, fits, IsChunk, IsReadable, IsGap, IsReady}
 use Rattle.markdown_base.specs.declared.event.Content.TheVariants.{Text}
-use Rattle.markdown_base.specs.declared.event.Event.{Event}
-use Rattle.markdown_base.specs.declared.event.Kind.TheVariants.{Enter, Exit}
-use Rattle.markdown_base.specs.declared.event.Name.TheVariants.{Data}
-use Rattle.markdown_base.specs.Virtual.{point}
-use Rattle.markdown_base.specs.Events.{IsBalanced, empty, span}
-use Rattle.markdown_edits.specs.Links.{next_of, previous_of, AreMutual}
-use Rattle.markdown_children.specs.Chains.{content_at, fits}
-use Rattle.markdown_children.specs.Ready.{IsChunk, IsReadable, IsGap, IsReady}
 
 abbrev bytes : List ℕ
 bytes = 97 ∷ 98 ∷ []

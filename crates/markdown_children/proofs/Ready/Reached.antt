@@ -1,21 +1,6 @@
 -- Where the bytes of a document begin, and its places.
-use Rattle.std.proofs.Common.{◌≡◌, ◌≢◌, ℕ, zero, suc, ◌+◌, ◌-◌, ◌*◌, ◌<◌, ◌≤◌, ◌⊎◌, inl, inr, Bool, true, false, cond, List, [], ◌∷◌, ◌++◌, length, drop, get_or, Option, Some, refl, sym, ◌∙◌, ap, subst, arith, eqb-true, ne_eqb, append_assoc, unwrap_or}
-use Rattle.std.specs.Prelude.{◌==◌, ◌&&◌, nat_le, nat_lt, slice_index}
-use Rattle.std.proofs.lemmas.Bool.{leb-true, ltb-true, le-leb, lt-ltb, eq-eqb, and_parts}
-use Rattle.std.proofs.lemmas.List.FromFn.{get_or-map-range_with_len, length-map-range_with_len, map-range_with_len_more}
-use Rattle.markdown_base.specs.declared.event.Point.{Point}
-use Rattle.markdown_base.specs.Virtual.{Seat, point, tab_width, in_tab, begins_with_lf, virtual, virtual_from}
-use Rattle.markdown_base.specs.Places.{shown, follows_cr, IsPointOf, IsShown, point_at}
-use Rattle.markdown_base.proofs.Scans.{IsReached, IsSeatPlace, IsReturnPlace, tab_width-least, reached_start, reached-line_feed, reached-return, reached-crlf, reached-tab, reached-plain, place-of, byte_here}
-use Rattle.markdown_base.proofs.PointAt.{point-of_reached}
-use Rattle.markdown_base.specs.Lines.{is_lf, ends_line}
-use Rattle.markdown_base.proofs.Common.{and-false-never}
-use Rattle.markdown_tokenizer.proofs.Positions.Points.{point_at-point, point_at-is}
-use Rattle.markdown_tokenizer.proofs.Positions.Standing.{IsAmong}
-use Rattle.markdown_tokenizer.proofs.Positions.SeatLaws.{seat-is-point}
-use Rattle.markdown_children.specs.Ready.{IsShownPlace}
-use Rattle.markdown_children.specs.ByteStarts.{width_at, line_after, column_after, line_at, column_at, byte_start, eighth_starts, is_of_byte, is_place}
-use Rattle.markdown_children.specs.declared.byte_starts.ByteStart.{ByteStart}
+use Rattle.markdown_children.proofs.Prelude.{◌≡◌, ◌≢◌, ℕ, zero, suc, ◌+◌, ◌-◌, ◌*◌, ◌<◌, ◌≤◌, ◌⊎◌, inl, inr, Bool, true, false, cond, List, [], ◌∷◌, ◌++◌, length, drop, get_or, Option, Some, refl, sym, ◌∙◌, ap, subst, arith, eqb-true, append_assoc, unwrap_or, ◌==◌, ◌&&◌, nat_le, nat_lt, slice_index, leb-true, ltb-true, le-leb, lt-ltb, eq-eqb, and_parts, get_or-map-range_with_len, length-map-range_with_len, map-range_with_len_more, Point, Seat, point, tab_width, in_tab, begins_with_lf, virtual, virtual_from, shown, follows_cr, IsPointOf, IsShown, point_at, IsReached, IsSeatPlace, IsReturnPlace, tab_width-least, reached_start, reached-line_feed, reached-return, reached-crlf, reached-tab, reached-plain, place-of, byte_here, point-of_reached, is_lf, ends_line, and-false-never, point_at-point, point_at-is, IsAmong, seat-is-point, IsShownPlace, width_at, line_after, column_after, line_at, column_at, byte_start, eighth_starts, is_of_byte, is_place, ByteStart}
+use Rattle.std.proofs.Common.{ne_eqb}
 
 -- ---- where each byte begins
 

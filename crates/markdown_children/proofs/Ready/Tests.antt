@@ -1,31 +1,11 @@
 -- The tests of a list that is ready, one by one.
-use Rattle.std.proofs.Common.{◌≡◌, ℕ, zero, suc, ◌+◌, ◌-◌, ◌<◌, ◌≤◌, inl, inr, ⊎_elim, Bool, true, false, List, [], ◌∷◌, length, take, drop, Option, Some, None, refl, sym, ◌∙◌, ap, arith, eqb-true, eqb, ne_eqb, reverse}
-use Rattle.std.specs.Prelude.{◌&&◌, ◌||◌, ◌==◌, not, is_none, nat_lt, nat_le, slice_get, option_map, option_and_then, unwrap_or}
-use Rattle.std.specs.List.{between}
-use Rattle.std.proofs.lemmas.Bool.{ltb-true, le-leb, eq-eqb, not-true, not_from_false, cases_eq, and_parts, or_cases, or_left, or_right}
-use Rattle.std.proofs.lemmas.List.{length-reverse}
-use Rattle.std.proofs.lemmas.Option.{none-some, slice_get_within, slice_get_past}
-use Rattle.std.proofs.Math.ListN.{drop_of_length-le}
-use denote.Enum.Bare.{sameb, same_true, true_same}
+use Rattle.markdown_children.proofs.Prelude.{◌≡◌, ℕ, zero, suc, ◌+◌, ◌-◌, ◌<◌, ◌≤◌, inl, inr, ⊎_elim, Bool, true, false, List, [], ◌∷◌, length, take, drop, Option, Some, None, refl, sym, ◌∙◌, ap, arith, eqb-true, eqb, reverse, ◌&&◌, ◌||◌, ◌==◌, not, is_none, nat_lt, nat_le, slice_get, unwrap_or, between, ltb-true, le-leb, eq-eqb, not-true, not_from_false, cases_eq, and_parts, or_cases, or_left, or_right, length-reverse, none-some, slice_get_within, slice_get_past, drop_of_length-le, sameb, same_true, true_same, Content, Event, Kind, Enter, Exit, Link, Point, IsBalanced, is_void, same_name, stands_before, content_of, next_of, previous_of, AreMutual, names_after_all, balanced_from_open, names_after_balanced, same_name-true, same-numbers, content_at, place_at, IsChunk, IsGap, is_closed, closes, link_at, is_number, is_void_span, is_chunk, leads_back_to, is_joined_on, leads_on_to, is_joined_back, is_sound, is_sound_at, is_same_point, is_in_line, has_no_link, is_gap, AllBelow}
+use Rattle.std.proofs.Common.{ne_eqb}
+use Rattle.std.specs.Prelude.{option_map, option_and_then}
 use Rattle.markdown_base.specs.contracts.event.Name.{the_type as names}
 use Rattle.markdown_base.specs.contracts.event.Kind.{the_type as kinds}
 use Rattle.markdown_base.specs.contracts.event.Content.{the_type as contents}
-use Rattle.markdown_base.specs.declared.event.Content.{Content}
-use Rattle.markdown_base.specs.declared.event.Event.{Event}
-use Rattle.markdown_base.specs.declared.event.Kind.{Kind}
-use Rattle.markdown_base.specs.declared.event.Kind.TheVariants.{Enter, Exit}
-use Rattle.markdown_base.specs.declared.event.Link.{Link}
 use Rattle.markdown_base.specs.declared.event.Name.{Name}
-use Rattle.markdown_base.specs.declared.event.Point.{Point}
-use Rattle.markdown_base.specs.Events.{IsBalanced, is_void, same_name}
-use Rattle.markdown_base.specs.Places.{stands_before}
-use Rattle.markdown_edits.specs.Links.{content_of, next_of, previous_of, AreMutual}
-use Rattle.markdown_edits.specs.OpenNames.{names_after_all}
-use Rattle.markdown_edits.proofs.Balanced.{balanced_from_open, names_after_balanced, same_name-true}
-use Rattle.markdown_tokenizer.proofs.Positions.Points.{same-numbers}
-use Rattle.markdown_children.specs.Chains.{content_at}
-use Rattle.markdown_children.specs.Ready.{place_at, IsChunk, IsGap}
-use Rattle.markdown_children.specs.ReadyTests.{is_closed, closes, link_at, is_number, is_void_span, is_chunk, leads_back_to, is_joined_on, leads_on_to, is_joined_back, is_sound, is_sound_at, is_same_point, is_in_line, has_no_link, is_gap, AllBelow}
 
 -- ---- tests joined
 

@@ -1,6 +1,4 @@
-use Rattle.std.proofs.Common.{◌≡◌, ◌+◌, ◌/◌, ◌++◌, ◌∷◌, [], ℕ, length, refl, ap, ◌∙◌, arith}
-use Rattle.markdown_children.specs.ByteStarts.{eighth_starts}
-use Rattle.markdown_children.specs.declared.byte_starts.ByteStart.{ByteStart}
+use Rattle.markdown_children.proofs.Prelude.{◌≡◌, ◌+◌, ◌/◌, ◌++◌, ◌∷◌, [], ℕ, length, refl, ap, ◌∙◌, arith, eighth_starts, ByteStart}
 use Rattle.markdown_children.proofs.Ready.Reached.{starts-more}
 use Rattle.markdown_children.proofs.byte_starts.kept_starts.Goals as goal
 

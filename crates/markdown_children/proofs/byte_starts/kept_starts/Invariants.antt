@@ -1,6 +1,4 @@
-use Rattle.std.proofs.Common.{◌≡◌, ◌+◌, ◌*◌, ◌≤◌}
-use Rattle.std.specs.Prelude.{vec_len, vec_capacity}
-use Rattle.markdown_children.specs.ByteStarts.{byte_start, eighth_starts}
+use Rattle.markdown_children.proofs.Prelude.{◌≡◌, ◌+◌, ◌*◌, ◌≤◌, vec_len, vec_capacity, byte_start, eighth_starts}
 use Rattle.markdown_children.proofs.byte_starts.kept_starts.Given as goal
 
 abbrev pub invariant-loop-k : goal.invariant-loop-k

@@ -1,9 +1,5 @@
-use Rattle.std.proofs.Common.{◌≡◌, ◌≤◌, ◌<◌, ℕ, suc, ◌+◌, true, false, List, length, refl, sym, ap, ◌∙◌, arith, ne_eqb, lit≤}
-use Rattle.std.specs.Prelude.{◌==◌, slice_index}
-use Rattle.std.proofs.Math.Nat.{mul-le-mul_left, mul-le-mul_right}
-use Rattle.markdown_base.specs.Lines.{ends_line}
-use Rattle.markdown_children.specs.ByteStarts.{column_after, line_at, column_at}
-use Rattle.markdown_children.specs.declared.byte_starts.ByteStart.{ByteStart}
+use Rattle.markdown_children.proofs.Prelude.{◌≡◌, ◌≤◌, ◌<◌, ℕ, suc, ◌+◌, true, false, List, length, refl, sym, ap, ◌∙◌, arith, lit≤, ◌==◌, slice_index, mul-le-mul_left, mul-le-mul_right, ends_line, column_after, line_at, column_at, ByteStart}
+use Rattle.std.proofs.Common.{ne_eqb}
 use Rattle.markdown_children.proofs.Ready.Reached.{reached-at, line_at-le, line-on, column-on}
 use Rattle.markdown_children.proofs.byte_starts.walked.Goals as goal
 

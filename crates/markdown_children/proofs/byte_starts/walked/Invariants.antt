@@ -1,5 +1,4 @@
-use Rattle.std.proofs.Common.{◌≡◌}
-use Rattle.markdown_children.specs.ByteStarts.{line_at, column_at}
+use Rattle.markdown_children.proofs.Prelude.{◌≡◌, line_at, column_at}
 use Rattle.markdown_children.proofs.byte_starts.walked.Given as goal
 
 abbrev pub invariant-loop-index : goal.invariant-loop-index

@@ -1,8 +1,4 @@
-use Rattle.std.proofs.Common.{◌≡◌, ℕ, Bool, false, refl, sym, ap, ◌∙◌, subst}
-use Rattle.markdown_tokenizer.specs.declared.subtokenize.Subresult.{Subresult}
-use Rattle.markdown_tokenizer.specs.Engine.{given_by}
-use Rattle.markdown_tokenizer.proofs.Runs.Whole.{err-if}
-use Rattle.markdown_children.specs.Reads.{IsChildFault, IsSubtokenizeFault}
+use Rattle.markdown_children.proofs.Prelude.{◌≡◌, ℕ, Bool, false, refl, sym, ap, ◌∙◌, subst, Subresult, given_by, err-if, IsChildFault, IsSubtokenizeFault}
 use Rattle.markdown_children.proofs.ChildReads.SoFar.{so_far-start, so_far-other, so_far-next, so_far-before, so_far-fault}
 use Rattle.markdown_children.proofs.ChainOrder.Forward.{forward-chain, within}
 use Rattle.markdown_children.proofs.children.gather.Goals as goal

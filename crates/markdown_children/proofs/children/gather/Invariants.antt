@@ -1,5 +1,4 @@
-use Rattle.markdown_tokenizer.specs.Engine.{given_by}
-use Rattle.markdown_children.specs.SoFar.{SoFar}
+use Rattle.markdown_children.proofs.Prelude.{given_by, SoFar}
 use Rattle.markdown_children.proofs.children.gather.Given as goal
 
 abbrev pub invariant-loop-index : goal.invariant-loop-index

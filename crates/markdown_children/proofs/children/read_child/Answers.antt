@@ -1,9 +1,4 @@
-use Rattle.std.proofs.Common.{sym, ap, subst, ◌∙◌}
-use Rattle.markdown_base.specs.declared.event.Point.{Point}
-use Rattle.markdown_base.specs.Places.{IsPointOf}
-use Rattle.markdown_tokenizer.specs.Text.{empty_text}
-use Rattle.markdown_tokenizer.specs.Configuration.{start_seen}
-use Rattle.markdown_tokenizer.specs.Engine.{given_by}
+use Rattle.markdown_children.proofs.Prelude.{sym, ap, subst, ◌∙◌, Point, IsPointOf, empty_text, start_seen, given_by}
 use Rattle.markdown_children.proofs.ChildReads.Reading.{chain-place}
 use Rattle.markdown_children.proofs.children.read_child.Goals as goal
 

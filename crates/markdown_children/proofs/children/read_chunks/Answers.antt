@@ -1,13 +1,5 @@
-use Rattle.std.proofs.Common.{◌≡◌, ℕ, arith, refl, sym, ap, subst, ◌∙◌}
-use Rattle.markdown_base.specs.declared.event.Point.{Point}
-use Rattle.markdown_base.specs.declared.state.State.TheVariants.{Next}
-use Rattle.markdown_tokenizer.specs.Text.{passed, followed_by, FitsAfter}
-use Rattle.markdown_tokenizer.specs.Engine.{given_by, CanPush, IsPushed}
+use Rattle.markdown_children.proofs.Prelude.{◌≡◌, ℕ, arith, refl, sym, ap, subst, ◌∙◌, Point, Next, passed, followed_by, FitsAfter, given_by, CanPush, IsPushed, Result, IfErr, err-if, ok-if, IsChildFault, with_flag}
 use Rattle.std.specs.declared.result.Result.TheVariants as result
-use Rattle.std.specs.Prelude.{Result, IfErr}
-use Rattle.markdown_tokenizer.proofs.Runs.Whole.{err-if, ok-if}
-use Rattle.markdown_children.specs.Reads.{IsChildFault}
-use Rattle.markdown_children.specs.SoFar.{with_flag}
 use Rattle.markdown_children.proofs.ChildReads.Reading.{chain-within, chain-first, chain-rises, chain-inside, chain-next, chain-holds, chain-child, chain-open, chain-fault, memory-child-fault, on-open, on-range, on-holds, on-pushed, to-gap, to-passed}
 use Rattle.markdown_children.proofs.children.read_chunks.Goals as goal
 

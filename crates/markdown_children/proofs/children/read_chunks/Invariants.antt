@@ -1,6 +1,4 @@
-use Rattle.std.proofs.Common.{◌≡◌, ◌-◌, length, Some}
-use Rattle.markdown_base.specs.declared.state.Name.{Name}
-use Rattle.markdown_children.specs.Reads.{start_at}
+use Rattle.markdown_children.proofs.Prelude.{◌≡◌, ◌-◌, length, Some, Name, start_at}
 use Rattle.markdown_children.proofs.ChildReads.Reading.{ReadsChain}
 use Rattle.markdown_children.proofs.children.read_chunks.Given as goal
 

@@ -1,7 +1,4 @@
-use Rattle.std.proofs.Common.{ℕ, ◌+◌, [], ◌∷◌, ◌++◌, List, length, drop, arith, sym, subst, ap, ◌∙◌}
-use Rattle.markdown_children.specs.declared.division.Chunk.{Chunk}
-use Rattle.markdown_base.specs.declared.event.Point.{Point}
-use Rattle.markdown_children.specs.Parts.{front_until}
+use Rattle.markdown_children.proofs.Prelude.{ℕ, ◌+◌, [], ◌∷◌, ◌++◌, List, length, drop, arith, sym, subst, ap, ◌∙◌, Chunk, Point, front_until}
 use Rattle.markdown_children.proofs.ChainOrder.Turns.{IsLeft, left_first, left_next, left_last, left_rises}
 use Rattle.markdown_children.proofs.division.chunks_of.Goals as goal
 

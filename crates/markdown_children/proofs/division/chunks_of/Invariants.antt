@@ -1,4 +1,4 @@
-use Rattle.std.proofs.Common.{ℕ, ◌-◌, length}
+use Rattle.markdown_children.proofs.Prelude.{ℕ, ◌-◌, length}
 use Rattle.markdown_children.proofs.ChainOrder.Turns.{IsLeft}
 use Rattle.markdown_children.proofs.division.chunks_of.Given as goal
 

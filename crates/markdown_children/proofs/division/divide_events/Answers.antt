@@ -1,11 +1,4 @@
-use Rattle.std.proofs.Common.{◌≡◌, ℕ, ◌+◌, ◌^◌, ◌<◌, ◌≤◌, List, ◌++◌, length, map, sym, ap, subst, ◌∙◌, arith}
-use Rattle.std.specs.Prelude.{All, IfSome}
-use Rattle.std.specs.List.Sorted.{IsNonDecreasingBy}
-use Rattle.markdown_base.specs.declared.event.Event.{Event}
-use Rattle.markdown_base.specs.Events.{EachEnd}
-use Rattle.markdown_edits.specs.Edits.{Edit, AreBehind}
-use Rattle.markdown_children.specs.Tables.{rest_table, table_place, AreAbove, AreRising, chunk_edit}
-use Rattle.markdown_children.specs.declared.division.Chunk.{Chunk}
+use Rattle.markdown_children.proofs.Prelude.{◌≡◌, ℕ, ◌+◌, ◌^◌, ◌<◌, ◌≤◌, List, ◌++◌, length, map, sym, ap, subst, ◌∙◌, arith, All, IfSome, IsNonDecreasingBy, Event, EachEnd, Edit, AreBehind, rest_table, table_place, AreAbove, AreRising, chunk_edit, Chunk}
 use Rattle.markdown_children.proofs.Parts.Tabled.{length-chunks, chunks-above, chunks-rising, chunks-ends, chunks-within, chunks-room, chunks-fit, chunks-behind, table-edits, sums-le}
 use Rattle.markdown_children.proofs.division.divide_events.Goals as goal
 

@@ -1,8 +1,4 @@
-use Rattle.std.proofs.Common.{List, get_or, ap, ◌∙◌, arith}
-use Rattle.markdown_base.specs.declared.event.Event.{Event}
-use Rattle.markdown_edits.specs.Edits.{put_after}
-use Rattle.markdown_children.specs.Tables.{table_place}
-use Rattle.markdown_children.specs.declared.division.Chunk.{Chunk}
+use Rattle.markdown_children.proofs.Prelude.{List, get_or, ap, ◌∙◌, arith, Event, put_after, table_place, Chunk}
 use Rattle.markdown_children.proofs.Parts.Adding.{edits-room, edits-more}
 use Rattle.markdown_children.proofs.division.edits_of.Goals as goal
 

@@ -1,5 +1,4 @@
-use Rattle.std.proofs.Common.{◌≡◌, map, take}
-use Rattle.markdown_children.specs.Tables.{table_place, chunk_edit}
+use Rattle.markdown_children.proofs.Prelude.{◌≡◌, map, take, table_place, chunk_edit}
 use Rattle.markdown_children.proofs.division.edits_of.Given as goal
 
 abbrev pub invariant-loop-chunk : goal.invariant-loop-chunk

@@ -1,4 +1,4 @@
-use Rattle.std.proofs.Common.{refl}
+use Rattle.markdown_children.proofs.Prelude.{refl}
 use Rattle.markdown_children.proofs.division.part_end.Goals as goal
 
 pub loop-at-init : goal.loop-at-init

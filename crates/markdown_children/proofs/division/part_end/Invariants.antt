@@ -1,5 +1,4 @@
-use Rattle.std.proofs.Common.{◌≡◌, ◌+◌, ◌-◌, ◌≤◌, length, drop}
-use Rattle.markdown_children.specs.Parts.{front_until}
+use Rattle.markdown_children.proofs.Prelude.{◌≡◌, ◌+◌, ◌-◌, ◌≤◌, length, drop, front_until}
 use Rattle.markdown_children.proofs.division.part_end.Given as goal
 
 abbrev pub invariant-loop-at : goal.invariant-loop-at

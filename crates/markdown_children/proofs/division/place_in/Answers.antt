@@ -1,6 +1,4 @@
-use Rattle.std.proofs.Common.{◌+◌, ◌-◌, ◌*◌, leb, Some, ap, ◌∙◌, arith, rules}
-use Rattle.std.proofs.lemmas.List.Sorted.{IsPartitionPoint-from_clause, IsPartitionedBy-leb}
-use Rattle.markdown_children.specs.declared.division.Chunk.{Chunk}
+use Rattle.markdown_children.proofs.Prelude.{◌+◌, ◌-◌, ◌*◌, leb, Some, ap, ◌∙◌, arith, rules, IsPartitionPoint-from_clause, IsPartitionedBy-leb, Chunk}
 use Rattle.markdown_children.proofs.Parts.Halves.{above-at, place-found, place-passed}
 use Rattle.markdown_children.proofs.division.place_in.Goals as goal
 

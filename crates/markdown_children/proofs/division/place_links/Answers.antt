@@ -1,7 +1,4 @@
-use Rattle.std.proofs.Common.{◌≡◌, ◌++◌, ◌+◌, ◌<◌, ℕ, zero, suc, List, [], ◌∷◌, length, map, take, drop, get_or, slice_set, refl, ap, ◌∙◌, arith}
-use Rattle.markdown_base.specs.declared.event.Event.{Event}
-use Rattle.markdown_base.specs.Events.{relinked}
-use Rattle.markdown_children.specs.Tables.{table_place}
+use Rattle.markdown_children.proofs.Prelude.{◌≡◌, ◌++◌, ◌+◌, ◌<◌, ℕ, zero, suc, List, [], ◌∷◌, length, map, take, drop, get_or, slice_set, refl, ap, ◌∙◌, arith, Event, relinked, table_place}
 use Rattle.markdown_children.proofs.division.place_links.Goals as goal
 
 module _ (f : Event → Event) where

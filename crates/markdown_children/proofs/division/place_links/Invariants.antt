@@ -1,6 +1,4 @@
-use Rattle.std.proofs.Common.{◌≡◌, ◌++◌, map, take, drop}
-use Rattle.markdown_base.specs.Events.{relinked}
-use Rattle.markdown_children.specs.Tables.{table_place}
+use Rattle.markdown_children.proofs.Prelude.{◌≡◌, ◌++◌, map, take, drop, relinked, table_place}
 use Rattle.markdown_children.proofs.division.place_links.Given as goal
 
 -- the events so far have their links placed, and the others are as they were

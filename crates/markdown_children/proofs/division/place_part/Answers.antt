@@ -1,7 +1,4 @@
-use Rattle.std.proofs.Common.{◌+◌, ◌-◌, ◌<◌, ◌^◌, ◌++◌, take, drop, All, IfSome, sym, ◌∙◌, ap, subst}
-use Rattle.std.proofs.lemmas.List.Elements.{All-drop, All-take}
-use Rattle.markdown_base.specs.declared.event.Event.{Event}
-use Rattle.markdown_base.specs.Events.{EachEnd}
+use Rattle.markdown_children.proofs.Prelude.{◌+◌, ◌-◌, ◌<◌, ◌^◌, ◌++◌, take, drop, All, IfSome, sym, ◌∙◌, ap, subst, All-drop, All-take, Event, EachEnd}
 use Rattle.markdown_children.proofs.division.place_part.Goals as goal
 
 pub place_links-requires-clause-fits : goal.place_links-requires-clause-fits

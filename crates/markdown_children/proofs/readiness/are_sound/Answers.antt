@@ -1,5 +1,4 @@
-use Rattle.std.proofs.Common.{sym, ◌∙◌}
-use Rattle.markdown_children.specs.ReadyTests.{is_sound_at}
+use Rattle.markdown_children.proofs.Prelude.{sym, ◌∙◌, is_sound_at}
 use Rattle.markdown_children.proofs.Ready.Tests.{all-more}
 use Rattle.markdown_children.proofs.readiness.are_sound.Goals as goal
 

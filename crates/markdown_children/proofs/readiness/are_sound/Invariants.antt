@@ -1,4 +1,4 @@
-use Rattle.markdown_children.specs.ReadyTests.{is_sound_at, AllBelow}
+use Rattle.markdown_children.proofs.Prelude.{is_sound_at, AllBelow}
 use Rattle.markdown_children.proofs.readiness.are_sound.Given as goal
 
 abbrev pub invariant-loop-index : goal.invariant-loop-index

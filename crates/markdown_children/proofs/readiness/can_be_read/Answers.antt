@@ -1,5 +1,4 @@
-use Rattle.std.proofs.Common.{sym, ◌∙◌}
-use Rattle.markdown_children.specs.StartTests.{can_be_read_from}
+use Rattle.markdown_children.proofs.Prelude.{sym, ◌∙◌, can_be_read_from}
 use Rattle.markdown_children.proofs.Ready.Tests.{all-more}
 use Rattle.markdown_children.proofs.readiness.can_be_read.Goals as goal
 

@@ -1,5 +1,4 @@
-use Rattle.markdown_children.specs.ReadyTests.{AllBelow}
-use Rattle.markdown_children.specs.StartTests.{can_be_read_from}
+use Rattle.markdown_children.proofs.Prelude.{AllBelow, can_be_read_from}
 use Rattle.markdown_children.proofs.readiness.can_be_read.Given as goal
 
 abbrev pub invariant-loop-index : goal.invariant-loop-index

@@ -1,4 +1,4 @@
-use Rattle.std.proofs.Common.{sym, ◌∙◌}
+use Rattle.markdown_children.proofs.Prelude.{sym, ◌∙◌}
 use Rattle.markdown_children.proofs.Ready.Tests.{next-inside}
 use Rattle.markdown_children.proofs.readiness.can_be_read_at.Goals as goal
 

@@ -1,4 +1,4 @@
-use Rattle.std.proofs.Common.{arith}
+use Rattle.markdown_children.proofs.Prelude.{arith}
 use Rattle.markdown_children.proofs.Ready.Tests.{closes-done}
 use Rattle.markdown_children.proofs.readiness.closes.Goals as goal
 

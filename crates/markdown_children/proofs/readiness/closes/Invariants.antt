@@ -1,5 +1,4 @@
-use Rattle.std.proofs.Common.{◌≡◌, Some, [], reverse, drop}
-use Rattle.markdown_edits.specs.OpenNames.{names_after_all}
+use Rattle.markdown_children.proofs.Prelude.{◌≡◌, Some, [], reverse, drop, names_after_all}
 use Rattle.markdown_children.proofs.readiness.closes.Given as goal
 
 abbrev pub invariant-loop-event : goal.invariant-loop-event

@@ -1,4 +1,4 @@
-use Rattle.std.proofs.Common.{◌≡◌, ◌<◌, ◌≤◌, ℕ, sym, subst, ◌∙◌}
+use Rattle.markdown_children.proofs.Prelude.{◌≡◌, ◌<◌, ◌≤◌, ℕ, sym, subst, ◌∙◌}
 use Rattle.std.specs.Prelude.{option_map}
 use Rattle.markdown_children.proofs.Ready.Decided.{not-ready-closes, not-ready-sound, ready-if}
 use Rattle.markdown_children.proofs.readiness.ready.Goals as goal

@@ -1,11 +1,4 @@
-use Rattle.std.proofs.Common.{◌≡◌, List, Option, length, sym, subst}
-use Rattle.std.specs.Option.{option_copied}
-use Rattle.markdown_base.specs.declared.event.Content.{Content}
-use Rattle.markdown_base.specs.declared.event.Event.{Event}
-use Rattle.markdown_tokenizer.specs.Engine.{given_by}
-use Rattle.markdown_tokenizer.proofs.Runs.Whole.{err-if}
-use Rattle.markdown_children.specs.Reads.{StartAmong, IsSubtokenizeFault}
-use Rattle.markdown_children.specs.SoFar.{SoFar}
+use Rattle.markdown_children.proofs.Prelude.{◌≡◌, List, Option, length, sym, subst, option_copied, Content, Event, given_by, err-if, StartAmong, IsSubtokenizeFault, SoFar}
 use Rattle.markdown_children.proofs.ChildReads.SoFar.{so_far-disjoint, so_far-end, memory-fault}
 use Rattle.markdown_children.proofs.ChainOrder.Forward.{ends-inside}
 use Rattle.markdown_children.proofs.subtokenize.subtokenize.Goals as goal

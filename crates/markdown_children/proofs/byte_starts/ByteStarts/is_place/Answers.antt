@@ -1,5 +1,4 @@
-use Rattle.std.proofs.Common.{◌+◌, ◌/◌, length, ap, ◌∙◌, arith}
-use Rattle.markdown_children.specs.declared.byte_starts.ByteStart.{ByteStart}
+use Rattle.markdown_children.proofs.Prelude.{◌+◌, ◌/◌, length, ap, ◌∙◌, arith, ByteStart}
 use Rattle.markdown_children.proofs.Ready.Reached.{reached-at, start-kept, length-kept}
 use Rattle.markdown_children.proofs.byte_starts.ByteStarts.is_place.Goals as goal
 
