@@ -55,8 +55,8 @@ pub use Rattle.markdown_tokenizer.proofs.Readings.Bounds.{one-end}
 pub use Rattle.markdown_tokenizer.proofs.Runs.Whole.{err-if, ok-if}
 pub use Rattle.markdown_tokenizer.proofs.Runs.Working.{holds-on, leads-refl, leads-trans}
 pub use Rattle.markdown_tokenizer.specs.Configuration.{Configuration, TokenizerValue, start_configuration, start_seen}
-pub use Rattle.markdown_tokenizer.specs.Engine.{CanPush, IsFlushed, IsPushed, IsRefused, IsWellFormed, KeepsOutcome, LeadsOn, budget, given_by}
-pub use Rattle.markdown_tokenizer.specs.Lawful.{KeepsInvariant}
+pub use Rattle.markdown_tokenizer.specs.Engine.{CanPush, ForPoints, IsFlushed, IsPushed, IsRefused, IsWellFormed, KeepsOutcome, LeadsOn, budget, given_by}
+pub use Rattle.markdown_tokenizer.specs.Lawful.{IsLawful, KeepsInvariant}
 pub use Rattle.markdown_tokenizer.specs.Reading.{EndsIn, Reading}
 pub use Rattle.markdown_tokenizer.specs.Resolving.{IsInShape, IsResolved, IsResolvingRefused, Resolved, done, refused, resolving, with_more}
 pub use Rattle.markdown_tokenizer.specs.Rules.{Rules}
@@ -70,7 +70,7 @@ pub use Rattle.markdown_children.specs.Chains.{begins, chain_from, chain_of, con
 pub use Rattle.markdown_children.specs.Children.{chain_changes, child_changes, first_chunk, part_changes, tagged_child, with_children}
 pub use Rattle.markdown_children.specs.Laws.{AreByChunk, AreSpaced, ChangesAreApart, ChildrenFit, EditsGiveChildren, EndsInVoidEnter, FollowOneAnother, HasEndsWithin, IsInChain, IsInOneChain, IsPlacedWell, IsTornNowhere, IsWholeFrom, LeadOnFrom, NoneTorn, StandSideBySide, chunk_numbers, part_numbers, passed_over}
 pub use Rattle.markdown_children.specs.Parts.{Divided, IsForward, StandBefore, all_edits, chain_edits, child_place, divided, divided_over, front_until, part_edits, parts, total}
-pub use Rattle.markdown_children.specs.Reads.{AreChildren, CanReadChain, Child, HasOneAnswer, IsAtFirstParagraph, IsChild, IsChildFault, IsChildRefused, IsRead, IsSubtokenizeFault, IsSubtokenizeRefused, IsSubtokenized, StartAmong, lists, pieces_behind, pieces_of, start_at, text_of_chain}
+pub use Rattle.markdown_children.specs.Reads.{AreChildren, CanReadChain, Child, HasOneAnswer, IsAtFirstParagraph, IsChild, IsChildFault, IsChildRefused, IsRead, IsSubtokenizeFault, IsSubtokenizeRefused, IsSubtokenized, StartAmong, lists, pieces_behind, pieces_of, start_at, text_from, text_of_chain}
 pub use Rattle.markdown_children.specs.Ready.{IsChunk, IsGap, IsReadable, IsReady, IsShownPlace, place_at}
 pub use Rattle.markdown_children.specs.ReadyTests.{AllBelow, FailsSomewhere, can_be_read, can_be_read_at, closes, has_no_link, is_chunk, is_closed, is_gap, is_gap_on, is_in_line, is_joined_back, is_joined_on, is_number, is_readable, is_same_point, is_sound, is_sound_at, is_void_span, leads_back_to, leads_on_to, link_at}
 pub use Rattle.markdown_children.specs.SoFar.{SoFar, starts_below, with_flag}

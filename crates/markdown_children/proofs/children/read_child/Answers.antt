@@ -7,7 +7,7 @@ new-tokenizer-requires g c =
     let p = c.args.parse_state.now in
     record {
       place = subst (IsPointOf p.options.now.tab_size p.bytes.now) (sym c.place_at-place.ensures)
-          (chain-place g.M.Machine.rules p.machine.now p.bytes.now p.options.now c.args.filter c.args.events.now c.requires.ready c.args.index c.in-Some.start c.requires.begins);
+          (chain-place p.options.now.tab_size p.bytes.now c.args.filter c.args.events.now c.args.index c.requires.ready c.requires.begins);
     }
 
 pub read_chunks-read-requires-clause-new : goal.read_chunks-read-requires-clause-new
