@@ -1,10 +1,11 @@
 -- The tests together decide whether a list is ready.
-use Rattle.markdown_children.proofs.Prelude.{◌≡◌, ◌≢◌, ℕ, ◌+◌, ◌<◌, ⊎_elim, Bool, true, false, cond, List, length, Option, Some, None, refl, sym, ◌∙◌, ap, subst, arith, Result, ◌&&◌, not, nat_lt, slice_get, unwrap_or, ◌↔◌, IfOk, lt-ltb, not-true, not_from_false, cases_eq, and_parts, sameb, Content, Flow, Event, Link, Point, stands_before, next_of, previous_of, content_at, lets_through, some_fits, fits, place_at, IsShownPlace, IsReady, closes, link_at, is_number, is_chunk, leads_back_to, is_joined_on, leads_on_to, is_joined_back, is_sound, is_sound_at, is_gap_on, is_readable, can_be_read, can_be_read_at, AllBelow, FailsSomewhere, is_place}
+use Rattle.markdown_children.proofs.Prelude.{◌≡◌, ◌≢◌, ℕ, ◌+◌, ◌<◌, ⊎_elim, Bool, true, false, cond, List, length, Option, Some, None, refl, sym, ◌∙◌, ap, subst, arith, Result, ◌&&◌, not, nat_lt, slice_get, unwrap_or, ◌↔◌, IfOk, lt-ltb, not-true, not_from_false, cases_eq, and_parts, sameb, same_true, true_same, Content, Flow, Event, Link, Point, stands_before, next_of, previous_of, content_at, lets_through, some_fits, fits, place_at, IsShownPlace, IsReady, closes, link_at, is_number, is_chunk, leads_back_to, is_joined_on, leads_on_to, is_joined_back, is_sound, is_sound_at, is_gap_on, is_readable, can_be_read, can_be_read_at, AllBelow, FailsSomewhere, is_place}
+use Rattle.std.specs.Cmp.Derive.{both_true}
 use Rattle.std.specs.declared.result.Result.TheVariants as result
 use Rattle.markdown_base.specs.contracts.event.Content.{the_type as contents}
 use Rattle.markdown_children.proofs.ChainOrder.Following.{apart, fits_next}
 use Rattle.markdown_children.proofs.Ready.Reached.{place-sound, place-complete}
-use Rattle.markdown_children.proofs.Ready.Tests.{and-both, balanced-closes, closes-balanced, content-is, is-content, is-number, content-at, next-at, previous-at, with-content, with-next, with-previous, inside-link, span-void, sound-chunk, sound-joined, sound-forward, sound-content, gap-of, of-gap}
+use Rattle.markdown_children.proofs.Ready.Tests.{four-parts, balanced-closes, closes-balanced, is-number, content-at, next-at, previous-at, with-content, with-next, with-previous, inside-link, of-chunk, sound-chunk, sound-joined, sound-forward, sound-content, gap-of, of-gap}
 
 -- ---- a test that is made only if another holds
 
@@ -31,13 +32,13 @@ module _ (t : ℕ) (bytes : List ℕ) (wanted : Option Content) (events : List E
       (l.0, l.1, sym (fits-link k l.0 l.1) ∙ h)
 
   not-flow : (c : Content) → sameb contents c Flow ≡ false → Some c ≢ Some Flow
-  not-flow c e f = let g : c ≡ Flow = ap (λ o. unwrap_or o c) f in let h = is-content c Flow g in cc
+  not-flow c e f = let g : c ≡ Flow = ap (λ o. unwrap_or o c) f in let h = true_same contents c Flow g in cc
 
   flow-not : (c : Content) → Some c ≢ Some Flow → sameb contents c Flow ≡ false
   flow-not c h = go (sameb contents c Flow) refl
     where
       go : (b : Bool) → sameb contents c Flow ≡ b → sameb contents c Flow ≡ false
-      go true e = absurd (h (ap (λ x. Some x) (content-is c Flow e)))
+      go true e = absurd (h (ap (λ x. Some x) (same_true contents tt c Flow e)))
       go false e = e
 
   module _ (sound-place : (p : Point) → place p ≡ true → IsShownPlace t bytes p) where
@@ -51,14 +52,12 @@ module _ (t : ℕ) (bytes : List ℕ) (wanted : Option Content) (events : List E
       readable = λ k h.
           let l = with-fit k h in
           let two = asked k l.0 l.1 l.2 in
-          let x = and_parts (not (sameb contents l.0.content Flow) && not (stands_before (place_at events (k + 1)) (place_at events k))) (place (place_at events k) && place (place_at events (k + 1))) two.0 in
-          let a = and_parts (not (sameb contents l.0.content Flow)) (not (stands_before (place_at events (k + 1)) (place_at events k))) x.0 in
-          let b = and_parts (place (place_at events k)) (place (place_at events (k + 1))) x.1 in
+          let t = four-parts (not (sameb contents l.0.content Flow)) (not (stands_before (place_at events (k + 1)) (place_at events k))) (place (place_at events k)) (place (place_at events (k + 1))) two.0 in
           record {
-            content = λ f. not-flow l.0.content (not-true (sameb contents l.0.content Flow) a.0) (sym (content-at events k l.0 l.1) ∙ f);
-            from = sound-place (place_at events k) b.0;
-            to = sound-place (place_at events (k + 1)) b.1;
-            forward = not-true (stands_before (place_at events (k + 1)) (place_at events k)) a.1;
+            content = λ f. not-flow l.0.content (not-true (sameb contents l.0.content Flow) t.0) (sym (content-at events k l.0 l.1) ∙ f);
+            from = sound-place (place_at events k) t.2;
+            to = sound-place (place_at events (k + 1)) t.3;
+            forward = not-true (stands_before (place_at events (k + 1)) (place_at events k)) t.1;
           };
       gaps = λ k d h e.
           let l = with-fit k h in
@@ -82,9 +81,7 @@ module _ (t : ℕ) (bytes : List ℕ) (wanted : Option Content) (events : List E
             let n : next_of events k ≡ Some d = next-at events k l e ∙ f in
             let m = with-previous events d k ((ready.joined k d).0 n) in
             let c : Some m.0.content ≡ Some l.content = sym (content-at events d m.0 m.1) ∙ sym (ready.one_content k d n) ∙ content-at events k l e in
-            and-both (nat_lt k d) (leads_back_to k l.content (link_at events d)) (lt-ltb k d (ready.forward k d n))
-            (ap (leads_back_to k l.content) m.1
-            ∙ and-both (is_number m.0.previous k) (sameb contents m.0.content l.content) (is-number m.0.previous k m.2) (is-content m.0.content l.content (ap (λ o. unwrap_or o m.0.content) c)))
+            both_true (lt-ltb k d (ready.forward k d n)) (ap (leads_back_to k l.content) m.1 ∙ both_true (is-number m.0.previous k m.2) (true_same contents m.0.content l.content (ap (λ o. unwrap_or o m.0.content) c)))
 
         back-at : (l : Link) → link_at events k ≡ Some l → (o : Option ℕ) → l.previous ≡ o → is_joined_back events k o ≡ true
         back-at l e None f = refl
@@ -96,11 +93,7 @@ module _ (t : ℕ) (bytes : List ℕ) (wanted : Option Content) (events : List E
         go : (o : Option Link) → link_at events k ≡ o → is_sound events k (link_at events k) ≡ true
         go None e = ap (is_sound events k) e
         go (Some l) e =
-            let c = ready.chunks k l.content (content-at events k l e) in
-            ap (is_sound events k) e
-            ∙ and-both (is_chunk events k) (is_joined_on events k l.content l.next && is_joined_back events k l.previous)
-            (span-void (slice_get events k) (slice_get events (k + 1)) (record { enter = c.enter; exit = c.exit; enter_at = c.enter_at; exit_at = c.exit_at; enters = c.linked.enter; void = c.linked.void; exits = c.ended.exits; same = c.ended.same }))
-            (and-both (is_joined_on events k l.content l.next) (is_joined_back events k l.previous) (on-at l e l.next refl) (back-at l e l.previous refl))
+            ap (is_sound events k) e ∙ both_true (of-chunk events k (ready.chunks k l.content (content-at events k l e))) (both_true (on-at l e l.next refl) (back-at l e l.previous refl))
 
     of-ready-read : (k : ℕ) → can_be_read_at place wanted events k ≡ true
     of-ready-read k = go (link_at events k) refl
@@ -122,11 +115,10 @@ module _ (t : ℕ) (bytes : List ℕ) (wanted : Option Content) (events : List E
             ∙ then-to (lets_through wanted l.content) (is_readable place events k l.content && is_gap_on events k l.next) (λ h.
             let f : fits wanted events k ≡ true = fits-link k l e ∙ h in
             let r = ready.readable k f in
-            and-both (is_readable place events k l.content) (is_gap_on events k l.next)
-            (and-both (not (sameb contents l.content Flow) && not (stands_before (place_at events (k + 1)) (place_at events k))) (place (place_at events k) && place (place_at events (k + 1)))
-            (and-both (not (sameb contents l.content Flow)) (not (stands_before (place_at events (k + 1)) (place_at events k)))
-            (not_from_false (sameb contents l.content Flow) (flow-not l.content (λ g. r.content (content-at events k l e ∙ g)))) (not_from_false (stands_before (place_at events (k + 1)) (place_at events k)) r.forward))
-            (and-both (place (place_at events k)) (place (place_at events (k + 1))) (complete-place (place_at events k) r.from) (complete-place (place_at events (k + 1)) r.to)))
+            both_true
+            (both_true
+            (both_true (not_from_false (sameb contents l.content Flow) (flow-not l.content (λ g. r.content (content-at events k l e ∙ g)))) (not_from_false (stands_before (place_at events (k + 1)) (place_at events k)) r.forward))
+            (both_true (complete-place (place_at events k) r.from) (complete-place (place_at events (k + 1)) r.to)))
             (gap-on l e f l.next refl))
 
 never-ready : (test : ℕ → Bool) (n : ℕ) → FailsSomewhere n test → ((k : ℕ) → test k ≡ true) → ⊥

@@ -1,8 +1,8 @@
-use Rattle.markdown_children.proofs.Prelude.{sym, ◌∙◌, can_be_read_from}
-use Rattle.markdown_children.proofs.Ready.Tests.{all-more}
+use Rattle.markdown_children.proofs.Prelude.{◌≡◌, true, sym, ◌∙◌, can_be_read_from}
+use borrow.Author.Count.{below_more}
 use Rattle.markdown_children.proofs.readiness.can_be_read.Goals as goal
 
 pub loop-index-preserved : goal.loop-index-preserved
 loop-index-preserved c =
-    all-more (can_be_read_from c.args.starts.now c.args.filter c.args.events.now) c.loop-index.index c.loop-index.invariant
+    below_more (λ k. can_be_read_from c.args.starts.now c.args.filter c.args.events.now k ≡ true) c.loop-index.index c.loop-index.invariant
     (sym c.in_ok-can_be_read_at.ensures ∙ c.if-not-branch.false)
