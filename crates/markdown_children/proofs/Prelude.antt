@@ -1,12 +1,14 @@
 -- What the proofs of this crate cite from below them: words of std, of the crates below and of specs.
+pub use Rattle.std.specs.Cmp.Derive.{both_true}
+pub use Rattle.std.proofs.lemmas.Slice.Zip.{AllZip-long}
 pub use Rattle.std.proofs.Common.{Bool, List, None, Option, Result, Some, [], add-one, ap, append-nil, append_assoc, arith, cond, drop, eqb, eqb-true, false, get_or, inl, inr, leb, length, length-append, length-drop, length-take, lit≤, ltb, map, refl, reverse, rules, slice_set, subst, suc, sym, take, take-append-drop, true, zero, ℕ, ⊎_elim, ◌*◌, ◌++◌, ◌+◌, ◌-◌, ◌/◌, ◌<◌, ◌^◌, ◌∙◌, ◌∷◌, ◌≡◌, ◌≢◌, ◌≤◌, ◌⊎◌}
 pub use Rattle.std.proofs.Math.ListN.{drop_of_length-le}
 pub use Rattle.std.proofs.Math.Nat.{mul-le-mul_left, mul-le-mul_right}
-pub use Rattle.std.proofs.Math.Seq.{drop-append_seam, take-suc}
+pub use Rattle.std.proofs.Math.Seq.{drop-append_seam, take-append_seam, take-suc}
 pub use Rattle.std.proofs.lemmas.Bool.{and_parts, cases_eq, cases_lt, eq-eqb, le-leb, le-ltb, leb-false, leb-true, lt-ltb, ltb-false, ltb-true, ne_eqb, not-true, not_from_false, or_cases, or_left, or_right}
 pub use Rattle.std.proofs.lemmas.Grind.{flat_map-append}
 pub use Rattle.std.proofs.lemmas.List.{drop-drop, length-map, length-reverse, length-take-le, map-append}
-pub use Rattle.std.proofs.lemmas.List.Elements.{All-drop, All-from_recursion, All-head, All-tail, All-take, filter-append, recursion_from_All}
+pub use Rattle.std.proofs.lemmas.List.Elements.{All-drop, All-from_recursion, All-head, All-tail, All-take, filter-append, filter_passes, recursion_from_All}
 pub use Rattle.std.proofs.lemmas.List.FromFn.{get_or-map-range_with_len, length-map-range_with_len, map-range_with_len_more}
 pub use Rattle.std.proofs.lemmas.List.Sorted.{IsPartitionPoint-from_clause, IsPartitionedBy-leb}
 pub use Rattle.std.proofs.lemmas.List.Sums.{take_while-cons}
@@ -15,7 +17,7 @@ pub use Rattle.std.specs.List.{AllByRecursion, AllZip, between, range_with_len}
 pub use Rattle.std.specs.List.Sorted.{IsNonDecreasingBy, IsPartitionPoint}
 pub use Rattle.std.specs.Option.{option_and_then, option_copied, option_map}
 pub use Rattle.std.specs.Prelude.{All, Contains, IfErr, IfOk, IfSome, filter, flat_map, is_none, nat_le, nat_lt, not, slice_get, slice_index, slice_index_or, unwrap_or, vec_capacity, vec_len, ◌&&◌, ◌==◌, ◌||◌, ◌↔◌}
-pub use Rattle.markdown_base.proofs.Common.{and-false-never, drop-at, every-get, get-front}
+pub use Rattle.markdown_base.proofs.Common.{and-false-never, drop-at, every-filter, every-get, every-map, get-front}
 pub use Rattle.markdown_base.proofs.PointAt.{point-of_reached}
 pub use Rattle.markdown_base.proofs.Scans.{IsReached, IsReturnPlace, IsSeatPlace, byte_here, place-of, reached-crlf, reached-line_feed, reached-plain, reached-return, reached-tab, reached_start, tab_width-least}
 pub use Rattle.markdown_base.specs.Events.{EachEnd, EndsBelow, IsBalanced, IsVoidTight, empty, is_void, relinked, same_name, span, with_ends}
@@ -26,7 +28,6 @@ pub use Rattle.markdown_base.specs.declared.configuration.ParseOptions.{ParseOpt
 pub use Rattle.markdown_base.specs.declared.event.Content.{Content}
 pub use Rattle.markdown_base.specs.declared.event.Content.TheVariants.{Flow, String}
 pub use Rattle.markdown_base.specs.declared.event.Event.{Event}
-pub use Rattle.markdown_base.specs.declared.event.Kind.{Kind}
 pub use Rattle.markdown_base.specs.declared.event.Kind.TheVariants.{Enter, Exit}
 pub use Rattle.markdown_base.specs.declared.event.Link.{Link}
 pub use Rattle.markdown_base.specs.declared.event.Name.TheVariants.{BlockQuote, BlockQuotePrefix, Data, LineEnding, Paragraph}
@@ -44,7 +45,7 @@ pub use Rattle.markdown_edits.proofs.Edits.Survivors.{keeps_links, next_moved, p
 pub use Rattle.markdown_edits.proofs.Edits.Turns.{AreDisjoint-le}
 pub use Rattle.markdown_edits.specs.Edited.{as_addition, as_change, edited}
 pub use Rattle.markdown_edits.specs.Edits.{AreBehind, AreDisjoint, Edit, added_by, put_after, removal_at, removed_by}
-pub use Rattle.markdown_edits.specs.Links.{AreMutual, content_of, next_of, previous_of}
+pub use Rattle.markdown_edits.specs.Links.{AreMutual, next_of, previous_of}
 pub use Rattle.markdown_edits.specs.OpenNames.{names_after, names_after_all}
 pub use Rattle.markdown_edits.specs.Woven.{Change, Identity, Tagged, as_listed, changed, events_at, is_removed, is_same, of_addition, of_child, of_list, place_in, placed, placed_end, placed_in, woven}
 pub use Rattle.markdown_tokenizer.proofs.Positions.Cursors.{same-self, upto-order, upto-same}
@@ -70,7 +71,7 @@ pub use Rattle.markdown_children.specs.Chains.{begins, chain_from, chain_of, con
 pub use Rattle.markdown_children.specs.Children.{chain_changes, child_changes, first_chunk, part_changes, tagged_child, with_children}
 pub use Rattle.markdown_children.specs.Laws.{AreByChunk, AreSpaced, ChangesAreApart, ChildrenFit, EditsGiveChildren, EndsInVoidEnter, FollowOneAnother, HasEndsWithin, IsInChain, IsInOneChain, IsPlacedWell, IsTornNowhere, IsWholeFrom, LeadOnFrom, NoneTorn, StandSideBySide, chunk_numbers, part_numbers, passed_over}
 pub use Rattle.markdown_children.specs.Parts.{Divided, IsForward, StandBefore, all_edits, chain_edits, child_place, divided, divided_over, front_until, part_edits, parts, total}
-pub use Rattle.markdown_children.specs.Reads.{AreChildren, CanReadChain, Child, HasOneAnswer, IsAtFirstParagraph, IsChild, IsChildFault, IsChildRefused, IsRead, IsSubtokenizeFault, IsSubtokenizeRefused, IsSubtokenized, StartAmong, lists, pieces_behind, pieces_of, start_at, text_from, text_of_chain}
+pub use Rattle.markdown_children.specs.Reads.{AreChildren, CanReadChain, Child, HasOneAnswer, IsAtFirstParagraph, IsChild, IsChildFault, IsChildRefused, IsRead, IsSubtokenizeFault, IsSubtokenized, StartAmong, lists, pieces_behind, pieces_of, start_at, text_from, text_of_chain}
 pub use Rattle.markdown_children.specs.Ready.{IsChunk, IsGap, IsReadable, IsReady, IsShownPlace, place_at}
 pub use Rattle.markdown_children.specs.ReadyTests.{AllBelow, FailsSomewhere, can_be_read, can_be_read_at, closes, has_no_link, is_chunk, is_closed, is_gap, is_gap_on, is_in_line, is_joined_back, is_joined_on, is_number, is_readable, is_same_point, is_sound, is_sound_at, is_void_span, leads_back_to, leads_on_to, link_at}
 pub use Rattle.markdown_children.specs.SoFar.{SoFar, starts_below, with_flag}

@@ -1,5 +1,5 @@
 -- The chunks of the chains that fit follow one another.
-use Rattle.markdown_children.proofs.Prelude.{◌≡◌, ℕ, zero, suc, ◌+◌, ◌<◌, ◌≤◌, ⊎_elim, Bool, true, false, cond, List, [], ◌∷◌, ◌++◌, length, Option, Some, None, refl, sym, ◌∙◌, ap, arith, ◌&&◌, filter, flat_map, unwrap_or, is_none, range_with_len, AllByRecursion, cases_eq, none-some, slice_get_within, Content, Event, Enter, Exit, next_of, previous_of, content_at, some_fits, fits, begins, chain_from, chain_of, IsChunk, IsGap, IsReady, LeadOnFrom, IsWholeFrom, AreSpaced, FollowOneAnother}
+use Rattle.markdown_children.proofs.Prelude.{◌≡◌, ℕ, zero, suc, ◌+◌, ◌<◌, ◌≤◌, ⊎_elim, Bool, true, false, cond, List, [], ◌∷◌, ◌++◌, length, Option, Some, None, refl, sym, ◌∙◌, ap, arith, ◌&&◌, filter, flat_map, unwrap_or, is_none, range_with_len, AllByRecursion, cases_eq, none-some, slice_get_within, Content, Event, Enter, Exit, next_of, previous_of, content_at, some_fits, fits, begins, chain_from, chain_of, IsChunk, IsGap, IsReady, LeadOnFrom, IsWholeFrom, AreSpaced, FollowOneAnother, every-map, recursion_from_All, filter_passes, and_parts}
 use Rattle.std.specs.Prelude.{option_map}
 
 -- ---- one more element of a filter
@@ -10,11 +10,8 @@ filter-yes test x xs e = ap (λ b. cond b (x ∷ filter test xs) (filter test xs
 pub filter-no : (test : ℕ → Bool) (x : ℕ) (xs : List ℕ) → test x ≡ false → filter test (x ∷ xs) ≡ filter test xs
 filter-no test x xs e = ap (λ b. cond b (x ∷ filter test xs) (filter test xs)) e
 
-pub both-first : (a b : Bool) → (a && b) ≡ true → a ≡ true
-both-first true b e = refl
-both-first false b e = e
-
-some_content : (wanted o : Option Content) → some_fits wanted o ≡ true → (c : Content) × (o ≡ Some c)
+-- what fits has a content
+pub some_content : (wanted o : Option Content) → some_fits wanted o ≡ true → (c : Content) × (o ≡ Some c)
 some_content wanted None e = absurd (cc)
 some_content wanted (Some c) e = (c, refl)
 
@@ -199,25 +196,15 @@ module _ (tab : ℕ) (bytes : List ℕ) (wanted : Option Content) (events : List
   pub whole-from : (k : ℕ) → Fits k → IsWholeFrom events k
   whole-from k h = whole n k h (omega arith)
 
-  whole_all : (ks : List ℕ) → AllByRecursion (IsWholeFrom events) (filter (begins wanted events) ks)
-  whole_all [] = tt
-  whole_all (k ∷ ks) = at (begins wanted events k) refl (whole_all ks)
-    where
-      at : (b : Bool) → begins wanted events k ≡ b → AllByRecursion (IsWholeFrom events) (filter (begins wanted events) ks) → AllByRecursion (IsWholeFrom events) (filter (begins wanted events) (k ∷ ks))
-      at false e r = rw (filter-no (begins wanted events) k ks e) r
-      at true e r = rw (filter-yes (begins wanted events) k ks e) (whole-from k (both-first (fits wanted events k) (is_none (previous_of events k)) e), r)
-
   pub starts_fit : (ks : List ℕ) → AllByRecursion (λ k. fits wanted events k ≡ true) (filter (begins wanted events) ks)
-  starts_fit [] = tt
-  starts_fit (k ∷ ks) = at (begins wanted events k) refl (starts_fit ks)
-    where
-      at : (b : Bool) → begins wanted events k ≡ b → AllByRecursion (λ k. fits wanted events k ≡ true) (filter (begins wanted events) ks) → AllByRecursion (λ k. fits wanted events k ≡ true) (filter (begins wanted events) (k ∷ ks))
-      at false e r = rw (filter-no (begins wanted events) k ks e) r
-      at true e r = rw (filter-yes (begins wanted events) k ks e) (both-first (fits wanted events k) (is_none (previous_of events k)) e, r)
+  starts_fit ks =
+      let starts = filter (begins wanted events) ks in
+      every-map (λ k. begins wanted events k ≡ true) (λ k. fits wanted events k ≡ true) (λ k b. (and_parts (fits wanted events k) (is_none (previous_of events k)) b).0) starts
+      (recursion_from_All (λ k. begins wanted events k ≡ true) starts (filter_passes (begins wanted events) ks))
 
   pub follow_one_another : FollowOneAnother wanted events
   follow_one_another = record {
     in_order = sym (in_order n 0 None (omega arith) none-open);
     spaced = spaced n 0 0 (omega arith) (λ k h l. l) (omega arith);
-    whole = whole_all (range_with_len 0 n);
+    whole = every-map (λ k. fits wanted events k ≡ true) (IsWholeFrom events) whole-from (filter (begins wanted events) (range_with_len 0 n)) (starts_fit (range_with_len 0 n));
   }

@@ -1,15 +1,16 @@
 -- The chains of a ready list that fit go forward, and the edits of one of them.
-use Rattle.markdown_children.proofs.Prelude.{◌≡◌, ℕ, ◌+◌, ◌<◌, ◌≤◌, ⊎_elim, true, List, [], ◌∷◌, ◌++◌, length, Option, Some, None, refl, sym, ◌∙◌, ap, subst, arith, append-nil, All, IfSome, slice_get, slice_index_or, is_none, AllByRecursion, cases_lt, cases_eq, none-some, slice_get_past, slice_get-get_or, Content, Event, Link, EndsBelow, EachEnd, Edit, AreDisjoint, next_of, previous_of, chain_of, fits, begins, IsReady, LeadOnFrom, AreSpaced, divided, chain_edits, IsForward}
+use Rattle.markdown_children.proofs.Prelude.{◌≡◌, ℕ, ◌+◌, ◌<◌, ◌≤◌, ⊎_elim, true, List, [], ◌∷◌, ◌++◌, length, Option, Some, None, refl, sym, ◌∙◌, ap, subst, arith, append-nil, All, IfSome, slice_get, slice_index_or, is_none, AllByRecursion, cases_eq, slice_get-get_or, Content, Event, Link, EndsBelow, EachEnd, Edit, AreDisjoint, next_of, previous_of, chain_of, fits, begins, IsReady, LeadOnFrom, AreSpaced, divided, chain_edits, IsForward, and_parts}
 use Rattle.std.specs.Prelude.{option_and_then}
-use Rattle.markdown_children.proofs.ChainOrder.Following.{both-first, inside, apart, fits_next, whole-from}
+use Rattle.markdown_children.proofs.ChainOrder.Following.{inside, apart, fits_next, whole-from}
 use Rattle.markdown_children.proofs.Parts.Edits.{all_edits-spaced}
+use Rattle.markdown_children.proofs.Ready.Tests.{with-next, with-previous, inside-link}
 
 module _ (tab : ℕ) (bytes : List ℕ) (wanted : Option Content) (events : List Event) (ready : IsReady tab bytes wanted events) where
   abbrev Fits : ℕ → Type 0
   Fits k = fits wanted events k ≡ true
 
   pub begins-fits : (i : ℕ) → begins wanted events i ≡ true → Fits i
-  begins-fits i b = both-first (fits wanted events i) (is_none (previous_of events i)) b
+  begins-fits i b = (and_parts (fits wanted events i) (is_none (previous_of events i)) b).0
 
   pub within : (i : ℕ) → begins wanted events i ≡ true → i + 1 < length events
   within i b = inside tab bytes wanted events ready i (begins-fits i b)
@@ -37,18 +38,6 @@ module _ (tab : ℕ) (bytes : List ℕ) (wanted : Option Content) (events : List
       let w = whole-from tab bytes wanted events ready i (begins-fits i b) in
       subst (AllByRecursion (IsForward events)) (sym w.1) (forward-all i w.0 (begins-fits i b) w.2)
 
-  inside-back : (k d : ℕ) → previous_of events d ≡ Some k → d < length events
-  inside-back k d e = ⊎_elim
-      (λ (l : d < length events). l)
-      (λ (l : length events ≤ d). absurd (none-some k (sym (ap (option_and_then (λ (x : Event). option_and_then (λ (m : Link). m.previous) x.link)) (slice_get_past events d l)) ∙ e)))
-      (cases_lt d (length events))
-
-  inside-on : (k d : ℕ) → next_of events d ≡ Some k → d < length events
-  inside-on k d e = ⊎_elim
-      (λ (l : d < length events). l)
-      (λ (l : length events ≤ d). absurd (none-some k (sym (ap (option_and_then (λ (x : Event). option_and_then (λ (m : Link). m.next) x.link)) (slice_get_past events d l)) ∙ e)))
-      (cases_lt d (length events))
-
   -- link ends lie inside a list with mutual chains
   pub ends-inside : All (EndsBelow (length events)) events
   ends-inside k d l =
@@ -65,11 +54,11 @@ module _ (tab : ℕ) (bytes : List ℕ) (wanted : Option Content) (events : List
         where
           before : (o : Option ℕ) → previous_of events k ≡ o → IfSome o (λ j. j < length events)
           before None e = tt
-          before (Some j) e = inside-on k j ((ready.joined j k).1 e)
+          before (Some j) e = let l = with-next events j k ((ready.joined j k).1 e) in inside-link events j l.0 l.1
 
           behind : (o : Option ℕ) → next_of events k ≡ o → IfSome o (λ j. j < length events)
           behind None e = tt
-          behind (Some j) e = inside-back k j ((ready.joined k j).0 e)
+          behind (Some j) e = let l = with-previous events j k ((ready.joined k j).0 e) in inside-link events j l.0 l.1
 
   -- ---- one chain
 

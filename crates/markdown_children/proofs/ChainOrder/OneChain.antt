@@ -1,6 +1,6 @@
 -- Each chunk that fits belongs to one chain.
-use Rattle.markdown_children.proofs.Prelude.{◌≡◌, ℕ, zero, suc, ◌<◌, ◌⊎◌, inl, inr, true, false, List, [], ◌∷◌, length, get_or, Option, Some, None, refl, sym, ◌∙◌, ap, subst, arith, ◌&&◌, is_none, Contains, none-some, Content, Event, and-false-never, next_of, previous_of, chain_of, fits, begins, IsReady, LeadOnFrom, IsInChain, IsInOneChain}
-use Rattle.markdown_children.proofs.ChainOrder.Following.{both-first, fits_back, whole-from}
+use Rattle.markdown_children.proofs.Prelude.{◌≡◌, ℕ, zero, suc, ◌<◌, ◌⊎◌, inl, inr, true, false, List, [], ◌∷◌, length, get_or, Option, Some, None, refl, sym, ◌∙◌, ap, subst, arith, ◌&&◌, is_none, Contains, none-some, Content, Event, and-false-never, next_of, previous_of, chain_of, fits, begins, IsReady, LeadOnFrom, IsInChain, IsInOneChain, and_parts}
+use Rattle.markdown_children.proofs.ChainOrder.Following.{fits_back, whole-from}
 
 -- an index is among others
 abbrev IsAmong : ℕ → List ℕ → Type 0
@@ -42,7 +42,7 @@ module _ (tab : ℕ) (bytes : List ℕ) (wanted : Option Content) (events : List
 
   among : (k c : ℕ) → begins wanted events c ≡ true → IsInChain events k c → (ks : List ℕ) × (chain_of events c ≡ c ∷ ks) × LeadOnFrom events c ks × IsAmong k (c ∷ ks)
   among k c b h =
-      let w = whole-from tab bytes wanted events ready c (both-first (fits wanted events c) (is_none (previous_of events c)) b) in
+      let w = whole-from tab bytes wanted events ready c (and_parts (fits wanted events c) (is_none (previous_of events c)) b).0 in
       (w.0, w.1, w.2, subst (IsAmong k) w.1 (from-contains k (chain_of events c) h.0 h.1 h.2))
 
   in-chain : (k c : ℕ) (ks : List ℕ) → chain_of events c ≡ c ∷ ks → IsAmong k (c ∷ ks) → IsInChain events k c

@@ -1,5 +1,5 @@
 -- One turn along a chain.
-use Rattle.markdown_children.proofs.Prelude.{◌≡◌, ℕ, zero, suc, ◌+◌, ◌<◌, ◌≤◌, List, [], ◌∷◌, ◌++◌, length, drop, Some, None, refl, sym, ◌∙◌, ap, arith, length-drop, length-take, AllByRecursion, drop-drop, Event, Point, next_of, chain_from, place_at, front_until, IsForward, rest_table, Chunk}
+use Rattle.markdown_children.proofs.Prelude.{◌≡◌, ℕ, zero, suc, ◌+◌, ◌<◌, ◌≤◌, List, [], ◌∷◌, ◌++◌, length, drop, Some, None, refl, sym, ◌∙◌, ap, arith, length-drop, length-take, AllByRecursion, drop-drop, Event, Point, next_of, chain_from, place_at, front_until, IsForward, rest_table, Chunk, append_assoc}
 
 -- the last chunk: what is left is its part
 last_table : (events es : List Event) (f i j : ℕ) → next_of events i ≡ None → j ≤ length es
@@ -26,10 +26,6 @@ pub record IsLeft (events es : List Event) (link_index : ℕ) (made : List Chunk
 pub left_first : (events es : List Event) (link_index : ℕ) → link_index + 1 < length events → AllByRecursion (IsForward events) (chain_from (length events) events link_index) → IsLeft events es link_index [] link_index 0 (length events)
 left_first events es link_index l w = record { chunks = omega arith; inside = l; start = omega arith; forward = w; built = refl }
 
-append_one : {A : Type 0} (xs : List A) (y : A) (ys : List A) → (xs ++ y ∷ []) ++ ys ≡ xs ++ (y ∷ ys)
-append_one [] y ys = refl
-append_one (x ∷ xs) y ys = ap (λ t. x ∷ t) (append_one xs y ys)
-
 pub left_last : (events es : List Event) (link_index : ℕ) (made : List Chunk) (i j f : ℕ) → IsLeft events es link_index made i j f → next_of events i ≡ None
     → made ++ record { index = i; start = j; end = length es } ∷ [] ≡ rest_table events es (length events) link_index 0
 left_last events es link_index made i j zero w n = let a = w.chunks in let b = w.inside in absurd (omega arith)
@@ -55,7 +51,7 @@ left_next events es link_index made i j (suc (suc f)) d w n =
         inside = ahead.1;
         start = omega (arith, w.start, length-front (place_at events (i + 1)) (drop j es), length-drop j es);
         forward = rest;
-        built = append_one made _ _ ∙ ap (λ t. made ++ t) (sym (next_table events es f i j d n)) ∙ w.built;
+        built = append_assoc made (_ ∷ []) _ ∙ ap (λ t. made ++ t) (sym (next_table events es f i j d n)) ∙ w.built;
       },
     )
 

@@ -1,6 +1,6 @@
 -- The chunks of a chain that fits can be read one after another.
-use Rattle.markdown_children.proofs.Prelude.{◌≡◌, ℕ, ◌+◌, Bool, true, false, cond, List, [], ◌∷◌, Option, Some, ◌⊎◌, refl, sym, ◌∙◌, ap, subst, inl, inr, ⊎_elim, is_none, ParseOptions, Content, Event, Point, stands_before, denotes_same, next_of, previous_of, Given, Text, pushed, passed, followed_by, empty_text, FitsAfter, CanFollow, upto-order, upto-same, same-self, fits, begins, IsReady, place_at, LeadOnFrom, pieces_behind, pieces_of, CanReadChain}
-use Rattle.markdown_children.proofs.ChainOrder.Following.{both-first, fits_next, whole-from}
+use Rattle.markdown_children.proofs.Prelude.{◌≡◌, ℕ, ◌+◌, Bool, true, false, cond, List, [], ◌∷◌, Option, Some, ◌⊎◌, refl, sym, ◌∙◌, ap, subst, inl, inr, ⊎_elim, is_none, ParseOptions, Content, Event, Point, stands_before, denotes_same, next_of, previous_of, Given, Text, pushed, passed, followed_by, empty_text, FitsAfter, CanFollow, upto-order, upto-same, same-self, fits, begins, IsReady, place_at, LeadOnFrom, pieces_behind, pieces_of, CanReadChain, and_parts}
+use Rattle.markdown_children.proofs.ChainOrder.Following.{fits_next, whole-from}
 
 module _ (tab : ℕ) (bytes : List ℕ) (options : ParseOptions) (wanted : Option Content) (events : List Event) (ready : IsReady tab bytes wanted events) where
   abbrev g : Given
@@ -52,7 +52,7 @@ module _ (tab : ℕ) (bytes : List ℕ) (options : ParseOptions) (wanted : Optio
 
   pub chunks_can_be_read : (c : ℕ) → begins wanted events c ≡ true → CanReadChain g events c
   chunks_can_be_read c b =
-      let h = both-first (fits wanted events c) (is_none (previous_of events c)) b in
+      let h = (and_parts (fits wanted events c) (is_none (previous_of events c)) b).0 in
       let w = whole-from tab bytes wanted events ready c h in
       let text : Text = empty_text (place_at events c) in
       subst (λ ks. CanFollow g text (pieces_of events ks)) (sym w.1)

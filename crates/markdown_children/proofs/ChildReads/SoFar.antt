@@ -1,5 +1,5 @@
 -- The loop of `subtokenize`: what is known before the event at an index is looked at.
-use Rattle.markdown_children.proofs.Prelude.{◌≡◌, ℕ, zero, suc, ◌+◌, ◌-◌, ◌*◌, ◌<◌, ◌↔◌, true, false, List, [], ◌∷◌, ◌++◌, length, Option, Some, refl, sym, ◌∙◌, ap, subst, arith, append_assoc, append-nil, flat_map, filter, AllByRecursion, AllZip, range_with_len, map-append, length-map, filter-append, flat_map-append, Content, Event, Message, IsBalanced, IsVoidTight, relinked, Edit, AreDisjoint, removed_by, added_by, edited, AreDisjoint-le, Subresult, Fault, Memory, Failed, Given, Rules, IsInShape, with_more, AreMutual, chain_of, begins, fitting_starts, IsReady, AreSpaced, HasEndsWithin, Divided, divided, divided_over, child_place, part_edits, chain_edits, all_edits, total, StandBefore, with_children, Child, lists, IsChild, AreChildren, IsChildRefused, IsChildFault, IsSubtokenized, IsSubtokenizeRefused, IsSubtokenizeFault, SoFar, starts_below}
+use Rattle.markdown_children.proofs.Prelude.{◌≡◌, ℕ, zero, suc, ◌+◌, ◌-◌, ◌*◌, ◌<◌, ◌↔◌, true, false, List, [], ◌∷◌, ◌++◌, length, Option, Some, refl, sym, ◌∙◌, ap, subst, arith, append_assoc, append-nil, flat_map, filter, AllByRecursion, AllZip, range_with_len, map-append, length-map, filter-append, flat_map-append, Content, Event, IsBalanced, IsVoidTight, relinked, Edit, AreDisjoint, removed_by, added_by, edited, AreDisjoint-le, Subresult, Fault, Memory, Failed, Given, Rules, IsInShape, with_more, AreMutual, chain_of, begins, fitting_starts, IsReady, AreSpaced, HasEndsWithin, Divided, divided, divided_over, child_place, part_edits, chain_edits, all_edits, total, StandBefore, with_children, Child, lists, IsChild, AreChildren, IsChildFault, IsSubtokenized, IsSubtokenizeFault, SoFar, starts_below, AllZip-long}
 use Rattle.markdown_tokenizer.specs.declared.tokenizer.fault.Fault.TheVariants as fault
 use Rattle.markdown_children.proofs.ChainOrder.Following.{filter-yes, filter-no, whole-from, follow_one_another}
 use Rattle.markdown_children.proofs.ChainOrder.Forward.{begins-fits, within}
@@ -57,12 +57,6 @@ all-zip-push R [] [] x y h r = (r, tt)
 all-zip-push R [] (b ∷ ys) x y h r = absurd h
 all-zip-push R (a ∷ xs) [] x y h r = absurd h
 all-zip-push R (a ∷ xs) (b ∷ ys) x y h r = (h.0, all-zip-push R xs ys x y h.1 r)
-
-all-zip-long : {A B : Type 0} (R : A → B → Type 0) (xs : List A) (ys : List B) → AllZip R xs ys → length xs ≡ length ys
-all-zip-long R [] [] h = refl
-all-zip-long R [] (b ∷ ys) h = absurd h
-all-zip-long R (a ∷ xs) [] h = absurd h
-all-zip-long R (a ∷ xs) (b ∷ ys) h = ap suc (all-zip-long R xs ys h.1)
 
 -- ---- the chains that begin below an index
 
@@ -129,12 +123,24 @@ module _ (tab : ℕ) (bytes : List ℕ) (wanted : Option Content) (events : List
 
 -- ---- the invariant
 
-module _ {R D : Type 0} (g : Given) (rules : Given → Rules R D) (wanted : Option Content) (events : List Event) where
-  pub so_far-start : (es : List Edit) (sub : Subresult) → es ≡ [] → sub.done ≡ true → sub.definitions ≡ [] → sub.gfm_footnote_definitions ≡ [] → SoFar g rules wanted events 0 es (0, 0) sub
-  so_far-start es sub e d f n = record { children = []; read = tt; edits = e; removed = ap removed_by (sym e); added = ap added_by (sym e); done = ((λ t. refl), (λ t. d)); definitions = f; footnotes = n }
+-- what holds of the events of each child holds of their lists
+lists-all : {R D : Type 0} (g : Given) (rules : Given → Rules R D) (events : List Event) (P : List Event → Type 0) → ((c : ℕ) (child : Child) → IsChild g rules events c child → P child.events)
+    → (cs : List ℕ) (children : List Child) → AreChildren g rules events cs children → AllByRecursion P (lists children)
+lists-all g rules events P f [] [] h = tt
+lists-all g rules events P f [] (child ∷ children) h = absurd h
+lists-all g rules events P f (c ∷ cs) [] h = absurd h
+lists-all g rules events P f (c ∷ cs) (child ∷ children) h = (f c child h.0, lists-all g rules events P f cs children h.1)
+
+-- where memory runs out
+pub memory-fault : {R D : Type 0} (g : Given) (rules : Given → Rules R D) (wanted : Option Content) (events : List Event) (f : Fault) → f ≡ Memory → IsSubtokenizeFault g rules wanted events f
+memory-fault g rules wanted events f e = subst (IsSubtokenizeFault g rules wanted events) (sym e) tt
+
+module _ {R D : Type 0} {g : Given} {rules : Given → Rules R D} {wanted : Option Content} {events : List Event} where
+  pub so_far-start : {es : List Edit} {sub : Subresult} → es ≡ [] → sub.done ≡ true → sub.definitions ≡ [] → sub.gfm_footnote_definitions ≡ [] → SoFar g rules wanted events 0 es (0, 0) sub
+  so_far-start e d f n = record { children = []; read = tt; edits = e; removed = ap removed_by (sym e); added = ap added_by (sym e); done = ((λ t. refl), (λ t. d)); definitions = f; footnotes = n }
 
   -- nothing begins there
-  pub so_far-same : (i : ℕ) (es : List Edit) (sums : ℕ × ℕ) (sub : Subresult) → begins wanted events i ≡ false → SoFar g rules wanted events i es sums sub → SoFar g rules wanted events (i + 1) es sums sub
+  so_far-same : (i : ℕ) (es : List Edit) (sums : ℕ × ℕ) (sub : Subresult) → begins wanted events i ≡ false → SoFar g rules wanted events i es sums sub → SoFar g rules wanted events (i + 1) es sums sub
   so_far-same i es sums sub b s =
       let same : starts_below wanted events i ≡ starts_below wanted events (i + 1) =
       sym (starts-next wanted events i ∙ ap (λ ks. starts_below wanted events i ++ ks) (filter-no (begins wanted events) i [] b) ∙ append-nil (starts_below wanted events i)) in
@@ -149,28 +155,25 @@ module _ {R D : Type 0} (g : Given) (rules : Given → Rules R D) (wanted : Opti
         footnotes = s.footnotes;
       }
 
-  pub so_far-other : (i : ℕ) (es fs : List Edit) (sums more : ℕ × ℕ) (sub found : Subresult) → begins wanted events i ≡ false → fs ≡ es → more ≡ sums → found ≡ sub → SoFar g rules wanted events i es sums sub
+  pub so_far-other : {i : ℕ} {es fs : List Edit} {sums more : ℕ × ℕ} {sub found : Subresult} → begins wanted events i ≡ false → fs ≡ es → more ≡ sums → found ≡ sub → SoFar g rules wanted events i es sums sub
       → SoFar g rules wanted events (i + 1) fs more found
-  so_far-other i es fs sums more sub found b e d f s =
-      subst (λ (x : List Edit). SoFar g rules wanted events (i + 1) x more found) (sym e)
-      (subst (λ (y : ℕ × ℕ). SoFar g rules wanted events (i + 1) es y found) (sym d)
-      (subst (λ (z : Subresult). SoFar g rules wanted events (i + 1) es sums z) (sym f) (so_far-same i es sums sub b s)))
+  so_far-other {i} {es} {fs} {sums} {more} {sub} b e d f s = rw (e, d, f) (so_far-same i es sums sub b s)
 
   -- one more chain was read
-  pub so_far-next : (i : ℕ) (es fs : List Edit) (sums more : ℕ × ℕ) (sub found : Subresult) (child : Child) (tab : ℕ) (bytes : List ℕ) → IsReady tab bytes wanted events → begins wanted events i ≡ true → SoFar g rules wanted events i es sums sub
+  pub so_far-next : {i : ℕ} {es fs : List Edit} {sums more : ℕ × ℕ} {sub found : Subresult} {child : Child} {tab : ℕ} {bytes : List ℕ} → IsReady tab bytes wanted events → begins wanted events i ≡ true → SoFar g rules wanted events i es sums sub
       → IsChild g rules events i child
       → fs ≡ es ++ chain_edits sums.0 sums.1 (divided events i child.events)
       → more.0 ≡ sums.0 + 2 * length (chain_of events i) → more.1 ≡ sums.1 + length child.events
       → found ≡ record (with_more sub (Some child.found)) { done = false }
       → SoFar g rules wanted events (i + 1) fs more found
-  so_far-next i es fs sums more sub found child tab bytes ready b s is e r a f_is =
+  so_far-next {i} {es} {fs} {sums} {more} {sub} {found} {child} {tab} {bytes} ready b s is e r a f_is =
       let cs : List ℕ = starts_below wanted events i in
       let d : found.done ≡ false = ap (λ (x : Subresult). x.done) f_is in
       let defs : found.definitions ≡ sub.definitions ++ child.found.definitions = ap (λ (x : Subresult). x.definitions) f_is in
       let notes : found.gfm_footnote_definitions ≡ sub.gfm_footnote_definitions ++ child.found.gfm_footnote_definitions = ap (λ (x : Subresult). x.gfm_footnote_definitions) f_is in
       let next : cs ++ i ∷ [] ≡ starts_below wanted events (i + 1) = sym (starts-next wanted events i ∙ ap (λ ks. cs ++ ks) (filter-yes (begins wanted events) i [] b)) in
       let both : lists (s.children ++ child ∷ []) ≡ lists s.children ++ child.events ∷ [] = map-append (λ (c : Child). c.events) s.children (child ∷ []) in
-      let long : length cs ≡ length (lists s.children) = all-zip-long (IsChild g rules events) cs s.children s.read ∙ sym (length-map s.children (λ (c : Child). c.events)) in
+      let long : length cs ≡ length (lists s.children) = sym (AllZip-long (IsChild g rules events) cs s.children s.read) ∙ sym (length-map s.children (λ (c : Child). c.events)) in
       let ds : List Divided = divided_over events cs (lists s.children) in
       let dv : Divided = divided events i child.events in
       let old : List Edit = all_edits 0 0 ds in
@@ -196,27 +199,19 @@ module _ {R D : Type 0} (g : Given) (rules : Given → Rules R D) (wanted : Opti
       no-push [] x e = cc
       no-push (y ∷ xs) x e = cc
 
-  -- what holds of the events of each child holds of their lists
-  lists-all : (P : List Event → Type 0) → ((c : ℕ) (child : Child) → IsChild g rules events c child → P child.events) → (cs : List ℕ) (children : List Child) → AreChildren g rules events cs children → AllByRecursion P (lists children)
-  lists-all P f [] [] h = tt
-  lists-all P f [] (child ∷ children) h = absurd h
-  lists-all P f (c ∷ cs) [] h = absurd h
-  lists-all P f (c ∷ cs) (child ∷ children) h = (f c child h.0, lists-all P f cs children h.1)
-
   -- all was read, and the edits were made
-  pub so_far-end : (tab : ℕ) (bytes : List ℕ) (es : List Edit) (sums : ℕ × ℕ) (sub : Subresult) (new : List Event) → IsReady tab bytes wanted events → SoFar g rules wanted events (length events) es sums sub → new ≡ edited es events
+  pub so_far-end : {tab : ℕ} {bytes : List ℕ} {es : List Edit} {sums : ℕ × ℕ} {sub : Subresult} {new : List Event} → IsReady tab bytes wanted events → SoFar g rules wanted events (length events) es sums sub → new ≡ edited es events
       → IsSubtokenized g rules wanted events new sub
-  so_far-end tab bytes es sums sub new ready s e =
+  so_far-end {tab} {bytes} {es} {sums} {sub} {new} ready s e =
       let fit = children_fit tab bytes wanted events ready (lists s.children) in
-      let balanced : AllByRecursion IsBalanced (lists s.children) = lists-all IsBalanced (λ c child is. is.in_shape.balanced) (starts_below wanted events (length events)) s.children s.read in
-      let chained : AllByRecursion AreMutual (lists s.children) = lists-all AreMutual (λ c child is. is.in_shape.chained) (starts_below wanted events (length events)) s.children s.read in
-      let ends : AllByRecursion HasEndsWithin (lists s.children) = lists-all HasEndsWithin (λ c child is. is.in_shape.inside) (starts_below wanted events (length events)) s.children s.read in
+      let each = λ (P : List Event → Type 0) (f : (c : ℕ) (child : Child) → IsChild g rules events c child → P child.events). lists-all g rules events P f (starts_below wanted events (length events)) s.children s.read in
+      let ends : AllByRecursion HasEndsWithin (lists s.children) = each HasEndsWithin (λ c child is. is.in_shape.inside) in
       let is : new ≡ with_children wanted events (lists s.children) = e ∙ ap (λ fs. edited fs events) s.edits ∙ (edits_give_children tab bytes wanted events (lists s.children) ready).give ends in
       record {
         children = s.children;
         read = s.read;
         events = is;
-        in_shape = subst IsInShape (sym is) (record { balanced = fit.balanced balanced; inside = fit.inside; chained = fit.chained chained });
+        in_shape = subst IsInShape (sym is) (record { balanced = fit.balanced (each IsBalanced (λ c child is. is.in_shape.balanced)); inside = fit.inside; chained = fit.chained (each AreMutual (λ c child is. is.in_shape.chained)) });
         tight = λ old bs torn. subst IsVoidTight (sym is) (fit.tight old bs torn);
         stays = fit.stays;
         links = fit.links;
@@ -225,26 +220,17 @@ module _ {R D : Type 0} (g : Given) (rules : Given → Rules R D) (wanted : Opti
         footnotes = s.footnotes;
       }
 
-  pub so_far-disjoint : (tab : ℕ) (bytes : List ℕ) (es : List Edit) (sums : ℕ × ℕ) (sub : Subresult) → IsReady tab bytes wanted events → SoFar g rules wanted events (length events) es sums sub → AreDisjoint 0 es (length events)
-  so_far-disjoint tab bytes es sums sub ready s = subst (λ (fs : List Edit). AreDisjoint 0 fs (length events)) (sym s.edits) (edits_give_children tab bytes wanted events (lists s.children) ready).disjoint
+  pub so_far-disjoint : {tab : ℕ} {bytes : List ℕ} {es : List Edit} {sums : ℕ × ℕ} {sub : Subresult} → IsReady tab bytes wanted events → SoFar g rules wanted events (length events) es sums sub → AreDisjoint 0 es (length events)
+  so_far-disjoint {tab} {bytes} ready s = subst (λ (fs : List Edit). AreDisjoint 0 fs (length events)) (sym s.edits) (edits_give_children tab bytes wanted events (lists s.children) ready).disjoint
 
-  pub so_far-before : (tab : ℕ) (bytes : List ℕ) (i : ℕ) (es : List Edit) (sums : ℕ × ℕ) (sub : Subresult) → IsReady tab bytes wanted events → begins wanted events i ≡ true → SoFar g rules wanted events i es sums sub → StandBefore es i
-  so_far-before tab bytes i es sums sub ready b s = subst (λ (fs : List Edit). StandBefore fs i) (sym s.edits) (stand-before tab bytes wanted events ready i (lists s.children) b)
+  pub so_far-before : {tab : ℕ} {bytes : List ℕ} {i : ℕ} {es : List Edit} {sums : ℕ × ℕ} {sub : Subresult} → IsReady tab bytes wanted events → begins wanted events i ≡ true → SoFar g rules wanted events i es sums sub → StandBefore es i
+  so_far-before {tab} {bytes} {i} ready b s = subst (λ (fs : List Edit). StandBefore fs i) (sym s.edits) (stand-before tab bytes wanted events ready i (lists s.children) b)
 
-  -- a chain ended in a message
-  pub so_far-refused : (i : ℕ) (es : List Edit) (sums : ℕ × ℕ) (sub : Subresult) (m : Message) → i < length events → begins wanted events i ≡ true → SoFar g rules wanted events i es sums sub → IsChildRefused g rules events i m
-      → IsSubtokenizeRefused g rules wanted events m
-  so_far-refused i es sums sub m l b s r =
+  -- where a chain ended in a message or ran out of memory, `subtokenize` fails as the chain does
+  pub so_far-fault : {i : ℕ} {es : List Edit} {sums : ℕ × ℕ} {sub : Subresult} (f : Fault) → i < length events → begins wanted events i ≡ true → SoFar g rules wanted events i es sums sub → IsChildFault g rules events i f
+      → IsSubtokenizeFault g rules wanted events f
+  so_far-fault Memory l b s r = tt
+  so_far-fault Failed l b s r = absurd r
+  so_far-fault {i} (fault.Message m) l b s r =
       let split = starts-split wanted events i l b in
       record { front = starts_below wanted events i; chain = i; behind = split.0; starts = split.1; children = s.children; read = s.read; refused = r }
-
-  -- so `subtokenize` fails as the chain does
-  pub so_far-fault : (i : ℕ) (es : List Edit) (sums : ℕ × ℕ) (sub : Subresult) (f : Fault) → i < length events → begins wanted events i ≡ true → SoFar g rules wanted events i es sums sub → IsChildFault g rules events i f
-      → IsSubtokenizeFault g rules wanted events f
-  so_far-fault i es sums sub Memory l b s r = tt
-  so_far-fault i es sums sub Failed l b s r = absurd r
-  so_far-fault i es sums sub (fault.Message m) l b s r = so_far-refused i es sums sub m l b s r
-
-  -- and where memory runs out
-  pub memory-fault : (f : Fault) → f ≡ Memory → IsSubtokenizeFault g rules wanted events f
-  memory-fault f e = subst (IsSubtokenizeFault g rules wanted events) (sym e) tt

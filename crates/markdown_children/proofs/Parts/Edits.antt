@@ -1,5 +1,5 @@
 -- The edits of the chains that fit.
-use Rattle.markdown_children.proofs.Prelude.{◌≡◌, ℕ, zero, suc, ◌+◌, ◌*◌, ◌<◌, Bool, true, false, List, [], ◌∷◌, ◌++◌, length, map, Option, refl, sym, ◌∙◌, ap, subst, arith, length-append, flat_map, filter, All, AllByRecursion, range_with_len, All-head, All-tail, All-from_recursion, Content, Event, Point, EndsBelow, Edit, AreDisjoint, chain_of, begins, fitting_starts, IsReady, place_at, IsWholeFrom, AreSpaced, HasEndsWithin, EditsGiveChildren, parts, Divided, divided, divided_over, child_place, part_edits, total, all_edits, first_chunk}
+use Rattle.markdown_children.proofs.Prelude.{◌≡◌, ℕ, zero, suc, ◌+◌, ◌*◌, ◌<◌, Bool, true, false, List, [], ◌∷◌, ◌++◌, length, map, Option, refl, sym, ◌∙◌, ap, subst, arith, length-append, flat_map, filter, All, AllByRecursion, range_with_len, All-head, All-tail, All-from_recursion, Content, Event, Point, EndsBelow, Edit, AreDisjoint, chain_of, begins, fitting_starts, IsReady, place_at, IsWholeFrom, AreSpaced, HasEndsWithin, EditsGiveChildren, parts, Divided, divided, divided_over, child_place, part_edits, total, all_edits, first_chunk, every-filter}
 use Rattle.markdown_children.proofs.ChainOrder.Following.{filter-yes, filter-no, follow_one_another}
 use Rattle.markdown_children.proofs.ChainOrder.Spaced.{AreSpaced-le, divided-parts, changes_are_apart}
 use Rattle.markdown_children.proofs.Parts.Kept.{joined, joined-parts}
@@ -28,20 +28,16 @@ abbrev pub IsRising : List ℕ → Type 0
 IsRising [] = Unit {0}
 IsRising (c ∷ cs) = AllByRecursion (λ (d : ℕ). c < d) cs × IsRising cs
 
-above : (test : ℕ → Bool) (f i m : ℕ) → m < i → AllByRecursion (λ (d : ℕ). m < d) (filter test (range_with_len i f))
-above test zero i m l = tt
-above test (suc f) i m l = at (test i) refl (above test f (i + 1) m (omega arith))
-  where
-    at : (b : Bool) → test i ≡ b → AllByRecursion (λ (d : ℕ). m < d) (filter test (range_with_len (i + 1) f)) → AllByRecursion (λ (d : ℕ). m < d) (filter test (range_with_len i (suc f)))
-    at true e r = rw (filter-yes test i (range_with_len (i + 1) f) e) (l, r)
-    at false e r = rw (filter-no test i (range_with_len (i + 1) f) e) r
+range-above : (f i m : ℕ) → m < i → AllByRecursion (λ (d : ℕ). m < d) (range_with_len i f)
+range-above zero i m l = tt
+range-above (suc f) i m l = (l, range-above f (i + 1) m (omega arith))
 
 pub rising : (test : ℕ → Bool) (f i : ℕ) → IsRising (filter test (range_with_len i f))
 rising test zero i = tt
 rising test (suc f) i = at (test i) refl (rising test f (i + 1))
   where
     at : (b : Bool) → test i ≡ b → IsRising (filter test (range_with_len (i + 1) f)) → IsRising (filter test (range_with_len i (suc f)))
-    at true e r = rw (filter-yes test i (range_with_len (i + 1) f) e) (above test f (i + 1) i (omega arith), r)
+    at true e r = rw (filter-yes test i (range_with_len (i + 1) f) e) (every-filter (λ (d : ℕ). i < d) test (range_with_len (i + 1) f) (range-above f (i + 1) i (omega arith)), r)
     at false e r = rw (filter-no test i (range_with_len (i + 1) f) e) r
 
 pub first-whole : (events : List Event) (c : ℕ) → IsWholeFrom events c → first_chunk (chain_of events c) ≡ c

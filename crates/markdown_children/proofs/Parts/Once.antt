@@ -1,5 +1,5 @@
 -- Each event is in the list with children once.
-use Rattle.markdown_children.proofs.Prelude.{◌≡◌, ℕ, zero, suc, ◌+◌, ◌-◌, ◌<◌, ◌≤◌, Bool, true, false, eqb, List, [], ◌∷◌, ◌++◌, length, take, drop, Some, None, refl, sym, ◌∙◌, ap, subst, arith, length-drop, ◌&&◌, flat_map, slice_get, AllByRecursion, ne_eqb, eq-eqb, length-take-le, none-some, same_Some, Event, Identity, of_list, of_child, of_addition, Tagged, is_same, place_in, Change, olds, pass, AreApart, AreApart-le, HasNo, place_in-append, place_in-olds_below, place_in-pass_below, Divided, tagged_child, part_changes, first_chunk, chain_changes}
+use Rattle.markdown_children.proofs.Prelude.{◌≡◌, ℕ, zero, suc, ◌+◌, ◌-◌, ◌<◌, ◌≤◌, Bool, true, false, eqb, List, [], ◌∷◌, ◌++◌, length, take, drop, Some, None, refl, sym, ◌∙◌, ap, subst, arith, length-drop, ◌&&◌, flat_map, slice_get, AllByRecursion, ne_eqb, eq-eqb, length-take-le, none-some, same_Some, Event, Identity, of_list, of_child, of_addition, Tagged, is_same, place_in, Change, olds, pass, AreApart, AreApart-le, HasNo, place_in-append, place_in-olds_below, place_in-pass_below, Divided, tagged_child, part_changes, first_chunk, chain_changes, every-map}
 use Rattle.std.proofs.lemmas.Bool.{eqb-true}
 use Rattle.markdown_children.proofs.Parts.ChildPlaces.{place_in-child_olds}
 use Rattle.markdown_children.proofs.Parts.Placed.{has_no-chain, has_no-append}
@@ -70,10 +70,6 @@ none-pass b (w ∷ ws) i xs h k =
     none-append b (olds i (take (w.index - i) xs)) (w.events ++ rest) (h i (take (w.index - i) xs))
     (none-append b w.events rest k.0 (none-pass b ws (w.index + w.remove) (drop (w.index + w.remove - i) xs) h k.1))
 
-all-mapped : {A : Type 0} (P Q : A → Type 0) → ((a : A) → P a → Q a) → (xs : List A) → AllByRecursion P xs → AllByRecursion Q xs
-all-mapped P Q f [] h = tt
-all-mapped P Q f (x ∷ xs) h = (f x h.0, all-mapped P Q f xs h.1)
-
 pub once-pass : (ws : List Change) (i : ℕ) (xs : List Event) → ((n : ℕ) → HasNo (of_list n) ws) → ComeOnce ws → AreApart i ws (i + length xs) → AreOnce (pass ws i xs)
 once-pass [] i xs h k d = once-olds i xs
 once-pass (w ∷ ws) i xs h k d =
@@ -91,7 +87,7 @@ once-pass (w ∷ ws) i xs h k d =
     λ n l u. none-append (of_list n) w.events rest (h n).0 (place_in-pass_below ws n j back (h n).1 d' (omega (arith, long))) in
     once-append (olds i front) (w.events ++ rest) (once-olds i front) (all-olds (λ b. place_in b (w.events ++ rest) ≡ None) i front below)
     (once-append w.events rest k.0
-    (all-mapped (λ (t : Tagged). IsNoOld t.identity × HasNo t.identity ws) (λ (t : Tagged). place_in t.identity rest ≡ None) (λ t p. none-pass t.identity ws j back p.0 p.1) w.events k.1)
+    (every-map (λ (t : Tagged). IsNoOld t.identity × HasNo t.identity ws) (λ (t : Tagged). place_in t.identity rest ≡ None) (λ t p. none-pass t.identity ws j back p.0 p.1) w.events k.1)
     later)
 
 -- ---- the parts of children

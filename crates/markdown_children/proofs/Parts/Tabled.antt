@@ -1,5 +1,5 @@
 -- The table of a chain's chunks gives the parts, and the final places of their events.
-use Rattle.markdown_children.proofs.Prelude.{◌≡◌, ℕ, zero, suc, ◌+◌, ◌-◌, ◌*◌, ◌^◌, ◌<◌, ◌≤◌, true, false, ltb, List, [], ◌∷◌, ◌++◌, map, length, take, drop, Option, Some, None, refl, sym, ◌∙◌, ap, ⊎_elim, arith, All, IfSome, option_map, between, AllByRecursion, IsNonDecreasingBy, cases_lt, lt-ltb, le-ltb, drop-drop, All-from_recursion, drop-append_seam, Event, Link, Point, relinked, EachEnd, Edit, AreDisjoint, AreBehind, removed_by, next_of, chain_from, chain_of, place_at, HasEndsWithin, parts, divided, child_place, part_edits, chain_edits, total, IsForward, StandBefore, table, rest_table, table_place, AreAbove, AreRising, chunk_edit, Chunk}
+use Rattle.markdown_children.proofs.Prelude.{◌≡◌, ℕ, zero, suc, ◌+◌, ◌-◌, ◌*◌, ◌^◌, ◌<◌, ◌≤◌, true, false, ltb, List, [], ◌∷◌, map, length, take, drop, Option, Some, None, refl, sym, ◌∙◌, ap, ⊎_elim, arith, All, IfSome, option_map, between, AllByRecursion, IsNonDecreasingBy, cases_lt, lt-ltb, le-ltb, drop-drop, All-from_recursion, drop-append_seam, Event, Link, Point, relinked, EachEnd, Edit, AreDisjoint, AreBehind, removed_by, next_of, chain_from, chain_of, place_at, HasEndsWithin, parts, divided, child_place, part_edits, chain_edits, total, IsForward, StandBefore, table, rest_table, table_place, AreAbove, AreRising, chunk_edit, Chunk, every-map, take-append_seam}
 use Rattle.std.specs.Option.{unwrap_or}
 use Rattle.markdown_children.proofs.ChainOrder.Spaced.{length-parts, length-map_ends}
 use Rattle.markdown_children.proofs.Parts.Halves.{table-ends}
@@ -32,16 +32,12 @@ same_place ks ps removed added n =
     let y : added + 0 ≡ added = omega arith in
     ap (table_place (table ks ps 0) removed added) z ∙ table_place-child_place ks ps 0 n removed added ∙ ap (λ m. child_place ks ps removed m n) y
 
-take_front : (xs ys : List Event) → take (length xs) (xs ++ ys) ≡ xs
-take_front [] ys = refl
-take_front (x ∷ xs) ys = ap (λ t. x ∷ t) (take_front xs ys)
-
 edits_by_table : (f : ℕ → Option ℕ) (child : List Event) (ks : List ℕ) (ps : List (List Event)) (j : ℕ) → length ks ≡ length ps → drop j child ≡ joined ps → map (chunk_edit f child) (table ks ps j) ≡ part_edits f ks ps
 edits_by_table f child [] ps j e d = refl
 edits_by_table f child (k ∷ ks) [] j e d = refl
 edits_by_table f child (k ∷ ks) (p ∷ ps) j e d =
     let z : j + length p - j ≡ length p = omega arith in
-    let here : between j (j + length p) child ≡ p = ap (λ m. take m (drop j child)) z ∙ ap (take (length p)) d ∙ take_front p (joined ps) in
+    let here : between j (j + length p) child ≡ p = ap (λ m. take m (drop j child)) z ∙ ap (take (length p)) d ∙ take-append_seam p (joined ps) in
     let rest : drop (j + length p) child ≡ joined ps = sym (drop-drop (length p) j child) ∙ ap (drop (length p)) d ∙ drop-append_seam p (joined ps) in
     let one : List Event → Edit = λ xs. record { index = k; remove = 2; additions = map (relinked f) xs } in
     (λ i. one (here i) ∷ edits_by_table f child ks ps (j + length p) (omega arith) rest i)
@@ -78,22 +74,14 @@ module _ (events : List Event) where
       on None e r ih = tt
       on (Some d) e r ih = let a = (h.0.next d e).0 in ih d r (omega arith)
 
-  firsts : (P Q : Chunk → Type 0) (cs : List Chunk) → AllByRecursion (λ (c : Chunk). P c × Q c) cs → AllByRecursion P cs
-  firsts P Q [] h = tt
-  firsts P Q (c ∷ cs) h = (h.0.0, firsts P Q cs h.1)
-
-  seconds : (P Q : Chunk → Type 0) (cs : List Chunk) → AllByRecursion (λ (c : Chunk). P c × Q c) cs → AllByRecursion Q cs
-  seconds P Q [] h = tt
-  seconds P Q (c ∷ cs) h = (h.0.1, seconds P Q cs h.1)
-
   above-all : (m f i j : ℕ) (ps : List (List Event)) → AllByRecursion (IsForward events) (chain_from f events i) → m ≤ i → AllByRecursion (λ (c : Chunk). m ≤ c.index) (table (chain_from f events i) ps j)
   above-all m f i j ps h l =
-      firsts (λ (c : Chunk). m ≤ c.index) (λ (c : Chunk). IsForward events c.index) (table (chain_from f events i) ps j)
+      every-map (λ (c : Chunk). (m ≤ c.index) × IsForward events c.index) (λ (c : Chunk). m ≤ c.index) (λ c h. h.0) (table (chain_from f events i) ps j)
       (along (λ k. m ≤ k) (λ k d p w e. let a = (w.next d e).0 in omega arith) f i j ps h l)
 
-  inside-all : (f i j : ℕ) (ps : List (List Event)) → AllByRecursion (IsForward events) (chain_from f events i) → AllByRecursion (λ (c : Chunk). IsForward events c.index) (table (chain_from f events i) ps j)
-  inside-all f i j ps h =
-      seconds (λ (c : Chunk). 0 ≤ c.index) (λ (c : Chunk). IsForward events c.index) (table (chain_from f events i) ps j)
+  within-all : (f i j : ℕ) (ps : List (List Event)) → AllByRecursion (IsForward events) (chain_from f events i) → AllByRecursion (λ (c : Chunk). c.index + 1 < length events) (table (chain_from f events i) ps j)
+  within-all f i j ps h =
+      every-map (λ (c : Chunk). (0 ≤ c.index) × IsForward events c.index) (λ (c : Chunk). c.index + 1 < length events) (λ c h. h.1.within) (table (chain_from f events i) ps j)
       (along (λ k. 0 ≤ k) (λ k d p w e. omega arith) f i j ps h (omega arith))
 
   are-rising : (f i j : ℕ) (ps : List (List Event)) → AllByRecursion (IsForward events) (chain_from f events i) → AreRising (table (chain_from f events i) ps j)
@@ -155,11 +143,7 @@ module _ (events child : List Event) (i : ℕ) (forward : AllByRecursion (IsForw
   chunks-ends = table-ends ks ps 0
 
   inside : AllByRecursion (λ (c : Chunk). c.index + 1 < length events) cs
-  inside = within-each cs (inside-all events (length events) i 0 ps forward)
-    where
-      within-each : (cs : List Chunk) → AllByRecursion (λ (c : Chunk). IsForward events c.index) cs → AllByRecursion (λ (c : Chunk). c.index + 1 < length events) cs
-      within-each [] h = tt
-      within-each (c ∷ cs) h = (h.0.within, within-each cs h.1)
+  inside = within-all events (length events) i 0 ps forward
 
   pub chunks-within : All (λ (c : Chunk). (c.start ≤ c.end) × (c.end ≤ length child)) cs
   chunks-within = All-from_recursion (λ (c : Chunk). (c.start ≤ c.end) × (c.end ≤ length child)) cs
@@ -173,11 +157,8 @@ module _ (events child : List Event) (i : ℕ) (forward : AllByRecursion (IsForw
   chunks-fit added ends l k d m = on_link _ (ends k d m)
     where
       each : (n : ℕ) → n < length child → All (λ (c : Chunk). c.index + 2 + added + n < 2 ^ 64) cs
-      each n b = All-from_recursion (λ (c : Chunk). c.index + 2 + added + n < 2 ^ 64) cs (small cs inside)
-        where
-          small : (cs : List Chunk) → AllByRecursion (λ (c : Chunk). c.index + 1 < length events) cs → AllByRecursion (λ (c : Chunk). c.index + 2 + added + n < 2 ^ 64) cs
-          small [] h = tt
-          small (c ∷ cs) h = (let a : c.index + 1 < length events = h.0 in omega arith, small cs h.1)
+      each n b = All-from_recursion (λ (c : Chunk). c.index + 2 + added + n < 2 ^ 64) cs
+          (every-map (λ (c : Chunk). c.index + 1 < length events) (λ (c : Chunk). c.index + 2 + added + n < 2 ^ 64) (λ c a. omega arith) cs inside)
 
       on_end : (o : Option ℕ) → IfSome o (λ n. n < length child) → IfSome o (λ n. All (λ (c : Chunk). c.index + 2 + added + n < 2 ^ 64) cs)
       on_end None b = tt

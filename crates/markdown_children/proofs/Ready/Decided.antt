@@ -1,9 +1,8 @@
 -- The tests together decide whether a list is ready.
-use Rattle.markdown_children.proofs.Prelude.{◌≡◌, ◌≢◌, ℕ, ◌+◌, ◌<◌, ⊎_elim, Bool, true, false, cond, List, length, Option, Some, None, refl, sym, ◌∙◌, ap, subst, arith, Result, ◌&&◌, not, nat_lt, slice_get, unwrap_or, ◌↔◌, IfOk, lt-ltb, not-true, not_from_false, cases_eq, and_parts, sameb, same_true, true_same, Content, Flow, Event, Link, Point, stands_before, next_of, previous_of, content_at, lets_through, some_fits, fits, place_at, IsShownPlace, IsReady, closes, link_at, is_number, is_chunk, leads_back_to, is_joined_on, leads_on_to, is_joined_back, is_sound, is_sound_at, is_gap_on, is_readable, can_be_read, can_be_read_at, AllBelow, FailsSomewhere, is_place}
-use Rattle.std.specs.Cmp.Derive.{both_true}
+use Rattle.markdown_children.proofs.Prelude.{◌≡◌, ◌≢◌, ℕ, ◌+◌, ◌<◌, ⊎_elim, Bool, true, false, cond, List, length, Option, Some, None, refl, sym, ◌∙◌, ap, subst, arith, Result, ◌&&◌, not, unwrap_or, ◌↔◌, IfOk, lt-ltb, not-true, not_from_false, cases_eq, and_parts, sameb, same_true, true_same, Content, Flow, Event, Link, Point, stands_before, next_of, previous_of, content_at, lets_through, some_fits, fits, place_at, IsShownPlace, IsReady, closes, link_at, leads_back_to, is_joined_on, leads_on_to, is_joined_back, is_sound, is_sound_at, is_gap_on, is_readable, can_be_read, can_be_read_at, AllBelow, FailsSomewhere, is_place, both_true}
 use Rattle.std.specs.declared.result.Result.TheVariants as result
 use Rattle.markdown_base.specs.contracts.event.Content.{the_type as contents}
-use Rattle.markdown_children.proofs.ChainOrder.Following.{apart, fits_next}
+use Rattle.markdown_children.proofs.ChainOrder.Following.{some_content, apart, fits_next}
 use Rattle.markdown_children.proofs.Ready.Reached.{place-sound, place-complete}
 use Rattle.markdown_children.proofs.Ready.Tests.{four-parts, balanced-closes, closes-balanced, is-number, content-at, next-at, previous-at, with-content, with-next, with-previous, inside-link, of-chunk, sound-chunk, sound-joined, sound-forward, sound-content, gap-of, of-gap}
 
@@ -21,13 +20,9 @@ module _ (t : ℕ) (bytes : List ℕ) (wanted : Option Content) (events : List E
   fits-link : (k : ℕ) (l : Link) → link_at events k ≡ Some l → fits wanted events k ≡ lets_through wanted l.content
   fits-link k l e = ap (some_fits wanted) (content-at events k l e)
 
-  fit-content : (o : Option Content) → some_fits wanted o ≡ true → (c : Content) × (o ≡ Some c)
-  fit-content None e = absurd (cc)
-  fit-content (Some c) e = (c, refl)
-
   with-fit : (k : ℕ) → fits wanted events k ≡ true → (l : Link) × (link_at events k ≡ Some l) × (lets_through wanted l.content ≡ true)
   with-fit k h =
-      let c = fit-content (content_at events k) h in
+      let c = some_content wanted (content_at events k) h in
       let l = with-content events k c.0 c.1 in
       (l.0, l.1, sym (fits-link k l.0 l.1) ∙ h)
 

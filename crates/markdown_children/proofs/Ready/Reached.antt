@@ -1,6 +1,7 @@
 -- Where the bytes of a document begin, and its places.
 use Rattle.markdown_children.proofs.Prelude.{◌≡◌, ◌≢◌, ℕ, zero, suc, ◌+◌, ◌-◌, ◌*◌, ◌<◌, ◌≤◌, ◌⊎◌, inl, inr, Bool, true, false, cond, List, [], ◌∷◌, ◌++◌, length, drop, get_or, Option, Some, refl, sym, ◌∙◌, ap, subst, arith, eqb-true, append_assoc, unwrap_or, ◌==◌, ◌&&◌, nat_le, nat_lt, slice_index, leb-true, ltb-true, le-leb, lt-ltb, eq-eqb, and_parts, get_or-map-range_with_len, length-map-range_with_len, map-range_with_len_more, Point, Seat, point, tab_width, in_tab, begins_with_lf, virtual, virtual_from, shown, follows_cr, IsPointOf, IsShown, point_at, IsReached, IsSeatPlace, IsReturnPlace, tab_width-least, reached_start, reached-line_feed, reached-return, reached-crlf, reached-tab, reached-plain, place-of, byte_here, point-of_reached, is_lf, ends_line, and-false-never, point_at-point, point_at-is, IsAmong, seat-is-point, IsShownPlace, width_at, line_after, column_after, line_at, column_at, byte_start, eighth_starts, is_of_byte, is_place, ByteStart}
 use Rattle.std.proofs.Common.{ne_eqb}
+use Rattle.markdown_children.proofs.Ready.Tests.{four-parts}
 
 -- ---- where each byte begins
 
@@ -116,11 +117,9 @@ module _ (t : ℕ) (some : 0 < t) (bytes : List ℕ) where
       let start = byte_start t bytes p.index in
       let width = width_at t bytes start.column p.index in
       let all = and_parts (nat_le p.index (length bytes)) (is_of_byte t bytes p start) e in
-      let two = and_parts ((start.line == p.line) && nat_le start.column p.column) ((p.column - start.column == p.vs) && nat_lt p.vs width) all.1 in
-      let a = and_parts (start.line == p.line) (nat_le start.column p.column) two.0 in
-      let c = and_parts (p.column - start.column == p.vs) (nat_lt p.vs width) two.1 in
+      let four = four-parts (start.line == p.line) (nat_le start.column p.column) (p.column - start.column == p.vs) (nat_lt p.vs width) all.1 in
       of-byte p start.line start.column (slice_index bytes p.index == 9) (is_lf bytes p.index && follows_cr bytes p.index) (reached-at t some bytes p.index (leb-true p.index (length bytes) all.0)) refl refl
-      (eqb-true start.line p.line a.0) (leb-true start.column p.column a.1) (eqb-true (p.column - start.column) p.vs c.0) (ltb-true p.vs width c.1)
+      (eqb-true start.line p.line four.0) (leb-true start.column p.column four.1) (eqb-true (p.column - start.column) p.vs four.2) (ltb-true p.vs width four.3)
 
   -- a place of a byte passes the test
   is-of-byte : (p : Point) (start : ByteStart) → start.line ≡ p.line → start.column + p.vs ≡ p.column → p.vs < width_at t bytes start.column p.index → is_of_byte t bytes p start ≡ true

@@ -1,6 +1,5 @@
 -- The tests of a list that is ready, one by one.
-use Rattle.markdown_children.proofs.Prelude.{◌≡◌, ℕ, zero, suc, ◌+◌, ◌-◌, ◌<◌, ◌≤◌, inl, inr, ⊎_elim, Bool, true, false, List, [], ◌∷◌, length, take, drop, Option, Some, None, refl, sym, ◌∙◌, ap, arith, eqb-true, eqb, reverse, ◌&&◌, ◌||◌, ◌==◌, not, is_none, nat_lt, nat_le, slice_get, unwrap_or, between, ltb-true, le-leb, eq-eqb, not-true, not_from_false, cases_eq, and_parts, or_cases, or_left, or_right, length-reverse, none-some, slice_get_within, slice_get_past, drop_of_length-le, sameb, same_true, true_same, Content, Event, Kind, Enter, Exit, Link, Point, IsBalanced, is_void, same_name, stands_before, content_of, next_of, previous_of, AreMutual, names_after_all, balanced_from_open, names_after_balanced, same_name-true, same-numbers, content_at, place_at, IsChunk, IsGap, is_closed, closes, link_at, is_number, is_void_span, is_chunk, leads_back_to, is_joined_on, leads_on_to, is_joined_back, is_sound, is_sound_at, is_same_point, is_in_line, has_no_link, is_gap, AllBelow}
-use Rattle.std.specs.Cmp.Derive.{both_true}
+use Rattle.markdown_children.proofs.Prelude.{◌≡◌, ℕ, zero, suc, ◌+◌, ◌-◌, ◌<◌, ◌≤◌, inl, inr, ⊎_elim, Bool, true, List, [], ◌∷◌, length, take, drop, Option, Some, None, refl, sym, ◌∙◌, ap, arith, eqb-true, eqb, reverse, ◌&&◌, ◌||◌, ◌==◌, not, is_none, nat_lt, nat_le, slice_get, between, ltb-true, le-leb, eq-eqb, not-true, not_from_false, and_parts, or_cases, or_left, or_right, length-reverse, none-some, slice_get_within, slice_get_past, drop_of_length-le, sameb, same_true, true_same, Content, Event, Enter, Exit, Link, Point, IsBalanced, is_void, same_name, stands_before, next_of, previous_of, AreMutual, names_after_all, balanced_from_open, names_after_balanced, same_name-true, same-numbers, content_at, place_at, IsChunk, IsGap, is_closed, closes, link_at, is_number, is_void_span, is_chunk, leads_back_to, is_joined_on, leads_on_to, is_joined_back, is_sound, is_sound_at, is_same_point, is_in_line, has_no_link, is_gap, AllBelow, both_true}
 use Rattle.std.proofs.Common.{ne_eqb}
 use Rattle.std.specs.Prelude.{option_map, option_and_then}
 use Rattle.markdown_base.specs.contracts.event.Name.{the_type as names}
