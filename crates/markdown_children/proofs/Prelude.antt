@@ -1,4 +1,5 @@
 -- What the proofs of this crate cite from below them: words of std, of the crates below and of specs.
+pub use Rattle.markdown_tokenizer.proofs.Positions.Order.{every-all, every-both, every-cond}
 pub use Rattle.std.specs.Cmp.Derive.{both_true}
 pub use Rattle.std.proofs.lemmas.Slice.Zip.{AllZip-long}
 pub use Rattle.std.proofs.Common.{Bool, List, None, Option, Result, Some, [], add-one, ap, append-nil, append_assoc, arith, cond, drop, eqb, eqb-true, false, get_or, inl, inr, leb, length, length-append, length-drop, length-take, lit≤, ltb, map, refl, reverse, rules, slice_set, subst, suc, sym, take, take-append-drop, true, zero, ℕ, ⊎_elim, ◌*◌, ◌++◌, ◌+◌, ◌-◌, ◌/◌, ◌<◌, ◌^◌, ◌∙◌, ◌∷◌, ◌≡◌, ◌≢◌, ◌≤◌, ◌⊎◌}
@@ -17,10 +18,10 @@ pub use Rattle.std.specs.List.{AllByRecursion, AllZip, between, range_with_len}
 pub use Rattle.std.specs.List.Sorted.{IsNonDecreasingBy, IsPartitionPoint}
 pub use Rattle.std.specs.Option.{option_and_then, option_copied, option_map}
 pub use Rattle.std.specs.Prelude.{All, Contains, IfErr, IfOk, IfSome, filter, flat_map, is_none, nat_le, nat_lt, not, slice_get, slice_index, slice_index_or, unwrap_or, vec_capacity, vec_len, ◌&&◌, ◌==◌, ◌||◌, ◌↔◌}
-pub use Rattle.markdown_base.proofs.Common.{and-false-never, drop-at, every-filter, every-get, every-map, get-front}
+pub use Rattle.markdown_base.proofs.Common.{and-false-never, drop-at, every-append, every-filter, every-get, every-map, get-front}
 pub use Rattle.markdown_base.proofs.PointAt.{point-of_reached}
 pub use Rattle.markdown_base.proofs.Scans.{IsReached, IsReturnPlace, IsSeatPlace, byte_here, place-of, reached-crlf, reached-line_feed, reached-plain, reached-return, reached-tab, reached_start, tab_width-least}
-pub use Rattle.markdown_base.specs.Events.{EachEnd, EndsBelow, IsBalanced, IsVoidTight, empty, is_void, relinked, same_name, span, with_ends}
+pub use Rattle.markdown_base.specs.Events.{EachEnd, EndsBelow, IsBalanced, IsVoidTight, is_void, relinked, same_name, with_ends}
 pub use Rattle.markdown_base.specs.Lines.{ends_line, is_lf}
 pub use Rattle.markdown_base.specs.Places.{IsPointOf, IsShown, denotes_same, follows_cr, point_at, shown, stands_before}
 pub use Rattle.markdown_base.specs.Virtual.{Seat, begins_with_lf, in_tab, point, tab_width, virtual, virtual_from}
@@ -72,7 +73,7 @@ pub use Rattle.markdown_children.specs.Children.{chain_changes, child_changes, f
 pub use Rattle.markdown_children.specs.Laws.{AreByChunk, AreSpaced, ChangesAreApart, ChildrenFit, EditsGiveChildren, EndsInVoidEnter, FollowOneAnother, HasEndsWithin, IsInChain, IsInOneChain, IsPlacedWell, IsTornNowhere, IsWholeFrom, LeadOnFrom, NoneTorn, StandSideBySide, chunk_numbers, part_numbers, passed_over}
 pub use Rattle.markdown_children.specs.Parts.{Divided, IsForward, StandBefore, all_edits, chain_edits, child_place, divided, divided_over, front_until, part_edits, parts, total}
 pub use Rattle.markdown_children.specs.Reads.{AreChildren, CanReadChain, Child, HasOneAnswer, IsAtFirstParagraph, IsChild, IsChildFault, IsChildRefused, IsRead, IsSubtokenizeFault, IsSubtokenized, StartAmong, lists, pieces_behind, pieces_of, start_at, text_from, text_of_chain}
-pub use Rattle.markdown_children.specs.Ready.{IsChunk, IsGap, IsReadable, IsReady, IsShownPlace, place_at}
+pub use Rattle.markdown_children.specs.Ready.{IsChunk, IsGap, IsReady, IsShownPlace, place_at}
 pub use Rattle.markdown_children.specs.ReadyTests.{AllBelow, FailsSomewhere, can_be_read, can_be_read_at, closes, has_no_link, is_chunk, is_closed, is_gap, is_gap_on, is_in_line, is_joined_back, is_joined_on, is_number, is_readable, is_same_point, is_sound, is_sound_at, is_void_span, leads_back_to, leads_on_to, link_at}
 pub use Rattle.markdown_children.specs.SoFar.{SoFar, starts_below, with_flag}
 pub use Rattle.markdown_children.specs.StartTests.{can_be_read_from}

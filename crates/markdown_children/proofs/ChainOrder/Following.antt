@@ -10,6 +10,16 @@ filter-yes test x xs e = ap (λ b. cond b (x ∷ filter test xs) (filter test xs
 pub filter-no : (test : ℕ → Bool) (x : ℕ) (xs : List ℕ) → test x ≡ false → filter test (x ∷ xs) ≡ filter test xs
 filter-no test x xs e = ap (λ b. cond b (x ∷ filter test xs) (filter test xs)) e
 
+-- a test passes or fails
+pub by_test : {P : Type 0} (b : Bool) → (b ≡ true → P) → (b ≡ false → P) → P
+by_test true f g = f refl
+by_test false f g = g refl
+
+-- there is a value, or none
+pub by_option : {A P : Type 0} (o : Option A) → (o ≡ None → P) → ((a : A) → o ≡ Some a → P) → P
+by_option None f g = f refl
+by_option (Some a) f g = g a refl
+
 -- what fits has a content
 pub some_content : (wanted o : Option Content) → some_fits wanted o ≡ true → (c : Content) × (o ≡ Some c)
 some_content wanted None e = absurd (cc)
@@ -122,13 +132,11 @@ module _ (tab : ℕ) (bytes : List ℕ) (wanted : Option Content) (events : List
 
   -- a chain begins where none is open
   step : (f i : ℕ) (o : Option ℕ) → Fits i → IsOpen i o → filter (begins wanted events) (range_with_len i (suc f)) ≡ cond (is_none o) (i ∷ []) [] ++ filter (begins wanted events) (range_with_len (i + 1) f)
-  step f i None h so = filter-yes (begins wanted events) i (range_with_len (i + 1) f) (λ j. h j && is_none (none (previous_of events i) refl j))
-    where
-      none : (b : Option ℕ) → previous_of events i ≡ b → b ≡ None
-      none None e = refl
-      none (Some p) e =
-          let on = (ready.joined p i).1 e in
-          absurd (none-some i (so.only p i (fits_back p i h on) on (ready.forward p i on) (omega arith)))
+  step f i None h so =
+      let first : previous_of events i ≡ None = by_option (previous_of events i) (λ e. e) (λ p e.
+      let on = (ready.joined p i).1 e in
+      absurd (none-some i (so.only p i (fits_back p i h on) on (ready.forward p i on) (omega arith)))) in
+      filter-yes (begins wanted events) i (range_with_len (i + 1) f) (λ j. h j && is_none (first j))
   step f i (Some d) h so =
       let w = so.is d refl in
       let back : previous_of events d ≡ Some w.0 = (ready.joined w.0 d).0 w.2 in
@@ -139,44 +147,39 @@ module _ (tab : ℕ) (bytes : List ℕ) (wanted : Option Content) (events : List
   abbrev IsInOrder : (f i : ℕ) (o : Option ℕ) → Type 0
   IsInOrder f i o = filter (fits wanted events) (range_with_len i f) ≡ rest_of o ++ flat_map (chain_of events) (filter (begins wanted events) (range_with_len i f))
 
-  in_order_at : (f i : ℕ) (o : Option ℕ) → IsOpen i o → ((p : Option ℕ) → IsOpen (i + 1) p → IsInOrder f (i + 1) p) → (b : Bool) → fits wanted events i ≡ b → IsInOrder (suc f) i o
-  in_order_at f i o so ih false never =
-      filter-no (fits wanted events) i (range_with_len (i + 1) f) never ∙ ih o (open-none i o so never)
-      ∙ ap (λ ks. rest_of o ++ flat_map (chain_of events) ks) (sym (filter-no (begins wanted events) i (range_with_len (i + 1) f) (λ j. never j && is_none (previous_of events i))))
-  in_order_at f i o so ih true h =
-      filter-yes (fits wanted events) i (range_with_len (i + 1) f) h ∙ ap (λ ks. i ∷ ks) (ih (next_of events i) (open-next i h))
-      ∙ ap (λ ks. ks ++ flat_map (chain_of events) (filter (begins wanted events) (range_with_len (i + 1) f))) (sym (chain-step i h))
-      ∙ from o so
-    where
-      from : (o : Option ℕ) → IsOpen i o → chain_of events i ++ flat_map (chain_of events) (filter (begins wanted events) (range_with_len (i + 1) f)) ≡ rest_of o ++ flat_map (chain_of events) (filter (begins wanted events) (range_with_len i (suc f)))
-      from None so = ap (flat_map (chain_of events)) (sym (step f i None h so))
-      from (Some d) so = (λ j. chain_of events (sym (goes_on i d h so) j) ++ flat_map (chain_of events) (sym (step f i (Some d) h so) j))
+  -- the chain at i goes on, or begins there
+  goes-from : (f i : ℕ) → Fits i → (o : Option ℕ) → IsOpen i o → chain_of events i ++ flat_map (chain_of events) (filter (begins wanted events) (range_with_len (i + 1) f)) ≡ rest_of o ++ flat_map (chain_of events) (filter (begins wanted events) (range_with_len i (suc f)))
+  goes-from f i h None so = ap (flat_map (chain_of events)) (sym (step f i None h so))
+  goes-from f i h (Some d) so = (λ j. chain_of events (sym (goes_on i d h so) j) ++ flat_map (chain_of events) (sym (step f i (Some d) h so) j))
 
   in_order : (f i : ℕ) (o : Option ℕ) → f + i ≡ n → IsOpen i o → IsInOrder f i o
   in_order zero i None e so = refl
   in_order zero i (Some d) e so = let w = so.is d refl in let l : i ≤ d = w.4 in absurd (omega (arith, inside d (fits_next w.0 d w.1 w.2)))
-  in_order (suc f) i o e so = in_order_at f i o so (λ p q. in_order f (i + 1) p (omega arith) q) (fits wanted events i) refl
+  in_order (suc f) i o e so = by_test (fits wanted events i)
+      (λ h.
+      filter-yes (fits wanted events) i (range_with_len (i + 1) f) h ∙ ap (λ ks. i ∷ ks) (in_order f (i + 1) (next_of events i) (omega arith) (open-next i h))
+      ∙ ap (λ ks. ks ++ flat_map (chain_of events) (filter (begins wanted events) (range_with_len (i + 1) f))) (sym (chain-step i h))
+      ∙ goes-from f i h o so)
+      (λ never.
+      filter-no (fits wanted events) i (range_with_len (i + 1) f) never ∙ in_order f (i + 1) o (omega arith) (open-none i o so never)
+      ∙ ap (λ ks. rest_of o ++ flat_map (chain_of events) ks) (sym (filter-no (begins wanted events) i (range_with_len (i + 1) f) (λ j. never j && is_none (previous_of events i)))))
 
   none-open : IsOpen 0 None
   none-open = record { only = λ p d a e l m. absurd (omega arith); is = λ d e. absurd (none-some d e) }
 
   -- ---- chunks overlap nowhere
 
-  spaced_at : (f i from : ℕ) → f + suc i ≡ n → ((k : ℕ) → Fits k → i ≤ k → from ≤ k)
-      → ((m : ℕ) → m ≤ n → ((k : ℕ) → Fits k → i + 1 ≤ k → m ≤ k) → AreSpaced m (filter (fits wanted events) (range_with_len (i + 1) f)) n)
-      → from ≤ n → (b : Bool) → fits wanted events i ≡ b → AreSpaced from (filter (fits wanted events) (range_with_len i (suc f))) n
-  spaced_at f i from e above ih l false never = rw (filter-no (fits wanted events) i (range_with_len (i + 1) f) never) (ih from l (λ k h m. above k h (omega arith)))
-  spaced_at f i from e above ih l true h = rw (filter-yes (fits wanted events) i (range_with_len (i + 1) f) h) (
-    above i h (omega arith),
-    ih (i + 2) (let a = inside i h in omega arith) (λ k m a. ⊎_elim
-        (λ (s : k ≡ i + 1). absurd (apart i h (ap (fits wanted events) (sym s) ∙ m)))
-        (λ (s : k ≡ i + 1 → ⊥). omega arith)
-        (cases_eq k (i + 1))),
-  )
-
   spaced : (f i from : ℕ) → f + i ≡ n → ((k : ℕ) → Fits k → i ≤ k → from ≤ k) → from ≤ n → AreSpaced from (filter (fits wanted events) (range_with_len i f)) n
   spaced zero i from e above l = l
-  spaced (suc f) i from e above l = spaced_at f i from (omega arith) above (λ m a b. spaced f (i + 1) m (omega arith) b a) l (fits wanted events i) refl
+  spaced (suc f) i from e above l = by_test (fits wanted events i)
+      (λ h. rw (filter-yes (fits wanted events) i (range_with_len (i + 1) f) h) (
+        above i h (omega arith),
+        spaced f (i + 1) (i + 2) (omega arith) (λ k m a. ⊎_elim
+            (λ (s : k ≡ i + 1). absurd (apart i h (ap (fits wanted events) (sym s) ∙ m)))
+            (λ (s : k ≡ i + 1 → ⊥). omega arith)
+            (cases_eq k (i + 1))) (omega (arith, inside i h)),
+      ))
+      (λ never. rw (filter-no (fits wanted events) i (range_with_len (i + 1) f) never) (spaced f (i + 1) from (omega arith) (λ k h m. above k h (omega arith)) l))
 
   -- ---- chains are whole
 
@@ -185,13 +188,12 @@ module _ (tab : ℕ) (bytes : List ℕ) (wanted : Option Content) (events : List
 
   whole : (f k : ℕ) → Fits k → n ≤ f + k → WholeBy f k
   whole zero k h l = absurd (omega (arith, inside k h))
-  whole (suc f) k h l = at (next_of events k) refl (λ d m a. whole f d m (omega arith))
-    where
-      at : (o : Option ℕ) → next_of events k ≡ o → ((d : ℕ) → Fits d → k < d → WholeBy f d) → WholeBy (suc f) k
-      at None e ih = ([], ap (λ o. k ∷ unwrap_or (option_map (λ d. chain_from f events d) o) []) e, e)
-      at (Some d) e ih =
-          let r = ih d (fits_next k d h e) (ready.forward k d e) in
-          (d ∷ r.0, ap (λ o. k ∷ unwrap_or (option_map (λ d. chain_from f events d) o) []) e ∙ ap (λ ks. k ∷ ks) r.1, (e, ready.forward k d e, r.2))
+  whole (suc f) k h l = by_option (next_of events k)
+      (λ e. ([], ap (λ o. k ∷ unwrap_or (option_map (λ d. chain_from f events d) o) []) e, e))
+      (λ d e.
+      let rises = ready.forward k d e in
+      let r = whole f d (fits_next k d h e) (omega arith) in
+      (d ∷ r.0, ap (λ o. k ∷ unwrap_or (option_map (λ d. chain_from f events d) o) []) e ∙ ap (λ ks. k ∷ ks) r.1, (e, rises, r.2)))
 
   pub whole-from : (k : ℕ) → Fits k → IsWholeFrom events k
   whole-from k h = whole n k h (omega arith)

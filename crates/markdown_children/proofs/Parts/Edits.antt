@@ -1,6 +1,6 @@
 -- The edits of the chains that fit.
-use Rattle.markdown_children.proofs.Prelude.{◌≡◌, ℕ, zero, suc, ◌+◌, ◌*◌, ◌<◌, Bool, true, false, List, [], ◌∷◌, ◌++◌, length, map, Option, refl, sym, ◌∙◌, ap, subst, arith, length-append, flat_map, filter, All, AllByRecursion, range_with_len, All-head, All-tail, All-from_recursion, Content, Event, Point, EndsBelow, Edit, AreDisjoint, chain_of, begins, fitting_starts, IsReady, place_at, IsWholeFrom, AreSpaced, HasEndsWithin, EditsGiveChildren, parts, Divided, divided, divided_over, child_place, part_edits, total, all_edits, first_chunk, every-filter}
-use Rattle.markdown_children.proofs.ChainOrder.Following.{filter-yes, filter-no, follow_one_another}
+use Rattle.markdown_children.proofs.Prelude.{◌≡◌, ℕ, zero, suc, ◌+◌, ◌*◌, ◌<◌, Bool, List, [], ◌∷◌, ◌++◌, length, map, Option, refl, sym, ◌∙◌, ap, subst, arith, length-append, flat_map, filter, All, AllByRecursion, range_with_len, All-head, All-tail, All-from_recursion, Content, Event, Point, EndsBelow, Edit, AreDisjoint, chain_of, begins, fitting_starts, IsReady, place_at, IsWholeFrom, AreSpaced, HasEndsWithin, EditsGiveChildren, parts, Divided, divided, divided_over, child_place, part_edits, total, all_edits, first_chunk, every-filter}
+use Rattle.markdown_children.proofs.ChainOrder.Following.{filter-yes, filter-no, by_test, follow_one_another}
 use Rattle.markdown_children.proofs.ChainOrder.Spaced.{AreSpaced-le, divided-parts, changes_are_apart}
 use Rattle.markdown_children.proofs.Parts.Kept.{joined, joined-parts}
 use Rattle.markdown_children.proofs.Parts.Placed.{HasEndsInside, AreChains, edited-children}
@@ -34,11 +34,9 @@ range-above (suc f) i m l = (l, range-above f (i + 1) m (omega arith))
 
 pub rising : (test : ℕ → Bool) (f i : ℕ) → IsRising (filter test (range_with_len i f))
 rising test zero i = tt
-rising test (suc f) i = at (test i) refl (rising test f (i + 1))
-  where
-    at : (b : Bool) → test i ≡ b → IsRising (filter test (range_with_len (i + 1) f)) → IsRising (filter test (range_with_len i (suc f)))
-    at true e r = rw (filter-yes test i (range_with_len (i + 1) f) e) (every-filter (λ (d : ℕ). i < d) test (range_with_len (i + 1) f) (range-above f (i + 1) i (omega arith)), r)
-    at false e r = rw (filter-no test i (range_with_len (i + 1) f) e) r
+rising test (suc f) i = by_test (test i)
+    (λ e. rw (filter-yes test i (range_with_len (i + 1) f) e) (every-filter (λ (d : ℕ). i < d) test (range_with_len (i + 1) f) (range-above f (i + 1) i (omega arith)), rising test f (i + 1)))
+    (λ e. rw (filter-no test i (range_with_len (i + 1) f) e) (rising test f (i + 1)))
 
 pub first-whole : (events : List Event) (c : ℕ) → IsWholeFrom events c → first_chunk (chain_of events c) ≡ c
 first-whole events c w = ap first_chunk w.1

@@ -1,6 +1,6 @@
 -- The list with children is in shape: link ends are indices into it, and its links are mutual if the children's are.
-use Rattle.markdown_children.proofs.Prelude.{◌≡◌, ℕ, ◌+◌, ◌<◌, Bool, cond, eqb, List, [], ◌∷◌, ◌++◌, length, map, Option, Some, None, refl, sym, ◌∙◌, ap, subst, arith, true, false, flat_map, slice_get, All, IfSome, AllByRecursion, option_map, option_and_then, eq-eqb, ne_eqb, length-map, All-from_recursion, recursion_from_All, none-some, Content, Event, Link, Point, relinked, with_ends, EachEnd, EndsBelow, AreMutual, of_list, Tagged, Change, place_in, placed_end, placed_in, placed, woven, AreApart, woven-pass, stays_unless_removed, keeps_links, chain_of, begins, fitting_starts, IsReady, place_at, IsWholeFrom, HasEndsWithin, ChildrenFit, parts, divided_over, part_changes, first_chunk, chain_changes, child_changes, with_children}
-use Rattle.markdown_children.proofs.ChainOrder.Following.{follow_one_another}
+use Rattle.markdown_children.proofs.Prelude.{◌≡◌, ℕ, ◌+◌, ◌<◌, cond, eqb, List, [], ◌∷◌, ◌++◌, length, map, Option, Some, None, refl, sym, ◌∙◌, ap, subst, arith, true, false, flat_map, slice_get, All, IfSome, AllByRecursion, option_map, option_and_then, eq-eqb, ne_eqb, length-map, All-from_recursion, recursion_from_All, none-some, Content, Event, Link, Point, relinked, with_ends, EachEnd, EndsBelow, AreMutual, of_list, Tagged, Change, place_in, placed_end, placed_in, placed, woven, AreApart, woven-pass, stays_unless_removed, keeps_links, chain_of, begins, fitting_starts, IsReady, place_at, IsWholeFrom, HasEndsWithin, ChildrenFit, parts, divided_over, part_changes, first_chunk, chain_changes, child_changes, with_children}
+use Rattle.markdown_children.proofs.ChainOrder.Following.{by_test, follow_one_another}
 use Rattle.markdown_children.proofs.ChainOrder.Spaced.{changes_are_apart}
 use Rattle.markdown_children.proofs.Parts.Kept.{joined-parts, with_children_balanced}
 use Rattle.markdown_children.proofs.Parts.Edits.{IsRising, rising, differ, first-whole}
@@ -39,11 +39,7 @@ names-child_at (c ∷ cs) (x ∷ xs) r =
 child-all : (P : List Event → Type 0) → P [] → (cs : List ℕ) (xs : List (List Event)) → AllByRecursion P xs → (d : ℕ) → P (child_at cs xs d)
 child-all P none [] xs h d = none
 child-all P none (c ∷ cs) [] h d = none
-child-all P none (c ∷ cs) (x ∷ xs) h d = at (eqb d c) (child-all P none cs xs h.1 d)
-  where
-    at : (b : Bool) → P (child_at cs xs d) → P (cond b x (child_at cs xs d))
-    at true r = h.0
-    at false r = r
+child-all P none (c ∷ cs) (x ∷ xs) h d = by_test (eqb d c) (λ e. rw e h.0) (λ e. rw e (child-all P none cs xs h.1 d))
 
 mutual-none : AreMutual []
 mutual-none i j = ((λ e. absurd (none-some j e)), (λ e. absurd (none-some i e)))

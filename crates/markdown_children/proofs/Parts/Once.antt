@@ -1,6 +1,7 @@
 -- Each event is in the list with children once.
 use Rattle.markdown_children.proofs.Prelude.{◌≡◌, ℕ, zero, suc, ◌+◌, ◌-◌, ◌<◌, ◌≤◌, Bool, true, false, eqb, List, [], ◌∷◌, ◌++◌, length, take, drop, Some, None, refl, sym, ◌∙◌, ap, subst, arith, length-drop, ◌&&◌, flat_map, slice_get, AllByRecursion, ne_eqb, eq-eqb, length-take-le, none-some, same_Some, Event, Identity, of_list, of_child, of_addition, Tagged, is_same, place_in, Change, olds, pass, AreApart, AreApart-le, HasNo, place_in-append, place_in-olds_below, place_in-pass_below, Divided, tagged_child, part_changes, first_chunk, chain_changes, every-map}
 use Rattle.std.proofs.lemmas.Bool.{eqb-true}
+use Rattle.markdown_children.proofs.ChainOrder.Following.{by_test}
 use Rattle.markdown_children.proofs.Parts.ChildPlaces.{place_in-child_olds}
 use Rattle.markdown_children.proofs.Parts.Placed.{has_no-chain, has_no-append}
 
@@ -36,13 +37,11 @@ once-place [] p u h s e = absurd (none-some u e)
 once-place (t ∷ ts) zero u h s e =
     let same : t ≡ u = same_Some t u e in
     subst (λ (v : Tagged). place_in u.identity (v ∷ ts) ≡ Some 0) (sym same) (rw s refl)
-once-place (t ∷ ts) (suc p) u h s e = at (is_same u.identity t.identity) refl (once-place ts p u h.1 s e)
-  where
-    at : (b : Bool) → is_same u.identity t.identity ≡ b → place_in u.identity ts ≡ Some p → place_in u.identity (t ∷ ts) ≡ Some (suc p)
-    at true f r =
-        let same : u.identity ≡ t.identity = is_same-true u.identity t.identity f in
-        absurd (none-some p (sym h.0 ∙ ap (λ (b : Identity). place_in b ts) (sym same) ∙ r))
-    at false f r = rw (f, r) refl
+once-place (t ∷ ts) (suc p) u h s e = by_test (is_same u.identity t.identity)
+    (λ f.
+    let same : u.identity ≡ t.identity = is_same-true u.identity t.identity f in
+    absurd (none-some p (sym h.0 ∙ ap (λ (b : Identity). place_in b ts) (sym same) ∙ once-place ts p u h.1 s e)))
+    (λ f. rw (f, once-place ts p u h.1 s e) refl)
 
 -- ---- events that stay, and those that come
 

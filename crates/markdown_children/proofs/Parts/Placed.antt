@@ -1,5 +1,5 @@
 -- Edits that bring each part with its link ends at their final places give the list with children.
-use Rattle.markdown_children.proofs.Prelude.{◌≡◌, ℕ, suc, ◌+◌, ◌-◌, ◌*◌, ◌<◌, cond, List, [], ◌∷◌, ◌++◌, map, length, take, drop, Option, Some, refl, sym, ◌∙◌, ap, subst, arith, append_assoc, flat_map, All, option_map, AllByRecursion, map-append, All-head, All-tail, Event, relinked, EndsBelow, as_addition, as_change, edited, Identity, of_list, of_child, of_addition, Tagged, as_listed, place_in, is_same, Change, woven, placed, placed_in, placed_end, changed, AreApart, olds, pass, woven-pass, HasNo, relinked-same, relinked-agree, same_shift, Divided, child_place, part_edits, chain_edits, total, all_edits, tagged_child, part_changes, first_chunk, chain_changes}
+use Rattle.markdown_children.proofs.Prelude.{◌≡◌, ℕ, suc, ◌+◌, ◌-◌, ◌*◌, ◌<◌, cond, List, [], ◌∷◌, ◌++◌, map, length, take, drop, Option, Some, refl, sym, ◌∙◌, ap, subst, arith, append_assoc, flat_map, All, option_map, AllByRecursion, map-append, All-head, All-tail, Event, relinked, EndsBelow, as_addition, as_change, edited, Identity, of_list, of_child, of_addition, Tagged, as_listed, place_in, is_same, Change, woven, placed, placed_in, placed_end, changed, AreApart, olds, pass, woven-pass, HasNo, relinked-same, relinked-agree, same_shift, Divided, child_place, part_edits, chain_edits, total, all_edits, tagged_child, part_changes, first_chunk, chain_changes, every-both, every-all}
 use Rattle.markdown_children.proofs.ChainOrder.Spaced.{HasParts}
 use Rattle.markdown_children.proofs.Parts.ChildPlaces.{change_place, change_place-pass, change_place-chain, change_place-behind, place_in-other_child, length-tagged_child, removed_by, added_by}
 
@@ -95,8 +95,7 @@ finalized_parts ts f c j n (k ∷ ks) (p ∷ ps) h b = λ i.
     (let w : Change = record { index = k; remove = 2; events = finalized_part ts f c j n p h b.0 i } in w) ∷ finalized_parts ts f c (j + length p) n ks ps h b.1 i
 
 removed_by-chain : (c j : ℕ) (ks : List ℕ) (ps : List (List Event)) → length ks ≡ length ps → removed_by (part_changes c j ks ps) ≡ 2 * length ks
-removed_by-chain c j [] [] e = omega arith
-removed_by-chain c j [] (p ∷ ps) e = omega arith
+removed_by-chain c j [] ps e = omega arith
 removed_by-chain c j (k ∷ ks) [] e = absurd (omega arith)
 removed_by-chain c j (k ∷ ks) (p ∷ ps) e = omega (arith, removed_by-chain c (j + length p) ks ps (omega arith))
 
@@ -135,34 +134,17 @@ edits_of_rest ts (ch ∷ ds) us h w a =
     let whole = w.0 in
     let place : (k : ℕ) → k < total ch.parts → place_in (of_child c k) ts ≡ child_place ch.chunks ch.parts (removed_by us) (added_by us) k =
     λ k l. h c k ∙ change_place-behind (of_child c k) us (chain_changes ch ++ rest) 0 0 (a.0 k)
-    ∙ zeros c k (removed_by us) (added_by us) (chain_changes ch ++ rest)
-    ∙ zero_before c k (chain_changes ch ++ rest)
+    ∙ (let z : 0 + removed_by us ≡ removed_by us = omega arith in let y : 0 + added_by us ≡ added_by us = omega arith in let x : k ≡ 0 + k = omega arith in λ j. change_place (of_child c (x j)) (chain_changes ch ++ rest) (z j) (y j))
     ∙ change_place-chain c 0 ch.chunks ch.parts rest k (removed_by us) (added_by us) whole.0 l in
     let removed : removed_by (us ++ chain_changes ch) ≡ removed_by us + 2 * length ch.chunks = removed_by-append us (chain_changes ch) ∙ ap (λ n. removed_by us + n) (removed_by-chain c 0 ch.chunks ch.parts whole.0) in
     let added : added_by (us ++ chain_changes ch) ≡ added_by us + total ch.parts = added_by-append us (chain_changes ch) ∙ ap (λ n. added_by us + n) (added_by-chain c 0 ch.chunks ch.parts whole.0) in
-    let more = edits_of_rest ts ds (us ++ chain_changes ch) (λ d n. h d n ∙ ap (λ v. change_place (of_child d n) v 0 0) (sym (append_assoc us (chain_changes ch) rest))) w.2 (joined ds w.1 a.1) in
+    let still = every-both (λ (d : Divided). first_chunk d.chunks ≡ c → ⊥) (λ (d : Divided). (n : ℕ) → HasNo (of_child (first_chunk d.chunks) n) us) (λ (d : Divided). (n : ℕ) → HasNo (of_child (first_chunk d.chunks) n) (us ++ chain_changes ch))
+    (λ d f g n. has_no-append (of_child (first_chunk d.chunks) n) us (chain_changes ch) (g n) (has_no-chain (first_chunk d.chunks) c n 0 ch.chunks ch.parts f)) ds w.1 a.1 in
+    let more = edits_of_rest ts ds (us ++ chain_changes ch) (λ d n. h d n ∙ ap (λ v. change_place (of_child d n) v 0 0) (sym (append_assoc us (chain_changes ch) rest))) w.2 still in
     map-append (finalized_change ts) (chain_changes ch) rest
     ∙ ap (λ v. v ++ map (finalized_change ts) rest) (finalized_parts ts (child_place ch.chunks ch.parts (removed_by us) (added_by us)) c 0 (total ch.parts) ch.chunks ch.parts place whole.1)
     ∙ ap (λ v. map as_change (chain_edits (removed_by us) (added_by us) ch) ++ v) (more ∙ ap (λ n. map as_change (all_edits n (added_by (us ++ chain_changes ch)) ds)) removed ∙ ap (λ n. map as_change (all_edits (removed_by us + 2 * length ch.chunks) n ds)) added)
     ∙ sym (map-append as_change (chain_edits (removed_by us) (added_by us) ch) (all_edits (removed_by us + 2 * length ch.chunks) (added_by us + total ch.parts) ds))
-  where
-    zeros : (c k r a : ℕ) (v : List Change) → change_place (of_child c k) v (0 + r) (0 + a) ≡ change_place (of_child c k) v r a
-    zeros c k r a v =
-        let z : 0 + r ≡ r = omega arith in
-        let y : 0 + a ≡ a = omega arith in
-        ap (λ n. change_place (of_child c k) v n (0 + a)) z ∙ ap (change_place (of_child c k) v r) y
-
-    zero_before : (c k : ℕ) (v : List Change) → change_place (of_child c k) v (removed_by us) (added_by us) ≡ change_place (of_child c (0 + k)) v (removed_by us) (added_by us)
-    zero_before c k v = let z : k ≡ 0 + k = omega arith in ap (λ n. change_place (of_child c n) v (removed_by us) (added_by us)) z
-
-    joined : (ds : List Divided) → AllByRecursion (λ (d : Divided). first_chunk d.chunks ≡ first_chunk ch.chunks → ⊥) ds → AllByRecursion (λ (d : Divided). (n : ℕ) → HasNo (of_child (first_chunk d.chunks) n) us) ds
-        → AllByRecursion (λ (d : Divided). (n : ℕ) → HasNo (of_child (first_chunk d.chunks) n) (us ++ chain_changes ch)) ds
-    joined [] f g = tt
-    joined (d ∷ ds) f g = ((λ n. has_no-append (of_child (first_chunk d.chunks) n) us (chain_changes ch) (g.0 n) (has_no-chain (first_chunk d.chunks) (first_chunk ch.chunks) n 0 ch.chunks ch.parts f.0)), joined ds f.1 g.1)
-
-nothing_before : (ds : List Divided) → AllByRecursion (λ (d : Divided). (n : ℕ) → HasNo (of_child (first_chunk d.chunks) n) []) ds
-nothing_before [] = tt
-nothing_before (ch ∷ ds) = ((λ n. tt), nothing_before ds)
 
 -- the edits of all chains, each with its ends placed by the sums before it, give the list with all children
 pub edited-children : (ds : List Divided) (xs : List Event) → AreApart 0 (flat_map chain_changes ds) (length xs) → AreChains ds → edited (all_edits 0 0 ds) xs ≡ changed (flat_map chain_changes ds) xs
@@ -173,4 +155,4 @@ edited-children ds xs d w =
     let ts : List Tagged = woven ws 0 xs in
     let place : (c n : ℕ) → place_in (of_child c n) ts ≡ change_place (of_child c n) ws 0 0 =
     λ c n. sym (same_shift (place_in (of_child c n) ts)) ∙ ap (λ us. option_map (λ p. 0 - 0 + 0 + p) (place_in (of_child c n) us)) (woven-pass ws 0 xs d') ∙ change_place-pass ws c n 0 0 0 xs d' (omega arith) in
-    ap (λ v. changed v xs) (sym (edits_of_rest ts ds [] place w (nothing_before ds))) ∙ changed-finalized ws xs d
+    ap (λ v. changed v xs) (sym (edits_of_rest ts ds [] place w (every-all (λ (d : Divided). (n : ℕ) → HasNo (of_child (first_chunk d.chunks) n) []) (λ d n. tt) ds))) ∙ changed-finalized ws xs d

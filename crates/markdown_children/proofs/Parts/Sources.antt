@@ -1,21 +1,17 @@
 -- Each event of the list with children is an event of the list or of a child, and its link ends lead to the new places of their events.
-use Rattle.markdown_children.proofs.Prelude.{◌≡◌, ℕ, suc, ◌+◌, ◌<◌, Bool, true, false, cond, eqb, List, [], ◌∷◌, ◌++◌, length, Option, Some, None, refl, sym, ◌∙◌, ap, arith, slice_get, AllByRecursion, option_map, option_and_then, eq-eqb, none-some, same_Some, slice_get-map, slice_get_within, option_and_then_some, Event, Link, relinked, get-front, every-get, AreMutual, Identity, of_list, of_child, of_addition, Tagged, as_listed, is_same, place_in, placed, placed_end, Change, events_at, is_removed, woven, slice_get-behind, next_moved, previous_moved, tagged_child, part_changes}
+use Rattle.markdown_children.proofs.Prelude.{◌≡◌, ℕ, suc, ◌+◌, ◌<◌, true, cond, eqb, List, [], ◌∷◌, ◌++◌, length, Option, Some, None, refl, sym, ◌∙◌, ap, arith, slice_get, AllByRecursion, option_map, option_and_then, eq-eqb, none-some, same_Some, slice_get-map, slice_get_within, option_and_then_some, Event, Link, relinked, get-front, every-get, AreMutual, Identity, of_list, of_child, of_addition, Tagged, as_listed, is_same, place_in, placed, placed_end, Change, events_at, is_removed, woven, slice_get-behind, next_moved, previous_moved, tagged_child, part_changes, every-append, every-cond}
+use Rattle.markdown_children.proofs.ChainOrder.Following.{by_test, by_option}
 use Rattle.markdown_children.proofs.Parts.Kept.{joined}
 use Rattle.markdown_children.proofs.Parts.Once.{AreOnce, is_same-true, once-place}
 
 -- the event of a name is at its place
 pub place_in-there : (b : Identity) (ts : List Tagged) (q : ℕ) → place_in b ts ≡ Some q → (v : Tagged) × (slice_get ts q ≡ Some v) × (v.identity ≡ b)
 place_in-there b [] q e = absurd (none-some q e)
-place_in-there b (t ∷ ts) q e = at (is_same b t.identity) refl (place_in b ts) refl e (λ p f. place_in-there b ts p f)
-  where
-    at : (s : Bool) → is_same b t.identity ≡ s → (o : Option ℕ) → place_in b ts ≡ o → cond s (Some 0) (option_map suc o) ≡ Some q
-        → ((p : ℕ) → place_in b ts ≡ Some p → (v : Tagged) × (slice_get ts p ≡ Some v) × (v.identity ≡ b))
-        → (v : Tagged) × (slice_get (t ∷ ts) q ≡ Some v) × (v.identity ≡ b)
-    at true s o f g r = (t, ap (slice_get (t ∷ ts)) (sym (same_Some 0 q g)), sym (is_same-true b t.identity s))
-    at false s None f g r = absurd (none-some q g)
-    at false s (Some p) f g r =
-        let v = r p f in
-        (v.0, ap (slice_get (t ∷ ts)) (sym (same_Some (suc p) q g)) ∙ v.1, v.2)
+place_in-there b (t ∷ ts) q e = by_test (is_same b t.identity)
+    (λ s. (t, ap (slice_get (t ∷ ts)) (sym (same_Some 0 q (rw s at e))), sym (is_same-true b t.identity s)))
+    (λ s. by_option (place_in b ts)
+    (λ f. absurd (none-some q (rw (s, f) at e)))
+    (λ p f. let v = place_in-there b ts p f in (v.0, ap (slice_get (t ∷ ts)) (sym (same_Some (suc p) q (rw (s, f) at e))) ∙ v.1, v.2)))
 
 module _ (child : ℕ → List Event) (xs : List Event) where
   -- the event with a name, if it is an event of the list or of a child
@@ -30,27 +26,18 @@ module _ (child : ℕ → List Event) (xs : List Event) where
   abbrev pub AreSourced : List Tagged → Type 0
   AreSourced ts = AllByRecursion IsSourced ts
 
-  sourced-append : (ts us : List Tagged) → AreSourced ts → AreSourced us → AreSourced (ts ++ us)
-  sourced-append [] us h k = k
-  sourced-append (t ∷ ts) us h k = (h.0, sourced-append ts us h.1 k)
-
   sourced-at : (ws : List Change) (i : ℕ) → AllByRecursion (λ (w : Change). AreSourced w.events) ws → AreSourced (events_at ws i)
   sourced-at [] i h = tt
-  sourced-at (w ∷ ws) i h = here (eqb w.index i) (sourced-at ws i h.1)
-    where
-      here : (b : Bool) → AreSourced (events_at ws i) → AreSourced (cond b w.events [] ++ events_at ws i)
-      here true r = sourced-append w.events (events_at ws i) h.0 r
-      here false r = r
+  sourced-at (w ∷ ws) i h = every-append IsSourced (cond (eqb w.index i) w.events []) (events_at ws i) (every-cond IsSourced (eqb w.index i) w.events [] h.0 tt) (sourced-at ws i h.1)
 
   pub sourced-woven : (ws : List Change) (i : ℕ) (ys : List Event) → AllByRecursion (λ (w : Change). AreSourced w.events) ws → ((k : ℕ) → slice_get xs (i + k) ≡ slice_get ys k) → AreSourced (woven ws i ys)
   sourced-woven ws i [] h f = sourced-at ws i h
   sourced-woven ws i (y ∷ ys) h f =
-      sourced-append (events_at ws i) (cond (is_removed ws i) [] (as_listed i y ∷ []) ++ woven ws (i + 1) ys) (sourced-at ws i h)
-      (here (is_removed ws i) (sourced-woven ws (i + 1) ys h (λ k. let z : i + 1 + k ≡ i + suc k = omega arith in ap (slice_get xs) z ∙ f (suc k))))
-    where
-      here : (b : Bool) → AreSourced (woven ws (i + 1) ys) → AreSourced (cond b [] (as_listed i y ∷ []) ++ woven ws (i + 1) ys)
-      here true more = more
-      here false more = (let z : i ≡ i + 0 = omega arith in ap (slice_get xs) z ∙ f 0, more)
+      let here : slice_get xs i ≡ Some y = let z : i ≡ i + 0 = omega arith in ap (slice_get xs) z ∙ f 0 in
+      let more = sourced-woven ws (i + 1) ys h (λ k. let z : i + 1 + k ≡ i + suc k = omega arith in ap (slice_get xs) z ∙ f (suc k)) in
+      let stays : List Tagged = cond (is_removed ws i) [] (as_listed i y ∷ []) in
+      every-append IsSourced (events_at ws i) (stays ++ woven ws (i + 1) ys) (sourced-at ws i h)
+      (every-append IsSourced stays (woven ws (i + 1) ys) (every-cond IsSourced (is_removed ws i) [] (as_listed i y ∷ []) tt (here, tt)) more)
 
   sourced-tagged : (c j : ℕ) (es : List Event) → ((k : ℕ) → k < length es → slice_get (child c) (j + k) ≡ slice_get es k) → AreSourced (tagged_child c j es)
   sourced-tagged c j [] f = tt

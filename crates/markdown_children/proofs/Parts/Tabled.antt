@@ -1,6 +1,6 @@
 -- The table of a chain's chunks gives the parts, and the final places of their events.
-use Rattle.markdown_children.proofs.Prelude.{◌≡◌, ℕ, zero, suc, ◌+◌, ◌-◌, ◌*◌, ◌^◌, ◌<◌, ◌≤◌, true, false, ltb, List, [], ◌∷◌, map, length, take, drop, Option, Some, None, refl, sym, ◌∙◌, ap, ⊎_elim, arith, All, IfSome, option_map, between, AllByRecursion, IsNonDecreasingBy, cases_lt, lt-ltb, le-ltb, drop-drop, All-from_recursion, drop-append_seam, Event, Link, Point, relinked, EachEnd, Edit, AreDisjoint, AreBehind, removed_by, next_of, chain_from, chain_of, place_at, HasEndsWithin, parts, divided, child_place, part_edits, chain_edits, total, IsForward, StandBefore, table, rest_table, table_place, AreAbove, AreRising, chunk_edit, Chunk, every-map, take-append_seam}
-use Rattle.std.specs.Option.{unwrap_or}
+use Rattle.markdown_children.proofs.Prelude.{◌≡◌, ℕ, zero, suc, ◌+◌, ◌-◌, ◌*◌, ◌^◌, ◌<◌, ◌≤◌, true, false, ltb, List, [], ◌∷◌, map, length, take, drop, Option, Some, None, refl, sym, ◌∙◌, ap, ⊎_elim, arith, All, IfSome, between, AllByRecursion, IsNonDecreasingBy, cases_lt, lt-ltb, le-ltb, drop-drop, All-from_recursion, drop-append_seam, Event, Link, Point, relinked, EachEnd, Edit, AreDisjoint, AreBehind, removed_by, next_of, chain_from, chain_of, place_at, HasEndsWithin, parts, divided, child_place, part_edits, chain_edits, total, IsForward, StandBefore, table, rest_table, table_place, AreAbove, AreRising, chunk_edit, Chunk, every-map, take-append_seam}
+use Rattle.markdown_children.proofs.ChainOrder.Following.{by_option}
 use Rattle.markdown_children.proofs.ChainOrder.Spaced.{length-parts, length-map_ends}
 use Rattle.markdown_children.proofs.Parts.Halves.{table-ends}
 use Rattle.markdown_children.proofs.Parts.Kept.{joined, joined-parts}
@@ -55,24 +55,12 @@ module _ (events : List Event) where
       → AllByRecursion (λ (c : Chunk). P c.index × IsForward events c.index) (table (chain_from f events i) ps j)
   along P go zero i j ps h p = tt
   along P go (suc f) i j [] h p = tt
-  along P go (suc f) i j (q ∷ ps) h p = ((p, h.0), on (next_of events i) refl h.1 (λ d m r. along P go f d (j + length q) ps m r))
-    where
-      on : (o : Option ℕ) → next_of events i ≡ o → AllByRecursion (IsForward events) (unwrap_or (option_map (λ d. chain_from f events d) o) [])
-          → ((d : ℕ) → AllByRecursion (IsForward events) (chain_from f events d) → P d → AllByRecursion (λ (c : Chunk). P c.index × IsForward events c.index) (table (chain_from f events d) ps (j + length q)))
-          → AllByRecursion (λ (c : Chunk). P c.index × IsForward events c.index) (table (unwrap_or (option_map (λ d. chain_from f events d) o) []) ps (j + length q))
-      on None e r ih = tt
-      on (Some d) e r ih = ih d r (go i d p h.0 e)
+  along P go (suc f) i j (q ∷ ps) h p = ((p, h.0), by_option (next_of events i) (λ e. rw e tt) (λ d e. rw e (along P go f d (j + length q) ps (rw e at h.1) (go i d p h.0 e))))
 
   are-above : (f i j removed : ℕ) (ps : List (List Event)) → AllByRecursion (IsForward events) (chain_from f events i) → removed ≤ i → AreAbove removed (table (chain_from f events i) ps j)
   are-above zero i j removed ps h l = tt
   are-above (suc f) i j removed [] h l = tt
-  are-above (suc f) i j removed (q ∷ ps) h l = (l, on (next_of events i) refl h.1 (λ d m r. are-above f d (j + length q) (removed + 2) ps m r))
-    where
-      on : (o : Option ℕ) → next_of events i ≡ o → AllByRecursion (IsForward events) (unwrap_or (option_map (λ d. chain_from f events d) o) [])
-          → ((d : ℕ) → AllByRecursion (IsForward events) (chain_from f events d) → removed + 2 ≤ d → AreAbove (removed + 2) (table (chain_from f events d) ps (j + length q)))
-          → AreAbove (removed + 2) (table (unwrap_or (option_map (λ d. chain_from f events d) o) []) ps (j + length q))
-      on None e r ih = tt
-      on (Some d) e r ih = let a = (h.0.next d e).0 in ih d r (omega arith)
+  are-above (suc f) i j removed (q ∷ ps) h l = (l, by_option (next_of events i) (λ e. rw e tt) (λ d e. rw e (are-above f d (j + length q) (removed + 2) ps (rw e at h.1) (omega (arith, (h.0.next d e).0)))))
 
   above-all : (m f i j : ℕ) (ps : List (List Event)) → AllByRecursion (IsForward events) (chain_from f events i) → m ≤ i → AllByRecursion (λ (c : Chunk). m ≤ c.index) (table (chain_from f events i) ps j)
   above-all m f i j ps h l =
@@ -87,14 +75,10 @@ module _ (events : List Event) where
   are-rising : (f i j : ℕ) (ps : List (List Event)) → AllByRecursion (IsForward events) (chain_from f events i) → AreRising (table (chain_from f events i) ps j)
   are-rising zero i j ps h = tt
   are-rising (suc f) i j [] h = tt
-  are-rising (suc f) i j (q ∷ ps) h = on (next_of events i) refl h.1 (λ d m. are-rising f d (j + length q) ps m)
-    where
-      on : (o : Option ℕ) → next_of events i ≡ o → AllByRecursion (IsForward events) (unwrap_or (option_map (λ d. chain_from f events d) o) [])
-          → ((d : ℕ) → AllByRecursion (IsForward events) (chain_from f events d) → AreRising (table (chain_from f events d) ps (j + length q)))
-          → AllByRecursion (λ (c : Chunk). i < c.index) (table (unwrap_or (option_map (λ d. chain_from f events d) o) []) ps (j + length q))
-          × AreRising (table (unwrap_or (option_map (λ d. chain_from f events d) o) []) ps (j + length q))
-      on None e r ih = (tt, tt)
-      on (Some d) e r ih = let a = (h.0.next d e).0 in (above-all (suc i) f d (j + length q) ps r (omega arith), ih d r)
+  are-rising (suc f) i j (q ∷ ps) h = by_option (next_of events i) (λ e. rw e (tt, tt)) (λ d e.
+      let a = (h.0.next d e).0 in
+      let ahead = rw e at h.1 in
+      rw e (above-all (suc i) f d (j + length q) ps ahead (omega arith), are-rising f d (j + length q) ps ahead))
 
 -- ---- bounds
 

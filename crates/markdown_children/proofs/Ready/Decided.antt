@@ -37,7 +37,8 @@ module _ (t : ℕ) (bytes : List ℕ) (wanted : Option Content) (events : List E
       go false e = e
 
   module _ (sound-place : (p : Point) → place p ≡ true → IsShownPlace t bytes p) where
-    ready-of : closes events ≡ true → AllBelow (length events) (is_sound_at events) → AllBelow (length events) (can_be_read_at place wanted events) → IsReady t bytes wanted events
+    -- a list that passes the tests is ready
+    pub ready-of : closes events ≡ true → AllBelow (length events) (is_sound_at events) → AllBelow (length events) (can_be_read_at place wanted events) → IsReady t bytes wanted events
     ready-of closed sound read = record {
       balanced = balanced-closes events closed;
       chunks = λ k c e. let l = with-content events k c e in sound-chunk events sound k l.0 l.1;
