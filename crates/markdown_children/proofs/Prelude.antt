@@ -1,12 +1,13 @@
 -- What the proofs of this crate cite from below them: words of std, of the crates below and of specs.
-pub use Rattle.markdown_tokenizer.proofs.Positions.Order.{every-all, every-both, every-cond}
+pub use Rattle.markdown_base.proofs.LineLemmas.{passing_more}
+pub use Rattle.markdown_tokenizer.proofs.Positions.Order.{every-all, every-back, every-both, every-cond, every-front}
 pub use Rattle.std.specs.Cmp.Derive.{both_true}
 pub use Rattle.std.proofs.lemmas.Slice.Zip.{AllZip-long}
 pub use Rattle.std.proofs.Common.{Bool, List, None, Option, Result, Some, [], add-one, ap, append-nil, append_assoc, arith, cond, drop, eqb, eqb-true, false, get_or, inl, inr, leb, length, length-append, length-drop, length-take, lit≤, ltb, map, refl, reverse, rules, slice_set, subst, suc, sym, take, take-append-drop, true, zero, ℕ, ⊎_elim, ◌*◌, ◌++◌, ◌+◌, ◌-◌, ◌/◌, ◌<◌, ◌^◌, ◌∙◌, ◌∷◌, ◌≡◌, ◌≢◌, ◌≤◌, ◌⊎◌}
-pub use Rattle.std.proofs.Math.ListN.{drop_of_length-le}
+pub use Rattle.std.proofs.Math.ListN.{drop_of_length-le, get_or-eq_default}
 pub use Rattle.std.proofs.Math.Nat.{mul-le-mul_left, mul-le-mul_right}
 pub use Rattle.std.proofs.Math.Seq.{drop-append_seam, take-append_seam, take-suc}
-pub use Rattle.std.proofs.lemmas.Bool.{and_parts, cases_eq, cases_lt, eq-eqb, le-leb, le-ltb, leb-false, leb-true, lt-ltb, ltb-false, ltb-true, ne_eqb, not-true, not_from_false, or_cases, or_left, or_right}
+pub use Rattle.std.proofs.lemmas.Bool.{and_parts, cases_eq, cases_lt, eq-eqb, false_from_ne_true, le-leb, le-ltb, leb-false, leb-true, lt-ltb, ltb-false, ltb-true, ne_eqb, not-true, not_from_false, or_cases, or_left, or_right}
 pub use Rattle.std.proofs.lemmas.Grind.{flat_map-append}
 pub use Rattle.std.proofs.lemmas.List.{drop-drop, length-map, length-reverse, length-take-le, map-append}
 pub use Rattle.std.proofs.lemmas.List.Elements.{All-drop, All-from_recursion, All-head, All-tail, All-take, filter-append, filter_passes, recursion_from_All}
@@ -24,7 +25,7 @@ pub use Rattle.markdown_base.proofs.Scans.{IsReached, IsReturnPlace, IsSeatPlace
 pub use Rattle.markdown_base.specs.Events.{EachEnd, EndsBelow, IsBalanced, IsVoidTight, is_void, relinked, same_name, with_ends}
 pub use Rattle.markdown_base.specs.Lines.{ends_line, is_lf}
 pub use Rattle.markdown_base.specs.Places.{IsPointOf, IsShown, denotes_same, follows_cr, point_at, shown, stands_before}
-pub use Rattle.markdown_base.specs.Virtual.{Seat, begins_with_lf, in_tab, point, tab_width, virtual, virtual_from}
+pub use Rattle.markdown_base.specs.Virtual.{Seat, begins_with_lf, in_tab, point, tab_width, virtual_from}
 pub use Rattle.markdown_base.specs.declared.configuration.ParseOptions.{ParseOptions}
 pub use Rattle.markdown_base.specs.declared.event.Content.{Content}
 pub use Rattle.markdown_base.specs.declared.event.Content.TheVariants.{Flow, String}

@@ -1,9 +1,9 @@
 -- The chains of a ready list that fit go forward, and the edits of one of them.
-use Rattle.markdown_children.proofs.Prelude.{◌≡◌, ℕ, ◌+◌, ◌<◌, ◌≤◌, ⊎_elim, true, List, [], ◌∷◌, ◌++◌, length, Option, Some, None, refl, sym, ◌∙◌, ap, subst, arith, append-nil, All, IfSome, slice_get, slice_index_or, is_none, AllByRecursion, cases_eq, slice_get-get_or, Content, Event, Link, EndsBelow, EachEnd, Edit, AreDisjoint, next_of, previous_of, chain_of, fits, begins, IsReady, LeadOnFrom, AreSpaced, divided, chain_edits, IsForward, and_parts}
+use Rattle.markdown_children.proofs.Prelude.{◌≡◌, ℕ, ◌+◌, ◌<◌, ◌≤◌, ⊎_elim, true, List, [], ◌∷◌, ◌++◌, length, Option, Some, sym, ◌∙◌, ap, subst, arith, append-nil, All, slice_index_or, is_none, AllByRecursion, cases_eq, slice_get-get_or, Content, Event, EndsBelow, Edit, AreDisjoint, previous_of, chain_of, fits, begins, IsReady, LeadOnFrom, AreSpaced, divided, chain_edits, IsForward, and_parts, link_at}
 use Rattle.std.specs.Prelude.{option_and_then}
-use Rattle.markdown_children.proofs.ChainOrder.Following.{inside, apart, fits_next, whole-from}
+use Rattle.markdown_children.proofs.ChainOrder.Following.{by_option, inside, apart, fits_next, whole-from}
 use Rattle.markdown_children.proofs.Parts.Edits.{all_edits-spaced}
-use Rattle.markdown_children.proofs.Ready.Tests.{with-next, with-previous, inside-link}
+use Rattle.markdown_children.proofs.Ready.Tests.{next-at, previous-at, with-next, with-previous, inside-link}
 
 module _ (tab : ℕ) (bytes : List ℕ) (wanted : Option Content) (events : List Event) (ready : IsReady tab bytes wanted events) where
   abbrev Fits : ℕ → Type 0
@@ -42,23 +42,12 @@ module _ (tab : ℕ) (bytes : List ℕ) (wanted : Option Content) (events : List
   pub ends-inside : All (EndsBelow (length events)) events
   ends-inside k d l =
       let x : Event = slice_index_or events k d in
-      let at : slice_get events k ≡ Some x = slice_get-get_or events k d l in
-      on_link x at x.link refl
-    where
-      on_link : (x : Event) → slice_get events k ≡ Some x → (o : Option Link) → x.link ≡ o → IfSome o (EachEnd (λ m. m < length events))
-      on_link x at None e = tt
-      on_link x at (Some m) e = (
-        before m.previous (ap (option_and_then (λ (y : Event). option_and_then (λ (n : Link). n.previous) y.link)) at ∙ ap (option_and_then (λ (n : Link). n.previous)) e),
-        behind m.next (ap (option_and_then (λ (y : Event). option_and_then (λ (n : Link). n.next) y.link)) at ∙ ap (option_and_then (λ (n : Link). n.next)) e),
-      )
-        where
-          before : (o : Option ℕ) → previous_of events k ≡ o → IfSome o (λ j. j < length events)
-          before None e = tt
-          before (Some j) e = let l = with-next events j k ((ready.joined j k).1 e) in inside-link events j l.0 l.1
-
-          behind : (o : Option ℕ) → next_of events k ≡ o → IfSome o (λ j. j < length events)
-          behind None e = tt
-          behind (Some j) e = let l = with-previous events j k ((ready.joined k j).0 e) in inside-link events j l.0 l.1
+      by_option x.link (λ e. rw e tt) (λ m e.
+      let here : link_at events k ≡ Some m = ap (option_and_then (λ (y : Event). y.link)) (slice_get-get_or events k d l) ∙ e in
+      rw e (
+        by_option m.previous (λ f. rw f tt) (λ j f. rw f (let b = with-next events j k ((ready.joined j k).1 (previous-at events k m here ∙ f)) in inside-link events j b.0 b.1)),
+        by_option m.next (λ f. rw f tt) (λ j f. rw f (let b = with-previous events j k ((ready.joined k j).0 (next-at events k m here ∙ f)) in inside-link events j b.0 b.1)),
+      ))
 
   -- ---- one chain
 

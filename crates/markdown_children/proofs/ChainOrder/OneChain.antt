@@ -1,6 +1,6 @@
 -- Each chunk that fits belongs to one chain.
-use Rattle.markdown_children.proofs.Prelude.{◌≡◌, ℕ, zero, suc, ◌<◌, ◌⊎◌, inl, inr, true, false, List, [], ◌∷◌, length, get_or, Option, Some, None, refl, sym, ◌∙◌, ap, subst, arith, ◌&&◌, is_none, Contains, none-some, Content, Event, and-false-never, next_of, previous_of, chain_of, fits, begins, IsReady, LeadOnFrom, IsInChain, IsInOneChain, and_parts}
-use Rattle.markdown_children.proofs.ChainOrder.Following.{fits_back, whole-from}
+use Rattle.markdown_children.proofs.Prelude.{◌≡◌, ℕ, zero, suc, ◌<◌, ◌⊎◌, inl, inr, true, false, List, [], ◌∷◌, length, get_or, Option, Some, None, refl, sym, ◌∙◌, ap, subst, arith, ◌&&◌, is_none, Contains, none-some, Content, Event, and-false-never, next_of, previous_of, chain_of, fits, begins, IsReady, LeadOnFrom, IsInChain, IsInOneChain, and_parts, ⊎_elim}
+use Rattle.markdown_children.proofs.ChainOrder.Following.{by_option, fits_back, whole-from}
 
 -- an index is among others
 abbrev IsAmong : ℕ → List ℕ → Type 0
@@ -56,37 +56,28 @@ module _ (tab : ℕ) (bytes : List ℕ) (wanted : Option Content) (events : List
 
   one_chain : (f k : ℕ) → k < f → Fits k → IsInOneChain wanted events k
   one_chain zero k l h = absurd (omega arith)
-  one_chain (suc f) k l h = at (previous_of events k) refl (λ p m q. one_chain f p (omega arith) q)
-    where
-      first : (c : ℕ) → begins wanted events c ≡ true → IsInChain events k c → previous_of events k ≡ None → c ≡ k
-      first c b m e = let a = among k c b m in on a.0 a.2 a.3
-        where
-          on : (ks : List ℕ) → LeadOnFrom events c ks → IsAmong k (c ∷ ks) → c ≡ k
-          on ks lead (inl s) = s
-          on ks lead (inr r) = absurd (behind-first c ks k lead r e)
-
-      at : (o : Option ℕ) → previous_of events k ≡ o → ((p : ℕ) → p < k → Fits p → IsInOneChain wanted events p) → IsInOneChain wanted events k
-      at None e ih =
-          let b = begin-is k h e in
-          let w = whole-from tab bytes wanted events ready k h in
-          record { chain = k; begin = b; member = in-chain k k w.0 w.1 (inl refl); only = λ c d m. first c d m e }
-      at (Some p) e ih =
-          let on : next_of events p ≡ Some k = (ready.joined p k).1 e in
-          let r = ih p (ready.forward p k on) (fits_back tab bytes wanted events ready p k h on) in
-          let a = among p r.chain r.begin r.member in
-          record {
-            chain = r.chain;
-            begin = r.begin;
-            member = in-chain k r.chain a.0 a.1 (inr (among-next r.chain a.0 p k a.2 on a.3));
-            only = λ c d m. r.only c d (back c d m);
-          }
-        where
-          back : (c : ℕ) → begins wanted events c ≡ true → IsInChain events k c → IsInChain events p c
-          back c d m = let a = among k c d m in in-chain p c a.0 a.1 (behind a.0 a.2 a.3)
-            where
-              behind : (ks : List ℕ) → LeadOnFrom events c ks → IsAmong k (c ∷ ks) → IsAmong p (c ∷ ks)
-              behind ks lead (inl s) = absurd (no-previous c p d (ap (previous_of events) s ∙ e))
-              behind ks lead (inr r) = among-before c ks p k lead e r
+  one_chain (suc f) k l h = by_option (previous_of events k)
+      (λ e.
+      let w = whole-from tab bytes wanted events ready k h in
+      record {
+        chain = k;
+        begin = begin-is k h e;
+        member = in-chain k k w.0 w.1 (inl refl);
+        only = λ c b m. let a = among k c b m in ⊎_elim (λ (s : c ≡ k). s) (λ (r : IsAmong k a.0). absurd (behind-first c a.0 k a.2 r e)) a.3;
+      })
+      (λ p e.
+      let on : next_of events p ≡ Some k = (ready.joined p k).1 e in
+      let before = ready.forward p k on in
+      let r = one_chain f p (omega arith) (fits_back tab bytes wanted events ready p k h on) in
+      let a = among p r.chain r.begin r.member in
+      record {
+        chain = r.chain;
+        begin = r.begin;
+        member = in-chain k r.chain a.0 a.1 (inr (among-next r.chain a.0 p k a.2 on a.3));
+        only = λ c d m.
+            let b = among k c d m in
+            r.only c d (in-chain p c b.0 b.1 (⊎_elim (λ (s : c ≡ k). absurd (no-previous c p d (ap (previous_of events) s ∙ e))) (λ (q : IsAmong k b.0). among-before c b.0 p k b.2 e q) b.3));
+      })
 
   pub each_chunk_is_in_one_chain : (k : ℕ) → Fits k → IsInOneChain wanted events k
   each_chunk_is_in_one_chain k h = one_chain (suc k) k (omega arith) h

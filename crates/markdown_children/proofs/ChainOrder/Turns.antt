@@ -26,25 +26,24 @@ pub record IsLeft (events es : List Event) (link_index : ℕ) (made : List Chunk
 pub left_first : (events es : List Event) (link_index : ℕ) → link_index + 1 < length events → AllByRecursion (IsForward events) (chain_from (length events) events link_index) → IsLeft events es link_index [] link_index 0 (length events)
 left_first events es link_index l w = record { chunks = omega arith; inside = l; start = omega arith; forward = w; built = refl }
 
-pub left_last : (events es : List Event) (link_index : ℕ) (made : List Chunk) (i j f : ℕ) → IsLeft events es link_index made i j f → next_of events i ≡ None
+pub left_last : {events es : List Event} {link_index : ℕ} {made : List Chunk} {i j f : ℕ} → IsLeft events es link_index made i j f → next_of events i ≡ None
     → made ++ record { index = i; start = j; end = length es } ∷ [] ≡ rest_table events es (length events) link_index 0
-left_last events es link_index made i j zero w n = let a = w.chunks in let b = w.inside in absurd (omega arith)
-left_last events es link_index made i j (suc f) w n =
+left_last {f = zero} w n = let a = w.chunks in let b = w.inside in absurd (omega arith)
+left_last {events} {es} {link_index} {made} {i} {j} {f = suc f} w n =
     ap (λ t. made ++ t) (sym (last_table events es f i j n w.start)) ∙ w.built
 
 length-front : (end : Point) (es : List Event) → length (front_until end es) ≤ length es
 length-front end es = simp length-take (omega arith)
 
-pub left_next : (events es : List Event) (link_index : ℕ) (made : List Chunk) (i j f d : ℕ) → IsLeft events es link_index made i j f → next_of events i ≡ Some d
+pub left_next : {events es : List Event} {link_index : ℕ} {made : List Chunk} {i j f d : ℕ} → IsLeft events es link_index made i j f → next_of events i ≡ Some d
     → (k : ℕ) × IsLeft events es link_index (made ++ record { index = i; start = j; end = j + length (front_until (place_at events (i + 1)) (drop j es)) } ∷ []) d (j + length (front_until (place_at events (i + 1)) (drop j es))) k
-left_next events es link_index made i j zero d w n = let a = w.chunks in let b = w.inside in absurd (omega arith)
-left_next events es link_index made i j (suc zero) d w n = let a = w.chunks in let b = w.inside in absurd (omega arith)
-left_next events es link_index made i j (suc (suc f)) d w n =
+left_next {f = zero} w n = let a = w.chunks in let b = w.inside in absurd (omega arith)
+left_next {f = suc zero} w n = let a = w.chunks in let b = w.inside in absurd (omega arith)
+left_next {events} {es} {link_index} {made} {i} {j} {f = suc (suc f)} {d} w n =
     let here : IsForward events i = w.forward.0 in
     let ahead = here.next d n in
     let rest : AllByRecursion (IsForward events) (chain_from (suc f) events d) = rw n at w.forward.1 in
-    let a = w.chunks in
-    let s : List Event = drop j es in (
+    let a = w.chunks in (
       suc f,
       record {
         chunks = omega (arith, ahead.0);
@@ -55,7 +54,7 @@ left_next events es link_index made i j (suc (suc f)) d w n =
       },
     )
 
-pub left_rises : (events es : List Event) (link_index : ℕ) (made : List Chunk) (i j f d : ℕ) → IsLeft events es link_index made i j f → next_of events i ≡ Some d → (i + 2 ≤ d) × (d + 1 < length events)
-left_rises events es link_index made i j zero d w n = let a = w.chunks in let b = w.inside in absurd (omega arith)
-left_rises events es link_index made i j (suc f) d w n =
+pub left_rises : {events es : List Event} {link_index : ℕ} {made : List Chunk} {i j f d : ℕ} → IsLeft events es link_index made i j f → next_of events i ≡ Some d → (i + 2 ≤ d) × (d + 1 < length events)
+left_rises {f = zero} w n = let a = w.chunks in let b = w.inside in absurd (omega arith)
+left_rises {events} {i = i} {f = suc f} {d} w n =
     let here : IsForward events i = w.forward.0 in here.next d n

@@ -1,5 +1,5 @@
 -- The loop of `subtokenize`: what is known before the event at an index is looked at.
-use Rattle.markdown_children.proofs.Prelude.{◌≡◌, ℕ, zero, suc, ◌+◌, ◌-◌, ◌*◌, ◌<◌, ◌↔◌, true, false, List, [], ◌∷◌, ◌++◌, length, Option, Some, refl, sym, ◌∙◌, ap, subst, arith, append_assoc, append-nil, flat_map, filter, AllByRecursion, AllZip, range_with_len, map-append, length-map, filter-append, flat_map-append, Content, Event, IsBalanced, IsVoidTight, relinked, Edit, AreDisjoint, removed_by, added_by, edited, AreDisjoint-le, Subresult, Fault, Memory, Failed, Given, Rules, IsInShape, with_more, AreMutual, chain_of, begins, fitting_starts, IsReady, AreSpaced, HasEndsWithin, Divided, divided, divided_over, child_place, part_edits, chain_edits, all_edits, total, StandBefore, with_children, Child, lists, IsChild, AreChildren, IsChildFault, IsSubtokenized, IsSubtokenizeFault, SoFar, starts_below, AllZip-long}
+use Rattle.markdown_children.proofs.Prelude.{◌≡◌, ℕ, zero, suc, ◌+◌, ◌-◌, ◌*◌, ◌<◌, ◌↔◌, true, false, List, [], ◌∷◌, ◌++◌, length, Option, Some, refl, sym, ◌∙◌, ap, subst, arith, append_assoc, append-nil, flat_map, filter, AllByRecursion, AllZip, range_with_len, map-append, length-map, filter-append, flat_map-append, Content, Event, IsBalanced, IsVoidTight, relinked, Edit, AreDisjoint, removed_by, added_by, edited, AreDisjoint-le, Subresult, Fault, Memory, Failed, Given, Rules, IsInShape, with_more, AreMutual, chain_of, begins, fitting_starts, IsReady, AreSpaced, HasEndsWithin, Divided, divided, divided_over, child_place, part_edits, chain_edits, all_edits, total, StandBefore, with_children, Child, lists, IsChild, AreChildren, IsChildFault, IsSubtokenized, IsSubtokenizeFault, SoFar, starts_below, AllZip-long, passing_more}
 use Rattle.markdown_tokenizer.specs.declared.tokenizer.fault.Fault.TheVariants as fault
 use Rattle.markdown_children.proofs.ChainOrder.Following.{filter-yes, filter-no, whole-from, follow_one_another}
 use Rattle.markdown_children.proofs.ChainOrder.Forward.{begins-fits, within}
@@ -68,9 +68,7 @@ range-split a (suc k) m =
     ap (range_with_len a) z ∙ ap (λ ks. a ∷ ks) (range-split (a + 1) k m) ∙ ap (λ b. (a ∷ range_with_len (a + 1) k) ++ range_with_len b m) y
 
 starts-next : (wanted : Option Content) (events : List Event) (i : ℕ) → starts_below wanted events (i + 1) ≡ starts_below wanted events i ++ filter (begins wanted events) (i ∷ [])
-starts-next wanted events i =
-    let z : 0 + i ≡ i = omega arith in
-    ap (filter (begins wanted events)) (range-split 0 i 1 ∙ ap (λ b. range_with_len 0 i ++ b ∷ []) z) ∙ filter-append (begins wanted events) (range_with_len 0 i) (i ∷ [])
+starts-next wanted events i = passing_more (begins wanted events) i
 
 starts-split : (wanted : Option Content) (events : List Event) (i : ℕ) → i < length events → begins wanted events i ≡ true → (behind : List ℕ) × (fitting_starts wanted events ≡ starts_below wanted events i ++ i ∷ behind)
 starts-split wanted events i l b =

@@ -1,5 +1,6 @@
 -- The parts of a child, event by event.
-use Rattle.markdown_children.proofs.Prelude.{◌≡◌, ℕ, suc, ◌+◌, Bool, true, false, cond, not, List, [], ◌∷◌, ◌++◌, length, drop, refl, sym, ◌∙◌, ap, arith, flat_map, take_while-cons, Event, Point, stands_before, front_until, parts, passed_over, chunk_numbers, part_numbers, AreByChunk}
+use Rattle.markdown_children.proofs.Prelude.{◌≡◌, ℕ, suc, ◌+◌, cond, not, List, [], ◌∷◌, ◌++◌, length, drop, refl, sym, ◌∙◌, ap, arith, flat_map, take_while-cons, Event, Point, stands_before, front_until, parts, passed_over, chunk_numbers, part_numbers, AreByChunk}
+use Rattle.markdown_children.proofs.ChainOrder.Following.{by_test}
 use Rattle.markdown_children.proofs.Parts.Kept.{joined, joined-parts}
 
 flat-joined : (ps : List (List Event)) → flat_map (λ (p : List Event). p) ps ≡ joined ps
@@ -25,25 +26,23 @@ module _ (end next : Point) (ends : List Point) where
 
   several : ((c : ℕ) (es : List Event) → Same (next ∷ ends) c es) → (c : ℕ) (es : List Event) → Same (end ∷ next ∷ ends) c es
   several ih c [] = ih (c + 1) []
-  several ih c (e ∷ es) = at (stands_before end e.point) refl (several ih c es)
-    where
-      at : (b : Bool) → stands_before end e.point ≡ b → Same (end ∷ next ∷ ends) c es → Same (end ∷ next ∷ ends) c (e ∷ es)
-      at true s h =
-          let m : ℕ = passed_over (next ∷ ends) e.point in
-          let z : c + 1 + m ≡ c + suc m = omega arith in
-          let none : front_until end (e ∷ es) ≡ [] = take_while-cons (λ (x : Event). not (stands_before end x.point)) e es ∙ ap (λ b. cond (not b) (e ∷ front_until end es) []) s in
-          let over : passed_over (end ∷ next ∷ ends) e.point ≡ suc m = ap (λ b. cond b (suc m) 0) s in
-          ap (λ front. part_numbers c (cut front (e ∷ es))) none
-          ∙ ih (c + 1) (e ∷ es)
-          ∙ (λ j. z j ∷ chunk_numbers (drop m (next ∷ ends)) (z j) es)
-          ∙ sym (ap (λ k. (c + k) ∷ chunk_numbers (drop k (end ∷ next ∷ ends)) (c + k) es) over)
-      at false s h =
-          let some : front_until end (e ∷ es) ≡ e ∷ front_until end es = take_while-cons (λ (x : Event). not (stands_before end x.point)) e es ∙ ap (λ b. cond (not b) (e ∷ front_until end es) []) s in
-          let over : passed_over (end ∷ next ∷ ends) e.point ≡ 0 = ap (λ b. cond b (suc (passed_over (next ∷ ends) e.point)) 0) s in
-          ap (λ front. part_numbers c (cut front (e ∷ es))) some
-          ∙ ap (λ ks. c ∷ ks) h
-          ∙ (λ j. sym (no-step c) j ∷ chunk_numbers (end ∷ next ∷ ends) (sym (no-step c) j) es)
-          ∙ sym (ap (λ k. (c + k) ∷ chunk_numbers (drop k (end ∷ next ∷ ends)) (c + k) es) over)
+  several ih c (e ∷ es) = by_test (stands_before end e.point)
+      (λ s.
+      let m : ℕ = passed_over (next ∷ ends) e.point in
+      let z : c + 1 + m ≡ c + suc m = omega arith in
+      let none : front_until end (e ∷ es) ≡ [] = take_while-cons (λ (x : Event). not (stands_before end x.point)) e es ∙ ap (λ b. cond (not b) (e ∷ front_until end es) []) s in
+      let over : passed_over (end ∷ next ∷ ends) e.point ≡ suc m = ap (λ b. cond b (suc m) 0) s in
+      ap (λ front. part_numbers c (cut front (e ∷ es))) none
+      ∙ ih (c + 1) (e ∷ es)
+      ∙ (λ j. z j ∷ chunk_numbers (drop m (next ∷ ends)) (z j) es)
+      ∙ sym (ap (λ k. (c + k) ∷ chunk_numbers (drop k (end ∷ next ∷ ends)) (c + k) es) over))
+      (λ s.
+      let some : front_until end (e ∷ es) ≡ e ∷ front_until end es = take_while-cons (λ (x : Event). not (stands_before end x.point)) e es ∙ ap (λ b. cond (not b) (e ∷ front_until end es) []) s in
+      let over : passed_over (end ∷ next ∷ ends) e.point ≡ 0 = ap (λ b. cond b (suc (passed_over (next ∷ ends) e.point)) 0) s in
+      ap (λ front. part_numbers c (cut front (e ∷ es))) some
+      ∙ ap (λ ks. c ∷ ks) (several ih c es)
+      ∙ (λ j. sym (no-step c) j ∷ chunk_numbers (end ∷ next ∷ ends) (sym (no-step c) j) es)
+      ∙ sym (ap (λ k. (c + k) ∷ chunk_numbers (drop k (end ∷ next ∷ ends)) (c + k) es) over))
 
 same-numbers : (end : Point) (ends : List Point) (c : ℕ) (es : List Event) → Same (end ∷ ends) c es
 same-numbers end [] c es = one end c es

@@ -1,6 +1,14 @@
 -- The places of children's events after disjoint changes.
 use Rattle.markdown_children.proofs.Prelude.{◌≡◌, ℕ, suc, ◌+◌, ◌-◌, ◌<◌, ◌≤◌, true, false, cond, eqb, ltb, List, [], ◌∷◌, ◌++◌, length, take, drop, Option, Some, None, refl, sym, ◌∙◌, ap, subst, ⊎_elim, arith, length-drop, option_map, ne_eqb, eq-eqb, lt-ltb, le-ltb, cases_lt, cases_eq, length-take-le, Event, Identity, of_child, Tagged, place_in, Change, olds, pass, AreApart, AreApart-le, or_after, place_in-append, length-olds, HasNo, child_place, total, tagged_child, part_changes}
 
+-- what a change leaves of the events
+pub left-of : (w : Change) (ws : List Change) (i : ℕ) (xs : List Event) → AreApart i (w ∷ ws) (i + length xs) → AreApart (w.index + w.remove) ws (w.index + w.remove + length (drop (w.index + w.remove - i) xs))
+left-of w ws i xs d =
+    let b : w.index + w.remove ≤ i + length xs = AreApart-le ws (w.index + w.remove) (i + length xs) d.1 in
+    let a : i ≤ w.index = d.0 in
+    let n : i + length xs ≡ w.index + w.remove + length (drop (w.index + w.remove - i) xs) = omega (arith, a, b, length-drop (w.index + w.remove - i) xs) in
+    subst (AreApart (w.index + w.remove) ws) n d.1
+
 -- no old event is one of a child
 pub place_in-child_olds : (c n i : ℕ) (xs : List Event) → place_in (of_child c n) (olds i xs) ≡ None
 place_in-child_olds c n i [] = refl
@@ -21,8 +29,7 @@ change_place-pass [] c n i removed added xs d r = rw (place_in-child_olds c n i 
 change_place-pass (w ∷ ws) c n i removed added xs d r =
     let a : i ≤ w.index = d.0 in
     let b : w.index + w.remove ≤ i + length xs = AreApart-le ws (w.index + w.remove) (i + length xs) d.1 in
-    let m' : i + length xs ≡ w.index + w.remove + length (drop (w.index + w.remove - i) xs) = omega (arith, length-drop (w.index + w.remove - i) xs) in
-    let d' : AreApart (w.index + w.remove) ws (w.index + w.remove + length (drop (w.index + w.remove - i) xs)) = subst (λ k. AreApart (w.index + w.remove) ws k) m' d.1 in
+    let d' = left-of w ws i xs d in
     let front : length (take (w.index - i) xs) ≡ w.index - i = length-take-le (w.index - i) xs (omega arith) in
     let rest : List Tagged = pass ws (w.index + w.remove) (drop (w.index + w.remove - i) xs) in
     let more = change_place-pass ws c n (w.index + w.remove) (removed + w.remove) (added + length w.events) (drop (w.index + w.remove - i) xs) d' (omega arith) in
@@ -50,12 +57,13 @@ pub place_in-other_child : (c d n j : ℕ) (es : List Event) → (c ≡ d → �
 place_in-other_child c d n j [] ne = refl
 place_in-other_child c d n j (e ∷ es) ne = rw (ne_eqb c d ne, place_in-other_child c d n (j + 1) es ne) refl
 
-pub place_in-child_before : (c n j : ℕ) (es : List Event) → j + length es ≤ n → place_in (of_child c n) (tagged_child c j es) ≡ None
-place_in-child_before c n j [] l = refl
-place_in-child_before c n j (e ∷ es) l =
+-- a child's events from the j-th on have no other number
+pub place_in-child_none : (c n j : ℕ) (es : List Event) → (j ≤ n → j + length es ≤ n) → place_in (of_child c n) (tagged_child c j es) ≡ None
+place_in-child_none c n j [] l = refl
+place_in-child_none c n j (e ∷ es) l =
     let here : eqb c c ≡ true = eq-eqb c c refl in
-    let there : eqb n j ≡ false = ne_eqb n j (omega arith) in
-    rw (here, there, place_in-child_before c n (j + 1) es (omega arith)) refl
+    let there : eqb n j ≡ false = ne_eqb n j (λ (q : n ≡ j). let m = l (omega arith) in omega arith) in
+    rw (here, there, place_in-child_none c n (j + 1) es (λ (m : j + 1 ≤ n). let k = l (omega arith) in omega arith)) refl
 
 pub place_in-child_in : (c n j : ℕ) (es : List Event) → j ≤ n → n < j + length es → place_in (of_child c n) (tagged_child c j es) ≡ Some (n - j)
 place_in-child_in c n j [] l m = absurd (omega arith)
@@ -86,7 +94,7 @@ change_place-chain c j (k ∷ ks) (p ∷ ps) ws n removed added e l = ⊎_elim
     let z : j + n ≡ j + length p + (n - length p) = omega arith in
     let rest : List Change = part_changes c (j + length p) ks ps ++ ws in
     let more = change_place-chain c (j + length p) ks ps ws (n - length p) (removed + 2) (added + length p) (omega arith) (omega arith) in
-    ap (λ o. or_else (option_map (λ p. k - removed + added + p) o) (change_place (of_child c (j + n)) rest (removed + 2) (added + length (tagged_child c j p)))) (place_in-child_before c (j + n) j p (omega arith))
+    ap (λ o. or_else (option_map (λ p. k - removed + added + p) o) (change_place (of_child c (j + n)) rest (removed + 2) (added + length (tagged_child c j p)))) (place_in-child_none c (j + n) j p (λ (m : j ≤ j + n). omega arith))
     ∙ ap (λ m. change_place (of_child c (j + n)) rest (removed + 2) (added + m)) (length-tagged_child c j p)
     ∙ ap (λ m. change_place (of_child c m) rest (removed + 2) (added + length p)) z
     ∙ more

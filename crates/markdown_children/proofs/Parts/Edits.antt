@@ -1,5 +1,5 @@
 -- The edits of the chains that fit.
-use Rattle.markdown_children.proofs.Prelude.{◌≡◌, ℕ, zero, suc, ◌+◌, ◌*◌, ◌<◌, Bool, List, [], ◌∷◌, ◌++◌, length, map, Option, refl, sym, ◌∙◌, ap, subst, arith, length-append, flat_map, filter, All, AllByRecursion, range_with_len, All-head, All-tail, All-from_recursion, Content, Event, Point, EndsBelow, Edit, AreDisjoint, chain_of, begins, fitting_starts, IsReady, place_at, IsWholeFrom, AreSpaced, HasEndsWithin, EditsGiveChildren, parts, Divided, divided, divided_over, child_place, part_edits, total, all_edits, first_chunk, every-filter}
+use Rattle.markdown_children.proofs.Prelude.{◌≡◌, ℕ, zero, suc, ◌+◌, ◌*◌, ◌<◌, Bool, List, [], ◌∷◌, ◌++◌, length, map, Option, refl, sym, ◌∙◌, ap, subst, arith, length-append, flat_map, filter, All, AllByRecursion, range_with_len, All-from_recursion, Content, Event, Point, EndsBelow, Edit, AreDisjoint, chain_of, begins, fitting_starts, IsReady, place_at, IsWholeFrom, AreSpaced, HasEndsWithin, EditsGiveChildren, parts, Divided, divided, divided_over, child_place, part_edits, total, all_edits, first_chunk, every-filter, every-front, every-back, recursion_from_All}
 use Rattle.markdown_children.proofs.ChainOrder.Following.{filter-yes, filter-no, by_test, follow_one_another}
 use Rattle.markdown_children.proofs.ChainOrder.Spaced.{AreSpaced-le, divided-parts, changes_are_apart}
 use Rattle.markdown_children.proofs.Parts.Kept.{joined, joined-parts}
@@ -38,15 +38,12 @@ rising test (suc f) i = by_test (test i)
     (λ e. rw (filter-yes test i (range_with_len (i + 1) f) e) (every-filter (λ (d : ℕ). i < d) test (range_with_len (i + 1) f) (range-above f (i + 1) i (omega arith)), rising test f (i + 1)))
     (λ e. rw (filter-no test i (range_with_len (i + 1) f) e) (rising test f (i + 1)))
 
-pub first-whole : (events : List Event) (c : ℕ) → IsWholeFrom events c → first_chunk (chain_of events c) ≡ c
-first-whole events c w = ap first_chunk w.1
-
 pub differ : (events : List Event) (c b : ℕ) (cs : List ℕ) (children : List (List Event)) → b ≡ c → AllByRecursion (λ (d : ℕ). c < d) cs → AllByRecursion (IsWholeFrom events) cs
     → AllByRecursion (λ (other : Divided). first_chunk other.chunks ≡ b → ⊥) (divided_over events cs children)
 differ events c b [] children e h w = tt
 differ events c b (d ∷ cs) [] e h w = tt
 differ events c b (d ∷ cs) (child ∷ children) e h w =
-    ((λ s. let l : c < d = h.0 in let is : d ≡ c = sym (first-whole events d w.0) ∙ s ∙ e in absurd (omega arith)), differ events c b cs children e h.1 w.1)
+    ((λ s. let l : c < d = h.0 in let is : d ≡ c = sym (ap first_chunk w.0.1) ∙ s ∙ e in absurd (omega arith)), differ events c b cs children e h.1 w.1)
 
 -- ---- the parts' link ends lie inside the child
 
@@ -54,13 +51,9 @@ pub total-joined : (ps : List (List Event)) → total ps ≡ length (joined ps)
 total-joined [] = refl
 total-joined (p ∷ ps) = omega (arith, total-joined ps, length-append p (joined ps))
 
-all-both : (P : Event → Type 0) (xs ys : List Event) → All P (xs ++ ys) → AllByRecursion P xs × All P ys
-all-both P [] ys h = (tt, h)
-all-both P (x ∷ xs) ys h = let r = all-both P xs ys (All-tail P x (xs ++ ys) h) in ((All-head P x (xs ++ ys) h, r.0), r.1)
-
-ends-parts : (n : ℕ) (ps : List (List Event)) → All (EndsBelow n) (joined ps) → AllByRecursion (All (EndsBelow n)) ps
+ends-parts : (n : ℕ) (ps : List (List Event)) → AllByRecursion (EndsBelow n) (joined ps) → AllByRecursion (All (EndsBelow n)) ps
 ends-parts n [] h = tt
-ends-parts n (p ∷ ps) h = let b = all-both (EndsBelow n) p (joined ps) h in (All-from_recursion (EndsBelow n) p b.0, ends-parts n ps b.1)
+ends-parts n (p ∷ ps) h = (All-from_recursion (EndsBelow n) p (every-front (EndsBelow n) p (joined ps) h), ends-parts n ps (every-back (EndsBelow n) p (joined ps) h))
 
 pub total-divided : (events : List Event) (c : ℕ) (child : List Event) → IsWholeFrom events c → total (divided events c child).parts ≡ length child
 total-divided events c child w =
@@ -75,13 +68,13 @@ ends-divided events c child w h =
     let is : (divided events c child).parts ≡ ps = ap (λ ks. parts (map (λ k. place_at events (k + 1)) ks) child) w.1 in
     let inside : All (EndsBelow (length child)) (joined ps) = subst (All (EndsBelow (length child))) (sym (joined-parts (place_at events (c + 1)) ends child)) h in
     subst (λ (n : ℕ). AllByRecursion (All (EndsBelow n)) (divided events c child).parts) (sym (total-divided events c child w))
-    (subst (AllByRecursion (All (EndsBelow (length child)))) (sym is) (ends-parts (length child) ps inside))
+    (subst (AllByRecursion (All (EndsBelow (length child)))) (sym is) (ends-parts (length child) ps (recursion_from_All (EndsBelow (length child)) (joined ps) inside)))
 
 pub are-chains : (events : List Event) (cs : List ℕ) (children : List (List Event)) → IsRising cs → AllByRecursion (IsWholeFrom events) cs → AllByRecursion HasEndsWithin children → AreChains (divided_over events cs children)
 are-chains events [] children r w h = tt
 are-chains events (c ∷ cs) [] r w h = tt
 are-chains events (c ∷ cs) (child ∷ children) r w h =
-    ((divided-parts events c child, ends-divided events c child w.0 h.0), differ events c (first_chunk (chain_of events c)) cs children (first-whole events c w.0) r.0 w.1, are-chains events cs children r.1 w.1 h.1)
+    ((divided-parts events c child, ends-divided events c child w.0 h.0), differ events c (first_chunk (chain_of events c)) cs children (ap first_chunk w.0.1) r.0 w.1, are-chains events cs children r.1 w.1 h.1)
 
 pub edits_give_children : (tab : ℕ) (bytes : List ℕ) (wanted : Option Content) (events : List Event) (children : List (List Event)) → IsReady tab bytes wanted events → EditsGiveChildren wanted events children
 edits_give_children tab bytes wanted events children ready =

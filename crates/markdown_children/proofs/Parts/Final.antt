@@ -1,6 +1,7 @@
 -- After all edits, each child event is at the place to which links to it lead.
-use Rattle.markdown_children.proofs.Prelude.{◌≡◌, ℕ, ◌+◌, ◌-◌, ◌<◌, ◌≤◌, true, false, cond, List, [], ◌∷◌, ◌++◌, length, map, take, drop, Option, Some, None, refl, sym, ◌∙◌, ap, subst, arith, nat_lt, length-drop, slice_get, slice_get-map, ltb-true, ltb-false, length-map, length-take-le, Event, relinked, get-front, Edit, removed_by, added_by, as_addition, as_change, Tagged, Change, woven, placed_end, AreApart, AreApart-le, olds, pass, woven-pass, length-olds, AreApart-edits, relinked-same, slice_get-behind, IsPlacedWell, parts, child_place, part_edits, divided, place_at}
+use Rattle.markdown_children.proofs.Prelude.{◌≡◌, ℕ, ◌+◌, ◌-◌, ◌<◌, ◌≤◌, true, false, cond, List, [], ◌∷◌, ◌++◌, length, map, take, drop, Option, Some, None, refl, sym, ◌∙◌, ap, subst, arith, nat_lt, slice_get, slice_get-map, ltb-true, ltb-false, length-map, length-take-le, Event, relinked, get-front, Edit, removed_by, added_by, as_addition, as_change, Tagged, Change, woven, placed_end, AreApart, AreApart-le, olds, pass, woven-pass, length-olds, AreApart-edits, relinked-same, slice_get-behind, IsPlacedWell, parts, child_place, part_edits, divided, place_at}
 use Rattle.std.proofs.Common.{option_map}
+use Rattle.markdown_children.proofs.Parts.ChildPlaces.{left-of}
 use Rattle.markdown_children.proofs.Parts.Kept.{joined, joined-parts}
 
 -- behind what stays up to a change, and what comes there
@@ -11,14 +12,6 @@ behind-change w ws i q xs l m =
     let rest : List Tagged = w.events ++ pass ws (w.index + w.remove) (drop (w.index + w.remove - i) xs) in
     let n : length front ≡ w.index - i = length-olds i (take (w.index - i) xs) ∙ length-take-le (w.index - i) xs (omega (arith, l, m)) in
     ap (λ k. slice_get (front ++ rest) (k + q)) (sym n) ∙ slice_get-behind front rest q
-
--- what a change leaves of the events
-left-of : (w : Change) (ws : List Change) (i : ℕ) (xs : List Event) → AreApart i (w ∷ ws) (i + length xs) → AreApart (w.index + w.remove) ws (w.index + w.remove + length (drop (w.index + w.remove - i) xs))
-left-of w ws i xs d =
-    let b : w.index + w.remove ≤ i + length xs = AreApart-le ws (w.index + w.remove) (i + length xs) d.1 in
-    let a : i ≤ w.index = d.0 in
-    let n : i + length xs ≡ w.index + w.remove + length (drop (w.index + w.remove - i) xs) = omega (arith, a, b, length-drop (w.index + w.remove - i) xs) in
-    subst (AreApart (w.index + w.remove) ws) n d.1
 
 module _ (f : ℕ → Option ℕ) (more : List Edit) where
   -- an event of a child as it comes into the list
@@ -123,7 +116,7 @@ child_is_placed_well es more events c child d n place is =
     let none : child_place div.chunks div.parts (0 + removed_by es) (0 + added_by es) n ≡ Some place =
     let r : 0 + removed_by es ≡ removed_by es = omega arith in
     let s : 0 + added_by es ≡ added_by es = omega arith in
-    ap (λ x. child_place div.chunks div.parts x (0 + added_by es) n) r ∙ ap (λ x. child_place div.chunks div.parts (removed_by es) x n) s ∙ is in
+    (λ j. child_place div.chunks div.parts (r j) (s j) n) ∙ is in
     let (q, where_to, found) = at-after f more es div.chunks div.parts 0 0 0 n events place apart (omega arith) none in
     let same : place ≡ q = omega (arith, where_to) in
     let ts : List Tagged = woven ws 0 events in

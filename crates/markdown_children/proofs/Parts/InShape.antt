@@ -1,9 +1,9 @@
 -- The list with children is in shape: link ends are indices into it, and its links are mutual if the children's are.
 use Rattle.markdown_children.proofs.Prelude.{◌≡◌, ℕ, ◌+◌, ◌<◌, cond, eqb, List, [], ◌∷◌, ◌++◌, length, map, Option, Some, None, refl, sym, ◌∙◌, ap, subst, arith, true, false, flat_map, slice_get, All, IfSome, AllByRecursion, option_map, option_and_then, eq-eqb, ne_eqb, length-map, All-from_recursion, recursion_from_All, none-some, Content, Event, Link, Point, relinked, with_ends, EachEnd, EndsBelow, AreMutual, of_list, Tagged, Change, place_in, placed_end, placed_in, placed, woven, AreApart, woven-pass, stays_unless_removed, keeps_links, chain_of, begins, fitting_starts, IsReady, place_at, IsWholeFrom, HasEndsWithin, ChildrenFit, parts, divided_over, part_changes, first_chunk, chain_changes, child_changes, with_children}
-use Rattle.markdown_children.proofs.ChainOrder.Following.{by_test, follow_one_another}
+use Rattle.markdown_children.proofs.ChainOrder.Following.{by_test, by_option, follow_one_another}
 use Rattle.markdown_children.proofs.ChainOrder.Spaced.{changes_are_apart}
 use Rattle.markdown_children.proofs.Parts.Kept.{joined-parts, with_children_balanced}
-use Rattle.markdown_children.proofs.Parts.Edits.{IsRising, rising, differ, first-whole}
+use Rattle.markdown_children.proofs.Parts.Edits.{IsRising, rising, differ}
 use Rattle.markdown_children.proofs.Parts.Tight.{with_children_tight}
 use Rattle.markdown_children.proofs.Parts.Once.{AreOnce, AreOthers, once-pass, once-chains}
 use Rattle.markdown_children.proofs.Parts.Sources.{AreSourced, sourced-woven, sourced-parts, mutual-placed, end-inside}
@@ -50,13 +50,9 @@ ends-of : (f : ℕ → Option ℕ) (n : ℕ) → ((k q : ℕ) → f k ≡ Some q
 ends-of f n h None = tt
 ends-of f n h (Some l) = (end l.previous, end l.next)
   where
-    at : (k : ℕ) (o : Option ℕ) → f k ≡ o → IfSome o (λ q. q < n)
-    at k None e = tt
-    at k (Some q) e = h k q e
-
     end : (o : Option ℕ) → IfSome (option_and_then f o) (λ q. q < n)
     end None = tt
-    end (Some k) = at k (f k) refl
+    end (Some k) = by_option (f k) (λ e. rw e tt) (λ q e. rw e (h k q e))
 
 ends-placed : (child : ℕ → List Event) (xs : List Event) (ts us : List Tagged) → AreSourced child xs us → AllByRecursion (EndsBelow (length ts)) (placed_in ts us)
 ends-placed child xs ts [] h = tt
@@ -69,7 +65,7 @@ module _ (tab : ℕ) (bytes : List ℕ) (wanted : Option Content) (events : List
   others : (cs : List ℕ) (children : List (List Event)) → IsRising cs → AllByRecursion (IsWholeFrom events) cs → AreOthers (divided_over events cs children)
   others [] children r w = tt
   others (c ∷ cs) [] r w = tt
-  others (c ∷ cs) (child ∷ children) r w = (differ events c (first_chunk (chain_of events c)) cs children (first-whole events c w.0) r.0 w.1, others cs children r.1 w.1)
+  others (c ∷ cs) (child ∷ children) r w = (differ events c (first_chunk (chain_of events c)) cs children (ap first_chunk w.0.1) r.0 w.1, others cs children r.1 w.1)
 
   sourced-chains : (child : ℕ → List Event) (cs : List ℕ) (children : List (List Event)) → Names child cs children → AllByRecursion (IsWholeFrom events) cs
       → AllByRecursion (λ (w : Change). AreSourced child events w.events) (flat_map chain_changes (divided_over events cs children))

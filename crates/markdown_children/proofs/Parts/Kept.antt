@@ -18,12 +18,9 @@ take-drop_taken zero es = refl
 take-drop_taken (suc k) [] = refl
 take-drop_taken (suc k) (e ∷ es) = ap (λ t. e ∷ t) (take-drop_taken k es)
 
-front-rest : (end : Point) (es : List Event) → front_until end es ++ drop (length (front_until end es)) es ≡ es
-front-rest end es = take-drop_taken _ es
-
 pub joined-parts : (end : Point) (ends : List Point) (es : List Event) → joined (parts (end ∷ ends) es) ≡ es
 joined-parts end [] es = append-nil es
-joined-parts end (next ∷ ends) es = ap (λ t. front_until end es ++ t) (joined-parts next ends (drop (length (front_until end es)) es)) ∙ front-rest end es
+joined-parts end (next ∷ ends) es = ap (λ t. front_until end es ++ t) (joined-parts next ends (drop (length (front_until end es)) es)) ∙ take-drop_taken _ es
 
 -- ---- events without their identities
 
@@ -77,6 +74,13 @@ module _ (tab : ℕ) (bytes : List ℕ) (wanted : Option Content) (events : List
       ∙ ap (λ ys. between i w.index events ++ ys) (map-append (λ (t : Tagged). t.event) w.events (pass ws (w.index + w.remove) (drop (w.index + w.remove - i) (drop i events)))
       ∙ ap (λ xs. untagged w.events ++ untagged (pass ws (w.index + w.remove) xs)) rest)
 
+  -- what the change of a chain's next chunk leaves
+  pub part_after : (c j i d : ℕ) (ks : List ℕ) (p : List Event) (ps : List (List Event)) (ws : List Change) → i ≤ d
+      → after_changes (part_changes c j (d ∷ ks) (p ∷ ps) ++ ws) i ≡ between i d events ++ (p ++ after_changes (part_changes c (j + length p) ks ps ++ ws) (d + 2))
+  part_after c j i d ks p ps ws l =
+      let rest : List Change = part_changes c (j + length p) ks ps ++ ws in
+      after-step (record { index = d; remove = 2; events = tagged_child c j p }) rest i l ∙ ap (λ ys. between i d events ++ (ys ++ after_changes rest (d + 2))) (untagged-child c j p)
+
   -- a chunk leaves each stack
   names-chunk : (k : ℕ) → Fits k → (o : Option (List Name)) → names_after_all o (drop k events) ≡ names_after_all o (drop (k + 2) events)
   names-chunk k h o =
@@ -100,16 +104,14 @@ module _ (tab : ℕ) (bytes : List ℕ) (wanted : Option Content) (events : List
   through c j k [] more (p ∷ ps) ws h lead e sp kept o = absurd (omega arith)
   through c j k (d ∷ ks) more [] ws h lead e sp kept o = absurd (omega arith)
   through c j k (d ∷ ks) more (p ∷ ps) ws h lead e sp kept o =
-      let w : Change = record { index = d; remove = 2; events = tagged_child c j p } in
       let rest : List Change = part_changes c (j + length p) ks ps ++ ws in
       let gap = names-leave (ready.gaps k d h lead.0).balanced in
       let fit = Rattle.markdown_children.proofs.ChainOrder.Following.fits_next tab bytes wanted events ready k d h lead.0 in
       let old : (q : Option (List Name)) → names_after_all q (drop (k + 2) events) ≡ names_after_all q (drop (d + 2) events) =
       λ q. ap (names_after_all q) (split-at events (k + 2) d sp.0) ∙ names_after_all-append q (between (k + 2) d events) (drop d events) ∙ ap (λ r. names_after_all r (drop d events)) (gap q) ∙ names-chunk d fit q in
-      ap (names_after_all o) (after-step w rest (k + 2) sp.0)
-      ∙ names-three o (between (k + 2) d events) (untagged w.events) (after_changes rest (d + 2))
-      ∙ ap (λ q. names_after_all (names_after_all q (untagged w.events)) (after_changes rest (d + 2))) (gap o)
-      ∙ ap (λ ys. names_after_all (names_after_all o ys) (after_changes rest (d + 2))) (untagged-child c j p)
+      ap (names_after_all o) (part_after c j (k + 2) d ks p ps ws sp.0)
+      ∙ names-three o (between (k + 2) d events) p (after_changes rest (d + 2))
+      ∙ ap (λ q. names_after_all (names_after_all q p) (after_changes rest (d + 2))) (gap o)
       ∙ through c (j + length p) d ks more ps ws fit lead.2 (omega arith) sp.1 kept (names_after_all o p)
       ∙ ap (λ q. names_after_all q (drop (d + 2) events)) (sym (names_after_all-append o p (joined ps)))
       ∙ sym (old (names_after_all o (p ++ joined ps)))
@@ -119,12 +121,9 @@ module _ (tab : ℕ) (bytes : List ℕ) (wanted : Option Content) (events : List
       → (o : Option (List Name)) → names_after_all o (after_changes (part_changes c 0 (c ∷ ks) ps ++ ws) i) ≡ names_after_all o (drop i events)
   one_chain c i ks more [] ws h lead e b sp kept o = absurd (omega arith)
   one_chain c i ks more (p ∷ ps) ws h lead e b sp kept o =
-      let w : Change = record { index = c; remove = 2; events = tagged_child c 0 p } in
-      let rest : List Change = part_changes c (0 + length p) ks ps ++ ws in
       let q : Option (List Name) = names_after_all o (between i c events) in
-      ap (names_after_all o) (after-step w rest i sp.0)
-      ∙ names-three o (between i c events) (untagged w.events) (after_changes rest (c + 2))
-      ∙ ap (λ ys. names_after_all (names_after_all q ys) (after_changes rest (c + 2))) (untagged-child c 0 p)
+      ap (names_after_all o) (part_after c 0 i c ks p ps ws sp.0)
+      ∙ names-three o (between i c events) p (after_changes (part_changes c (0 + length p) ks ps ++ ws) (c + 2))
       ∙ through c (0 + length p) c ks more ps ws h lead (omega arith) sp.1 kept (names_after_all q p)
       ∙ ap (λ r. names_after_all r (drop (c + 2) events)) (sym (names_after_all-append q p (joined ps)) ∙ names-leave b q)
       ∙ sym (names-chunk c h q)

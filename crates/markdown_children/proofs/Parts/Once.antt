@@ -1,8 +1,8 @@
 -- Each event is in the list with children once.
-use Rattle.markdown_children.proofs.Prelude.{◌≡◌, ℕ, zero, suc, ◌+◌, ◌-◌, ◌<◌, ◌≤◌, Bool, true, false, eqb, List, [], ◌∷◌, ◌++◌, length, take, drop, Some, None, refl, sym, ◌∙◌, ap, subst, arith, length-drop, ◌&&◌, flat_map, slice_get, AllByRecursion, ne_eqb, eq-eqb, length-take-le, none-some, same_Some, Event, Identity, of_list, of_child, of_addition, Tagged, is_same, place_in, Change, olds, pass, AreApart, AreApart-le, HasNo, place_in-append, place_in-olds_below, place_in-pass_below, Divided, tagged_child, part_changes, first_chunk, chain_changes, every-map}
+use Rattle.markdown_children.proofs.Prelude.{◌≡◌, ℕ, zero, suc, ◌+◌, ◌-◌, ◌<◌, ◌≤◌, true, eqb, List, [], ◌∷◌, ◌++◌, length, take, drop, Some, None, refl, sym, ◌∙◌, ap, subst, arith, flat_map, slice_get, AllByRecursion, length-take-le, none-some, same_Some, Event, Identity, of_list, of_child, of_addition, Tagged, is_same, place_in, Change, olds, pass, AreApart, AreApart-le, HasNo, place_in-append, place_in-olds_below, place_in-pass_below, Divided, tagged_child, part_changes, first_chunk, chain_changes, every-map, and_parts}
 use Rattle.std.proofs.lemmas.Bool.{eqb-true}
 use Rattle.markdown_children.proofs.ChainOrder.Following.{by_test}
-use Rattle.markdown_children.proofs.Parts.ChildPlaces.{place_in-child_olds}
+use Rattle.markdown_children.proofs.Parts.ChildPlaces.{left-of, place_in-child_olds, place_in-child_none}
 use Rattle.markdown_children.proofs.Parts.Placed.{has_no-chain, has_no-append}
 
 -- no event is there again behind itself
@@ -19,12 +19,7 @@ once-append (t ∷ xs) ys h k l = (none-append t.identity xs ys h.0 k.0, once-ap
 
 pub is_same-true : (a b : Identity) → is_same a b ≡ true → a ≡ b
 is_same-true (of_list i) (of_list j) e = ap of_list (eqb-true i j e)
-is_same-true (of_child c i) (of_child d j) e = two (eqb c d) (eqb i j) refl refl e
-  where
-    two : (p q : Bool) → eqb c d ≡ p → eqb i j ≡ q → (p && q) ≡ true → of_child c i ≡ of_child d j
-    two true true f g t = λ k. of_child (eqb-true c d f k) (eqb-true i j g k)
-    two true false f g t = cc
-    two false q f g t = cc
+is_same-true (of_child c i) (of_child d j) e = let t = and_parts (eqb c d) (eqb i j) e in λ k. of_child (eqb-true c d t.0 k) (eqb-true i j t.1 k)
 is_same-true (of_list i) (of_child d j) e = cc
 is_same-true (of_list i) of_addition e = cc
 is_same-true (of_child c i) (of_list j) e = cc
@@ -78,8 +73,7 @@ once-pass (w ∷ ws) i xs h k d =
     let front : List Event = take (w.index - i) xs in
     let back : List Event = drop (j - i) xs in
     let long : length front ≡ w.index - i = length-take-le (w.index - i) xs (omega arith) in
-    let m : i + length xs ≡ j + length back = omega (arith, length-drop (j - i) xs) in
-    let d' : AreApart j ws (j + length back) = subst (λ n. AreApart j ws n) m d.1 in
+    let d' : AreApart j ws (j + length back) = left-of w ws i xs d in
     let rest : List Tagged = pass ws j back in
     let later : AreOnce rest = once-pass ws j back (λ n. (h n).1) k.2 d' in
     let below : (n : ℕ) → i ≤ n → n < i + length front → place_in (of_list n) (w.events ++ rest) ≡ None =
@@ -95,21 +89,14 @@ all-tagged : (P : Identity → Type 0) (c j : ℕ) (es : List Event) → ((n : �
 all-tagged P c j [] h = tt
 all-tagged P c j (e ∷ es) h = (h j (omega arith) (omega arith), all-tagged P c (j + 1) es (λ n l m. h n (omega arith) (omega arith)))
 
-place_in-child_below : (c n j : ℕ) (es : List Event) → n < j → place_in (of_child c n) (tagged_child c j es) ≡ None
-place_in-child_below c n j [] l = refl
-place_in-child_below c n j (e ∷ es) l =
-    let here : eqb c c ≡ true = eq-eqb c c refl in
-    let there : eqb n j ≡ false = ne_eqb n j (omega arith) in
-    rw (here, there, place_in-child_below c n (j + 1) es (omega arith)) refl
-
 once-tagged : (c j : ℕ) (es : List Event) → AreOnce (tagged_child c j es)
 once-tagged c j [] = tt
-once-tagged c j (e ∷ es) = (place_in-child_below c j (j + 1) es (omega arith), once-tagged c (j + 1) es)
+once-tagged c j (e ∷ es) = (place_in-child_none c j (j + 1) es (λ (m : j + 1 ≤ j). omega arith), once-tagged c (j + 1) es)
 
 has_no-later : (c n j : ℕ) (ks : List ℕ) (ps : List (List Event)) (ws : List Change) → n < j → HasNo (of_child c n) ws → HasNo (of_child c n) (part_changes c j ks ps ++ ws)
 has_no-later c n j [] ps ws l h = h
 has_no-later c n j (k ∷ ks) [] ws l h = h
-has_no-later c n j (k ∷ ks) (p ∷ ps) ws l h = (place_in-child_below c n j p l, has_no-later c n (j + length p) ks ps ws (omega arith) h)
+has_no-later c n j (k ∷ ks) (p ∷ ps) ws l h = (place_in-child_none c n j p (λ (m : j ≤ n). omega arith), has_no-later c n (j + length p) ks ps ws (omega arith) h)
 
 once-parts : (c j : ℕ) (ks : List ℕ) (ps : List (List Event)) (ws : List Change) → ((n : ℕ) → HasNo (of_child c n) ws) → ComeOnce ws → ComeOnce (part_changes c j ks ps ++ ws)
 once-parts c j [] ps ws h k = k

@@ -1,5 +1,5 @@
 -- Edits that bring each part with its link ends at their final places give the list with children.
-use Rattle.markdown_children.proofs.Prelude.{◌≡◌, ℕ, suc, ◌+◌, ◌-◌, ◌*◌, ◌<◌, cond, List, [], ◌∷◌, ◌++◌, map, length, take, drop, Option, Some, refl, sym, ◌∙◌, ap, subst, arith, append_assoc, flat_map, All, option_map, AllByRecursion, map-append, All-head, All-tail, Event, relinked, EndsBelow, as_addition, as_change, edited, Identity, of_list, of_child, of_addition, Tagged, as_listed, place_in, is_same, Change, woven, placed, placed_in, placed_end, changed, AreApart, olds, pass, woven-pass, HasNo, relinked-same, relinked-agree, same_shift, Divided, child_place, part_edits, chain_edits, total, all_edits, tagged_child, part_changes, first_chunk, chain_changes, every-both, every-all}
+use Rattle.markdown_children.proofs.Prelude.{◌≡◌, ℕ, suc, ◌+◌, ◌-◌, ◌*◌, ◌<◌, cond, List, [], ◌∷◌, ◌++◌, map, length, drop, Option, Some, refl, sym, ◌∙◌, ap, subst, arith, append_assoc, flat_map, All, option_map, AllByRecursion, map-append, All-head, All-tail, Event, relinked, EndsBelow, as_addition, as_change, edited, Identity, of_list, of_child, of_addition, Tagged, as_listed, place_in, is_same, Change, woven, placed, placed_in, placed_end, changed, AreApart, olds, pass, woven-pass, HasNo, relinked-same, relinked-agree, same_shift, Divided, child_place, part_edits, chain_edits, total, all_edits, tagged_child, part_changes, first_chunk, chain_changes, every-both, every-all}
 use Rattle.markdown_children.proofs.ChainOrder.Spaced.{HasParts}
 use Rattle.markdown_children.proofs.Parts.ChildPlaces.{change_place, change_place-pass, change_place-chain, change_place-behind, place_in-other_child, length-tagged_child, removed_by, added_by}
 
@@ -46,13 +46,7 @@ olds-finalized ts i (x ∷ xs) = ap (λ us. as_listed i x ∷ us) (olds-finalize
 
 pass-finalized : (ts : List Tagged) (ws : List Change) (i : ℕ) (xs : List Event) → map (finalized ts) (pass ws i xs) ≡ pass (map (finalized_change ts) ws) i xs
 pass-finalized ts [] i xs = olds-finalized ts i xs
-pass-finalized ts (w ∷ ws) i xs =
-    rw (
-      map-append (finalized ts) (olds i (take (w.index - i) xs)) (w.events ++ pass ws (w.index + w.remove) (drop (w.index + w.remove - i) xs)),
-      map-append (finalized ts) w.events (pass ws (w.index + w.remove) (drop (w.index + w.remove - i) xs)),
-      olds-finalized ts i (take (w.index - i) xs),
-      pass-finalized ts ws (w.index + w.remove) (drop (w.index + w.remove - i) xs),
-    ) refl
+pass-finalized ts (w ∷ ws) i xs = simp (map-append, olds-finalized ts, pass-finalized ts ws (w.index + w.remove) (drop (w.index + w.remove - i) xs))
 
 disjoint-finalized : (ts : List Tagged) (ws : List Change) (from n : ℕ) → AreApart from ws n → AreApart from (map (finalized_change ts) ws) n
 disjoint-finalized ts [] from n d = d

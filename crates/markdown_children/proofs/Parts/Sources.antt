@@ -87,16 +87,14 @@ module _ (child : ℕ → List Event) (xs : List Event) where
           ∙ ap (λ b. placed_end ts b n) there.2 ∙ ends m n ∙ self)
 
       pub leads-back : LeadsBack xs → ((c : ℕ) → LeadsBack (child c)) → LeadsBack (placed ts)
-      leads-back list children p q e = at (slice_get ts p) refl
+      leads-back list children p q e = by_option (slice_get ts p)
+          (λ f. absurd (none-some q (sym (ap (option_and_then on) (slice_get-map moved ts p ∙ ap (option_map moved) f)) ∙ e)))
+          (λ u f. by u.identity u refl f)
         where
           by : (b : Identity) (u : Tagged) → u.identity ≡ b → slice_get ts p ≡ Some u → option_and_then back (slice_get (placed ts) q) ≡ Some p
           by (of_list n) u is f = via of_list xs list (λ i k. refl) (λ i. refl) (λ i. eq-eqb i i refl) p q n u is f e
           by (of_child c n) u is f = via (of_child c) (child c) (children c) (λ i k. refl) (λ i. refl) (λ i. let a : eqb c c ≡ true = eq-eqb c c refl in let b : eqb i i ≡ true = eq-eqb i i refl in rw (a, b) refl) p q n u is f e
           by of_addition u is f = absurd (none-some u.event (ap source (sym is) ∙ every-get IsSourced ts p u sourced f))
-
-          at : (o : Option Tagged) → slice_get ts p ≡ o → option_and_then back (slice_get (placed ts) q) ≡ Some p
-          at None f = absurd (none-some q (sym (ap (option_and_then on) (slice_get-map moved ts p ∙ ap (option_map moved) f)) ∙ e))
-          at (Some u) f = by u.identity u refl f
 
     pub mutual-placed : AreMutual xs → ((c : ℕ) → AreMutual (child c)) → AreMutual (placed ts)
     mutual-placed list children i j = (

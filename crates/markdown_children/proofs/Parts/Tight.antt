@@ -3,10 +3,10 @@
 -- An event of the list is followed by the same event as before, or by a part in place of a chunk, whose enter follows no void enter. An
 -- event of a child is followed by the next one of its part. The last one of a part is followed by the next one of its child, if nothing is
 -- between.
-use Rattle.markdown_children.proofs.Prelude.{◌≡◌, ℕ, zero, suc, ◌+◌, ◌-◌, ◌≤◌, true, List, [], ◌∷◌, ◌++◌, length, map, drop, take, Option, Some, refl, sym, ◌∙◌, ap, subst, arith, flat_map, slice_get, AllByRecursion, between, range_with_len, none-some, same_Some, Content, Event, Enter, Exit, Point, is_void, relinked, IsVoidTight, drop-at, Tagged, Change, placed_end, placed_in, woven, AreApart, pass, woven-pass, chain_of, fits, fitting_starts, IsReady, place_at, LeadOnFrom, IsWholeFrom, AreSpaced, EndsInVoidEnter, StandSideBySide, IsTornNowhere, NoneTorn, Divided, parts, divided_over, tagged_child, part_changes, first_chunk, chain_changes, child_changes, with_children}
+use Rattle.markdown_children.proofs.Prelude.{◌≡◌, ℕ, zero, suc, ◌+◌, ◌-◌, ◌≤◌, true, List, [], ◌∷◌, ◌++◌, length, map, drop, take, Option, Some, refl, sym, ◌∙◌, ap, subst, arith, flat_map, slice_get, AllByRecursion, between, range_with_len, none-some, same_Some, Content, Event, Enter, Exit, Point, is_void, relinked, IsVoidTight, drop-at, Tagged, Change, placed_end, placed_in, woven, AreApart, pass, woven-pass, chain_of, fits, fitting_starts, IsReady, place_at, LeadOnFrom, IsWholeFrom, AreSpaced, EndsInVoidEnter, StandSideBySide, IsTornNowhere, NoneTorn, Divided, parts, divided_over, part_changes, first_chunk, chain_changes, child_changes, with_children}
 use Rattle.markdown_children.proofs.ChainOrder.Following.{chunk, fits_next, starts_fit, follow_one_another}
 use Rattle.markdown_children.proofs.ChainOrder.Spaced.{length-parts, length-map_ends, changes_are_apart}
-use Rattle.markdown_children.proofs.Parts.Kept.{joined, joined-parts, untagged, untagged-olds, untagged-child, after_changes, after-step, split-at}
+use Rattle.markdown_children.proofs.Parts.Kept.{joined, joined-parts, untagged, untagged-olds, after_changes, part_after, split-at}
 
 -- ---- tight lists
 
@@ -109,13 +109,6 @@ module _ (tab : ℕ) (bytes : List ℕ) (wanted : Option Content) (events : List
       let split = tight-split (between i k events) (drop k events) (subst IsTight (split-at events i k l) (tight-drop i events tight)) in
       before-enter (between i k events) (drop k events) zs c.enter (ap (λ ys. slice_get ys 0) (drop-at events k c.enter c.enter_at)) c.linked.enter split.0
 
-  part-after : (c j i d : ℕ) (ks : List ℕ) (p : List Event) (ps : List (List Event)) (ws : List Change) → i ≤ d
-      → after (part_changes c j (d ∷ ks) (p ∷ ps) ++ ws) i ≡ between i d events ++ (p ++ after (part_changes c (j + length p) ks ps ++ ws) (d + 2))
-  part-after c j i d ks p ps ws l =
-      let w : Change = record { index = d; remove = 2; events = tagged_child c j p } in
-      let rest : List Change = part_changes c (j + length p) ks ps ++ ws in
-      after-step tab bytes wanted events ready w rest i l ∙ ap (λ ys. between i d events ++ (ys ++ after rest (d + 2))) (untagged-child c j p)
-
   between-none : (i d : ℕ) → d ≡ i → between i d events ≡ []
   between-none i d e = let z : d - i ≡ 0 = omega arith in ap (λ m. take m (drop i events)) z
 
@@ -128,12 +121,12 @@ module _ (tab : ℕ) (bytes : List ℕ) (wanted : Option Content) (events : List
   goes-on c j k (d ∷ ks) ([] ∷ ps) ws f at e s =
       let more = goes-on c (j + 0) d ks ps ws f at (omega arith) s.1 in
       let is : after (part_changes c j (d ∷ ks) ([] ∷ ps) ++ ws) (k + 2) ≡ after (part_changes c (j + 0) ks ps ++ ws) (d + 2) =
-      part-after c j (k + 2) d ks [] ps ws (omega (arith, s.0)) ∙ ap (λ ys. ys ++ after (part_changes c (j + 0) ks ps ++ ws) (d + 2)) (between-none (k + 2) d s.0) in
+      part_after tab bytes wanted events ready c j (k + 2) d ks [] ps ws (omega (arith, s.0)) ∙ ap (λ ys. ys ++ after (part_changes c (j + 0) ks ps ++ ws) (d + 2)) (between-none (k + 2) d s.0) in
       more ∙ ap (λ ys. slice_get ys 0) (sym is)
   goes-on c j k (d ∷ ks) ((x ∷ p) ∷ ps) ws f at e s =
       let rest : List Event = after (part_changes c (j + length (x ∷ p)) ks ps ++ ws) (d + 2) in
       let is : after (part_changes c j (d ∷ ks) ((x ∷ p) ∷ ps) ++ ws) (k + 2) ≡ (x ∷ p) ++ rest =
-      part-after c j (k + 2) d ks (x ∷ p) ps ws (omega (arith, s)) ∙ ap (λ ys. ys ++ ((x ∷ p) ++ rest)) (between-none (k + 2) d s) in
+      part_after tab bytes wanted events ready c j (k + 2) d ks (x ∷ p) ps ws (omega (arith, s)) ∙ ap (λ ys. ys ++ ((x ∷ p) ++ rest)) (between-none (k + 2) d s) in
       ap (λ ys. slice_get ys 0) (sym is)
 
   -- a part, and all events behind the chunk at k
@@ -150,7 +143,7 @@ module _ (tab : ℕ) (bytes : List ℕ) (wanted : Option Content) (events : List
       let behind : List Event = q ++ after (part_changes c (j + length q) ks ps ++ ws) (d + 2) in
       let tail : IsTight behind = parts-tight c (j + length q) d q ks more ps ws fit lead.2 (omega arith) sp.1 rest both.1 torn.1 in
       let all : IsTight (between (k + 2) d events ++ behind) = tight-join (between (k + 2) d events) behind (before-chunk (k + 2) d behind sp.0 fit) tail in
-      let is : after (part_changes c j (d ∷ ks) (q ∷ ps) ++ ws) (k + 2) ≡ between (k + 2) d events ++ behind = part-after c j (k + 2) d ks q ps ws sp.0 in
+      let is : after (part_changes c j (d ∷ ks) (q ∷ ps) ++ ws) (k + 2) ≡ between (k + 2) d events ++ behind = part_after tab bytes wanted events ready c j (k + 2) d ks q ps ws sp.0 in
       tight-join p (after (part_changes c j (d ∷ ks) (q ∷ ps) ++ ws) (k + 2))
       (tight-moved p (q ++ joined ps) (after (part_changes c j (d ∷ ks) (q ∷ ps) ++ ws) (k + 2)) both.0
       (λ v. let l = last-exits p (q ++ joined ps) both.0 v in goes-on c j k (d ∷ ks) (q ∷ ps) ws l.1.0 l.1.1 e (torn.0 v)))
@@ -179,7 +172,7 @@ module _ (tab : ℕ) (bytes : List ℕ) (wanted : Option Content) (events : List
       one_chain c i ks more [] ws h lead e sp rest t torn = absurd (omega arith)
       one_chain c i ks more (p ∷ ps) ws h lead e sp rest t torn =
           let behind : List Event = p ++ after (part_changes c (0 + length p) ks ps ++ ws) (c + 2) in
-          subst IsTight (sym (part-after c 0 i c ks p ps ws sp.0))
+          subst IsTight (sym (part_after tab bytes wanted events ready c 0 i c ks p ps ws sp.0))
           (tight-join (between i c events) behind (before-chunk i c behind sp.0 h) (parts-tight c (0 + length p) c p ks more ps ws h lead (omega arith) sp.1 rest t torn))
 
 pub with_children_tight : (tab : ℕ) (bytes : List ℕ) (wanted : Option Content) (events : List Event) (children : List (List Event)) → IsReady tab bytes wanted events → IsVoidTight events → AllByRecursion IsVoidTight children

@@ -1,40 +1,20 @@
 -- The tests together decide whether a list is ready.
-use Rattle.markdown_children.proofs.Prelude.{◌≡◌, ◌≢◌, ℕ, ◌+◌, ◌<◌, ⊎_elim, Bool, true, false, cond, List, length, Option, Some, None, refl, sym, ◌∙◌, ap, subst, arith, Result, ◌&&◌, not, unwrap_or, ◌↔◌, IfOk, lt-ltb, not-true, not_from_false, cases_eq, and_parts, sameb, same_true, true_same, Content, Flow, Event, Link, Point, stands_before, next_of, previous_of, content_at, lets_through, some_fits, fits, place_at, IsShownPlace, IsReady, closes, link_at, leads_back_to, is_joined_on, leads_on_to, is_joined_back, is_sound, is_sound_at, is_gap_on, is_readable, can_be_read, can_be_read_at, AllBelow, FailsSomewhere, is_place, both_true}
+use Rattle.markdown_children.proofs.Prelude.{◌≡◌, ◌≢◌, ℕ, ◌+◌, ◌<◌, ⊎_elim, Bool, true, false, cond, List, length, Option, Some, refl, sym, ◌∙◌, ap, subst, arith, Result, ◌&&◌, not, unwrap_or, ◌↔◌, IfOk, lt-ltb, not-true, not_from_false, cases_eq, and_parts, sameb, same_true, true_same, Content, Flow, Event, Link, Point, stands_before, next_of, content_at, lets_through, some_fits, fits, place_at, IsShownPlace, IsReady, closes, link_at, leads_back_to, is_joined_on, leads_on_to, is_joined_back, is_sound, is_sound_at, is_gap_on, is_readable, can_be_read, can_be_read_at, AllBelow, FailsSomewhere, is_place, both_true, false_from_ne_true}
 use Rattle.std.specs.declared.result.Result.TheVariants as result
 use Rattle.markdown_base.specs.contracts.event.Content.{the_type as contents}
-use Rattle.markdown_children.proofs.ChainOrder.Following.{some_content, apart, fits_next}
+use Rattle.markdown_children.proofs.ChainOrder.Following.{by_test, by_option, some_content, apart, fits_next}
 use Rattle.markdown_children.proofs.Ready.Reached.{place-sound, place-complete}
 use Rattle.markdown_children.proofs.Ready.Tests.{four-parts, balanced-closes, closes-balanced, is-number, content-at, next-at, previous-at, with-content, with-next, with-previous, inside-link, of-chunk, sound-chunk, sound-joined, sound-forward, sound-content, gap-of, of-gap}
-
--- ---- a test that is made only if another holds
-
-then-of : (a b : Bool) → cond a b true ≡ true → a ≡ true → b ≡ true
-then-of true b e f = e
-then-of false b e f = absurd (cc)
-
-then-to : (a b : Bool) → (a ≡ true → b ≡ true) → cond a b true ≡ true
-then-to true b h = h refl
-then-to false b h = refl
 
 module _ (t : ℕ) (bytes : List ℕ) (wanted : Option Content) (events : List Event) (place : Point → Bool) where
   fits-link : (k : ℕ) (l : Link) → link_at events k ≡ Some l → fits wanted events k ≡ lets_through wanted l.content
   fits-link k l e = ap (some_fits wanted) (content-at events k l e)
 
-  with-fit : (k : ℕ) → fits wanted events k ≡ true → (l : Link) × (link_at events k ≡ Some l) × (lets_through wanted l.content ≡ true)
-  with-fit k h =
-      let c = some_content wanted (content_at events k) h in
-      let l = with-content events k c.0 c.1 in
-      (l.0, l.1, sym (fits-link k l.0 l.1) ∙ h)
-
   not-flow : (c : Content) → sameb contents c Flow ≡ false → Some c ≢ Some Flow
   not-flow c e f = let g : c ≡ Flow = ap (λ o. unwrap_or o c) f in let h = true_same contents c Flow g in cc
 
   flow-not : (c : Content) → Some c ≢ Some Flow → sameb contents c Flow ≡ false
-  flow-not c h = go (sameb contents c Flow) refl
-    where
-      go : (b : Bool) → sameb contents c Flow ≡ b → sameb contents c Flow ≡ false
-      go true e = absurd (h (ap (λ x. Some x) (same_true contents tt c Flow e)))
-      go false e = e
+  flow-not c h = false_from_ne_true (sameb contents c Flow) (λ e. h (ap (λ x. Some x) (same_true contents tt c Flow e)))
 
   module _ (sound-place : (p : Point) → place p ≡ true → IsShownPlace t bytes p) where
     -- a list that passes the tests is ready
@@ -46,9 +26,8 @@ module _ (t : ℕ) (bytes : List ℕ) (wanted : Option Content) (events : List E
       forward = sound-forward events sound;
       one_content = sound-content events sound;
       readable = λ k h.
-          let l = with-fit k h in
-          let two = asked k l.0 l.1 l.2 in
-          let t = four-parts (not (sameb contents l.0.content Flow)) (not (stands_before (place_at events (k + 1)) (place_at events k))) (place (place_at events k)) (place (place_at events (k + 1))) two.0 in
+          let l = asked k h in
+          let t = four-parts (not (sameb contents l.0.content Flow)) (not (stands_before (place_at events (k + 1)) (place_at events k))) (place (place_at events k)) (place (place_at events (k + 1))) l.2 in
           record {
             content = λ f. not-flow l.0.content (not-true (sameb contents l.0.content Flow) t.0) (sym (content-at events k l.0 l.1) ∙ f);
             from = sound-place (place_at events k) t.2;
@@ -56,66 +35,61 @@ module _ (t : ℕ) (bytes : List ℕ) (wanted : Option Content) (events : List E
             forward = not-true (stands_before (place_at events (k + 1)) (place_at events k)) t.1;
           };
       gaps = λ k d h e.
-          let l = with-fit k h in
-          let two = asked k l.0 l.1 l.2 in
+          let l = asked k h in
           let next : l.0.next ≡ Some d = sym (next-at events k l.0 l.1) ∙ e in
-          gap-of events k d (ap (is_gap_on events k) (sym next) ∙ two.1);
+          gap-of events k d (ap (is_gap_on events k) (sym next) ∙ l.3);
     }
       where
-        asked : (k : ℕ) (l : Link) → link_at events k ≡ Some l → lets_through wanted l.content ≡ true → (is_readable place events k l.content ≡ true) × (is_gap_on events k l.next ≡ true)
-        asked k l e f =
-            let h : can_be_read place wanted events k (Some l) ≡ true = ap (can_be_read place wanted events k) (sym e) ∙ read k (inside-link events k l e) in
-            and_parts (is_readable place events k l.content) (is_gap_on events k l.next) (then-of (lets_through wanted l.content) (is_readable place events k l.content && is_gap_on events k l.next) h f)
+        asked : (k : ℕ) → fits wanted events k ≡ true → (l : Link) × (link_at events k ≡ Some l) × (is_readable place events k l.content ≡ true) × (is_gap_on events k l.next ≡ true)
+        asked k f =
+            let c = some_content wanted (content_at events k) f in
+            let l = with-content events k c.0 c.1 in
+            let passes : lets_through wanted l.0.content ≡ true = sym (fits-link k l.0 l.1) ∙ f in
+            let h : can_be_read place wanted events k (Some l.0) ≡ true = ap (can_be_read place wanted events k) (sym l.1) ∙ read k (inside-link events k l.0 l.1) in
+            let two = and_parts (is_readable place events k l.0.content) (is_gap_on events k l.0.next) (rw passes at h) in
+            (l.0, l.1, two.0, two.1)
 
   module _ (complete-place : (p : Point) → IsShownPlace t bytes p → place p ≡ true) (ready : IsReady t bytes wanted events) where
     of-ready-sound : (k : ℕ) → is_sound_at events k ≡ true
-    of-ready-sound k = go (link_at events k) refl
+    of-ready-sound k = by_option (link_at events k) (λ e. ap (is_sound events k) e) (λ l e.
+        ap (is_sound events k) e ∙ both_true (of-chunk events k (ready.chunks k l.content (content-at events k l e))) (both_true (on-at l e) (back-at l e)))
       where
-        on-at : (l : Link) → link_at events k ≡ Some l → (o : Option ℕ) → l.next ≡ o → is_joined_on events k l.content o ≡ true
-        on-at l e None f = refl
-        on-at l e (Some d) f =
+        on-at : (l : Link) → link_at events k ≡ Some l → is_joined_on events k l.content l.next ≡ true
+        on-at l e = by_option l.next (ap (is_joined_on events k l.content)) (λ d f.
             let n : next_of events k ≡ Some d = next-at events k l e ∙ f in
             let m = with-previous events d k ((ready.joined k d).0 n) in
             let c : Some m.0.content ≡ Some l.content = sym (content-at events d m.0 m.1) ∙ sym (ready.one_content k d n) ∙ content-at events k l e in
-            both_true (lt-ltb k d (ready.forward k d n)) (ap (leads_back_to k l.content) m.1 ∙ both_true (is-number m.0.previous k m.2) (true_same contents m.0.content l.content (ap (λ o. unwrap_or o m.0.content) c)))
+            ap (is_joined_on events k l.content) f
+            ∙ both_true (lt-ltb k d (ready.forward k d n)) (ap (leads_back_to k l.content) m.1 ∙ both_true (is-number m.0.previous k m.2) (true_same contents m.0.content l.content (ap (λ o. unwrap_or o m.0.content) c))))
 
-        back-at : (l : Link) → link_at events k ≡ Some l → (o : Option ℕ) → l.previous ≡ o → is_joined_back events k o ≡ true
-        back-at l e None f = refl
-        back-at l e (Some p) f =
-            let n : previous_of events k ≡ Some p = previous-at events k l e ∙ f in
-            let m = with-next events p k ((ready.joined p k).1 n) in
-            ap (leads_on_to k) m.1 ∙ is-number m.0.next k m.2
-
-        go : (o : Option Link) → link_at events k ≡ o → is_sound events k (link_at events k) ≡ true
-        go None e = ap (is_sound events k) e
-        go (Some l) e =
-            ap (is_sound events k) e ∙ both_true (of-chunk events k (ready.chunks k l.content (content-at events k l e))) (both_true (on-at l e l.next refl) (back-at l e l.previous refl))
+        back-at : (l : Link) → link_at events k ≡ Some l → is_joined_back events k l.previous ≡ true
+        back-at l e = by_option l.previous (ap (is_joined_back events k)) (λ p f.
+            let m = with-next events p k ((ready.joined p k).1 (previous-at events k l e ∙ f)) in
+            ap (is_joined_back events k) f ∙ ap (leads_on_to k) m.1 ∙ is-number m.0.next k m.2)
 
     of-ready-read : (k : ℕ) → can_be_read_at place wanted events k ≡ true
-    of-ready-read k = go (link_at events k) refl
+    of-ready-read k = by_option (link_at events k) (ap (can_be_read place wanted events k)) (λ l e.
+        ap (can_be_read place wanted events k) e ∙ by_test (lets_through wanted l.content)
+        (λ h.
+        let f : fits wanted events k ≡ true = fits-link k l e ∙ h in
+        let r = ready.readable k f in
+        ap (λ b. cond b (is_readable place events k l.content && is_gap_on events k l.next) true) h
+        ∙ both_true
+        (both_true
+        (both_true (not_from_false (sameb contents l.content Flow) (flow-not l.content (λ g. r.content (content-at events k l e ∙ g)))) (not_from_false (stands_before (place_at events (k + 1)) (place_at events k)) r.forward))
+        (both_true (complete-place (place_at events k) r.from) (complete-place (place_at events (k + 1)) r.to)))
+        (gap-on l e f))
+        (λ h. ap (λ b. cond b (is_readable place events k l.content && is_gap_on events k l.next) true) h))
       where
-        gap-on : (l : Link) → link_at events k ≡ Some l → fits wanted events k ≡ true → (o : Option ℕ) → l.next ≡ o → is_gap_on events k o ≡ true
-        gap-on l e h None f = refl
-        gap-on l e h (Some d) f =
+        gap-on : (l : Link) → link_at events k ≡ Some l → fits wanted events k ≡ true → is_gap_on events k l.next ≡ true
+        gap-on l e h = by_option l.next (ap (is_gap_on events k)) (λ d f.
             let n : next_of events k ≡ Some d = next-at events k l e ∙ f in
             let lt : k < d = ready.forward k d n in
-            of-gap events k d (⊎_elim
+            ap (is_gap_on events k) f
+            ∙ of-gap events k d (⊎_elim
             (λ (s : d ≡ k + 1). absurd (apart t bytes wanted events ready k h (ap (fits wanted events) (sym s) ∙ fits_next t bytes wanted events ready k d h n)))
             (λ (s : d ≡ k + 1 → ⊥). omega arith)
-            (cases_eq d (k + 1))) (ready.gaps k d h n)
-
-        go : (o : Option Link) → link_at events k ≡ o → can_be_read place wanted events k (link_at events k) ≡ true
-        go None e = ap (can_be_read place wanted events k) e
-        go (Some l) e =
-            ap (can_be_read place wanted events k) e
-            ∙ then-to (lets_through wanted l.content) (is_readable place events k l.content && is_gap_on events k l.next) (λ h.
-            let f : fits wanted events k ≡ true = fits-link k l e ∙ h in
-            let r = ready.readable k f in
-            both_true
-            (both_true
-            (both_true (not_from_false (sameb contents l.content Flow) (flow-not l.content (λ g. r.content (content-at events k l e ∙ g)))) (not_from_false (stands_before (place_at events (k + 1)) (place_at events k)) r.forward))
-            (both_true (complete-place (place_at events k) r.from) (complete-place (place_at events (k + 1)) r.to)))
-            (gap-on l e f l.next refl))
+            (cases_eq d (k + 1))) (ready.gaps k d h n))
 
 never-ready : (test : ℕ → Bool) (n : ℕ) → FailsSomewhere n test → ((k : ℕ) → test k ≡ true) → ⊥
 never-ready test n f h = let e = sym f.2 ∙ h f.0 in cc

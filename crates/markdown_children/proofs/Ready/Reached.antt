@@ -1,6 +1,7 @@
 -- Where the bytes of a document begin, and its places.
-use Rattle.markdown_children.proofs.Prelude.{◌≡◌, ◌≢◌, ℕ, zero, suc, ◌+◌, ◌-◌, ◌*◌, ◌<◌, ◌≤◌, ◌⊎◌, inl, inr, Bool, true, false, cond, List, [], ◌∷◌, ◌++◌, length, drop, get_or, Option, Some, refl, sym, ◌∙◌, ap, subst, arith, eqb-true, append_assoc, unwrap_or, ◌==◌, ◌&&◌, nat_le, nat_lt, slice_index, leb-true, ltb-true, le-leb, lt-ltb, eq-eqb, and_parts, get_or-map-range_with_len, length-map-range_with_len, map-range_with_len_more, Point, Seat, point, tab_width, in_tab, begins_with_lf, virtual, virtual_from, shown, follows_cr, IsPointOf, IsShown, point_at, IsReached, IsSeatPlace, IsReturnPlace, tab_width-least, reached_start, reached-line_feed, reached-return, reached-crlf, reached-tab, reached-plain, place-of, byte_here, point-of_reached, is_lf, ends_line, and-false-never, point_at-point, point_at-is, IsAmong, seat-is-point, IsShownPlace, width_at, line_after, column_after, line_at, column_at, byte_start, eighth_starts, is_of_byte, is_place, ByteStart}
+use Rattle.markdown_children.proofs.Prelude.{◌≡◌, ◌≢◌, ℕ, zero, suc, ◌+◌, ◌-◌, ◌*◌, ◌<◌, ◌≤◌, ◌⊎◌, inl, inr, Bool, true, false, cond, List, [], ◌∷◌, ◌++◌, length, drop, get_or, Option, Some, refl, sym, ◌∙◌, ap, subst, arith, eqb-true, append_assoc, unwrap_or, ◌==◌, ◌&&◌, nat_le, nat_lt, slice_index, leb-true, ltb-true, le-leb, lt-ltb, eq-eqb, and_parts, get_or-map-range_with_len, length-map-range_with_len, map-range_with_len_more, Point, Seat, point, tab_width, in_tab, begins_with_lf, virtual_from, shown, follows_cr, IsPointOf, IsShown, point_at, IsReached, IsSeatPlace, IsReturnPlace, tab_width-least, reached_start, reached-line_feed, reached-return, reached-crlf, reached-tab, reached-plain, place-of, byte_here, point-of_reached, is_lf, ends_line, and-false-never, point_at-point, point_at-is, IsAmong, seat-is-point, IsShownPlace, width_at, line_after, column_after, line_at, column_at, byte_start, eighth_starts, is_of_byte, is_place, ByteStart, get_or-eq_default, cases_lt, ⊎_elim}
 use Rattle.std.proofs.Common.{ne_eqb}
+use Rattle.markdown_children.proofs.ChainOrder.Following.{by_test}
 use Rattle.markdown_children.proofs.Ready.Tests.{four-parts}
 
 -- ---- where each byte begins
@@ -28,13 +29,9 @@ module _ (t : ℕ) (some : 0 < t) (bytes : List ℕ) where
       reached-on (line_at bytes k) (column_at t bytes k) k (is_lf bytes k) (slice_index bytes k == 13) (is_lf bytes (suc k)) (slice_index bytes k == 9)
       (reached-at k (omega arith)) (omega arith) refl refl refl refl
 
-line-more : (b : Bool) (l k : ℕ) → l ≤ k → cond b (suc l) l ≤ suc k
-line-more true l k h = omega arith
-line-more false l k h = omega arith
-
 pub line_at-le : (bytes : List ℕ) (k : ℕ) → line_at bytes k ≤ k + 1
 line_at-le bytes zero = omega arith
-line_at-le bytes (suc k) = let h = line-more (ends_line bytes k) (line_at bytes k) (k + 1) (line_at-le bytes k) in omega (arith, h)
+line_at-le bytes (suc k) = by_test (ends_line bytes k) (λ e. rw e (omega (arith, line_at-le bytes k))) (λ e. rw e (omega (arith, line_at-le bytes k)))
 
 -- ---- the places of a tab
 
@@ -58,9 +55,6 @@ among-front s xs ys a = record { front = a.front; back = a.back ++ ys; splits = 
 among-behind : (s : Seat) (xs ys : List Seat) → IsAmong s ys → IsAmong s (xs ++ ys)
 among-behind s xs ys a = record { front = xs ++ a.front; back = a.back; splits = ap (λ zs. xs ++ zs) a.splits ∙ sym (append_assoc xs a.front (s ∷ a.back)) }
 
-among-in : (s : Seat) (xs ys : List Seat) → xs ≡ ys → IsAmong s ys → IsAmong s xs
-among-in s xs ys e a = subst (IsAmong s) (sym e) a
-
 no-byte : (b n m : ℕ) → b ≡ n → n ≢ m → (b == m) ≡ false
 no-byte b n m e h = ne_eqb b m (λ f. h (sym e ∙ f))
 
@@ -74,19 +68,11 @@ module _ (t : ℕ) (some : 0 < t) (bytes : List ℕ) where
       let s = among.0 in
       let here : virtual_from t line column i (drop i bytes) ≡ in_tab 9 w line column i 0 ++ rest =
       rw (byte_here t bytes line column i r within, no-byte (get_or bytes i 0) 9 10 is (λ e. omega arith), no-byte (get_or bytes i 0) 9 13 is (λ e. omega arith), eq-eqb (get_or bytes i 0) 9 is) refl in
-      let a = among-in s (virtual t bytes) (r.front ++ virtual_from t line column i (drop i bytes)) r.whole
-      (among-behind s r.front (virtual_from t line column i (drop i bytes))
-      (among-in s (virtual_from t line column i (drop i bytes)) (in_tab 9 w line column i 0 ++ rest) here (among-front s (in_tab 9 w line column i 0) rest among.1))) in
+      let a = subst (IsAmong s) (sym r.whole) (among-behind s r.front (virtual_from t line column i (drop i bytes)) (subst (IsAmong s) (sym here) (among-front s (in_tab 9 w line column i 0) rest among.1))) in
       subst (IsPointOf t bytes) (among.2 ∙ (λ j. point line (column + k) i (z j))) (seat-is-point t bytes s a)
-
-  begin-place : (line column i : ℕ) → IsReached t bytes line column i → IsPointOf t bytes (point line column i 0)
-  begin-place line column i r = (point_at-is t bytes (i, 0) (point line column i 0) (point-of_reached t some bytes line column i r)).is_point
 
   shown-if : (p : Point) → (is_lf bytes p.index && follows_cr bytes p.index) ≡ false → IsShown bytes p
   shown-if p e = rw e refl
-
-  not-lf : (p : Point) → get_or bytes p.index 0 ≡ 9 → (is_lf bytes p.index && follows_cr bytes p.index) ≡ false
-  not-lf p e = rw (no-byte (get_or bytes p.index 0) 9 10 e (λ f. omega arith)) refl
 
   -- a point that is one of the places of a byte
   of-byte : (p : Point) (line column : ℕ) (y z : Bool) → IsReached t bytes line column p.index → (slice_index bytes p.index == 9) ≡ y → (is_lf bytes p.index && follows_cr bytes p.index) ≡ z
@@ -94,14 +80,9 @@ module _ (t : ℕ) (some : 0 < t) (bytes : List ℕ) where
   of-byte p line column true z r e f a b c d =
       let is : get_or bytes p.index 0 ≡ 9 = eqb-true (get_or bytes p.index 0) 9 e in
       let w : width_at t bytes column p.index ≡ tab_width t column = rw e refl in
-      let within : p.index < length bytes = inside-byte bytes p.index is in
+      let within : p.index < length bytes = ⊎_elim (λ (l : p.index < length bytes). l) (λ (l : length bytes ≤ p.index). absurd (omega (arith, get_or-eq_default bytes 0 l))) (cases_lt p.index (length bytes)) in
       let same : column + p.vs ≡ p.column = omega (arith, b, c) in
-      (subst (IsPointOf t bytes) (λ j. point (a j) (same j) p.index p.vs) (tab-place line column p.index p.vs r within is (omega (arith, d, w))), shown-if p (not-lf p is))
-    where
-      inside-byte : (bs : List ℕ) (i : ℕ) → get_or bs i 0 ≡ 9 → i < length bs
-      inside-byte [] i h = absurd (omega arith)
-      inside-byte (x ∷ bs) zero h = omega arith
-      inside-byte (x ∷ bs) (suc i) h = omega (arith, inside-byte bs i h)
+      (subst (IsPointOf t bytes) (λ j. point (a j) (same j) p.index p.vs) (tab-place line column p.index p.vs r within is (omega (arith, d, w))), shown-if p (rw (no-byte (get_or bytes p.index 0) 9 10 is (λ g. omega arith)) refl))
   of-byte p line column false true r e f a b c d =
       let w : width_at t bytes column p.index ≡ 0 = rw (e, f) refl in
       absurd (omega (arith, d, w))
@@ -109,7 +90,7 @@ module _ (t : ℕ) (some : 0 < t) (bytes : List ℕ) where
       let w : width_at t bytes column p.index ≡ 1 = rw (e, f) refl in
       let v : 0 ≡ p.vs = omega (arith, d, w) in
       let same : column ≡ p.column = omega (arith, b, c, v) in
-      (subst (IsPointOf t bytes) (λ j. point (a j) (same j) p.index (v j)) (begin-place line column p.index r), shown-if p f)
+      (subst (IsPointOf t bytes) (λ j. point (a j) (same j) p.index (v j)) (point_at-is t bytes (p.index, 0) (point line column p.index 0) (point-of_reached t some bytes line column p.index r)).is_point, shown-if p f)
 
   -- a point that passes the test is a place that is shown
   pub place-sound : (p : Point) → is_place t bytes p ≡ true → IsShownPlace t bytes p
@@ -200,11 +181,8 @@ length-kept t bytes rs n e = ap length e ∙ length-map-range_with_len (λ k. by
 pub line-on : (bytes : List ℕ) (line i : ℕ) (b : Bool) → line ≡ line_at bytes i → ends_line bytes i ≡ b → cond b (line + 1) line ≡ line_at bytes (i + 1)
 line-on bytes line i b l e =
     let s : suc i ≡ i + 1 = omega arith in
-    go b e ∙ ap (line_at bytes) s
-  where
-    go : (b : Bool) → ends_line bytes i ≡ b → cond b (line + 1) line ≡ line_at bytes (suc i)
-    go true e = let n : line + 1 ≡ suc (line_at bytes i) = omega (arith, l) in n ∙ ap (λ b. cond b (suc (line_at bytes i)) (line_at bytes i)) (sym e)
-    go false e = l ∙ ap (λ b. cond b (suc (line_at bytes i)) (line_at bytes i)) (sym e)
+    let n : line + 1 ≡ suc (line_at bytes i) = omega (arith, l) in
+    (λ j. cond (sym e j) (n j) (l j)) ∙ ap (line_at bytes) s
 
 pub column-on : (t : ℕ) (bytes : List ℕ) (column i : ℕ) → column ≡ column_at t bytes i → column_after t bytes column i ≡ column_at t bytes (i + 1)
 column-on t bytes column i c =

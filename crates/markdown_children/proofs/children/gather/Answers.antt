@@ -1,38 +1,35 @@
-use Rattle.markdown_children.proofs.Prelude.{◌≡◌, ℕ, Bool, false, refl, sym, ap, ◌∙◌, subst, Subresult, given_by, err-if, IsChildFault}
+use Rattle.markdown_children.proofs.Prelude.{ℕ, false, refl, sym, ap, ◌∙◌, subst, Subresult, given_by, err-if, IsChildFault}
 use Rattle.markdown_children.proofs.ChildReads.SoFar.{so_far-start, so_far-other, so_far-next, so_far-before, so_far-fault}
 use Rattle.markdown_children.proofs.ChainOrder.Forward.{forward-chain, within}
 use Rattle.markdown_children.proofs.children.gather.Goals as goal
 use Rattle.markdown_children.proofs.children.gather.Goals.{then-begins_at+in_ok-child+in_ok-acc+in_ok-found, else-begins_at}
 
-told : {b : Bool} (a : Bool) (c : Bool) → a ≡ c → a ≡ b → c ≡ b
-told a c e f = sym e ∙ f
-
 pub loop-index-init : goal.loop-index-init
 loop-index-init g c = so_far-start c.requires.empty refl c.new-2.ensures c.new.ensures
 
 pub divide-requires-clause-chain : goal.divide-requires-clause-chain
-divide-requires-clause-chain g c = forward-chain c.args.parse_state.now.options.now.tab_size c.args.parse_state.now.bytes.now c.args.filter c.args.events.now c.requires.ready c.loop-index.index (told _ _ c.begins_at.ensures c.if-begins_at.true)
+divide-requires-clause-chain g c = forward-chain c.args.parse_state.now.options.now.tab_size c.args.parse_state.now.bytes.now c.args.filter c.args.events.now c.requires.ready c.loop-index.index (sym c.begins_at.ensures ∙ c.if-begins_at.true)
 
 pub divide-requires-clause-within : goal.divide-requires-clause-within
-divide-requires-clause-within g c = within c.args.parse_state.now.options.now.tab_size c.args.parse_state.now.bytes.now c.args.filter c.args.events.now c.requires.ready c.loop-index.index (told _ _ c.begins_at.ensures c.if-begins_at.true)
+divide-requires-clause-within g c = within c.args.parse_state.now.options.now.tab_size c.args.parse_state.now.bytes.now c.args.filter c.args.events.now c.requires.ready c.loop-index.index (sym c.begins_at.ensures ∙ c.if-begins_at.true)
 
 pub divide-requires-clause-before : goal.divide-requires-clause-before
-divide-requires-clause-before g c = so_far-before c.requires.ready (told _ _ c.begins_at.ensures c.if-begins_at.true) c.loop-index.invariant
+divide-requires-clause-before g c = so_far-before c.requires.ready (sym c.begins_at.ensures ∙ c.if-begins_at.true) c.loop-index.invariant
 
 pub loop-index-preserved : goal.loop-index-preserved
 loop-index-preserved g c =
     elim c.if-begins_at.branch [
       | then-begins_at+in_ok-child+in_ok-acc+in_ok-found w ↦ so_far-next {child = record { events = w.in_ok-child.child.items; found = w.in_ok-child.more }}
-          c.requires.ready (told _ _ c.begins_at.ensures w.if-begins_at.true) c.loop-index.invariant w.in_ok-child.ensures.ok
+          c.requires.ready (sym c.begins_at.ensures ∙ w.if-begins_at.true) c.loop-index.invariant w.in_ok-child.ensures.ok
           (w.map-is ∙ w.in_ok-acc.ensures.ok) (ap (λ (s : ℕ × ℕ). s.0) w.acc-is ∙ w.in_ok-acc.ensures.sums.0) (ap (λ (s : ℕ × ℕ). s.1) w.acc-is ∙ w.in_ok-acc.ensures.sums.1)
           (w.found-is ∙ ap (λ (s : Subresult). record s { done = false }) w.in_ok-found.ensures)
-      | else-begins_at w ↦ so_far-other (told _ _ c.begins_at.ensures w.if-begins_at.false) w.map-is w.acc-is w.found-is c.loop-index.invariant
+      | else-begins_at w ↦ so_far-other (sym c.begins_at.ensures ∙ w.if-begins_at.false) w.map-is w.acc-is w.found-is c.loop-index.invariant
     ]
 
 pub returns-in_err-child-clause-err : goal.returns-in_err-child-clause-err
 returns-in_err-child-clause-err g c =
     let p = c.args.parse_state.now in
     err-if c.from_residual.result _ _
-    (λ f is. so_far-fault f c.loop-index-test.true (told _ _ c.begins_at.ensures c.if-begins_at.true) c.loop-index.invariant
+    (λ f is. so_far-fault f c.loop-index-test.true (sym c.begins_at.ensures ∙ c.if-begins_at.true) c.loop-index.invariant
     (subst (IsChildFault (given_by p.bytes.now p.options.now) (g.M.Machine.rules p.machine.now) c.args.events.now c.loop-index.index) (sym is) c.in_err-child.ensures.err))
     c.from_residual.ensures.1

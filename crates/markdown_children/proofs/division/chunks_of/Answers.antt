@@ -10,19 +10,14 @@ loop-next-init c = (
 )
 
 pub loop-next-smaller : goal.loop-next-smaller
-loop-next-smaller c =
-    let rises = left_rises c.args.events.now c.args.child.now c.args.link_index c.loop-next.chunks.items c.loop-next.index c.loop-next.start c.loop-next.invariant.0 c.in-Some.next c.loop-next.invariant.1 (sym c.in-Some.ensures) in
-    let w = c.loop-next.invariant.1.inside in
-    omega (arith, rises.0, w)
+loop-next-smaller c = omega (arith, (left_rises c.loop-next.invariant.1 (sym c.in-Some.ensures)).0, c.loop-next.invariant.1.inside)
 
 pub loop-next-preserved : goal.loop-next-preserved
 loop-next-preserved c =
-    let next = left_next c.args.events.now c.args.child.now c.args.link_index c.loop-next.chunks.items c.loop-next.index c.loop-next.start c.loop-next.invariant.0 c.in-Some.next c.loop-next.invariant.1 (sym c.in-Some.ensures) in
+    let next = left_next c.loop-next.invariant.1 (sym c.in-Some.ensures) in
     let at_end : IsLeft c.args.events.now c.args.child.now c.args.link_index (c.loop-next.chunks.items ++ record { index = c.loop-next.index; start = c.loop-next.start; end = c.part_end-end.result } ∷ []) c.in-Some.next c.part_end-end.result next.0 =
     subst (λ (z : ℕ). IsLeft c.args.events.now c.args.child.now c.args.link_index (c.loop-next.chunks.items ++ record { index = c.loop-next.index; start = c.loop-next.start; end = z } ∷ []) c.in-Some.next z next.0) (sym (c.part_end-end.ensures ∙ ap (λ (p : Point). c.loop-next.start + length (front_until p (drop c.loop-next.start c.args.child.now))) c.place_at-exit.ensures)) next.1 in
     (next.0, subst (λ (m : List Chunk). IsLeft c.args.events.now c.args.child.now c.args.link_index m c.in-Some.next c.part_end-end.result next.0) (sym c.in_ok-push.ensures.items) at_end)
 
 pub returns : goal.returns
-returns c =
-    let last = left_last c.args.events.now c.args.child.now c.args.link_index c.loop-next.chunks.items c.loop-next.index c.loop-next.start c.loop-next.invariant.0 c.loop-next.invariant.1 (sym c.in_default.ensures) in
-    c.in_ok-push-2.ensures.items ∙ last
+returns c = c.in_ok-push-2.ensures.items ∙ left_last c.loop-next.invariant.1 (sym c.in_default.ensures)
