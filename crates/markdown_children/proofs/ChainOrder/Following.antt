@@ -70,22 +70,15 @@ module _ (tab : ℕ) (bytes : List ℕ) (wanted : Option Content) (events : List
   abbrev rest_of : Option ℕ → List ℕ
   rest_of o = unwrap_or (option_map (chain_of events) o) []
 
-  more_enough : (f g k : ℕ) → Fits k → ((d : ℕ) → Fits d → k < d → chain_from f events d ≡ chain_from g events d) → (o : Option ℕ) → next_of events k ≡ o
-      → unwrap_or (option_map (λ d. chain_from f events d) o) [] ≡ unwrap_or (option_map (λ d. chain_from g events d) o) []
-  more_enough f g k h ih None e = refl
-  more_enough f g k h ih (Some d) e = ih d (fits_next k d h e) (ready.forward k d e)
-
   enough : (f g k : ℕ) → Fits k → n ≤ f + k → n ≤ g + k → chain_from f events k ≡ chain_from g events k
   enough zero g k h a b = absurd (omega (arith, inside k h))
   enough (suc f) zero k h a b = absurd (omega (arith, inside k h))
-  enough (suc f) (suc g) k h a b = ap (λ ks. k ∷ ks) (more_enough f g k h (λ d m l. enough f g d m (omega arith) (omega arith)) (next_of events k) refl)
-
-  chain_from-step : (f k : ℕ) → Fits k → n ≤ f + k → chain_from f events k ≡ k ∷ rest_of (next_of events k)
-  chain_from-step zero k h a = absurd (omega (arith, inside k h))
-  chain_from-step (suc f) k h a = ap (λ ks. k ∷ ks) (more_enough f n k h (λ d m l. enough f n d m (omega arith) (omega arith)) (next_of events k) refl)
+  enough (suc f) (suc g) k h a b = ap (λ ks. k ∷ ks) (by_option (next_of events k) (λ e. rw e refl) (λ d e.
+      let l = ready.forward k d e in
+      rw e (enough f g d (fits_next k d h e) (omega arith) (omega arith))))
 
   chain-step : (k : ℕ) → Fits k → chain_of events k ≡ k ∷ rest_of (next_of events k)
-  chain-step k h = chain_from-step n k h (omega arith)
+  chain-step k h = enough n (suc n) k h (omega arith) (omega arith)
 
   -- ---- the walk over the list
 

@@ -1,6 +1,6 @@
 -- The chunks of a chain that fits can be read one after another.
-use Rattle.markdown_children.proofs.Prelude.{◌≡◌, ℕ, ◌+◌, Bool, true, false, cond, List, [], ◌∷◌, Option, Some, ◌⊎◌, refl, sym, ◌∙◌, ap, subst, inl, inr, ⊎_elim, is_none, ParseOptions, Content, Event, Point, stands_before, denotes_same, next_of, previous_of, Given, Text, pushed, passed, followed_by, empty_text, FitsAfter, CanFollow, upto-order, upto-same, same-self, fits, begins, IsReady, place_at, LeadOnFrom, pieces_behind, pieces_of, CanReadChain, and_parts}
-use Rattle.markdown_children.proofs.ChainOrder.Following.{fits_next, whole-from}
+use Rattle.markdown_children.proofs.Prelude.{◌≡◌, ℕ, ◌+◌, Bool, true, false, List, [], ◌∷◌, Option, Some, ◌⊎◌, refl, sym, ◌∙◌, ap, subst, inl, inr, ⊎_elim, is_none, ParseOptions, Content, Event, Point, stands_before, denotes_same, next_of, previous_of, Given, Text, pushed, passed, followed_by, empty_text, FitsAfter, CanFollow, upto-order, upto-same, same-self, fits, begins, IsReady, place_at, LeadOnFrom, pieces_behind, pieces_of, CanReadChain, and_parts}
+use Rattle.markdown_children.proofs.ChainOrder.Following.{by_test, fits_next, whole-from}
 
 module _ (tab : ℕ) (bytes : List ℕ) (options : ParseOptions) (wanted : Option Content) (events : List Event) (ready : IsReady tab bytes wanted events) where
   abbrev g : Given
@@ -43,12 +43,8 @@ module _ (tab : ℕ) (bytes : List ℕ) (options : ParseOptions) (wanted : Optio
       let fit = fits_next tab bytes wanted events ready k d h lead.0 in
       let more : Text = followed_by g text (passed (place_at events d)) in (
         gap-fits text k d h lead.0 at,
-        (chunk-fits more d fit (after (denotes_same tab bytes (place_at events d) text.end) refl), behind (followed_by g more (pushed (place_at events d) (place_at events (d + 1)))) d ks fit lead.2 refl),
+        (chunk-fits more d fit (by_test (denotes_same tab bytes (place_at events d) text.end) (λ e. rw e e) (λ e. rw e (same-self tab bytes (place_at events d)))), behind (followed_by g more (pushed (place_at events d) (place_at events (d + 1)))) d ks fit lead.2 refl),
       )
-    where
-      after : (b : Bool) → denotes_same tab bytes (place_at events d) text.end ≡ b → denotes_same tab bytes (place_at events d) (cond b text (record { start = text.start; seats = text.seats; end = place_at events d })).end ≡ true
-      after true e = e
-      after false e = same-self tab bytes (place_at events d)
 
   pub chunks_can_be_read : (c : ℕ) → begins wanted events c ≡ true → CanReadChain g events c
   chunks_can_be_read c b =

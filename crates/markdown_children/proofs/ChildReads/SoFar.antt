@@ -1,5 +1,5 @@
 -- The loop of `subtokenize`: what is known before the event at an index is looked at.
-use Rattle.markdown_children.proofs.Prelude.{◌≡◌, ℕ, zero, suc, ◌+◌, ◌-◌, ◌*◌, ◌<◌, ◌↔◌, true, false, List, [], ◌∷◌, ◌++◌, length, Option, Some, refl, sym, ◌∙◌, ap, subst, arith, append_assoc, append-nil, flat_map, filter, AllByRecursion, AllZip, range_with_len, map-append, length-map, filter-append, flat_map-append, Content, Event, IsBalanced, IsVoidTight, relinked, Edit, AreDisjoint, removed_by, added_by, edited, AreDisjoint-le, Subresult, Fault, Memory, Failed, Given, Rules, IsInShape, with_more, AreMutual, chain_of, begins, fitting_starts, IsReady, AreSpaced, HasEndsWithin, Divided, divided, divided_over, child_place, part_edits, chain_edits, all_edits, total, StandBefore, with_children, Child, lists, IsChild, AreChildren, IsChildFault, IsSubtokenized, IsSubtokenizeFault, SoFar, starts_below, AllZip-long, passing_more}
+use Rattle.markdown_children.proofs.Prelude.{◌≡◌, ℕ, zero, suc, ◌+◌, ◌-◌, ◌*◌, ◌<◌, ◌↔◌, true, false, List, [], ◌∷◌, ◌++◌, length, Option, Some, refl, sym, ◌∙◌, ap, subst, arith, append_assoc, append-nil, flat_map, filter, AllByRecursion, AllZip, range_with_len, map-append, length-map, filter-append, flat_map-append, Content, Event, IsBalanced, IsVoidTight, relinked, Edit, AreDisjoint, removed_by, added_by, edited, AreDisjoint-le, Subresult, Fault, Memory, Failed, Given, Rules, IsInShape, with_more, AreMutual, chain_of, begins, fitting_starts, IsReady, AreSpaced, HasEndsWithin, Divided, divided, divided_over, child_place, part_edits, chain_edits, all_edits, total, StandBefore, with_children, Child, lists, IsChild, AreChildren, IsChildFault, IsSubtokenized, IsSubtokenizeFault, SoFar, starts_below, AllZip-long, passing_more, length-append}
 use Rattle.markdown_tokenizer.specs.declared.tokenizer.fault.Fault.TheVariants as fault
 use Rattle.markdown_children.proofs.ChainOrder.Following.{filter-yes, filter-no, whole-from, follow_one_another}
 use Rattle.markdown_children.proofs.ChainOrder.Forward.{begins-fits, within}
@@ -188,14 +188,10 @@ module _ {R D : Type 0} {g : Given} {rules : Given → Rules R D} {wanted : Opti
             ∙ (λ j. all_edits 0 0 (divided_over events (next j) (sym both j)));
         removed = r ∙ omega (arith, s.removed, ap removed_by e, removed_by-append es (chain_edits sums.0 sums.1 dv), removed_by-parts f dv.chunks dv.parts (divided-parts events i child.events));
         added = a ∙ omega (arith, s.added, ap added_by e, added_by-append es (chain_edits sums.0 sums.1 dv), added_by-parts f dv.chunks dv.parts (divided-parts events i child.events), total-divided events i child.events w);
-        done = ((λ t. absurd (let no : true ≡ false = sym t ∙ d in cc)), (λ t. absurd (no-push cs i (next ∙ t))));
+        done = ((λ t. absurd (let no : true ≡ false = sym t ∙ d in cc)), (λ t. absurd (omega (arith, ap length (next ∙ t), length-append cs (i ∷ [])))));
         definitions = defs ∙ ap (λ xs. xs ++ child.found.definitions) s.definitions ∙ sym (flat_map-append (λ (c : Child). c.found.definitions) s.children (child ∷ []) ∙ ap (λ ys. flat_map (λ (c : Child). c.found.definitions) s.children ++ ys) (append-nil child.found.definitions));
         footnotes = notes ∙ ap (λ xs. xs ++ child.found.gfm_footnote_definitions) s.footnotes ∙ sym (flat_map-append (λ (c : Child). c.found.gfm_footnote_definitions) s.children (child ∷ []) ∙ ap (λ ys. flat_map (λ (c : Child). c.found.gfm_footnote_definitions) s.children ++ ys) (append-nil child.found.gfm_footnote_definitions));
       }
-    where
-      no-push : (xs : List ℕ) (x : ℕ) → xs ++ x ∷ [] ≡ [] → ⊥
-      no-push [] x e = cc
-      no-push (y ∷ xs) x e = cc
 
   -- all was read, and the edits were made
   pub so_far-end : {tab : ℕ} {bytes : List ℕ} {es : List Edit} {sums : ℕ × ℕ} {sub : Subresult} {new : List Event} → IsReady tab bytes wanted events → SoFar g rules wanted events (length events) es sums sub → new ≡ edited es events
