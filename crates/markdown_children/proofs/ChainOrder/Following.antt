@@ -1,5 +1,5 @@
 -- The chunks of the chains that fit follow one another.
-use Rattle.markdown_children.proofs.Prelude.{◌≡◌, ℕ, zero, suc, ◌+◌, ◌<◌, ◌≤◌, ⊎_elim, Bool, true, false, cond, List, [], ◌∷◌, ◌++◌, length, Option, Some, None, refl, sym, ◌∙◌, ap, arith, ◌&&◌, filter, flat_map, unwrap_or, is_none, range_with_len, AllByRecursion, cases_eq, none-some, slice_get_within, Content, Event, Enter, Exit, next_of, previous_of, content_at, some_fits, fits, begins, chain_from, chain_of, IsChunk, IsGap, IsReady, LeadOnFrom, IsWholeFrom, AreSpaced, FollowOneAnother, every-map, recursion_from_All, filter_passes, and_parts}
+use Rattle.markdown_children.proofs.Prelude.{◌≡◌, ℕ, zero, suc, ◌+◌, ◌<◌, ◌≤◌, ⊎_elim, Bool, true, false, cond, List, [], ◌∷◌, ◌++◌, length, Option, Some, None, refl, sym, ◌∙◌, ap, arith, ◌&&◌, filter, flat_map, unwrap_or, is_none, range_with_len, AllByRecursion, cases_eq, none-some, slice_get_within, Content, Event, Enter, Exit, next_of, previous_of, content_at, some_fits, fits, begins, chain_from, chain_of, IsChunk, IsReady, LeadOnFrom, IsWholeFrom, AreSpaced, FollowOneAnother, every-map, recursion_from_All, filter_passes, and_parts}
 use Rattle.std.specs.Prelude.{option_map}
 
 -- ---- one more element of a filter
@@ -60,9 +60,8 @@ module _ (tab : ℕ) (bytes : List ℕ) (wanted : Option Content) (events : List
   none_between p d i h e m l r = ⊎_elim
       (λ (s : i ≡ p + 1). apart p h (ap (fits wanted events) (sym s) ∙ m))
       (λ (s : i ≡ p + 1 → ⊥).
-      let g : IsGap events p d = ready.gaps p d h e in
       let c = some_content wanted (content_at events i) m in
-      none-some c.0 (sym (g.no_link i (omega arith) r) ∙ c.1))
+      none-some c.0 (sym ((ready.gaps p d h e).no_link i (omega arith) r) ∙ c.1))
       (cases_eq i (p + 1))
 
   -- ---- chains: more bounds than needed change nothing
@@ -132,9 +131,7 @@ module _ (tab : ℕ) (bytes : List ℕ) (wanted : Option Content) (events : List
       filter-yes (begins wanted events) i (range_with_len (i + 1) f) (λ j. h j && is_none (first j))
   step f i (Some d) h so =
       let w = so.is d refl in
-      let back : previous_of events d ≡ Some w.0 = (ready.joined w.0 d).0 w.2 in
-      let s : d ≡ i = goes_on i d h so in
-      filter-no (begins wanted events) i (range_with_len (i + 1) f) (λ j. h j && is_none ((ap (previous_of events) (sym s) ∙ back) j))
+      filter-no (begins wanted events) i (range_with_len (i + 1) f) (λ j. h j && is_none ((ap (previous_of events) (sym (goes_on i d h so)) ∙ ((ready.joined w.0 d).0 w.2)) j))
 
   -- the chunks behind an index are what is open, and the chains that begin there
   abbrev IsInOrder : (f i : ℕ) (o : Option ℕ) → Type 0

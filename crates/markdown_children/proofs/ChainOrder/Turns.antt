@@ -40,16 +40,14 @@ pub left_next : {events es : List Event} {link_index : ℕ} {made : List Chunk} 
 left_next {f = zero} w n = let a = w.chunks in let b = w.inside in absurd (omega arith)
 left_next {f = suc zero} w n = let a = w.chunks in let b = w.inside in absurd (omega arith)
 left_next {events} {es} {link_index} {made} {i} {j} {f = suc (suc f)} {d} w n =
-    let here : IsForward events i = w.forward.0 in
-    let ahead = here.next d n in
-    let rest : AllByRecursion (IsForward events) (chain_from (suc f) events d) = rw n at w.forward.1 in
+    let ahead = w.forward.0.next d n in
     let a = w.chunks in (
       suc f,
       record {
         chunks = omega (arith, ahead.0);
         inside = ahead.1;
         start = omega (arith, w.start, length-front (place_at events (i + 1)) (drop j es), length-drop j es);
-        forward = rest;
+        forward = rw n at w.forward.1;
         built = append_assoc made (_ ∷ []) _ ∙ ap (λ t. made ++ t) (sym (next_table events es f i j d n)) ∙ w.built;
       },
     )

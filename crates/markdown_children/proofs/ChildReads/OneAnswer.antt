@@ -41,12 +41,9 @@ module _ {R D : Type 0} (g : Given) (rules : Given → Rules R D) (events : List
 
   one-child : (c : ℕ) (x y : Child) → IsChild g rules events c x → IsChild g rules events c y → x ≡ y
   one-child c x y a b =
-      let q = one-reading c a.result b.result a.read b.read in
-      let e : done a.final (Some x.found) ≡ done b.final (Some y.found) = sym a.resolved ∙ ap (made c) q ∙ b.resolved in
-      let final : a.final ≡ b.final = ap (final_of a.final) e in
+      let e : done a.final (Some x.found) ≡ done b.final (Some y.found) = sym a.resolved ∙ ap (made c) (one-reading c a.result b.result a.read b.read) ∙ b.resolved in
       let found : x.found ≡ y.found = ap (found_of x.found) e in
-      let list : x.events ≡ y.events = a.left ∙ ap (λ (k : Configuration R D). k.events) final ∙ sym b.left in
-      (λ j. record { events = list j; found = found j })
+      (λ j. record { events = (a.left ∙ ap (λ (k : Configuration R D). k.events) (ap (final_of a.final) e) ∙ sym b.left) j; found = found j })
 
   not-both : (c : ℕ) (x : Child) (m : Message) → IsChild g rules events c x → IsChildRefused g rules events c m → ⊥
   not-both c x m a b =
@@ -108,12 +105,11 @@ module _ {R D : Type 0} (g : Given) (rules : Given → Rules R D) (events : List
       record {
         list = λ new other sub more a b.
             let same : a.children ≡ b.children = one-children starts a.children b.children a.read b.read in
-            let d : sub.done ≡ more.done = same-flag sub.done more.done (starts ≡ []) a.done b.done in
             let defs : sub.definitions ≡ more.definitions = a.definitions ∙ ap (flat_map (λ (c : Child). c.found.definitions)) same ∙ sym b.definitions in
             let notes : sub.gfm_footnote_definitions ≡ more.gfm_footnote_definitions =
             a.footnotes ∙ ap (flat_map (λ (c : Child). c.found.gfm_footnote_definitions)) same ∙ sym b.footnotes in (
               a.events ∙ ap (λ (cs : List Child). with_children wanted events (lists cs)) same ∙ sym b.events,
-              (λ j. record { done = d j; gfm_footnote_definitions = notes j; definitions = defs j }),
+              (λ j. record { done = (same-flag sub.done more.done (starts ≡ []) a.done b.done) j; gfm_footnote_definitions = notes j; definitions = defs j }),
             );
         well = λ new sub m a b.
             let there = child-there b.front b.chain b.behind a.children (subst (λ cs. AreChildren g rules events cs a.children) b.starts a.read) in

@@ -166,11 +166,7 @@ module _ {R D : Type 0} {g : Given} {rules : Given → Rules R D} {wanted : Opti
       → SoFar g rules wanted events (i + 1) fs more found
   so_far-next {i} {es} {fs} {sums} {more} {sub} {found} {child} {tab} {bytes} ready b s is e r a f_is =
       let cs : List ℕ = starts_below wanted events i in
-      let d : found.done ≡ false = ap (λ (x : Subresult). x.done) f_is in
-      let defs : found.definitions ≡ sub.definitions ++ child.found.definitions = ap (λ (x : Subresult). x.definitions) f_is in
-      let notes : found.gfm_footnote_definitions ≡ sub.gfm_footnote_definitions ++ child.found.gfm_footnote_definitions = ap (λ (x : Subresult). x.gfm_footnote_definitions) f_is in
       let next : cs ++ i ∷ [] ≡ starts_below wanted events (i + 1) = sym (starts-next wanted events i ∙ ap (λ ks. cs ++ ks) (filter-yes (begins wanted events) i [] b)) in
-      let both : lists (s.children ++ child ∷ []) ≡ lists s.children ++ child.events ∷ [] = map-append (λ (c : Child). c.events) s.children (child ∷ []) in
       let long : length cs ≡ length (lists s.children) = sym (AllZip-long (IsChild g rules events) cs s.children s.read) ∙ sym (length-map s.children (λ (c : Child). c.events)) in
       let ds : List Divided = divided_over events cs (lists s.children) in
       let dv : Divided = divided events i child.events in
@@ -185,12 +181,12 @@ module _ {R D : Type 0} {g : Given} {rules : Given → Rules R D} {wanted : Opti
         edits = e ∙ (λ j. s.edits j ++ chain_edits (zero_r j) (zero_a j) dv)
             ∙ sym (all_edits-push 0 0 ds dv (divided_over-parts events cs (lists s.children)))
             ∙ ap (all_edits 0 0) (sym (divided_over-push events cs (lists s.children) i child.events long))
-            ∙ (λ j. all_edits 0 0 (divided_over events (next j) (sym both j)));
+            ∙ (λ j. all_edits 0 0 (divided_over events (next j) (sym (map-append (λ (c : Child). c.events) s.children (child ∷ [])) j)));
         removed = r ∙ omega (arith, s.removed, ap removed_by e, removed_by-append es (chain_edits sums.0 sums.1 dv), removed_by-parts f dv.chunks dv.parts (divided-parts events i child.events));
         added = a ∙ omega (arith, s.added, ap added_by e, added_by-append es (chain_edits sums.0 sums.1 dv), added_by-parts f dv.chunks dv.parts (divided-parts events i child.events), total-divided events i child.events w);
-        done = ((λ t. absurd (let no : true ≡ false = sym t ∙ d in cc)), (λ t. absurd (omega (arith, ap length (next ∙ t), length-append cs (i ∷ [])))));
-        definitions = defs ∙ ap (λ xs. xs ++ child.found.definitions) s.definitions ∙ sym (flat_map-append (λ (c : Child). c.found.definitions) s.children (child ∷ []) ∙ ap (λ ys. flat_map (λ (c : Child). c.found.definitions) s.children ++ ys) (append-nil child.found.definitions));
-        footnotes = notes ∙ ap (λ xs. xs ++ child.found.gfm_footnote_definitions) s.footnotes ∙ sym (flat_map-append (λ (c : Child). c.found.gfm_footnote_definitions) s.children (child ∷ []) ∙ ap (λ ys. flat_map (λ (c : Child). c.found.gfm_footnote_definitions) s.children ++ ys) (append-nil child.found.gfm_footnote_definitions));
+        done = ((λ t. absurd (let no : true ≡ false = sym t ∙ (ap (λ (x : Subresult). x.done) f_is) in cc)), (λ t. absurd (omega (arith, ap length (next ∙ t), length-append cs (i ∷ [])))));
+        definitions = (ap (λ (x : Subresult). x.definitions) f_is) ∙ ap (λ xs. xs ++ child.found.definitions) s.definitions ∙ sym (flat_map-append (λ (c : Child). c.found.definitions) s.children (child ∷ []) ∙ ap (λ ys. flat_map (λ (c : Child). c.found.definitions) s.children ++ ys) (append-nil child.found.definitions));
+        footnotes = (ap (λ (x : Subresult). x.gfm_footnote_definitions) f_is) ∙ ap (λ xs. xs ++ child.found.gfm_footnote_definitions) s.footnotes ∙ sym (flat_map-append (λ (c : Child). c.found.gfm_footnote_definitions) s.children (child ∷ []) ∙ ap (λ ys. flat_map (λ (c : Child). c.found.gfm_footnote_definitions) s.children ++ ys) (append-nil child.found.gfm_footnote_definitions));
       }
 
   -- all was read, and the edits were made
@@ -199,8 +195,7 @@ module _ {R D : Type 0} {g : Given} {rules : Given → Rules R D} {wanted : Opti
   so_far-end {tab} {bytes} {es} {sums} {sub} {new} ready s e =
       let fit = children_fit tab bytes wanted events ready (lists s.children) in
       let each = λ (P : List Event → Type 0) (f : (c : ℕ) (child : Child) → IsChild g rules events c child → P child.events). lists-all g rules events P f (starts_below wanted events (length events)) s.children s.read in
-      let ends : AllByRecursion HasEndsWithin (lists s.children) = each HasEndsWithin (λ c child is. is.in_shape.inside) in
-      let is : new ≡ with_children wanted events (lists s.children) = e ∙ ap (λ fs. edited fs events) s.edits ∙ (edits_give_children tab bytes wanted events (lists s.children) ready).give ends in
+      let is : new ≡ with_children wanted events (lists s.children) = e ∙ ap (λ fs. edited fs events) s.edits ∙ (edits_give_children tab bytes wanted events (lists s.children) ready).give (each HasEndsWithin (λ c child is. is.in_shape.inside)) in
       record {
         children = s.children;
         read = s.read;

@@ -4,9 +4,7 @@ use Rattle.markdown_children.proofs.Prelude.{◌≡◌, ℕ, suc, ◌+◌, ◌-�
 -- what a change leaves of the events
 pub left-of : (w : Change) (ws : List Change) (i : ℕ) (xs : List Event) → AreApart i (w ∷ ws) (i + length xs) → AreApart (w.index + w.remove) ws (w.index + w.remove + length (drop (w.index + w.remove - i) xs))
 left-of w ws i xs d =
-    let b : w.index + w.remove ≤ i + length xs = AreApart-le ws (w.index + w.remove) (i + length xs) d.1 in
-    let a : i ≤ w.index = d.0 in
-    let n : i + length xs ≡ w.index + w.remove + length (drop (w.index + w.remove - i) xs) = omega (arith, a, b, length-drop (w.index + w.remove - i) xs) in
+    let n : i + length xs ≡ w.index + w.remove + length (drop (w.index + w.remove - i) xs) = omega (arith, d.0, AreApart-le ws (w.index + w.remove) (i + length xs) d.1, length-drop (w.index + w.remove - i) xs) in
     subst (AreApart (w.index + w.remove) ws) n d.1
 
 -- no old event is one of a child
@@ -29,10 +27,9 @@ change_place-pass [] c n i removed added xs d r = rw (place_in-child_olds c n i 
 change_place-pass (w ∷ ws) c n i removed added xs d r =
     let a : i ≤ w.index = d.0 in
     let b : w.index + w.remove ≤ i + length xs = AreApart-le ws (w.index + w.remove) (i + length xs) d.1 in
-    let d' = left-of w ws i xs d in
     let front : length (take (w.index - i) xs) ≡ w.index - i = length-take-le (w.index - i) xs (omega arith) in
     let rest : List Tagged = pass ws (w.index + w.remove) (drop (w.index + w.remove - i) xs) in
-    let more = change_place-pass ws c n (w.index + w.remove) (removed + w.remove) (added + length w.events) (drop (w.index + w.remove - i) xs) d' (omega arith) in
+    let more = change_place-pass ws c n (w.index + w.remove) (removed + w.remove) (added + length w.events) (drop (w.index + w.remove - i) xs) (left-of w ws i xs d) (omega arith) in
     ap (option_map (λ p. i - removed + added + p))
     (place_in-append (of_child c n) (olds i (take (w.index - i) xs)) (w.events ++ rest)
     ∙ ap (λ k. or_after k (place_in (of_child c n) (olds i (take (w.index - i) xs))) (place_in (of_child c n) (w.events ++ rest))) (length-olds i (take (w.index - i) xs) ∙ front)
@@ -61,9 +58,8 @@ place_in-other_child c d n j (e ∷ es) ne = rw (ne_eqb c d ne, place_in-other_c
 pub place_in-child_none : (c n j : ℕ) (es : List Event) → (j ≤ n → j + length es ≤ n) → place_in (of_child c n) (tagged_child c j es) ≡ None
 place_in-child_none c n j [] l = refl
 place_in-child_none c n j (e ∷ es) l =
-    let here : eqb c c ≡ true = eq-eqb c c refl in
     let there : eqb n j ≡ false = ne_eqb n j (λ (q : n ≡ j). let m = l (omega arith) in omega arith) in
-    rw (here, there, place_in-child_none c n (j + 1) es (λ (m : j + 1 ≤ n). let k = l (omega arith) in omega arith)) refl
+    rw (eq-eqb c c refl, there, place_in-child_none c n (j + 1) es (λ (m : j + 1 ≤ n). let k = l (omega arith) in omega arith)) refl
 
 pub place_in-child_in : (c n j : ℕ) (es : List Event) → j ≤ n → n < j + length es → place_in (of_child c n) (tagged_child c j es) ≡ Some (n - j)
 place_in-child_in c n j [] l m = absurd (omega arith)
@@ -72,10 +68,9 @@ place_in-child_in c n j (e ∷ es) l m =
     ⊎_elim
     (λ (q : n ≡ j). let at : eqb n j ≡ true = eq-eqb n j q in let z : 0 ≡ n - j = omega arith in rw (here, at) (ap Some z))
     (λ (ne : n ≡ j → ⊥).
-    let there : eqb n j ≡ false = ne_eqb n j ne in
     let more : place_in (of_child c n) (tagged_child c (j + 1) es) ≡ Some (n - (j + 1)) = place_in-child_in c n (j + 1) es (omega arith) (omega arith) in
     let z : suc (n - (j + 1)) ≡ n - j = omega arith in
-    rw (here, there, more) (ap Some z))
+    rw (here, ne_eqb n j ne, more) (ap Some z))
     (cases_eq n j)
 
 -- the changes of one chain place its child's events
@@ -90,7 +85,6 @@ change_place-chain c j (k ∷ ks) (p ∷ ps) ws n removed added e l = ⊎_elim
     let z : j + n - j ≡ n = omega arith in
     rw (place_in-child_in c (j + n) j p (omega arith) (omega arith), t, z) refl)
     (λ (q : length p ≤ n).
-    let t : ltb n (length p) ≡ false = le-ltb n (length p) q in
     let z : j + n ≡ j + length p + (n - length p) = omega arith in
     let rest : List Change = part_changes c (j + length p) ks ps ++ ws in
     let more = change_place-chain c (j + length p) ks ps ws (n - length p) (removed + 2) (added + length p) (omega arith) (omega arith) in
@@ -98,7 +92,7 @@ change_place-chain c j (k ∷ ks) (p ∷ ps) ws n removed added e l = ⊎_elim
     ∙ ap (λ m. change_place (of_child c (j + n)) rest (removed + 2) (added + m)) (length-tagged_child c j p)
     ∙ ap (λ m. change_place (of_child c m) rest (removed + 2) (added + length p)) z
     ∙ more
-    ∙ sym (ap (λ b. cond b (Some (k - removed + added + n)) (child_place ks ps (removed + 2) (added + length p) (n - length p))) t))
+    ∙ sym (ap (λ b. cond b (Some (k - removed + added + n)) (child_place ks ps (removed + 2) (added + length p) (n - length p))) (le-ltb n (length p) q)))
     (cases_lt n (length p))
 
 -- earlier changes only shift

@@ -65,10 +65,9 @@ ends-divided : (events : List Event) (c : ℕ) (child : List Event) → IsWholeF
 ends-divided events c child w h =
     let ends : List Point = map (λ k. place_at events (k + 1)) w.0 in
     let ps : List (List Event) = parts (place_at events (c + 1) ∷ ends) child in
-    let is : (divided events c child).parts ≡ ps = ap (λ ks. parts (map (λ k. place_at events (k + 1)) ks) child) w.1 in
     let inside : All (EndsBelow (length child)) (joined ps) = subst (All (EndsBelow (length child))) (sym (joined-parts (place_at events (c + 1)) ends child)) h in
     subst (λ (n : ℕ). AllByRecursion (All (EndsBelow n)) (divided events c child).parts) (sym (total-divided events c child w))
-    (subst (AllByRecursion (All (EndsBelow (length child)))) (sym is) (ends-parts (length child) ps (recursion_from_All (EndsBelow (length child)) (joined ps) inside)))
+    (subst (AllByRecursion (All (EndsBelow (length child)))) (sym (ap (λ ks. parts (map (λ k. place_at events (k + 1)) ks) child) w.1)) (ends-parts (length child) ps (recursion_from_All (EndsBelow (length child)) (joined ps) inside)))
 
 pub are-chains : (events : List Event) (cs : List ℕ) (children : List (List Event)) → IsRising cs → AllByRecursion (IsWholeFrom events) cs → AllByRecursion HasEndsWithin children → AreChains (divided_over events cs children)
 are-chains events [] children r w h = tt

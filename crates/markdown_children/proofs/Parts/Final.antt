@@ -56,13 +56,11 @@ module _ (f : ℕ → Option ℕ) (more : List Edit) where
       elim (nat_lt n (length p)) as (λ t. nat_lt n (length p) ≡ t → cond t (Some (k - removed + added + n)) (child_place ks ps (removed + 2) (added + length p) (n - length p)) ≡ Some place
       → IsAt (k ∷ ks) (p ∷ ps) removed added i n xs place) [
         | true ↦ λ t e.
-            let inside = ltb-true n (length p) t in
             let there : k - removed + added + n ≡ place = cc in
-            (k - i + n, omega (arith, there, a, l), behind-change w ws i n xs a (omega (arith, b)) ∙ in-part p (joined ps) tail n inside)
+            (k - i + n, omega (arith, there, a, l), behind-change w ws i n xs a (omega (arith, b)) ∙ in-part p (joined ps) tail n (ltb-true n (length p) t))
         | false ↦ λ t e.
-            let past = ltb-false n (length p) t in
             let (q, where_to, found) = at-place ks ps (removed + 2) (added + length p) (k + 2) (n - length p) rest place (left-of w ws i xs d) (omega (arith, a, l)) e in
-            let same : length p + (n - length p) ≡ n = omega (arith, past) in (
+            let same : length p + (n - length p) ≡ n = omega (arith, ltb-false n (length p) t) in (
               k - i + (length p + q),
               omega (arith, where_to, a, l),
               behind-change w ws i (length p + q) xs a (omega (arith, b)) ∙ behind-part p tail q ∙ found
@@ -86,7 +84,6 @@ module _ (f : ℕ → Option ℕ) (more : List Edit) where
       let ws : List Change = map as_change (es ++ (part_edits f ks ps ++ more)) in
       let j : ℕ = e.index + e.remove in
       let a : i ≤ e.index = d.0 in
-      let b : j ≤ i + length xs = AreApart-le ws j (i + length xs) d.1 in
       let rest : List Event = drop (j - i) xs in
       let r : removed + (e.remove + removed_by es) ≡ removed + e.remove + removed_by es = omega arith in
       let s : added + (length e.additions + added_by es) ≡ added + length e.additions + added_by es = omega arith in
@@ -96,7 +93,7 @@ module _ (f : ℕ → Option ℕ) (more : List Edit) where
       let many : length (map as_addition e.additions) ≡ length e.additions = length-map e.additions as_addition in (
         e.index - i + (length e.additions + q),
         omega (arith, where_to, a, l),
-        behind-change w ws i (length e.additions + q) xs a (omega (arith, b)) ∙ ap (λ k. slice_get (map as_addition e.additions ++ pass ws j rest) (k + q)) (sym many)
+        behind-change w ws i (length e.additions + q) xs a (omega (arith, AreApart-le ws j (i + length xs) d.1)) ∙ ap (λ k. slice_get (map as_addition e.additions ++ pass ws j rest) (k + q)) (sym many)
             ∙ slice_get-behind (map as_addition e.additions) (pass ws j rest) q ∙ found,
       )
 

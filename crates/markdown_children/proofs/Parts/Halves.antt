@@ -1,5 +1,5 @@
 -- The ends of chunks rise, so the chunk of a child event can be found by binary search.
-use Rattle.markdown_children.proofs.Prelude.{◌≡◌, ℕ, zero, suc, ◌+◌, ◌-◌, ◌*◌, ◌<◌, ◌≤◌, true, false, ltb, leb, List, [], ◌∷◌, length, get_or, Some, None, refl, ◌∙◌, ap, arith, IsNonDecreasingBy, IsPartitionPoint, lt-ltb, le-ltb, leb-true, leb-false, Event, table, table_place, AreAbove, Chunk}
+use Rattle.markdown_children.proofs.Prelude.{◌≡◌, ℕ, zero, suc, ◌+◌, ◌-◌, ◌*◌, ◌<◌, ◌≤◌, true, false, leb, List, [], ◌∷◌, length, get_or, Some, None, refl, ◌∙◌, ap, arith, IsNonDecreasingBy, IsPartitionPoint, lt-ltb, le-ltb, leb-true, leb-false, Event, table, table_place, AreAbove, Chunk}
 
 -- the chunks that end at or before event n come before the others
 abbrev pub IsParted : List Chunk → ℕ → ℕ → Type 0
@@ -16,22 +16,19 @@ place-first : (cs : List Chunk) (i removed added n : ℕ) (d : Chunk) → i < le
     → Some ((get_or cs i d).index - (removed + 2 * i) + added + n) ≡ table_place cs removed added n
 place-first [] i removed added n d l front is = absurd (omega arith)
 place-first (c ∷ cs) zero removed added n d l front is =
-    let a : ltb n c.end ≡ true = lt-ltb n c.end is in
     let z : c.index - (removed + 2 * 0) + added + n ≡ c.index - removed + added + n = omega arith in
-    rw a (ap Some z)
+    rw (lt-ltb n c.end is) (ap Some z)
 place-first (c ∷ cs) (suc i) removed added n d l front is =
     let passed : c.end ≤ n = front 0 d (omega arith) in
-    let a : ltb n c.end ≡ false = le-ltb n c.end passed in
     let z : (get_or cs i d).index - (removed + 2 * suc i) + added + n ≡ (get_or cs i d).index - (removed + 2 + 2 * i) + added + n = omega arith in
-    rw a (ap Some z ∙ place-first cs i (removed + 2) added n d (omega arith) (λ k e m. front (suc k) e (omega arith)) is)
+    rw (le-ltb n c.end passed) (ap Some z ∙ place-first cs i (removed + 2) added n d (omega arith) (λ k e m. front (suc k) e (omega arith)) is)
 
 -- if no chunk does, it has no final place
 place-none : (cs : List Chunk) (removed added n : ℕ) → ((k : ℕ) (e : Chunk) → k < length cs → (get_or cs k e).end ≤ n) → None ≡ table_place cs removed added n
 place-none [] removed added n front = refl
 place-none (c ∷ cs) removed added n front =
     let passed : c.end ≤ n = front 0 c (omega arith) in
-    let a : ltb n c.end ≡ false = le-ltb n c.end passed in
-    rw a (place-none cs (removed + 2) added n (λ k e m. front (suc k) e (omega arith)))
+    rw (le-ltb n c.end passed) (place-none cs (removed + 2) added n (λ k e m. front (suc k) e (omega arith)))
 
 pub place-found : (cs : List Chunk) (i removed added n : ℕ) (d : Chunk) → IsParted cs n i → i < length cs
     → Some ((get_or cs i d).index - (removed + 2 * i) + added + n) ≡ table_place cs removed added n

@@ -1,5 +1,5 @@
 -- The list with children is in shape: link ends are indices into it, and its links are mutual if the children's are.
-use Rattle.markdown_children.proofs.Prelude.{◌≡◌, ℕ, ◌+◌, ◌<◌, cond, eqb, List, [], ◌∷◌, ◌++◌, length, map, Option, Some, None, refl, sym, ◌∙◌, ap, subst, arith, true, false, flat_map, slice_get, All, IfSome, AllByRecursion, option_map, option_and_then, eq-eqb, ne_eqb, length-map, All-from_recursion, recursion_from_All, none-some, Content, Event, Link, Point, relinked, with_ends, EachEnd, EndsBelow, AreMutual, of_list, Tagged, Change, place_in, placed_end, placed_in, placed, woven, AreApart, woven-pass, stays_unless_removed, keeps_links, chain_of, begins, fitting_starts, IsReady, place_at, IsWholeFrom, HasEndsWithin, ChildrenFit, parts, divided_over, part_changes, first_chunk, chain_changes, child_changes, with_children}
+use Rattle.markdown_children.proofs.Prelude.{◌≡◌, ℕ, ◌+◌, ◌<◌, cond, eqb, List, [], ◌∷◌, ◌++◌, length, map, Option, Some, None, refl, sym, ◌∙◌, ap, subst, arith, false, flat_map, slice_get, All, IfSome, AllByRecursion, option_map, option_and_then, eq-eqb, ne_eqb, length-map, All-from_recursion, recursion_from_All, none-some, Content, Event, Link, Point, relinked, with_ends, EachEnd, EndsBelow, AreMutual, of_list, Tagged, Change, place_in, placed_end, placed_in, placed, woven, AreApart, woven-pass, stays_unless_removed, keeps_links, chain_of, begins, fitting_starts, IsReady, place_at, IsWholeFrom, HasEndsWithin, ChildrenFit, parts, divided_over, part_changes, first_chunk, chain_changes, child_changes, with_children}
 use Rattle.markdown_children.proofs.ChainOrder.Following.{by_test, by_option, follow_one_another}
 use Rattle.markdown_children.proofs.ChainOrder.Spaced.{changes_are_apart}
 use Rattle.markdown_children.proofs.Parts.Kept.{joined-parts, with_children_balanced}
@@ -33,8 +33,7 @@ names-child_at : (cs : List ℕ) (xs : List (List Event)) → IsRising cs → Na
 names-child_at [] xs r = tt
 names-child_at (c ∷ cs) [] r = tt
 names-child_at (c ∷ cs) (x ∷ xs) r =
-    let here : eqb c c ≡ true = eq-eqb c c refl in
-    (rw here refl, names-other (child_at cs xs) c x cs xs r.0 (names-child_at cs xs r.1))
+    (rw (eq-eqb c c refl) refl, names-other (child_at cs xs) c x cs xs r.0 (names-child_at cs xs r.1))
 
 child-all : (P : List Event → Type 0) → P [] → (cs : List ℕ) (xs : List (List Event)) → AllByRecursion P xs → (d : ℕ) → P (child_at cs xs d)
 child-all P none [] xs h d = none
@@ -92,26 +91,23 @@ module _ (tab : ℕ) (bytes : List ℕ) (wanted : Option Content) (events : List
     -- each event of the list with children has its source
     pub sourced : AreSourced (child_at cs children) events ts
     sourced =
-        let f = follow_one_another tab bytes wanted events ready in
         sourced-woven (child_at cs children) events (child_changes wanted events children) 0 events
-        (sourced-chains (child_at cs children) cs children (names-child_at cs children are-rising) f.whole)
+        (sourced-chains (child_at cs children) cs children (names-child_at cs children are-rising) (follow_one_another tab bytes wanted events ready).whole)
         (λ k. let z : 0 + k ≡ k = omega arith in ap (slice_get events) z)
 
     -- and is there once
     pub once : AreOnce ts
     once =
-        let f = follow_one_another tab bytes wanted events ready in
         let a = changes_are_apart tab bytes wanted events children ready in
         let ws : List Change = child_changes wanted events children in
         let z : length events ≡ 0 + length events = omega arith in
         let d : AreApart 0 ws (0 + length events) = subst (λ m. AreApart 0 ws m) z a.apart in
         subst AreOnce (sym (woven-pass ws 0 events d))
-        (once-pass ws 0 events (λ n. recursion_from_All (λ w. place_in (of_list n) w.events ≡ None) ws (a.fresh n)) (once-chains (divided_over events cs children) (others cs children are-rising f.whole)) d)
+        (once-pass ws 0 events (λ n. recursion_from_All (λ w. place_in (of_list n) w.events ≡ None) ws (a.fresh n)) (once-chains (divided_over events cs children) (others cs children are-rising (follow_one_another tab bytes wanted events ready).whole)) d)
 
     pub with_children_inside : HasEndsWithin (with_children wanted events children)
     with_children_inside =
-        let long : length ts ≡ length (placed ts) = sym (length-map ts (λ (u : Tagged). relinked (placed_end ts u.identity) u.event)) in
-        subst (λ (n : ℕ). All (EndsBelow n) (placed ts)) long (All-from_recursion (EndsBelow (length ts)) (placed ts) (ends-placed (child_at cs children) events ts ts sourced))
+        subst (λ (n : ℕ). All (EndsBelow n) (placed ts)) (sym (length-map ts (λ (u : Tagged). relinked (placed_end ts u.identity) u.event))) (All-from_recursion (EndsBelow (length ts)) (placed ts) (ends-placed (child_at cs children) events ts ts sourced))
 
     pub with_children_chained : AllByRecursion AreMutual children → AreMutual (with_children wanted events children)
     with_children_chained h = mutual-placed (child_at cs children) events ts sourced once ready.joined (child-all AreMutual mutual-none cs children h)

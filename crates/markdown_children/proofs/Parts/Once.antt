@@ -30,12 +30,10 @@ is_same-true of_addition b e = cc
 pub once-place : (ts : List Tagged) (p : ℕ) (u : Tagged) → AreOnce ts → is_same u.identity u.identity ≡ true → slice_get ts p ≡ Some u → place_in u.identity ts ≡ Some p
 once-place [] p u h s e = absurd (none-some u e)
 once-place (t ∷ ts) zero u h s e =
-    let same : t ≡ u = same_Some t u e in
-    subst (λ (v : Tagged). place_in u.identity (v ∷ ts) ≡ Some 0) (sym same) (rw s refl)
+    subst (λ (v : Tagged). place_in u.identity (v ∷ ts) ≡ Some 0) (sym (same_Some t u e)) (rw s refl)
 once-place (t ∷ ts) (suc p) u h s e = by_test (is_same u.identity t.identity)
     (λ f.
-    let same : u.identity ≡ t.identity = is_same-true u.identity t.identity f in
-    absurd (none-some p (sym h.0 ∙ ap (λ (b : Identity). place_in b ts) (sym same) ∙ once-place ts p u h.1 s e)))
+    absurd (none-some p (sym h.0 ∙ ap (λ (b : Identity). place_in b ts) (sym (is_same-true u.identity t.identity f)) ∙ once-place ts p u h.1 s e)))
     (λ f. rw (f, once-place ts p u h.1 s e) refl)
 
 -- ---- events that stay, and those that come
@@ -75,13 +73,12 @@ once-pass (w ∷ ws) i xs h k d =
     let long : length front ≡ w.index - i = length-take-le (w.index - i) xs (omega arith) in
     let d' : AreApart j ws (j + length back) = left-of w ws i xs d in
     let rest : List Tagged = pass ws j back in
-    let later : AreOnce rest = once-pass ws j back (λ n. (h n).1) k.2 d' in
     let below : (n : ℕ) → i ≤ n → n < i + length front → place_in (of_list n) (w.events ++ rest) ≡ None =
     λ n l u. none-append (of_list n) w.events rest (h n).0 (place_in-pass_below ws n j back (h n).1 d' (omega (arith, long))) in
     once-append (olds i front) (w.events ++ rest) (once-olds i front) (all-olds (λ b. place_in b (w.events ++ rest) ≡ None) i front below)
     (once-append w.events rest k.0
     (every-map (λ (t : Tagged). IsNoOld t.identity × HasNo t.identity ws) (λ (t : Tagged). place_in t.identity rest ≡ None) (λ t p. none-pass t.identity ws j back p.0 p.1) w.events k.1)
-    later)
+    (once-pass ws j back (λ n. (h n).1) k.2 d'))
 
 -- ---- the parts of children
 

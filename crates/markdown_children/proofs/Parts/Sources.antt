@@ -75,8 +75,7 @@ module _ (child : ℕ → List Event) (xs : List Event) where
           let end : option_and_then (placed_end ts u.identity) (option_and_then on (Some u.event)) ≡ Some q =
           sym (on-moved (placed_end ts u.identity) (Some u.event)) ∙ ap (option_and_then on) (sym (slice_get-map moved ts p ∙ ap (option_map moved) at)) ∙ e in
           option_and_then_some (placed_end ts u.identity) (option_and_then on (Some u.event)) q end (λ m f g.
-          let to : place_in (tag m) ts ≡ Some q = sym (ends n m) ∙ ap (λ b. placed_end ts b m) (sym is) ∙ g in
-          let there = place_in-there (tag m) ts q to in
+          let there = place_in-there (tag m) ts q (sym (ends n m) ∙ ap (λ b. placed_end ts b m) (sym is) ∙ g) in
           let v = there.0 in
           let other : slice_get list m ≡ Some v.event = sym (src m) ∙ ap source (sym there.2) ∙ every-get IsSourced ts q v sourced there.1 in
           let leads : option_and_then back (Some v.event) ≡ Some n = ap (option_and_then back) (sym other) ∙ lead n m (ap (option_and_then on) here ∙ f) in

@@ -18,12 +18,10 @@ table_place-child_place (k ∷ ks) (p ∷ ps) j n removed added = ⊎_elim
     let z : k - removed + added + (j + n) ≡ k - removed + (added + j) + n = omega arith in
     rw (a, b) (ap Some z))
     (λ (l : length p ≤ n).
-    let a : ltb n (length p) ≡ false = le-ltb n (length p) l in
     let b : ltb (j + n) (j + length p) ≡ false = le-ltb (j + n) (j + length p) (omega arith) in
     let z : j + n ≡ j + length p + (n - length p) = omega arith in
     let y : added + (j + length p) ≡ added + j + length p = omega arith in
-    let more = table_place-child_place ks ps (j + length p) (n - length p) (removed + 2) added in
-    rw (a, b) (ap (λ m. table_place (table ks ps (j + length p)) (removed + 2) added m) z ∙ more ∙ ap (λ m. child_place ks ps (removed + 2) m (n - length p)) y))
+    rw (le-ltb n (length p) l, b) (ap (λ m. table_place (table ks ps (j + length p)) (removed + 2) added m) z ∙ (table_place-child_place ks ps (j + length p) (n - length p) (removed + 2) added) ∙ ap (λ m. child_place ks ps (removed + 2) m (n - length p)) y))
     (cases_lt n (length p))
 
 same_place : (ks : List ℕ) (ps : List (List Event)) (removed added n : ℕ) → table_place (table ks ps 0) removed added n ≡ child_place ks ps removed added n

@@ -55,8 +55,7 @@ last-exits (e ∷ f ∷ xs) ys h v = last-exits (f ∷ xs) ys h.1 v
 before-enter : (xs ys zs : List Event) (f : Event) → slice_get ys 0 ≡ Some f → f.kind ≡ Enter → IsTightBefore xs ys → IsTightBefore xs zs
 before-enter xs ys zs f at enter h = tight-moved xs ys zs h (λ v.
     let l = last-exits xs ys h v in
-    let same : l.1.0 ≡ f = same_Some l.1.0 f (sym l.1.1 ∙ at) in
-    let no : Exit ≡ Enter = sym l.1.2 ∙ ap (λ (x : Event). x.kind) same ∙ enter in
+    let no : Exit ≡ Enter = sym l.1.2 ∙ ap (λ (x : Event). x.kind) (same_Some l.1.0 f (sym l.1.1 ∙ at)) ∙ enter in
     absurd (cc))
 
 -- no void enter is at the end

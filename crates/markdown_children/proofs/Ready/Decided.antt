@@ -36,17 +36,15 @@ module _ (t : ℕ) (bytes : List ℕ) (wanted : Option Content) (events : List E
           };
       gaps = λ k d h e.
           let l = asked k h in
-          let next : l.0.next ≡ Some d = sym (next-at events k l.0 l.1) ∙ e in
-          gap-of events k d (ap (is_gap_on events k) (sym next) ∙ l.3);
+          gap-of events k d (ap (is_gap_on events k) (sym (sym (next-at events k l.0 l.1) ∙ e)) ∙ l.3);
     }
       where
         asked : (k : ℕ) → fits wanted events k ≡ true → (l : Link) × (link_at events k ≡ Some l) × (is_readable place events k l.content ≡ true) × (is_gap_on events k l.next ≡ true)
         asked k f =
             let c = some_content wanted (content_at events k) f in
             let l = with-content events k c.0 c.1 in
-            let passes : lets_through wanted l.0.content ≡ true = sym (fits-link k l.0 l.1) ∙ f in
             let h : can_be_read place wanted events k (Some l.0) ≡ true = ap (can_be_read place wanted events k) (sym l.1) ∙ read k (inside-link events k l.0 l.1) in
-            let two = and_parts (is_readable place events k l.0.content) (is_gap_on events k l.0.next) (rw passes at h) in
+            let two = and_parts (is_readable place events k l.0.content) (is_gap_on events k l.0.next) (rw (sym (fits-link k l.0 l.1) ∙ f) at h) in
             (l.0, l.1, two.0, two.1)
 
   module _ (complete-place : (p : Point) → IsShownPlace t bytes p → place p ≡ true) (ready : IsReady t bytes wanted events) where

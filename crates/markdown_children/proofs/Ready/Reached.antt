@@ -117,8 +117,7 @@ module _ (t : ℕ) (some : 0 < t) (bytes : List ℕ) where
       go zero is true h = let f : (is_lf bytes 0 && false) ≡ true = ap (λ n. is_lf bytes n && follows_cr bytes n) (sym is) ∙ h in absurd (and-false-never (is_lf bytes 0) f)
       go (suc i) is true h =
           let cr : shown bytes p ≡ point p.line p.column (p.index - 1) p.vs = rw h refl in
-          let moved : p.index - 1 ≡ p.index = ap (λ (q : Point). q.index) (sym cr ∙ e) in
-          absurd (omega (arith, is, moved))
+          absurd (omega (arith, is, ap (λ (q : Point). q.index) (sym cr ∙ e)))
 
   some-width : (column i : ℕ) (y : Bool) → (slice_index bytes i == 9) ≡ y → (is_lf bytes i && follows_cr bytes i) ≡ false → 0 < width_at t bytes column i
   some-width column i true e f = rw e (tab_width-least t column some)
@@ -151,8 +150,7 @@ module _ (t : ℕ) (some : 0 < t) (bytes : List ℕ) where
       let start = byte_start t bytes p.index in
       let same = one-begin p.line s.column start.line start.column p.index s.reached (reached-at t some bytes p.index inside) in
       let w : width_at t bytes start.column p.index ≡ tab_width t start.column = rw (eq-eqb (get_or bytes p.index 0) 9 tab.1) refl in
-      let wide : tab_width t s.column ≡ tab_width t start.column = ap (tab_width t) same.1 in
-      (inside, is-of-byte p start (sym same.0) (omega (arith, same.1, s.across)) (omega (arith, w, wide, tab.2)))
+      (inside, is-of-byte p start (sym same.0) (omega (arith, same.1, s.across)) (omega (arith, w, ap (tab_width t) same.1, tab.2)))
   place-of-byte p is shown (suc n) v (inr s) = absurd (omega (arith, v, s.0))
 
   pub place-complete : (p : Point) → IsShownPlace t bytes p → is_place t bytes p ≡ true

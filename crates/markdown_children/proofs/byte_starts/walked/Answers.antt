@@ -25,8 +25,7 @@ pub overflow_add-column : goal.overflow_add-column
 overflow_add-column c =
     let r = reached-at c.args.t c.requires.some c.args.bytes.now c.loop-index.index (omega arith) in
     let inside : suc c.loop-index.index ≤ length c.args.bytes.now = omega arith in
-    let more = mul-le-mul_left c.args.t inside in
-    omega (arith, r.bound, more, c.loop-index.invariant.column, c.requires.limit, c.requires.some)
+    omega (arith, r.bound, mul-le-mul_left c.args.t inside, c.loop-index.invariant.column, c.requires.limit, c.requires.some)
 
 pub loop-index-preserved-then-bytes-index-gt13 : goal.loop-index-preserved-then-bytes-index-gt13
 loop-index-preserved-then-bytes-index-gt13 c =
@@ -39,9 +38,7 @@ loop-index-preserved-then-bytes-index-gt13 c =
 
 pub overflow_add-line : goal.overflow_add-line
 overflow_add-line c =
-    let l = line_at-le c.args.bytes.now c.loop-index.index in
-    let all = mul-le-mul_right (length c.args.bytes.now) c.requires.some in
-    omega (arith, l, all, c.loop-index.invariant.line, c.requires.limit)
+    omega (arith, line_at-le c.args.bytes.now c.loop-index.index, mul-le-mul_right (length c.args.bytes.now) c.requires.some, c.loop-index.invariant.line, c.requires.limit)
 
 pub loop-index-preserved-then-ends_line : goal.loop-index-preserved-then-ends_line
 loop-index-preserved-then-ends_line c =
@@ -61,8 +58,7 @@ pub column_after-column-requires-clause-limit : goal.column_after-column-require
 column_after-column-requires-clause-limit c =
     let r = reached-at c.args.t c.requires.some c.args.bytes.now c.loop-index.index (omega arith) in
     let inside : suc c.loop-index.index ≤ length c.args.bytes.now = omega arith in
-    let more = mul-le-mul_left c.args.t inside in
-    omega (arith, r.bound, more, c.loop-index.invariant.column, c.requires.limit)
+    omega (arith, r.bound, mul-le-mul_left c.args.t inside, c.loop-index.invariant.column, c.requires.limit)
 
 pub loop-index-preserved : goal.loop-index-preserved
 loop-index-preserved c =

@@ -3,5 +3,4 @@ use Rattle.markdown_children.proofs.children.gather.Given as goal
 
 abbrev pub invariant-loop-index : goal.invariant-loop-index
 invariant-loop-index g l =
-    let given = given_by l.fn.parse_state.bytes.now l.fn.parse_state.options.now in
-    SoFar given (g.M.Machine.rules l.fn.parse_state.machine.now) l.fn.filter l.events l.index l.map l.acc l.found
+    SoFar (given_by l.fn.parse_state.bytes.now l.fn.parse_state.options.now) (g.M.Machine.rules l.fn.parse_state.machine.now) l.fn.filter l.events l.index l.map l.acc l.found

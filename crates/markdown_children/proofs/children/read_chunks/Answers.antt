@@ -41,8 +41,7 @@ next_of-requires g c = omega (arith, chain-inside c.requires.ready c.loop-next.i
 
 pub place_at-gap-requires : goal.place_at-gap-requires
 place_at-gap-requires g c =
-    let rises = chain-rises c.requires.ready c.loop-next.invariant.2 (sym c.in-Some.ensures) in
-    omega (arith, rises.1)
+    omega (arith, (chain-rises c.requires.ready c.loop-next.invariant.2 (sym c.in-Some.ensures)).1)
 
 pub define_skip-requires : goal.define_skip-requires
 define_skip-requires g c = chain-gap c.requires.ready c.loop-next.invariant.2 (sym c.in-Some.ensures) c.place_at-gap.ensures

@@ -57,11 +57,9 @@ pub overflow_add-sums : goal.overflow_add-sums
 overflow_add-sums c =
     let a = c.args in
     let t = ap length (table-at a.events.now _ a.child_events.now.items a.link_index _ _ c.deref.ensures.value c.in_ok-chunks.ensures c.as_slice.ensures.value) in
-    let d = ap length c.deref.ensures.value in
     let r = chunks-room a.events.now a.child_events.now.items a.link_index c.requires.chain a.acc_before.0
     (sums-le a.events.now a.child_events.now.items a.link_index c.requires.chain a.map.now a.acc_before.0 c.requires.before c.requires.sums.0) c.requires.within in
-    let f = c.requires.fits in
-    omega (arith, t, d, r, f, c.len.ensures)
+    omega (arith, t, ap length c.deref.ensures.value, r, c.requires.fits, c.len.ensures)
 
 pub returns-clause-ok : goal.returns-clause-ok
 returns-clause-ok c =
@@ -76,6 +74,4 @@ pub returns-clause-sums : goal.returns-clause-sums
 returns-clause-sums c =
     let a = c.args in
     let t = ap length (table-at a.events.now _ a.child_events.now.items a.link_index _ _ c.deref.ensures.value c.in_ok-chunks.ensures c.as_slice.ensures.value) in
-    let d = ap length c.deref.ensures.value in
-    let l = length-chunks a.events.now a.child_events.now.items a.link_index c.requires.chain in
-    (omega (arith, t, d, l, c.len.ensures), omega (arith, c.len-2.ensures))
+    (omega (arith, t, ap length c.deref.ensures.value, length-chunks a.events.now a.child_events.now.items a.link_index c.requires.chain, c.len.ensures), omega (arith, c.len-2.ensures))

@@ -15,8 +15,7 @@ overflow_add-removed c =
     let h = c.in_ok-chunk.ensures.lookup.3 in
     let d = c.in_ok-chunk.chunk.now in
     let above = above-at c.args.chunks.now c.partition_point-passed.result c.args.acc.0 d h.0 c.requires.apart in
-    let fits = c.requires.fits c.partition_point-passed.result d h.0 in
-    omega (arith, above, fits)
+    omega (arith, above, c.requires.fits c.partition_point-passed.result d h.0)
 
 pub overflow_sub-result : goal.overflow_sub-result
 overflow_sub-result c =
