@@ -67,9 +67,6 @@ range-split a (suc k) m =
     let y : a + 1 + k ≡ a + suc k = omega arith in
     ap (range_with_len a) z ∙ ap (λ ks. a ∷ ks) (range-split (a + 1) k m) ∙ ap (λ b. (a ∷ range_with_len (a + 1) k) ++ range_with_len b m) y
 
-starts-next : (wanted : Option Content) (events : List Event) (i : ℕ) → starts_below wanted events (i + 1) ≡ starts_below wanted events i ++ filter (begins wanted events) (i ∷ [])
-starts-next wanted events i = passing_more (begins wanted events) i
-
 starts-split : (wanted : Option Content) (events : List Event) (i : ℕ) → i < length events → begins wanted events i ≡ true → (behind : List ℕ) × (fitting_starts wanted events ≡ starts_below wanted events i ++ i ∷ behind)
 starts-split wanted events i l b =
     let m : ℕ = length events - (i + 1) in
@@ -138,11 +135,12 @@ module _ {R D : Type 0} {g : Given} {rules : Given → Rules R D} {wanted : Opti
   so_far-start e d f n = record { children = []; read = tt; edits = e; removed = ap removed_by (sym e); added = ap added_by (sym e); done = ((λ t. refl), (λ t. d)); definitions = f; footnotes = n }
 
   -- nothing begins there
-  so_far-same : (i : ℕ) (es : List Edit) (sums : ℕ × ℕ) (sub : Subresult) → begins wanted events i ≡ false → SoFar g rules wanted events i es sums sub → SoFar g rules wanted events (i + 1) es sums sub
-  so_far-same i es sums sub b s =
+  pub so_far-other : {i : ℕ} {es fs : List Edit} {sums more : ℕ × ℕ} {sub found : Subresult} → begins wanted events i ≡ false → fs ≡ es → more ≡ sums → found ≡ sub → SoFar g rules wanted events i es sums sub
+      → SoFar g rules wanted events (i + 1) fs more found
+  so_far-other {i} {sub = sub} b e d f s =
       let same : starts_below wanted events i ≡ starts_below wanted events (i + 1) =
-      sym (starts-next wanted events i ∙ ap (λ ks. starts_below wanted events i ++ ks) (filter-no (begins wanted events) i [] b) ∙ append-nil (starts_below wanted events i)) in
-      record {
+      sym (passing_more (begins wanted events) i ∙ ap (λ ks. starts_below wanted events i ++ ks) (filter-no (begins wanted events) i [] b) ∙ append-nil (starts_below wanted events i)) in
+      rw (e, d, f) (record {
         children = s.children;
         read = subst (λ (ks : List ℕ). AreChildren g rules events ks s.children) same s.read;
         edits = s.edits ∙ ap (λ ks. all_edits 0 0 (divided_over events ks (lists s.children))) same;
@@ -151,11 +149,7 @@ module _ {R D : Type 0} {g : Given} {rules : Given → Rules R D} {wanted : Opti
         done = subst (λ (ks : List ℕ). (sub.done ≡ true) ↔ (ks ≡ [])) same s.done;
         definitions = s.definitions;
         footnotes = s.footnotes;
-      }
-
-  pub so_far-other : {i : ℕ} {es fs : List Edit} {sums more : ℕ × ℕ} {sub found : Subresult} → begins wanted events i ≡ false → fs ≡ es → more ≡ sums → found ≡ sub → SoFar g rules wanted events i es sums sub
-      → SoFar g rules wanted events (i + 1) fs more found
-  so_far-other {i} {es} {fs} {sums} {more} {sub} b e d f s = rw (e, d, f) (so_far-same i es sums sub b s)
+      })
 
   -- one more chain was read
   pub so_far-next : {i : ℕ} {es fs : List Edit} {sums more : ℕ × ℕ} {sub found : Subresult} {child : Child} {tab : ℕ} {bytes : List ℕ} → IsReady tab bytes wanted events → begins wanted events i ≡ true → SoFar g rules wanted events i es sums sub
@@ -166,7 +160,7 @@ module _ {R D : Type 0} {g : Given} {rules : Given → Rules R D} {wanted : Opti
       → SoFar g rules wanted events (i + 1) fs more found
   so_far-next {i} {es} {fs} {sums} {more} {sub} {found} {child} {tab} {bytes} ready b s is e r a f_is =
       let cs : List ℕ = starts_below wanted events i in
-      let next : cs ++ i ∷ [] ≡ starts_below wanted events (i + 1) = sym (starts-next wanted events i ∙ ap (λ ks. cs ++ ks) (filter-yes (begins wanted events) i [] b)) in
+      let next : cs ++ i ∷ [] ≡ starts_below wanted events (i + 1) = sym (passing_more (begins wanted events) i ∙ ap (λ ks. cs ++ ks) (filter-yes (begins wanted events) i [] b)) in
       let long : length cs ≡ length (lists s.children) = sym (AllZip-long (IsChild g rules events) cs s.children s.read) ∙ sym (length-map s.children (λ (c : Child). c.events)) in
       let ds : List Divided = divided_over events cs (lists s.children) in
       let dv : Divided = divided events i child.events in

@@ -34,9 +34,6 @@ placed_in-finalized ts (u ∷ us) = λ i. same u.identity u.event i ∷ placed_i
     same (of_child c j) e = relinked-same (relinked (λ n. place_in (of_child c n) ts) e)
     same of_addition e = refl
 
-pub placed-finalized : (ts : List Tagged) → placed (map (finalized ts) ts) ≡ placed ts
-placed-finalized ts = placed_in-finalized ts ts
-
 abbrev pub finalized_change : List Tagged → Change → Change
 finalized_change ts w = record { index = w.index; remove = w.remove; events = map (finalized ts) w.events }
 
@@ -59,7 +56,7 @@ changed-finalized ws xs d =
     let d' : AreApart 0 ws (0 + length xs) = subst (λ m. AreApart 0 ws m) z d in
     let ts : List Tagged = woven ws 0 xs in
     ap placed (woven-pass (map (finalized_change ts) ws) 0 xs (disjoint-finalized ts ws 0 (0 + length xs) d') ∙ sym (pass-finalized ts ws 0 xs) ∙ ap (map (finalized ts)) (sym (woven-pass ws 0 xs d')))
-    ∙ placed-finalized ts
+    ∙ placed_in-finalized ts ts
 
 -- ---- the edits of chains
 

@@ -119,9 +119,8 @@ module _ (t : ℕ) (some : 0 < t) (bytes : List ℕ) where
           let cr : shown bytes p ≡ point p.line p.column (p.index - 1) p.vs = rw h refl in
           absurd (omega (arith, is, ap (λ (q : Point). q.index) (sym cr ∙ e)))
 
-  some-width : (column i : ℕ) (y : Bool) → (slice_index bytes i == 9) ≡ y → (is_lf bytes i && follows_cr bytes i) ≡ false → 0 < width_at t bytes column i
-  some-width column i true e f = rw e (tab_width-least t column some)
-  some-width column i false e f = rw (e, f) (omega arith)
+  some-width : (column i : ℕ) → (is_lf bytes i && follows_cr bytes i) ≡ false → 0 < width_at t bytes column i
+  some-width column i f = by_test (slice_index bytes i == 9) (λ e. rw e (tab_width-least t column some)) (λ e. rw (e, f) (omega arith))
 
   one-begin : (line column line' column' i : ℕ) → IsReached t bytes line column i → IsReached t bytes line' column' i → (line ≡ line') × (column ≡ column')
   one-begin line column line' column' i r s =
@@ -139,7 +138,7 @@ module _ (t : ℕ) (some : 0 < t) (bytes : List ℕ) where
       let f = ap (λ (o : Option Point). unwrap_or o (point 0 0 0 0)) e in
       let l : p.line ≡ start.line = ap (λ (q : Point). q.line) f in
       let c : p.column ≡ start.column = ap (λ (q : Point). q.column) f in
-      (inside, is-of-byte p start (sym l) (omega (arith, c, v)) (omega (arith, v, some-width start.column p.index (slice_index bytes p.index == 9) refl (not-pair p shown))))
+      (inside, is-of-byte p start (sym l) (omega (arith, c, v)) (omega (arith, v, some-width start.column p.index (not-pair p shown))))
     where
       upto : IsSeatPlace t bytes p ⊎ IsReturnPlace bytes p → p.index ≤ length bytes
       upto (inl s) = s.reached.inside

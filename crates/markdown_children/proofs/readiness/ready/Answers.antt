@@ -1,19 +1,15 @@
-use Rattle.markdown_children.proofs.Prelude.{◌≡◌, ◌<◌, ◌≤◌, ℕ, sym, subst, ◌∙◌}
+use Rattle.markdown_children.proofs.Prelude.{sym, ◌∙◌, arith}
 use Rattle.std.specs.Prelude.{option_map}
 use Rattle.markdown_children.proofs.Ready.Decided.{not-ready-closes, not-ready-sound, ready-if}
 use Rattle.markdown_children.proofs.readiness.ready.Goals as goal
 
--- a number of columns that is got is above 0
-some : {t n : ℕ} → n ≡ t → 1 ≤ n → 0 < t
-some is least = subst (λ k. 0 < k) is least
-
 pub returns-then-not-branch : goal.returns-then-not-branch
-returns-then-not-branch c = not-ready-closes c.args.tab_size (some c.get-t.ensures.columns c.get-t.ensures.least) c.args.bytes.now (option_map (λ f. f.now) c.args.filter) c.args.events.now c.in_ok-closes.field-0 c.in_ok-closes.ensures c.if-not-branch.true
+returns-then-not-branch c = not-ready-closes c.args.tab_size (omega (arith, c.get-t.ensures.columns, c.get-t.ensures.least)) c.args.bytes.now (option_map (λ f. f.now) c.args.filter) c.args.events.now c.in_ok-closes.field-0 c.in_ok-closes.ensures c.if-not-branch.true
 
 pub returns-then-not-are_sound : goal.returns-then-not-are_sound
-returns-then-not-are_sound c = not-ready-sound c.args.tab_size (some c.get-t.ensures.columns c.get-t.ensures.least) c.args.bytes.now (option_map (λ f. f.now) c.args.filter) c.args.events.now (c.are_sound.ensures.some c.if-not-are_sound.true)
+returns-then-not-are_sound c = not-ready-sound c.args.tab_size (omega (arith, c.get-t.ensures.columns, c.get-t.ensures.least)) c.args.bytes.now (option_map (λ f. f.now) c.args.filter) c.args.events.now (c.are_sound.ensures.some c.if-not-are_sound.true)
 
 pub returns : goal.returns
 returns c =
-    ready-if c.args.tab_size (some c.get-t.ensures.columns c.get-t.ensures.least) c.args.bytes.now (option_map (λ f. f.now) c.args.filter) c.args.events.now c.copied.result c.in_ok-starts.starts.tab_size c.in_ok-starts.starts.bytes.now c.copied.ensures (c.in_ok-starts.ensures.tab_size ∙ c.get-t.ensures.columns) c.in_ok-starts.ensures.bytes
+    ready-if c.args.tab_size (omega (arith, c.get-t.ensures.columns, c.get-t.ensures.least)) c.args.bytes.now (option_map (λ f. f.now) c.args.filter) c.args.events.now c.copied.result c.in_ok-starts.starts.tab_size c.in_ok-starts.starts.bytes.now c.copied.ensures (c.in_ok-starts.ensures.tab_size ∙ c.get-t.ensures.columns) c.in_ok-starts.ensures.bytes
     c.can_be_read.result (sym c.in_ok-closes.ensures ∙ c.if-not-branch.false) (c.are_sound.ensures.all c.if-not-are_sound.false) c.can_be_read.ensures.all c.can_be_read.ensures.some
