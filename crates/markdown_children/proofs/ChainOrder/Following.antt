@@ -10,6 +10,8 @@ filter-yes test x xs e = ap (λ b. cond b (x ∷ filter test xs) (filter test xs
 pub filter-no : (test : ℕ → Bool) (x : ℕ) (xs : List ℕ) → test x ≡ false → filter test (x ∷ xs) ≡ filter test xs
 filter-no test x xs e = ap (λ b. cond b (x ∷ filter test xs) (filter test xs)) e
 
+-- ---- cases
+
 -- a test passes or fails
 pub by_test : {P : Type 0} (b : Bool) → (b ≡ true → P) → (b ≡ false → P) → P
 by_test true f g = f refl
