@@ -1,17 +1,7 @@
 -- Documents, and the events of their text written out: examples of the definition, each proved by computing.
-use Rattle.std.proofs.Common.{◌≡◌, ℕ, ◌+◌, List, [], ◌∷◌, ◌++◌, Bool, true, false, Option, Some, None, refl, take, drop}
-use Rattle.std.specs.Prelude.{codes, replicate}
-use Rattle.markdown_base.specs.declared.configuration.Constructs.{Constructs}
+use Rattle.mdconstructs_text.proofs.Prelude.{◌≡◌, ℕ, ◌+◌, List, [], ◌∷◌, ◌++◌, Bool, true, false, Option, Some, None, refl, take, drop, codes, replicate, Constructs, Event, Enter, Exit, Paragraph, Data, LineEnding, BlockQuoteMarker, CodeText, CodeTextSequence, CodeTextData, Autolink, AutolinkMarker, AutolinkProtocol, CharacterEscape, CharacterEscapeMarker, CharacterEscapeValue, point, virtual, default_constructs, default_parse_options, given_by, with_data, with_texts, seat_events}
 use Rattle.markdown_base.specs.declared.event.Content.TheVariants.{Text}
-use Rattle.markdown_base.specs.declared.event.Event.{Event}
-use Rattle.markdown_base.specs.declared.event.Kind.TheVariants.{Enter, Exit}
 use Rattle.markdown_base.specs.declared.event.Name.{Name}
-use Rattle.markdown_base.specs.declared.event.Name.TheVariants.{Paragraph, Data, LineEnding, BlockQuoteMarker, CodeText, CodeTextSequence, CodeTextData, Autolink, AutolinkMarker, AutolinkProtocol, CharacterEscape, CharacterEscapeMarker, CharacterEscapeValue}
-use Rattle.markdown_base.specs.Virtual.{point, virtual}
-use Rattle.markdown_base.specs.Presets.{default_constructs, default_parse_options}
-use Rattle.markdown_tokenizer.specs.Engine.{given_by}
-use Rattle.mdconstructs_text.specs.ChainTexts.{with_data, with_texts}
-use Rattle.mdconstructs_text.specs.TextEvents.{seat_events}
 
 -- the events of a whole document
 abbrev events_of : Constructs → List ℕ → List Event

@@ -1,14 +1,6 @@
 -- The tables of texts and of paragraphs refuse no document, by the test of their rows.
-use Rattle.std.proofs.Common.{◌≡◌, [], Option, Some, None, refl}
-use Rattle.mdconstructs_tables.specs.Joined.{has_state}
-use Rattle.mdconstructs_tables.specs.Refusals.{refusing, RulesRefuseNothing}
-use Rattle.mdconstructs_tables.specs.Rows.{table_step}
-use Rattle.mdconstructs_tables.proofs.Tables.Refusals.{table-steps, refuse-nothing, either-step, nothing-found}
-use Rattle.mdconstructs_machines.specs.Tables.{LineByte}
+use Rattle.mdconstructs_text.proofs.Prelude.{◌≡◌, [], Option, Some, None, refl, has_state, refusing, RulesRefuseNothing, table_step, table-steps, refuse-nothing, either-step, nothing-found, LineByte, TextByte, line_feed, backtick, less, greater, backslash, colon, letter, digit, mark, punctuation, blank, other, texts, flow, text_rules}
 use Rattle.mdconstructs_machines.specs.Tables as lines
-use Rattle.mdconstructs_text.specs.TextCosts.{TextByte, line_feed, backtick, less, greater, backslash, colon, letter, digit, mark, punctuation, blank, other}
-use Rattle.mdconstructs_text.specs.TextTable.{texts}
-use Rattle.mdconstructs_text.specs.TextRules.{flow, text_rules}
 
 flow-none : (previous current : Option LineByte) → refusing flow previous current ≡ []
 flow-none previous None = refl

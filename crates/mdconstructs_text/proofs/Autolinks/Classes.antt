@@ -1,14 +1,5 @@
 -- The bytes at which an autolink begins and goes on, and the bytes at which it fails.
-use Rattle.std.proofs.Common.{◌≡◌, ℕ, ◌∷◌, [], true, false, refl, ap, Option, Some, None, arith, ◌==◌}
-use Rattle.std.proofs.lemmas.Bool.Decides.{nat_tests}
-use Rattle.std.specs.Char.{is_ascii_alphabetic}
-use Rattle.markdown_base.specs.declared.event.Name.TheVariants.{Autolink, AutolinkMarker, AutolinkProtocol}
-use Rattle.markdown_base.specs.declared.state.State.TheVariants.{Next, Ok, Nok}
-use Rattle.markdown_base.specs.declared.state.TheConstants.Name.{AutolinkSchemeInsideOrEmailAtext, AutolinkUrlInside}
-use Rattle.mdconstructs_tables.specs.Rows.{Rows, row, when, enter, exit, consume, write, class_of}
-use Rattle.mdconstructs_text.specs.Items.{passes, is_scheme_byte, is_allowed}
-use Rattle.mdconstructs_text.specs.TextCosts.{TextByte, text_byte}
-use Rattle.mdconstructs_text.specs.TextTable.{size_b_is, has_scheme, scheme_goes_on, autolink_open_rows, autolink_scheme_rows, autolink_url_rows}
+use Rattle.mdconstructs_text.proofs.Prelude.{◌≡◌, ℕ, ◌∷◌, [], true, false, refl, ap, Option, Some, None, arith, ◌==◌, nat_tests, is_ascii_alphabetic, Autolink, AutolinkMarker, AutolinkProtocol, Next, Ok, Nok, AutolinkSchemeInsideOrEmailAtext, AutolinkUrlInside, Rows, row, when, enter, exit, consume, write, class_of, passes, is_scheme_byte, is_allowed, TextByte, text_byte, size_b_is, has_scheme, scheme_goes_on, autolink_open_rows, autolink_scheme_rows, autolink_url_rows}
 use Rattle.mdconstructs_text.proofs.Plain.Classes.{by-class}
 
 -- the first byte of a scheme

@@ -1,21 +1,5 @@
 -- The events that the machine of texts makes of an autolink are the item's.
-use Rattle.std.proofs.Common.{◌≡◌, ℕ, zero, suc, ◌+◌, ◌<◌, ◌∷◌, ◌++◌, [], List, false, refl, sym, ◌∙◌, ap, Option, Some, None, arith, length, take, drop, slice_get, ◌==◌}
-use Rattle.std.proofs.lemmas.List.{take_at, drop_at, length-take-le}
-use Rattle.std.proofs.lemmas.Option.{slice_get_within}
-use Rattle.std.proofs.lemmas.Slice.{between_is}
-use Rattle.std.specs.List.{between}
-use Rattle.markdown_base.proofs.Common.{drop-next}
-use Rattle.markdown_base.proofs.Seats.{end-after-one}
-use Rattle.markdown_base.specs.declared.event.Event.{Event}
-use Rattle.markdown_base.specs.declared.event.Kind.TheVariants.{Enter, Exit}
-use Rattle.markdown_base.specs.declared.event.Name.TheVariants.{Autolink, AutolinkMarker, AutolinkProtocol}
-use Rattle.markdown_base.specs.declared.event.Point.{Point}
-use Rattle.markdown_base.specs.Places.{shown}
-use Rattle.markdown_base.specs.Virtual.{Seat, end_after}
-use Rattle.markdown_tokenizer.specs.Text.{Given, Text}
-use Rattle.markdown_tokenizer.specs.Sight.{point_or, end_or, end_place}
-use Rattle.mdconstructs_text.specs.Items.{autolink}
-use Rattle.mdconstructs_text.specs.TextEvents.{event, leaf, item_events}
+use Rattle.mdconstructs_text.proofs.Prelude.{◌≡◌, ℕ, zero, suc, ◌+◌, ◌<◌, ◌∷◌, ◌++◌, [], List, false, refl, sym, ◌∙◌, ap, Option, Some, None, arith, length, take, drop, slice_get, ◌==◌, take_at, drop_at, length-take-le, slice_get_within, between_is, between, drop-next, end-after-one, Event, Enter, Exit, Autolink, AutolinkMarker, AutolinkProtocol, Point, shown, Seat, end_after, Given, Text, point_or, end_or, end_place, autolink, event, leaf, item_events}
 use Rattle.mdconstructs_text.proofs.Texts.LineEndings.{at-front}
 use Rattle.mdconstructs_text.proofs.Plain.Stretches.{get-drop, leaf-read}
 use Rattle.mdconstructs_text.proofs.Autolinks.Steps.{begun_link, ended_link}

@@ -1,11 +1,5 @@
 -- A byte `<`: an autolink is read if one is there, and data if not.
-use Rattle.std.proofs.Common.{◌≡◌, ℕ, ◌∷◌, List, Bool, true, false, refl, sym, subst, drop}
-use Rattle.markdown_base.specs.declared.event.Event.{Event}
-use Rattle.markdown_base.specs.Virtual.{Seat}
-use Rattle.markdown_tokenizer.specs.Text.{Given, Text}
-use Rattle.markdown_tokenizer.specs.Configuration.{Local}
-use Rattle.mdconstructs_text.specs.Items.{item_at, autolink_at, if_on, or_else}
-use Rattle.mdconstructs_text.specs.TextEvents.{bytes_of}
+use Rattle.mdconstructs_text.proofs.Prelude.{◌≡◌, ℕ, ◌∷◌, List, Bool, true, false, refl, sym, subst, drop, Event, Seat, Given, Text, Local, item_at, autolink_at, if_on, or_else, bytes_of}
 use Rattle.mdconstructs_text.proofs.Texts.LineEndings.{Adds}
 use Rattle.mdconstructs_text.proofs.Plain.Items.{plain_of, less-at, from-tried, from-untried-link}
 use Rattle.mdconstructs_text.proofs.Autolinks.Events.{IsJoined}

@@ -1,22 +1,7 @@
 -- In a text, a virtual byte that is no line ending ends where the next is shown: gaps are only at the starts of lines.
-use Rattle.std.specs.List.{AllByRecursion}
-use Rattle.std.proofs.Common.{◌≡◌, ℕ, zero, suc, ◌+◌, ◌<◌, ◌==◌, List, [], ◌∷◌, ◌++◌, Bool, true, false, cond, Some, refl, sym, ap, ◌∙◌, subst, arith, append_assoc, inl, inr, slice_get}
-use Rattle.std.specs.Prelude.{filter, not, ◌&&◌}
-use Rattle.std.proofs.lemmas.List.{append-nil}
-use Rattle.std.proofs.lemmas.List.Elements.{filter-append}
-use Rattle.markdown_base.proofs.Common.{every-append, every-filter, filter-none}
-use Rattle.markdown_base.proofs.Seats.{end-after-append}
-use Rattle.markdown_base.specs.declared.event.Point.{Point}
-use Rattle.markdown_base.specs.Virtual.{Seat, point, virtual, end_after}
-use Rattle.markdown_base.specs.Places.{stands_before, shown, is_upto, denotes_same}
-use Rattle.markdown_tokenizer.specs.Cursor.{rest_at, IsPlace, goes_on, end_at}
-use Rattle.markdown_tokenizer.specs.Text.{Given, Text, Piece, pushed, passed, IsText, empty_text, followed_by, followed_by_all, FitsAfter, CanFollow, in_range}
-use Rattle.markdown_tokenizer.proofs.Positions.Order.{not-before, every-all, filter-every, filter-same}
-use Rattle.markdown_tokenizer.proofs.Positions.Seats.{rest-later}
-use Rattle.markdown_tokenizer.proofs.Positions.Chains.{IsChain, whole-chain}
-use Rattle.markdown_tokenizer.proofs.Positions.Standing.{chain-at, chain-split, place-of-point}
-use Rattle.markdown_tokenizer.proofs.Positions.Cursors.{upto-order, upto-self, left_of, text-splits, range-empty}
-use Rattle.markdown_tokenizer.proofs.Positions.Points.{shown-column, same-shown}
+use Rattle.mdconstructs_text.proofs.Prelude.{AllByRecursion, ◌≡◌, ℕ, zero, suc, ◌+◌, ◌<◌, ◌==◌, List, [], ◌∷◌, ◌++◌, Bool, true, false, cond, Some, refl, sym, ap, ◌∙◌, subst, arith, inl, inr, slice_get, filter, not, ◌&&◌, append-nil, filter-append, every-append, every-filter, filter-none, end-after-append, Point, Seat, point, virtual, end_after, stands_before, shown, is_upto, denotes_same, rest_at, IsPlace, goes_on, end_at, Given, Text, Piece, pushed, passed, IsText, empty_text, followed_by, followed_by_all, FitsAfter, CanFollow, not-before, every-all, filter-every, filter-same, rest-later, IsChain, whole-chain, chain-at, chain-split, place-of-point, upto-order, upto-self, left_of, text-splits, range-empty, shown-column, same-shown}
+use Rattle.std.proofs.Common.{append_assoc}
+use Rattle.markdown_tokenizer.specs.Text.{in_range}
 use Rattle.mdconstructs_text.proofs.Autolinks.Events.{IsJoined}
 
 -- the place at which the first of these is shown, or this one if there is none

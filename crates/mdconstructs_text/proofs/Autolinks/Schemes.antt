@@ -1,23 +1,5 @@
 -- The scheme of an autolink, as the machine of texts reads it: byte by byte, up to 32 of them.
-use Rattle.std.proofs.Common.{◌≡◌, ℕ, zero, suc, ◌+◌, ◌<◌, ◌≤◌, ◌∷◌, [], List, Bool, true, false, cond, ◌&&◌, refl, sym, ◌∙◌, ap, subst, arith, take, drop, nat_le, nat_lt}
-use Rattle.std.proofs.Math.Bool.{and-true}
-use Rattle.std.proofs.lemmas.Bool.{lt-ltb}
-use Rattle.std.proofs.lemmas.Bool.Decides.{nat_tests}
-use Rattle.std.proofs.lemmas.Option.{slice_get_within}
-use Rattle.std.specs.Char.{is_ascii_alphabetic}
-use Rattle.std.proofs.lemmas.List.Folds.{length-prefix_len}
-use Rattle.std.specs.List.{list_all, prefix_len}
-use Rattle.markdown_base.proofs.Common.{drop-next}
-use Rattle.markdown_base.specs.declared.event.Event.{Event}
-use Rattle.markdown_base.specs.declared.state.State.TheVariants.{Next, Retry}
-use Rattle.markdown_base.specs.declared.state.TheConstants.Name.{AutolinkOpen, AutolinkSchemeInsideOrEmailAtext}
-use Rattle.markdown_base.specs.Virtual.{Seat}
-use Rattle.markdown_tokenizer.specs.Text.{Given, Text}
-use Rattle.markdown_tokenizer.specs.Configuration.{Local, Choice}
-use Rattle.mdconstructs_machines.specs.Tables.{counts}
-use Rattle.mdconstructs_text.specs.Items.{has_byte_at, is_scheme_byte, is_scheme}
-use Rattle.mdconstructs_text.specs.TextEvents.{bytes_of}
-use Rattle.mdconstructs_text.specs.TextTable.{more_than}
+use Rattle.mdconstructs_text.proofs.Prelude.{◌≡◌, ℕ, zero, suc, ◌+◌, ◌<◌, ◌≤◌, ◌∷◌, [], List, Bool, true, false, cond, ◌&&◌, refl, sym, ◌∙◌, ap, subst, arith, take, drop, nat_le, nat_lt, and-true, lt-ltb, nat_tests, slice_get_within, is_ascii_alphabetic, length-prefix_len, list_all, prefix_len, drop-next, Event, Next, Retry, AutolinkOpen, AutolinkSchemeInsideOrEmailAtext, Seat, Given, Text, Local, Choice, counts, has_byte_at, is_scheme_byte, is_scheme, bytes_of, more_than}
 use Rattle.mdconstructs_text.proofs.Texts.Steps.{EndsWith, Leads, leads-fed, fed-is}
 use Rattle.mdconstructs_text.proofs.Texts.LineEndings.{at-front}
 use Rattle.mdconstructs_text.proofs.Plain.Stretches.{}

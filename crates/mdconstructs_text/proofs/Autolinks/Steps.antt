@@ -1,26 +1,6 @@
 -- What the machine of texts does in an autolink: its marker, its scheme, what follows that, and what rejects it.
-use Rattle.std.proofs.Common.{◌≡◌, ℕ, ◌+◌, ◌∷◌, ◌++◌, [], List, Bool, true, false, cond, refl, sym, ◌∙◌, ap, subst, Some, length, take, slice_get, nat_lt, nat_le, ◌==◌}
-use Rattle.std.specs.Char.{is_ascii_alphabetic}
-use Rattle.markdown_base.specs.declared.event.Event.{Event}
-use Rattle.markdown_base.specs.declared.event.Kind.TheVariants.{Enter, Exit}
+use Rattle.mdconstructs_text.proofs.Prelude.{◌≡◌, ℕ, ◌+◌, ◌∷◌, ◌++◌, [], List, Bool, true, false, cond, refl, sym, ◌∙◌, ap, subst, Some, length, take, slice_get, nat_lt, nat_le, ◌==◌, is_ascii_alphabetic, Event, Enter, Exit, Autolink, AutolinkMarker, AutolinkProtocol, Name, State, Next, Retry, Ok, Nok, TextBeforeData, AutolinkStart, AutolinkOpen, AutolinkSchemeInsideOrEmailAtext, AutolinkUrlInside, Seat, Nothing, Byte, Given, Text, Configuration, Local, Choice, byte_of, point_or, end_or, end_place, fed, Row, row, enter, exit, consume, write, class_of, counts, passes, is_scheme_byte, is_allowed, text_byte, event, more_than, size_b_grows, scheme_goes_on, autolink_start_rows, autolink_open_rows, autolink_scheme_rows, autolink_url_rows}
 use Rattle.markdown_base.specs.declared.event.Name.{Name as EventName}
-use Rattle.markdown_base.specs.declared.event.Name.TheVariants.{Autolink, AutolinkMarker, AutolinkProtocol}
-use Rattle.markdown_base.specs.declared.state.Name.{Name}
-use Rattle.markdown_base.specs.declared.state.State.{State}
-use Rattle.markdown_base.specs.declared.state.State.TheVariants.{Next, Retry, Ok, Nok}
-use Rattle.markdown_base.specs.declared.state.TheConstants.Name.{TextBeforeData, AutolinkStart, AutolinkOpen, AutolinkSchemeInsideOrEmailAtext, AutolinkUrlInside}
-use Rattle.markdown_base.specs.Virtual.{Seat}
-use Rattle.markdown_tokenizer.specs.declared.waiting.Waits.TheVariants.{Nothing, Byte}
-use Rattle.markdown_tokenizer.specs.Text.{Given, Text}
-use Rattle.markdown_tokenizer.specs.Configuration.{Configuration, Local, Choice}
-use Rattle.markdown_tokenizer.specs.Sight.{byte_of, point_or, end_or, end_place}
-use Rattle.markdown_tokenizer.specs.Reading.{fed}
-use Rattle.mdconstructs_tables.specs.Rows.{Row, row, enter, exit, consume, write, class_of}
-use Rattle.mdconstructs_machines.specs.Tables.{counts}
-use Rattle.mdconstructs_text.specs.Items.{passes, is_scheme_byte, is_allowed}
-use Rattle.mdconstructs_text.specs.TextCosts.{text_byte}
-use Rattle.mdconstructs_text.specs.TextEvents.{event}
-use Rattle.mdconstructs_text.specs.TextTable.{more_than, size_b_grows, scheme_goes_on, autolink_start_rows, autolink_open_rows, autolink_scheme_rows, autolink_url_rows}
 use Rattle.mdconstructs_text.proofs.Texts.Steps.{EndsWith, Leads, between_items, leads-called, leads-fed, leads-nok, before_class, waiting_class, WithRows}
 use Rattle.mdconstructs_text.proofs.Plain.Stretches.{in_spans, at_byte, seen, ReadsByte}
 use Rattle.mdconstructs_text.proofs.Plain.Items.{outer, WithRow}

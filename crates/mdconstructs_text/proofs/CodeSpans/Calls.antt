@@ -1,25 +1,6 @@
 -- Code spans, call by call.
-use Rattle.std.proofs.Common.{◌≡◌, ℕ, ◌+◌, ◌<◌, ◌∷◌, ◌++◌, [], List, Bool, true, false, cond, not, ◌==◌, refl, sym, ◌∙◌, ap, subst, Some, arith, length, drop, slice_get, ◌^◌}
-use Rattle.std.proofs.lemmas.Bool.{not-true, not-false}
-use Rattle.markdown_base.proofs.Common.{drop-next}
-use Rattle.markdown_base.specs.declared.event.Event.{Event}
-use Rattle.markdown_base.specs.declared.event.Kind.TheVariants.{Enter, Exit}
+use Rattle.mdconstructs_text.proofs.Prelude.{◌≡◌, ℕ, ◌+◌, ◌<◌, ◌∷◌, ◌++◌, [], List, Bool, true, false, cond, not, ◌==◌, refl, sym, ◌∙◌, ap, subst, Some, arith, length, drop, slice_get, ◌^◌, not-true, not-false, drop-next, Event, Enter, Exit, CodeText, CodeTextSequence, CodeTextData, LineEnding, Next, Retry, Ok, Nok, RawTextSequenceOpen, RawTextBetween, RawTextData, RawTextSequenceClose, RawFlowAfter, RawFlowBeforeContentChunk, RawFlowContentChunk, Seat, Byte, End, Attempt, Given, Text, Local, Choice, byte_of, end_place, point_or, end_or, Row, exit, class_of, counts, is_backtick, is_line_feed, is_backtick_or_line_feed, event, backtick, line_feed, text_byte, is_tick, ends_code_data, more_than, raw_text_sequence_open_rows, raw_text_between_rows, raw_text_data_rows, raw_text_sequence_close_rows, raw_flow_before_content_chunk_rows, raw_flow_content_chunk_rows}
 use Rattle.markdown_base.specs.declared.event.Name.{Name as EventName}
-use Rattle.markdown_base.specs.declared.event.Name.TheVariants.{CodeText, CodeTextSequence, CodeTextData, LineEnding}
-use Rattle.markdown_base.specs.declared.state.State.TheVariants.{Next, Retry, Ok, Nok}
-use Rattle.markdown_base.specs.declared.state.TheConstants.Name.{RawTextSequenceOpen, RawTextBetween, RawTextData, RawTextSequenceClose, RawFlowAfter, RawFlowBeforeContentChunk, RawFlowContentChunk}
-use Rattle.markdown_base.specs.Virtual.{Seat}
-use Rattle.markdown_tokenizer.specs.declared.waiting.Waits.TheVariants.{Byte, End}
-use Rattle.markdown_tokenizer.specs.declared.waiting.AttemptKind.TheVariants.{Attempt}
-use Rattle.markdown_tokenizer.specs.Text.{Given, Text}
-use Rattle.markdown_tokenizer.specs.Configuration.{Local, Choice}
-use Rattle.markdown_tokenizer.specs.Sight.{byte_of, end_place, point_or, end_or}
-use Rattle.mdconstructs_tables.specs.Rows.{Row, exit, class_of}
-use Rattle.mdconstructs_machines.specs.Tables.{counts}
-use Rattle.mdconstructs_text.specs.Items.{is_backtick, is_line_feed, is_backtick_or_line_feed}
-use Rattle.mdconstructs_text.specs.TextEvents.{event}
-use Rattle.mdconstructs_text.specs.TextCosts.{backtick, line_feed, text_byte, is_tick, ends_code_data}
-use Rattle.mdconstructs_text.specs.TextTable.{more_than, raw_text_sequence_open_rows, raw_text_between_rows, raw_text_data_rows, raw_text_sequence_close_rows, raw_flow_before_content_chunk_rows, raw_flow_content_chunk_rows}
 use Rattle.mdconstructs_text.proofs.Texts.Steps.{Leads, leads-called, before_class, waiting_class, WithRows}
 use Rattle.mdconstructs_text.proofs.Texts.LineEndings.{at-front}
 use Rattle.mdconstructs_text.proofs.Plain.Items.{WithRow}

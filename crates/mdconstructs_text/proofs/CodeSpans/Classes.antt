@@ -1,9 +1,5 @@
 -- The classes of bytes in code spans: backticks, line endings and data.
-use Rattle.std.proofs.Common.{◌≡◌, ℕ, Bool, true, false, cond, refl, ap, Some, arith, nat_lt, ◌==◌, ◌||◌}
-use Rattle.std.proofs.lemmas.Bool.Decides.{nat_tests}
-use Rattle.std.specs.Char.{is_ascii_punctuation, is_ascii_alphabetic, is_ascii_alphanumeric}
-use Rattle.mdconstructs_text.specs.Items.{is_backtick, is_line_feed, is_backtick_or_line_feed}
-use Rattle.mdconstructs_text.specs.TextCosts.{TextByte, line_feed, backtick, less, greater, backslash, colon, letter, digit, mark, punctuation, blank, other, text_byte, is_tick, ends_code_data}
+use Rattle.mdconstructs_text.proofs.Prelude.{◌≡◌, ℕ, Bool, true, false, cond, refl, ap, Some, arith, nat_lt, ◌==◌, ◌||◌, nat_tests, is_ascii_punctuation, is_ascii_alphabetic, is_ascii_alphanumeric, is_backtick, is_line_feed, is_backtick_or_line_feed, TextByte, line_feed, backtick, less, greater, backslash, colon, letter, digit, mark, punctuation, blank, other, text_byte, is_tick, ends_code_data}
 
 -- a class by which no data in a code span ends
 abbrev pub IsData : TextByte → Type 0

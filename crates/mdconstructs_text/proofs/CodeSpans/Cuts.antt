@@ -1,9 +1,5 @@
 -- Code spans, cut: the first piece in one, and the places of its parts.
-use Rattle.std.proofs.Common.{◌≡◌, ℕ, zero, suc, ◌+◌, ◌≤◌, ◌∷◌, List, sym, ◌∙◌, ap, arith, take, drop}
-use Rattle.std.proofs.lemmas.List.{drop-take, take-take, take-map}
-use Rattle.markdown_base.specs.Virtual.{Seat}
-use Rattle.mdconstructs_text.specs.Items.{Part, is_backtick_or_line_feed, part_length, part_at}
-use Rattle.mdconstructs_text.specs.TextEvents.{bytes_of, cut}
+use Rattle.mdconstructs_text.proofs.Prelude.{◌≡◌, ℕ, zero, suc, ◌+◌, ◌≤◌, ◌∷◌, List, sym, ◌∙◌, ap, arith, take, drop, drop-take, take-take, take-map, Seat, Part, is_backtick_or_line_feed, part_length, part_at, bytes_of, cut}
 use Rattle.mdconstructs_text.proofs.CodeSpans.FoundParts.{piece-positive, piece-within}
 
 -- the pieces of a code span, with a bound

@@ -1,21 +1,5 @@
 -- How the machine of texts reads the two backtick strings of a code span, and what is put back if the second is missing.
-use Rattle.std.proofs.Common.{◌≡◌, ℕ, ◌+◌, ◌^◌, ◌<◌, ◌∷◌, ◌++◌, [], List, Bool, true, false, cond, ◌==◌, refl, sym, ◌∙◌, ap, subst, Some, arith, length, take, drop, slice_get}
-use Rattle.std.proofs.lemmas.List.{append_assoc, take_at}
-use Rattle.std.proofs.lemmas.Bool.Decides.{nat_tests}
-use Rattle.markdown_base.proofs.Common.{drop-next}
-use Rattle.markdown_base.specs.declared.event.Event.{Event}
-use Rattle.markdown_base.specs.declared.event.Name.TheVariants.{CodeText, CodeTextSequence}
-use Rattle.markdown_base.specs.declared.state.State.TheVariants.{Next, Retry, Ok, Nok}
-use Rattle.markdown_base.specs.declared.state.TheConstants.Name.{TextBefore, TextBeforeData, RawTextStart, RawTextSequenceOpen, RawTextBetween, RawTextSequenceClose, RawFlowAfter}
-use Rattle.markdown_base.specs.Virtual.{Seat}
-use Rattle.markdown_tokenizer.specs.declared.waiting.Waits.TheVariants.{Nothing, Byte, End}
-use Rattle.markdown_tokenizer.specs.Text.{Given, Text}
-use Rattle.markdown_tokenizer.specs.Configuration.{Local, Choice}
-use Rattle.mdconstructs_machines.specs.Tables.{counts}
-use Rattle.mdconstructs_text.specs.Items.{is_backtick, backticks}
-use Rattle.mdconstructs_text.specs.TextEvents.{bytes_of, leaf}
-use Rattle.mdconstructs_text.specs.TextCosts.{backtick}
-use Rattle.mdconstructs_text.specs.TextTable.{text_before_rows, raw_text_start_rows, spans_code}
+use Rattle.mdconstructs_text.proofs.Prelude.{◌≡◌, ℕ, ◌+◌, ◌^◌, ◌<◌, ◌∷◌, ◌++◌, [], List, Bool, true, false, cond, ◌==◌, refl, sym, ◌∙◌, ap, subst, Some, arith, length, take, drop, slice_get, append_assoc, take_at, nat_tests, drop-next, Event, CodeText, CodeTextSequence, Next, Retry, Ok, Nok, TextBefore, TextBeforeData, RawTextStart, RawTextSequenceOpen, RawTextBetween, RawTextSequenceClose, RawFlowAfter, Seat, Nothing, Byte, End, Given, Text, Local, Choice, counts, is_backtick, backticks, bytes_of, leaf, backtick, text_before_rows, raw_text_start_rows, spans_code}
 use Rattle.mdconstructs_text.proofs.Texts.Steps.{EndsWith, Leads, between_items, leads-called, leads-fed, leads-ok, leads-nok, WithRows}
 use Rattle.mdconstructs_text.proofs.Texts.LineEndings.{at-front}
 use Rattle.mdconstructs_text.proofs.Plain.Items.{outer, leads-tried}

@@ -1,13 +1,5 @@
 -- The events of a code span, as the machine of texts makes them one after another.
-use Rattle.std.proofs.Common.{◌≡◌, ℕ, suc, ◌+◌, ◌-◌, ◌<◌, ◌≤◌, ◌∷◌, ◌++◌, [], List, sym, ◌∙◌, ap, arith, length, take, drop}
-use Rattle.std.proofs.lemmas.List.{append_assoc, length-take, drop-take, take-take}
-use Rattle.std.specs.List.{flat_map, between}
-use Rattle.markdown_base.specs.declared.event.Event.{Event}
-use Rattle.markdown_base.specs.declared.event.Name.TheVariants.{CodeText, CodeTextSequence, CodeTextData}
-use Rattle.markdown_base.specs.Virtual.{Seat}
-use Rattle.markdown_tokenizer.specs.Text.{Given, Text}
-use Rattle.mdconstructs_text.specs.Items.{code_span, is_backtick_or_line_feed, part_length, part_at}
-use Rattle.mdconstructs_text.specs.TextEvents.{leaf, part_events, pieces, item_events}
+use Rattle.mdconstructs_text.proofs.Prelude.{◌≡◌, ℕ, suc, ◌+◌, ◌-◌, ◌<◌, ◌≤◌, ◌∷◌, ◌++◌, [], List, sym, ◌∙◌, ap, arith, length, take, drop, append_assoc, length-take, drop-take, take-take, flat_map, between, Event, CodeText, CodeTextSequence, CodeTextData, Seat, Given, Text, code_span, is_backtick_or_line_feed, part_length, part_at, leaf, part_events, pieces, item_events}
 use Rattle.mdconstructs_text.proofs.Texts.Cutting.{cut-enough}
 use Rattle.mdconstructs_text.proofs.CodeSpans.FoundParts.{piece-positive}
 use Rattle.mdconstructs_text.proofs.CodeSpans.Steps.{span-is}

@@ -1,12 +1,5 @@
 -- The place of the backtick string that closes a code span: it is looked for from the front, a byte at a time.
-use Rattle.std.proofs.Common.{◌≡◌, ℕ, zero, suc, ◌+◌, ◌-◌, ◌<◌, ◌∷◌, [], List, Bool, true, false, cond, not, ◌&&◌, ◌||◌, ◌==◌, refl, sym, ◌∙◌, ap, subst, Option, Some, None, arith, length, take, drop, option_map, max}
-use Rattle.std.proofs.Math.Bool.{and-false}
-use Rattle.std.proofs.lemmas.List.{drop-drop}
-use Rattle.std.proofs.lemmas.Bool.{eqb-true}
-use Rattle.std.proofs.lemmas.Bool.Decides.{nat_tests}
-use Rattle.std.specs.List.{last_or, position_or_len, find, range_with_len}
-use Rattle.markdown_base.proofs.Common.{and-right}
-use Rattle.mdconstructs_text.specs.Items.{code_span, line_ending, plain_run, passes, ends_with, is_line_feed, is_backtick_or_line_feed, backticks, is_backtick_string, code_span_at, part_length, part_at, plain_length, is_backtick}
+use Rattle.mdconstructs_text.proofs.Prelude.{◌≡◌, ℕ, zero, suc, ◌+◌, ◌-◌, ◌<◌, ◌∷◌, [], List, Bool, true, false, cond, not, ◌&&◌, ◌||◌, ◌==◌, refl, sym, ◌∙◌, ap, subst, Option, Some, None, arith, length, take, drop, option_map, max, and-false, drop-drop, eqb-true, nat_tests, last_or, position_or_len, find, range_with_len, and-right, code_span, line_ending, plain_run, passes, ends_with, is_line_feed, is_backtick_or_line_feed, backticks, is_backtick_string, code_span_at, part_length, part_at, plain_length, is_backtick}
 
 -- the place of the first backtick string of exactly k, by whether a backtick precedes the front
 abbrev pub first_run : (k : ℕ) → (before : Bool) → List ℕ → Option ℕ

@@ -1,8 +1,5 @@
 -- The pieces of a code span, as they are cut from the text before the backtick string that closes it.
-use Rattle.std.proofs.Common.{◌≡◌, ℕ, zero, suc, ◌+◌, ◌-◌, ◌<◌, ◌≤◌, ◌∷◌, [], List, Bool, true, false, cond, not, ◌==◌, refl, sym, ◌∙◌, ap, arith, take, drop, max}
-use Rattle.std.proofs.lemmas.List.{drop-take}
-use Rattle.std.specs.List.{prefix_len, position_or_len}
-use Rattle.mdconstructs_text.specs.Items.{line_ending, plain_run, is_backtick, backticks, part_length, part_at, plain_length}
+use Rattle.mdconstructs_text.proofs.Prelude.{◌≡◌, ℕ, zero, suc, ◌+◌, ◌-◌, ◌<◌, ◌≤◌, ◌∷◌, [], List, Bool, true, false, cond, not, ◌==◌, refl, sym, ◌∙◌, ap, arith, take, drop, max, drop-take, prefix_len, position_or_len, line_ending, plain_run, is_backtick, backticks, part_length, part_at, plain_length}
 
 -- a prefix is as long if the list is cut behind it
 pub prefix-within : {X : Type 0} (p : X → Bool) (n : ℕ) (xs : List X) → prefix_len p xs ≤ n → prefix_len p (take n xs) ≡ prefix_len p xs

@@ -1,17 +1,5 @@
 -- Code spans as items: if one is there, it is read with its events; if not, data is read from its first backtick.
-use Rattle.std.proofs.Common.{◌≡◌, ℕ, suc, ◌+◌, ◌-◌, ◌^◌, ◌<◌, ◌≤◌, ◌∷◌, ◌++◌, [], List, Bool, true, false, refl, sym, ◌∙◌, ap, subst, Option, Some, None, arith, length, take, drop, option_map}
-use Rattle.std.proofs.lemmas.List.{append_assoc, drop-drop, length-drop}
-use Rattle.std.specs.List.{flat_map}
-use Rattle.markdown_base.specs.declared.event.Event.{Event}
-use Rattle.markdown_base.specs.declared.event.Name.TheVariants.{CodeText, CodeTextSequence, CodeTextData}
-use Rattle.markdown_base.specs.declared.state.State.TheVariants.{Next, Retry, Ok, Nok}
-use Rattle.markdown_base.specs.declared.state.TheConstants.Name.{TextBefore, TextBeforeData, RawTextBetween}
-use Rattle.markdown_base.specs.Virtual.{Seat}
-use Rattle.markdown_tokenizer.specs.declared.waiting.Waits.TheVariants.{Nothing, Byte}
-use Rattle.markdown_tokenizer.specs.Text.{Given, Text}
-use Rattle.markdown_tokenizer.specs.Configuration.{Local, Choice}
-use Rattle.mdconstructs_text.specs.Items.{Item, code_span, is_backtick, backticks, item_length, code_span_at, if_on, or_else}
-use Rattle.mdconstructs_text.specs.TextEvents.{bytes_of, leaf, part_events, item_events}
+use Rattle.mdconstructs_text.proofs.Prelude.{◌≡◌, ℕ, suc, ◌+◌, ◌-◌, ◌^◌, ◌<◌, ◌≤◌, ◌∷◌, ◌++◌, [], List, Bool, true, false, refl, sym, ◌∙◌, ap, subst, Option, Some, None, arith, length, take, drop, option_map, append_assoc, drop-drop, length-drop, flat_map, Event, CodeText, CodeTextSequence, CodeTextData, Next, Retry, Ok, Nok, TextBefore, TextBeforeData, RawTextBetween, Seat, Nothing, Byte, Given, Text, Local, Choice, Item, code_span, is_backtick, backticks, item_length, code_span_at, if_on, or_else, bytes_of, leaf, part_events, item_events}
 use Rattle.mdconstructs_text.proofs.Texts.Steps.{EndsWith, Leads, between_items}
 use Rattle.mdconstructs_text.proofs.Plain.Items.{outer}
 use Rattle.mdconstructs_text.proofs.CodeSpans.Found.{first_run, first-run-is, code-span-found}

@@ -1,21 +1,5 @@
 -- The pieces of a code span, as the machine of texts reads them: line endings, data, and runs that do not close it.
-use Rattle.std.proofs.Common.{◌≡◌, ℕ, zero, suc, ◌+◌, ◌-◌, ◌^◌, ◌<◌, ◌≤◌, ◌∷◌, ◌++◌, [], List, Bool, true, false, cond, not, ◌==◌, ◌||◌, refl, sym, ◌∙◌, ap, subst, arith, max, length, take, drop}
-use Rattle.std.proofs.lemmas.List.{append_assoc, take_at, drop-drop, length-drop, length-map}
-use Rattle.std.proofs.lemmas.List.Sums.{prefix_len-le-length}
-use Rattle.std.specs.List.{prefix_len, position_or_len}
-use Rattle.markdown_base.specs.declared.event.Event.{Event}
-use Rattle.markdown_base.specs.declared.event.Kind.TheVariants.{Enter, Exit}
-use Rattle.markdown_base.specs.declared.event.Name.TheVariants.{CodeTextSequence, CodeTextData, LineEnding}
-use Rattle.markdown_base.specs.declared.state.State.TheVariants.{Next, Retry, Nok}
-use Rattle.markdown_base.specs.declared.state.TheConstants.Name.{RawTextBetween, RawTextData, RawTextSequenceClose, RawFlowBeforeContentChunk, RawFlowContentChunk}
-use Rattle.markdown_base.specs.Virtual.{Seat}
-use Rattle.markdown_tokenizer.specs.declared.waiting.Waits.TheVariants.{Nothing, Byte, End}
-use Rattle.markdown_tokenizer.specs.Text.{Given, Text}
-use Rattle.markdown_tokenizer.specs.Configuration.{Local, Choice}
-use Rattle.markdown_tokenizer.specs.Sight.{point_or, end_or}
-use Rattle.mdconstructs_machines.specs.Tables.{counts}
-use Rattle.mdconstructs_text.specs.Items.{Part, line_ending, plain_run, is_line_feed, is_backtick, is_backtick_or_line_feed, backticks, part_length, plain_length}
-use Rattle.mdconstructs_text.specs.TextEvents.{bytes_of, event, leaf, part_events}
+use Rattle.mdconstructs_text.proofs.Prelude.{◌≡◌, ℕ, zero, suc, ◌+◌, ◌-◌, ◌^◌, ◌<◌, ◌≤◌, ◌∷◌, ◌++◌, [], List, Bool, true, false, cond, not, ◌==◌, ◌||◌, refl, sym, ◌∙◌, ap, subst, arith, max, length, take, drop, append_assoc, take_at, drop-drop, length-drop, length-map, prefix_len-le-length, prefix_len, position_or_len, Event, Enter, Exit, CodeTextSequence, CodeTextData, LineEnding, Next, Retry, Nok, RawTextBetween, RawTextData, RawTextSequenceClose, RawFlowBeforeContentChunk, RawFlowContentChunk, Seat, Nothing, Byte, End, Given, Text, Local, Choice, point_or, end_or, counts, Part, line_ending, plain_run, is_line_feed, is_backtick, is_backtick_or_line_feed, backticks, part_length, plain_length, bytes_of, event, leaf, part_events}
 use Rattle.mdconstructs_text.proofs.Texts.Steps.{EndsWith, Leads, leads-nok}
 use Rattle.mdconstructs_text.proofs.Texts.LineEndings.{at-front}
 use Rattle.mdconstructs_text.proofs.CodeSpans.Steps.{held, shows, past, passed, past-is, past-at, past-stops, passed-keeps, passed-counts, goes-next, leaf-is, loops}

@@ -1,11 +1,5 @@
 -- The rows of the states in code spans, by what waits.
-use Rattle.std.proofs.Common.{◌≡◌, ◌∷◌, [], true, false, Option, Some, None, refl}
-use Rattle.markdown_base.specs.declared.event.Name.TheVariants.{CodeTextData}
-use Rattle.markdown_base.specs.declared.state.State.TheVariants.{Next, Retry}
-use Rattle.markdown_base.specs.declared.state.TheConstants.Name.{RawTextBetween, RawTextData}
-use Rattle.mdconstructs_tables.specs.Rows.{enter, exit, consume, row}
-use Rattle.mdconstructs_text.specs.TextCosts.{TextByte, line_feed, backtick, less, greater, backslash, colon, letter, digit, mark, punctuation, blank, other, is_tick, ends_code_data}
-use Rattle.mdconstructs_text.specs.TextTable.{raw_text_between_rows, raw_text_data_rows, raw_flow_content_chunk_rows}
+use Rattle.mdconstructs_text.proofs.Prelude.{◌≡◌, ◌∷◌, [], true, false, Option, Some, None, refl, CodeTextData, Next, Retry, RawTextBetween, RawTextData, enter, exit, consume, row, TextByte, line_feed, backtick, less, greater, backslash, colon, letter, digit, mark, punctuation, blank, other, is_tick, ends_code_data, raw_text_between_rows, raw_text_data_rows, raw_flow_content_chunk_rows}
 use Rattle.mdconstructs_text.proofs.CodeSpans.Classes.{IsData}
 
 -- data begins, and is read

@@ -1,16 +1,5 @@
 -- The virtual bytes of a text can be counted, and so can the runs of backticks among them.
-use Rattle.std.proofs.Common.{◌≡◌, ℕ, zero, suc, ◌+◌, ◌-◌, ◌*◌, ◌%◌, ◌^◌, ◌<◌, ◌≤◌, ◌∷◌, ◌++◌, [], List, Bool, true, false, cond, not, ◌&&◌, ◌||◌, ◌==◌, refl, sym, ◌∙◌, ap, subst, inl, inr, arith, length, length-append}
-use Rattle.std.proofs.Math.Nat.{mul-suc}
-use Rattle.std.proofs.lemmas.Bool.{and_parts}
-use Rattle.std.specs.Prelude.{filter}
-use Rattle.std.specs.List.{list_all, AllByRecursion}
-use Rattle.markdown_base.proofs.Common.{or-leads}
-use Rattle.markdown_base.specs.declared.event.Point.{Point}
-use Rattle.markdown_base.specs.Virtual.{Seat, tab_width, in_tab, begins_with_lf, virtual_from, virtual}
-use Rattle.markdown_base.specs.Places.{stands_before, is_upto, denotes_same, in_range}
-use Rattle.markdown_tokenizer.specs.Text.{Given, Text, Piece, pushed, passed, IsText, empty_text, followed_by, followed_by_all, FitsAfter, CanFollow}
-use Rattle.markdown_tokenizer.proofs.Positions.Order.{after-before, before-upto, every-all, filter-same}
-use Rattle.markdown_tokenizer.proofs.Positions.Cursors.{same-before}
+use Rattle.mdconstructs_text.proofs.Prelude.{◌≡◌, ℕ, zero, suc, ◌+◌, ◌-◌, ◌*◌, ◌%◌, ◌^◌, ◌<◌, ◌≤◌, ◌∷◌, ◌++◌, [], List, Bool, true, false, cond, not, ◌&&◌, ◌||◌, ◌==◌, refl, sym, ◌∙◌, ap, subst, inl, inr, arith, length, length-append, mul-suc, and_parts, filter, list_all, AllByRecursion, or-leads, Point, Seat, tab_width, in_tab, begins_with_lf, virtual_from, virtual, stands_before, is_upto, denotes_same, in_range, Given, Text, Piece, pushed, passed, IsText, empty_text, followed_by, followed_by_all, FitsAfter, CanFollow, after-before, before-upto, every-all, filter-same, same-before}
 use Rattle.mdconstructs_text.proofs.CodeSpans.Walks.{RunsAreShort}
 use Rattle.mdconstructs_text.proofs.CodeSpans.Items.{runs-are-short}
 

@@ -1,25 +1,7 @@
 -- How the machine of texts reads on over bytes that one state reads, one after another.
-use Rattle.std.proofs.Common.{◌≡◌, ℕ, zero, suc, ◌+◌, ◌-◌, ◌^◌, ◌<◌, ◌≤◌, ◌∷◌, ◌++◌, [], List, Bool, true, false, cond, refl, sym, ◌∙◌, ap, subst, Option, Some, arith, length, take, drop, slice_get}
-use Rattle.std.proofs.lemmas.Bool.{le-ltb}
-use Rattle.std.proofs.lemmas.List.{drop-drop, length-drop}
-use Rattle.std.proofs.lemmas.Option.{slice_get_within}
-use Rattle.std.specs.List.{prefix_len}
-use Rattle.markdown_base.proofs.Common.{drop-next}
-use Rattle.markdown_base.specs.declared.event.Event.{Event}
-use Rattle.markdown_base.specs.declared.event.Kind.TheVariants.{Enter, Exit}
+use Rattle.mdconstructs_text.proofs.Prelude.{◌≡◌, ℕ, zero, suc, ◌+◌, ◌-◌, ◌^◌, ◌<◌, ◌≤◌, ◌∷◌, ◌++◌, [], List, Bool, true, false, cond, refl, sym, ◌∙◌, ap, subst, Option, Some, arith, length, take, drop, slice_get, le-ltb, drop-drop, length-drop, slice_get_within, prefix_len, drop-next, Event, Enter, Exit, Name, Next, Retry, Seat, Waits, Nothing, Byte, End, Given, Text, Configuration, Local, Choice, fed, byte_of, end_place, point_or, Rows, class_of, bytes_of, event, leaf, TextByte, text_byte}
 use Rattle.markdown_base.specs.declared.event.Name.{Name as EventName}
-use Rattle.markdown_base.specs.declared.state.Name.{Name}
-use Rattle.markdown_base.specs.declared.state.State.TheVariants.{Next, Retry}
-use Rattle.markdown_base.specs.Virtual.{Seat}
-use Rattle.markdown_tokenizer.specs.declared.waiting.Waits.{Waits}
-use Rattle.markdown_tokenizer.specs.declared.waiting.Waits.TheVariants.{Nothing, Byte, End}
-use Rattle.markdown_tokenizer.specs.Text.{Given, Text}
-use Rattle.markdown_tokenizer.specs.Configuration.{Configuration, Local, Choice}
-use Rattle.markdown_tokenizer.specs.Reading.{fed}
-use Rattle.markdown_tokenizer.specs.Sight.{byte_of, end_place, point_or}
-use Rattle.mdconstructs_tables.specs.Rows.{Rows, class_of}
-use Rattle.mdconstructs_text.specs.TextEvents.{bytes_of, event, leaf, span}
-use Rattle.mdconstructs_text.specs.TextCosts.{TextByte, text_byte}
+use Rattle.mdconstructs_text.specs.TextEvents.{span}
 use Rattle.mdconstructs_text.proofs.Texts.Steps.{EndsWith, Leads, leads-fed, fed-is, before_class, waiting_class}
 use Rattle.mdconstructs_text.proofs.Texts.LineEndings.{at-front}
 use Rattle.mdconstructs_text.proofs.Plain.Stretches.{end-behind}

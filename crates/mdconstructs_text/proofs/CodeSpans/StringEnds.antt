@@ -1,12 +1,5 @@
 -- If no backtick waits, a run of backticks has ended.
-use Rattle.std.proofs.Common.{◌≡◌, [], ◌∷◌, true, false, Option, Some, None, refl}
-use Rattle.markdown_base.specs.declared.event.Name.TheVariants.{CodeText, CodeTextSequence}
-use Rattle.markdown_base.specs.declared.state.State.TheVariants.{Retry, Ok, Nok}
-use Rattle.markdown_base.specs.declared.state.TheConstants.Name.{RawTextBetween}
-use Rattle.mdconstructs_tables.specs.Rows.{exit, row, when}
-use Rattle.mdconstructs_tables.specs.RowTest.{allows_all, start_shape}
-use Rattle.mdconstructs_text.specs.TextCosts.{TextByte, backtick, line_feed, less, greater, backslash, colon, letter, digit, mark, punctuation, blank, other, is_tick}
-use Rattle.mdconstructs_text.specs.TextTable.{sizes_are_equal, raw_text_sequence_open_rows, raw_text_sequence_open, raw_text_sequence_close_rows, raw_text_sequence_close}
+use Rattle.mdconstructs_text.proofs.Prelude.{◌≡◌, [], ◌∷◌, true, false, Option, Some, None, refl, CodeText, CodeTextSequence, Retry, Ok, Nok, RawTextBetween, exit, row, when, allows_all, start_shape, TextByte, backtick, line_feed, less, greater, backslash, colon, letter, digit, mark, punctuation, blank, other, is_tick, sizes_are_equal, raw_text_sequence_open_rows, raw_text_sequence_open, raw_text_sequence_close_rows, raw_text_sequence_close}
 
 -- the rows of the states that read one, and that its span may end
 abbrev pub HasEnded : (before waits : Option TextByte) → Type 0

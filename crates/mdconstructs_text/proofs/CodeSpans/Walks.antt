@@ -1,17 +1,5 @@
 -- The inside of a code span, as the machine of texts reads it: up to the backtick string that closes it, or to the end.
-use Rattle.std.proofs.Common.{◌≡◌, ℕ, zero, suc, ◌+◌, ◌^◌, ◌<◌, ◌≤◌, ◌∷◌, ◌++◌, [], List, true, false, ◌==◌, refl, sym, ◌∙◌, ap, subst, Option, Some, None, arith, length, take, drop}
-use Rattle.std.proofs.lemmas.List.{append-nil, append_assoc, drop-drop}
-use Rattle.std.specs.List.{flat_map}
-use Rattle.markdown_base.specs.declared.event.Event.{Event}
-use Rattle.markdown_base.specs.declared.event.Name.TheVariants.{CodeTextData}
-use Rattle.markdown_base.specs.declared.state.State.TheVariants.{Retry, Nok}
-use Rattle.markdown_base.specs.declared.state.TheConstants.Name.{RawTextBetween}
-use Rattle.markdown_base.specs.Virtual.{Seat}
-use Rattle.markdown_tokenizer.specs.Text.{Given, Text}
-use Rattle.markdown_tokenizer.specs.Configuration.{Local, Choice}
-use Rattle.mdconstructs_machines.specs.Tables.{counts}
-use Rattle.mdconstructs_text.specs.Items.{is_backtick_or_line_feed, backticks, part_length}
-use Rattle.mdconstructs_text.specs.TextEvents.{bytes_of, part_events}
+use Rattle.mdconstructs_text.proofs.Prelude.{◌≡◌, ℕ, zero, suc, ◌+◌, ◌^◌, ◌<◌, ◌≤◌, ◌∷◌, ◌++◌, [], List, true, false, ◌==◌, refl, sym, ◌∙◌, ap, subst, Option, Some, None, arith, length, take, drop, append-nil, append_assoc, drop-drop, flat_map, Event, CodeTextData, Retry, Nok, RawTextBetween, Seat, Given, Text, Local, Choice, counts, is_backtick_or_line_feed, backticks, part_length, bytes_of, part_events}
 use Rattle.mdconstructs_text.proofs.Texts.Cutting.{drop-less}
 use Rattle.mdconstructs_text.proofs.Texts.Steps.{EndsWith, Leads}
 use Rattle.mdconstructs_text.proofs.CodeSpans.Found.{first_run, further, passes-piece, first-here}

@@ -1,21 +1,7 @@
 -- Events cut into atoms: an innermost span within one line, with the enters before it and the exits behind it at its places.
-use Rattle.std.proofs.Common.{◌≡◌, ℕ, ◌∷◌, ◌++◌, [], List, true, false, ◌⊎◌, inl, inr, refl, sym, ◌∙◌, ap, subst}
-use Rattle.std.specs.Prelude.{map}
-use Rattle.std.specs.List.{flat_map, AllByRecursion}
-use Rattle.std.proofs.lemmas.Grind.{flat_map-append}
-use Rattle.std.proofs.lemmas.List.{append_assoc, append-nil, map-append}
-use Rattle.markdown_base.proofs.Common.{every-append}
-use Rattle.markdown_base.proofs.Seats.{end-after-append}
-use Rattle.markdown_base.specs.declared.event.Event.{Event}
-use Rattle.markdown_base.specs.declared.event.Kind.TheVariants.{Enter, Exit}
+use Rattle.mdconstructs_text.proofs.Prelude.{◌≡◌, ℕ, ◌∷◌, ◌++◌, [], List, true, false, ◌⊎◌, inl, inr, refl, sym, ◌∙◌, ap, subst, map, flat_map, AllByRecursion, flat_map-append, append_assoc, append-nil, map-append, every-append, end-after-append, Event, Enter, Exit, Point, shown, Seat, end_after, AccountFor, is_line_ending, enter-more, exit-more, span-more}
 use Rattle.markdown_base.specs.declared.event.Name.{Name}
-use Rattle.markdown_base.specs.declared.event.Point.{Point}
-use Rattle.markdown_base.specs.Places.{shown}
-use Rattle.markdown_base.specs.Virtual.{Seat, end_after}
-use Rattle.mdconstructs_machines.specs.Innermost.{AccountFor}
-use Rattle.mdconstructs_machines.specs.LineEvents.{is_line_ending}
 use Rattle.mdconstructs_machines.specs.Spans.{event, span, leaf}
-use Rattle.mdconstructs_machines.proofs.Innermost.{enter-more, exit-more, span-more}
 
 -- no line ending but at the end
 abbrev pub OneLine : List Seat → Type 0

@@ -1,15 +1,6 @@
 -- The virtual bytes of the text of a chain are those of its chunks.
-use Rattle.std.proofs.Common.{◌≡◌, ℕ, ◌+◌, ◌∷◌, ◌++◌, [], List, Bool, true, false, cond, refl, sym, ◌∙◌, ap, append_assoc}
-use Rattle.std.specs.Prelude.{filter}
-use Rattle.std.specs.List.{flat_map}
-use Rattle.std.proofs.lemmas.List.{append-nil}
-use Rattle.markdown_base.specs.declared.event.Event.{Event}
-use Rattle.markdown_base.specs.declared.event.Point.{Point}
-use Rattle.markdown_base.specs.Places.{denotes_same, in_range}
-use Rattle.markdown_base.specs.Virtual.{Seat, virtual}
-use Rattle.markdown_children.specs.Ready.{place_at}
-use Rattle.markdown_children.specs.Reads.{pieces_behind, text_of_chain}
-use Rattle.markdown_tokenizer.specs.Text.{Given, Text, pushed, passed, empty_text, followed_by, followed_by_all}
+use Rattle.mdconstructs_text.proofs.Prelude.{◌≡◌, ℕ, ◌+◌, ◌∷◌, ◌++◌, [], List, Bool, true, false, cond, refl, sym, ◌∙◌, ap, filter, flat_map, append-nil, Event, Point, denotes_same, in_range, Seat, virtual, place_at, pieces_behind, text_of_chain, Given, Text, pushed, passed, empty_text, followed_by, followed_by_all}
+use Rattle.std.proofs.Common.{append_assoc}
 
 module _ (g : Given) (events : List Event) where
   -- the virtual bytes of the chunk at an index

@@ -2,32 +2,9 @@
 --
 -- Between two chunks of a chain is nothing, or a mark at the beginning of a line. Each innermost span of the child is within one line. So a
 -- mark never comes between the enter and the exit of one.
-use Rattle.std.proofs.Common.{◌≡◌, ℕ, suc, ◌+◌, ◌<◌, ◌≤◌, ◌∷◌, ◌++◌, [], List, true, false, Some, inl, inr, sym, ◌∙◌, ap, subst, arith, drop, length, append_assoc}
-use Rattle.std.specs.Prelude.{map}
-use Rattle.std.specs.List.{between, flat_map, AllByRecursion}
-use Rattle.std.proofs.lemmas.Grind.{flat_map-append}
-use Rattle.std.proofs.lemmas.List.{append-nil, append_cancel_left}
-use Rattle.markdown_base.proofs.Common.{every-map, every-append}
-use Rattle.markdown_base.proofs.Seats.{end-after-append}
+use Rattle.mdconstructs_text.proofs.Prelude.{◌≡◌, ℕ, suc, ◌+◌, ◌<◌, ◌≤◌, ◌∷◌, ◌++◌, [], List, true, false, Some, inl, inr, sym, ◌∙◌, ap, subst, arith, drop, length, map, between, flat_map, AllByRecursion, flat_map-append, append-nil, append_cancel_left, every-map, every-append, end-after-append, Event, Point, stands_before, Seat, virtual, end_after, next_of, Change, Given, IsChain, later-later, every-back, fits, part_changes, tagged_child, AreSpaced, LeadOnFrom, front_until, parts, IsReady, place_at, fits_next, length-parts, length-map_ends, after_changes, after-step, untagged-child, AccountFor}
+use Rattle.std.proofs.Common.{append_assoc}
 use Rattle.markdown_base.specs.declared.event.Content.TheVariants.{Text as TextContent}
-use Rattle.markdown_base.specs.declared.event.Event.{Event}
-use Rattle.markdown_base.specs.declared.event.Point.{Point}
-use Rattle.markdown_base.specs.Places.{stands_before}
-use Rattle.markdown_base.specs.Virtual.{Seat, virtual, end_after}
-use Rattle.markdown_edits.specs.Links.{next_of}
-use Rattle.markdown_edits.specs.Woven.{Change}
-use Rattle.markdown_tokenizer.specs.Text.{Given}
-use Rattle.markdown_tokenizer.proofs.Positions.Chains.{IsChain}
-use Rattle.markdown_tokenizer.proofs.Positions.Order.{later-later, every-back}
-use Rattle.markdown_children.specs.Chains.{fits}
-use Rattle.markdown_children.specs.Children.{part_changes, tagged_child}
-use Rattle.markdown_children.specs.Laws.{AreSpaced, LeadOnFrom}
-use Rattle.markdown_children.specs.Parts.{front_until, parts}
-use Rattle.markdown_children.specs.Ready.{IsReady, place_at}
-use Rattle.markdown_children.proofs.ChainOrder.Following.{fits_next}
-use Rattle.markdown_children.proofs.ChainOrder.Spaced.{length-parts, length-map_ends}
-use Rattle.markdown_children.proofs.Parts.Kept.{after_changes, after-step, untagged-child}
-use Rattle.mdconstructs_machines.specs.Innermost.{AccountFor}
 use Rattle.mdconstructs_text.proofs.DeepSpans.Atoms.{Atom, seats_of, atom_events, events_of, InOneLine, EndsLine, EntersAt, IsCut, atoms-more, atoms-enter, cut-atoms}
 use Rattle.mdconstructs_text.proofs.DeepSpans.ChainText.{chunk_seats}
 use Rattle.mdconstructs_text.proofs.DeepSpans.Chunks.{Stands, HasChunk, has-chunk, place_behind}

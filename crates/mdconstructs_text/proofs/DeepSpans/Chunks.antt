@@ -1,21 +1,7 @@
 -- Chunks of a list whose events account for a document: each is over its virtual bytes.
-use Rattle.std.proofs.Common.{◌≡◌, ℕ, suc, ◌+◌, ◌<◌, ◌≤◌, ◌∷◌, ◌++◌, List, true, Some, sym, ◌∙◌, ap, subst, arith, drop, append_assoc}
-use Rattle.std.specs.Prelude.{filter, slice_get}
-use Rattle.std.specs.List.{between}
-use Rattle.markdown_base.proofs.Common.{drop-at}
-use Rattle.markdown_base.proofs.Seats.{end-after-append}
+use Rattle.mdconstructs_text.proofs.Prelude.{◌≡◌, ℕ, suc, ◌+◌, ◌<◌, ◌≤◌, ◌∷◌, ◌++◌, List, true, Some, sym, ◌∙◌, ap, subst, arith, drop, filter, slice_get, between, drop-at, end-after-append, Event, Point, shown, in_range, Seat, virtual, end_after, Given, IsChain, fits, IsReady, IsChunk, place_at, chunk, split-at, AccountFor}
+use Rattle.std.proofs.Common.{append_assoc}
 use Rattle.markdown_base.specs.declared.event.Content.TheVariants.{Text as TextContent}
-use Rattle.markdown_base.specs.declared.event.Event.{Event}
-use Rattle.markdown_base.specs.declared.event.Point.{Point}
-use Rattle.markdown_base.specs.Places.{shown, in_range}
-use Rattle.markdown_base.specs.Virtual.{Seat, virtual, end_after}
-use Rattle.markdown_tokenizer.specs.Text.{Given}
-use Rattle.markdown_tokenizer.proofs.Positions.Chains.{IsChain}
-use Rattle.markdown_children.specs.Chains.{fits}
-use Rattle.markdown_children.specs.Ready.{IsReady, IsChunk, place_at}
-use Rattle.markdown_children.proofs.ChainOrder.Following.{chunk}
-use Rattle.markdown_children.proofs.Parts.Kept.{split-at}
-use Rattle.mdconstructs_machines.specs.Innermost.{AccountFor}
 use Rattle.mdconstructs_text.proofs.DeepSpans.ChainText.{chunk_seats}
 use Rattle.mdconstructs_text.proofs.DeepSpans.Places.{origin, place-shown, chain-from, range-of}
 use Rattle.mdconstructs_text.proofs.DeepSpans.Spans.{span-in}

@@ -1,11 +1,7 @@
 -- Data of each line can be cut into atoms.
-use Rattle.std.proofs.Common.{◌≡◌, ℕ, ◌∷◌, [], List, Bool, true, false, cond, not, refl, sym, subst}
-use Rattle.std.specs.List.{flat_map, AllByRecursion}
-use Rattle.markdown_base.specs.declared.event.Name.TheVariants.{Data, LineEnding}
-use Rattle.markdown_base.specs.Virtual.{Seat}
-use Rattle.mdconstructs_machines.specs.LineEvents.{is_line_ending, joined, lines_in, line_text, ending_of, data_line, data_events}
+use Rattle.mdconstructs_text.proofs.Prelude.{◌≡◌, ℕ, ◌∷◌, [], List, Bool, true, false, cond, not, refl, sym, subst, flat_map, AllByRecursion, Data, LineEnding, Seat, is_line_ending, joined, lines_in, line_text, ending_of, data_line, data_events, both}
 use Rattle.mdconstructs_machines.specs.Spans.{leaf}
-use Rattle.mdconstructs_machines.proofs.LineReads.Accounts.{both, lines-are-all}
+use Rattle.mdconstructs_machines.proofs.LineReads.Accounts.{lines-are-all}
 use Rattle.mdconstructs_text.proofs.DeepSpans.Atoms.{OneLine, IsCut, cut-none, cut-append, cut-leaf}
 
 -- no line ending is among these

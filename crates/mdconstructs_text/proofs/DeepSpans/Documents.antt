@@ -1,12 +1,5 @@
 -- A document's blocks, with the children of their chains of text, account for each virtual byte.
-use Rattle.std.proofs.Common.{ℕ, List, ◌<◌, arith}
-use Rattle.markdown_base.specs.declared.event.Event.{Event}
-use Rattle.markdown_base.specs.Virtual.{virtual}
-use Rattle.markdown_tokenizer.specs.Text.{Given, IsDocument}
-use Rattle.mdconstructs_machines.specs.Innermost.{AccountFor}
-use Rattle.mdconstructs_machines.specs.ParagraphEvents.{paragraph_events}
-use Rattle.mdconstructs_machines.proofs.BlockReads.Accounts.{paragraphs-account}
-use Rattle.mdconstructs_text.specs.ChainTexts.{chain_text, with_read}
+use Rattle.mdconstructs_text.proofs.Prelude.{ℕ, List, ◌<◌, arith, Event, virtual, Given, IsDocument, AccountFor, paragraph_events, paragraphs-account, chain_text, with_read}
 use Rattle.mdconstructs_text.proofs.DeepSpans.Atoms.{IsCut}
 use Rattle.mdconstructs_text.proofs.DeepSpans.Whole.{with-read-accounts}
 use Rattle.mdconstructs_text.proofs.Paragraphs.Ready.{document-readable}

@@ -1,13 +1,5 @@
 -- The leading events up to a place.
-use Rattle.std.proofs.Common.{◌≡◌, ◌∷◌, ◌++◌, [], List, Bool, true, false, cond, not, refl, sym, ◌∙◌, ap, subst, length, drop}
-use Rattle.std.specs.List.{AllByRecursion}
-use Rattle.std.proofs.lemmas.List.{append-nil}
-use Rattle.std.proofs.lemmas.List.Sums.{take_while-cons}
-use Rattle.markdown_base.specs.declared.event.Event.{Event}
-use Rattle.markdown_base.specs.declared.event.Point.{Point}
-use Rattle.markdown_base.specs.Places.{stands_before}
-use Rattle.markdown_children.specs.Parts.{front_until}
-use Rattle.markdown_children.proofs.Parts.Kept.{joined-parts}
+use Rattle.mdconstructs_text.proofs.Prelude.{◌≡◌, ◌∷◌, ◌++◌, [], List, Bool, true, false, cond, not, refl, sym, ◌∙◌, ap, subst, length, drop, AllByRecursion, append-nil, take_while-cons, Event, Point, stands_before, front_until, joined-parts}
 
 -- the event is not behind the place
 abbrev pub Upto : Point → Event → Type 0

@@ -1,20 +1,7 @@
 -- Places of stretches of a document, one behind another.
-use Rattle.std.proofs.Common.{◌≡◌, ℕ, ◌<◌, ◌==◌, ◌∷◌, ◌++◌, [], List, Bool, true, false, refl, sym, ◌∙◌, ap, subst, arith, append_assoc}
-use Rattle.std.specs.Prelude.{filter, map}
-use Rattle.std.specs.List.{AllByRecursion}
-use Rattle.std.proofs.lemmas.List.{append_cancel_left, append_cancel_right}
-use Rattle.markdown_base.proofs.Common.{every-append}
-use Rattle.markdown_base.proofs.Seats.{end-after-append}
-use Rattle.markdown_base.specs.declared.event.Event.{Event}
-use Rattle.markdown_base.specs.declared.event.Kind.TheVariants.{Enter, Exit}
+use Rattle.mdconstructs_text.proofs.Prelude.{◌≡◌, ℕ, ◌<◌, ◌==◌, ◌∷◌, ◌++◌, [], List, Bool, true, false, refl, sym, ◌∙◌, ap, subst, arith, filter, map, AllByRecursion, append_cancel_left, append_cancel_right, every-append, end-after-append, Event, Enter, Exit, Point, stands_before, shown, in_range, Seat, point, virtual, end_after, before-upto, upto-before, every-front, IsChain, whole-chain, upto-order, left_of, chain-at, chain-split, chain-upto, place-after, rest-after}
+use Rattle.std.proofs.Common.{append_assoc}
 use Rattle.markdown_base.specs.declared.event.Name.{Name}
-use Rattle.markdown_base.specs.declared.event.Point.{Point}
-use Rattle.markdown_base.specs.Places.{stands_before, shown, in_range}
-use Rattle.markdown_base.specs.Virtual.{Seat, point, virtual, end_after}
-use Rattle.markdown_tokenizer.proofs.Positions.Order.{before-upto, upto-before, every-front}
-use Rattle.markdown_tokenizer.proofs.Positions.Chains.{IsChain, whole-chain}
-use Rattle.markdown_tokenizer.proofs.Positions.Cursors.{upto-order, left_of}
-use Rattle.markdown_tokenizer.proofs.Positions.Standing.{chain-at, chain-split, chain-upto, place-after, rest-after}
 use Rattle.mdconstructs_machines.specs.Spans.{event}
 use Rattle.mdconstructs_text.proofs.Autolinks.Places.{EndsInLine, chain-in-line, before-grows, range-is}
 use Rattle.mdconstructs_text.proofs.DeepSpans.Fronts.{Upto}

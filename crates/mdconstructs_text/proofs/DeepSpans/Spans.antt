@@ -1,17 +1,5 @@
 -- Innermost spans of events, one list behind another.
-use Rattle.std.proofs.Common.{◌≡◌, ℕ, ◌∷◌, ◌++◌, [], List, Bool, true, false, cond, refl, sym, ◌∙◌, ap}
-use Rattle.std.specs.Prelude.{map}
-use Rattle.std.specs.List.{flat_map}
-use Rattle.std.proofs.lemmas.Grind.{flat_map-append}
-use Rattle.std.proofs.lemmas.List.{append_assoc, map-append}
-use Rattle.markdown_base.specs.declared.event.Event.{Event}
-use Rattle.markdown_base.specs.declared.event.Kind.{Kind}
-use Rattle.markdown_base.specs.declared.event.Kind.TheVariants.{Enter, Exit}
-use Rattle.markdown_base.specs.declared.event.Point.{Point}
-use Rattle.markdown_base.specs.Events.{is_enter}
-use Rattle.markdown_base.specs.Places.{shown}
-use Rattle.markdown_base.specs.Virtual.{Seat, end_after}
-use Rattle.mdconstructs_machines.specs.Innermost.{innermost_spans, ended_next, stretch_bytes, span_over, AccountFor}
+use Rattle.mdconstructs_text.proofs.Prelude.{◌≡◌, ℕ, ◌∷◌, ◌++◌, [], List, Bool, true, false, cond, refl, sym, ◌∙◌, ap, map, flat_map, flat_map-append, append_assoc, map-append, Event, Kind, Enter, Exit, Point, is_enter, shown, Seat, end_after, innermost_spans, ended_next, stretch_bytes, span_over, AccountFor}
 
 -- The first of these events is an enter
 pub record Enters (events : List Event) : Type 0 where

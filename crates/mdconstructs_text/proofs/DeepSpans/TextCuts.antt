@@ -1,17 +1,6 @@
 -- The events of a text can be cut into atoms: no innermost span of an item goes over a line ending.
-use Rattle.std.proofs.Common.{◌≡◌, ℕ, zero, suc, ◌+◌, ◌-◌, ◌<◌, ◌≤◌, ◌==◌, ◌&&◌, ◌∷◌, ◌++◌, [], List, Bool, true, false, cond, not, Option, Some, None, refl, sym, ◌∙◌, ap, subst, arith, length, take, drop, max, option_map, slice_get}
-use Rattle.std.specs.List.{flat_map, between, find, prefix_len, position_or_len, range_with_len}
-use Rattle.std.proofs.lemmas.Bool.{eqb-true}
-use Rattle.std.proofs.lemmas.List.{drop-drop, drop-take, take-take, take-append-drop, drop-map}
-use Rattle.markdown_base.proofs.Common.{and-right}
-use Rattle.markdown_base.specs.declared.configuration.Constructs.{Constructs}
-use Rattle.markdown_base.specs.declared.event.Event.{Event}
+use Rattle.mdconstructs_text.proofs.Prelude.{◌≡◌, ℕ, zero, suc, ◌+◌, ◌-◌, ◌<◌, ◌≤◌, ◌==◌, ◌&&◌, ◌∷◌, ◌++◌, [], List, Bool, true, false, cond, not, Option, Some, None, refl, sym, ◌∙◌, ap, subst, arith, length, take, drop, max, option_map, slice_get, flat_map, between, find, prefix_len, position_or_len, range_with_len, eqb-true, drop-drop, drop-take, take-take, take-append-drop, drop-map, and-right, Constructs, Event, Data, LineEnding, CodeText, CodeTextSequence, CodeTextData, Autolink, AutolinkMarker, AutolinkProtocol, CharacterEscape, CharacterEscapeMarker, CharacterEscapeValue, Seat, Given, Text, line_ending, plain_run, Item, code_span, autolink, escape, part_length, item_length, passes, has_byte_at, is_backtick, is_backtick_or_line_feed, is_special, is_colon, is_less_than, is_greater_than, is_scheme, is_scheme_byte, is_allowed, backticks, is_backtick_string, before_backtick_string, code_span_at, uri, autolink_to, autolink_at, escape_at, plain_length, part_at, item_at, if_on, or_else, bytes_of, cut, pieces, part_events, item_events, text_events, leaf}
 use Rattle.markdown_base.specs.declared.event.Name.{Name}
-use Rattle.markdown_base.specs.declared.event.Name.TheVariants.{Data, LineEnding, CodeText, CodeTextSequence, CodeTextData, Autolink, AutolinkMarker, AutolinkProtocol, CharacterEscape, CharacterEscapeMarker, CharacterEscapeValue}
-use Rattle.markdown_base.specs.Virtual.{Seat}
-use Rattle.markdown_tokenizer.specs.Text.{Given, Text}
-use Rattle.mdconstructs_text.specs.Items.{line_ending, plain_run, Item, code_span, autolink, escape, part_length, item_length, passes, has_byte_at, is_backtick, is_backtick_or_line_feed, is_special, is_colon, is_less_than, is_greater_than, is_scheme, is_scheme_byte, is_allowed, backticks, is_backtick_string, before_backtick_string, code_span_at, uri, autolink_to, autolink_at, escape_at, plain_length, part_at, item_at, if_on, or_else}
-use Rattle.mdconstructs_text.specs.TextEvents.{bytes_of, cut, pieces, part_events, item_events, text_events, leaf}
 use Rattle.mdconstructs_text.proofs.CodeSpans.FoundParts.{piece-positive}
 use Rattle.mdconstructs_text.proofs.DeepSpans.Atoms.{OneLine, IsCut, cut-none, cut-append, cut-leaf, cut-span}
 use Rattle.mdconstructs_text.proofs.DeepSpans.DataCuts.{NoEnding, plain-line}

@@ -1,26 +1,6 @@
 -- A list that accounts for a document does so with the children of its chains of text too.
-use Rattle.std.proofs.Common.{◌≡◌, ℕ, ◌+◌, ◌<◌, ◌∷◌, ◌++◌, [], List, true, Some, cond, refl, sym, ◌∙◌, ap, subst, arith, drop, length}
-use Rattle.std.specs.Prelude.{map}
-use Rattle.std.specs.List.{flat_map, AllByRecursion, range_with_len}
+use Rattle.mdconstructs_text.proofs.Prelude.{◌≡◌, ℕ, ◌+◌, ◌<◌, ◌∷◌, ◌++◌, [], List, true, Some, cond, refl, sym, ◌∙◌, ap, subst, arith, drop, length, map, flat_map, AllByRecursion, range_with_len, Event, is_enter, Seat, virtual, next_of, Tagged, Change, woven, placed_in, AreApart, woven-pass, Given, fits, chain_of, fitting_starts, chain_changes, child_changes, AreSpaced, IsWholeFrom, parts, divided_over, IsReady, place_at, text_of_chain, starts_fit, follow_one_another, changes_are_apart, untagged, untagged-olds, AccountFor, innermost_spans, chain_text, with_read}
 use Rattle.markdown_base.specs.declared.event.Content.TheVariants.{Text as TextContent}
-use Rattle.markdown_base.specs.declared.event.Event.{Event}
-use Rattle.markdown_base.specs.Events.{is_enter}
-use Rattle.markdown_base.specs.Virtual.{Seat, virtual}
-use Rattle.markdown_edits.specs.Links.{next_of}
-use Rattle.markdown_edits.specs.Woven.{Tagged, Change, woven, placed_in, AreApart}
-use Rattle.markdown_edits.proofs.Edits.Passes.{woven-pass}
-use Rattle.markdown_tokenizer.specs.Text.{Given}
-use Rattle.markdown_children.specs.Chains.{fits, chain_of, fitting_starts}
-use Rattle.markdown_children.specs.Children.{chain_changes, child_changes}
-use Rattle.markdown_children.specs.Laws.{AreSpaced, IsWholeFrom}
-use Rattle.markdown_children.specs.Parts.{parts, divided_over}
-use Rattle.markdown_children.specs.Ready.{IsReady, place_at}
-use Rattle.markdown_children.specs.Reads.{text_of_chain}
-use Rattle.markdown_children.proofs.ChainOrder.Following.{starts_fit, follow_one_another}
-use Rattle.markdown_children.proofs.ChainOrder.Spaced.{changes_are_apart}
-use Rattle.markdown_children.proofs.Parts.Kept.{untagged, untagged-olds}
-use Rattle.mdconstructs_machines.specs.Innermost.{AccountFor, innermost_spans}
-use Rattle.mdconstructs_text.specs.ChainTexts.{chain_text, with_read}
 use Rattle.mdconstructs_text.proofs.DeepSpans.Atoms.{IsCut}
 use Rattle.mdconstructs_text.proofs.DeepSpans.ChainText.{chunk_seats, chain-seats}
 use Rattle.mdconstructs_text.proofs.DeepSpans.Chains.{after, one-chain}

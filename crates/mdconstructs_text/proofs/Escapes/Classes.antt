@@ -1,11 +1,5 @@
 -- The classes of bytes that may be escaped: ASCII punctuation.
-use Rattle.std.proofs.Common.{◌≡◌, ℕ, [], Bool, true, false, cond, refl, sym, ◌∙◌, ap, Option, Some, arith, nat_lt, nat_le, ◌&&◌, ◌==◌, ◌||◌}
-use Rattle.std.proofs.lemmas.Bool.Decides.{nat_tests}
-use Rattle.std.specs.Char.{is_ascii_punctuation, is_ascii_alphabetic, is_ascii_alphanumeric}
-use Rattle.markdown_base.specs.declared.state.State.TheVariants.{Nok}
-use Rattle.mdconstructs_tables.specs.Rows.{row}
-use Rattle.mdconstructs_text.specs.TextCosts.{TextByte, text_byte}
-use Rattle.mdconstructs_text.specs.TextTable.{escape_inside_rows, escaped}
+use Rattle.mdconstructs_text.proofs.Prelude.{◌≡◌, ℕ, [], Bool, true, false, cond, refl, sym, ◌∙◌, ap, Option, Some, arith, nat_lt, nat_le, ◌&&◌, ◌==◌, ◌||◌, nat_tests, is_ascii_punctuation, is_ascii_alphabetic, is_ascii_alphanumeric, Nok, row, TextByte, text_byte, escape_inside_rows, escaped}
 
 -- a class of bytes that may be escaped
 abbrev IsEscaped : TextByte → Type 0

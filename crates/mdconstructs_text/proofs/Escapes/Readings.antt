@@ -1,24 +1,6 @@
 -- How the machine of texts reads a backslash escape: if one is there, it is read whole, with its events; if not, the attempt leaves
 -- nothing.
-use Rattle.std.proofs.Common.{◌≡◌, ℕ, ◌+◌, ◌<◌, ◌∷◌, ◌++◌, [], List, Bool, true, false, cond, refl, sym, ◌∙◌, ap, subst, Option, Some, None, nat_lt, length, take, slice_get}
-use Rattle.std.specs.Char.{is_ascii_punctuation}
-use Rattle.markdown_base.specs.declared.event.Event.{Event}
-use Rattle.markdown_base.specs.declared.event.Name.TheVariants.{CharacterEscape, CharacterEscapeMarker, CharacterEscapeValue}
-use Rattle.markdown_base.specs.declared.event.Kind.TheVariants.{Enter, Exit}
-use Rattle.markdown_base.specs.declared.state.State.TheVariants.{Next, Retry, Ok, Nok}
-use Rattle.markdown_base.specs.declared.state.TheConstants.Name.{TextBefore, TextBeforeData, CharacterEscapeStart, CharacterEscapeInside}
-use Rattle.markdown_base.specs.Virtual.{Seat}
-use Rattle.markdown_tokenizer.specs.declared.waiting.Waits.{Waits}
-use Rattle.markdown_tokenizer.specs.declared.waiting.Waits.TheVariants.{Nothing, Byte, End}
-use Rattle.markdown_tokenizer.specs.Text.{Given, Text}
-use Rattle.markdown_tokenizer.specs.Configuration.{Configuration, Local, Choice}
-use Rattle.markdown_tokenizer.specs.Sight.{byte_of, point_or, end_or}
-use Rattle.mdconstructs_tables.specs.Rows.{Rows, row, enter, exit, consume, class_of}
-use Rattle.mdconstructs_machines.specs.Tables.{counts}
-use Rattle.mdconstructs_text.specs.Items.{escape}
-use Rattle.mdconstructs_text.specs.TextEvents.{item_events, event}
-use Rattle.mdconstructs_text.specs.TextCosts.{TextByte, text_byte}
-use Rattle.mdconstructs_text.specs.TextTable.{escapes, escape_start_rows, escape_inside_rows, escaped}
+use Rattle.mdconstructs_text.proofs.Prelude.{◌≡◌, ℕ, ◌+◌, ◌<◌, ◌∷◌, ◌++◌, [], List, Bool, true, false, cond, refl, sym, ◌∙◌, ap, subst, Option, Some, None, nat_lt, length, take, slice_get, is_ascii_punctuation, Event, CharacterEscape, CharacterEscapeMarker, CharacterEscapeValue, Enter, Exit, Next, Retry, Ok, Nok, TextBefore, TextBeforeData, CharacterEscapeStart, CharacterEscapeInside, Seat, Waits, Nothing, Byte, End, Given, Text, Configuration, Local, Choice, byte_of, point_or, end_or, Rows, row, enter, exit, consume, class_of, counts, escape, item_events, event, TextByte, text_byte, escapes, escape_start_rows, escape_inside_rows, escaped}
 use Rattle.mdconstructs_text.proofs.Texts.Steps.{EndsWith, Leads, between_items, leads-called, leads-fed, leads-ok, leads-nok, fed-is, before_class, waiting_class, WithRows}
 use Rattle.mdconstructs_text.proofs.Plain.Items.{outer, byte-rows, leads-tried}
 use Rattle.mdconstructs_text.proofs.Escapes.Classes.{escaped-class, refused-class}

@@ -1,27 +1,7 @@
 -- What a machine reads of each text it reads of the text of each chain of a ready list.
-use Rattle.std.proofs.Common.{◌≡◌, ℕ, List, [], ◌∷◌, true, false, Option, Some, None, refl, sym, ◌∙◌, ap, subst}
-use Rattle.std.specs.Prelude.{filter, length, map, option_and_then}
-use Rattle.std.specs.List.{AllByRecursion, range_with_len}
-use Rattle.markdown_base.specs.declared.event.Content.{Content}
-use Rattle.markdown_base.specs.declared.event.Content.TheVariants.{Flow, String, Text as TextContent}
+use Rattle.mdconstructs_text.proofs.Prelude.{◌≡◌, ℕ, List, [], ◌∷◌, true, false, Option, Some, None, refl, sym, ◌∙◌, ap, subst, filter, length, map, option_and_then, AllByRecursion, range_with_len, Content, Flow, String, Event, Name, Next, TextStart, Given, Text, CanFollow, IsDocument, IsText, empty_text, start_configuration, EndsIn, Rules, text-on, content_at, some_fits, begins, fitting_starts, with_children, IsReady, place_at, start_name, pieces_of, text_of_chain, Child, lists, IsChild, AreChildren, filter-yes, filter-no, whole-from, begins-fits, chunks_can_be_read, chain_text, with_read, AreReadBy}
+use Rattle.markdown_base.specs.declared.event.Content.TheVariants.{Text as TextContent}
 use Rattle.markdown_base.specs.declared.event.Content.TheVariants as content
-use Rattle.markdown_base.specs.declared.event.Event.{Event}
-use Rattle.markdown_base.specs.declared.state.Name.{Name}
-use Rattle.markdown_base.specs.declared.state.State.TheVariants.{Next}
-use Rattle.markdown_base.specs.declared.state.TheConstants.Name.{TextStart}
-use Rattle.markdown_tokenizer.specs.Text.{Given, Text, CanFollow, IsDocument, IsText, empty_text}
-use Rattle.markdown_tokenizer.specs.Configuration.{start_configuration}
-use Rattle.markdown_tokenizer.specs.Reading.{EndsIn}
-use Rattle.markdown_tokenizer.specs.Rules.{Rules}
-use Rattle.markdown_tokenizer.proofs.Runs.Working.{text-on}
-use Rattle.markdown_children.specs.Chains.{content_at, some_fits, begins, fitting_starts}
-use Rattle.markdown_children.specs.Children.{with_children}
-use Rattle.markdown_children.specs.Ready.{IsReady, place_at}
-use Rattle.markdown_children.specs.Reads.{start_name, pieces_of, text_of_chain, Child, lists, IsChild, AreChildren}
-use Rattle.markdown_children.proofs.ChainOrder.Following.{filter-yes, filter-no, whole-from}
-use Rattle.markdown_children.proofs.ChainOrder.Forward.{begins-fits}
-use Rattle.markdown_children.proofs.ChildReads.Pieces.{chunks_can_be_read}
-use Rattle.mdconstructs_text.specs.ChainTexts.{chain_text, with_read, AreReadBy}
 use Rattle.mdconstructs_text.proofs.Texts.Ends.{ReadsTexts}
 
 -- what passes the filter of text is text

@@ -1,22 +1,7 @@
 -- Lists of events in which chunks of text are linked one after another: what is between two that are linked, and that this is kept if
 -- events are added and chunks are linked.
-use Rattle.std.specs.List.{AllByRecursion}
-use Rattle.std.proofs.Common.{◌≡◌, ℕ, zero, suc, ◌+◌, ◌<◌, ◌==◌, List, [], ◌∷◌, ◌++◌, true, false, Option, Some, None, length, ◌⊎◌, inl, inr, refl, sym, ap, ◌∙◌, subst, arith, length-append}
-use Rattle.std.specs.Prelude.{is_some, slice_get, option_map, option_and_then, unwrap_or}
-use Rattle.std.proofs.lemmas.Bool.Decides.{nat_tests}
-use Rattle.std.proofs.lemmas.Option.{slice_get_within}
+use Rattle.mdconstructs_text.proofs.Prelude.{AllByRecursion, ◌≡◌, ℕ, zero, suc, ◌+◌, ◌<◌, ◌==◌, List, [], ◌∷◌, ◌++◌, true, false, Option, Some, None, length, ◌⊎◌, inl, inr, refl, sym, ap, ◌∙◌, subst, arith, length-append, is_some, slice_get, option_map, option_and_then, unwrap_or, nat_tests, slice_get_within, Event, Enter, Exit, Link, Point, IsPointOf, point, IsLinkedEnter, content_of, updated_at, next_set, previous_set, with_next, with_previous, linked_to, next_of, updated-length, place_at, next_end, next-more, next-other, next-kept}
 use Rattle.markdown_base.specs.declared.event.Content.TheVariants.{Text}
-use Rattle.markdown_base.specs.declared.event.Event.{Event}
-use Rattle.markdown_base.specs.declared.event.Kind.TheVariants.{Enter, Exit}
-use Rattle.markdown_base.specs.declared.event.Link.{Link}
-use Rattle.markdown_base.specs.declared.event.Point.{Point}
-use Rattle.markdown_base.specs.Places.{IsPointOf}
-use Rattle.markdown_base.specs.Virtual.{point}
-use Rattle.markdown_edits.specs.Links.{IsLinkedEnter, content_of, updated_at, next_set, previous_set, with_next, with_previous, linked_to, next_of}
-use Rattle.markdown_edits.proofs.LinkEnds.{updated-length}
-use Rattle.markdown_children.specs.Ready.{place_at}
-use Rattle.mdconstructs_tables.specs.LinkShapes.{next_end}
-use Rattle.mdconstructs_tables.proofs.LinkShapes.{next-more, next-other, next-kept}
 
 -- Lists with one more event
 pub front-get : (xs : List Event) (e : Event) (i : ℕ) → i < length xs → slice_get (xs ++ e ∷ []) i ≡ slice_get xs i

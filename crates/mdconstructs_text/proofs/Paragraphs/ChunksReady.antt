@@ -1,20 +1,6 @@
 -- Events in which chunks of text are linked one after another can be read chain by chain.
-use Rattle.std.specs.List.{between}
-use Rattle.std.proofs.Common.{◌≡◌, ℕ, suc, ◌+◌, ◌-◌, ◌<◌, ◌≤◌, List, [], ◌∷◌, true, false, Option, Some, None, take, drop, inl, inr, ⊎_elim, refl, sym, ap, ◌∙◌, subst, arith}
-use Rattle.std.specs.Prelude.{All, AllPairs, slice_get, option_and_then, option_map}
-use Rattle.std.proofs.lemmas.Bool.{cases_lt}
-use Rattle.std.proofs.lemmas.Option.{slice_get_within, get_or_from_slice_get}
-use Rattle.markdown_base.proofs.Common.{drop-at, every-get}
-use Rattle.markdown_base.specs.declared.event.Content.{Content}
-use Rattle.markdown_base.specs.declared.event.Content.TheVariants.{Flow, Text}
-use Rattle.markdown_base.specs.declared.event.Event.{Event}
-use Rattle.markdown_base.specs.declared.event.Link.{Link}
-use Rattle.markdown_base.specs.declared.event.Point.{Point}
-use Rattle.markdown_base.specs.Events.{IsBalanced, empty, span, IsVoidTight, IsInOrder}
-use Rattle.markdown_base.specs.Places.{stands_before, IsShown}
-use Rattle.markdown_edits.specs.Links.{content_of, next_of, AreMutual}
-use Rattle.markdown_children.specs.Chains.{content_at, fits}
-use Rattle.markdown_children.specs.Ready.{place_at, IsChunk, IsShownPlace, IsReadable, IsGap, IsReady}
+use Rattle.mdconstructs_text.proofs.Prelude.{between, ◌≡◌, ℕ, suc, ◌+◌, ◌-◌, ◌<◌, ◌≤◌, List, [], ◌∷◌, true, false, Option, Some, None, take, drop, inl, inr, ⊎_elim, refl, sym, ap, ◌∙◌, subst, arith, All, AllPairs, slice_get, option_and_then, option_map, cases_lt, slice_get_within, get_or_from_slice_get, drop-at, every-get, Content, Flow, Event, Link, Point, IsBalanced, empty, span, IsVoidTight, IsInOrder, stands_before, IsShown, content_of, next_of, AreMutual, content_at, fits, place_at, IsChunk, IsShownPlace, IsReadable, IsGap, IsReady}
+use Rattle.markdown_base.specs.declared.event.Content.TheVariants.{Text}
 use Rattle.mdconstructs_text.proofs.Paragraphs.ChainEvents.{is-text-content}
 use Rattle.mdconstructs_text.proofs.Paragraphs.ChunkPairs.{place-at-event, IsChunkStart, IsMark, IsPlaced, AreChunks}
 

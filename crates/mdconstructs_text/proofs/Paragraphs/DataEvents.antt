@@ -1,27 +1,5 @@
 -- The machine of paragraphs reads a text as data.
-use Rattle.std.proofs.Common.{◌≡◌, ℕ, ◌∷◌, [], List, Bool, false, refl, ◌∙◌, ap, subst, arith, drop}
-use Rattle.std.specs.Prelude.{Contains}
-use Rattle.markdown_base.specs.declared.event.Event.{Event}
-use Rattle.markdown_base.specs.declared.state.Name.{Name}
-use Rattle.markdown_base.specs.declared.state.State.TheVariants.{Next, Retry, Ok}
-use Rattle.markdown_base.specs.declared.state.TheConstants.Name.{TextStart, DataStart}
-use Rattle.markdown_base.specs.Virtual.{Seat}
-use Rattle.markdown_tokenizer.specs.declared.waiting.Waits.TheVariants.{Nothing}
-use Rattle.markdown_tokenizer.specs.Text.{Given, Text}
-use Rattle.markdown_tokenizer.specs.Configuration.{Configuration, Local, Step, start_configuration}
-use Rattle.markdown_tokenizer.specs.Reading.{Reading, fed}
-use Rattle.markdown_tokenizer.specs.Sight.{Sight}
-use Rattle.markdown_tokenizer.proofs.Readings.Bounds.{fed-ends, one-end}
-use Rattle.markdown_edits.proofs.Edits.Splices.{edited-none}
-use Rattle.mdconstructs_tables.proofs.KeptByReading.{kept-well, lawful-kept, holds-at-start}
-use Rattle.mdconstructs_tables.proofs.Tables.Lawful.{knowing-lawful}
-use Rattle.mdconstructs_machines.specs.LineEvents.{data_events}
-use Rattle.mdconstructs_machines.specs.Paragraphs.{text_start_rows, paragraphs, knows_chunk, paragraphs_rules}
-use Rattle.mdconstructs_machines.specs.Laws.Paragraphs.{paragraphs-fit, paragraphs-known}
-use Rattle.mdconstructs_machines.specs.Tables.{counts}
-use Rattle.mdconstructs_machines.proofs.LineReads.Data.{ReadsData, data-read}
-use Rattle.mdconstructs_machines.proofs.LineReads.Rows.{waits_class, leads-row}
-use Rattle.mdconstructs_machines.proofs.LineReads.Steps.{EndsWith, held, shows, stands, goes-next}
+use Rattle.mdconstructs_text.proofs.Prelude.{◌≡◌, ℕ, ◌∷◌, [], List, Bool, false, refl, ◌∙◌, ap, subst, arith, drop, Contains, Event, Name, Next, Retry, Ok, TextStart, DataStart, Seat, Nothing, Given, Text, Configuration, Local, Step, start_configuration, Reading, fed, Sight, fed-ends, one-end, edited-none, kept-well, lawful-kept, holds-at-start, knowing-lawful, data_events, text_start_rows, paragraphs, knows_chunk, paragraphs_rules, paragraphs-fit, paragraphs-known, counts, ReadsData, data-read, waits_class, leads-row, EndsWith, held, shows, stands, goes-next}
 use Rattle.mdconstructs_text.proofs.Texts.Ends.{ReadsTexts, resolved-events}
 
 module _ (g : Given) (text : Text) where

@@ -1,29 +1,9 @@
 -- The events of a document's blocks are balanced, void-tight and in order.
-use Rattle.std.proofs.Common.{◌≡◌, ℕ, zero, suc, ◌+◌, ◌<◌, ◌∷◌, ◌++◌, [], List, true, false, Option, Some, None, refl, sym, ◌∙◌, ap, subst, arith, append_assoc}
-use Rattle.std.specs.Prelude.{AllPairs, slice_get}
-use Rattle.std.specs.List.{flat_map, AllByRecursion}
-use Rattle.std.proofs.lemmas.List.{append-nil, map-append}
-use Rattle.std.proofs.lemmas.List.Elements.{All-from_recursion}
-use Rattle.std.proofs.lemmas.List.Kept.{AllPairs-cons}
-use Rattle.markdown_base.proofs.Common.{every-append, every-map}
-use Rattle.markdown_base.proofs.Seats.{end-after-append}
-use Rattle.markdown_base.specs.declared.event.Event.{Event}
-use Rattle.markdown_base.specs.declared.event.Kind.TheVariants.{Enter, Exit}
+use Rattle.mdconstructs_text.proofs.Prelude.{◌≡◌, ℕ, zero, suc, ◌+◌, ◌<◌, ◌∷◌, ◌++◌, [], List, true, false, Option, Some, None, refl, sym, ◌∙◌, ap, subst, arith, AllPairs, slice_get, flat_map, AllByRecursion, append-nil, map-append, All-from_recursion, AllPairs-cons, every-append, every-map, end-after-append, Event, Enter, Exit, Paragraph, Data, BlankLineEnding, BlockQuoteMarker, Point, is_void, IsBalanced, empty, span, IsVoidTight, IsInOrder, stands_before, shown, IsShown, Seat, point, virtual, end_after, IsBalanced-append, upto-upto, IsChain, whole-chain, before-self, chain-split, chain-upto, shown-shown, lines_in, all_of, Block, paragraph, blocks_of, mark_of, chunk_of, Chunk, Marked, marked_span, line_marks, lines_marks, block_marks, blocks_marks, as_linked, paragraph_events, lines-are-all, block_bytes, blocks-are-all, line-is, linked}
+use Rattle.std.proofs.Common.{append_assoc}
 use Rattle.markdown_base.specs.declared.event.Name.{Name}
-use Rattle.markdown_base.specs.declared.event.Name.TheVariants.{Paragraph, Data, BlankLineEnding, BlockQuoteMarker}
-use Rattle.markdown_base.specs.declared.event.Point.{Point}
-use Rattle.markdown_base.specs.Events.{is_void, IsBalanced, empty, span, IsVoidTight, IsInOrder}
-use Rattle.markdown_base.specs.Places.{stands_before, shown, IsShown}
-use Rattle.markdown_base.specs.Virtual.{Seat, point, virtual, end_after}
-use Rattle.markdown_edits.proofs.Balanced.{IsBalanced-append}
-use Rattle.markdown_tokenizer.proofs.Inside.Made.{upto-upto}
-use Rattle.markdown_tokenizer.proofs.Positions.Chains.{IsChain, whole-chain}
-use Rattle.markdown_tokenizer.proofs.Positions.Order.{before-self}
-use Rattle.markdown_tokenizer.proofs.Positions.Standing.{chain-split, chain-upto, shown-shown}
-use Rattle.mdconstructs_machines.specs.LineEvents.{lines_in, all_of}
-use Rattle.mdconstructs_machines.specs.ParagraphEvents.{Block, blank, paragraph, blocks_of, mark_of, chunk_of, Chunk, Marked, marked_span, line_marks, lines_marks, block_marks, blocks_marks, as_linked, paragraph_events}
+use Rattle.mdconstructs_machines.specs.ParagraphEvents.{blank}
 use Rattle.mdconstructs_machines.specs.Spans.{event}
-use Rattle.mdconstructs_machines.proofs.BlockReads.Accounts.{lines-are-all, block_bytes, blocks-are-all, line-is, linked}
 use Rattle.mdconstructs_text.proofs.DeepSpans.Places.{place-shown}
 
 -- ---- void-tight lists

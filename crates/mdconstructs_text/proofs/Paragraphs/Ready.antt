@@ -1,29 +1,6 @@
 -- What the machines of paragraphs and of texts read of a document, from the start of paragraphs, has chains of text that can be read.
-use Rattle.std.proofs.Common.{◌≡◌, ◌<◌, [], Some, false, inl, inr, refl, sym, ap, ◌∙◌, subst, arith}
-use Rattle.std.specs.Prelude.{Contains}
+use Rattle.mdconstructs_text.proofs.Prelude.{◌≡◌, ◌<◌, [], Some, false, inl, inr, refl, sym, ap, ◌∙◌, subst, arith, Contains, IsBalanced, IsVoidTight, IsInOrder, Next, Ok, FlowStart, virtual, Configuration, start_configuration, IsWellFormed, whole_text, KeepsInvariant, Reading, EndsIn, Rules, Given, Text, IsDocument, AreMutual, no-links-shape, IsReady, kept-well, lawful-kept, holds-at-start, knowing-lawful, paragraphs, knows_chunk, paragraphs_rules, paragraph_events, paragraphs-fit, paragraphs-known, reads-whole, HasReadableChains, text_rules, text-lawful}
 use Rattle.markdown_base.specs.declared.event.Content.TheVariants.{Text as TextContent}
-use Rattle.markdown_base.specs.Events.{IsBalanced, IsVoidTight, IsInOrder}
-use Rattle.markdown_base.specs.declared.state.State.TheVariants.{Next, Ok}
-use Rattle.markdown_base.specs.declared.state.TheConstants.Name.{FlowStart}
-use Rattle.markdown_base.specs.Virtual.{virtual}
-use Rattle.markdown_tokenizer.specs.Configuration.{Configuration, start_configuration}
-use Rattle.markdown_tokenizer.specs.Engine.{IsWellFormed, whole_text}
-use Rattle.markdown_tokenizer.specs.Lawful.{KeepsInvariant}
-use Rattle.markdown_tokenizer.specs.Reading.{Reading, EndsIn}
-use Rattle.markdown_tokenizer.specs.Rules.{Rules}
-use Rattle.markdown_tokenizer.specs.Text.{Given, Text, IsDocument}
-use Rattle.markdown_edits.specs.Links.{AreMutual}
-use Rattle.markdown_tokenizer.proofs.Readings.Plain.{no-links-shape}
-use Rattle.markdown_children.specs.Ready.{IsReady}
-use Rattle.mdconstructs_tables.proofs.KeptByReading.{kept-well, lawful-kept, holds-at-start}
-use Rattle.mdconstructs_tables.proofs.Tables.Lawful.{knowing-lawful}
-use Rattle.mdconstructs_machines.specs.Paragraphs.{paragraphs, knows_chunk, paragraphs_rules}
-use Rattle.mdconstructs_machines.specs.ParagraphEvents.{paragraph_events}
-use Rattle.mdconstructs_machines.specs.Laws.Paragraphs.{paragraphs-fit, paragraphs-known}
-use Rattle.mdconstructs_machines.proofs.BlockReads.Whole.{reads-whole}
-use Rattle.mdconstructs_text.specs.ChainTexts.{HasReadableChains}
-use Rattle.mdconstructs_text.specs.TextRules.{text_rules}
-use Rattle.mdconstructs_text.specs.Laws.Rules.{text-lawful}
 use Rattle.mdconstructs_text.proofs.Paragraphs.ChunkPairs.{AreChunks, no-chunks}
 use Rattle.mdconstructs_text.proofs.Paragraphs.ChunksReady.{chunks-are-ready}
 use Rattle.mdconstructs_text.proofs.Paragraphs.Formed.{paragraphs-formed}

@@ -1,32 +1,6 @@
 -- In a whole document, what the states of paragraphs keep: of two chunks that are linked the one follows the other.
-use Rattle.std.proofs.Common.{◌≡◌, ℕ, ◌+◌, ◌-◌, ◌==◌, List, [], ◌∷◌, ◌++◌, Bool, true, false, cond, Option, Some, None, length, ◌⊎◌, inl, inr, refl, sym, ap, ◌∙◌, subst, arith}
-use Rattle.std.specs.Prelude.{nat_lt}
-use Rattle.std.proofs.lemmas.Bool.Decides.{nat_tests}
-use Rattle.markdown_base.specs.declared.event.Event.{Event}
-use Rattle.markdown_base.specs.declared.event.Kind.TheVariants.{Enter, Exit}
-use Rattle.markdown_base.specs.declared.event.Name.TheVariants.{Data, BlockQuoteMarker}
-use Rattle.markdown_base.specs.declared.event.Point.{Point}
-use Rattle.markdown_base.specs.Places.{IsPointOf}
-use Rattle.markdown_base.specs.declared.state.Name.{Name}
-use Rattle.markdown_base.specs.declared.state.State.{State}
-use Rattle.markdown_base.specs.declared.state.State.TheVariants.{Next, Retry, Ok, Nok, Error}
-use Rattle.markdown_base.specs.declared.state.TheConstants.Name.{FlowStart, ParagraphLineStart, ParagraphStart, ParagraphInside}
-use Rattle.markdown_tokenizer.specs.declared.waiting.Waits.TheVariants.{Byte, End}
-use Rattle.markdown_tokenizer.specs.Calls.{with_local}
-use Rattle.markdown_tokenizer.specs.Configuration.{Configuration, Choice, Step}
-use Rattle.markdown_tokenizer.specs.Engine.{whole_text}
-use Rattle.markdown_tokenizer.specs.Reading.{fed}
-use Rattle.markdown_tokenizer.specs.Sight.{Sight, sight}
-use Rattle.markdown_tokenizer.specs.Text.{Given, IsDocument}
-use Rattle.markdown_children.specs.Ready.{place_at}
-use Rattle.mdconstructs_tables.specs.LinkShapes.{next_end}
-use Rattle.mdconstructs_tables.specs.Rows.{Rows, class_of, picked, step_of}
-use Rattle.mdconstructs_tables.proofs.KeptByReading.{IsKept}
-use Rattle.mdconstructs_tables.specs.Knowledge.{EachRow}
-use Rattle.mdconstructs_tables.proofs.Tables.Knowledge.{picked-row}
-use Rattle.mdconstructs_machines.specs.Tables.{LineByte, line_ending, other, line_byte, counts}
-use Rattle.mdconstructs_machines.specs.Paragraphs.{flow_start_rows, paragraph_line_start_rows, paragraph_start_rows, paragraph_inside_rows, chunk_before}
-use Rattle.mdconstructs_machines.specs.Laws.Paragraphs.{chunk_at, begins-chunk}
+use Rattle.mdconstructs_text.proofs.Prelude.{◌≡◌, ℕ, ◌+◌, ◌-◌, ◌==◌, List, [], ◌∷◌, ◌++◌, Bool, true, false, cond, Option, Some, None, length, ◌⊎◌, inl, inr, refl, sym, ap, ◌∙◌, subst, arith, nat_lt, nat_tests, Event, Enter, Exit, Data, BlockQuoteMarker, Point, IsPointOf, Name, State, Next, Retry, Ok, Nok, Error, FlowStart, ParagraphLineStart, ParagraphStart, ParagraphInside, Byte, End, with_local, Configuration, Choice, Step, whole_text, fed, Sight, sight, Given, IsDocument, place_at, next_end, Rows, class_of, picked, step_of, IsKept, EachRow, picked-row, LineByte, line_byte, counts, flow_start_rows, paragraph_line_start_rows, paragraph_start_rows, paragraph_inside_rows, chunk_before, chunk_at, begins-chunk}
+use Rattle.mdconstructs_machines.specs.Tables.{line_ending, other}
 use Rattle.mdconstructs_text.proofs.Paragraphs.ChunkPairs.{front-get, last-get, front-place, last-place, one-longer, IsMark, IsPair, mark-more, linked-length, AreChunks, chunks-more, chunks-linked}
 use Rattle.mdconstructs_text.proofs.Texts.WholePlaces.{place, here-is-point, behind-is-point, next-is-point, has-byte}
 

@@ -1,17 +1,5 @@
 -- A backslash: a backslash escape is read if one is there, and data if not.
-use Rattle.std.proofs.Common.{◌≡◌, ℕ, ◌+◌, ◌∷◌, ◌++◌, [], List, Bool, true, false, cond, refl, sym, ◌∙◌, ap, subst, Some, None, arith, drop, slice_get, ◌&&◌, ◌==◌}
-use Rattle.std.proofs.lemmas.Option.{slice_get_within}
-use Rattle.std.specs.Char.{is_ascii_punctuation}
-use Rattle.markdown_base.proofs.Common.{drop-next}
-use Rattle.markdown_base.specs.declared.event.Event.{Event}
-use Rattle.markdown_base.specs.declared.state.State.TheVariants.{Next}
-use Rattle.markdown_base.specs.declared.state.TheConstants.Name.{TextBefore}
-use Rattle.markdown_base.specs.Virtual.{Seat}
-use Rattle.markdown_tokenizer.specs.declared.waiting.Waits.TheVariants.{Nothing}
-use Rattle.markdown_tokenizer.specs.Text.{Given, Text}
-use Rattle.markdown_tokenizer.specs.Configuration.{Local}
-use Rattle.mdconstructs_text.specs.Items.{escape, has_byte_at, item_at, escape_at, if_on, or_else, is_backslash}
-use Rattle.mdconstructs_text.specs.TextEvents.{bytes_of, item_events}
+use Rattle.mdconstructs_text.proofs.Prelude.{◌≡◌, ℕ, ◌+◌, ◌∷◌, ◌++◌, [], List, Bool, true, false, cond, refl, sym, ◌∙◌, ap, subst, Some, None, arith, drop, slice_get, ◌&&◌, ◌==◌, slice_get_within, is_ascii_punctuation, drop-next, Event, Next, TextBefore, Seat, Nothing, Given, Text, Local, escape, has_byte_at, item_at, escape_at, if_on, or_else, is_backslash, bytes_of, item_events}
 use Rattle.mdconstructs_text.proofs.Texts.Steps.{EndsWith, between_items}
 use Rattle.mdconstructs_text.proofs.Texts.LineEndings.{Adds, at-front}
 use Rattle.mdconstructs_text.proofs.Escapes.Readings.{NoneEscaped, tries-escape}

@@ -1,15 +1,5 @@
 -- The class of a byte, by the tests in turn; and which bytes data goes on at, and which end it.
-use Rattle.std.proofs.Common.{◌≡◌, ℕ, ◌∷◌, [], Bool, true, false, cond, refl, Option, Some, None, arith, nat_lt, ◌==◌, ◌||◌, not}
-use Rattle.std.proofs.lemmas.Bool.{not-false}
-use Rattle.std.proofs.lemmas.Bool.Decides.{nat_tests}
-use Rattle.std.specs.Char.{is_ascii_punctuation, is_ascii_alphabetic, is_ascii_alphanumeric}
-use Rattle.markdown_base.specs.declared.event.Name.TheVariants.{Data}
-use Rattle.markdown_base.specs.declared.state.State.TheVariants.{Next, Retry}
-use Rattle.markdown_base.specs.declared.state.TheConstants.Name.{TextBefore, TextBeforeData, DataAtBreak, DataInside}
-use Rattle.mdconstructs_tables.specs.Rows.{row, enter, exit, consume, class_of}
-use Rattle.mdconstructs_text.specs.Items.{passes, is_special, is_backtick}
-use Rattle.mdconstructs_text.specs.TextCosts.{TextByte, line_feed, backtick, less, greater, backslash, colon, letter, digit, mark, punctuation, blank, other, text_byte}
-use Rattle.mdconstructs_text.specs.TextTable.{text_before_rows, text_before_data_rows, data_at_break_rows, data_inside_rows}
+use Rattle.mdconstructs_text.proofs.Prelude.{◌≡◌, ℕ, ◌∷◌, [], Bool, true, false, cond, refl, Option, Some, None, arith, nat_lt, ◌==◌, ◌||◌, not, not-false, nat_tests, is_ascii_punctuation, is_ascii_alphabetic, is_ascii_alphanumeric, Data, Next, Retry, TextBefore, TextBeforeData, DataAtBreak, DataInside, row, enter, exit, consume, class_of, passes, is_special, is_backtick, TextByte, line_feed, backtick, less, greater, backslash, colon, letter, digit, mark, punctuation, blank, other, text_byte, text_before_rows, text_before_data_rows, data_at_break_rows, data_inside_rows}
 
 -- what holds of a class that a test picks
 by-test : (P : TextByte → Type 0) (b : Bool) (x y : TextByte) → (b ≡ true → P x) → (b ≡ false → P y) → P (cond b x y)

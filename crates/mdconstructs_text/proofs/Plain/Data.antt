@@ -1,26 +1,5 @@
 -- Plain data, as the machine of texts reads it: a backtick string or one byte, and all up to the next byte at which another item may begin.
-use Rattle.std.proofs.Common.{◌≡◌, ℕ, suc, ◌+◌, ◌<◌, ◌≤◌, ◌∷◌, ◌++◌, [], List, Bool, true, false, cond, refl, sym, ◌∙◌, ap, subst, Some, arith, length, take, drop, max, nat_lt, slice_get, not, ◌-◌, add_assoc}
-use Rattle.std.proofs.lemmas.Bool.{not-true}
-use Rattle.std.proofs.lemmas.List.{append_assoc, drop-drop, drop-map, length-drop, length-map}
-use Rattle.std.proofs.lemmas.List.Sums.{prefix_len-le-length}
-use Rattle.std.proofs.lemmas.Option.{slice_get_within}
-use Rattle.std.specs.List.{prefix_len}
-use Rattle.markdown_base.specs.declared.event.Event.{Event}
-use Rattle.markdown_base.specs.declared.event.Kind.TheVariants.{Enter, Exit}
-use Rattle.markdown_base.specs.declared.event.Name.TheVariants.{Data}
-use Rattle.markdown_base.specs.declared.state.State.TheVariants.{Next, Retry}
-use Rattle.markdown_base.specs.declared.state.TheConstants.Name.{TextBefore, TextBeforeData, DataAtBreak, DataInside}
-use Rattle.markdown_base.specs.Virtual.{Seat}
-use Rattle.markdown_tokenizer.specs.declared.waiting.Waits.TheVariants.{Nothing, Byte}
-use Rattle.markdown_tokenizer.specs.Text.{Given, Text}
-use Rattle.markdown_tokenizer.specs.Configuration.{Configuration, Local, Choice}
-use Rattle.markdown_tokenizer.specs.Sight.{byte_of, point_or, end_place}
-use Rattle.mdconstructs_tables.specs.Rows.{row, enter, consume, class_of}
-use Rattle.mdconstructs_machines.specs.Tables.{counts}
-use Rattle.mdconstructs_text.specs.Items.{is_special, is_backtick, backticks, passes, plain_length}
-use Rattle.mdconstructs_text.specs.TextCosts.{text_byte}
-use Rattle.mdconstructs_text.specs.TextEvents.{bytes_of, event, leaf}
-use Rattle.mdconstructs_text.specs.TextTable.{text_before_data_rows, data_at_break_rows, data_inside_rows}
+use Rattle.mdconstructs_text.proofs.Prelude.{◌≡◌, ℕ, suc, ◌+◌, ◌<◌, ◌≤◌, ◌∷◌, ◌++◌, [], List, Bool, true, false, cond, refl, sym, ◌∙◌, ap, subst, Some, arith, length, take, drop, max, nat_lt, slice_get, not, ◌-◌, add_assoc, not-true, append_assoc, drop-drop, drop-map, length-drop, length-map, prefix_len-le-length, slice_get_within, prefix_len, Event, Enter, Exit, Data, Next, Retry, TextBefore, TextBeforeData, DataAtBreak, DataInside, Seat, Nothing, Byte, Given, Text, Configuration, Local, Choice, byte_of, point_or, end_place, row, enter, consume, class_of, counts, is_special, is_backtick, backticks, passes, plain_length, text_byte, bytes_of, event, leaf, text_before_data_rows, data_at_break_rows, data_inside_rows}
 use Rattle.mdconstructs_text.proofs.Texts.Steps.{EndsWith, Leads, between_items, leads-called, leads-fed, fed-is, before_class, waiting_class, WithRows}
 use Rattle.mdconstructs_text.proofs.Texts.LineEndings.{at-front}
 use Rattle.mdconstructs_text.proofs.Plain.Classes.{begins-class, tick-begins, tick-class, tick-ends, inside-class, data-ends}

@@ -1,24 +1,5 @@
 -- Plain data as an item: if no construct is there, data is read with its events.
-use Rattle.std.proofs.Common.{◌≡◌, ℕ, ◌+◌, ◌∷◌, ◌++◌, [], List, Bool, true, false, cond, refl, sym, ◌∙◌, ap, subst, Option, Some, None, length, take, drop, slice_get, option_map, ◌==◌, ◌&&◌, ◌||◌}
-use Rattle.std.specs.Char.{is_ascii_punctuation}
-use Rattle.std.proofs.lemmas.Option.{slice_get_within}
-use Rattle.markdown_base.specs.declared.configuration.Constructs.{Constructs}
-use Rattle.markdown_base.specs.declared.event.Event.{Event}
-use Rattle.markdown_base.specs.declared.state.Name.{Name}
-use Rattle.markdown_base.specs.declared.state.State.TheVariants.{Next, Retry}
-use Rattle.markdown_base.specs.declared.state.TheConstants.Name.{TextBefore, TextBeforeData, RawTextStart, AutolinkStart, CharacterEscapeStart}
-use Rattle.markdown_base.specs.Virtual.{Seat}
-use Rattle.markdown_tokenizer.specs.declared.waiting.Waits.TheVariants.{Nothing, Byte}
-use Rattle.markdown_tokenizer.specs.declared.waiting.AttemptKind.TheVariants.{Attempt}
-use Rattle.markdown_tokenizer.specs.Text.{Given, Text}
-use Rattle.markdown_tokenizer.specs.Configuration.{Configuration, Local, Choice}
-use Rattle.markdown_tokenizer.specs.Sight.{Sight, sight, byte_of}
-use Rattle.mdconstructs_tables.specs.Rows.{Row, row, choose, class_of, step_of}
-use Rattle.mdconstructs_machines.specs.Tables.{counts}
-use Rattle.mdconstructs_text.specs.Items.{Item, line_ending, plain_run, code_span, escape, part, item_length, item_at, passes, is_special, backticks, before_backtick_string, plain_length, uri, autolink_to, code_span_at, autolink_at, escape_at, if_on, or_else}
-use Rattle.mdconstructs_text.specs.TextCosts.{text_byte}
-use Rattle.mdconstructs_text.specs.TextEvents.{bytes_of, item_events}
-use Rattle.mdconstructs_text.specs.TextTable.{text_before_rows, tries, spans_code, links_by_itself, escapes}
+use Rattle.mdconstructs_text.proofs.Prelude.{◌≡◌, ℕ, ◌+◌, ◌∷◌, ◌++◌, [], List, Bool, true, false, cond, refl, sym, ◌∙◌, ap, subst, Option, Some, None, length, take, drop, slice_get, option_map, ◌==◌, ◌&&◌, ◌||◌, is_ascii_punctuation, slice_get_within, Constructs, Event, Name, Next, Retry, TextBefore, TextBeforeData, RawTextStart, AutolinkStart, CharacterEscapeStart, Seat, Nothing, Byte, Attempt, Given, Text, Configuration, Local, Choice, Sight, sight, byte_of, Row, row, choose, class_of, step_of, counts, Item, line_ending, plain_run, code_span, escape, part, item_length, item_at, passes, is_special, backticks, before_backtick_string, plain_length, uri, autolink_to, code_span_at, autolink_at, escape_at, if_on, or_else, text_byte, bytes_of, item_events, text_before_rows, tries, spans_code, links_by_itself, escapes}
 use Rattle.mdconstructs_text.proofs.Texts.Steps.{EndsWith, Leads, between_items, leads-called, leads-fed, fed-is, before_class, waiting_class, WithRows}
 use Rattle.mdconstructs_text.proofs.Texts.LineEndings.{Adds, at-front, nowhere}
 use Rattle.mdconstructs_text.proofs.Plain.Classes.{plain-class}

@@ -1,12 +1,5 @@
 -- Each item is read, with its events, if code spans are.
-use Rattle.std.proofs.Common.{◌≡◌, ℕ, ◌∷◌, List, Bool, true, false, refl, sym, subst, drop, ◌==◌, ◌||◌}
-use Rattle.std.proofs.lemmas.Bool.{eqb-true}
-use Rattle.markdown_base.specs.declared.event.Event.{Event}
-use Rattle.markdown_base.specs.Virtual.{Seat}
-use Rattle.markdown_tokenizer.specs.Text.{Given, Text}
-use Rattle.markdown_tokenizer.specs.Configuration.{Local}
-use Rattle.mdconstructs_text.specs.Items.{item_at, code_span_at, if_on, or_else}
-use Rattle.mdconstructs_text.specs.TextEvents.{bytes_of}
+use Rattle.mdconstructs_text.proofs.Prelude.{◌≡◌, ℕ, ◌∷◌, List, Bool, true, false, refl, sym, subst, drop, ◌==◌, ◌||◌, eqb-true, Event, Seat, Given, Text, Local, item_at, code_span_at, if_on, or_else, bytes_of}
 use Rattle.mdconstructs_text.proofs.Texts.LineEndings.{Adds, adds-line-ending}
 use Rattle.mdconstructs_text.proofs.Texts.Whole.{AddsItem}
 use Rattle.mdconstructs_text.proofs.Plain.Items.{plain_of, Tried, tick-at, plain-at, from-tried, from-plain, from-untried-code}

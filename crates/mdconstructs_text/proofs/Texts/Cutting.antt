@@ -1,7 +1,5 @@
 -- Cutting a text into items: the bound of the cut does not matter.
-use Rattle.std.proofs.Common.{◌≡◌, ℕ, zero, suc, ◌<◌, ◌≤◌, ◌∷◌, [], List, refl, ap, arith, length, take, drop}
-use Rattle.markdown_base.specs.Virtual.{Seat}
-use Rattle.mdconstructs_text.specs.TextEvents.{bytes_of, cut}
+use Rattle.mdconstructs_text.proofs.Prelude.{◌≡◌, ℕ, zero, suc, ◌<◌, ◌≤◌, ◌∷◌, [], List, refl, ap, arith, length, take, drop, Seat, bytes_of, cut}
 
 -- each part is at least a byte
 abbrev IsPositive : {A : Type 0} → (List ℕ → A) → (A → ℕ) → Type 0

@@ -1,25 +1,5 @@
 -- What reading a text ends in: the events of its items, with nothing left to resolve.
-use Rattle.std.proofs.Common.{◌≡◌, List, [], Bool, true, Some, sym, ◌∙◌, ap, arith}
-use Rattle.std.specs.Prelude.{Contains}
-use Rattle.markdown_base.specs.declared.event.Event.{Event}
-use Rattle.markdown_base.specs.declared.state.State.{State}
-use Rattle.markdown_base.specs.declared.state.State.TheVariants.{Next, Ok}
-use Rattle.markdown_base.specs.declared.state.TheConstants.Name.{TextStart}
-use Rattle.markdown_tokenizer.specs.declared.subtokenize.Subresult.{Subresult}
-use Rattle.markdown_tokenizer.specs.Text.{Given, Text, IsText}
-use Rattle.markdown_tokenizer.specs.Configuration.{Configuration, Choice, start_configuration}
-use Rattle.markdown_tokenizer.specs.Plain.{IsPlain}
-use Rattle.markdown_tokenizer.specs.Reading.{Reading, EndsIn}
-use Rattle.markdown_tokenizer.specs.Rules.{Rules}
-use Rattle.markdown_tokenizer.specs.Resolving.{done, resolved_by, taken, found, edits_made, resolving, IsResolved}
-use Rattle.markdown_tokenizer.specs.Calls.{with_resolvers}
-use Rattle.markdown_edits.specs.Edited.{edited}
-use Rattle.markdown_tokenizer.proofs.Readings.Plain.{edited-same}
-use Rattle.markdown_tokenizer.proofs.Readings.Bounds.{one-end}
-use Rattle.mdconstructs_tables.proofs.KeptByReading.{IsKept, kept-well, holds-at-start}
-use Rattle.mdconstructs_text.specs.TextEvents.{text_events}
-use Rattle.mdconstructs_text.specs.TextRules.{inline_rules, text_rules}
-use Rattle.mdconstructs_text.specs.Laws.Rules.{texts-apart, inline-lawful}
+use Rattle.mdconstructs_text.proofs.Prelude.{◌≡◌, List, [], Bool, true, Some, sym, ◌∙◌, ap, arith, Contains, Event, State, Next, Ok, TextStart, Subresult, Given, Text, IsText, Configuration, Choice, start_configuration, IsPlain, Reading, EndsIn, Rules, done, resolved_by, taken, found, edits_made, resolving, IsResolved, with_resolvers, edited, edited-same, one-end, IsKept, kept-well, holds-at-start, text_events, inline_rules, text_rules, texts-apart, inline-lawful}
 use Rattle.mdconstructs_text.proofs.Texts.FromStart.{from-start}
 use Rattle.mdconstructs_text.proofs.CodeSpans.Short.{runs-of-text}
 use Rattle.mdconstructs_text.proofs.Texts.Steps.{text_step}

@@ -1,20 +1,5 @@
 -- A whole document is read as its text: from the start, and as a run returns it.
-use Rattle.std.proofs.Common.{◌≡◌, inl, inr, [], List, Bool, true, false, cond, refl, sym, ◌∙◌, ap, subst, arith, length, nat_lt}
-use Rattle.markdown_base.specs.declared.event.Event.{Event}
-use Rattle.markdown_base.specs.declared.message.Message.{Message}
-use Rattle.markdown_base.specs.declared.state.State.TheVariants.{Next, Retry, Ok, Error}
-use Rattle.markdown_base.specs.declared.state.TheConstants.Name.{TextStart, TextBefore}
-use Rattle.markdown_tokenizer.specs.declared.subtokenize.Subresult.{Subresult}
-use Rattle.markdown_tokenizer.specs.declared.waiting.Waits.TheVariants.{Byte, End}
-use Rattle.markdown_tokenizer.specs.Text.{Given, Text, IsDocument}
-use Rattle.markdown_tokenizer.specs.Configuration.{Configuration, start_configuration}
-use Rattle.markdown_tokenizer.specs.Calls.{with_local}
-use Rattle.markdown_tokenizer.specs.Reading.{fed}
-use Rattle.markdown_tokenizer.specs.Engine.{whole_text, IsRun, IsRunRefused}
-use Rattle.markdown_tokenizer.proofs.Readings.Bounds.{fed-ends, one-end}
-use Rattle.mdconstructs_machines.specs.Tables.{counts}
-use Rattle.mdconstructs_text.specs.TextEvents.{text_events}
-use Rattle.mdconstructs_text.specs.TextRules.{text_rules}
+use Rattle.mdconstructs_text.proofs.Prelude.{◌≡◌, inl, inr, [], List, Bool, true, false, cond, refl, sym, ◌∙◌, ap, subst, arith, length, nat_lt, Event, Message, Next, Retry, Ok, Error, TextStart, TextBefore, Subresult, Byte, End, Given, Text, IsDocument, Configuration, start_configuration, with_local, fed, whole_text, IsRun, IsRunRefused, fed-ends, one-end, counts, text_events, text_rules}
 use Rattle.mdconstructs_text.proofs.Texts.Positive.{items-positive}
 use Rattle.mdconstructs_text.proofs.Texts.Steps.{text_step, EndsWith, leads-called, leads-fed}
 use Rattle.mdconstructs_text.proofs.Texts.Whole.{AddsItem, reads-text}

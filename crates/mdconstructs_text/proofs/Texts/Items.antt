@@ -1,5 +1,5 @@
 -- The items of a text, code spans with them, are read with their events.
-use Rattle.markdown_tokenizer.specs.Text.{Given, Text, IsText}
+use Rattle.mdconstructs_text.proofs.Prelude.{Given, Text, IsText}
 use Rattle.mdconstructs_text.proofs.Texts.Whole.{AddsItem}
 use Rattle.mdconstructs_text.proofs.Texts.AddsItems.{adds-item}
 use Rattle.mdconstructs_text.proofs.Autolinks.Places.{text-joined}

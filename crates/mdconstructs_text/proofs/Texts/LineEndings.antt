@@ -1,23 +1,5 @@
 -- Line endings, as the machine of texts reads them between items.
-use Rattle.std.proofs.Common.{◌≡◌, ℕ, zero, suc, ◌+◌, ◌∷◌, ◌++◌, [], List, Bool, true, false, refl, sym, ◌∙◌, ap, subst, Option, Some, None, take, drop, slice_get}
-use Rattle.std.proofs.lemmas.Option.{slice_get_within}
-use Rattle.markdown_base.specs.declared.configuration.Constructs.{Constructs}
-use Rattle.markdown_base.specs.declared.event.Event.{Event}
-use Rattle.markdown_base.specs.declared.event.Kind.TheVariants.{Enter, Exit}
-use Rattle.markdown_base.specs.declared.event.Name.TheVariants.{LineEnding}
-use Rattle.markdown_base.specs.declared.state.State.TheVariants.{Next, Retry}
-use Rattle.markdown_base.specs.declared.state.TheConstants.Name.{TextBefore}
-use Rattle.markdown_base.specs.Virtual.{Seat}
-use Rattle.markdown_tokenizer.specs.declared.waiting.Waits.TheVariants.{Nothing, Byte}
-use Rattle.markdown_tokenizer.specs.Text.{Given, Text}
-use Rattle.markdown_tokenizer.specs.Configuration.{Local}
-use Rattle.markdown_tokenizer.specs.Sight.{byte_of, point_or, end_or}
-use Rattle.mdconstructs_tables.specs.Rows.{class_of}
-use Rattle.mdconstructs_machines.specs.Tables.{counts}
-use Rattle.mdconstructs_text.specs.Items.{Item, line_ending, part, item_length, item_at, if_on, or_else}
-use Rattle.mdconstructs_text.specs.TextEvents.{bytes_of, item_events, event}
-use Rattle.mdconstructs_text.specs.TextCosts.{text_byte}
-use Rattle.mdconstructs_text.specs.TextTable.{text_before_rows, line_ending_then}
+use Rattle.mdconstructs_text.proofs.Prelude.{◌≡◌, ℕ, zero, suc, ◌+◌, ◌∷◌, ◌++◌, [], List, Bool, true, false, refl, sym, ◌∙◌, ap, subst, Option, Some, None, take, drop, slice_get, slice_get_within, Constructs, Event, Enter, Exit, LineEnding, Next, Retry, TextBefore, Seat, Nothing, Byte, Given, Text, Local, byte_of, point_or, end_or, class_of, counts, Item, line_ending, part, item_length, item_at, if_on, or_else, bytes_of, item_events, event, text_byte, text_before_rows, line_ending_then}
 use Rattle.mdconstructs_text.proofs.Texts.Steps.{EndsWith, Leads, between_items, leads-called, leads-fed, fed-is, before_class, waiting_class, WithRows}
 
 -- the element at a position

@@ -1,9 +1,5 @@
 -- Each item is at least a byte.
-use Rattle.std.proofs.Common.{ℕ, ◌+◌, ◌<◌, ◌∷◌, List, Bool, true, false, cond, ◌&&◌, ◌==◌, Option, Some, None, arith, max, drop, option_map, slice_get}
-use Rattle.std.specs.List.{prefix_len, position_or_len}
-use Rattle.std.specs.Char.{is_ascii_punctuation}
-use Rattle.markdown_base.specs.declared.configuration.Constructs.{Constructs}
-use Rattle.mdconstructs_text.specs.Items.{line_ending, plain_run, Item, code_span, autolink, escape, part_length, item_length, has_byte_at, passes, is_special, is_backtick, backticks, before_backtick_string, uri, autolink_to, code_span_at, autolink_at, escape_at, if_on, or_else, is_backslash, is_greater_than, is_less_than, is_line_feed}
+use Rattle.mdconstructs_text.proofs.Prelude.{ℕ, ◌+◌, ◌<◌, ◌∷◌, List, Bool, true, false, cond, ◌&&◌, ◌==◌, Option, Some, None, arith, max, drop, option_map, slice_get, prefix_len, position_or_len, is_ascii_punctuation, Constructs, line_ending, plain_run, Item, code_span, autolink, escape, part_length, item_length, has_byte_at, passes, is_special, is_backtick, backticks, before_backtick_string, uri, autolink_to, code_span_at, autolink_at, escape_at, if_on, or_else, is_backslash, is_greater_than, is_less_than, is_line_feed}
 use Rattle.mdconstructs_text.proofs.Texts.Whole.{ItemsArePositive}
 
 abbrev Pos : Option Item → Type 0

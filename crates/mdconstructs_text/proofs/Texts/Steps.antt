@@ -1,21 +1,6 @@
 -- How the machine of texts reads on, in small steps: to come to these events it is enough to come to them from further on.
-use Rattle.std.proofs.Common.{◌≡◌, ℕ, ◌+◌, ◌<◌, ◌∷◌, ◌++◌, [], List, Bool, true, cond, Option, ap, length, slice_get}
-use Rattle.std.proofs.lemmas.Bool.{lt-ltb}
-use Rattle.markdown_base.specs.declared.event.Event.{Event}
+use Rattle.mdconstructs_text.proofs.Prelude.{◌≡◌, ℕ, ◌+◌, ◌<◌, ◌∷◌, ◌++◌, [], List, Bool, true, cond, Option, ap, length, slice_get, lt-ltb, Event, Name, State, Next, Retry, Ok, Nok, Waits, Nothing, Byte, End, Given, Text, Configuration, Local, Choice, Step, Sight, sight, byte_of, seat_before, Reading, EndsIn, fed, settled_at, called-ends, fed-ends, settled-ok-ends, settled-nok-ends, Rows, class_of, picked, step_of, TextByte, text_byte, text_rules}
 use Rattle.markdown_base.specs.declared.event.Name.{Name as EventName}
-use Rattle.markdown_base.specs.declared.state.Name.{Name}
-use Rattle.markdown_base.specs.declared.state.State.{State}
-use Rattle.markdown_base.specs.declared.state.State.TheVariants.{Next, Retry, Ok, Nok}
-use Rattle.markdown_tokenizer.specs.declared.waiting.Waits.{Waits}
-use Rattle.markdown_tokenizer.specs.declared.waiting.Waits.TheVariants.{Nothing, Byte, End}
-use Rattle.markdown_tokenizer.specs.Text.{Given, Text}
-use Rattle.markdown_tokenizer.specs.Configuration.{Configuration, Local, Choice, Step}
-use Rattle.markdown_tokenizer.specs.Sight.{Sight, sight, byte_of, seat_before}
-use Rattle.markdown_tokenizer.specs.Reading.{Reading, EndsIn, fed, settled_at}
-use Rattle.markdown_tokenizer.proofs.Readings.Bounds.{called-ends, fed-ends, settled-ok-ends, settled-nok-ends}
-use Rattle.mdconstructs_tables.specs.Rows.{Rows, class_of, picked, step_of}
-use Rattle.mdconstructs_text.specs.TextCosts.{TextByte, text_byte}
-use Rattle.mdconstructs_text.specs.TextRules.{text_rules}
 
 -- the step of the machine
 abbrev pub text_step : Given → Sight → Configuration Unit Unit → Name → Step Unit Unit

@@ -1,20 +1,5 @@
 -- The main induction: if each item is read with its events, the whole text is.
-use Rattle.std.proofs.Common.{◌≡◌, ℕ, zero, suc, ◌+◌, ◌-◌, ◌<◌, ◌≤◌, ◌∷◌, ◌++◌, [], List, Bool, true, cond, refl, sym, ◌∙◌, ap, subst, arith, length, take, drop}
-use Rattle.std.proofs.lemmas.List.{append-nil, append_assoc, length-drop, drop-drop}
-use Rattle.std.proofs.lemmas.Bool.{le-ltb}
-use Rattle.std.specs.List.{flat_map}
-use Rattle.markdown_base.specs.declared.configuration.Constructs.{Constructs}
-use Rattle.markdown_base.specs.declared.event.Event.{Event}
-use Rattle.markdown_base.specs.declared.state.State.TheVariants.{Next, Retry, Ok}
-use Rattle.markdown_base.specs.declared.state.TheConstants.Name.{TextBefore}
-use Rattle.markdown_base.specs.Virtual.{Seat}
-use Rattle.markdown_tokenizer.specs.declared.waiting.Waits.TheVariants.{Nothing, Byte, End}
-use Rattle.markdown_tokenizer.specs.Text.{Given, Text}
-use Rattle.markdown_tokenizer.specs.Configuration.{Configuration, Local}
-use Rattle.markdown_tokenizer.specs.Reading.{fed}
-use Rattle.mdconstructs_machines.specs.Tables.{counts}
-use Rattle.mdconstructs_text.specs.Items.{item_length, item_at}
-use Rattle.mdconstructs_text.specs.TextEvents.{bytes_of, cut, item_events, seat_events}
+use Rattle.mdconstructs_text.proofs.Prelude.{◌≡◌, ℕ, zero, suc, ◌+◌, ◌-◌, ◌<◌, ◌≤◌, ◌∷◌, ◌++◌, [], List, Bool, true, cond, refl, sym, ◌∙◌, ap, subst, arith, length, take, drop, append-nil, append_assoc, length-drop, drop-drop, le-ltb, flat_map, Constructs, Event, Next, Retry, Ok, TextBefore, Seat, Nothing, Byte, End, Given, Text, Configuration, Local, fed, counts, item_length, item_at, bytes_of, cut, item_events, seat_events}
 use Rattle.mdconstructs_text.proofs.Texts.Cutting.{drop-less}
 use Rattle.mdconstructs_text.proofs.Texts.Steps.{EndsWith, Leads, between_items, leads-called, leads-fed}
 

@@ -1,20 +1,5 @@
 -- The places of a whole document, one after another: the place after the previous byte is where the next byte is shown.
-use Rattle.std.proofs.Common.{◌≡◌, ℕ, zero, suc, ◌+◌, ◌<◌, ◌==◌, List, [], ◌∷◌, Bool, true, false, Option, Some, None, refl, sym, ap, ◌∙◌, subst, arith}
-use Rattle.std.specs.Prelude.{slice_get}
-use Rattle.std.proofs.lemmas.List.{append-nil}
-use Rattle.markdown_base.specs.declared.event.Point.{Point}
-use Rattle.markdown_base.specs.Virtual.{Seat, point, virtual, document_end}
-use Rattle.markdown_base.specs.Places.{shown, IsShown, IsPointOf}
-use Rattle.markdown_tokenizer.specs.declared.waiting.Waits.{Waits}
-use Rattle.markdown_tokenizer.specs.declared.waiting.Waits.TheVariants.{Nothing, Byte, End}
-use Rattle.markdown_tokenizer.specs.Cursor.{goes_on, end_at}
-use Rattle.markdown_tokenizer.specs.Engine.{whole_text}
-use Rattle.markdown_tokenizer.specs.Sight.{seat_before, byte_of, end_or, end_place, point_or, point_of, current_of, next_place}
-use Rattle.markdown_tokenizer.specs.Text.{Given, Text, IsDocument}
-use Rattle.markdown_tokenizer.proofs.Positions.Chains.{IsChain, whole-chain}
-use Rattle.markdown_tokenizer.proofs.Positions.SeatLaws.{get-among, end-is-point, end-of-is-point}
-use Rattle.markdown_tokenizer.proofs.Positions.Standing.{chain-at, chain-split, after-shown}
-use Rattle.markdown_tokenizer.proofs.Positions.Points.{shown-line}
+use Rattle.mdconstructs_text.proofs.Prelude.{◌≡◌, ℕ, zero, suc, ◌+◌, ◌<◌, ◌==◌, List, [], ◌∷◌, Bool, true, false, Option, Some, None, refl, sym, ap, ◌∙◌, subst, arith, slice_get, append-nil, Point, Seat, point, virtual, document_end, shown, IsShown, IsPointOf, Waits, Nothing, Byte, End, goes_on, end_at, whole_text, seat_before, byte_of, end_or, end_place, point_or, point_of, current_of, next_place, Given, Text, IsDocument, IsChain, whole-chain, get-among, end-is-point, end-of-is-point, chain-at, chain-split, after-shown, shown-line}
 use Rattle.mdconstructs_text.proofs.Texts.WholeTexts.{whole-is-text}
 
 some-before : (xs : List Seat) (k : ℕ) (s : Seat) → slice_get xs (suc k) ≡ Some s → (r : Seat) × (slice_get xs k ≡ Some r)

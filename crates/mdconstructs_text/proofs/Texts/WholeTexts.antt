@@ -1,20 +1,6 @@
 -- The whole text of a document is a text: one range, from the document's start to its end.
-use Rattle.std.specs.List.{AllByRecursion, flat_map}
-use Rattle.std.proofs.Common.{◌≡◌, ℕ, ◌<◌, List, [], ◌∷◌, ◌++◌, true, false, refl, sym, ap, ◌∙◌, arith, subst}
-use Rattle.std.specs.Prelude.{filter, Contains}
-use Rattle.std.proofs.lemmas.Bool.Decides.{nat_tests}
-use Rattle.std.proofs.lemmas.List.{append-nil}
-use Rattle.std.proofs.lemmas.List.Elements.{Contains-append_right}
-use Rattle.markdown_base.specs.declared.event.Point.{Point}
-use Rattle.markdown_base.specs.Virtual.{Seat, point, virtual, end_after, document_end}
-use Rattle.markdown_base.specs.Places.{stands_before, shown, IsPointOf, is_upto}
-use Rattle.markdown_tokenizer.specs.Text.{Given, IsDocument, IsText, pushed, in_range}
-use Rattle.markdown_tokenizer.specs.Engine.{whole_text}
-use Rattle.markdown_base.proofs.Common.{every-map}
-use Rattle.markdown_tokenizer.proofs.Positions.Order.{filter-every}
-use Rattle.markdown_tokenizer.proofs.Positions.Chains.{IsChain, whole-chain}
-use Rattle.markdown_tokenizer.proofs.Positions.Standing.{end-place, rest-after}
-use Rattle.markdown_tokenizer.proofs.Positions.Cursors.{upto-order, same-self}
+use Rattle.mdconstructs_text.proofs.Prelude.{AllByRecursion, flat_map, ◌≡◌, ℕ, ◌<◌, List, [], ◌∷◌, ◌++◌, true, false, refl, sym, ap, ◌∙◌, arith, subst, filter, Contains, nat_tests, append-nil, Contains-append_right, Point, Seat, point, virtual, end_after, document_end, stands_before, shown, IsPointOf, is_upto, Given, IsDocument, IsText, pushed, whole_text, every-map, filter-every, IsChain, whole-chain, end-place, rest-after, upto-order, same-self}
+use Rattle.markdown_tokenizer.specs.Text.{in_range}
 
 module _ (t : ℕ) (bytes : List ℕ) (some : 0 < t) where
   abbrev first : Point

@@ -1,5 +1,4 @@
-use Rattle.mdconstructs_machines.specs.LineEvents.{data_events}
-use Rattle.mdconstructs_machines.specs.Paragraphs.{paragraphs_rules}
+use Rattle.mdconstructs_text.proofs.Prelude.{data_events, paragraphs_rules}
 use Rattle.mdconstructs_text.proofs.Paragraphs.ChainEvents.{chains-read}
 use Rattle.mdconstructs_text.proofs.Paragraphs.DataEvents.{reads-as-data}
 use Rattle.mdconstructs_text.proofs.laws.chains_are_read_as_data.Goals as goal

@@ -1,5 +1,4 @@
-use Rattle.mdconstructs_text.specs.TextEvents.{text_events}
-use Rattle.mdconstructs_text.specs.TextRules.{text_rules}
+use Rattle.mdconstructs_text.proofs.Prelude.{text_events, text_rules}
 use Rattle.mdconstructs_text.proofs.Paragraphs.ChainEvents.{chains-read}
 use Rattle.mdconstructs_text.proofs.Texts.Ends.{reads-items}
 use Rattle.mdconstructs_text.proofs.laws.chains_are_read_as_texts.Goals as goal

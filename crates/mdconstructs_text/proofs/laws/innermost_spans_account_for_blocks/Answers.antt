@@ -1,6 +1,4 @@
-use Rattle.mdconstructs_machines.specs.Paragraphs.{paragraphs_rules}
-use Rattle.mdconstructs_machines.proofs.BlockReads.Accounts.{blocks-accounted}
-use Rattle.mdconstructs_text.specs.TextRules.{text_rules}
+use Rattle.mdconstructs_text.proofs.Prelude.{paragraphs_rules, blocks-accounted, text_rules}
 use Rattle.mdconstructs_text.proofs.Paragraphs.Blocks.{paragraphs-by-blocks, text-by-blocks}
 use Rattle.mdconstructs_text.proofs.laws.innermost_spans_account_for_blocks.Goals as goal
 

@@ -1,6 +1,4 @@
-use Rattle.markdown_base.specs.Virtual.{virtual}
-use Rattle.mdconstructs_machines.specs.ParagraphEvents.{paragraph_events}
-use Rattle.mdconstructs_text.specs.ChainTexts.{chain_text, chain_events, chain_data}
+use Rattle.mdconstructs_text.proofs.Prelude.{virtual, paragraph_events, chain_text, chain_events, chain_data}
 use Rattle.mdconstructs_text.proofs.DeepSpans.DataCuts.{data-cut}
 use Rattle.mdconstructs_text.proofs.DeepSpans.Documents.{children-account}
 use Rattle.mdconstructs_text.proofs.DeepSpans.TextCuts.{text-cut}

@@ -1,8 +1,4 @@
-use Rattle.std.proofs.Common.{◌<◌, refl, arith}
-use Rattle.std.proofs.lemmas.List.Elements.{All-from_get_or}
-use Rattle.markdown_base.specs.Virtual.{IsTabSize}
-use Rattle.markdown_tokenizer.specs.Engine.{given_by}
-use Rattle.markdown_tokenizer.specs.Text.{IsDocument}
+use Rattle.mdconstructs_text.proofs.Prelude.{◌<◌, refl, arith, All-from_get_or, IsTabSize, given_by, IsDocument}
 use Rattle.mdconstructs_text.proofs.Texts.FromStart.{run-events, never-refused, adds-whole}
 use Rattle.mdconstructs_text.proofs.read.read_text.Goals as goal
 

@@ -1,10 +1,4 @@
-use Rattle.std.proofs.Common.{refl, sym, subst}
-use Rattle.markdown_base.specs.declared.state.State.TheVariants.{Retry}
-use Rattle.markdown_base.specs.declared.state.TheConstants.Name.{RawTextBetween}
-use Rattle.markdown_tokenizer.specs.Sight.{sight_of}
-use Rattle.mdconstructs_tables.specs.Rows.{class_of, picked, step_of}
-use Rattle.mdconstructs_tables.specs.RowInvariant.{DoesAll}
-use Rattle.mdconstructs_text.specs.TextCosts.{text_byte}
+use Rattle.mdconstructs_text.proofs.Prelude.{refl, sym, subst, Retry, RawTextBetween, sight_of, class_of, picked, step_of, DoesAll, text_byte}
 use Rattle.mdconstructs_text.proofs.CodeSpans.StringEnds.{has-ended}
 use Rattle.mdconstructs_text.proofs.text.after_opening.Goals as goal
 

@@ -1,11 +1,4 @@
-use Rattle.std.proofs.Common.{◌≡◌, [], ◌∷◌, cond, refl, sym, subst, ◌∙◌, true, false}
-use Rattle.markdown_base.specs.declared.event.Name.TheVariants.{CodeTextSequence}
-use Rattle.markdown_base.specs.declared.state.State.TheVariants.{Ok, Nok}
-use Rattle.markdown_tokenizer.specs.Sight.{sight_of}
-use Rattle.mdconstructs_tables.specs.Rows.{Row, exit, class_of, picked, step_of}
-use Rattle.mdconstructs_tables.specs.RowInvariant.{DoesAll}
-use Rattle.mdconstructs_text.specs.TextCosts.{text_byte}
-use Rattle.mdconstructs_text.specs.TextTable.{sizes_are_equal}
+use Rattle.mdconstructs_text.proofs.Prelude.{◌≡◌, [], ◌∷◌, cond, refl, sym, subst, ◌∙◌, true, false, CodeTextSequence, Ok, Nok, sight_of, Row, exit, class_of, picked, step_of, DoesAll, text_byte, sizes_are_equal}
 use Rattle.mdconstructs_text.proofs.CodeSpans.StringEnds.{has-ended}
 use Rattle.mdconstructs_text.proofs.text.after_run.Goals as goal
 

@@ -1,11 +1,4 @@
-use Rattle.std.proofs.Common.{◌≡◌, [], ◌∷◌, Some, refl, ap, ◌∙◌}
-use Rattle.markdown_base.specs.declared.event.Name.TheVariants.{Autolink, AutolinkMarker, AutolinkProtocol}
-use Rattle.markdown_tokenizer.specs.Sight.{sight_of}
-use Rattle.mdconstructs_tables.specs.Rows.{enter, exit, consume, class_of}
-use Rattle.mdconstructs_tables.specs.Markers.{marked}
-use Rattle.mdconstructs_tables.proofs.Rows.Calls.{can-exit}
-use Rattle.mdconstructs_text.specs.TextCosts.{text_byte, greater}
-use Rattle.mdconstructs_text.specs.TextTable.{autolink_url}
+use Rattle.mdconstructs_text.proofs.Prelude.{◌≡◌, [], ◌∷◌, Some, refl, ap, ◌∙◌, Autolink, AutolinkMarker, AutolinkProtocol, sight_of, enter, exit, consume, class_of, marked, can-exit, text_byte, greater, autolink_url}
 use Rattle.mdconstructs_text.proofs.text.autolink_url.Goals as goal
 
 pub exit-requires-in-Some-eq62 : goal.exit-requires-in-Some-eq62

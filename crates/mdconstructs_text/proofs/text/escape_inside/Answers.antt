@@ -1,13 +1,4 @@
-use Rattle.std.proofs.Common.{◌≡◌, [], ◌∷◌, Some, refl, sym, subst, ap, ◌∙◌, true, false}
-use Rattle.std.specs.Char.{is_ascii_punctuation}
-use Rattle.markdown_base.specs.declared.event.Name.TheVariants.{CharacterEscape, CharacterEscapeValue}
-use Rattle.markdown_base.specs.declared.state.State.TheVariants.{Ok, Nok}
-use Rattle.markdown_tokenizer.specs.Sight.{sight_of}
-use Rattle.mdconstructs_tables.specs.Rows.{enter, exit, consume, class_of, picked, step_of}
-use Rattle.mdconstructs_tables.specs.RowInvariant.{DoesAll}
-use Rattle.mdconstructs_tables.proofs.Rows.Calls.{can-exit, then}
-use Rattle.mdconstructs_text.specs.TextCosts.{text_byte}
-use Rattle.mdconstructs_text.specs.TextTable.{escape_inside, escape_inside_rows}
+use Rattle.mdconstructs_text.proofs.Prelude.{◌≡◌, [], ◌∷◌, Some, refl, sym, subst, ap, ◌∙◌, true, false, is_ascii_punctuation, CharacterEscape, CharacterEscapeValue, Ok, Nok, sight_of, enter, exit, consume, class_of, picked, step_of, DoesAll, can-exit, then, text_byte, escape_inside, escape_inside_rows}
 use Rattle.mdconstructs_text.proofs.Escapes.Classes.{escaped-class, refused-class}
 use Rattle.mdconstructs_text.proofs.text.escape_inside.Goals as goal
 

@@ -1,6 +1,4 @@
-use Rattle.std.proofs.Common.{ap}
-use Rattle.markdown_tokenizer.specs.Sight.{sight_of}
-use Rattle.mdconstructs_text.specs.TextTable.{has_scheme}
+use Rattle.mdconstructs_text.proofs.Prelude.{ap, sight_of, has_scheme}
 use Rattle.mdconstructs_text.proofs.text.has_scheme.Goals as goal
 
 pub returns : goal.returns

@@ -1,6 +1,4 @@
-use Rattle.std.proofs.Common.{ap}
-use Rattle.markdown_tokenizer.specs.Sight.{sight_of}
-use Rattle.mdconstructs_text.specs.TextTable.{sizes_are_equal}
+use Rattle.mdconstructs_text.proofs.Prelude.{ap, sight_of, sizes_are_equal}
 use Rattle.mdconstructs_text.proofs.text.sizes_are_equal.Goals as goal
 
 pub returns : goal.returns

@@ -1,13 +1,4 @@
-use Rattle.std.proofs.Common.{inl, inr, refl, rules, sym, subst}
-use Rattle.markdown_base.specs.declared.state.TheConstants.Name.{FlowStart, ParagraphLineStart, ParagraphStart, ParagraphInside, TextStart, TextBefore, TextBeforeData, DataAtBreak, DataInside, RawTextStart, RawTextSequenceOpen, RawTextBetween, RawTextData, RawTextSequenceClose, RawFlowAfter, RawFlowBeforeContentChunk, RawFlowContentChunk, AutolinkStart, AutolinkOpen, AutolinkSchemeInsideOrEmailAtext, AutolinkUrlInside, CharacterEscapeStart, CharacterEscapeInside}
-use Rattle.mdconstructs_tables.specs.RowInvariant.{begun}
-use Rattle.mdconstructs_tables.proofs.Rows.Calls.{callable, never-called}
-use Rattle.mdconstructs_machines.specs.Tables.{counts}
-use Rattle.mdconstructs_machines.specs.Paragraphs.{flow_start, paragraph_line_start, paragraph_start, paragraph_inside, CanLinkChunk}
-use Rattle.mdconstructs_machines.specs.Laws.Paragraphs.{known-before, can-follow}
-use Rattle.mdconstructs_text.specs.TextTable.{texts, text_start, text_before, text_before_data, data_at_break, data_inside, raw_text_start, raw_text_sequence_open, raw_text_between, raw_text_data, raw_text_sequence_close, raw_flow_after, raw_flow_before_content_chunk, raw_flow_content_chunk, autolink_start, autolink_open, autolink_scheme, autolink_url, escape_start, escape_inside}
-use Rattle.mdconstructs_text.specs.TextRules.{flow}
-use Rattle.mdconstructs_text.specs.Laws.Rules.{in-paragraphs, in-text}
+use Rattle.mdconstructs_text.proofs.Prelude.{inl, inr, refl, rules, sym, subst, FlowStart, ParagraphLineStart, ParagraphStart, ParagraphInside, TextStart, TextBefore, TextBeforeData, DataAtBreak, DataInside, RawTextStart, RawTextSequenceOpen, RawTextBetween, RawTextData, RawTextSequenceClose, RawFlowAfter, RawFlowBeforeContentChunk, RawFlowContentChunk, AutolinkStart, AutolinkOpen, AutolinkSchemeInsideOrEmailAtext, AutolinkUrlInside, CharacterEscapeStart, CharacterEscapeInside, begun, callable, never-called, counts, flow_start, paragraph_line_start, paragraph_start, paragraph_inside, CanLinkChunk, known-before, can-follow, texts, text_start, text_before, text_before_data, data_at_break, data_inside, raw_text_start, raw_text_sequence_open, raw_text_between, raw_text_data, raw_text_sequence_close, raw_flow_after, raw_flow_before_content_chunk, raw_flow_content_chunk, autolink_start, autolink_open, autolink_scheme, autolink_url, escape_start, escape_inside, flow, in-paragraphs, in-text}
 use Rattle.mdconstructs_text.proofs.text.TextMachine.call.Goals as goal
 
 pub flow_start-requires : goal.flow_start-requires
