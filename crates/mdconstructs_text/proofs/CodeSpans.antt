@@ -8,7 +8,6 @@ pub mod Found
 pub mod FoundParts
 pub mod Items
 pub mod Parts
-pub mod Rows
 pub mod Short
 pub mod Steps
 pub mod StringEnds

@@ -1,12 +1,12 @@
 -- Code spans, call by call.
-use Rattle.mdconstructs_text.proofs.Prelude.{◌≡◌, ℕ, ◌+◌, ◌<◌, ◌∷◌, ◌++◌, [], List, Bool, true, false, cond, not, ◌==◌, refl, sym, ◌∙◌, ap, subst, Some, arith, length, drop, slice_get, ◌^◌, not-true, not-false, drop-next, Event, Enter, Exit, CodeText, CodeTextSequence, CodeTextData, LineEnding, Next, Retry, Ok, Nok, RawTextSequenceOpen, RawTextBetween, RawTextData, RawTextSequenceClose, RawFlowAfter, RawFlowBeforeContentChunk, RawFlowContentChunk, Seat, Byte, End, Attempt, Given, Text, Local, Choice, byte_of, end_place, point_or, end_or, Row, exit, class_of, counts, is_backtick, is_line_feed, is_backtick_or_line_feed, event, backtick, line_feed, text_byte, is_tick, ends_code_data, more_than, raw_text_sequence_open_rows, raw_text_between_rows, raw_text_data_rows, raw_text_sequence_close_rows, raw_flow_before_content_chunk_rows, raw_flow_content_chunk_rows}
+use Rattle.mdconstructs_text.proofs.Prelude.{◌≡◌, ℕ, ◌+◌, ◌<◌, ◌∷◌, ◌++◌, [], List, Bool, true, false, cond, not, ◌==◌, refl, sym, ◌∙◌, ap, subst, Some, arith, length, drop, slice_get, ◌^◌, not-true, not-false, drop-next, Event, Enter, Exit, CodeText, CodeTextSequence, CodeTextData, LineEnding, Next, Retry, Ok, Nok, RawTextSequenceOpen, RawTextBetween, RawTextData, RawTextSequenceClose, RawFlowAfter, RawFlowBeforeContentChunk, RawFlowContentChunk, Seat, Byte, End, Attempt, Given, Text, Local, Choice, byte_of, end_place, point_or, end_or, Row, exit, class_of, counts, is_backtick, is_line_feed, is_backtick_or_line_feed, event, backtick, line_feed, text_byte, is_tick, more_than, raw_text_sequence_open_rows, raw_text_between_rows, raw_text_data_rows, raw_text_sequence_close_rows, raw_flow_before_content_chunk_rows, raw_flow_content_chunk_rows}
 use Rattle.markdown_base.specs.declared.event.Name.{Name as EventName}
 use Rattle.mdconstructs_text.proofs.Texts.Steps.{Leads, leads-called, before_class, waiting_class, WithRows}
 use Rattle.mdconstructs_text.proofs.Texts.LineEndings.{at-front}
 use Rattle.mdconstructs_text.proofs.Plain.Items.{WithRow}
 use Rattle.mdconstructs_text.proofs.CodeSpans.StringEnds.{has-ended}
-use Rattle.mdconstructs_text.proofs.CodeSpans.Classes.{tick-class, line-feed-class, other-class, data-class, end-class}
-use Rattle.mdconstructs_text.proofs.CodeSpans.Rows.{at-data, data-ended, chunk-ended}
+use Rattle.mdconstructs_text.proofs.CodeSpans.Classes.{line-feed-class, other-class, at-data, data-ended}
+use Rattle.mdconstructs_text.proofs.Plain.Classes.{tick-class}
 use Rattle.mdconstructs_text.proofs.CodeSpans.Steps.{held, shows, Stops, goes-next, class-rows, Reads}
 
 -- the spans that are open in a code span
@@ -61,12 +61,9 @@ module _ (g : Given) (text : Text) where
   abbrev pub exit_past : EventName → ℕ → Event
   exit_past name q = event g.bytes Exit name (end_or text.end (slice_get text.seats q))
 
-  -- no backtick waits, or what ends data
+  -- no backtick waits
   waiting-other : (q : ℕ) (s : Seat) → slice_get text.seats q ≡ Some s → is_backtick s.byte ≡ false → is_tick (waiting_class g text q) ≡ false
   waiting-other q s at e = ap (λ o. is_tick (class_of text_byte (byte_of o))) at ∙ other-class s.byte e
-
-  waiting-end : (q : ℕ) (s : Seat) → slice_get text.seats q ≡ Some s → is_backtick_or_line_feed s.byte ≡ true → ends_code_data (waiting_class g text q) ≡ true
-  waiting-end q s at e = ap (λ o. ends_code_data (class_of text_byte (byte_of o))) at ∙ end-class s.byte e
 
   -- runs and data are read a byte at a time
   pub open-reads : (cs : List Choice) → Reads g text in_run cs RawTextSequenceOpen is_backtick grows_b
@@ -89,7 +86,7 @@ module _ (g : Given) (text : Text) where
   -- data
   pub data-reads : (cs : List Choice) → Reads g text in_code_data cs RawTextData is_code_byte counts
   data-reads cs q ended events local s at inside es h =
-      let rows = class-rows g text raw_text_data_rows q s (text_byte s.byte) at refl ∙ (at-data (before_class g text q) (text_byte s.byte) (data-class s.byte (not-true _ inside))).1 in
+      let rows = class-rows g text raw_text_data_rows q s (text_byte s.byte) at refl ∙ (at-data (before_class g text q) s.byte (not-true _ inside)).1 in
       leads-called g text (held in_code_data q Byte ended events local) cs RawTextData es
       (subst (WithRows g text (held in_code_data q Byte ended events (counts local)) cs es) (sym rows) h)
 
@@ -138,7 +135,7 @@ module _ (g : Given) (text : Text) where
       → Leads g text (shows l in_code_data q events local) cs (Retry RawFlowContentChunk) (shows l in_code_data q events (counts local)) cs (Retry RawTextData)
   chunk-ends [] q events local cs at stops es h = leads-called g text (held in_code_data q End true events local) cs RawFlowContentChunk es h
   chunk-ends (s ∷ ss) q events local cs at stops es h =
-      let rows = chunk-ended (before_class g text q) (waiting_class g text q) (waiting-other q s (at-front text.seats q s ss at) stops) in
+      let rows = (has-ended (before_class g text q) (waiting_class g text q) (waiting-other q s (at-front text.seats q s ss at) stops)).4 in
       leads-called g text (held in_code_data q Byte false events local) cs RawFlowContentChunk es
       (subst (WithRows g text (held in_code_data q Byte false events (counts local)) cs es) (sym rows) h)
 
@@ -147,7 +144,7 @@ module _ (g : Given) (text : Text) where
       → Leads g text (shows l in_code_data q events local) cs (Retry RawTextData) (shows l in_code q (events ++ exit_at CodeTextData q ∷ []) (counts local)) cs (Retry RawTextBetween)
   data-ends [] q events local cs at stops es h = leads-called g text (held in_code_data q End true events local) cs RawTextData es h
   data-ends (s ∷ ss) q events local cs at stops es h =
-      let rows = data-ended (before_class g text q) (waiting_class g text q) (waiting-end q s (at-front text.seats q s ss at) (not-false _ stops)) in
+      let rows = class-rows g text raw_text_data_rows q s (text_byte s.byte) (at-front text.seats q s ss at) refl ∙ data-ended (before_class g text q) s.byte (not-false _ stops) in
       leads-called g text (held in_code_data q Byte false events local) cs RawTextData es
       (subst (WithRows g text (held in_code_data q Byte false events (counts local)) cs es) (sym rows) h)
 
@@ -164,7 +161,7 @@ module _ (g : Given) (text : Text) where
   pub between-data : (q : ℕ) (s : Seat) (events : List Event) (local : Local Unit Unit) (cs : List Choice) → slice_get text.seats q ≡ Some s → is_backtick_or_line_feed s.byte ≡ false
       → Leads g text (held in_code q Byte false events local) cs (Retry RawTextBetween) (held in_code_data q Byte false (events ++ enter_at CodeTextData q ∷ []) (counts local)) cs (Retry RawTextData)
   between-data q s events local cs at inside es h =
-      let rows = class-rows g text raw_text_between_rows q s (text_byte s.byte) at refl ∙ (at-data (before_class g text q) (text_byte s.byte) (data-class s.byte inside)).0 in
+      let rows = class-rows g text raw_text_between_rows q s (text_byte s.byte) at refl ∙ (at-data (before_class g text q) s.byte inside).0 in
       leads-called g text (held in_code q Byte false events local) cs RawTextBetween es
       (subst (WithRows g text (held in_code q Byte false events (counts local)) cs es) (sym rows) h)
 

@@ -3,7 +3,7 @@ use Rattle.mdconstructs_text.proofs.Prelude.{◌≡◌, ℕ, ◌+◌, ◌^◌, �
 use Rattle.mdconstructs_text.proofs.Texts.Steps.{EndsWith, Leads, between_items, leads-called, leads-fed, leads-ok, leads-nok, WithRows}
 use Rattle.mdconstructs_text.proofs.Texts.LineEndings.{at-front}
 use Rattle.mdconstructs_text.proofs.Plain.Items.{outer, leads-tried}
-use Rattle.mdconstructs_text.proofs.CodeSpans.Classes.{tick-class}
+use Rattle.mdconstructs_text.proofs.Plain.Classes.{tick-class}
 use Rattle.mdconstructs_text.proofs.CodeSpans.Steps.{held, shows, past, passed, past-at, past-stops, passed-counts, goes-next, class-rows, leaf-is, loops, ends-fed}
 use Rattle.mdconstructs_text.proofs.CodeSpans.Calls.{in_code, in_run, size_b, with_b, with_c, grows_b, grows_c, more-is, enter_at, exit_at, inner, open-reads, open-ends, close-reads, close-fits, between-run, code-ends}
 use Rattle.mdconstructs_text.proofs.CodeSpans.Parts.{count-within, sizes-read}

@@ -43,7 +43,7 @@ six (x ∷ es) a b c d e f = ap (λ l. x ∷ l) (six es a b c d e f)
 module _ (g : Given) (text : Text) where
   -- the rows of the second call
   inside-rows : (p : ℕ) (value : Seat) → slice_get text.seats p ≡ Some value → is_ascii_punctuation value.byte ≡ true → escape_inside_rows (before_class g text p) (waiting_class g text p) ≡ escaped
-  inside-rows p value at h = ap (λ o. escape_inside_rows (before_class g text p) (class_of text_byte (byte_of o))) at ∙ escaped-class value.byte h (before_class g text p)
+  inside-rows p value at h = ap (λ o. escape_inside_rows (before_class g text p) (class_of text_byte (byte_of o))) at ∙ escaped-class (before_class g text p) value.byte h
 
   -- the rows of the first call
   abbrev starts_escape : Rows Unit Unit
@@ -118,7 +118,7 @@ module _ (g : Given) (text : Text) where
   refused-at : (before : Option TextByte) (o : Option Seat) → ((value : Seat) → o ≡ Some value → is_ascii_punctuation value.byte ≡ false)
       → escape_inside_rows before (class_of text_byte (byte_of o)) ≡ row [] Nok
   refused-at before None none = refl
-  refused-at before (Some value) none = refused-class value.byte (none value refl) before
+  refused-at before (Some value) none = refused-class before value.byte (none value refl)
 
   value-refused : (b : Bool) (p : ℕ) (events : List Event) (local : Local Unit Unit) (cs : List Choice) → NoneEscaped g text p
       → Leads g text (seen_next b p events local) cs (Retry CharacterEscapeInside) (seen_next b p events (counts local)) cs Nok

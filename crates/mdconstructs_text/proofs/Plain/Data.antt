@@ -2,7 +2,7 @@
 use Rattle.mdconstructs_text.proofs.Prelude.{◌≡◌, ℕ, suc, ◌+◌, ◌<◌, ◌≤◌, ◌∷◌, ◌++◌, [], List, Bool, true, false, cond, refl, sym, ◌∙◌, ap, subst, Some, arith, length, take, drop, max, nat_lt, slice_get, not, ◌-◌, add_assoc, not-true, append_assoc, drop-drop, drop-map, length-drop, length-map, prefix_len-le-length, slice_get_within, prefix_len, Event, Enter, Exit, Data, Next, Retry, TextBefore, TextBeforeData, DataAtBreak, DataInside, Seat, Nothing, Byte, Given, Text, Configuration, Local, Choice, byte_of, point_or, end_place, row, enter, consume, class_of, counts, is_special, is_backtick, backticks, passes, plain_length, text_byte, bytes_of, event, leaf, text_before_data_rows, data_at_break_rows, data_inside_rows}
 use Rattle.mdconstructs_text.proofs.Texts.Steps.{EndsWith, Leads, between_items, leads-called, leads-fed, fed-is, before_class, waiting_class, WithRows}
 use Rattle.mdconstructs_text.proofs.Texts.LineEndings.{at-front}
-use Rattle.mdconstructs_text.proofs.Plain.Classes.{begins-class, tick-begins, tick-class, tick-ends, inside-class, data-ends}
+use Rattle.mdconstructs_text.proofs.Plain.Classes.{begins-class, tick-class, tick-ends, inside-class, data-ends}
 use Rattle.mdconstructs_text.proofs.Plain.Stretches.{run-ends, leaf-read, in_spans, at_byte, seen, leads-unfed, ReadsByte, reads-run}
 
 -- a byte at which no other item may begin
@@ -18,7 +18,7 @@ module _ (g : Given) (text : Text) where
   reads-tick : ReadsByte g text (Data ∷ []) DataAtBreak is_backtick
   reads-tick p ended events local cs s at is es h =
       let rows : data_at_break_rows (before_class g text p) (waiting_class g text p) ≡ row (consume ∷ []) (Next DataAtBreak) =
-      ap (λ o. data_at_break_rows (before_class g text p) (class_of text_byte (byte_of o))) at ∙ tick-class (before_class g text p) s.byte is in
+      ap (λ o. data_at_break_rows (before_class g text p) (class_of text_byte (byte_of o))) at ∙ ap (λ w. data_at_break_rows (before_class g text p) (Some w)) (tick-class s.byte is) in
       leads-called g text (at_byte (Data ∷ []) p ended events local) cs DataAtBreak es
       (subst (WithRows g text (at_byte (Data ∷ []) p ended events (counts local)) cs es) (sym rows) h)
 
@@ -107,7 +107,7 @@ module _ (g : Given) (text : Text) where
   begins-ticks p ended events local s ss here is =
       let at = at-front text.seats p s ss here in
       let rows : text_before_data_rows (before_class g text p) (waiting_class g text p) ≡ row (enter Data ∷ []) (Retry DataAtBreak) =
-      ap (λ o. text_before_data_rows (before_class g text p) (class_of text_byte (byte_of o))) at ∙ tick-begins (before_class g text p) s.byte is in
+      ap (λ o. text_before_data_rows (before_class g text p) (class_of text_byte (byte_of o))) at ∙ ap (λ w. text_before_data_rows (before_class g text p) (Some w)) (tick-class s.byte is) in
       let ran = reads-run g text (Data ∷ []) DataAtBreak is_backtick reads-tick (s ∷ ss) p ended (entered_data events p) (counts local) [] here in (
         ran.0,
         counts ran.1,

@@ -17,7 +17,7 @@ returns-in_ok-exit-in-Some c =
     let byte = c.in-Some.byte in
     let is = sym c.current.ensures ∙ c.in-Some.is in
     let punctuation : is_ascii_punctuation byte ≡ true = sym c.is_ascii_punctuation.ensures.value ∙ c.if-is_ascii_punctuation.true in
-    subst (λ rows. DoesAll (step_of (picked rows t.given s k) s k) t c.exit.new.self Ok) (sym (ap (λ o. escape_inside_rows b (class_of text_byte o)) is ∙ escaped-class byte punctuation b))
+    subst (λ rows. DoesAll (step_of (picked rows t.given s k) s k) t c.exit.new.self Ok) (sym (ap (λ o. escape_inside_rows b (class_of text_byte o)) is ∙ escaped-class b byte punctuation))
     (record {
       answered = refl;
       became = then text_byte escape_inside _ (Some (text_byte byte)) t c.requires.called refl (ap (class_of text_byte) is) (enter CharacterEscapeValue ∷ consume ∷ exit CharacterEscapeValue ∷ [])
@@ -33,5 +33,5 @@ returns-else-is_ascii_punctuation c =
     let byte = c.in-Some.byte in
     let is = sym c.current.ensures ∙ c.in-Some.is in
     let none : is_ascii_punctuation byte ≡ false = sym c.is_ascii_punctuation.ensures.value ∙ c.if-is_ascii_punctuation.false in
-    subst (λ rows. DoesAll (step_of (picked rows t.given s k) s k) t t Nok) (sym (ap (λ o. escape_inside_rows b (class_of text_byte o)) is ∙ refused-class byte none b))
+    subst (λ rows. DoesAll (step_of (picked rows t.given s k) s k) t t Nok) (sym (ap (λ o. escape_inside_rows b (class_of text_byte o)) is ∙ refused-class b byte none))
     (record { answered = refl; became = refl })
