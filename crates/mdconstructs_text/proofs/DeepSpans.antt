@@ -9,4 +9,3 @@ pub mod Fronts
 pub mod Places
 pub mod Spans
 pub mod TextCuts
-pub mod Whole

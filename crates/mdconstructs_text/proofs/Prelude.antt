@@ -2,20 +2,21 @@
 pub use Rattle.std.proofs.Common.{Bool, List, None, Option, Some, [], add_assoc, ap, arith, cond, drop, false, inl, inr, length, length-append, max, nat_le, nat_lt, not, option_map, refl, rules, slice_get, subst, suc, sym, take, true, zero, ℕ, ⊎_elim, ◌%◌, ◌&&◌, ◌*◌, ◌++◌, ◌+◌, ◌-◌, ◌<◌, ◌==◌, ◌^◌, ◌||◌, ◌∙◌, ◌∷◌, ◌≡◌, ◌≤◌, ◌⊎◌}
 pub use Rattle.std.proofs.Math.Bool.{and-false, and-true}
 pub use Rattle.std.proofs.Math.Nat.{mul-suc}
-pub use Rattle.std.proofs.lemmas.Bool.{and_parts, cases_lt, eqb-true, le-ltb, lt-ltb, not-false, not-true}
+pub use Rattle.std.proofs.Math.Seq.{take-append_seam, take-suc}
+pub use Rattle.std.proofs.lemmas.Bool.{and_parts, cases_lt, eqb-true, lt-ltb, not-false, not-true}
 pub use Rattle.std.proofs.lemmas.Bool.Decides.{nat_tests}
 pub use Rattle.std.proofs.lemmas.Grind.{flat_map-append}
 pub use Rattle.std.proofs.lemmas.List.{append-nil, append_assoc, append_cancel_left, append_cancel_right, drop-drop, drop-map, drop-take, drop_at, length-drop, length-map, length-take, length-take-le, map-append, take-append-drop, take-map, take-take, take_at}
-pub use Rattle.std.proofs.lemmas.List.Elements.{All-from_get_or, All-from_recursion, Contains-append_right, filter-append}
+pub use Rattle.std.proofs.lemmas.List.Elements.{All-from_get_or, All-from_recursion, filter-append}
 pub use Rattle.std.proofs.lemmas.List.Folds.{length-prefix_len}
 pub use Rattle.std.proofs.lemmas.List.Kept.{AllPairs-cons}
-pub use Rattle.std.proofs.lemmas.List.Sums.{prefix_len-le-length, take_while-cons}
+pub use Rattle.std.proofs.lemmas.List.Sums.{count_by-le-length, length-filter, prefix_len-le-length, take_while-cons}
 pub use Rattle.std.proofs.lemmas.Option.{get_or_from_slice_get, slice_get-map, slice_get_within}
 pub use Rattle.std.proofs.lemmas.Slice.{between_is}
 pub use Rattle.std.specs.Char.{is_ascii_alphabetic, is_ascii_alphanumeric, is_ascii_punctuation}
 pub use Rattle.std.specs.List.{AllByRecursion, between, find, flat_map, last_or, list_all, position_or_len, prefix_len, range_with_len}
 pub use Rattle.std.specs.Prelude.{All, AllPairs, Contains, codes, filter, is_some, map, option_and_then, replicate, unwrap_or}
-pub use Rattle.markdown_base.proofs.Common.{and-right, drop-at, drop-next, every-append, every-filter, every-get, every-map, filter-none, or-leads}
+pub use Rattle.markdown_base.proofs.Common.{and-right, drop-at, drop-next, every-append, every-filter, every-get, every-map, filter-none, get-front, or-leads}
 pub use Rattle.markdown_base.proofs.Seats.{end-after-append, end-after-one}
 pub use Rattle.markdown_base.specs.Events.{IsBalanced, IsInOrder, IsVoidTight, empty, is_enter, is_void, span}
 pub use Rattle.markdown_base.specs.Places.{IsPointOf, IsShown, denotes_same, in_range, is_upto, shown, stands_before}
@@ -61,8 +62,9 @@ pub use Rattle.markdown_tokenizer.proofs.Positions.Points.{same-shown, shown-col
 pub use Rattle.markdown_tokenizer.proofs.Positions.SeatLaws.{end-is-point, end-of-is-point, get-among}
 pub use Rattle.markdown_tokenizer.proofs.Positions.Seats.{rest-later}
 pub use Rattle.markdown_tokenizer.proofs.Positions.Standing.{after-shown, chain-at, chain-split, chain-upto, end-place, place-after, place-of-point, rest-after, shown-shown}
-pub use Rattle.markdown_tokenizer.proofs.Readings.Bounds.{called-ends, fed-ends, one-end, settled-nok-ends, settled-ok-ends}
+pub use Rattle.markdown_tokenizer.proofs.Readings.Bounds.{fed-ends, one-end, settled-ok-ends}
 pub use Rattle.markdown_tokenizer.proofs.Readings.Plain.{edited-same, no-links-shape}
+pub use Rattle.markdown_tokenizer.proofs.Runs.Whole.{start-is-point, start-upto}
 pub use Rattle.markdown_tokenizer.proofs.Runs.Working.{text-on}
 pub use Rattle.markdown_tokenizer.specs.Calls.{with_local, with_resolvers}
 pub use Rattle.markdown_tokenizer.specs.Configuration.{Choice, Configuration, Local, Step, start_configuration}
@@ -84,8 +86,8 @@ pub use Rattle.mdconstructs_machines.proofs.BlockReads.Whole.{blocks-read, reads
 pub use Rattle.mdconstructs_machines.proofs.Innermost.{enter-more, exit-more, span-more}
 pub use Rattle.mdconstructs_machines.proofs.LineReads.Accounts.{both}
 pub use Rattle.mdconstructs_machines.proofs.LineReads.Data.{ReadsData, data-read}
-pub use Rattle.mdconstructs_machines.proofs.LineReads.Rows.{leads-row, waits_class}
-pub use Rattle.mdconstructs_machines.proofs.LineReads.Steps.{EndsWith, goes-next, held, shows, stands}
+pub use Rattle.mdconstructs_machines.proofs.LineReads.Rows.{leads-row, line-ending-read, row_step, waits_class}
+pub use Rattle.mdconstructs_machines.proofs.LineReads.Steps.{EndsWith, at-front, goes-next, held, shows, stands}
 pub use Rattle.mdconstructs_machines.specs.Innermost.{AccountFor, ended_next, innermost_spans, span_over, stretch_bytes}
 pub use Rattle.mdconstructs_machines.specs.Laws.Paragraphs.{begins-chunk, can-follow, chunk_at, known-before, paragraphs-fit, paragraphs-known}
 pub use Rattle.mdconstructs_machines.specs.LineEvents.{all_of, data_events, data_line, ending_of, is_line_ending, joined, line_text, lines_in}
@@ -106,11 +108,11 @@ pub use Rattle.mdconstructs_tables.specs.Markers.{marked}
 pub use Rattle.mdconstructs_tables.specs.Refusals.{RulesRefuseNothing, refusing}
 pub use Rattle.mdconstructs_tables.specs.RowInvariant.{DoesAll, begun}
 pub use Rattle.mdconstructs_tables.specs.RowTest.{allows_all, start_shape}
-pub use Rattle.mdconstructs_tables.specs.Rows.{Row, Rows, choose, class_of, consume, enter, exit, picked, row, step_of, table_step, when, write}
+pub use Rattle.mdconstructs_tables.specs.Rows.{Row, Rows, class_of, consume, enter, exit, picked, row, step_of, table_step, when, write}
 pub use Rattle.mdconstructs_text.specs.ChainTexts.{AreReadBy, HasReadableChains, chain_data, chain_events, chain_text, with_data, with_read, with_texts}
 pub use Rattle.mdconstructs_text.specs.Items.{Item, Part, autolink, autolink_at, autolink_to, backticks, before_backtick_string, code_span, code_span_at, ends_with, escape, escape_at, has_byte_at, if_on, is_allowed, is_backslash, is_backtick, is_backtick_or_line_feed, is_backtick_string, is_colon, is_greater_than, is_less_than, is_line_feed, is_scheme, is_scheme_byte, is_special, item_at, item_length, line_ending, or_else, part, part_at, part_length, passes, plain_length, plain_run, uri}
 pub use Rattle.mdconstructs_text.specs.Laws.Rules.{in-paragraphs, in-text, inline-lawful, text-lawful, texts-apart}
 pub use Rattle.mdconstructs_text.specs.TextCosts.{TextByte, backslash, backtick, blank, colon, digit, greater, is_tick, less, letter, line_feed, mark, other, punctuation, text_byte}
 pub use Rattle.mdconstructs_text.specs.TextEvents.{bytes_of, cut, event, item_events, leaf, part_events, pieces, seat_events, text_events}
 pub use Rattle.mdconstructs_text.specs.TextRules.{flow, inline_rules, text_rules}
-pub use Rattle.mdconstructs_text.specs.TextTable.{autolink_open, autolink_open_rows, autolink_scheme, autolink_scheme_rows, autolink_start, autolink_start_rows, autolink_url, autolink_url_rows, data_at_break, data_at_break_rows, data_inside, data_inside_rows, escape_inside, escape_inside_rows, escape_start, escape_start_rows, escaped, escapes, has_scheme, line_ending_then, links_by_itself, more_than, raw_flow_after, raw_flow_before_content_chunk, raw_flow_before_content_chunk_rows, raw_flow_content_chunk, raw_flow_content_chunk_rows, raw_text_between, raw_text_between_rows, raw_text_data, raw_text_data_rows, raw_text_sequence_close, raw_text_sequence_close_rows, raw_text_sequence_open, raw_text_sequence_open_rows, raw_text_start, raw_text_start_rows, scheme_goes_on, size_b_grows, size_b_is, sizes_are_equal, spans_code, text_before, text_before_data, text_before_data_rows, text_before_rows, text_start, texts, tries}
+pub use Rattle.mdconstructs_text.specs.TextTable.{autolink_open, autolink_open_rows, autolink_scheme, autolink_scheme_rows, autolink_start, autolink_start_rows, autolink_url, autolink_url_rows, data_at_break, data_at_break_rows, data_inside, data_inside_rows, escape_inside, escape_inside_rows, escape_start, escape_start_rows, escaped, escapes, has_room, has_scheme, links_by_itself, more_than, raw_flow_after, raw_flow_before_content_chunk, raw_flow_before_content_chunk_rows, raw_flow_content_chunk, raw_flow_content_chunk_rows, raw_text_between, raw_text_between_rows, raw_text_data, raw_text_data_rows, raw_text_sequence_close, raw_text_sequence_close_rows, raw_text_sequence_open, raw_text_sequence_open_rows, raw_text_start, raw_text_start_rows, scheme_goes_on, size_b_is, sizes_are_equal, spans_code, text_before, text_before_data, text_before_data_rows, text_before_rows, text_start, texts, tries}

@@ -3,7 +3,6 @@ pub mod AddsItems
 pub mod Cutting
 pub mod Ends
 pub mod FromStart
-pub mod Items
 pub mod LineEndings
 pub mod Positive
 pub mod Steps

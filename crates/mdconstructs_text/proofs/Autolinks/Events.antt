@@ -1,6 +1,5 @@
 -- The events that the machine of texts makes of an autolink are the item's.
-use Rattle.mdconstructs_text.proofs.Prelude.{◌≡◌, ℕ, zero, suc, ◌+◌, ◌<◌, ◌∷◌, ◌++◌, [], List, false, refl, sym, ◌∙◌, ap, Option, Some, None, arith, length, take, drop, slice_get, ◌==◌, take_at, drop_at, length-take-le, slice_get_within, between_is, between, drop-next, end-after-one, Event, Enter, Exit, Autolink, AutolinkMarker, AutolinkProtocol, Point, shown, Seat, end_after, Given, Text, point_or, end_or, end_place, autolink, event, leaf, item_events}
-use Rattle.mdconstructs_text.proofs.Texts.LineEndings.{at-front}
+use Rattle.mdconstructs_text.proofs.Prelude.{at-front, ◌≡◌, ℕ, suc, ◌+◌, ◌<◌, ◌∷◌, ◌++◌, [], List, false, refl, sym, ◌∙◌, ap, Option, Some, None, arith, length, take, drop, slice_get, ◌==◌, take_at, drop_at, length-take-le, slice_get_within, between_is, between, drop-next, end-after-one, Event, Enter, Exit, Autolink, AutolinkMarker, AutolinkProtocol, Point, shown, Seat, end_after, Given, Text, point_or, end_or, end_place, autolink, event, leaf, item_events, take-suc, get_or_from_slice_get}
 use Rattle.mdconstructs_text.proofs.Plain.Stretches.{get-drop, leaf-read}
 use Rattle.mdconstructs_text.proofs.Autolinks.Steps.{begun_link, ended_link}
 
@@ -13,12 +12,6 @@ eight : (es : List Event) (a b c d e f g h : Event)
     → (((((((es ++ a ∷ []) ++ b ∷ []) ++ c ∷ []) ++ d ∷ []) ++ e ∷ []) ++ f ∷ []) ++ g ∷ []) ++ h ∷ [] ≡ es ++ a ∷ b ∷ c ∷ d ∷ e ∷ f ∷ g ∷ h ∷ []
 eight [] a b c d e f g h = refl
 eight (x ∷ es) a b c d e f g h = ap (λ l. x ∷ l) (eight es a b c d e f g h)
-
--- one more is taken
-take-last : (n : ℕ) (xs : List Seat) (x : Seat) → slice_get xs n ≡ Some x → take (suc n) xs ≡ take n xs ++ x ∷ []
-take-last n [] x h = absurd (cc)
-take-last zero (y ∷ ys) x h = let same : y ≡ x = cc in ap (λ z. z ∷ []) same
-take-last (suc n) (y ∷ ys) x h = ap (λ l. y ∷ l) (take-last n ys x h)
 
 -- the events of an autolink, by its first virtual byte, its last, and those between them
 spelled : (bytes : List ℕ) (n : ℕ) (s x : Seat) (xs : List Seat) → length xs ≡ n
@@ -64,7 +57,7 @@ module _ (g : Given) (text : Text) where
       ap (λ o. event g.bytes Enter AutolinkProtocol (point_or text.end o) ∷ exits ∷ []) (sym at_r) ∙ leaf-read text g.bytes AutolinkProtocol n (p + 1) r rs behind some (omega (arith, within)) in
       let size : length (take n ss) ≡ n = length-take-le n ss (omega (arith, within)) in
       let two_more : n + 2 ≡ suc (suc n) = omega arith in
-      let all : take (n + 2) (s ∷ ss) ≡ s ∷ (take n ss ++ x ∷ []) = ap (λ k. take k (s ∷ ss)) two_more ∙ ap (λ l. s ∷ l) (take-last n ss x last) in
+      let all : take (n + 2) (s ∷ ss) ≡ s ∷ (take n ss ++ x ∷ []) = ap (λ k. take k (s ∷ ss)) two_more ∙ ap (λ l. s ∷ l) (take-suc ss n x within ∙ ap (λ y. take n ss ++ y ∷ []) (get_or_from_slice_get ss n x x last)) in
       let item = ap (λ l. item_events g.bytes (autolink n, l)) all ∙ spelled g.bytes n s x (take n ss) size in
       eight events _ _ _ _ _ _ _ _
       ∙ ap (λ o. made events o (event g.bytes Enter AutolinkProtocol (end_or text.end o)) exits (slice_get text.seats q)) at

@@ -1,7 +1,6 @@
 -- Autolinks, as the machine of texts reads them: if one is there, it is read whole, with its events; if not, what was tried leaves nothing.
-use Rattle.mdconstructs_text.proofs.Prelude.{◌≡◌, ℕ, ◌+◌, ◌<◌, ◌≤◌, ◌∷◌, ◌++◌, [], List, Bool, true, false, cond, refl, sym, ◌∙◌, ap, subst, Option, Some, None, arith, length, take, drop, slice_get, nat_lt, nat_le, ◌&&◌, ◌==◌, nat_tests, drop-drop, drop-map, slice_get_within, is_ascii_alphabetic, prefix_len, drop-next, Event, State, Next, Retry, Ok, AutolinkStart, AutolinkOpen, AutolinkSchemeInsideOrEmailAtext, AutolinkUrlInside, Seat, Nothing, Given, Text, Configuration, Local, Choice, byte_of, counts, Item, autolink, item_length, passes, has_byte_at, is_scheme_byte, is_allowed, uri, autolink_to, autolink_at, is_colon, is_greater_than, is_less_than, bytes_of, item_events, links_by_itself}
-use Rattle.mdconstructs_text.proofs.Texts.Steps.{EndsWith, Leads, between_items, leads-fed, leads-ok, fed-is}
-use Rattle.mdconstructs_text.proofs.Texts.LineEndings.{at-front}
+use Rattle.mdconstructs_text.proofs.Prelude.{at-front, ◌≡◌, ℕ, ◌+◌, ◌<◌, ◌≤◌, ◌∷◌, ◌++◌, [], List, Bool, true, false, cond, refl, sym, ◌∙◌, ap, subst, Option, Some, None, arith, length, take, drop, slice_get, nat_lt, nat_le, ◌&&◌, ◌==◌, nat_tests, drop-drop, drop-map, slice_get_within, is_ascii_alphabetic, prefix_len, drop-next, Event, State, Next, Retry, Ok, AutolinkStart, AutolinkOpen, AutolinkSchemeInsideOrEmailAtext, AutolinkUrlInside, Seat, Nothing, Given, Text, Configuration, Local, Choice, byte_of, counts, Item, autolink, item_length, passes, has_byte_at, is_scheme_byte, is_allowed, uri, autolink_to, autolink_at, is_colon, is_greater_than, is_less_than, bytes_of, item_events, links_by_itself}
+use Rattle.mdconstructs_text.proofs.Texts.Steps.{EndsWith, Leads, between_items, leads-byte, leads-ok, fed-is}
 use Rattle.mdconstructs_text.proofs.Plain.Stretches.{byte-behind, run-ends, found, reads-run}
 use Rattle.mdconstructs_text.proofs.Plain.Items.{outer, Tried, byte-rows, leads-tried}
 use Rattle.mdconstructs_text.proofs.Autolinks.Steps.{link_spans, in_link, begun_link, marker-read, colon-read, reads-allowed, closing-read, Refused, refused-fed, open-seen, scheme-seen, too-short, link-seen}
@@ -90,11 +89,10 @@ module _ (g : Given) (text : Text) (joined : IsJoined g text) (p : ℕ) (ended :
             let made = link-events g text joined events p inside s r x rs here plain (omega arith) at in (
               counts local,
               λ es h.
-                  leads-fed g text k choices AutolinkUrlInside es
-                  (subst (λ j. EndsWith g text j choices (Retry AutolinkUrlInside) es) (sym (fed-is g text q e (begun_link g text events p) link_spans local (slice_get_within text.seats q x at)))
+                  leads-byte g text link_spans q e (begun_link g text events p) local choices AutolinkUrlInside at es
                   (closing-read g text q e (begun_link g text events p) local choices x at closing es
                   (subst (λ l. EndsWith g text (between_items (q + 1) Nothing false l (counts local)) choices Ok es) (sym made)
-                  (subst (λ i. EndsWith g text (between_items i Nothing false (events ++ item_events g.bytes (autolink inside, take (inside + 2) (s ∷ r ∷ rs))) (counts local)) choices Ok es) (sym further) h)))),
+                  (subst (λ i. EndsWith g text (between_items i Nothing false (events ++ item_events g.bytes (autolink inside, take (inside + 2) (s ∷ r ∷ rs))) (counts local)) choices Ok es) (sym further) h))),
             )
         | false ↦ λ other. refused-fed g text p ended events k AutolinkUrlInside (link-seen g text (nat_lt q (length text.seats)) p ended events q e local none (sym byte ∙ other))
       ] refl
@@ -120,10 +118,9 @@ module _ (g : Given) (text : Text) (joined : IsJoined g text) (p : ℕ) (ended :
       let stops : passes is_allowed (byte_of (slice_get text.seats (p + 1 + inside))) ≡ false = ap (λ i. passes is_allowed (byte_of (slice_get text.seats i))) (sym total) ∙ run-ends is_allowed text.seats l (q + 1) behind_colon in
       decided-before g text p ended events (s ∷ r ∷ rs) (in_tried q e local) (in_tried (p + 1 + inside) ran.0 ran.1) (Next AutolinkSchemeInsideOrEmailAtext) (Next AutolinkUrlInside) (autolink_to (bytes_of (s ∷ r ∷ rs)) (Some inside))
       (λ es h.
-      leads-fed g text (in_tried q e local) choices AutolinkSchemeInsideOrEmailAtext es
-      (subst (λ j. EndsWith g text j choices (Retry AutolinkSchemeInsideOrEmailAtext) es) (sym (fed-is g text q e (begun_link g text events p) link_spans local (slice_get_within text.seats q c at)))
+      leads-byte g text link_spans q e (begun_link g text events p) local choices AutolinkSchemeInsideOrEmailAtext at es
       (colon-read g text q e (begun_link g text events p) local choices c at is (ap (nat_le 2) size ∙ long) es
-      (ran.2 es (subst (λ i. EndsWith g text (in_tried i ran.0 ran.1) choices (Next AutolinkUrlInside) es) (sym total) h)))))
+      (ran.2 es (subst (λ i. EndsWith g text (in_tried i ran.0 ran.1) choices (Next AutolinkUrlInside) es) (sym total) h))))
       (closes ran.0 ran.1 stops)
 
   -- an autolink is rejected if no colon ends its scheme, or if its scheme is too short

@@ -1,8 +1,6 @@
 -- The scheme of an autolink, as the machine of texts reads it: byte by byte, up to 32 of them.
-use Rattle.mdconstructs_text.proofs.Prelude.{◌≡◌, ℕ, zero, suc, ◌+◌, ◌<◌, ◌≤◌, ◌∷◌, [], List, Bool, true, false, cond, ◌&&◌, refl, sym, ◌∙◌, ap, subst, arith, take, drop, nat_le, nat_lt, and-true, lt-ltb, nat_tests, slice_get_within, is_ascii_alphabetic, length-prefix_len, list_all, prefix_len, drop-next, Event, Next, Retry, AutolinkOpen, AutolinkSchemeInsideOrEmailAtext, Seat, Given, Text, Local, Choice, counts, has_byte_at, is_scheme_byte, is_scheme, bytes_of, more_than}
-use Rattle.mdconstructs_text.proofs.Texts.Steps.{EndsWith, Leads, leads-fed, fed-is}
-use Rattle.mdconstructs_text.proofs.Texts.LineEndings.{at-front}
-use Rattle.mdconstructs_text.proofs.Plain.Stretches.{}
+use Rattle.mdconstructs_text.proofs.Prelude.{at-front, ◌≡◌, ℕ, zero, suc, ◌+◌, ◌<◌, ◌≤◌, ◌∷◌, [], List, Bool, true, false, cond, ◌&&◌, refl, sym, ◌∙◌, ap, subst, arith, take, drop, nat_le, nat_lt, and-true, lt-ltb, nat_tests, slice_get_within, is_ascii_alphabetic, length-prefix_len, list_all, prefix_len, drop-next, Event, Next, Retry, AutolinkOpen, AutolinkSchemeInsideOrEmailAtext, Seat, Given, Text, Local, Choice, counts, has_byte_at, is_scheme_byte, is_scheme, bytes_of, more_than}
+use Rattle.mdconstructs_text.proofs.Texts.Steps.{EndsWith, Leads, fed-is, leads-byte}
 use Rattle.mdconstructs_text.proofs.Autolinks.Steps.{sized, link_spans, in_link, begun_link, letter-read, scheme-byte-read, Refused, refused-fed, no-room}
 
 letter-scheme : (b : ℕ) → is_ascii_alphabetic b ≡ true → is_scheme_byte b ≡ true
@@ -81,10 +79,9 @@ module _ (g : Given) (text : Text) where
               rest.1,
               (omega (arith, grown, rest.2)),
               λ es h.
-                  leads-fed g text (in_link p ended events local) cs AutolinkSchemeInsideOrEmailAtext es
-                  (subst (λ k. EndsWith g text k cs (Retry AutolinkSchemeInsideOrEmailAtext) es) (sym (fed-is g text p ended events link_spans local (slice_get_within text.seats p s at)))
+                  leads-byte g text link_spans p ended events local cs AutolinkSchemeInsideOrEmailAtext at es
                   (scheme-byte-read g text p ended events local cs s at is (lt-ltb size 32 room) es
-                  (rest.3 es (subst (λ n. EndsWith g text (in_link n rest.0 events rest.1) cs (Next AutolinkSchemeInsideOrEmailAtext) es) further h)))),
+                  (rest.3 es (subst (λ n. EndsWith g text (in_link n rest.0 events rest.1) cs (Next AutolinkSchemeInsideOrEmailAtext) es) further h))),
             )
         | false ↦ λ is fits. none-read p ended events local cs
       ] refl short
@@ -126,10 +123,7 @@ module _ (g : Given) (text : Text) where
   letter-waits : (p : ℕ) (e : Bool) (events : List Event) (local : Local Unit Unit) (cs : List Choice) (r : Seat) (rs : List Seat) → drop p text.seats ≡ r ∷ rs → is_ascii_alphabetic r.byte ≡ true
       → Leads g text (in_link p e events local) cs (Next AutolinkOpen) (in_link (p + 1) false events (sized 1 (counts local))) cs (Next AutolinkSchemeInsideOrEmailAtext)
   letter-waits p e events local cs r rs here letter es h =
-      let at = at-front text.seats p r rs here in
-      leads-fed g text (in_link p e events local) cs AutolinkOpen es
-      (subst (λ k. EndsWith g text k cs (Retry AutolinkOpen) es) (sym (fed-is g text p e events link_spans local (slice_get_within text.seats p r at)))
-      (letter-read g text p e events local cs r at letter es h))
+      let at = at-front text.seats p r rs here in leads-byte g text link_spans p e events local cs AutolinkOpen at es (letter-read g text p e events local cs r at letter es h)
 
   -- with all bytes of a scheme, if they are not too many
   pub scheme-read : (p : ℕ) (e : Bool) (events : List Event) (local : Local Unit Unit) (cs : List Choice) (r : Seat) (rs : List Seat) → drop p text.seats ≡ r ∷ rs → is_ascii_alphabetic r.byte ≡ true

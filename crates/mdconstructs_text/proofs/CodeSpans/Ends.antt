@@ -1,17 +1,13 @@
 -- How the machine of texts reads the two backtick strings of a code span, and what is put back if the second is missing.
-use Rattle.mdconstructs_text.proofs.Prelude.{◌≡◌, ℕ, ◌+◌, ◌^◌, ◌<◌, ◌∷◌, ◌++◌, [], List, Bool, true, false, cond, ◌==◌, refl, sym, ◌∙◌, ap, subst, Some, arith, length, take, drop, slice_get, append_assoc, take_at, nat_tests, drop-next, Event, CodeText, CodeTextSequence, Next, Retry, Ok, Nok, TextBefore, TextBeforeData, RawTextStart, RawTextSequenceOpen, RawTextBetween, RawTextSequenceClose, RawFlowAfter, Seat, Nothing, Byte, End, Given, Text, Local, Choice, counts, is_backtick, backticks, bytes_of, leaf, backtick, text_before_rows, raw_text_start_rows, spans_code}
-use Rattle.mdconstructs_text.proofs.Texts.Steps.{EndsWith, Leads, between_items, leads-called, leads-fed, leads-ok, leads-nok, WithRows}
-use Rattle.mdconstructs_text.proofs.Texts.LineEndings.{at-front}
+use Rattle.mdconstructs_text.proofs.Prelude.{at-front, ◌≡◌, ℕ, ◌+◌, ◌^◌, ◌<◌, ◌∷◌, ◌++◌, [], List, Bool, true, false, cond, ◌==◌, refl, sym, ◌∙◌, ap, subst, Some, arith, length, take, drop, slice_get, append_assoc, take_at, nat_tests, drop-next, Event, CodeText, CodeTextSequence, Next, Retry, Ok, Nok, TextBefore, TextBeforeData, RawTextStart, RawTextSequenceOpen, RawTextBetween, RawTextSequenceClose, RawFlowAfter, Seat, Nothing, Byte, End, Given, Text, Local, Choice, counts, is_backtick, backticks, bytes_of, leaf, backtick, text_before_rows, raw_text_start_rows, spans_code, byte_of, class_of, fed, held, text_byte}
+use Rattle.mdconstructs_text.proofs.Texts.Steps.{EndsWith, Leads, between_items, leads-fed, leads-seen, leads-ok, leads-nok, before_class}
 use Rattle.mdconstructs_text.proofs.Plain.Items.{outer, leads-tried}
 use Rattle.mdconstructs_text.proofs.Plain.Classes.{tick-class}
-use Rattle.mdconstructs_text.proofs.CodeSpans.Steps.{held, shows, past, passed, past-at, past-stops, passed-counts, goes-next, class-rows, leaf-is, loops, ends-fed}
+use Rattle.mdconstructs_text.proofs.CodeSpans.Steps.{is_end, shows, past, passed, past-at, past-stops, passed-counts, stands, goes-next, class-rows, loops, ends-fed}
+use Rattle.mdconstructs_text.proofs.Plain.Stretches.{leaf-read}
 use Rattle.mdconstructs_text.proofs.CodeSpans.Calls.{in_code, in_run, size_b, with_b, with_c, grows_b, grows_c, more-is, enter_at, exit_at, inner, open-reads, open-ends, close-reads, close-fits, between-run, code-ends}
 use Rattle.mdconstructs_text.proofs.CodeSpans.Parts.{count-within, sizes-read}
-
--- at the end of the text the end was fed
-abbrev pub is_end : List Seat → Bool
-is_end [] = true
-is_end (s ∷ ss) = false
+use Rattle.markdown_base.specs.declared.event.Name.{Name as EventName}
 
 -- a number is itself
 same-size : (n : ℕ) → (n == n) ≡ true
@@ -25,15 +21,18 @@ begins-run b bs h = elim (is_backtick b) as (λ t. 0 < cond t (1 + backticks bs)
 ] h
 
 module _ (g : Given) (text : Text) where
+  -- what is fed once more
+  shown-fed : (l : List Seat) (stack : List EventName) (q : ℕ) (events : List Event) (local : Local Unit Unit) → drop q text.seats ≡ l → fed text (held stack q Nothing (is_end l) events local) ≡ shows l stack q events local
+  shown-fed [] stack q events local at = ends-fed g text stack q true events local at
+  shown-fed (s ∷ ss) stack q events local at = stands g text (s ∷ ss) stack q events local at
+
   -- if the inner choice ended with Ok, the code span ends
   settles : (l : List Seat) (q q0 : ℕ) (events before : List Event) (local : Local Unit Unit) (cs : List Choice) → drop q text.seats ≡ l
       → Leads g text (shows l in_code q events local) (inner g text q0 before ∷ cs) Ok (shows l in_code q events local) cs (Retry RawFlowAfter)
-  settles [] q q0 events before local cs at es h =
-      leads-ok g text (held in_code q End true events local) (inner g text q0 before) cs es
-      (leads-fed g text (held in_code q Nothing true events local) cs RawFlowAfter es
-      (subst (λ k. EndsWith g text k cs (Retry RawFlowAfter) es) (sym (ends-fed g text in_code q true events local at)) h))
-  settles (s ∷ ss) q q0 events before local cs at es h =
-      leads-ok g text (held in_code q Byte false events local) (inner g text q0 before) cs es (goes-next g text (s ∷ ss) in_code q events local cs RawFlowAfter at es h)
+  settles l q q0 events before local cs at es h =
+      leads-ok g text (shows l in_code q events local) (inner g text q0 before) cs es
+      (leads-fed g text (held in_code q Nothing (is_end l) events local) cs RawFlowAfter es
+      (subst (λ k. EndsWith g text k cs (Retry RawFlowAfter) es) (sym (shown-fed l in_code q events local at)) h))
 
   -- The backtick string that closes a code span is read, and the code span ends behind it
   pub closes : (q : ℕ) (s : Seat) (ss : List Seat) (events : List Event) (local : Local Unit Unit) (cs : List Choice) → drop q text.seats ≡ s ∷ ss → 0 < size_b local
@@ -59,7 +58,7 @@ module _ (g : Given) (text : Text) where
       let equal = sizes-read g text l local short ∙ ap (λ n. n == size_b local) same ∙ same-size (size_b local) in
       let made : sequence ++ exit_at g text CodeText q1 ∷ [] ≡ events ++ (leaf g.bytes CodeTextSequence (take j l) ++ exit_at g text CodeText q1 ∷ []) =
       ap (λ c. c ++ exit_at g text CodeText q1 ∷ [])
-      (append_assoc events (enter_at g text CodeTextSequence q ∷ []) (exit_at g text CodeTextSequence q1 ∷ []) ∙ ap (λ c. events ++ c) (leaf-is g text CodeTextSequence j q s ss at more (count-within is_backtick l)))
+      (append_assoc events (enter_at g text CodeTextSequence q ∷ []) (exit_at g text CodeTextSequence q1 ∷ []) ∙ ap (λ c. events ++ c) (leaf-read text g.bytes CodeTextSequence j q s ss at more (count-within is_backtick l)))
       ∙ append_assoc events (leaf g.bytes CodeTextSequence (take j l)) (exit_at g text CodeText q1 ∷ []) in (
         after,
         λ es h.
@@ -76,15 +75,14 @@ module _ (g : Given) (text : Text) where
       → slice_get text.seats p ≡ Some s → is_backtick s.byte ≡ true → g.options.constructs.code_text ≡ true
       → Leads g text (between_items p Byte ended events local) [] (Retry TextBefore) (between_items p Byte ended events (counts local)) (outer p ended events ∷ []) (Retry RawTextStart)
   tries-code p ended events local s at tick on =
-      leads-tried g text spans_code RawTextStart p ended events local (class-rows g text text_before_rows p s backtick at (tick-class s.byte tick)) on
+      leads-tried g text spans_code RawTextStart p ended events local (ap (λ o. text_before_rows (before_class g text p) (class_of text_byte (byte_of o))) at ∙ class-rows g text text_before_rows p s backtick (tick-class s.byte tick)) on
 
   -- the code span begins, and its first backtick string
   starts-code : (p : ℕ) (ended : Bool) (events : List Event) (local : Local Unit Unit) (cs : List Choice) (s : Seat) → slice_get text.seats p ≡ Some s → is_backtick s.byte ≡ true
       → Leads g text (between_items p Byte ended events local) cs (Retry RawTextStart)
       (held in_run p Byte ended ((events ++ enter_at g text CodeText p ∷ []) ++ enter_at g text CodeTextSequence p ∷ []) (with_b 0 (counts local))) cs (Retry RawTextSequenceOpen)
-  starts-code p ended events local cs s at tick es h =
-      leads-called g text (between_items p Byte ended events local) cs RawTextStart es
-      (subst (WithRows g text (between_items p Byte ended events (counts local)) cs es) (sym (class-rows g text raw_text_start_rows p s backtick at (tick-class s.byte tick))) h)
+  starts-code p ended events local cs s at tick es =
+      leads-seen g text raw_text_start_rows (between_items p Byte ended events local) cs RawTextStart es (ap byte_of at) (class-rows g text raw_text_start_rows p s backtick (tick-class s.byte tick)) refl
 
   -- The backtick string that opens a code span is read, and its size is kept
   pub opens : (p : ℕ) (ended : Bool) (events : List Event) (local : Local Unit Unit) (s : Seat) (ss : List Seat) → drop p text.seats ≡ s ∷ ss → is_backtick s.byte ≡ true
@@ -113,7 +111,7 @@ module _ (g : Given) (text : Text) where
       let made : begun ++ exit_at g text CodeTextSequence (p + k) ∷ [] ≡ events ++ enter_at g text CodeText p ∷ leaf g.bytes CodeTextSequence (take k l) =
       ap (λ c. c ++ exit_at g text CodeTextSequence (p + k) ∷ []) (append_assoc events (enter_at g text CodeText p ∷ []) (enter_at g text CodeTextSequence p ∷ []))
       ∙ append_assoc events (enter_at g text CodeText p ∷ enter_at g text CodeTextSequence p ∷ []) (exit_at g text CodeTextSequence (p + k) ∷ [])
-      ∙ ap (λ c. events ++ enter_at g text CodeText p ∷ c) (leaf-is g text CodeTextSequence k p s ss at (omega (arith, size)) (count-within is_backtick l)) in (
+      ∙ ap (λ c. events ++ enter_at g text CodeText p ∷ c) (leaf-read text g.bytes CodeTextSequence k p s ss at (omega (arith, size)) (count-within is_backtick l)) in (
         counts read,
         same,
         λ es h.
@@ -137,5 +135,4 @@ module _ (g : Given) (text : Text) where
   -- and if one does, the text goes on behind it
   pub taken : (p q : ℕ) (ended : Bool) (l : List Seat) (events before : List Event) (local : Local Unit Unit)
       → Leads g text (shows l [] q events local) (outer p ended before ∷ []) Ok (between_items q Nothing (is_end l) events local) [] (Next TextBefore)
-  taken p q ended [] events before local es h = leads-ok g text (held [] q End true events local) (outer p ended before) [] es h
-  taken p q ended (s ∷ ss) events before local es h = leads-ok g text (held [] q Byte false events local) (outer p ended before) [] es h
+  taken p q ended l events before local = leads-ok g text (shows l [] q events local) (outer p ended before) []

@@ -2,7 +2,7 @@
 use Rattle.mdconstructs_text.proofs.Prelude.{◌≡◌, ℕ, suc, ◌+◌, ◌-◌, ◌<◌, ◌≤◌, ◌∷◌, ◌++◌, [], List, sym, ◌∙◌, ap, arith, length, take, drop, append_assoc, length-take, drop-take, take-take, flat_map, between, Event, CodeText, CodeTextSequence, CodeTextData, Seat, Given, Text, code_span, is_backtick_or_line_feed, part_length, part_at, leaf, part_events, pieces, item_events}
 use Rattle.mdconstructs_text.proofs.Texts.Cutting.{cut-enough}
 use Rattle.mdconstructs_text.proofs.CodeSpans.FoundParts.{piece-positive}
-use Rattle.mdconstructs_text.proofs.CodeSpans.Steps.{span-is}
+use Rattle.mdconstructs_text.proofs.Plain.Stretches.{span-read}
 use Rattle.mdconstructs_text.proofs.CodeSpans.Calls.{enter_at, exit_at}
 use Rattle.mdconstructs_text.proofs.CodeSpans.Cuts.{cut_pieces}
 
@@ -54,4 +54,4 @@ module _ (g : Given) (text : Text) where
       ∙ ap (λ c. one (take k (take n l)) ++ (flat_map f (pieces (between k (k + m) (take n l))) ++ one c)) (sym (last-run k m l)) in
       joined events (enter_at g text CodeText p) (one (take k l)) (flat_map f (cut_pieces bound (take m (drop k l)))) (one (take k (drop (k + m) l))) (exit_at g text CodeText (p + n))
       ∙ ap (λ c. events ++ enter_at g text CodeText p ∷ (c ++ exit_at g text CodeText (p + n) ∷ [])) made
-      ∙ ap (λ c. events ++ c) (span-is g text CodeText (one (take k (take n l)) ++ (flat_map f (pieces (between k (k + m) (take n l))) ++ one (drop (k + m) (take n l)))) n p s ss at (omega (arith, some)) short)
+      ∙ ap (λ c. events ++ c) (span-read text g.bytes CodeText (one (take k (take n l)) ++ (flat_map f (pieces (between k (k + m) (take n l))) ++ one (drop (k + m) (take n l)))) n p s ss at (omega (arith, some)) short)

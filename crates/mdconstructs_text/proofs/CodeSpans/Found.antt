@@ -1,23 +1,19 @@
 -- The place of the backtick string that closes a code span: it is looked for from the front, a byte at a time.
 use Rattle.mdconstructs_text.proofs.Prelude.{◌≡◌, ℕ, zero, suc, ◌+◌, ◌-◌, ◌<◌, ◌∷◌, [], List, Bool, true, false, cond, not, ◌&&◌, ◌||◌, ◌==◌, refl, sym, ◌∙◌, ap, subst, Option, Some, None, arith, length, take, drop, option_map, max, and-false, drop-drop, eqb-true, nat_tests, last_or, position_or_len, find, range_with_len, and-right, code_span, line_ending, plain_run, passes, ends_with, is_line_feed, is_backtick_or_line_feed, backticks, is_backtick_string, code_span_at, part_length, part_at, plain_length, is_backtick}
 
--- the place of the first backtick string of exactly k, by whether a backtick precedes the front
-abbrev pub first_run : (k : ℕ) → (before : Bool) → List ℕ → Option ℕ
-first_run k before [] = None
-first_run k before (b ∷ bs) = cond (not before && (backticks (b ∷ bs) == k)) (Some 0) (option_map suc (first_run k (b == 96) bs))
-
 -- the place of a backtick string, from further in front
 abbrev pub further : ℕ → Option ℕ → Option ℕ
 further n o = option_map (λ m. n + m) o
 
--- sums of such places
-further-suc : (n : ℕ) (o : Option ℕ) → further (n + 1) o ≡ further n (option_map suc o)
-further-suc n None = refl
-further-suc n (Some m) = let e : n + 1 + m ≡ n + suc m = omega arith in ap Some e
+-- the place of the first backtick string of exactly k, by whether a backtick precedes the front
+abbrev pub first_run : (k : ℕ) → (before : Bool) → List ℕ → Option ℕ
+first_run k before [] = None
+first_run k before (b ∷ bs) = cond (not before && (backticks (b ∷ bs) == k)) (Some 0) (further 1 (first_run k (b == 96) bs))
 
-suc-further : (n : ℕ) (o : Option ℕ) → option_map suc (further n o) ≡ further (1 + n) o
-suc-further n None = refl
-suc-further n (Some m) = let e : suc (n + m) ≡ 1 + n + m = omega arith in ap Some e
+-- sums of such places
+further-further : (m n : ℕ) (o : Option ℕ) → further m (further n o) ≡ further (m + n) o
+further-further m n None = refl
+further-further m n (Some x) = let e : m + (n + x) ≡ m + n + x = omega arith in ap Some e
 
 no-further : (o : Option ℕ) → further 0 o ≡ o
 no-further None = refl
@@ -49,10 +45,10 @@ module _ (text : List ℕ) (k : ℕ) where
       let next : drop (i + 1) text ≡ bs = sym (drop-drop 1 i text) ∙ ap (drop 1) at in
       let one : i + 1 ≡ suc i = omega arith in
       let front : ends_with (take (i + 1) text) is_backtick ≡ (b == 96) = ap (λ n. ends_with (take n text) is_backtick) one ∙ ap (passes is_backtick) (last-behind None text i b bs at) in
-      let others = found bs (i + 1) (b == 96) next front ∙ further-suc i (first_run k (b == 96) bs) in
+      let others = found bs (i + 1) (b == 96) next front ∙ sym (further-further i 1 (first_run k (b == 96) bs)) in
       let zero-behind : i + 0 ≡ i = omega arith in
       ap (λ c. cond c (Some i) (find (is_backtick_string text k) (range_with_len (i + 1) (length bs)))) here
-      ∙ elim (not before && (backticks (b ∷ bs) == k)) as (λ t. cond t (Some i) (find (is_backtick_string text k) (range_with_len (i + 1) (length bs))) ≡ further i (cond t (Some 0) (option_map suc (first_run k (b == 96) bs)))) [
+      ∙ elim (not before && (backticks (b ∷ bs) == k)) as (λ t. cond t (Some i) (find (is_backtick_string text k) (range_with_len (i + 1) (length bs))) ≡ further i (cond t (Some 0) (further 1 (first_run k (b == 96) bs)))) [
         | true ↦ ap Some (sym zero-behind)
         | false ↦ others
       ]
@@ -68,17 +64,12 @@ no-tick b h = elim (b == 96) as (λ t. (is_line_feed b || t) ≡ false → t ≡
 line-feed-no-tick : (b : ℕ) → (b == 10) ≡ true → (b == 96) ≡ false
 line-feed-no-tick b h = grind (arith, nat_tests)
 
--- how many bytes are between the runs
-inside : (k : ℕ) (o : Option ℕ) → option_map (λ p. code_span k (p - k)) (further k o) ≡ option_map (code_span k) o
-inside k None = refl
-inside k (Some m) = let e : k + m - k ≡ m = omega arith in ap (λ n. Some (code_span k n)) e
-
 -- nothing begins in bytes that are no backticks
-no-run : (k : ℕ) → 0 < k → (before : Bool) (b : ℕ) (bs : List ℕ) → (b == 96) ≡ false → first_run k before (b ∷ bs) ≡ option_map suc (first_run k false bs)
+no-run : (k : ℕ) → 0 < k → (before : Bool) (b : ℕ) (bs : List ℕ) → (b == 96) ≡ false → first_run k before (b ∷ bs) ≡ further 1 (first_run k false bs)
 no-run k some before b bs h =
     let zero-run : backticks (b ∷ bs) ≡ 0 = ap (λ t. cond t (1 + backticks bs) 0) h in
     let no : (not before && (backticks (b ∷ bs) == k)) ≡ false = ap (λ n. not before && (n == k)) zero-run ∙ ap (λ t. not before && t) (not-none k some) ∙ and-false _ in
-    ap (λ t. cond t (Some 0) (option_map suc (first_run k (b == 96) bs))) no ∙ ap (λ t. option_map suc (first_run k t bs)) h
+    ap (λ t. cond t (Some 0) (further 1 (first_run k (b == 96) bs))) no ∙ ap (λ t. further 1 (first_run k t bs)) h
 
 -- a backtick string, behind its first backtick, is passed
 passes-run : (k : ℕ) → 0 < k → (text : List ℕ) → first_run k true text ≡ further (backticks text) (first_run k false (drop (backticks text) text))
@@ -87,8 +78,8 @@ passes-run k some (b ∷ bs) =
     elim (b == 96) as (λ t. (b == 96) ≡ t → first_run k true (b ∷ bs) ≡ further (cond t (1 + backticks bs) 0) (first_run k false (drop (cond t (1 + backticks bs) 0) (b ∷ bs)))) [
       | true ↦ λ e.
           let one : 1 + backticks bs ≡ suc (backticks bs) = omega arith in
-          let tail : first_run k true (b ∷ bs) ≡ option_map suc (first_run k true bs) = ap (λ t. option_map suc (first_run k t bs)) e in
-          tail ∙ ap (option_map suc) (passes-run k some bs) ∙ suc-further (backticks bs) _ ∙ ap (λ n. further (1 + backticks bs) (first_run k false (drop n (b ∷ bs)))) (sym one)
+          let tail : first_run k true (b ∷ bs) ≡ further 1 (first_run k true bs) = ap (λ t. further 1 (first_run k t bs)) e in
+          tail ∙ ap (further 1) (passes-run k some bs) ∙ further-further 1 (backticks bs) _ ∙ ap (λ n. further (1 + backticks bs) (first_run k false (drop n (b ∷ bs)))) (sym one)
       | false ↦ λ e. no-run k some true b bs e ∙ sym (no-run k some false b bs e) ∙ sym (no-further _)
     ] refl
 
@@ -102,18 +93,9 @@ passes-data k some (b ∷ bs) =
       | true ↦ λ e. sym (no-further _)
       | false ↦ λ e.
           let one : 1 + position_or_len is_backtick_or_line_feed bs ≡ suc (position_or_len is_backtick_or_line_feed bs) = omega arith in
-          no-run k some false b bs (no-tick b e) ∙ ap (option_map suc) (passes-data k some bs) ∙ suc-further (position_or_len is_backtick_or_line_feed bs) _
+          no-run k some false b bs (no-tick b e) ∙ ap (further 1) (passes-data k some bs) ∙ further-further 1 (position_or_len is_backtick_or_line_feed bs) _
           ∙ ap (λ n. further (1 + position_or_len is_backtick_or_line_feed bs) (first_run k false (drop n (b ∷ bs)))) (sym one)
     ] refl
-
--- sums of such places, once more
-further-one : (o : Option ℕ) → option_map suc o ≡ further 1 o
-further-one None = refl
-further-one (Some m) = let e : suc m ≡ 1 + m = omega arith in ap Some e
-
-further-further : (m n : ℕ) (o : Option ℕ) → further m (further n o) ≡ further (m + n) o
-further-further m n None = refl
-further-further m n (Some x) = let e : m + (n + x) ≡ m + n + x = omega arith in ap Some e
 
 -- what begins a piece of data: a whole backtick string of another length, or a byte
 passes-first : (k : ℕ) → 0 < k → (b : ℕ) (bs : List ℕ) → (backticks (b ∷ bs) == k) ≡ false
@@ -123,11 +105,11 @@ passes-first k some b bs h =
       | true ↦ λ e.
           let more : max 1 (1 + backticks bs) ≡ suc (backticks bs) = omega arith in
           let one : 1 + backticks bs ≡ suc (backticks bs) = omega arith in
-          let behind : first_run k false (b ∷ bs) ≡ option_map suc (first_run k true bs) =
-          ap (λ t. cond t (Some 0) (option_map suc (first_run k (b == 96) bs))) h ∙ ap (λ t. option_map suc (first_run k t bs)) e in
-          behind ∙ ap (option_map suc) (passes-run k some bs) ∙ suc-further (backticks bs) _ ∙ ap (λ n. further n (first_run k false (drop (backticks bs) bs))) one
+          let behind : first_run k false (b ∷ bs) ≡ further 1 (first_run k true bs) =
+          ap (λ t. cond t (Some 0) (further 1 (first_run k (b == 96) bs))) h ∙ ap (λ t. further 1 (first_run k t bs)) e in
+          behind ∙ ap (further 1) (passes-run k some bs) ∙ further-further 1 (backticks bs) _ ∙ ap (λ n. further n (first_run k false (drop (backticks bs) bs))) one
           ∙ ap (λ n. further n (first_run k false (drop n (b ∷ bs)))) (sym more)
-      | false ↦ λ e. no-run k some false b bs e ∙ further-one _
+      | false ↦ λ e. no-run k some false b bs e
     ] refl
 
 -- a whole piece is passed, unless it begins with the backtick string that is looked for
@@ -135,7 +117,7 @@ pub passes-piece : (k : ℕ) → 0 < k → (b : ℕ) (bs : List ℕ) → (backti
     → let n = part_length (part_at is_backtick_or_line_feed (b ∷ bs)) in first_run k false (b ∷ bs) ≡ further n (first_run k false (drop n (b ∷ bs)))
 passes-piece k some b bs h =
     elim (b == 10) as (λ t. (b == 10) ≡ t → let n = part_length (cond t line_ending (plain_run (plain_length is_backtick_or_line_feed (b ∷ bs)))) in first_run k false (b ∷ bs) ≡ further n (first_run k false (drop n (b ∷ bs)))) [
-      | true ↦ λ e. no-run k some false b bs (line-feed-no-tick b e) ∙ further-one _
+      | true ↦ λ e. no-run k some false b bs (line-feed-no-tick b e)
       | false ↦ λ e.
           let r = max 1 (backticks (b ∷ bs)) in
           let d = position_or_len is_backtick_or_line_feed (drop r (b ∷ bs)) in
@@ -145,7 +127,7 @@ passes-piece k some b bs h =
 
 -- a backtick string at the front is found there
 pub first-here : (k : ℕ) (b : ℕ) (bs : List ℕ) → (backticks (b ∷ bs) == k) ≡ true → first_run k false (b ∷ bs) ≡ Some 0
-first-here k b bs h = ap (λ t. cond t (Some 0) (option_map suc (first_run k (b == 96) bs))) h
+first-here k b bs h = ap (λ t. cond t (Some 0) (further 1 (first_run k (b == 96) bs))) h
 
 -- A code span is there if a backtick string that closes it is found behind the one that opens it
 pub code-span-found : (bs : List ℕ) → let text = 96 ∷ bs in code_span_at text ≡ option_map (code_span (backticks text)) (first_run (backticks text) false (drop (backticks text) text))
@@ -155,15 +137,15 @@ code-span-found bs =
     ap (option_map (code_span k)) (found (drop k text) k (drop k text) 0 false refl refl ∙ no-further (first_run k false (drop k text)))
 
 -- a place that was found, from one byte further on
-found-behind : (o : Option ℕ) (m : ℕ) → option_map suc o ≡ Some m → (n : ℕ) × (o ≡ Some n) × (m ≡ suc n)
+found-behind : (o : Option ℕ) (m : ℕ) → further 1 o ≡ Some m → (n : ℕ) × (o ≡ Some n) × (m ≡ suc n)
 found-behind None m h = absurd (cc)
-found-behind (Some n) m h = let e : m ≡ suc n = cc in (n, refl, e)
+found-behind (Some n) m h = let e : 1 + n ≡ m = cc in (n, refl, omega (arith, e))
 
 -- a backtick string that is found is as long
 pub first-run-is : (k : ℕ) (before : Bool) (text : List ℕ) (m : ℕ) → first_run k before text ≡ Some m → backticks (drop m text) ≡ k
 first-run-is k before [] m h = absurd (cc)
 first-run-is k before (b ∷ bs) m h =
-    elim (not before && (backticks (b ∷ bs) == k)) as (λ t. (not before && (backticks (b ∷ bs) == k)) ≡ t → cond t (Some 0) (option_map suc (first_run k (b == 96) bs)) ≡ Some m → backticks (drop m (b ∷ bs)) ≡ k) [
+    elim (not before && (backticks (b ∷ bs) == k)) as (λ t. (not before && (backticks (b ∷ bs) == k)) ≡ t → cond t (Some 0) (further 1 (first_run k (b == 96) bs)) ≡ Some m → backticks (drop m (b ∷ bs)) ≡ k) [
       | true ↦ λ e i. let at : 0 ≡ m = cc in subst (λ n. backticks (drop n (b ∷ bs)) ≡ k) at (eqb-true (backticks (b ∷ bs)) k (and-right (not before) (backticks (b ∷ bs) == k) e))
       | false ↦ λ e i.
           let behind = found-behind (first_run k (b == 96) bs) m i in

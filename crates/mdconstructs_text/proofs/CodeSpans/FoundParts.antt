@@ -10,24 +10,11 @@ prefix-within p (suc n) (x ∷ xs) h = elim (p x) as (λ t. cond t (1 + prefix_l
   | false ↦ λ i. refl
 ] h
 
--- sums of a backtick string and of the data behind it
-above : (r d : ℕ) → 0 < max 1 r + d
-above r d = omega arith
-
-first-within : (r d n : ℕ) → max 1 r + d ≤ n → r ≤ n
-first-within r d n h = omega (arith, h)
-
-rest-within : (r d n : ℕ) → max 1 r + d ≤ n → max 1 r + (n - max 1 r) ≡ n
-rest-within r d n h = omega (arith, h)
-
-data-within : (r d n : ℕ) → max 1 r + d ≤ n → d ≤ n - max 1 r
-data-within r d n h = omega (arith, h)
-
 -- each piece is at least a byte
 pub piece-positive : (ends : ℕ → Bool) (b : ℕ) (bs : List ℕ) → 0 < part_length (part_at ends (b ∷ bs))
 piece-positive ends b bs = elim (b == 10) as (λ t. 0 < part_length (cond t line_ending (plain_run (plain_length ends (b ∷ bs))))) [
   | true ↦ omega arith
-  | false ↦ let r = backticks (b ∷ bs) in let d = position_or_len ends (drop (max 1 r) (b ∷ bs)) in above r d
+  | false ↦ omega arith
 ]
 
 -- a piece is the same if the text is cut behind it
@@ -40,11 +27,11 @@ piece-within ends b bs n h =
           let text = b ∷ bs in
           let r = max 1 (backticks text) in
           let d = position_or_len ends (drop r text) in
-          let first : backticks text ≤ suc n = first-within (backticks text) d (suc n) i in
-          let rest : r + (suc n - r) ≡ suc n = rest-within (backticks text) d (suc n) i in
+          let first : backticks text ≤ suc n = omega (arith, i) in
+          let rest : r + (suc n - r) ≡ suc n = omega (arith, i) in
           let runs : backticks (take (suc n) text) ≡ backticks text = prefix-within is_backtick (suc n) text first in
           let tail : drop r (take (suc n) text) ≡ take (suc n - r) (drop r text) = ap (λ m. drop r (take m text)) (sym rest) ∙ drop-take r (suc n - r) text in
           let ended : position_or_len ends (drop r (take (suc n) text)) ≡ d =
-          ap (position_or_len ends) tail ∙ prefix-within (λ x. not (ends x)) (suc n - r) (drop r text) (data-within (backticks text) d (suc n) i) in
+          ap (position_or_len ends) tail ∙ prefix-within (λ x. not (ends x)) (suc n - r) (drop r text) (omega (arith, i)) in
           ap (λ m. plain_run (max 1 m + position_or_len ends (drop (max 1 m) (take (suc n) text)))) runs ∙ ap (λ m. plain_run (r + m)) ended
     ] h

@@ -1,40 +1,21 @@
 -- Code spans as items: if one is there, it is read with its events; if not, data is read from its first backtick.
-use Rattle.mdconstructs_text.proofs.Prelude.{◌≡◌, ℕ, suc, ◌+◌, ◌-◌, ◌^◌, ◌<◌, ◌≤◌, ◌∷◌, ◌++◌, [], List, Bool, true, false, refl, sym, ◌∙◌, ap, subst, Option, Some, None, arith, length, take, drop, option_map, append_assoc, drop-drop, length-drop, flat_map, Event, CodeText, CodeTextSequence, CodeTextData, Next, Retry, Ok, Nok, TextBefore, TextBeforeData, RawTextBetween, Seat, Nothing, Byte, Given, Text, Local, Choice, Item, code_span, is_backtick, backticks, item_length, code_span_at, if_on, or_else, bytes_of, leaf, part_events, item_events}
+use Rattle.mdconstructs_text.proofs.Prelude.{◌≡◌, ℕ, suc, ◌+◌, ◌-◌, ◌^◌, ◌<◌, ◌≤◌, ◌∷◌, ◌++◌, [], List, Bool, true, false, refl, sym, ◌∙◌, ap, subst, Option, Some, None, arith, length, take, drop, option_map, append_assoc, drop-drop, length-drop, flat_map, Event, CodeText, CodeTextSequence, CodeTextData, Next, Retry, Ok, Nok, TextBefore, RawTextBetween, Seat, Nothing, Byte, Given, Text, Local, Choice, code_span, is_backtick, backticks, code_span_at, bytes_of, leaf, part_events, item_events, drop-map}
 use Rattle.mdconstructs_text.proofs.Texts.Steps.{EndsWith, Leads, between_items}
-use Rattle.mdconstructs_text.proofs.Plain.Items.{outer}
+use Rattle.mdconstructs_text.proofs.Plain.Items.{outer, Tried}
 use Rattle.mdconstructs_text.proofs.CodeSpans.Found.{first_run, first-run-is, code-span-found}
-use Rattle.mdconstructs_text.proofs.CodeSpans.Steps.{shows, past, past-is, past-at}
+use Rattle.mdconstructs_text.proofs.CodeSpans.Steps.{is_end, shows, past, past-is, past-at}
 use Rattle.mdconstructs_text.proofs.CodeSpans.Calls.{in_code, size_b, enter_at, exit_at}
 use Rattle.mdconstructs_text.proofs.CodeSpans.Cuts.{cut_pieces}
-use Rattle.mdconstructs_text.proofs.CodeSpans.Parts.{count-within, drop-bytes, run-positive}
+use Rattle.mdconstructs_text.proofs.CodeSpans.Parts.{count-within, run-positive}
 use Rattle.mdconstructs_text.proofs.CodeSpans.Walks.{RunsAreShort, Walks, walks}
-use Rattle.mdconstructs_text.proofs.CodeSpans.Ends.{is_end, closes, opens, refuses, taken}
+use Rattle.mdconstructs_text.proofs.CodeSpans.Ends.{closes, opens, refuses, taken}
 use Rattle.mdconstructs_text.proofs.CodeSpans.Events.{code-span-events}
-
--- one that is on, if its bytes are there
-there : (on : Bool) (o : Option Item) (item x : Item) → on ≡ true → o ≡ Some item → or_else (if_on on o) x ≡ item
-there true o item x h i = ap (λ q. or_else q x) i
-there false o item x h i = absurd (cc)
 
 -- what is found behind the opening backtick string
 spans-at : (b : ℕ) (bs : List ℕ) → b ≡ 96 → let text = b ∷ bs in code_span_at text ≡ option_map (code_span (backticks text)) (first_run (backticks text) false (drop (backticks text) text))
 spans-at b bs is = subst (λ c. let text = c ∷ bs in code_span_at text ≡ option_map (code_span (backticks text)) (first_run (backticks text) false (drop (backticks text) text))) (sym is) (code-span-found bs)
 
--- the byte is a backtick
-tick-at : (b : ℕ) → b ≡ 96 → is_backtick b ≡ true
-tick-at b is = ap is_backtick is
-
 module _ (g : Given) (text : Text) where
-  -- A code span was tried at a byte: if it is there, it was read, with its events; if not, data comes at the byte,
-  -- and what was tried left nothing
-  abbrev pub TriedCode : (p : ℕ) (ended : Bool) (events : List Event) (local : Local Unit Unit) → List Seat → Option Item → Type 0
-  TriedCode p ended events local seats None =
-      (after : Local Unit Unit) × Leads g text (between_items p Byte ended events local) [] (Retry TextBefore) (between_items p Nothing ended events after) [] (Next TextBeforeData)
-  TriedCode p ended events local seats (Some item) =
-      (ended_after : Bool) × (after : Local Unit Unit)
-      × Leads g text (between_items p Byte ended events local) [] (Retry TextBefore)
-      (between_items (p + item_length item) Nothing ended_after (events ++ item_events g.bytes (item, take (item_length item) seats)) after) [] (Next TextBefore)
-
   -- the backtick string that closes it is read, and the code span ends
   ends : RunsAreShort text → (k : ℕ) → 0 < k → (l : List Seat) (q : ℕ) (events : List Event) (local : Local Unit Unit) (cs : List Choice) → drop q text.seats ≡ l → size_b local ≡ k → backticks (bytes_of l) ≡ k
       → (left : List Seat) × (after : Local Unit Unit)
@@ -58,7 +39,7 @@ module _ (g : Given) (text : Text) where
       let cs = outer p ended events ∷ [] in
       let begun = events ++ enter_at g text CodeText p ∷ leaf g.bytes CodeTextSequence (take k l) in
       Leads g text (between_items p Byte ended events local) [] (Retry TextBefore) (shows rest in_code (p + k) begun mid) cs (Retry RawTextBetween)
-      → (o : Option ℕ) → first_run k false (bytes_of rest) ≡ o → Walks g text k cs (length rest) (p + k) rest begun mid o → TriedCode p ended events local l (option_map (code_span k) o)
+      → (o : Option ℕ) → first_run k false (bytes_of rest) ≡ o → Walks g text k cs (length rest) (p + k) rest begun mid o → Tried g text p ended events local l (option_map (code_span k) o)
   from-walk short p ended events local mid s ss at tick opened None found walked =
       let l = s ∷ ss in
       let k = backticks (bytes_of l) in
@@ -83,7 +64,7 @@ module _ (g : Given) (text : Text) where
       let behind : rest ≡ drop k l = past-is is_backtick l in
       let at1 : drop (p + k) text.seats ≡ rest = past-at g text is_backtick l p (p + k) at refl in
       let at2 : drop (p + k + m) text.seats ≡ drop m rest = sym (drop-drop m (p + k) text.seats) ∙ ap (drop m) at1 in
-      let last : backticks (bytes_of (drop m rest)) ≡ k = ap backticks (sym (drop-bytes m rest)) ∙ first-run-is k false (bytes_of rest) m found in
+      let last : backticks (bytes_of (drop m rest)) ≡ k = ap backticks (sym (drop-map (λ (s : Seat). s.byte) m rest)) ∙ first-run-is k false (bytes_of rest) m found in
       let closed = ends short k some (drop m rest) (p + k + m) (begun ++ pieces_at rest) walked.0 cs at2 walked.1 last in
       let fits : k ≤ length (drop m rest) = subst (λ n. n ≤ length (drop m rest)) last (count-within is_backtick (drop m rest)) in
       let cut : length (drop m rest) ≡ length rest - m = length-drop m rest in
@@ -110,20 +91,20 @@ module _ (g : Given) (text : Text) where
 
   -- Code spans are tried at backticks
   pub tries-code-span : RunsAreShort text → (p : ℕ) (ended : Bool) (events : List Event) (local : Local Unit Unit) (s : Seat) (ss : List Seat) → drop p text.seats ≡ s ∷ ss → s.byte ≡ 96
-      → g.options.constructs.code_text ≡ true → TriedCode p ended events local (s ∷ ss) (code_span_at (bytes_of (s ∷ ss)))
+      → g.options.constructs.code_text ≡ true → Tried g text p ended events local (s ∷ ss) (code_span_at (bytes_of (s ∷ ss)))
   tries-code-span short p ended events local s ss at is on =
       let l = s ∷ ss in
       let k = backticks (bytes_of l) in
       let rest = past is_backtick l in
       let cs = outer p ended events ∷ [] in
-      let tick = tick-at s.byte is in
+      let tick = ap is_backtick is in
       let small : k < 2 ^ 64 = subst (λ c. backticks (bytes_of c) < 2 ^ 64) at (short p) in
       let opened = opens g text p ended events local s ss at tick on small in
       let begun = events ++ enter_at g text CodeText p ∷ leaf g.bytes CodeTextSequence (take k l) in
       let at1 : drop (p + k) text.seats ≡ rest = past-at g text is_backtick l p (p + k) at refl in
       let walked = walks g text k cs short (run-positive s.byte (bytes_of ss) tick) (length rest) (p + k) rest begun opened.0 opened.1 (omega arith) at1 in
-      let same : first_run k false (bytes_of rest) ≡ first_run k false (drop k (bytes_of l)) = ap (first_run k false) (ap bytes_of (past-is is_backtick l) ∙ sym (drop-bytes k l)) in
-      subst (TriedCode p ended events local l) (ap (option_map (code_span k)) same ∙ sym (spans-at s.byte (bytes_of ss) is))
+      let same : first_run k false (bytes_of rest) ≡ first_run k false (drop k (bytes_of l)) = ap (first_run k false) (ap bytes_of (past-is is_backtick l) ∙ sym (drop-map (λ (s : Seat). s.byte) k l)) in
+      subst (Tried g text p ended events local l) (ap (option_map (code_span k)) same ∙ sym (spans-at s.byte (bytes_of ss) is))
       (from-walk short p ended events local opened.0 s ss at tick opened.2 (first_run k false (bytes_of rest)) refl walked)
 
 -- if the bytes of the text can be counted, so can its backtick strings

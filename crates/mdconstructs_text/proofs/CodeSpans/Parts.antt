@@ -1,9 +1,9 @@
 -- The pieces of a code span, as the machine of texts reads them: line endings, data, and runs that do not close it.
-use Rattle.mdconstructs_text.proofs.Prelude.{◌≡◌, ℕ, zero, suc, ◌+◌, ◌-◌, ◌^◌, ◌<◌, ◌≤◌, ◌∷◌, ◌++◌, [], List, Bool, true, false, cond, not, ◌==◌, ◌||◌, refl, sym, ◌∙◌, ap, subst, arith, max, length, take, drop, append_assoc, take_at, drop-drop, length-drop, length-map, prefix_len-le-length, prefix_len, position_or_len, Event, Enter, Exit, CodeTextSequence, CodeTextData, LineEnding, Next, Retry, Nok, RawTextBetween, RawTextData, RawTextSequenceClose, RawFlowBeforeContentChunk, RawFlowContentChunk, Seat, Nothing, Byte, End, Given, Text, Local, Choice, point_or, end_or, counts, Part, line_ending, plain_run, is_line_feed, is_backtick, is_backtick_or_line_feed, backticks, part_length, plain_length, bytes_of, event, leaf, part_events}
+use Rattle.mdconstructs_text.proofs.Prelude.{at-front, ◌≡◌, ℕ, suc, ◌+◌, ◌-◌, ◌^◌, ◌<◌, ◌≤◌, ◌∷◌, ◌++◌, [], List, Bool, true, false, cond, not, ◌==◌, ◌||◌, refl, sym, ◌∙◌, ap, subst, arith, max, length, take, drop, append_assoc, take_at, drop-drop, length-drop, length-map, prefix_len-le-length, prefix_len, position_or_len, Event, CodeTextSequence, CodeTextData, Next, Retry, Nok, RawTextBetween, RawTextData, RawTextSequenceClose, RawFlowBeforeContentChunk, RawFlowContentChunk, Seat, Nothing, Byte, Given, Text, Local, Choice, counts, Part, line_ending, plain_run, is_line_feed, is_backtick, is_backtick_or_line_feed, backticks, part_length, plain_length, bytes_of, leaf, part_events, held, drop-map, line-ending-read}
 use Rattle.mdconstructs_text.proofs.Texts.Steps.{EndsWith, Leads, leads-nok}
-use Rattle.mdconstructs_text.proofs.Texts.LineEndings.{at-front}
-use Rattle.mdconstructs_text.proofs.CodeSpans.Steps.{held, shows, past, passed, past-is, past-at, past-stops, passed-keeps, passed-counts, goes-next, leaf-is, loops}
-use Rattle.mdconstructs_text.proofs.CodeSpans.Calls.{in_code, in_run, in_code_data, size_b, size_c, with_c, grows_c, more-is, is_code_byte, enter_at, exit_at, exit_past, inner, close-reads, chunk-reads, data-reads, close-fails, chunk-ends, data-ends, between-line-feed, between-data, between-run, chunk-begins}
+use Rattle.mdconstructs_text.proofs.CodeSpans.Steps.{shows, past, passed, past-is, past-at, past-stops, passed-keeps, passed-counts, goes-next, loops}
+use Rattle.mdconstructs_text.proofs.Plain.Stretches.{leaf-read}
+use Rattle.mdconstructs_text.proofs.CodeSpans.Calls.{in_code, in_run, in_code_data, size_b, size_c, with_c, grows_c, more-is, is_code_byte, enter_at, exit_at, inner, close-reads, chunk-reads, data-reads, close-fails, chunk-ends, data-ends, between-line-feed, between-data, between-run, chunk-begins}
 use Rattle.mdconstructs_text.proofs.CodeSpans.Cuts.{piece_of}
 
 -- how long data is, and what begins with a backtick string
@@ -28,12 +28,6 @@ chunk-length b bs e =
     let some : 0 < backticks (b ∷ bs) = run-positive b bs e in
     let same : max 1 (backticks (b ∷ bs)) ≡ backticks (b ∷ bs) = omega (arith, some) in
     ap (λ r. r + data_length (drop r (b ∷ bs))) same
-
--- the bytes that are left are the bytes of the virtual bytes that are left
-pub drop-bytes : (n : ℕ) (l : List Seat) → drop n (bytes_of l) ≡ bytes_of (drop n l)
-drop-bytes zero l = refl
-drop-bytes (suc n) [] = refl
-drop-bytes (suc n) (s ∷ ss) = drop-bytes n ss
 
 -- what begins a list is no longer than it
 pub count-within : (p : ℕ → Bool) (l : List Seat) → prefix_len p (bytes_of l) ≤ length l
@@ -63,9 +57,7 @@ module _ (g : Given) (text : Text) where
   reads-line-feed : (q : ℕ) (s : Seat) (ss : List Seat) (events : List Event) (local : Local Unit Unit) (cs : List Choice) → drop q text.seats ≡ s ∷ ss → is_line_feed s.byte ≡ true
       → ReadsAs q s ss events local cs line_ending
   reads-line-feed q s ss events local cs at is =
-      let same : (events ++ enter_at g text LineEnding q ∷ []) ++ exit_past g text LineEnding q ∷ [] ≡ events ++ leaf g.bytes LineEnding (s ∷ []) =
-      append_assoc events (enter_at g text LineEnding q ∷ []) (exit_past g text LineEnding q ∷ [])
-      ∙ ap (λ o. events ++ event g.bytes Enter LineEnding (point_or text.end o) ∷ event g.bytes Exit LineEnding (end_or text.end o) ∷ []) (at-front text.seats q s ss at) in (
+      let same = line-ending-read g text events q s (at-front text.seats q s ss at) in (
         counts local,
         refl,
         λ es h.
@@ -77,7 +69,7 @@ module _ (g : Given) (text : Text) where
   plain-events : (n q : ℕ) (s : Seat) (ss : List Seat) (events : List Event) → drop q text.seats ≡ s ∷ ss → 0 < n → n ≤ suc (length ss)
       → (events ++ enter_at g text CodeTextData q ∷ []) ++ exit_at g text CodeTextData (q + n) ∷ [] ≡ events ++ leaf g.bytes CodeTextData (take n (s ∷ ss))
   plain-events n q s ss events at some h =
-      append_assoc events (enter_at g text CodeTextData q ∷ []) (exit_at g text CodeTextData (q + n) ∷ []) ∙ ap (λ l. events ++ l) (leaf-is g text CodeTextData n q s ss at some h)
+      append_assoc events (enter_at g text CodeTextData q ∷ []) (exit_at g text CodeTextData (q + n) ∷ []) ∙ ap (λ l. events ++ l) (leaf-read text g.bytes CodeTextData n q s ss at some h)
 
   -- data that begins with no backtick string
   reads-data : (q : ℕ) (s : Seat) (ss : List Seat) (events : List Event) (local : Local Unit Unit) (cs : List Choice) → drop q text.seats ≡ s ∷ ss → is_backtick_or_line_feed s.byte ≡ false
@@ -99,11 +91,8 @@ module _ (g : Given) (text : Text) where
   -- what was tried at a backtick string is put back
   put-back : (l : List Seat) (q q' : ℕ) (events : List Event) (e : Event) (local : Local Unit Unit) (cs : List Choice)
       → Leads g text (shows l in_run q' (events ++ e ∷ []) local) (inner g text q events ∷ cs) Nok (held in_code q Nothing false events local) cs (Next RawFlowBeforeContentChunk)
-  put-back [] q q' events e local cs es h =
-      leads-nok g text (held in_run q' End true (events ++ e ∷ []) local) (inner g text q events) cs es
-      (subst (λ l. EndsWith g text (held in_code q Nothing false l local) cs (Next RawFlowBeforeContentChunk) es) (sym (take_at events (e ∷ []) (length events) refl)) h)
-  put-back (s ∷ ss) q q' events e local cs es h =
-      leads-nok g text (held in_run q' Byte false (events ++ e ∷ []) local) (inner g text q events) cs es
+  put-back l q q' events e local cs es h =
+      leads-nok g text (shows l in_run q' (events ++ e ∷ []) local) (inner g text q events) cs es
       (subst (λ l. EndsWith g text (held in_code q Nothing false l local) cs (Next RawFlowBeforeContentChunk) es) (sym (take_at events (e ∷ []) (length events) refl)) h)
 
   -- the size of a backtick string that was read, compared with the size of the one that opened the code span
@@ -171,7 +160,7 @@ module _ (g : Given) (text : Text) where
         | false ↦ λ e.
             elim (is_backtick s.byte) as (λ t. is_backtick s.byte ≡ t → ReadsAs q s ss events local cs (plain_run (plain_length is_backtick_or_line_feed bytes))) [
               | true ↦ λ tick.
-                  let rest : drop (backticks bytes) bytes ≡ bytes_of (past is_backtick (s ∷ ss)) = drop-bytes (backticks bytes) (s ∷ ss) ∙ ap bytes_of (sym (past-is is_backtick (s ∷ ss))) in
+                  let rest : drop (backticks bytes) bytes ≡ bytes_of (past is_backtick (s ∷ ss)) = drop-map (λ (s : Seat). s.byte) (backticks bytes) (s ∷ ss) ∙ ap bytes_of (sym (past-is is_backtick (s ∷ ss))) in
                   let size = chunk-length s.byte (bytes_of ss) tick ∙ ap (λ k. backticks bytes + data_length k) rest in
                   subst (λ n. ReadsAs q s ss events local cs (plain_run n)) (sym size) (reads-chunk q s ss events local cs at tick other short)
               | false ↦ λ tickless.

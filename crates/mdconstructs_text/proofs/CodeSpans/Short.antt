@@ -1,5 +1,5 @@
 -- The virtual bytes of a text can be counted, and so can the runs of backticks among them.
-use Rattle.mdconstructs_text.proofs.Prelude.{◌≡◌, ℕ, zero, suc, ◌+◌, ◌-◌, ◌*◌, ◌%◌, ◌^◌, ◌<◌, ◌≤◌, ◌∷◌, ◌++◌, [], List, Bool, true, false, cond, not, ◌&&◌, ◌||◌, ◌==◌, refl, sym, ◌∙◌, ap, subst, inl, inr, arith, length, length-append, mul-suc, and_parts, filter, list_all, AllByRecursion, or-leads, Point, Seat, tab_width, in_tab, begins_with_lf, virtual_from, virtual, stands_before, is_upto, denotes_same, in_range, Given, Text, Piece, pushed, passed, IsText, empty_text, followed_by, followed_by_all, FitsAfter, CanFollow, after-before, before-upto, every-all, filter-same, same-before}
+use Rattle.mdconstructs_text.proofs.Prelude.{◌≡◌, ℕ, zero, suc, ◌+◌, ◌-◌, ◌*◌, ◌%◌, ◌^◌, ◌<◌, ◌≤◌, ◌∷◌, ◌++◌, [], List, Bool, true, false, cond, not, ◌&&◌, ◌||◌, ◌==◌, refl, sym, ◌∙◌, ap, subst, inl, inr, arith, length, length-append, mul-suc, and_parts, filter, list_all, AllByRecursion, or-leads, Point, Seat, tab_width, in_tab, begins_with_lf, virtual_from, virtual, stands_before, is_upto, denotes_same, in_range, Given, Text, Piece, pushed, passed, IsText, empty_text, followed_by, followed_by_all, FitsAfter, CanFollow, after-before, before-upto, every-all, filter-same, same-before, count_by-le-length, length-filter}
 use Rattle.mdconstructs_text.proofs.CodeSpans.Walks.{RunsAreShort}
 use Rattle.mdconstructs_text.proofs.CodeSpans.Items.{runs-are-short}
 
@@ -14,14 +14,6 @@ add-step false false x f r h i e = e
 counts-add : (f h : Seat → Bool) (xs : List Seat) → AllByRecursion (λ s. f s ≡ true → h s ≡ true) xs → length (filter f xs) + length (filter (λ s. not (f s) && h s) xs) ≡ length (filter h xs)
 counts-add f h [] k = omega arith
 counts-add f h (x ∷ xs) k = add-step (f x) (h x) x (filter f xs) (filter (λ s. not (f s) && h s) xs) (filter h xs) k.0 (counts-add f h xs k.1)
-
--- what passes a test is no more than there is
-filter-le : (f : Seat → Bool) (xs : List Seat) → length (filter f xs) ≤ length xs
-filter-le f [] = omega arith
-filter-le f (x ∷ xs) = let e : length (filter f xs) ≤ length xs = filter-le f xs in elim (f x) as (λ t. length (cond t (x ∷ filter f xs) (filter f xs)) ≤ suc (length xs)) [
-  | true ↦ omega (arith, e)
-  | false ↦ omega (arith, e)
-]
 
 -- if each seat passes an implication of two tests, the first test implies the second
 all-implied : (f h : Seat → Bool) (xs : List Seat) → list_all (λ s. not (f s) || h s) xs ≡ true → AllByRecursion (λ s. f s ≡ true → h s ≡ true) xs
@@ -116,7 +108,10 @@ pub text-is-short : (g : Given) (text : Text) → IsText g text → length text.
 text-is-short g text is =
     let counted : length text.seats ≤ before g text.end =
     subst (IsCounted g) (sym is.is) (pieces-counted g (empty_text text.start) is.pieces (omega arith) is.follow) in
-    let some : before g text.end ≤ length (virtual g.tab g.bytes) = filter-le (λ s. stands_before s.point text.end) (virtual g.tab g.bytes) in
+    let is_before = λ (s : Seat). stands_before s.point text.end in
+    let few = count_by-le-length is_before (virtual g.tab g.bytes) in
+    let same = length-filter is_before (virtual g.tab g.bytes) in
+    let some : before g text.end ≤ length (virtual g.tab g.bytes) = omega (arith, few, same) in
     let all : length (virtual g.tab g.bytes) ≤ g.tab * length g.bytes = virtual-length g.tab is.document.tab.0 g.bytes 1 1 0 in
     let limit : g.tab * length g.bytes + 1 < 2 ^ 64 = is.document.limit in
     omega (arith, counted, some, all, limit)

@@ -1,5 +1,5 @@
 -- The inside of a code span, as the machine of texts reads it: up to the backtick string that closes it, or to the end.
-use Rattle.mdconstructs_text.proofs.Prelude.{◌≡◌, ℕ, zero, suc, ◌+◌, ◌^◌, ◌<◌, ◌≤◌, ◌∷◌, ◌++◌, [], List, true, false, ◌==◌, refl, sym, ◌∙◌, ap, subst, Option, Some, None, arith, length, take, drop, append-nil, append_assoc, drop-drop, flat_map, Event, CodeTextData, Retry, Nok, RawTextBetween, Seat, Given, Text, Local, Choice, counts, is_backtick_or_line_feed, backticks, part_length, bytes_of, part_events}
+use Rattle.mdconstructs_text.proofs.Prelude.{◌≡◌, ℕ, zero, suc, ◌+◌, ◌^◌, ◌<◌, ◌≤◌, ◌∷◌, ◌++◌, [], List, true, false, ◌==◌, refl, sym, ◌∙◌, ap, subst, Option, Some, None, arith, length, take, drop, append-nil, append_assoc, drop-drop, flat_map, Event, CodeTextData, Retry, Nok, RawTextBetween, Seat, Given, Text, Local, Choice, counts, is_backtick_or_line_feed, backticks, part_length, bytes_of, part_events, drop-map}
 use Rattle.mdconstructs_text.proofs.Texts.Cutting.{drop-less}
 use Rattle.mdconstructs_text.proofs.Texts.Steps.{EndsWith, Leads}
 use Rattle.mdconstructs_text.proofs.CodeSpans.Found.{first_run, further, passes-piece, first-here}
@@ -7,7 +7,7 @@ use Rattle.mdconstructs_text.proofs.CodeSpans.FoundParts.{piece-positive}
 use Rattle.mdconstructs_text.proofs.CodeSpans.Steps.{shows}
 use Rattle.mdconstructs_text.proofs.CodeSpans.Calls.{in_code, size_b, between-end}
 use Rattle.mdconstructs_text.proofs.CodeSpans.Cuts.{cut_pieces, piece_of, cut-front}
-use Rattle.mdconstructs_text.proofs.CodeSpans.Parts.{drop-bytes, reads-piece}
+use Rattle.mdconstructs_text.proofs.CodeSpans.Parts.{reads-piece}
 
 -- Runs of backticks can be counted: the sizes that the machine compares stop growing at the greatest number there is
 abbrev pub RunsAreShort : Text → Type 0
@@ -94,6 +94,6 @@ module _ (g : Given) (text : Text) (k : ℕ) (cs : List Choice) where
             let less : length (drop n l) ≤ length ss = drop-less n s ss (piece-positive is_backtick_or_line_feed s.byte (bytes_of ss)) in
             let behind : drop (q + n) text.seats ≡ drop n l = sym (drop-drop n q text.seats) ∙ ap (drop n) at in
             let rest = walks short some bound (q + n) (drop n l) passed it.0 (it.1 ∙ size) (omega (arith, less, within)) behind in
-            let found = passes-piece k some s.byte (bytes_of ss) e ∙ ap (λ b. further n (first_run k false b)) (drop-bytes n l) in
+            let found = passes-piece k some s.byte (bytes_of ss) e ∙ ap (λ b. further n (first_run k false b)) (drop-map (λ (s : Seat). s.byte) n l) in
             subst (Walks (suc bound) q l events local) (sym found) (goes-on bound q s ss events local it.0 it.2 (first_run k false (bytes_of (drop n l))) rest)
       ] refl

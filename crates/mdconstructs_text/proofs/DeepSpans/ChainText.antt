@@ -1,5 +1,5 @@
 -- The virtual bytes of the text of a chain are those of its chunks.
-use Rattle.mdconstructs_text.proofs.Prelude.{◌≡◌, ℕ, ◌+◌, ◌∷◌, ◌++◌, [], List, Bool, true, false, cond, refl, sym, ◌∙◌, ap, filter, flat_map, append-nil, Event, Point, denotes_same, in_range, Seat, virtual, place_at, pieces_behind, text_of_chain, Given, Text, pushed, passed, empty_text, followed_by, followed_by_all}
+use Rattle.mdconstructs_text.proofs.Prelude.{◌≡◌, ℕ, ◌+◌, ◌∷◌, ◌++◌, [], List, true, false, cond, refl, sym, ◌∙◌, ap, filter, flat_map, append-nil, Event, Point, denotes_same, in_range, Seat, virtual, place_at, pieces_behind, text_of_chain, Given, Text, pushed, passed, empty_text, followed_by, followed_by_all}
 use Rattle.std.proofs.Common.{append_assoc}
 
 module _ (g : Given) (events : List Event) where
@@ -9,11 +9,7 @@ module _ (g : Given) (events : List Event) where
 
   -- a gap has none
   gap-seats : (text : Text) (p : Point) → (followed_by g text (passed p)).seats ≡ text.seats
-  gap-seats text p = by (denotes_same g.tab g.bytes p text.end)
-    where
-      by : (b : Bool) → (cond b text (record text { end = p })).seats ≡ text.seats
-      by true = refl
-      by false = refl
+  gap-seats text p = elim (denotes_same g.tab g.bytes p text.end) as (λ b. (cond b text (record text { end = p })).seats ≡ text.seats) [ true ↦ refl | false ↦ refl ]
 
   behind-seats : (ks : List ℕ) (text : Text) → (followed_by_all g text (pieces_behind events ks)).seats ≡ text.seats ++ flat_map chunk_seats ks
   behind-seats [] text = sym (append-nil text.seats)

@@ -1,12 +1,12 @@
 -- The parts of a chain's child, put in place of its chunks, account for what the chunks and the events between them do.
 --
 -- Between two chunks of a chain is nothing, or a mark at the beginning of a line. Each innermost span of the child is within one line. So a
--- mark never comes between the enter and the exit of one.
-use Rattle.mdconstructs_text.proofs.Prelude.{◌≡◌, ℕ, suc, ◌+◌, ◌<◌, ◌≤◌, ◌∷◌, ◌++◌, [], List, true, false, Some, inl, inr, sym, ◌∙◌, ap, subst, arith, drop, length, map, between, flat_map, AllByRecursion, flat_map-append, append-nil, append_cancel_left, every-map, every-append, end-after-append, Event, Point, stands_before, Seat, virtual, end_after, next_of, Change, Given, IsChain, later-later, every-back, fits, part_changes, tagged_child, AreSpaced, LeadOnFrom, front_until, parts, IsReady, place_at, fits_next, length-parts, length-map_ends, after_changes, after-step, untagged-child, AccountFor}
+-- mark never comes between the enter and the exit of one. So a list that accounts for a document does so with the children of its chains.
+use Rattle.mdconstructs_text.proofs.Prelude.{◌≡◌, ℕ, suc, ◌+◌, ◌<◌, ◌≤◌, ◌∷◌, ◌++◌, [], List, true, false, Some, inl, inr, sym, ◌∙◌, ap, subst, arith, drop, length, map, between, flat_map, AllByRecursion, flat_map-append, append-nil, append_cancel_left, every-map, every-append, end-after-append, Event, Point, stands_before, Seat, virtual, end_after, next_of, Change, Given, IsChain, later-later, every-back, fits, part_changes, tagged_child, AreSpaced, LeadOnFrom, front_until, parts, IsReady, place_at, fits_next, length-parts, length-map_ends, after_changes, after-step, untagged-child, AccountFor, cond, refl, range_with_len, is_enter, Tagged, woven, placed_in, AreApart, woven-pass, chain_of, fitting_starts, chain_changes, child_changes, IsWholeFrom, divided_over, text_of_chain, starts_fit, follow_one_another, changes_are_apart, untagged, untagged-olds, innermost_spans, chain_text, with_read}
 use Rattle.std.proofs.Common.{append_assoc}
 use Rattle.markdown_base.specs.declared.event.Content.TheVariants.{Text as TextContent}
 use Rattle.mdconstructs_text.proofs.DeepSpans.Atoms.{Atom, seats_of, atom_events, events_of, InOneLine, EndsLine, EntersAt, IsCut, atoms-more, atoms-enter, cut-atoms}
-use Rattle.mdconstructs_text.proofs.DeepSpans.ChainText.{chunk_seats}
+use Rattle.mdconstructs_text.proofs.DeepSpans.ChainText.{chunk_seats, chain-seats}
 use Rattle.mdconstructs_text.proofs.DeepSpans.Chunks.{Stands, HasChunk, has-chunk, place_behind}
 use Rattle.mdconstructs_text.proofs.DeepSpans.Fronts.{Upto, front-over, front-none, front-upto, front-and-rest}
 use Rattle.mdconstructs_text.proofs.DeepSpans.Places.{origin, atoms-upto, place-before, chain-ends-line, chain-from}
@@ -32,6 +32,13 @@ mark-some bytes es i j m seats at h =
     let s = span-in bytes [] m.enter m.exit [] seats m.enters m.exits (subst (λ l. AccountFor l bytes seats) two h) in
     (s.first, s.others ++ s.behind, s.are ∙ ap (λ l. l ++ ((s.first ∷ s.others) ++ s.behind)) (none-account bytes s.before s.front))
 
+-- link ends do not matter
+spans-placed : (ts us : List Tagged) → innermost_spans (placed_in ts us) ≡ innermost_spans (untagged us)
+spans-placed ts [] = refl
+spans-placed ts (u ∷ []) = refl
+spans-placed ts (u ∷ v ∷ us) =
+    ap (λ l. cond (is_enter u.event.kind) (cond (is_enter v.event.kind) [] ((u.event.point, v.event.point) ∷ [])) [] ++ l) (spans-placed ts (v ∷ us))
+
 module _ (g : Given) (some : 0 < g.tab) (events : List Event) (ready : IsReady g.tab g.bytes (Some TextContent) events)
     (pairs : (k d : ℕ) → next_of events k ≡ Some d → FollowsChunk events k d) where
   abbrev n : ℕ
@@ -44,7 +51,7 @@ module _ (g : Given) (some : 0 < g.tab) (events : List Event) (ready : IsReady g
   behind_of pre = place_behind g some events pre
 
   -- the events from i on, after changes
-  abbrev pub after : List Change → ℕ → List Event
+  abbrev after : List Change → ℕ → List Event
   after ws i = after_changes g.tab g.bytes (Some TextContent) events ready ws i
 
   -- they account for virtual bytes, and begin with an enter
@@ -52,11 +59,11 @@ module _ (g : Given) (some : 0 < g.tab) (events : List Event) (ready : IsReady g
   Good es seats = AccountFor es g.bytes seats × Enters es
 
   -- what comes behind the chains at hand accounts for its virtual bytes
-  abbrev pub IsGoodBehind : List ℕ → List Change → Type 0
+  abbrev IsGoodBehind : List ℕ → List Change → Type 0
   IsGoodBehind more ws = (m : ℕ) → AreSpaced m more n → (pre rest : List Seat) → Stands g some events m pre rest → AccountFor (after ws m) g.bytes rest
 
   -- where chunks end
-  abbrev pub ends_of : List ℕ → List Point
+  abbrev ends_of : List ℕ → List Point
   ends_of ks = map (λ k. place_at events (k + 1)) ks
 
   -- from a chunk on: its part, and what follows it
@@ -228,7 +235,7 @@ module _ (g : Given) (some : 0 < g.tab) (events : List Event) (ready : IsReady g
       ])
 
   -- a whole chain, from events before it on
-  pub one-chain : (c i : ℕ) (ks more : List ℕ) (child : List Event) (ws : List Change) → Fits c → LeadOnFrom events c ks → AreSpaced i (c ∷ (ks ++ more)) n → IsGoodBehind more ws
+  one-chain : (c i : ℕ) (ks more : List ℕ) (child : List Event) (ws : List Change) → Fits c → LeadOnFrom events c ks → AreSpaced i (c ∷ (ks ++ more)) n → IsGoodBehind more ws
       → IsCut g.bytes child (flat_map (chunk_seats g events) (c ∷ ks)) → (pre rest : List Seat) → Stands g some events i pre rest
       → AccountFor (after (part_changes c 0 (c ∷ ks) (parts (place_at events (c + 1) ∷ ends_of ks) child) ++ ws) i) g.bytes rest
   one-chain c i ks more child ws fit lead spaced good cut pre rest stands =
@@ -249,3 +256,37 @@ module _ (g : Given) (some : 0 < g.tab) (events : List Event) (ready : IsReady g
       let more_good = through c 0 c ks more ws [] child (pre ++ chunk.before) chunk.first chunk.others chunk.behind fit lead spaced.1 good comes in
       subst (λ es. AccountFor es g.bytes rest) (sym (up-to-chunk c 0 i c ks ps ws spaced.0 (enough c ks child)))
       (subst (AccountFor (gap ++ then) g.bytes) (sym chunk.are) (both-account g.bytes gap then chunk.before (t ++ chunk.behind) chunk.gap more_good.0 more_good.1))
+
+  module _ (of_chain : ℕ → List Event) (cuts : (c : ℕ) → IsCut g.bytes (of_chain c) (chain_text g events c).seats) where
+    -- chain by chain
+    all-chains : (cs : List ℕ) (i : ℕ) → AllByRecursion Fits cs → AllByRecursion (IsWholeFrom events) cs → AreSpaced i (flat_map (chain_of events) cs) n → (pre rest : List Seat) → Stands g some events i pre rest
+        → AccountFor (after (flat_map chain_changes (divided_over events cs (map of_chain cs))) i) g.bytes rest
+    all-chains [] i fit whole spaced pre rest stands = subst (λ es. AccountFor es g.bytes rest) (sym (untagged-olds i (drop i events))) stands.account
+    all-chains (c ∷ cs) i fit whole spaced pre rest stands =
+        let ks = whole.0.0 in
+        let is : chain_of events c ≡ c ∷ ks = whole.0.1 in
+        let more = flat_map (chain_of events) cs in
+        let ws : List Change = flat_map chain_changes (divided_over events cs (map of_chain cs)) in
+        let changes : List ℕ → List Change = λ ys. chain_changes (record { chunks = ys; parts = parts (map (λ k. place_at events (k + 1)) ys) (of_chain c) }) in
+        let seats : (chain_text g events c).seats ≡ flat_map (chunk_seats g events) (c ∷ ks) = ap (λ l. (text_of_chain g events l).seats) is ∙ chain-seats g events c ks in
+        let cut = subst (IsCut g.bytes (of_chain c)) seats (cuts c) in
+        subst (λ ys. AccountFor (after (changes ys ++ ws) i) g.bytes rest) (sym is)
+        (one-chain c i ks more (of_chain c) ws fit.0 whole.0.2 (subst (λ (ys : List ℕ). AreSpaced i (ys ++ more) n) is spaced)
+        (λ m between p r there. all-chains cs m fit.1 whole.1 between p r there) cut pre rest stands)
+
+    pub with-read-accounts : AccountFor events g.bytes (virtual g.tab g.bytes) → AccountFor (with_read g events of_chain) g.bytes (virtual g.tab g.bytes)
+    with-read-accounts h =
+        let wanted = Some TextContent in
+        let starts = fitting_starts wanted events in
+        let f = follow_one_another g.tab g.bytes wanted events ready in
+        let ws : List Change = child_changes wanted events (map of_chain starts) in
+        let z : n ≡ 0 + n = omega arith in
+        let apart : AreApart 0 ws (0 + n) = subst (AreApart 0 ws) z (changes_are_apart g.tab g.bytes wanted events (map of_chain starts) ready).apart in
+        let spaced : AreSpaced 0 (flat_map (chain_of events) starts) n = subst (λ (ks : List ℕ). AreSpaced 0 ks n) (sym f.in_order) f.spaced in
+        let all = all-chains starts 0 (starts_fit g.tab g.bytes wanted events ready (range_with_len 0 n)) f.whole spaced [] (virtual g.tab g.bytes) (record { whole = refl; account = h }) in
+        let ts = woven ws 0 events in
+        record {
+          stretches = all.stretches;
+          are_all = all.are_all;
+          are_innermost = spans-placed ts ts ∙ ap (λ (us : List Tagged). innermost_spans (untagged us)) (woven-pass ws 0 events apart) ∙ all.are_innermost;
+        }

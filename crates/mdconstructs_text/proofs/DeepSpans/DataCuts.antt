@@ -16,11 +16,7 @@ plain-line (s ∷ r ∷ rs) h = (h.0, plain-line (r ∷ rs) h.1)
 -- nor in the text of a line
 text-plain : (l : List Seat) → NoEnding (line_text l)
 text-plain [] = tt
-text-plain (s ∷ ss) = by (is_line_ending s) refl (text-plain ss)
-  where
-    by : (b : Bool) → is_line_ending s ≡ b → NoEnding (line_text ss) → NoEnding (cond (not (is_line_ending s)) (s ∷ line_text ss) (line_text ss))
-    by true e more = subst (λ b. NoEnding (cond (not b) (s ∷ line_text ss) (line_text ss))) (sym e) more
-    by false e more = subst (λ b. NoEnding (cond (not b) (s ∷ line_text ss) (line_text ss))) (sym e) (e, more)
+text-plain (s ∷ ss) = elim (is_line_ending s) as (λ b. is_line_ending s ≡ b → NoEnding (cond (not b) (s ∷ line_text ss) (line_text ss))) [ true ↦ λ e. text-plain ss | false ↦ λ e. (e, text-plain ss) ] refl
 
 -- a line has one line ending at most
 abbrev EndsOnce : List Seat → Type 0
@@ -36,12 +32,10 @@ joined-once s (line ∷ lines) e h = (subst (λ b. OneLine (cond b (s ∷ ending
 
 lines-once : (l : List Seat) → AllByRecursion EndsOnce (lines_in l)
 lines-once [] = tt
-lines-once (s ∷ ss) = by (is_line_ending s) refl (lines-once ss)
-  where
-    by : (b : Bool) → is_line_ending s ≡ b → AllByRecursion EndsOnce (lines_in ss)
-        → AllByRecursion EndsOnce (cond b ((s ∷ []) ∷ lines_in ss) (joined s (lines_in ss)))
-    by true e more = (one-ending s (is_line_ending s), more)
-    by false e more = joined-once s (lines_in ss) e more
+lines-once (s ∷ ss) = elim (is_line_ending s) as (λ b. is_line_ending s ≡ b → AllByRecursion EndsOnce (cond b ((s ∷ []) ∷ lines_in ss) (joined s (lines_in ss)))) [
+  | true ↦ λ e. (one-ending s (is_line_ending s), lines-once ss)
+  | false ↦ λ e. joined-once s (lines_in ss) e (lines-once ss)
+] refl
 
 module _ (bytes : List ℕ) where
   line-cut : (line : List Seat) → OneLine (ending_of line) → IsCut bytes (data_line bytes line) (both line)

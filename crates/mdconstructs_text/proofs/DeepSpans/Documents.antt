@@ -1,7 +1,7 @@
 -- A document's blocks, with the children of their chains of text, account for each virtual byte.
 use Rattle.mdconstructs_text.proofs.Prelude.{ℕ, List, ◌<◌, arith, Event, virtual, Given, IsDocument, AccountFor, paragraph_events, paragraphs-account, chain_text, with_read}
 use Rattle.mdconstructs_text.proofs.DeepSpans.Atoms.{IsCut}
-use Rattle.mdconstructs_text.proofs.DeepSpans.Whole.{with-read-accounts}
+use Rattle.mdconstructs_text.proofs.DeepSpans.Chains.{with-read-accounts}
 use Rattle.mdconstructs_text.proofs.Paragraphs.Ready.{document-readable}
 
 pub children-account : (g : Given) → IsDocument g → let es = paragraph_events g.bytes (virtual g.tab g.bytes) in

@@ -1,31 +1,28 @@
 -- The events of a text can be cut into atoms: no innermost span of an item goes over a line ending.
-use Rattle.mdconstructs_text.proofs.Prelude.{◌≡◌, ℕ, zero, suc, ◌+◌, ◌-◌, ◌<◌, ◌≤◌, ◌==◌, ◌&&◌, ◌∷◌, ◌++◌, [], List, Bool, true, false, cond, not, Option, Some, None, refl, sym, ◌∙◌, ap, subst, arith, length, take, drop, max, option_map, slice_get, flat_map, between, find, prefix_len, position_or_len, range_with_len, eqb-true, drop-drop, drop-take, take-take, take-append-drop, drop-map, and-right, Constructs, Event, Data, LineEnding, CodeText, CodeTextSequence, CodeTextData, Autolink, AutolinkMarker, AutolinkProtocol, CharacterEscape, CharacterEscapeMarker, CharacterEscapeValue, Seat, Given, Text, line_ending, plain_run, Item, code_span, autolink, escape, part_length, item_length, passes, has_byte_at, is_backtick, is_backtick_or_line_feed, is_special, is_colon, is_less_than, is_greater_than, is_scheme, is_scheme_byte, is_allowed, backticks, is_backtick_string, before_backtick_string, code_span_at, uri, autolink_to, autolink_at, escape_at, plain_length, part_at, item_at, if_on, or_else, bytes_of, cut, pieces, part_events, item_events, text_events, leaf}
+use Rattle.mdconstructs_text.proofs.Prelude.{at-front, ◌≡◌, ℕ, zero, suc, ◌+◌, ◌-◌, ◌<◌, ◌≤◌, ◌==◌, ◌&&◌, ◌∷◌, ◌++◌, [], List, Bool, true, false, cond, not, Option, Some, None, refl, sym, ◌∙◌, ap, subst, arith, length, take, drop, max, option_map, slice_get, flat_map, between, find, prefix_len, position_or_len, range_with_len, eqb-true, drop-drop, drop-take, take-take, take-append-drop, drop-map, and-right, Constructs, Event, Data, LineEnding, CodeText, CodeTextSequence, CodeTextData, Autolink, AutolinkMarker, AutolinkProtocol, CharacterEscape, CharacterEscapeMarker, CharacterEscapeValue, Seat, Given, Text, line_ending, plain_run, Item, code_span, autolink, escape, part_length, item_length, passes, has_byte_at, is_backtick, is_backtick_or_line_feed, is_special, is_colon, is_less_than, is_greater_than, is_scheme, is_scheme_byte, is_allowed, backticks, is_backtick_string, before_backtick_string, code_span_at, uri, autolink_to, autolink_at, escape_at, plain_length, part_at, item_at, if_on, bytes_of, cut, pieces, part_events, item_events, text_events, leaf}
 use Rattle.markdown_base.specs.declared.event.Name.{Name}
 use Rattle.mdconstructs_text.proofs.CodeSpans.FoundParts.{piece-positive}
 use Rattle.mdconstructs_text.proofs.DeepSpans.Atoms.{OneLine, IsCut, cut-none, cut-append, cut-leaf, cut-span}
 use Rattle.mdconstructs_text.proofs.DeepSpans.DataCuts.{NoEnding, plain-line}
 use Rattle.mdconstructs_text.proofs.Texts.Cutting.{drop-less}
-use Rattle.mdconstructs_text.proofs.Texts.LineEndings.{at-front}
-use Rattle.mdconstructs_text.proofs.Texts.Positive.{items-positive}
+use Rattle.mdconstructs_text.proofs.Texts.Positive.{items-positive, OfOption, when-there, else-there}
 
 -- ---- stretches with no line ending
 -- a byte that passes a test that a line ending does not
 no-feed : (test : ℕ → Bool) → test 10 ≡ false → (b : ℕ) → test b ≡ true → (b == 10) ≡ false
-no-feed test fails b is = by (b == 10) refl
-  where
-    by : (t : Bool) → (b == 10) ≡ t → (b == 10) ≡ false
-    by false e = e
-    by true e = let no : true ≡ false = sym is ∙ ap test (eqb-true b 10 e) ∙ fails in absurd (cc)
+no-feed test fails b is = elim (b == 10) as (λ t. (b == 10) ≡ t → t ≡ false) [
+  | true ↦ λ e. let no : true ≡ false = sym is ∙ ap test (eqb-true b 10 e) ∙ fails in absurd (cc)
+  | false ↦ λ e. refl
+] refl
 
 run-plain : (test : ℕ → Bool) → test 10 ≡ false → (l : List Seat) → NoEnding (take (prefix_len test (bytes_of l)) l)
 run-plain test fails [] = tt
-run-plain test fails (s ∷ ss) = by (test s.byte) refl (run-plain test fails ss)
-  where
-    by : (t : Bool) → test s.byte ≡ t → NoEnding (take (prefix_len test (bytes_of ss)) ss) → NoEnding (take (cond (test s.byte) (1 + prefix_len test (bytes_of ss)) 0) (s ∷ ss))
-    by true e more =
-        let one : suc (prefix_len test (bytes_of ss)) ≡ 1 + prefix_len test (bytes_of ss) = omega arith in
-        subst (λ t. NoEnding (take (cond t (1 + prefix_len test (bytes_of ss)) 0) (s ∷ ss))) (sym e) (subst (λ n. NoEnding (take n (s ∷ ss))) one (no-feed test fails s.byte e, more))
-    by false e more = subst (λ t. NoEnding (take (cond t (1 + prefix_len test (bytes_of ss)) 0) (s ∷ ss))) (sym e) tt
+run-plain test fails (s ∷ ss) = elim (test s.byte) as (λ t. test s.byte ≡ t → NoEnding (take (cond t (1 + prefix_len test (bytes_of ss)) 0) (s ∷ ss))) [
+  | true ↦ λ e.
+      let one : suc (prefix_len test (bytes_of ss)) ≡ 1 + prefix_len test (bytes_of ss) = omega arith in
+      subst (λ n. NoEnding (take n (s ∷ ss))) one (no-feed test fails s.byte e, run-plain test fails ss)
+  | false ↦ λ e. tt
+] refl
 
 plain-add : (r d : ℕ) (l : List Seat) → NoEnding (take r l) → NoEnding (take d (drop r l)) → NoEnding (take (r + d) l)
 plain-add zero d l h k = let same : d ≡ 0 + d = omega arith in subst (λ n. NoEnding (take n l)) same k
@@ -43,11 +40,10 @@ one-taken (s ∷ ss) = tt
 -- a test that what is found passes
 found-passes : (test : ℕ → Bool) (xs : List ℕ) (x : ℕ) → find test xs ≡ Some x → test x ≡ true
 found-passes test [] x h = absurd (cc)
-found-passes test (y ∷ ys) x h = by (test y) refl (found-passes test ys x)
-  where
-    by : (t : Bool) → test y ≡ t → (find test ys ≡ Some x → test x ≡ true) → test x ≡ true
-    by true e more = let is : Some y ≡ Some x = sym (ap (λ t. cond t (Some y) (find test ys)) e) ∙ h in let same : y ≡ x = cc in ap test (sym same) ∙ e
-    by false e more = more (sym (ap (λ t. cond t (Some y) (find test ys)) e) ∙ h)
+found-passes test (y ∷ ys) x h = elim (test y) as (λ t. test y ≡ t → cond t (Some y) (find test ys) ≡ Some x → test x ≡ true) [
+  | true ↦ λ e is. let same : y ≡ x = cc in ap test (sym same) ∙ e
+  | false ↦ λ e is. found-passes test ys x is
+] refl h
 
 -- a stretch in three
 in-three : (i n : ℕ) (l : List Seat) → take i l ++ (between i (i + n) l ++ drop (i + n) l) ≡ l
@@ -165,16 +161,7 @@ module _ (bytes : List ℕ) where
 
   -- ---- the item that is there
   abbrev OptionCut : List Seat → Option Item → Type 0
-  OptionCut seats None = Unit {0}
-  OptionCut seats (Some item) = ItemCut seats item
-
-  on-cut : (seats : List Seat) (on : Bool) (o : Option Item) → OptionCut seats o → OptionCut seats (if_on on o)
-  on-cut seats true o h = h
-  on-cut seats false o h = tt
-
-  else-cut : (seats : List Seat) (o : Option Item) (item : Item) → OptionCut seats o → ItemCut seats item → ItemCut seats (or_else o item)
-  else-cut seats None item h k = k
-  else-cut seats (Some other) item h k = h
+  OptionCut seats o = OfOption (ItemCut seats) o
 
   -- code spans: two backtick strings of one length
   closing-plain : (seats : List Seat) (t p : ℕ) → before_backtick_string t (drop t (bytes_of seats)) ≡ Some p → NoEnding (take t (drop (t + p) seats))
@@ -189,14 +176,6 @@ module _ (bytes : List ℕ) where
   code-found : (seats : List Seat) (o : Option ℕ) → let t = backticks (bytes_of seats) in before_backtick_string t (drop t (bytes_of seats)) ≡ o → OptionCut seats (option_map (code_span t) o)
   code-found seats None h = tt
   code-found seats (Some p) h = let t = backticks (bytes_of seats) in code-cut seats t p (run-plain is_backtick refl seats) (closing-plain seats t p h)
-
-  code-at : (seats : List Seat) → OptionCut seats (code_span_at (bytes_of seats))
-  code-at seats = by (has_byte_at (bytes_of seats) 0 is_backtick)
-    where
-      by : (b : Bool)
-          → let t = backticks (bytes_of seats) in OptionCut seats (cond b (option_map (code_span t) (before_backtick_string t (drop t (bytes_of seats)))) None)
-      by true = let t = backticks (bytes_of seats) in code-found seats (before_backtick_string t (drop t (bytes_of seats))) refl
-      by false = tt
 
   -- autolinks: a scheme, a colon, and bytes that are allowed
   colon-plain : (l : List Seat) (m : ℕ) → has_byte_at (bytes_of l) m is_colon ≡ true → NoEnding (take 1 (drop m l))
@@ -224,31 +203,23 @@ module _ (bytes : List ℕ) where
 
   link-to : (seats : List Seat) (o : Option ℕ) → uri (drop 1 (bytes_of seats)) ≡ o → OptionCut seats (autolink_to (bytes_of seats) o)
   link-to seats None h = tt
-  link-to seats (Some n) h = by (has_byte_at (bytes_of seats) (n + 1) is_greater_than)
-    where
-      by : (b : Bool) → OptionCut seats (cond b (Some (autolink n)) None)
-      by true = link-cut seats n (uri-plain (drop 1 seats) n (ap uri (sym (drop-map (λ (s : Seat). s.byte) 1 seats)) ∙ h))
-      by false = tt
-
-  link-at : (seats : List Seat) → OptionCut seats (autolink_at (bytes_of seats))
-  link-at seats = by (has_byte_at (bytes_of seats) 0 is_less_than)
-    where
-      by : (b : Bool) → OptionCut seats (cond b (autolink_to (bytes_of seats) (uri (drop 1 (bytes_of seats)))) None)
-      by true = link-to seats (uri (drop 1 (bytes_of seats))) refl
-      by false = tt
-
-  escape-there : (seats : List Seat) (b : Bool) → OptionCut seats (cond b (Some escape) None)
-  escape-there seats true = escape-cut seats
-  escape-there seats false = tt
+  link-to seats (Some n) h =
+      when-there (ItemCut seats) (has_byte_at (bytes_of seats) (n + 1) is_greater_than) (Some (autolink n))
+      (link-cut seats n (uri-plain (drop 1 seats) n (ap uri (sym (drop-map (λ (s : Seat). s.byte) 1 seats)) ∙ h)))
 
   item-cut : (on : Constructs) (s : Seat) (ss : List Seat) → ItemCut (s ∷ ss) (item_at on (bytes_of (s ∷ ss)))
   item-cut on s ss =
       let seats = s ∷ ss in
       let text = bytes_of seats in
-      else-cut seats (if_on on.code_text (code_span_at text)) _ (on-cut seats on.code_text (code_span_at text) (code-at seats))
-      (else-cut seats (if_on on.autolink (autolink_at text)) _ (on-cut seats on.autolink (autolink_at text) (link-at seats))
-      (else-cut seats (if_on on.character_escape (escape_at text)) _ (on-cut seats on.character_escape (escape_at text) (escape-there seats _))
-      (part-cut is_special refl Data s ss)))
+      let Cut = ItemCut seats in
+      let t = backticks text in
+      else-there Cut (if_on on.code_text (code_span_at text)) _
+      (when-there Cut on.code_text (code_span_at text)
+      (when-there Cut (has_byte_at text 0 is_backtick) (option_map (code_span t) (before_backtick_string t (drop t text))) (code-found seats (before_backtick_string t (drop t text)) refl)))
+      (else-there Cut (if_on on.autolink (autolink_at text)) _
+      (when-there Cut on.autolink (autolink_at text) (when-there Cut (has_byte_at text 0 is_less_than) (autolink_to text (uri (drop 1 text))) (link-to seats (uri (drop 1 text)) refl)))
+      (else-there Cut (if_on on.character_escape (escape_at text)) _
+      (when-there Cut on.character_escape (escape_at text) (when-there Cut _ (Some escape) (escape-cut seats))) (part-cut is_special refl Data s ss)))
 
 -- so it is with all items of a text
 pub text-cut : (g : Given) (text : Text) → IsCut g.bytes (text_events g text) text.seats

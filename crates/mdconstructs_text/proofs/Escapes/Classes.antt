@@ -1,5 +1,5 @@
 -- The bytes that may be escaped, ASCII punctuation, and those that may not.
-use Rattle.mdconstructs_text.proofs.Prelude.{◌≡◌, ℕ, [], true, false, refl, Option, Some, arith, nat_tests, is_ascii_punctuation, Nok, row, TextByte, text_byte, escape_inside_rows, escaped}
+use Rattle.mdconstructs_text.proofs.Prelude.{◌≡◌, ℕ, [], true, false, refl, Option, Some, arith, nat_tests, is_ascii_punctuation, Nok, row, TextByte, text_byte, escape_inside_rows, escaped, None, passes, class_of}
 use Rattle.mdconstructs_text.proofs.Plain.Classes.{by-class}
 
 -- punctuation is escaped
@@ -9,8 +9,9 @@ escaped-class before b h =
     (λ e. absurd (grind (arith, nat_tests))) (λ e. refl) (λ e. refl) (λ e. refl) (λ e. refl) (λ e. refl)
     (λ e. absurd (grind (arith, nat_tests))) (λ e f. absurd (grind (arith, nat_tests))) (λ e. refl) (λ o e. refl) (λ o e. absurd (grind (arith, nat_tests))) (λ o n e. absurd (cc))
 
--- and no other byte is
-pub refused-class : (before : Option TextByte) (b : ℕ) → is_ascii_punctuation b ≡ false → escape_inside_rows before (Some (text_byte b)) ≡ row [] Nok
-refused-class before b h =
+-- and no other byte is, nor the end
+pub refused-class : (before : Option TextByte) (o : Option ℕ) → passes is_ascii_punctuation o ≡ false → escape_inside_rows before (class_of text_byte o) ≡ row [] Nok
+refused-class before None h = refl
+refused-class before (Some b) h =
     by-class (λ w. escape_inside_rows before (Some w) ≡ row [] Nok) b
     (λ e. refl) (λ e. absurd (grind (arith, nat_tests))) (λ e. absurd (grind (arith, nat_tests))) (λ e. absurd (grind (arith, nat_tests))) (λ e. absurd (grind (arith, nat_tests))) (λ e. absurd (grind (arith, nat_tests))) (λ e. refl) (λ e f. refl) (λ e. absurd (grind (arith, nat_tests))) (λ o e. absurd (cc)) (λ o e. refl) (λ o n e. refl)

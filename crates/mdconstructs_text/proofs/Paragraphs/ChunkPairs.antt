@@ -1,14 +1,9 @@
 -- Lists of events in which chunks of text are linked one after another: what is between two that are linked, and that this is kept if
 -- events are added and chunks are linked.
-use Rattle.mdconstructs_text.proofs.Prelude.{AllByRecursion, ◌≡◌, ℕ, zero, suc, ◌+◌, ◌<◌, ◌==◌, List, [], ◌∷◌, ◌++◌, true, false, Option, Some, None, length, ◌⊎◌, inl, inr, refl, sym, ap, ◌∙◌, subst, arith, length-append, is_some, slice_get, option_map, option_and_then, unwrap_or, nat_tests, slice_get_within, Event, Enter, Exit, Link, Point, IsPointOf, point, IsLinkedEnter, content_of, updated_at, next_set, previous_set, with_next, with_previous, linked_to, next_of, updated-length, place_at, next_end, next-more, next-other, next-kept}
+use Rattle.mdconstructs_text.proofs.Prelude.{AllByRecursion, ◌≡◌, ℕ, zero, suc, ◌+◌, ◌<◌, ◌==◌, List, [], ◌∷◌, ◌++◌, true, false, Option, Some, None, length, ◌⊎◌, inl, inr, refl, sym, ap, ◌∙◌, subst, arith, length-append, is_some, slice_get, option_map, option_and_then, unwrap_or, nat_tests, slice_get_within, Event, Enter, Exit, Link, Point, IsPointOf, point, IsLinkedEnter, content_of, updated_at, next_set, previous_set, with_next, with_previous, linked_to, next_of, updated-length, place_at, next_end, next-more, next-other, next-kept, every-append, get-front}
 use Rattle.markdown_base.specs.declared.event.Content.TheVariants.{Text}
 
 -- Lists with one more event
-pub front-get : (xs : List Event) (e : Event) (i : ℕ) → i < length xs → slice_get (xs ++ e ∷ []) i ≡ slice_get xs i
-front-get [] e i h = absurd (omega (arith, h))
-front-get (x ∷ xs) e zero h = refl
-front-get (x ∷ xs) e (suc i) h = front-get xs e i (omega (arith, h))
-
 pub last-get : (xs : List Event) (e : Event) (i : ℕ) → i ≡ length xs → slice_get (xs ++ e ∷ []) i ≡ Some e
 last-get [] e zero h = refl
 last-get [] e (suc i) h = absurd (omega (arith, h))
@@ -22,17 +17,13 @@ pub place-at-event : (xs : List Event) (i : ℕ) (e : Event) → slice_get xs i 
 place-at-event xs i e is = ap point_or_first is
 
 pub front-place : (xs : List Event) (e : Event) (i : ℕ) → i < length xs → place_at (xs ++ e ∷ []) i ≡ place_at xs i
-front-place xs e i h = ap point_or_first (front-get xs e i h)
+front-place xs e i h = ap point_or_first (get-front xs (e ∷ []) i h)
 
 pub last-place : (xs : List Event) (e : Event) (i : ℕ) → i ≡ length xs → place_at (xs ++ e ∷ []) i ≡ e.point
 last-place xs e i h = ap point_or_first (last-get xs e i h)
 
 pub one-longer : (xs : List Event) (e : Event) → length (xs ++ e ∷ []) ≡ length xs + 1
 one-longer xs e = length-append xs (e ∷ [])
-
-all-more : (P : Event → Type 0) (xs : List Event) (e : Event) → AllByRecursion P xs → P e → AllByRecursion P (xs ++ e ∷ [])
-all-more P [] e h p = (p, tt)
-all-more P (x ∷ xs) e h p = (h.0, all-more P xs e h.1 p)
 
 -- Lists with one event changed
 updated-place : (i : ℕ) (f : Event → Event) (xs : List Event) (j : ℕ) → ((x : Event) → (f x).point ≡ x.point) → place_at (updated_at i f xs) j ≡ place_at xs j
@@ -108,7 +99,7 @@ mark-kept es fs i h enter exit = record {
 pub mark-more : (es : List Event) (e : Event) (i : ℕ) → IsMark es i → IsMark (es ++ e ∷ []) i
 mark-more es e i h =
     let last = slice_get_within es (i + 1) h.exit h.exit_at in
-    mark-kept es (es ++ e ∷ []) i h (front-get es e i (omega (arith, last)) ∙ h.enter_at) (front-get es e (i + 1) last ∙ h.exit_at)
+    mark-kept es (es ++ e ∷ []) i h (get-front es (e ∷ []) i (omega (arith, last)) ∙ h.enter_at) (get-front es (e ∷ []) (i + 1) last ∙ h.exit_at)
 
 mark-updated : (p : ℕ) (f : Event → Event) (es : List Event) (i : ℕ) → ((x : Event) → x.link ≡ None → f x ≡ x) → IsMark es i → IsMark (updated_at p f es) i
 mark-updated p f es i alone h =
@@ -175,7 +166,7 @@ module _ (t : ℕ) (bytes : List ℕ) where
 
   pub chunks-more : (es : List Event) (e : Event) → IsPlaced e → next_end e ≡ None → AreChunks es → AreChunks (es ++ e ∷ [])
   chunks-more es e placed ends h = record {
-    each = all-more IsPlaced es e h.each placed;
+    each = every-append IsPlaced es (e ∷ []) h.each (placed, tt);
     pairs = λ k d is. pair-more es e k d (h.pairs k d (sym (next-more es e k ends) ∙ is));
   }
 

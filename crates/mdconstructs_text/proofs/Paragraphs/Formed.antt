@@ -1,5 +1,5 @@
 -- The events of a document's blocks are balanced, void-tight and in order.
-use Rattle.mdconstructs_text.proofs.Prelude.{◌≡◌, ℕ, zero, suc, ◌+◌, ◌<◌, ◌∷◌, ◌++◌, [], List, true, false, Option, Some, None, refl, sym, ◌∙◌, ap, subst, arith, AllPairs, slice_get, flat_map, AllByRecursion, append-nil, map-append, All-from_recursion, AllPairs-cons, every-append, every-map, end-after-append, Event, Enter, Exit, Paragraph, Data, BlankLineEnding, BlockQuoteMarker, Point, is_void, IsBalanced, empty, span, IsVoidTight, IsInOrder, stands_before, shown, IsShown, Seat, point, virtual, end_after, IsBalanced-append, upto-upto, IsChain, whole-chain, before-self, chain-split, chain-upto, shown-shown, lines_in, all_of, Block, paragraph, blocks_of, mark_of, chunk_of, Chunk, Marked, marked_span, line_marks, lines_marks, block_marks, blocks_marks, as_linked, paragraph_events, lines-are-all, block_bytes, blocks-are-all, line-is, linked}
+use Rattle.mdconstructs_text.proofs.Prelude.{◌≡◌, ℕ, zero, suc, ◌+◌, ◌<◌, ◌∷◌, ◌++◌, [], List, true, false, Option, Some, None, refl, sym, ◌∙◌, ap, subst, arith, AllPairs, slice_get, flat_map, AllByRecursion, append-nil, map-append, All-from_recursion, AllPairs-cons, every-append, every-map, end-after-append, Event, Enter, Exit, Paragraph, Data, BlankLineEnding, BlockQuoteMarker, Point, is_void, IsBalanced, empty, span, IsVoidTight, IsInOrder, stands_before, shown, IsShown, Seat, point, virtual, end_after, IsBalanced-append, upto-upto, IsChain, whole-chain, before-self, chain-split, chain-upto, shown-shown, lines_in, all_of, Block, paragraph, blocks_of, mark_of, chunk_of, Chunk, Marked, marked_span, line_marks, lines_marks, block_marks, blocks_marks, as_linked, paragraph_events, lines-are-all, block_bytes, blocks-are-all, line-is, linked, get-front, slice_get_within}
 use Rattle.std.proofs.Common.{append_assoc}
 use Rattle.markdown_base.specs.declared.event.Name.{Name}
 use Rattle.mdconstructs_machines.specs.ParagraphEvents.{blank}
@@ -7,11 +7,6 @@ use Rattle.mdconstructs_machines.specs.Spans.{event}
 use Rattle.mdconstructs_text.proofs.DeepSpans.Places.{place-shown}
 
 -- ---- void-tight lists
-get-more : (xs ys : List Event) (i : ℕ) (e : Event) → slice_get xs i ≡ Some e → slice_get (xs ++ ys) i ≡ Some e
-get-more [] ys i e is = absurd (cc)
-get-more (x ∷ xs) ys zero e is = is
-get-more (x ∷ xs) ys (suc i) e is = get-more xs ys i e is
-
 void-cons : (e : Event) (es : List Event) → (e.kind ≡ Enter → is_void e.name ≡ true → (f : Event) × (slice_get es 0 ≡ Some f) × (f.kind ≡ Exit) × (f.name ≡ e.name)) → IsVoidTight es → IsVoidTight (e ∷ es)
 void-cons e es first h zero f at =
     let same : e ≡ f = cc in
@@ -25,7 +20,7 @@ void-append : (xs ys : List Event) → IsVoidTight xs → IsVoidTight ys → IsV
 void-append [] ys h k = k
 void-append (x ∷ xs) ys h k =
     void-cons x (xs ++ ys)
-    (λ enter void. let r = h 0 x refl enter void in (r.0, get-more xs ys 0 r.0 r.1, r.2, r.3))
+    (λ enter void. let r = h 0 x refl enter void in (r.0, get-front xs ys 0 (slice_get_within xs 0 r.0 r.1) ∙ r.1, r.2, r.3))
     (void-append xs ys (λ i f at enter void. let r = h (suc i) f at enter void in let z : suc i + 1 ≡ suc (i + 1) = omega arith in (r.0, sym (ap (slice_get (x ∷ xs)) z) ∙ r.1, r.2, r.3)) k)
 
 -- ---- events between two places, in order

@@ -1,7 +1,7 @@
 -- In a whole document, what the states of paragraphs keep: of two chunks that are linked the one follows the other.
-use Rattle.mdconstructs_text.proofs.Prelude.{◌≡◌, ℕ, ◌+◌, ◌-◌, ◌==◌, List, [], ◌∷◌, ◌++◌, Bool, true, false, cond, Option, Some, None, length, ◌⊎◌, inl, inr, refl, sym, ap, ◌∙◌, subst, arith, nat_lt, nat_tests, Event, Enter, Exit, Data, BlockQuoteMarker, Point, IsPointOf, Name, State, Next, Retry, Ok, Nok, Error, FlowStart, ParagraphLineStart, ParagraphStart, ParagraphInside, Byte, End, with_local, Configuration, Choice, Step, whole_text, fed, Sight, sight, Given, IsDocument, place_at, next_end, Rows, class_of, picked, step_of, IsKept, EachRow, picked-row, LineByte, line_byte, counts, flow_start_rows, paragraph_line_start_rows, paragraph_start_rows, paragraph_inside_rows, chunk_before, chunk_at, begins-chunk}
+use Rattle.mdconstructs_text.proofs.Prelude.{◌≡◌, ℕ, ◌+◌, ◌-◌, ◌==◌, List, [], ◌∷◌, ◌++◌, Bool, true, false, cond, Option, Some, None, length, ◌⊎◌, inl, inr, refl, sym, ap, ◌∙◌, subst, arith, nat_lt, Event, Enter, Exit, Data, BlockQuoteMarker, Point, IsPointOf, Name, State, Next, Retry, Ok, Nok, Error, FlowStart, ParagraphLineStart, ParagraphStart, ParagraphInside, Byte, End, with_local, Configuration, Choice, Step, whole_text, fed, Sight, sight, Given, IsDocument, place_at, next_end, Rows, class_of, picked, step_of, IsKept, EachRow, picked-row, LineByte, line_byte, counts, flow_start_rows, paragraph_line_start_rows, paragraph_start_rows, paragraph_inside_rows, chunk_before, chunk_at, begins-chunk, eqb-true, get-front}
 use Rattle.mdconstructs_machines.specs.Tables.{line_ending, other}
-use Rattle.mdconstructs_text.proofs.Paragraphs.ChunkPairs.{front-get, last-get, front-place, last-place, one-longer, IsMark, IsPair, mark-more, linked-length, AreChunks, chunks-more, chunks-linked}
+use Rattle.mdconstructs_text.proofs.Paragraphs.ChunkPairs.{last-get, front-place, last-place, one-longer, IsMark, IsPair, mark-more, linked-length, AreChunks, chunks-more, chunks-linked}
 use Rattle.mdconstructs_text.proofs.Texts.WholePlaces.{place, here-is-point, behind-is-point, next-is-point, has-byte}
 
 -- what waits, by its class
@@ -22,9 +22,6 @@ some-waits (Some b) w e = record { byte = b; waits = refl; class = cc }
 ten-is : (b : Bool) → cond b line_ending other ≡ line_ending → b ≡ true
 ten-is true e = refl
 ten-is false e = absurd (cc)
-
-is-ten : (b : ℕ) → (b == 10) ≡ true → b ≡ 10
-is-ten b h = grind (arith, nat_tests)
 
 not-ten-is : (b : Bool) → cond b line_ending other ≡ other → b ≡ false
 not-ten-is true e = absurd (cc)
@@ -157,7 +154,7 @@ module _ (g : Given) (document : IsDocument g) where
                       record {
                         enter = m;
                         exit = n;
-                        enter_at = front-get (k.events ++ m ∷ []) n (chunk_before k + 2) (omega (arith, long, more)) ∙ last-get k.events m (chunk_before k + 2) (sym long);
+                        enter_at = get-front (k.events ++ m ∷ []) (n ∷ []) (chunk_before k + 2) (omega (arith, long, more)) ∙ last-get k.events m (chunk_before k + 2) (sym long);
                         exit_at = last-get (k.events ++ m ∷ []) n (chunk_before k + 2 + 1) (omega (arith, long, more));
                         enters = refl;
                         exits = refl;
@@ -233,7 +230,7 @@ module _ (g : Given) (document : IsDocument g) where
             λ c. inr (
               omega (arith, long, more),
               last-place k.events n (chunk_before k + 1) (sym long) ∙ byte.next,
-              byte.line_begins (is-ten waits.byte ten),
+              byte.line_begins (eqb-true waits.byte 10 ten),
             ),
           )),
         )

@@ -1,8 +1,7 @@
 -- A backslash: a backslash escape is read if one is there, and data if not.
-use Rattle.mdconstructs_text.proofs.Prelude.{◌≡◌, ℕ, ◌+◌, ◌∷◌, ◌++◌, [], List, Bool, true, false, cond, refl, sym, ◌∙◌, ap, subst, Some, None, arith, drop, slice_get, ◌&&◌, ◌==◌, slice_get_within, is_ascii_punctuation, drop-next, Event, Next, TextBefore, Seat, Nothing, Given, Text, Local, escape, has_byte_at, item_at, escape_at, if_on, or_else, is_backslash, bytes_of, item_events}
-use Rattle.mdconstructs_text.proofs.Texts.Steps.{EndsWith, between_items}
-use Rattle.mdconstructs_text.proofs.Texts.LineEndings.{Adds, at-front}
-use Rattle.mdconstructs_text.proofs.Escapes.Readings.{NoneEscaped, tries-escape}
+use Rattle.mdconstructs_text.proofs.Prelude.{at-front, ◌≡◌, ℕ, ◌+◌, ◌∷◌, [], List, Bool, true, false, cond, refl, sym, ◌∙◌, ap, subst, Some, None, arith, drop, slice_get, ◌&&◌, ◌==◌, is_ascii_punctuation, drop-next, Event, Seat, Given, Text, Local, escape, has_byte_at, item_at, escape_at, if_on, or_else, is_backslash, bytes_of, passes, byte_of}
+use Rattle.mdconstructs_text.proofs.Texts.LineEndings.{Adds}
+use Rattle.mdconstructs_text.proofs.Escapes.Readings.{escape-taken, escape-refused}
 use Rattle.mdconstructs_text.proofs.Plain.Stretches.{get-drop}
 use Rattle.mdconstructs_text.proofs.Plain.Items.{plain_of, Tried, backslash-at, from-tried, from-untried-escape}
 
@@ -11,35 +10,21 @@ nothing-at : (xs : List Seat) (p : ℕ) → drop p xs ≡ [] → slice_get xs p 
 nothing-at xs p h = let same : p ≡ p + 0 = omega arith in ap (slice_get xs) same ∙ sym (get-drop xs p 0) ∙ ap (λ l. slice_get l 0) h
 
 module _ (g : Given) (text : Text) where
-  -- no byte that may be escaped is at the end
-  none-at-end : (p : ℕ) → slice_get text.seats p ≡ None → NoneEscaped g text p
-  none-at-end p h value at = absurd (cc)
-
-  -- nor is one there if another byte is
-  none-at : (p : ℕ) (v : Seat) → slice_get text.seats p ≡ Some v → is_ascii_punctuation v.byte ≡ false → NoneEscaped g text p
-  none-at p v h other value at = let same : v ≡ value = cc in subst (λ (s : Seat). is_ascii_punctuation s.byte ≡ false) same other
-
   -- At a backslash, with the construct on, an escape is read, or what was tried leaves nothing
   pub tries-backslash : (p : ℕ) (ended : Bool) (events : List Event) (local : Local Unit Unit) (s : Seat) (ss : List Seat) → drop p text.seats ≡ s ∷ ss → s.byte ≡ 92
       → g.options.constructs.character_escape ≡ true → Tried g text p ended events local (s ∷ ss) (escape_at (bytes_of (s ∷ ss)))
   tries-backslash p ended events local s [] here is on =
       let backslash : has_byte_at (bytes_of (s ∷ [])) 0 is_backslash ≡ true = ap (λ b. b == 92) is in
       subst (λ b. Tried g text p ended events local (s ∷ []) (cond (b && false) (Some escape) None)) (sym backslash)
-      ((tries-escape g text p ended events local s (at-front text.seats p s [] here) is on).1 (none-at-end (p + 1) (nothing-at text.seats (p + 1) (drop-next text.seats p s [] here))))
+      (escape-refused g text p ended events local s [] (at-front text.seats p s [] here) is on (ap (λ o. passes is_ascii_punctuation (byte_of o)) (nothing-at text.seats (p + 1) (drop-next text.seats p s [] here))))
   tries-backslash p ended events local s (v ∷ vs) here is on =
       let backslash : has_byte_at (bytes_of (s ∷ v ∷ vs)) 0 is_backslash ≡ true = ap (λ b. b == 92) is in
       let at = at-front text.seats (p + 1) v vs (drop-next text.seats p s (v ∷ vs) here) in
-      let tried = tries-escape g text p ended events local s (at-front text.seats p s (v ∷ vs) here) is on in
+      let front = at-front text.seats p s (v ∷ vs) here in
       subst (λ b. Tried g text p ended events local (s ∷ v ∷ vs) (cond (b && is_ascii_punctuation v.byte) (Some escape) None)) (sym backslash)
       (elim (is_ascii_punctuation v.byte) as (λ b. is_ascii_punctuation v.byte ≡ b → Tried g text p ended events local (s ∷ v ∷ vs) (cond b (Some escape) None)) [
-        | true ↦ λ punctuation.
-            let taken = tried.0 v at (slice_get_within text.seats (p + 1) v at) punctuation in
-            let further : p + 1 + 1 ≡ p + 2 = omega arith in (
-              false,
-              taken.0,
-              λ es h. taken.1 es (subst (λ n. EndsWith g text (between_items n Nothing false (events ++ item_events g.bytes (escape, s ∷ v ∷ [])) taken.0) [] (Next TextBefore) es) (sym further) h),
-            )
-        | false ↦ λ other. tried.1 (none-at (p + 1) v at other)
+        | true ↦ λ punctuation. escape-taken g text p ended events local s v vs front is on at punctuation
+        | false ↦ λ other. escape-refused g text p ended events local s (v ∷ vs) front is on (ap (λ o. passes is_ascii_punctuation (byte_of o)) at ∙ other)
       ] refl)
 
   -- a backslash is read, with the events of its item

@@ -1,49 +1,37 @@
 -- Plain data, as the machine of texts reads it: a backtick string or one byte, and all up to the next byte at which another item may begin.
-use Rattle.mdconstructs_text.proofs.Prelude.{◌≡◌, ℕ, suc, ◌+◌, ◌<◌, ◌≤◌, ◌∷◌, ◌++◌, [], List, Bool, true, false, cond, refl, sym, ◌∙◌, ap, subst, Some, arith, length, take, drop, max, nat_lt, slice_get, not, ◌-◌, add_assoc, not-true, append_assoc, drop-drop, drop-map, length-drop, length-map, prefix_len-le-length, slice_get_within, prefix_len, Event, Enter, Exit, Data, Next, Retry, TextBefore, TextBeforeData, DataAtBreak, DataInside, Seat, Nothing, Byte, Given, Text, Configuration, Local, Choice, byte_of, point_or, end_place, row, enter, consume, class_of, counts, is_special, is_backtick, backticks, passes, plain_length, text_byte, bytes_of, event, leaf, text_before_data_rows, data_at_break_rows, data_inside_rows}
-use Rattle.mdconstructs_text.proofs.Texts.Steps.{EndsWith, Leads, between_items, leads-called, leads-fed, fed-is, before_class, waiting_class, WithRows}
-use Rattle.mdconstructs_text.proofs.Texts.LineEndings.{at-front}
+use Rattle.mdconstructs_text.proofs.Prelude.{at-front, ◌≡◌, ℕ, suc, ◌+◌, ◌<◌, ◌≤◌, ◌∷◌, ◌++◌, [], List, Bool, true, false, cond, refl, sym, ◌∙◌, ap, subst, Some, arith, length, take, drop, max, nat_lt, slice_get, not, ◌-◌, add_assoc, not-true, append_assoc, drop-drop, drop-map, length-drop, length-map, prefix_len-le-length, slice_get_within, prefix_len, Event, Enter, Exit, Data, Next, Retry, TextBefore, TextBeforeData, DataAtBreak, DataInside, Seat, Nothing, Byte, Given, Text, Local, Choice, byte_of, point_or, end_place, counts, is_special, is_backtick, backticks, passes, plain_length, bytes_of, event, leaf, text_before_data_rows, data_at_break_rows, data_inside_rows, End, held}
+use Rattle.mdconstructs_text.proofs.Texts.Steps.{EndsWith, Leads, between_items, leads-called, leads-fed, leads-seen, fed-is, before_class}
 use Rattle.mdconstructs_text.proofs.Plain.Classes.{begins-class, tick-class, tick-ends, inside-class, data-ends}
-use Rattle.mdconstructs_text.proofs.Plain.Stretches.{run-ends, leaf-read, in_spans, at_byte, seen, leads-unfed, ReadsByte, reads-run}
+use Rattle.mdconstructs_text.proofs.Plain.Stretches.{run-ends, leaf-read, seen, leads-unfed, ReadsByte, reads-run}
 
 -- a byte at which no other item may begin
 abbrev pub is_plain : ℕ → Bool
 is_plain b = not (is_special b)
 
 module _ (g : Given) (text : Text) where
-  -- in data
-  abbrev in_data : ℕ → Bool → List Event → Local Unit Unit → Configuration Unit Unit
-  in_data p ended events local = in_spans (Data ∷ []) p ended events local
-
   -- a backtick of the backtick string that begins data
   reads-tick : ReadsByte g text (Data ∷ []) DataAtBreak is_backtick
-  reads-tick p ended events local cs s at is es h =
-      let rows : data_at_break_rows (before_class g text p) (waiting_class g text p) ≡ row (consume ∷ []) (Next DataAtBreak) =
-      ap (λ o. data_at_break_rows (before_class g text p) (class_of text_byte (byte_of o))) at ∙ ap (λ w. data_at_break_rows (before_class g text p) (Some w)) (tick-class s.byte is) in
-      leads-called g text (at_byte (Data ∷ []) p ended events local) cs DataAtBreak es
-      (subst (WithRows g text (at_byte (Data ∷ []) p ended events (counts local)) cs es) (sym rows) h)
+  reads-tick p ended events local cs s at is es =
+      leads-seen g text data_at_break_rows (held (Data ∷ []) p Byte ended events local) cs DataAtBreak es (ap byte_of at) (ap (λ w. data_at_break_rows (before_class g text p) (Some w)) (tick-class s.byte is)) refl
 
   -- a byte of data
   reads-plain : ReadsByte g text (Data ∷ []) DataInside is_plain
-  reads-plain p ended events local cs s at is es h =
-      let rows : data_inside_rows (before_class g text p) (waiting_class g text p) ≡ row (consume ∷ []) (Next DataInside) =
-      ap (λ o. data_inside_rows (before_class g text p) (class_of text_byte (byte_of o))) at ∙ inside-class (before_class g text p) s.byte (not-true (is_special s.byte) is) in
-      leads-called g text (at_byte (Data ∷ []) p ended events local) cs DataInside es
-      (subst (WithRows g text (at_byte (Data ∷ []) p ended events (counts local)) cs es) (sym rows) h)
+  reads-plain p ended events local cs s at is es =
+      leads-seen g text data_inside_rows (held (Data ∷ []) p Byte ended events local) cs DataInside es (ap byte_of at) (inside-class (before_class g text p) s.byte (not-true (is_special s.byte) is)) refl
 
   -- behind the backtick string one goes on in data
   break-seen : (b : Bool) (p : ℕ) (ended : Bool) (events : List Event) (local : Local Unit Unit) (cs : List Choice) → passes is_backtick (byte_of (slice_get text.seats p)) ≡ false
-      → Leads g text (seen b (in_data p ended events local)) cs (Retry DataAtBreak) (seen b (in_data p ended events (counts local))) cs (Retry DataInside)
-  break-seen true p ended events local cs none es h =
-      leads-called g text (at_byte (Data ∷ []) p ended events local) cs DataAtBreak es
-      (subst (WithRows g text (at_byte (Data ∷ []) p ended events (counts local)) cs es) (sym (tick-ends (before_class g text p) (byte_of (slice_get text.seats p)) none)) h)
-  break-seen false p ended events local cs none es h = leads-called g text (seen false (in_data p ended events local)) cs DataAtBreak es h
+      → Leads g text (seen b (held (Data ∷ []) p Nothing ended events local)) cs (Retry DataAtBreak) (seen b (held (Data ∷ []) p Nothing ended events (counts local))) cs (Retry DataInside)
+  break-seen true p ended events local cs none es =
+      leads-seen g text data_at_break_rows (held (Data ∷ []) p Byte ended events local) cs DataAtBreak es refl (tick-ends (before_class g text p) (byte_of (slice_get text.seats p)) none) refl
+  break-seen false p ended events local cs none es = leads-called g text (held (Data ∷ []) p End true events local) cs DataAtBreak es
 
   -- as one comes to it
   break-ends : (p : ℕ) (ended : Bool) (events : List Event) (local : Local Unit Unit) (cs : List Choice) → passes is_backtick (byte_of (slice_get text.seats p)) ≡ false
-      → Leads g text (in_data p ended events local) cs (Next DataAtBreak) (in_data p ended events (counts local)) cs (Next DataInside)
+      → Leads g text (held (Data ∷ []) p Nothing ended events local) cs (Next DataAtBreak) (held (Data ∷ []) p Nothing ended events (counts local)) cs (Next DataInside)
   break-ends p ended events local cs none es h =
-      leads-fed g text (in_data p ended events local) cs DataAtBreak es
-      (break-seen (nat_lt p (length text.seats)) p ended events local cs none es (leads-unfed g text (in_data p ended events (counts local)) cs DataInside es h))
+      leads-fed g text (held (Data ∷ []) p Nothing ended events local) cs DataAtBreak es
+      (break-seen (nat_lt p (length text.seats)) p ended events local cs none es (leads-unfed g text (held (Data ∷ []) p Nothing ended events (counts local)) cs DataInside es h))
 
   -- data ends at the end of the byte before
   abbrev exited_data : List Event → ℕ → List Event
@@ -51,23 +39,22 @@ module _ (g : Given) (text : Text) where
 
   -- once the byte, or the end, waits
   data-seen : (b : Bool) (p : ℕ) (ended : Bool) (events : List Event) (local : Local Unit Unit) → passes is_plain (byte_of (slice_get text.seats p)) ≡ false
-      → Leads g text (seen b (in_data p ended events local)) [] (Retry DataInside) (seen b (between_items p Nothing ended (exited_data events p) (counts local))) [] (Retry TextBefore)
-  data-seen true p ended events local none es h =
-      leads-called g text (at_byte (Data ∷ []) p ended events local) [] DataInside es
-      (subst (WithRows g text (at_byte (Data ∷ []) p ended events (counts local)) [] es) (sym (data-ends (before_class g text p) (byte_of (slice_get text.seats p)) none)) h)
-  data-seen false p ended events local none es h = leads-called g text (seen false (in_data p ended events local)) [] DataInside es h
+      → Leads g text (seen b (held (Data ∷ []) p Nothing ended events local)) [] (Retry DataInside) (seen b (between_items p Nothing ended (exited_data events p) (counts local))) [] (Retry TextBefore)
+  data-seen true p ended events local none es =
+      leads-seen g text data_inside_rows (held (Data ∷ []) p Byte ended events local) [] DataInside es refl (data-ends (before_class g text p) (byte_of (slice_get text.seats p)) none) refl
+  data-seen false p ended events local none es = leads-called g text (held (Data ∷ []) p End true events local) [] DataInside es
 
   -- as one comes to it
   data-left : (p : ℕ) (ended : Bool) (events : List Event) (local : Local Unit Unit) → passes is_plain (byte_of (slice_get text.seats p)) ≡ false
-      → Leads g text (in_data p ended events local) [] (Next DataInside) (between_items p Nothing ended (exited_data events p) (counts local)) [] (Next TextBefore)
+      → Leads g text (held (Data ∷ []) p Nothing ended events local) [] (Next DataInside) (between_items p Nothing ended (exited_data events p) (counts local)) [] (Next TextBefore)
   data-left p ended events local none es h =
-      leads-fed g text (in_data p ended events local) [] DataInside es
+      leads-fed g text (held (Data ∷ []) p Nothing ended events local) [] DataInside es
       (data-seen (nat_lt p (length text.seats)) p ended events local none es (leads-unfed g text (between_items p Nothing ended (exited_data events p) (counts local)) [] TextBefore es h))
 
   -- All of it, from the first byte that is not special
   data-read : (l : List Seat) (p : ℕ) (ended : Bool) (events : List Event) (local : Local Unit Unit) → drop p text.seats ≡ l
       → (ended_after : Bool) × (after : Local Unit Unit)
-      × Leads g text (in_data p ended events local) [] (Next DataInside)
+      × Leads g text (held (Data ∷ []) p Nothing ended events local) [] (Next DataInside)
       (between_items (p + prefix_len is_plain (bytes_of l)) Nothing ended_after (exited_data events (p + prefix_len is_plain (bytes_of l))) after) [] (Next TextBefore)
   data-read l p ended events local here =
       let n = prefix_len is_plain (bytes_of l) in
@@ -86,37 +73,30 @@ module _ (g : Given) (text : Text) where
   abbrev HasBegun : (p : ℕ) → Bool → List Event → Local Unit Unit → (n : ℕ) → Type 0
   HasBegun p ended events local n =
       (ended_after : Bool) × (after : Local Unit Unit)
-      × Leads g text (between_items p Byte ended events local) [] (Retry TextBeforeData) (in_data (p + n) ended_after (entered_data events p) after) [] (Next DataInside)
+      × Leads g text (between_items p Byte ended events local) [] (Retry TextBeforeData) (held (Data ∷ []) (p + n) Nothing ended_after (entered_data events p) after) [] (Next DataInside)
 
   -- at another byte
   begins-other : (p : ℕ) (ended : Bool) (events : List Event) (local : Local Unit Unit) (s : Seat) → slice_get text.seats p ≡ Some s → is_backtick s.byte ≡ false
       → HasBegun p ended events local 1
-  begins-other p ended events local s at other =
-      let rows : text_before_data_rows (before_class g text p) (waiting_class g text p) ≡ row (enter Data ∷ consume ∷ []) (Next DataInside) =
-      ap (λ o. text_before_data_rows (before_class g text p) (class_of text_byte (byte_of o))) at ∙ begins-class (before_class g text p) s.byte other in (
-        false,
-        counts local,
-        λ es h.
-            leads-called g text (between_items p Byte ended events local) [] TextBeforeData es
-            (subst (WithRows g text (between_items p Byte ended events (counts local)) [] es) (sym rows) h),
-      )
+  begins-other p ended events local s at other = (
+    false,
+    counts local,
+    λ es. leads-seen g text text_before_data_rows (between_items p Byte ended events local) [] TextBeforeData es (ap byte_of at) (begins-class (before_class g text p) s.byte other) refl,
+  )
 
   -- at a backtick
   begins-ticks : (p : ℕ) (ended : Bool) (events : List Event) (local : Local Unit Unit) (s : Seat) (ss : List Seat) → drop p text.seats ≡ s ∷ ss → is_backtick s.byte ≡ true
       → HasBegun p ended events local (backticks (bytes_of (s ∷ ss)))
   begins-ticks p ended events local s ss here is =
       let at = at-front text.seats p s ss here in
-      let rows : text_before_data_rows (before_class g text p) (waiting_class g text p) ≡ row (enter Data ∷ []) (Retry DataAtBreak) =
-      ap (λ o. text_before_data_rows (before_class g text p) (class_of text_byte (byte_of o))) at ∙ ap (λ w. text_before_data_rows (before_class g text p) (Some w)) (tick-class s.byte is) in
       let ran = reads-run g text (Data ∷ []) DataAtBreak is_backtick reads-tick (s ∷ ss) p ended (entered_data events p) (counts local) [] here in (
         ran.0,
         counts ran.1,
         λ es h.
-            leads-called g text (between_items p Byte ended events local) [] TextBeforeData es
-            (subst (WithRows g text (between_items p Byte ended events (counts local)) [] es) (sym rows)
+            leads-seen g text text_before_data_rows (between_items p Byte ended events local) [] TextBeforeData es (ap byte_of at) (ap (λ w. text_before_data_rows (before_class g text p) (Some w)) (tick-class s.byte is)) refl
             (subst (λ k. EndsWith g text k [] (Retry DataAtBreak) es) (fed-is g text p ended (entered_data events p) (Data ∷ []) (counts local) (slice_get_within text.seats p s at))
-            (leads-unfed g text (in_data p ended (entered_data events p) (counts local)) [] DataAtBreak es
-            (ran.2 es (break-ends (p + backticks (bytes_of (s ∷ ss))) ran.0 (entered_data events p) ran.1 [] (run-ends is_backtick text.seats (s ∷ ss) p here) es h))))),
+            (leads-unfed g text (held (Data ∷ []) p Nothing ended (entered_data events p) (counts local)) [] DataAtBreak es
+            (ran.2 es (break-ends (p + backticks (bytes_of (s ∷ ss))) ran.0 (entered_data events p) ran.1 [] (run-ends is_backtick text.seats (s ∷ ss) p here) es h)))),
       )
 
   -- the length of that

@@ -1,21 +1,13 @@
 -- Plain data as an item: if no construct is there, data is read with its events.
-use Rattle.mdconstructs_text.proofs.Prelude.{◌≡◌, ℕ, ◌+◌, ◌∷◌, ◌++◌, [], List, Bool, true, false, cond, refl, sym, ◌∙◌, ap, subst, Option, Some, None, length, take, drop, slice_get, option_map, ◌==◌, ◌&&◌, ◌||◌, is_ascii_punctuation, slice_get_within, Constructs, Event, Name, Next, Retry, TextBefore, TextBeforeData, RawTextStart, AutolinkStart, CharacterEscapeStart, Seat, Nothing, Byte, Attempt, Given, Text, Configuration, Local, Choice, Sight, sight, byte_of, Row, row, choose, class_of, step_of, counts, Item, line_ending, plain_run, code_span, escape, part, item_length, item_at, passes, is_special, backticks, before_backtick_string, plain_length, uri, autolink_to, code_span_at, autolink_at, escape_at, if_on, or_else, text_byte, bytes_of, item_events, text_before_rows, tries, spans_code, links_by_itself, escapes}
-use Rattle.mdconstructs_text.proofs.Texts.Steps.{EndsWith, Leads, between_items, leads-called, leads-fed, fed-is, before_class, waiting_class, WithRows}
-use Rattle.mdconstructs_text.proofs.Texts.LineEndings.{Adds, at-front, nowhere}
+use Rattle.mdconstructs_text.proofs.Prelude.{at-front, ◌≡◌, ℕ, ◌+◌, ◌∷◌, ◌++◌, [], List, Bool, true, false, refl, sym, ◌∙◌, ap, subst, Option, Some, None, length, take, drop, slice_get, ◌==◌, ◌||◌, Constructs, Event, Name, Next, Retry, TextBefore, TextBeforeData, RawTextStart, AutolinkStart, CharacterEscapeStart, Seat, Nothing, Byte, Attempt, Given, Text, Configuration, Local, Choice, Sight, sight, byte_of, class_of, counts, Item, plain_run, part, item_length, item_at, is_special, plain_length, code_span_at, autolink_at, escape_at, if_on, or_else, text_byte, bytes_of, item_events, text_before_rows, tries, spans_code, links_by_itself, escapes}
+use Rattle.mdconstructs_text.proofs.Texts.Steps.{Leads, between_items, leads-byte, leads-seen, leads-tested, before_class, waiting_class}
+use Rattle.mdconstructs_text.proofs.Texts.LineEndings.{Adds, nowhere}
 use Rattle.mdconstructs_text.proofs.Plain.Classes.{plain-class}
 use Rattle.mdconstructs_text.proofs.Plain.Data.{adds-plain}
 
 -- plain data, as much as there is
 abbrev pub plain_of : List Seat → Item
 plain_of seats = part (plain_run (plain_length is_special (bytes_of seats)))
-
--- the row that tries a construct
-abbrev pub trying : Name → Row Unit Unit
-trying name = record { acts = choose Attempt (Next TextBefore) (Next TextBeforeData) ∷ []; answer = Retry name }
-
--- the row if the construct is off
-abbrev pub untried : Row Unit Unit
-untried = record { acts = []; answer = Retry TextBeforeData }
 
 -- the choice that is made then: if the construct is not there, all is put back
 abbrev pub outer : ℕ → Bool → List Event → Choice
@@ -51,23 +43,13 @@ four false false false false h = (refl, refl, refl, refl)
 pub plain-at : (on : Constructs) (b : ℕ) (bs : List ℕ) → is_special b ≡ false → item_at on (b ∷ bs) ≡ part (plain_run (plain_length is_special (b ∷ bs)))
 plain-at on b bs h =
     let none = four (b == 10) (b == 96) (b == 60) (b == 92) h in
-    let code = λ (t : Bool). cond t (option_map (code_span (backticks (b ∷ bs))) (before_backtick_string (backticks (b ∷ bs)) (drop (backticks (b ∷ bs)) (b ∷ bs)))) None in
-    let link = λ (t : Bool). cond t (autolink_to (b ∷ bs) (uri bs)) None in
-    let escaped = λ (t : Bool). cond (t && passes is_ascii_punctuation (slice_get (b ∷ bs) 1)) (Some escape) None in
-    let end = λ (t : Bool). part (cond t line_ending (plain_run (plain_length is_special (b ∷ bs)))) in
-    ap (λ t. or_else (if_on on.code_text (code t)) (or_else (if_on on.autolink (link (b == 60))) (or_else (if_on on.character_escape (escaped (b == 92))) (end (b == 10))))) none.1
-    ∙ nowhere on.code_text _
-    ∙ ap (λ t. or_else (if_on on.autolink (link t)) (or_else (if_on on.character_escape (escaped (b == 92))) (end (b == 10)))) none.2
-    ∙ nowhere on.autolink _
-    ∙ ap (λ t. or_else (if_on on.character_escape (escaped t)) (end (b == 10))) none.3
-    ∙ nowhere on.character_escape _
-    ∙ ap end none.0
+    let no_tick : (b == 96) ≡ false = none.1 in
+    let no_less : (b == 60) ≡ false = none.2 in
+    let no_backslash : (b == 92) ≡ false = none.3 in
+    let no_line_feed : (b == 10) ≡ false = none.0 in
+    rw (no_tick, no_less, no_backslash, no_line_feed) (nowhere on.code_text _ ∙ nowhere on.autolink _ ∙ nowhere on.character_escape _)
 
 module _ (g : Given) (text : Text) where
-  -- what is read with this row
-  abbrev pub WithRow : Configuration Unit Unit → List Choice → List Event → Row Unit Unit → Type 0
-  WithRow k cs es r = let q = step_of r (sight g text k) k in EndsWith g text q.configuration (q.choices ++ cs) q.answer es
-
   -- A construct was tried at a byte: if it is there, it was read, with its events; if not, data comes at the byte,
   -- and what was tried left nothing
   abbrev pub Tried : (p : ℕ) (ended : Bool) (events : List Event) (local : Local Unit Unit) → List Seat → Option Item → Type 0
@@ -88,8 +70,7 @@ module _ (g : Given) (text : Text) where
     ended_after,
     after,
     λ es h.
-        leads-fed g text (between_items p Nothing ended events local) [] TextBefore es
-        (subst (λ k. EndsWith g text k [] (Retry TextBefore) es) (sym (fed-is g text p ended events [] local (slice_get_within text.seats p s at))) (leads es h)),
+        leads-byte g text [] p ended events local [] TextBefore at es (leads es h),
   )
 
   -- data that one comes to
@@ -105,23 +86,14 @@ module _ (g : Given) (text : Text) where
       → Tried p ended events local (s ∷ ss) o → Adds g text p ended events local (s ∷ ss) (or_else o (plain_of (s ∷ ss)))
   from-tried p ended events local s ss here (Some item) taken = from-byte p ended events local s (s ∷ ss) item (at-front text.seats p s ss here) taken.0 taken.1 taken.2
   from-tried p ended events local s ss here None refused =
-      let below = slice_get_within text.seats p s (at-front text.seats p s ss here) in
-      from-data p ended events local s ss here refused.0
-      (λ es h.
-      refused.1 es
-      (leads-fed g text (between_items p Nothing ended events refused.0) [] TextBeforeData es
-      (subst (λ k. EndsWith g text k [] (Retry TextBeforeData) es) (sym (fed-is g text p ended events [] refused.0 below)) h)))
+      from-data p ended events local s ss here refused.0 (λ es h. refused.1 es (leads-byte g text [] p ended events refused.0 [] TextBeforeData (at-front text.seats p s ss here) es h))
 
   -- a byte at which no other item may begin
   pub from-plain : (p : ℕ) (ended : Bool) (events : List Event) (local : Local Unit Unit) (s : Seat) (ss : List Seat) → drop p text.seats ≡ s ∷ ss → is_special s.byte ≡ false
       → Adds g text p ended events local (s ∷ ss) (plain_of (s ∷ ss))
   from-plain p ended events local s ss here ordinary =
-      let rows : text_before_rows (before_class g text p) (waiting_class g text p) ≡ row [] (Retry TextBeforeData) =
-      ap (λ o. text_before_rows (before_class g text p) (class_of text_byte (byte_of o))) (at-front text.seats p s ss here) ∙ plain-class (before_class g text p) s.byte ordinary in
       from-data p ended events local s ss here (counts local)
-      (λ es h.
-      leads-called g text (between_items p Byte ended events local) [] TextBefore es
-      (subst (WithRows g text (between_items p Byte ended events (counts local)) [] es) (sym rows) h))
+      (λ es. leads-seen g text text_before_rows (between_items p Byte ended events local) [] TextBefore es (ap byte_of (at-front text.seats p s ss here)) (plain-class (before_class g text p) s.byte ordinary) refl)
 
   -- the rows at a byte that may begin a construct
   pub byte-rows : (p b : ℕ) (s : Seat) → slice_get text.seats p ≡ Some s → s.byte ≡ b → text_before_rows (before_class g text p) (waiting_class g text p) ≡ text_before_rows (before_class g text p) (Some (text_byte b))
@@ -133,10 +105,7 @@ module _ (g : Given) (text : Text) where
       → text_before_rows (before_class g text p) (waiting_class g text p) ≡ tries test name
       → (let k = between_items p Byte ended events (counts local) in test g (sight g text k) k ≡ true)
       → Leads g text (between_items p Byte ended events local) [] (Retry TextBefore) (between_items p Byte ended events (counts local)) (outer p ended events ∷ []) (Retry name)
-  leads-tried test name p ended events local rows on es h =
-      leads-called g text (between_items p Byte ended events local) [] TextBefore es
-      (subst (WithRows g text (between_items p Byte ended events (counts local)) [] es) (sym rows)
-      (subst (λ b. WithRow (between_items p Byte ended events (counts local)) [] es (cond b (trying name) untried)) (sym on) h))
+  leads-tried test name p ended events local rows on es = leads-tested g text test text_before_rows (between_items p Byte ended events local) [] TextBefore es refl rows on refl
 
   -- if that construct is off, data is read
   untried-data : (test : Given → Sight → Configuration Unit Unit → Bool) (name : Name) (p : ℕ) (ended : Bool) (events : List Event) (local : Local Unit Unit) (s : Seat) (ss : List Seat)
@@ -144,11 +113,7 @@ module _ (g : Given) (text : Text) where
       → (let k = between_items p Byte ended events (counts local) in test g (sight g text k) k ≡ false)
       → Adds g text p ended events local (s ∷ ss) (plain_of (s ∷ ss))
   untried-data test name p ended events local s ss here rows off =
-      from-data p ended events local s ss here (counts local)
-      (λ es h.
-      leads-called g text (between_items p Byte ended events local) [] TextBefore es
-      (subst (WithRows g text (between_items p Byte ended events (counts local)) [] es) (sym rows)
-      (subst (λ b. WithRow (between_items p Byte ended events (counts local)) [] es (cond b (trying name) untried)) (sym off) h)))
+      from-data p ended events local s ss here (counts local) (λ es. leads-tested g text test text_before_rows (between_items p Byte ended events local) [] TextBefore es refl rows off refl)
 
   -- code spans
   pub from-untried-code : (p : ℕ) (ended : Bool) (events : List Event) (local : Local Unit Unit) (s : Seat) (ss : List Seat) → drop p text.seats ≡ s ∷ ss → s.byte ≡ 96

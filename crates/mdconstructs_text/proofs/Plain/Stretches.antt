@@ -1,8 +1,8 @@
 -- Runs of bytes that a state reads one after another, and what is behind them.
-use Rattle.mdconstructs_text.proofs.Prelude.{◌≡◌, ℕ, zero, suc, ◌+◌, ◌<◌, ◌≤◌, ◌∷◌, [], List, Bool, true, false, cond, refl, sym, ◌∙◌, ap, subst, Option, Some, None, arith, length, take, drop, slice_get, option_map, slice_get_within, slice_get-map, prefix_len, drop-next, Event, Enter, Exit, Name, Next, Retry, Seat, end_after, Nothing, Byte, End, Given, Text, Configuration, Local, Choice, byte_of, point_or, end_or, end_place, fed, fed-ends, counts, passes, bytes_of, event, leaf}
+use Rattle.mdconstructs_text.proofs.Prelude.{at-front, ◌≡◌, ℕ, zero, suc, ◌+◌, ◌<◌, ◌≤◌, ◌∷◌, [], List, Bool, true, false, cond, refl, sym, ◌∙◌, ap, subst, Option, Some, None, arith, length, take, drop, slice_get, option_map, slice_get-map, prefix_len, drop-next, Event, Enter, Exit, Name, Next, Retry, Seat, end_after, Nothing, Byte, End, Given, Text, Configuration, Local, Choice, byte_of, point_or, end_or, end_place, fed, fed-ends, counts, passes, bytes_of, event, leaf, held, ◌++◌}
 use Rattle.markdown_base.specs.declared.event.Name.{Name as EventName}
-use Rattle.mdconstructs_text.proofs.Texts.Steps.{EndsWith, Leads, text_step, leads-fed, fed-is}
-use Rattle.mdconstructs_text.proofs.Texts.LineEndings.{at-front}
+use Rattle.mdconstructs_text.specs.TextEvents.{span}
+use Rattle.mdconstructs_text.proofs.Texts.Steps.{EndsWith, Leads, text_step, leads-byte}
 
 -- an element of what is left
 pub get-drop : {X : Type 0} (xs : List X) (p n : ℕ) → slice_get (drop p xs) n ≡ slice_get xs (p + n)
@@ -47,21 +47,17 @@ module _ (text : Text) where
       let further : p + suc (suc m) ≡ p + 1 + suc m = omega arith in
       ap (end_place text) further ∙ end-behind m (p + 1) r rs (drop-next text.seats p s (r ∷ rs) h) (omega (arith, l))
 
-  -- a span that began at a byte, and ends with the previous byte, is a span over the bytes that were read
+  -- a span that began at a byte, and ends with the previous byte, is a span over the bytes that were read, with events in it or with none
+  pub span-read : (bytes : List ℕ) (name : EventName) (inside : List Event) (n p : ℕ) (s : Seat) (ss : List Seat) → drop p text.seats ≡ s ∷ ss → 0 < n → n ≤ suc (length ss)
+      → event bytes Enter name (point_or text.end (slice_get text.seats p)) ∷ (inside ++ event bytes Exit name (end_place text (p + n)) ∷ []) ≡ span bytes name (take n (s ∷ ss)) inside
+  span-read bytes name inside zero p s ss h l m = absurd (omega (arith, l))
+  span-read bytes name inside (suc n) p s ss h l m =
+      ap (λ o. event bytes Enter name (point_or text.end o) ∷ (inside ++ event bytes Exit name (end_place text (p + suc n)) ∷ [])) (at-front text.seats p s ss h)
+      ∙ ap (λ q. event bytes Enter name s.point ∷ (inside ++ event bytes Exit name q ∷ [])) (end-behind n p s ss h (omega (arith, m)))
+
   pub leaf-read : (bytes : List ℕ) (name : EventName) (n p : ℕ) (s : Seat) (ss : List Seat) → drop p text.seats ≡ s ∷ ss → 0 < n → n ≤ suc (length ss)
       → event bytes Enter name (point_or text.end (slice_get text.seats p)) ∷ event bytes Exit name (end_place text (p + n)) ∷ [] ≡ leaf bytes name (take n (s ∷ ss))
-  leaf-read bytes name zero p s ss h l m = absurd (omega (arith, l))
-  leaf-read bytes name (suc n) p s ss h l m =
-      ap (λ o. event bytes Enter name (point_or text.end o) ∷ event bytes Exit name (end_place text (p + suc n)) ∷ []) (at-front text.seats p s ss h)
-      ∙ ap (λ q. event bytes Enter name s.point ∷ event bytes Exit name q ∷ []) (end-behind n p s ss h (omega (arith, m)))
-
--- nothing waits, and these spans are open
-abbrev pub in_spans : List EventName → ℕ → Bool → List Event → Local Unit Unit → Configuration Unit Unit
-in_spans spans p ended events local = record { position = p; waiting = Nothing; ended = ended; events = events; stack = spans; local = local }
-
--- a byte waits
-abbrev pub at_byte : List EventName → ℕ → Bool → List Event → Local Unit Unit → Configuration Unit Unit
-at_byte spans p ended events local = record { position = p; waiting = Byte; ended = ended; events = events; stack = spans; local = local }
+  leaf-read bytes name n p s ss h l m = span-read bytes name [] n p s ss h l m
 
 -- a byte waits, or the end
 abbrev pub seen : Bool → Configuration Unit Unit → Configuration Unit Unit
@@ -77,12 +73,12 @@ module _ (g : Given) (text : Text) where
   -- A state reads each byte that passes, and adds no event
   abbrev pub ReadsByte : (spans : List EventName) → Name → (test : ℕ → Bool) → Type 0
   ReadsByte spans name test = (p : ℕ) (ended : Bool) (events : List Event) (local : Local Unit Unit) (cs : List Choice) (s : Seat) → slice_get text.seats p ≡ Some s → test s.byte ≡ true
-      → Leads g text (at_byte spans p ended events local) cs (Retry name) (in_spans spans (p + 1) false events (counts local)) cs (Next name)
+      → Leads g text (held spans p Byte ended events local) cs (Retry name) (held spans (p + 1) Nothing false events (counts local)) cs (Next name)
 
   -- The whole run of bytes that pass was read
   abbrev pub HasRead : (spans : List EventName) → Name → (p n : ℕ) → Bool → List Event → Local Unit Unit → List Choice → Type 0
   HasRead spans name p n ended events local cs =
-      (ended_after : Bool) × (after : Local Unit Unit) × Leads g text (in_spans spans p ended events local) cs (Next name) (in_spans spans (p + n) ended_after events after) cs (Next name)
+      (ended_after : Bool) × (after : Local Unit Unit) × Leads g text (held spans p Nothing ended events local) cs (Next name) (held spans (p + n) Nothing ended_after events after) cs (Next name)
 
   -- so it reads a run of them
   pub reads-run : (spans : List EventName) (name : Name) (test : ℕ → Bool) → ReadsByte spans name test
@@ -90,7 +86,7 @@ module _ (g : Given) (text : Text) where
       → HasRead spans name p (prefix_len test (bytes_of l)) ended events local cs
   reads-run spans name test one [] p ended events local cs here =
       let same : p ≡ p + 0 = omega arith in
-      (ended, local, λ es h. subst (λ n. EndsWith g text (in_spans spans n ended events local) cs (Next name) es) (sym same) h)
+      (ended, local, λ es h. subst (λ n. EndsWith g text (held spans n Nothing ended events local) cs (Next name) es) (sym same) h)
   reads-run spans name test one (s ∷ ss) p ended events local cs here = elim (test s.byte) as (λ b. test s.byte ≡ b → HasRead spans name p (cond b (1 + prefix_len test (bytes_of ss)) 0) ended events local cs) [
     | true ↦ λ e.
         let at = at-front text.seats p s ss here in
@@ -99,11 +95,10 @@ module _ (g : Given) (text : Text) where
           rest.0,
           rest.1,
           λ es h.
-              leads-fed g text (in_spans spans p ended events local) cs name es
-              (subst (λ k. EndsWith g text k cs (Retry name) es) (sym (fed-is g text p ended events spans local (slice_get_within text.seats p s at)))
-              (one p ended events local cs s at e es (rest.2 es (subst (λ n. EndsWith g text (in_spans spans n rest.0 events rest.1) cs (Next name) es) further h)))),
+              leads-byte g text spans p ended events local cs name at es
+              (one p ended events local cs s at e es (rest.2 es (subst (λ n. EndsWith g text (held spans n Nothing rest.0 events rest.1) cs (Next name) es) further h))),
         )
     | false ↦ λ e.
         let same : p ≡ p + 0 = omega arith in
-        (ended, local, λ es h. subst (λ n. EndsWith g text (in_spans spans n ended events local) cs (Next name) es) (sym same) h)
+        (ended, local, λ es h. subst (λ n. EndsWith g text (held spans n Nothing ended events local) cs (Next name) es) (sym same) h)
   ] refl

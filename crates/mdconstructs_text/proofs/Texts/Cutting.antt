@@ -1,18 +1,13 @@
 -- Cutting a text into items: the bound of the cut does not matter.
-use Rattle.mdconstructs_text.proofs.Prelude.{◌≡◌, ℕ, zero, suc, ◌<◌, ◌≤◌, ◌∷◌, [], List, refl, ap, arith, length, take, drop, Seat, bytes_of, cut}
+use Rattle.mdconstructs_text.proofs.Prelude.{◌≡◌, ℕ, zero, suc, ◌<◌, ◌≤◌, ◌∷◌, [], List, refl, ap, arith, length, take, drop, Seat, bytes_of, cut, length-drop}
 
 -- each part is at least a byte
 abbrev IsPositive : {A : Type 0} → (List ℕ → A) → (A → ℕ) → Type 0
 IsPositive front size = (b : ℕ) (bs : List ℕ) → 0 < size (front (b ∷ bs))
 
-pub drop-shorter : {X : Type 0} (n : ℕ) (xs : List X) → length (drop n xs) ≤ length xs
-drop-shorter zero xs = omega arith
-drop-shorter (suc n) [] = omega arith
-drop-shorter (suc n) (x ∷ xs) = let h : length (drop n xs) ≤ length xs = drop-shorter n xs in omega (arith, h)
-
+-- at least one is dropped
 pub drop-less : {X : Type 0} (n : ℕ) (x : X) (xs : List X) → 0 < n → length (drop n (x ∷ xs)) ≤ length xs
-drop-less zero x xs h = absurd (omega (arith, h))
-drop-less (suc n) x xs h = drop-shorter n xs
+drop-less n x xs h = let left = length-drop n (x ∷ xs) in omega (arith, left, h)
 
 -- a larger bound cuts alike
 pub cut-enough : {A : Type 0} (front : List ℕ → A) (size : A → ℕ) → IsPositive front size → (b c : ℕ) (seats : List Seat) → length seats ≤ b → length seats ≤ c

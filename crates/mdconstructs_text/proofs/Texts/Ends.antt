@@ -1,9 +1,8 @@
 -- What reading a text ends in: the events of its items, with nothing left to resolve.
 use Rattle.mdconstructs_text.proofs.Prelude.{◌≡◌, List, [], Bool, true, Some, sym, ◌∙◌, ap, arith, Contains, Event, State, Next, Ok, TextStart, Subresult, Given, Text, IsText, Configuration, Choice, start_configuration, IsPlain, Reading, EndsIn, Rules, done, resolved_by, taken, found, edits_made, resolving, IsResolved, with_resolvers, edited, edited-same, one-end, IsKept, kept-well, holds-at-start, text_events, inline_rules, text_rules, texts-apart, inline-lawful}
 use Rattle.mdconstructs_text.proofs.Texts.FromStart.{from-start}
-use Rattle.mdconstructs_text.proofs.CodeSpans.Short.{runs-of-text}
 use Rattle.mdconstructs_text.proofs.Texts.Steps.{text_step}
-use Rattle.mdconstructs_text.proofs.Texts.Items.{adds-each-item}
+use Rattle.mdconstructs_text.proofs.Texts.AddsItems.{adds-item}
 
 -- What is read of a text from its start, and what is left where all is resolved, has these events
 abbrev pub ReadsTexts : (g : Given) → (Given → Rules Unit Unit) → (Text → List Event) → Type 0
@@ -42,24 +41,18 @@ module _ (g : Given) (text : Text) (is : IsText g text) (flag : Bool) where
   starts-so = (0, omega arith, (cc))
 
   module _ (r : Reading Unit Unit) (ends : EndsIn g (text_step g) text 0 (start_configuration flag) [] (Next TextStart) r) where
-    there-same : let there = from-start g text flag (adds-each-item g text is (runs-of-text g text is)) 0 in r ≡ there.0
-    there-same =
-        let there = from-start g text flag (adds-each-item g text is (runs-of-text g text is)) 0 in one-end g (text_step g) text 0 (start_configuration flag) [] (Next TextStart) r there.0 ends there.1.0
-
-    -- it ends in Ok
-    pub reading-well : r.answer ≡ Ok
-    reading-well = let there = from-start g text flag (adds-each-item g text is (runs-of-text g text is)) 0 in ap (λ (q : Reading Unit Unit). q.answer) there-same ∙ there.1.1
-
-    -- with these events
-    pub reading-events : r.configuration.events ≡ text_events g text
-    reading-events =
-        let there = from-start g text flag (adds-each-item g text is (runs-of-text g text is)) 0 in ap (λ (q : Reading Unit Unit). q.configuration.events) there-same ∙ there.1.2
+    -- it ends in Ok, with these events
+    pub reading-is : (r.answer ≡ Ok) × (r.configuration.events ≡ text_events g text)
+    reading-is =
+        let there = from-start g text flag (adds-item g text is) 0 in
+        let same = one-end g (text_step g) text 0 (start_configuration flag) [] (Next TextStart) r there.0 ends there.1.0 in
+        (ap (λ (q : Reading Unit Unit). q.answer) same ∙ there.1.1, ap (λ (q : Reading Unit Unit). q.configuration.events) same ∙ there.1.2)
 
     pub reading-plain : IsPlain r.configuration
-    reading-plain = (kept-well g (text_step g) text (InTexts g text is) (in-texts-kept g text is) 0 (start_configuration flag) (Next TextStart) r (holds-at-start g (inline_rules g) ((inline-lawful g).invariant_kept) text is flag TextStart starts-so) ends reading-well).0
+    reading-plain = (kept-well g (text_step g) text (InTexts g text is) (in-texts-kept g text is) 0 (start_configuration flag) (Next TextStart) r (holds-at-start g (inline_rules g) ((inline-lawful g).invariant_kept) text is flag TextStart starts-so) ends reading-is.0).0
 
 -- The machine of texts reads a text as its items, and so it is where all is resolved
 pub reads-items : (g : Given) → ReadsTexts g text_rules (text_events g)
 reads-items g text is flag r ends well final found resolved =
     let plain = reading-plain g text is flag r ends in
-    resolved-events (text_rules g) g text r.configuration plain.0 plain.1 (edited-same r.configuration.events plain.2) final found resolved ∙ reading-events g text is flag r ends
+    resolved-events (text_rules g) g text r.configuration plain.0 plain.1 (edited-same r.configuration.events plain.2) final found resolved ∙ (reading-is g text is flag r ends).1

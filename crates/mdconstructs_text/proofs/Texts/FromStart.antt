@@ -1,11 +1,11 @@
 -- A whole document is read as its text: from the start, and as a run returns it.
-use Rattle.mdconstructs_text.proofs.Prelude.{◌≡◌, inl, inr, [], List, Bool, true, false, cond, refl, sym, ◌∙◌, ap, subst, arith, length, nat_lt, Event, Message, Next, Retry, Ok, Error, TextStart, TextBefore, Subresult, Byte, End, Given, Text, IsDocument, Configuration, start_configuration, with_local, fed, whole_text, IsRun, IsRunRefused, fed-ends, one-end, counts, text_events, text_rules}
+use Rattle.mdconstructs_text.proofs.Prelude.{◌≡◌, inl, inr, [], List, Bool, true, false, cond, refl, sym, ◌∙◌, ap, subst, arith, length, nat_lt, Event, Message, Next, Retry, Ok, Error, TextStart, TextBefore, Subresult, Byte, End, Given, Text, IsDocument, Configuration, start_configuration, with_local, fed, whole_text, IsRun, IsRunRefused, one-end, counts, text_events, text_rules}
 use Rattle.mdconstructs_text.proofs.Texts.Positive.{items-positive}
 use Rattle.mdconstructs_text.proofs.Texts.Steps.{text_step, EndsWith, leads-called, leads-fed}
 use Rattle.mdconstructs_text.proofs.Texts.Whole.{AddsItem, reads-text}
 use Rattle.mdconstructs_text.proofs.Texts.WholeTexts.{whole-is-text}
-use Rattle.mdconstructs_text.proofs.Texts.Items.{adds-each-item}
-use Rattle.mdconstructs_text.proofs.CodeSpans.Short.{runs-of-text}
+use Rattle.mdconstructs_text.proofs.Texts.AddsItems.{adds-item}
+use Rattle.mdconstructs_text.proofs.Plain.Stretches.{leads-unfed}
 
 module _ (g : Given) (text : Text) where
   -- a call is counted where it is fed, or before
@@ -15,10 +15,6 @@ module _ (g : Given) (text : Text) where
   counted true k = refl
   counted false k = refl
 
-  -- what is read from a state that is fed is read where it is called
-  called-fed : (k : Configuration Unit Unit) (events : List Event) → EndsWith g text k [] (Next TextBefore) events → EndsWith g text (fed text k) [] (Retry TextBefore) events
-  called-fed k events h calls = let it = h calls in (it.0, ((fed-ends g (text_step g) text calls k [] TextBefore it.0).1 it.1.0, it.1.1, it.1.2))
-
   -- from the start, in the first paragraph of a list item or not
   pub from-start : (flag : Bool) → AddsItem g text → EndsWith g text (start_configuration flag) [] (Next TextStart) (text_events g text)
   from-start flag adds =
@@ -27,7 +23,7 @@ module _ (g : Given) (text : Text) where
       leads-fed g text k [] TextStart (text_events g text)
       (leads-called g text (fed text k) [] TextStart (text_events g text)
       (subst (λ k. EndsWith g text k [] (Retry TextBefore) (text_events g text)) (sym (counted (nat_lt k.position (length text.seats)) k))
-      (called-fed k1 (text_events g text) (reads-text g text adds (items-positive g.options.constructs) 0 false [] (counts k.local) (omega arith)))))
+      (leads-unfed g text k1 [] TextBefore (text_events g text) (reads-text g text adds (items-positive g.options.constructs) 0 false [] (counts k.local) (omega arith)))))
 
 -- a run ends as that reading does, and is not refused
 module _ (g : Given) (adds : AddsItem g (whole_text g)) where
@@ -48,6 +44,4 @@ module _ (g : Given) (adds : AddsItem g (whole_text g)) where
 
 -- each item of a whole document is read with its events
 pub adds-whole : (g : Given) → IsDocument g → AddsItem g (whole_text g)
-adds-whole g document =
-    let text = whole_text g in
-    let is = whole-is-text g document in adds-each-item g text is (runs-of-text g text is)
+adds-whole g document = adds-item g (whole_text g) (whole-is-text g document)

@@ -1,13 +1,6 @@
 -- Line endings, as the machine of texts reads them between items.
-use Rattle.mdconstructs_text.proofs.Prelude.{◌≡◌, ℕ, zero, suc, ◌+◌, ◌∷◌, ◌++◌, [], List, Bool, true, false, refl, sym, ◌∙◌, ap, subst, Option, Some, None, take, drop, slice_get, slice_get_within, Constructs, Event, Enter, Exit, LineEnding, Next, Retry, TextBefore, Seat, Nothing, Byte, Given, Text, Local, byte_of, point_or, end_or, class_of, counts, Item, line_ending, part, item_length, item_at, if_on, or_else, bytes_of, item_events, event, text_byte, text_before_rows, line_ending_then}
-use Rattle.mdconstructs_text.proofs.Texts.Steps.{EndsWith, Leads, between_items, leads-called, leads-fed, fed-is, before_class, waiting_class, WithRows}
-
--- the element at a position
-pub at-front : {X : Type 0} (xs : List X) (p : ℕ) (x : X) (rest : List X) → drop p xs ≡ x ∷ rest → slice_get xs p ≡ Some x
-at-front [] zero x rest h = absurd (cc)
-at-front [] (suc p) x rest h = absurd (cc)
-at-front (y ∷ ys) zero x rest h = let e : y ≡ x = cc in ap Some e
-at-front (y ∷ ys) (suc p) x rest h = at-front ys p x rest h
+use Rattle.mdconstructs_text.proofs.Prelude.{at-front, ◌≡◌, ℕ, ◌+◌, ◌∷◌, ◌++◌, [], List, Bool, true, false, refl, sym, ◌∙◌, ap, subst, Some, None, take, drop, Constructs, Event, Next, TextBefore, Seat, Nothing, Byte, Given, Text, Local, byte_of, counts, Item, line_ending, part, item_length, item_at, if_on, or_else, bytes_of, item_events, text_byte, text_before_rows, line-ending-read}
+use Rattle.mdconstructs_text.proofs.Texts.Steps.{EndsWith, Leads, between_items, leads-byte, leads-seen, before_class}
 
 -- a construct that is nowhere
 pub nowhere : (on : Bool) (x : Item) → or_else (if_on on None) x ≡ x
@@ -17,10 +10,6 @@ nowhere false x = refl
 line-ending-at : (on : Constructs) (bytes : List ℕ) → item_at on (10 ∷ bytes) ≡ part line_ending
 line-ending-at on bytes = nowhere on.code_text _ ∙ nowhere on.autolink _ ∙ nowhere on.character_escape _
 
-two : (es : List Event) (a b : Event) → (es ++ a ∷ []) ++ b ∷ [] ≡ es ++ a ∷ b ∷ []
-two [] a b = refl
-two (x ∷ es) a b = ap (λ l. x ∷ l) (two es a b)
-
 module _ (g : Given) (text : Text) where
   -- the item at a position was read, with its events
   abbrev pub Adds : (p : ℕ) (ended : Bool) (events : List Event) (local : Local Unit Unit) → List Seat → Item → Type 0
@@ -28,17 +17,6 @@ module _ (g : Given) (text : Text) where
       (ended_after : Bool) × (after : Local Unit Unit)
       × Leads g text (between_items p Nothing ended events local) [] (Next TextBefore)
       (between_items (p + item_length item) Nothing ended_after (events ++ item_events g.bytes (item, take (item_length item) seats)) after) [] (Next TextBefore)
-
-  rows-are : (p : ℕ) (s : Seat) → slice_get text.seats p ≡ Some s → s.byte ≡ 10 → text_before_rows (before_class g text p) (waiting_class g text p) ≡ line_ending_then TextBefore
-  rows-are p s at is =
-      ap (λ o. text_before_rows (before_class g text p) (class_of text_byte (byte_of o))) at ∙ ap (λ b. text_before_rows (before_class g text p) (Some (text_byte b))) is
-
-  abbrev ended_line : List Event → Option Seat → List Event
-  ended_line events o = (events ++ event g.bytes Enter LineEnding (point_or text.end o) ∷ []) ++ event g.bytes Exit LineEnding (end_or text.end o) ∷ []
-
-  same-events : (events : List Event) (p : ℕ) (s : Seat) (ss : List Seat) → slice_get text.seats p ≡ Some s
-      → ended_line events (slice_get text.seats p) ≡ events ++ item_events g.bytes (part line_ending, take 1 (s ∷ ss))
-  same-events events p s ss at = ap (ended_line events) at ∙ two events _ _
 
   -- a line ending is read, with its events
   pub adds-line-ending : (p : ℕ) (ended : Bool) (events : List Event) (local : Local Unit Unit) (s : Seat) (ss : List Seat) → drop p text.seats ≡ s ∷ ss → s.byte ≡ 10
@@ -51,9 +29,7 @@ module _ (g : Given) (text : Text) where
         false,
         counts local,
         λ es h.
-            leads-fed g text (between_items p Nothing ended events local) [] TextBefore es
-            (subst (λ k. EndsWith g text k [] (Retry TextBefore) es) (sym (fed-is g text p ended events [] local (slice_get_within text.seats p s at)))
-            (leads-called g text (between_items p Byte ended events local) [] TextBefore es
-            (subst (WithRows g text (between_items p Byte ended events (counts local)) [] es) (sym (rows-are p s at is))
-            (subst (λ l. EndsWith g text (between_items (p + 1) Nothing false l (counts local)) [] (Next TextBefore) es) (sym (same-events events p s ss at)) h)))),
+            leads-byte g text [] p ended events local [] TextBefore at es
+            (leads-seen g text text_before_rows (between_items p Byte ended events local) [] TextBefore es (ap byte_of at) (ap (λ b. text_before_rows (before_class g text p) (Some (text_byte b))) is) refl
+            (subst (λ l. EndsWith g text (between_items (p + 1) Nothing false l (counts local)) [] (Next TextBefore) es) (sym (line-ending-read g text events p s at)) h)),
       )

@@ -1,7 +1,8 @@
 -- The main induction: if each item is read with its events, the whole text is.
-use Rattle.mdconstructs_text.proofs.Prelude.{◌≡◌, ℕ, zero, suc, ◌+◌, ◌-◌, ◌<◌, ◌≤◌, ◌∷◌, ◌++◌, [], List, Bool, true, cond, refl, sym, ◌∙◌, ap, subst, arith, length, take, drop, append-nil, append_assoc, length-drop, drop-drop, le-ltb, flat_map, Constructs, Event, Next, Retry, Ok, TextBefore, Seat, Nothing, Byte, End, Given, Text, Configuration, Local, fed, counts, item_length, item_at, bytes_of, cut, item_events, seat_events}
+use Rattle.mdconstructs_text.proofs.Prelude.{◌≡◌, ℕ, zero, suc, ◌+◌, ◌-◌, ◌<◌, ◌≤◌, ◌∷◌, ◌++◌, [], List, Bool, true, refl, sym, ◌∙◌, ap, subst, arith, length, take, drop, append-nil, append_assoc, drop-drop, flat_map, Constructs, Event, Next, TextBefore, Seat, Nothing, End, Given, Text, Local, counts, item_length, item_at, bytes_of, cut, item_events, seat_events, goes-next}
 use Rattle.mdconstructs_text.proofs.Texts.Cutting.{drop-less}
-use Rattle.mdconstructs_text.proofs.Texts.Steps.{EndsWith, Leads, between_items, leads-called, leads-fed}
+use Rattle.mdconstructs_text.proofs.Texts.Steps.{EndsWith, Leads, between_items, leads-called, text_step}
+use Rattle.mdconstructs_machines.proofs.LineReads.Steps.{ended as ended-so}
 
 -- each item is at least a byte
 abbrev pub ItemsArePositive : Constructs → Type 0
@@ -21,31 +22,19 @@ module _ (g : Given) (text : Text) where
   ReadsText = (p : ℕ) (ended : Bool) (events : List Event) (local : Local Unit Unit) → p ≤ length text.seats
       → EndsWith g text (between_items p Nothing ended events local) [] (Next TextBefore) (events ++ seat_events g.options.constructs g.bytes (drop p text.seats))
 
-  ended-well : (k : Configuration Unit Unit) → EndsWith g text k [] Ok k.events
-  ended-well k calls = (record { configuration = k; answer = Ok; calls = calls + 0 }, (record { bound = 0; is = refl }, refl, refl))
-
-  at-the-end : (p : ℕ) (ended : Bool) (events : List Event) (local : Local Unit Unit) → length text.seats ≤ p
-      → EndsWith g text (between_items p Nothing ended events local) [] (Next TextBefore) events
-  at-the-end p ended events local h =
-      let at_end = between_items p End true events local in
-      let fed-end : fed text (between_items p Nothing ended events local) ≡ at_end =
-      ap (λ b. cond b (between_items p Byte ended events local) at_end) (le-ltb p (length text.seats) h) in
-      leads-fed g text (between_items p Nothing ended events local) [] TextBefore events
-      (subst (λ k. EndsWith g text k [] (Retry TextBefore) events) (sym fed-end)
-      (leads-called g text at_end [] TextBefore events (ended-well (between_items p End true events (counts local)))))
+  -- nothing is left: it ends, with no event more
+  none-left : (p : ℕ) (ended : Bool) (events : List Event) (local : Local Unit Unit) → drop p text.seats ≡ [] → EndsWith g text (between_items p Nothing ended events local) [] (Next TextBefore) (events ++ [])
+  none-left p ended events local at =
+      subst (λ es. EndsWith g text (between_items p Nothing ended events local) [] (Next TextBefore) es) (sym (append-nil events))
+      (goes-next g text (text_step g) [] [] p ended events local [] TextBefore at events
+      (leads-called g text (between_items p End true events local) [] TextBefore events (ended-so g text (text_step g) (between_items p End true events (counts local)))))
 
   from-items : AddsItem → ItemsArePositive g.options.constructs → (n p : ℕ) (ended : Bool) (events : List Event) (local : Local Unit Unit) (l : List Seat)
       → drop p text.seats ≡ l → length l ≤ n
       → EndsWith g text (between_items p Nothing ended events local) [] (Next TextBefore) (events ++ flat_map (item_events g.bytes) (cut (item_at g.options.constructs) item_length n l))
-  from-items adds positive zero p ended events local [] at h =
-      let past : length text.seats - p ≡ 0 = sym (length-drop p text.seats) ∙ ap length at in
-      subst (λ es. EndsWith g text (between_items p Nothing ended events local) [] (Next TextBefore) es) (sym (append-nil events))
-      (at-the-end p ended events local (omega (arith, past)))
+  from-items adds positive zero p ended events local [] at h = none-left p ended events local at
   from-items adds positive zero p ended events local (s ∷ ss) at h = absurd (omega (arith, h))
-  from-items adds positive (suc n) p ended events local [] at h =
-      let past : length text.seats - p ≡ 0 = sym (length-drop p text.seats) ∙ ap length at in
-      subst (λ es. EndsWith g text (between_items p Nothing ended events local) [] (Next TextBefore) es) (sym (append-nil events))
-      (at-the-end p ended events local (omega (arith, past)))
+  from-items adds positive (suc n) p ended events local [] at h = none-left p ended events local at
   from-items adds positive (suc n) p ended events local (s ∷ ss) at h =
       let item = item_at g.options.constructs (bytes_of (s ∷ ss)) in
       let size = item_length item in

@@ -1,5 +1,5 @@
 -- The whole text of a document is a text: one range, from the document's start to its end.
-use Rattle.mdconstructs_text.proofs.Prelude.{AllByRecursion, flat_map, ◌≡◌, ℕ, ◌<◌, List, [], ◌∷◌, ◌++◌, true, false, refl, sym, ap, ◌∙◌, arith, subst, filter, Contains, nat_tests, append-nil, Contains-append_right, Point, Seat, point, virtual, end_after, document_end, stands_before, shown, IsPointOf, is_upto, Given, IsDocument, IsText, pushed, whole_text, every-map, filter-every, IsChain, whole-chain, end-place, rest-after, upto-order, same-self}
+use Rattle.mdconstructs_text.proofs.Prelude.{AllByRecursion, ◌≡◌, ℕ, ◌<◌, List, [], ◌∷◌, ◌++◌, true, false, refl, sym, ap, ◌∙◌, arith, subst, filter, nat_tests, append-nil, Point, Seat, point, virtual, document_end, stands_before, Given, IsDocument, IsText, pushed, whole_text, every-map, filter-every, end-place, rest-after, same-self, start-is-point, start-upto, end-is-point}
 use Rattle.markdown_tokenizer.specs.Text.{in_range}
 
 module _ (t : ℕ) (bytes : List ℕ) (some : 0 < t) where
@@ -8,20 +8,6 @@ module _ (t : ℕ) (bytes : List ℕ) (some : 0 < t) where
 
   abbrev last : Point
   last = document_end t bytes
-
-  -- it begins and ends at places of the document
-  start-contained : (xs : List Seat) → IsChain t bytes first xs → Contains (flat_map (λ s. shown bytes s.point ∷ s.point ∷ []) xs ++ end_after first xs ∷ []) first
-  start-contained [] c = (0, omega arith, (cc))
-  start-contained (s ∷ ss) c = let is = c.1.shown_is in (0, omega arith, (cc))
-
-  start-is-point : IsPointOf t bytes first
-  start-is-point = start-contained (virtual t bytes) (whole-chain t bytes some)
-
-  end-is-point : IsPointOf t bytes last
-  end-is-point = Contains-append_right (flat_map (λ s. shown bytes s.point ∷ s.point ∷ []) (virtual t bytes)) (last ∷ []) last (0, omega arith, (cc))
-
-  upto-end : is_upto t bytes first last ≡ true
-  upto-end = upto-order t bytes first last (grind (arith, nat_tests))
 
   -- no virtual byte begins before it, or after its end
   inside : (s : Seat) → stands_before s.point last ≡ true → in_range first last s ≡ true
@@ -41,8 +27,8 @@ whole-is-text g document =
     let p = point 1 1 0 0 in
     let e = document_end g.tab g.bytes in record {
       document = document;
-      starts = start-is-point g.tab g.bytes some;
+      starts = start-is-point g some;
       pieces = pushed p e ∷ [];
-      follow = ((start-is-point g.tab g.bytes some, end-is-point g.tab g.bytes some, same-self g.tab g.bytes p, upto-end g.tab g.bytes some), tt);
+      follow = ((start-is-point g some, end-is-point g.tab g.bytes, same-self g.tab g.bytes p, start-upto g.tab some g.bytes e), tt);
       is = ap (λ (seats : List Seat). record { start = p; seats = seats; end = e }) (sym (all-inside g.tab g.bytes some));
     }

@@ -33,5 +33,5 @@ returns-else-is_ascii_punctuation c =
     let byte = c.in-Some.byte in
     let is = sym c.current.ensures ∙ c.in-Some.is in
     let none : is_ascii_punctuation byte ≡ false = sym c.is_ascii_punctuation.ensures.value ∙ c.if-is_ascii_punctuation.false in
-    subst (λ rows. DoesAll (step_of (picked rows t.given s k) s k) t t Nok) (sym (ap (λ o. escape_inside_rows b (class_of text_byte o)) is ∙ refused-class b byte none))
+    subst (λ rows. DoesAll (step_of (picked rows t.given s k) s k) t t Nok) (sym (ap (λ o. escape_inside_rows b (class_of text_byte o)) is ∙ refused-class b (Some byte) none))
     (record { answered = refl; became = refl })
