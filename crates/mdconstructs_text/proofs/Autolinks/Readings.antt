@@ -1,5 +1,5 @@
 -- Autolinks, as the machine of texts reads them: if one is there, it is read whole, with its events; if not, what was tried leaves nothing.
-use Rattle.mdconstructs_text.proofs.Prelude.{at-front, ◌≡◌, ℕ, ◌+◌, ◌<◌, ◌≤◌, ◌∷◌, ◌++◌, [], List, Bool, true, false, cond, refl, sym, ◌∙◌, ap, subst, Option, Some, None, arith, length, take, drop, slice_get, nat_lt, nat_le, ◌&&◌, ◌==◌, nat_tests, drop-drop, drop-map, slice_get_within, is_ascii_alphabetic, prefix_len, drop-next, Event, State, Next, Retry, Ok, AutolinkStart, AutolinkOpen, AutolinkSchemeInsideOrEmailAtext, AutolinkUrlInside, Seat, Nothing, Given, Text, Configuration, Local, Choice, byte_of, counts, Item, autolink, item_length, passes, has_byte_at, is_scheme_byte, is_allowed, uri, autolink_to, autolink_at, is_colon, is_greater_than, is_less_than, bytes_of, item_events, links_by_itself}
+use Rattle.mdconstructs_text.proofs.Prelude.{at-front, ◌≡◌, ℕ, ◌+◌, ◌<◌, ◌≤◌, ◌∷◌, ◌++◌, [], List, Bool, true, false, cond, refl, sym, ◌∙◌, ap, subst, Option, Some, None, arith, length, take, drop, slice_get, nat_lt, nat_le, ◌&&◌, ◌==◌, nat_tests, drop-drop, drop-map, slice_get_within, is_ascii_alphabetic, prefix_len, drop-next, Event, State, Next, Retry, Ok, AutolinkStart, AutolinkOpen, AutolinkSchemeInsideOrEmailAtext, AutolinkUrlInside, Seat, Nothing, Given, Text, Configuration, Local, Choice, byte_of, counts, Item, autolink, item_length, passes, has_byte_at, is_scheme_byte, is_allowed, uri, autolink_to, autolink_at, is_colon, is_greater_than, is_less_than, bytes_of, item_events, links_by_itself, Byte, and_parts, and-true, TextBefore}
 use Rattle.mdconstructs_text.proofs.Texts.Steps.{EndsWith, Leads, between_items, leads-byte, leads-ok, fed-is}
 use Rattle.mdconstructs_text.proofs.Plain.Stretches.{byte-behind, run-ends, found, reads-run}
 use Rattle.mdconstructs_text.proofs.Plain.Items.{outer, Tried, byte-rows, leads-tried}
@@ -11,26 +11,6 @@ use Rattle.mdconstructs_text.proofs.Autolinks.Schemes.{is_long_enough, front-is-
 at-most : (m n : ℕ) (b : Bool) → nat_le m n ≡ b → cond b (m ≤ n) (n < m)
 at-most m n true h = grind (arith, nat_tests)
 at-most m n false h = grind (arith, nat_tests)
-
--- four tests that are passed together
-all-four : (a b c d : Bool) → ((a && (b && c)) && d) ≡ true → (a ≡ true) × (b ≡ true) × (c ≡ true) × (d ≡ true)
-all-four true true true true h = (refl, refl, refl, refl)
-all-four true true true false h = absurd (cc)
-all-four true true false d h = absurd (cc)
-all-four true false c d h = absurd (cc)
-all-four false b c d h = absurd (cc)
-
--- of two tests one fails if the other is passed
-one-false : (a b : Bool) → (a && b) ≡ false → b ≡ true → a ≡ false
-one-false true b h e = absurd (cc)
-one-false false b h e = refl
-
--- and of four tests, one of the other two
-two-left : (a b c d : Bool) → ((a && (b && c)) && d) ≡ false → b ≡ true → c ≡ true → (a && d) ≡ false
-two-left true true true d h e f = h
-two-left true true false d h e f = absurd (cc)
-two-left true false c d h e f = absurd (cc)
-two-left false b c d h e f = refl
 
 module _ (g : Given) (text : Text) where
   -- What was tried at a place is read, with its events, or leaves nothing
@@ -134,7 +114,7 @@ module _ (g : Given) (text : Text) (joined : IsJoined g text) (p : ℕ) (ended :
       elim colon as (λ b. colon ≡ b → Refused g text p ended events k (Next AutolinkSchemeInsideOrEmailAtext)) [
         | true ↦ λ is.
             let (c, at, byte) = found (λ b. b == 58) (slice_get text.seats q) (sym colon-is ∙ is) in
-            let short : nat_le 2 scheme_length ≡ false = one-false (nat_le 2 scheme_length) colon none is in
+            let short : nat_le 2 scheme_length ≡ false = sym (and-true (nat_le 2 scheme_length)) ∙ ap (λ t. nat_le 2 scheme_length && t) (sym is) ∙ none in
             refused-fed g text p ended events k AutolinkSchemeInsideOrEmailAtext
             (subst (λ j. Refused g text p ended events j (Retry AutolinkSchemeInsideOrEmailAtext)) (sym (fed-is g text q e (begun_link g text events p) link_spans local (slice_get_within text.seats q c at)))
             (too-short g text p ended events q e local c at byte (ap (nat_le 2) size ∙ short)))
@@ -156,10 +136,12 @@ module _ (g : Given) (text : Text) (joined : IsJoined g text) (p : ℕ) (ended :
   -- if it has, all allowed bytes behind that are read
   takes-link : (local : Local Unit Unit) → is_link ≡ true → starts local (autolink_to (bytes_of (s ∷ r ∷ rs)) (Some inside))
   takes-link local is =
-      let (long, room, letter, colon) = all-four (nat_le 2 scheme_length) (nat_le scheme_length 32) (is_ascii_alphabetic r.byte) (has_byte_at (bytes_of (r ∷ rs)) scheme_length is_colon) is in
-      let read = scheme-read g text (p + 1) false (begun_link g text events p) local choices r rs behind letter (at-most scheme_length 32 true room) in
+      let both = and_parts (is_long_enough (bytes_of (r ∷ rs)) scheme_length) (has_byte_at (bytes_of (r ∷ rs)) scheme_length is_colon) is in
+      let size = and_parts (nat_le 2 scheme_length) (nat_le scheme_length 32 && is_ascii_alphabetic r.byte) both.0 in
+      let first = and_parts (nat_le scheme_length 32) (is_ascii_alphabetic r.byte) size.1 in
+      let read = scheme-read g text (p + 1) false (begun_link g text events p) local choices r rs behind first.1 (at-most scheme_length 32 true first.0) in
       decided-before g text p ended events (s ∷ r ∷ rs) (in_tried (p + 1) false local) (in_tried (p + 1 + scheme_length) read.0 read.1) (Next AutolinkOpen) (Next AutolinkSchemeInsideOrEmailAtext) (autolink_to (bytes_of (s ∷ r ∷ rs)) (Some inside))
-      read.3 (passes-colon read.0 read.1 read.2 long colon)
+      read.3 (passes-colon read.0 read.1 read.2 size.0 both.1)
 
   -- if it has not, it is rejected
   refuses-link : (local : Local Unit Unit) → is_link ≡ false → starts local None
@@ -171,7 +153,9 @@ module _ (g : Given) (text : Text) (joined : IsJoined g text) (p : ℕ) (ended :
             elim (nat_le n 32) as (λ b. nat_le n 32 ≡ b → starts local None) [
               | true ↦ λ room.
                   let read = scheme-read g text (p + 1) false (begun_link g text events p) local choices r rs behind letter (at-most n 32 true room) in
-                  let rest : (nat_le 2 n && has_byte_at (bytes_of (r ∷ rs)) n is_colon) ≡ false = two-left (nat_le 2 n) (nat_le n 32) (is_ascii_alphabetic r.byte) (has_byte_at (bytes_of (r ∷ rs)) n is_colon) none room letter in
+                  let colon = has_byte_at (bytes_of (r ∷ rs)) n is_colon in
+                  let rest : (nat_le 2 n && colon) ≡ false =
+                  ap (λ t. t && colon) (sym (and-true (nat_le 2 n))) ∙ ap (λ t. (nat_le 2 n && t) && colon) (sym (ap (λ t. t && is_ascii_alphabetic r.byte) room ∙ letter)) ∙ none in
                   decided-before g text p ended events (s ∷ r ∷ rs) k (in_tried (p + 1 + n) read.0 read.1) (Next AutolinkOpen) (Next AutolinkSchemeInsideOrEmailAtext) None read.3 (refuses-scheme read.0 read.1 read.2 rest)
               | false ↦ λ long. scheme-too-long g text p ended events (p + 1) false local r rs behind letter (at-most n 32 false long)
             ] refl
@@ -190,26 +174,25 @@ module _ (g : Given) (text : Text) (joined : IsJoined g text) (p : ℕ) (ended :
       ] refl)
 
 module _ (g : Given) (text : Text) where
-  -- If the construct is on, an autolink is read where it may begin, or the attempt leaves nothing
+  -- If the construct is on, an autolink is tried at its marker
+  tries-marker : (p : ℕ) (ended : Bool) (events : List Event) (local : Local Unit Unit) (s : Seat) (ss : List Seat) → drop p text.seats ≡ s ∷ ss → s.byte ≡ 60 → g.options.constructs.autolink ≡ true
+      → Leads g text (between_items p Byte ended events local) [] (Retry TextBefore) (in_link (p + 1) false (begun_link g text events p) (counts (counts local))) (outer p ended events ∷ []) (Next AutolinkOpen)
+  tries-marker p ended events local s ss here is on es h =
+      let at = at-front text.seats p s ss here in
+      leads-tried g text links_by_itself AutolinkStart p ended events local (byte-rows g text p 60 s at is) on es (marker-read g text p ended events (counts local) (outer p ended events ∷ []) s at es h)
+
+  -- It is read where it may begin, or the attempt leaves nothing
   from-marker : (p : ℕ) (ended : Bool) (events : List Event) (local : Local Unit Unit) (s : Seat) (ss : List Seat) → drop p text.seats ≡ s ∷ ss → s.byte ≡ 60 → g.options.constructs.autolink ≡ true
       → (o : Option Item) → Decided g text p ended events (s ∷ ss) (in_link (p + 1) false (begun_link g text events p) (counts (counts local))) (Next AutolinkOpen) o → Tried g text p ended events local (s ∷ ss) o
-  from-marker p ended events local s ss here is on None d =
-      let at = at-front text.seats p s ss here in (
-        d.0,
-        λ es h.
-            leads-tried g text links_by_itself AutolinkStart p ended events local (byte-rows g text p 60 s at is) on es
-            (marker-read g text p ended events (counts local) (outer p ended events ∷ []) s at es (d.1 es h)),
-      )
-  from-marker p ended events local s ss here is on (Some item) d =
-      let at = at-front text.seats p s ss here in (
-        false,
-        d.0,
-        λ es h.
-            leads-tried g text links_by_itself AutolinkStart p ended events local (byte-rows g text p 60 s at is) on es
-            (marker-read g text p ended events (counts local) (outer p ended events ∷ []) s at es
-            (d.1 es
-            (leads-ok g text (between_items (p + item_length item) Nothing false (events ++ item_events g.bytes (item, take (item_length item) (s ∷ ss))) d.0) (outer p ended events) [] es h))),
-      )
+  from-marker p ended events local s ss here is on None d = (d.0, λ es h. tries-marker p ended events local s ss here is on es (d.1 es h))
+  from-marker p ended events local s ss here is on (Some item) d = (
+    false,
+    d.0,
+    λ es h.
+        tries-marker p ended events local s ss here is on es
+        (d.1 es
+        (leads-ok g text (between_items (p + item_length item) Nothing false (events ++ item_events g.bytes (item, take (item_length item) (s ∷ ss))) d.0) (outer p ended events) [] es h)),
+  )
 
   -- So autolinks are tried at `<`
   pub tries-autolink : IsJoined g text → (p : ℕ) (ended : Bool) (events : List Event) (local : Local Unit Unit) (s : Seat) (ss : List Seat) → drop p text.seats ≡ s ∷ ss → s.byte ≡ 60

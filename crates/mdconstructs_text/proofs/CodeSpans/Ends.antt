@@ -70,13 +70,6 @@ module _ (g : Given) (text : Text) where
             (subst (λ c. EndsWith g text (shows l1 [] q1 c after) cs Ok es) (sym made) h))))),
       )
 
-  -- a code span is tried
-  tries-code : (p : ℕ) (ended : Bool) (events : List Event) (local : Local Unit Unit) (s : Seat)
-      → slice_get text.seats p ≡ Some s → is_backtick s.byte ≡ true → g.options.constructs.code_text ≡ true
-      → Leads g text (between_items p Byte ended events local) [] (Retry TextBefore) (between_items p Byte ended events (counts local)) (outer p ended events ∷ []) (Retry RawTextStart)
-  tries-code p ended events local s at tick on =
-      leads-tried g text spans_code RawTextStart p ended events local (ap (λ o. text_before_rows (before_class g text p) (class_of text_byte (byte_of o))) at ∙ class-rows g text text_before_rows p s backtick (tick-class s.byte tick)) on
-
   -- the code span begins, and its first backtick string
   starts-code : (p : ℕ) (ended : Bool) (events : List Event) (local : Local Unit Unit) (cs : List Choice) (s : Seat) → slice_get text.seats p ≡ Some s → is_backtick s.byte ≡ true
       → Leads g text (between_items p Byte ended events local) cs (Retry RawTextStart)
@@ -96,6 +89,7 @@ module _ (g : Given) (text : Text) where
       let k = backticks (bytes_of l) in
       let cs = outer p ended events ∷ [] in
       let front = at-front text.seats p s ss at in
+      let rows = ap (λ o. text_before_rows (before_class g text p) (class_of text_byte (byte_of o))) front ∙ class-rows g text text_before_rows p s backtick (tick-class s.byte tick) in
       let next = drop-next text.seats p s ss at in
       let begun = (events ++ enter_at g text CodeText p ∷ []) ++ enter_at g text CodeTextSequence p ∷ [] in
       let first = with_b 0 (counts (counts local)) in
@@ -115,7 +109,7 @@ module _ (g : Given) (text : Text) where
         counts read,
         same,
         λ es h.
-            tries-code p ended events local s front tick on es
+            leads-tried g text spans_code RawTextStart p ended events local rows on es
             (starts-code p ended events (counts local) cs s front tick es
             (open-reads g text cs p ended begun first s front tick es
             (goes-next g text ss in_run (p + 1) begun once cs RawTextSequenceOpen next es

@@ -1,5 +1,5 @@
 -- The place of the backtick string that closes a code span: it is looked for from the front, a byte at a time.
-use Rattle.mdconstructs_text.proofs.Prelude.{◌≡◌, ℕ, zero, suc, ◌+◌, ◌-◌, ◌<◌, ◌∷◌, [], List, Bool, true, false, cond, not, ◌&&◌, ◌||◌, ◌==◌, refl, sym, ◌∙◌, ap, subst, Option, Some, None, arith, length, take, drop, option_map, max, and-false, drop-drop, eqb-true, nat_tests, last_or, position_or_len, find, range_with_len, and-right, code_span, line_ending, plain_run, passes, ends_with, is_line_feed, is_backtick_or_line_feed, backticks, is_backtick_string, code_span_at, part_length, part_at, plain_length, is_backtick}
+use Rattle.mdconstructs_text.proofs.Prelude.{◌≡◌, ℕ, zero, suc, ◌+◌, ◌<◌, ◌∷◌, [], List, Bool, true, false, cond, not, ◌&&◌, ◌==◌, refl, sym, ◌∙◌, ap, subst, Option, Some, None, arith, length, take, drop, option_map, max, and-false, drop-drop, eqb-true, nat_tests, last_or, position_or_len, find, range_with_len, and-right, code_span, line_ending, plain_run, passes, ends_with, is_backtick_or_line_feed, backticks, is_backtick_string, code_span_at, part_length, part_at, plain_length, is_backtick}
 
 -- the place of a backtick string, from further in front
 abbrev pub further : ℕ → Option ℕ → Option ℕ
@@ -22,11 +22,6 @@ no-further (Some m) = let e : 0 + m ≡ m = omega arith in ap Some e
 -- no backtick string of none is looked for
 not-none : (k : ℕ) → 0 < k → (0 == k) ≡ false
 not-none k h = grind (arith, nat_tests)
-
--- a test that always passes
-or-true : (a : Bool) → (a || true) ≡ false → ⊥
-or-true true e = absurd (cc)
-or-true false e = absurd (cc)
 
 -- the last byte up to a position, and that one
 last-behind : (o : Option ℕ) (text : List ℕ) (i b : ℕ) (bs : List ℕ) → drop i text ≡ b ∷ bs → last_or o (take (suc i) text) ≡ Some b
@@ -55,10 +50,7 @@ module _ (text : List ℕ) (k : ℕ) where
 
 -- data is no backtick
 pub no-tick : (b : ℕ) → is_backtick_or_line_feed b ≡ false → (b == 96) ≡ false
-no-tick b h = elim (b == 96) as (λ t. (is_line_feed b || t) ≡ false → t ≡ false) [
-  | true ↦ λ e. absurd (or-true (is_line_feed b) e)
-  | false ↦ λ e. refl
-] h
+no-tick b h = grind (arith, nat_tests)
 
 -- nor is a line ending
 line-feed-no-tick : (b : ℕ) → (b == 10) ≡ true → (b == 96) ≡ false

@@ -1,5 +1,5 @@
 -- How the machine of texts reads on over bytes that one state reads, one after another.
-use Rattle.mdconstructs_text.proofs.Prelude.{at-front, ◌≡◌, ℕ, suc, ◌+◌, ◌-◌, ◌^◌, ◌<◌, ◌∷◌, [], List, Bool, true, false, cond, refl, sym, ◌∙◌, ap, subst, Option, Some, arith, drop, slice_get, drop-drop, prefix_len, drop-next, Event, Name, Next, Retry, Seat, Waits, Nothing, Byte, End, Given, Text, Configuration, Local, Choice, fed, byte_of, Rows, bytes_of, TextByte, text_byte, None, current_of, passes}
+use Rattle.mdconstructs_text.proofs.Prelude.{at-front, ◌≡◌, ℕ, suc, ◌+◌, ◌^◌, ◌<◌, ◌∷◌, [], List, Bool, true, false, cond, refl, sym, ◌∙◌, ap, subst, Option, Some, arith, drop, slice_get, drop-drop, prefix_len, drop-next, Event, Name, Next, Retry, Seat, Waits, Nothing, Byte, End, Given, Text, Configuration, Local, Choice, fed, byte_of, Rows, bytes_of, TextByte, text_byte, None, current_of, passes}
 use Rattle.markdown_base.specs.declared.event.Name.{Name as EventName}
 use Rattle.mdconstructs_text.proofs.Texts.Steps.{EndsWith, Leads, text_step, leads-fed, before_class}
 use Rattle.mdconstructs_machines.proofs.LineReads.Steps.{held, stands as fed_as}

@@ -1,5 +1,5 @@
 -- Places of stretches of a document, one behind another.
-use Rattle.mdconstructs_text.proofs.Prelude.{◌≡◌, ℕ, ◌<◌, ◌==◌, ◌∷◌, ◌++◌, [], List, Bool, true, false, refl, sym, ◌∙◌, ap, subst, arith, filter, map, AllByRecursion, append_cancel_left, append_cancel_right, every-append, end-after-append, Event, Enter, Exit, Point, stands_before, shown, in_range, Seat, point, virtual, end_after, before-upto, upto-before, every-front, IsChain, whole-chain, upto-order, left_of, chain-at, chain-split, chain-upto, place-after, rest-after}
+use Rattle.mdconstructs_text.proofs.Prelude.{◌≡◌, ℕ, ◌<◌, ◌==◌, ◌∷◌, ◌++◌, [], List, true, false, refl, sym, ◌∙◌, ap, subst, arith, filter, map, AllByRecursion, append_cancel_left, append_cancel_right, every-append, end-after-append, Event, Enter, Exit, Point, stands_before, shown, in_range, Seat, point, virtual, end_after, before-upto, upto-before, every-front, IsChain, whole-chain, upto-order, left_of, chain-at, chain-split, chain-upto, place-after, rest-after}
 use Rattle.std.proofs.Common.{append_assoc}
 use Rattle.markdown_base.specs.declared.event.Name.{Name}
 use Rattle.mdconstructs_machines.specs.Spans.{event}
@@ -46,11 +46,10 @@ module _ (t : ℕ) (bytes : List ℕ) where
 
   -- if virtual bytes end at the beginning of a line, the last is a line ending
   at-line : (s : Seat) → EndsInLine s → s.end.column ≡ 1 → (s.byte == 10) ≡ true
-  at-line s in_line column = by (s.byte == 10) refl
-    where
-      by : (b : Bool) → (s.byte == 10) ≡ b → (s.byte == 10) ≡ true
-      by true e = e
-      by false e = let more = in_line e in absurd (omega (arith, more, column))
+  at-line s in_line column = elim (s.byte == 10) as (λ b. (s.byte == 10) ≡ b → b ≡ true) [
+    | true ↦ λ e. refl
+    | false ↦ λ e. let more = in_line e in absurd (omega (arith, more, column))
+  ] refl
 
   ends-line : (s : Seat) (ss : List Seat) → AllByRecursion EndsInLine (s ∷ ss) → (end_after s.end ss).column ≡ 1 → EndsLine (s ∷ ss)
   ends-line s [] h column = at-line s h.0 column

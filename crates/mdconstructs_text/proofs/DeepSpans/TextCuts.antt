@@ -56,17 +56,15 @@ in-three i n l =
 
 -- plain text
 first-plain : (s : Seat) (ss : List Seat) → (s.byte == 10) ≡ false → NoEnding (take (max 1 (backticks (bytes_of (s ∷ ss)))) (s ∷ ss))
-first-plain s ss other = by (s.byte == 96) refl
-  where
-    by : (t : Bool) → (s.byte == 96) ≡ t → NoEnding (take (max 1 (backticks (bytes_of (s ∷ ss)))) (s ∷ ss))
-    by true e =
-        let size : backticks (bytes_of (s ∷ ss)) ≡ 1 + backticks (bytes_of ss) = ap (λ t. cond t (1 + backticks (bytes_of ss)) 0) e in
-        let same : backticks (bytes_of (s ∷ ss)) ≡ max 1 (backticks (bytes_of (s ∷ ss))) = omega (arith, size) in
-        subst (λ n. NoEnding (take n (s ∷ ss))) same (run-plain is_backtick refl (s ∷ ss))
-    by false e =
-        let size : backticks (bytes_of (s ∷ ss)) ≡ 0 = ap (λ t. cond t (1 + backticks (bytes_of ss)) 0) e in
-        let same : 1 ≡ max 1 (backticks (bytes_of (s ∷ ss))) = omega (arith, size) in
-        subst (λ n. NoEnding (take n (s ∷ ss))) same (other, tt)
+first-plain s ss other =
+    let n = backticks (bytes_of ss) in
+    elim (s.byte == 96) as (λ t. (s.byte == 96) ≡ t → NoEnding (take (max 1 (cond t (1 + n) 0)) (s ∷ ss))) [
+      | true ↦ λ e.
+          let size : backticks (bytes_of (s ∷ ss)) ≡ 1 + n = ap (λ t. cond t (1 + n) 0) e in
+          let same : backticks (bytes_of (s ∷ ss)) ≡ max 1 (1 + n) = omega (arith, size) in
+          subst (λ n. NoEnding (take n (s ∷ ss))) same (run-plain is_backtick refl (s ∷ ss))
+      | false ↦ λ e. (other, tt)
+    ] refl
 
 all-plain : (ends : ℕ → Bool) → ends 10 ≡ true → (s : Seat) (ss : List Seat) → (s.byte == 10) ≡ false → NoEnding (take (plain_length ends (bytes_of (s ∷ ss))) (s ∷ ss))
 all-plain ends feed s ss other =

@@ -1,22 +1,12 @@
 -- How the machine of texts reads a backslash escape: if one is there, it is read whole, with its events; if not, the attempt leaves
 -- nothing.
-use Rattle.mdconstructs_text.proofs.Prelude.{◌≡◌, ℕ, ◌+◌, ◌∷◌, ◌++◌, [], List, Bool, true, false, cond, refl, sym, ◌∙◌, ap, subst, Option, Some, None, nat_lt, length, take, slice_get, is_ascii_punctuation, Event, CharacterEscape, CharacterEscapeMarker, CharacterEscapeValue, Enter, Exit, Next, Retry, Ok, Nok, TextBefore, TextBeforeData, CharacterEscapeStart, CharacterEscapeInside, Seat, Waits, Nothing, Byte, End, Given, Text, Configuration, Local, Choice, byte_of, point_or, end_or, counts, escape, item_events, event, escapes, escape_start_rows, escape_inside_rows, append_assoc, take-append_seam, passes, arith}
+use Rattle.mdconstructs_text.proofs.Prelude.{◌≡◌, ℕ, ◌+◌, ◌∷◌, ◌++◌, [], List, Bool, true, false, cond, refl, sym, ap, subst, Some, None, nat_lt, length, take, slice_get, is_ascii_punctuation, Event, CharacterEscape, CharacterEscapeMarker, CharacterEscapeValue, Enter, Exit, Next, Retry, Ok, Nok, TextBefore, TextBeforeData, CharacterEscapeStart, CharacterEscapeInside, Seat, Waits, Nothing, Byte, End, Given, Text, Configuration, Local, Choice, byte_of, point_or, end_or, counts, escape, item_events, event, escapes, escape_start_rows, escape_inside_rows, append_assoc, take-append_seam, passes, arith}
 use Rattle.mdconstructs_text.proofs.Texts.Steps.{EndsWith, Leads, between_items, leads-called, leads-fed, leads-byte, leads-seen, leads-ok, leads-nok, before_class}
 use Rattle.mdconstructs_text.proofs.Plain.Items.{outer, byte-rows, leads-tried, Tried}
 use Rattle.mdconstructs_text.proofs.Escapes.Classes.{escaped-class, refused-class}
 
-six : (es : List Event) (a b c d e f : Event)
-    → (((((es ++ a ∷ []) ++ b ∷ []) ++ c ∷ []) ++ d ∷ []) ++ e ∷ []) ++ f ∷ [] ≡ es ++ a ∷ b ∷ c ∷ d ∷ e ∷ f ∷ []
-six [] a b c d e f = refl
-six (x ∷ es) a b c d e f = ap (λ l. x ∷ l) (six es a b c d e f)
-
 module _ (g : Given) (text : Text) where
-  -- the events of an escape, by the virtual bytes that are read
-  of_escape : List Event → Option Seat → Option Seat → List Event
-  of_escape events o o' = events
-      ++ event g.bytes Enter CharacterEscape (point_or text.end o) ∷ event g.bytes Enter CharacterEscapeMarker (point_or text.end o) ∷ event g.bytes Exit CharacterEscapeMarker (end_or text.end o)
-      ∷ event g.bytes Enter CharacterEscapeValue (point_or text.end o') ∷ event g.bytes Exit CharacterEscapeValue (end_or text.end o') ∷ event g.bytes Exit CharacterEscape (end_or text.end o') ∷ []
-
+  -- the events of an escape, as they are made
   abbrev begun_escape : List Event → ℕ → List Event
   begun_escape events p =
       ((events ++ event g.bytes Enter CharacterEscape (point_or text.end (slice_get text.seats p)) ∷ [])
@@ -31,9 +21,7 @@ module _ (g : Given) (text : Text) where
 
   same-events : (events : List Event) (p : ℕ) (marker value : Seat) → slice_get text.seats p ≡ Some marker → slice_get text.seats (p + 1) ≡ Some value
       → valued (begun_escape events p) (p + 1) ≡ events ++ item_events g.bytes (escape, marker ∷ value ∷ [])
-  unfolding of_escape
-  same-events events p marker value at at' =
-      six events _ _ _ _ _ _ ∙ ap (λ o. of_escape events o (slice_get text.seats (p + 1))) at ∙ ap (λ o. of_escape events (Some marker) o) at'
+  same-events events p marker value at at' = simp (at, at', append_assoc)
 
   abbrev in_escape : ℕ → Waits → List Event → Local Unit Unit → Configuration Unit Unit
   in_escape p waits events local = record { position = p; waiting = waits; ended = false; events = events; stack = CharacterEscape ∷ []; local = local }

@@ -106,11 +106,8 @@ mark-updated p f es i alone h =
     mark-kept es (updated_at p f es) i h (updated-same p f es i h.enter h.enter_at (alone h.enter h.enter_alone)) (updated-same p f es (i + 1) h.exit h.exit_at (alone h.exit h.exit_alone))
 
 -- of an event in no chain no link end is set
-alone-next : (n : ℕ) (x : Event) → x.link ≡ None → with_next n x ≡ x
-alone-next n x h = ap (λ (o : Option Link). record x { link = option_map (next_set n) o }) h ∙ ap (λ (o : Option Link). record x { link = o }) (sym h)
-
-alone-previous : (n : ℕ) (x : Event) → x.link ≡ None → with_previous n x ≡ x
-alone-previous n x h = ap (λ (o : Option Link). record x { link = option_map (previous_set n) o }) h ∙ ap (λ (o : Option Link). record x { link = o }) (sym h)
+alone-same : (f : Link → Link) (x : Event) → x.link ≡ None → record x { link = option_map f x.link } ≡ x
+alone-same f x h = ap (λ (o : Option Link). record x { link = option_map f o }) h ∙ ap (λ (o : Option Link). record x { link = o }) (sym h)
 
 pair-more : (es : List Event) (e : Event) (k d : ℕ) → IsPair es k d → IsPair (es ++ e ∷ []) k d
 pair-more es e k d h =
@@ -135,7 +132,7 @@ module _ (b n : ℕ) (es : List Event) where
   linked-length = updated-length n (with_previous b) (updated_at b (with_next n) es) ∙ updated-length b (with_next n) es
 
   linked-mark : (i : ℕ) → IsMark es i → IsMark (linked_to b n es) i
-  linked-mark i h = mark-updated n (with_previous b) (updated_at b (with_next n) es) i (alone-previous b) (mark-updated b (with_next n) es i (alone-next n) h)
+  linked-mark i h = mark-updated n (with_previous b) (updated_at b (with_next n) es) i (alone-same (previous_set b)) (mark-updated b (with_next n) es i (alone-same (next_set n)) h)
 
   pair-linked : (k d : ℕ) → IsPair es k d → IsPair (linked_to b n es) k d
   pair-linked k d h = record {

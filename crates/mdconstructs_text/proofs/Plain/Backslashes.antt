@@ -1,9 +1,9 @@
 -- A backslash: a backslash escape is read if one is there, and data if not.
-use Rattle.mdconstructs_text.proofs.Prelude.{at-front, ◌≡◌, ℕ, ◌+◌, ◌∷◌, [], List, Bool, true, false, cond, refl, sym, ◌∙◌, ap, subst, Some, None, arith, drop, slice_get, ◌&&◌, ◌==◌, is_ascii_punctuation, drop-next, Event, Seat, Given, Text, Local, escape, has_byte_at, item_at, escape_at, if_on, or_else, is_backslash, bytes_of, passes, byte_of}
+use Rattle.mdconstructs_text.proofs.Prelude.{at-front, ◌≡◌, ℕ, ◌+◌, ◌∷◌, [], List, Bool, true, false, cond, refl, sym, ◌∙◌, ap, subst, Some, None, arith, drop, slice_get, ◌&&◌, ◌==◌, is_ascii_punctuation, drop-next, Event, Seat, Given, Text, Local, escape, has_byte_at, item_at, escape_at, is_backslash, bytes_of, passes, byte_of, escapes, CharacterEscapeStart}
 use Rattle.mdconstructs_text.proofs.Texts.LineEndings.{Adds}
 use Rattle.mdconstructs_text.proofs.Escapes.Readings.{escape-taken, escape-refused}
 use Rattle.mdconstructs_text.proofs.Plain.Stretches.{get-drop}
-use Rattle.mdconstructs_text.proofs.Plain.Items.{plain_of, Tried, backslash-at, from-tried, from-untried-escape}
+use Rattle.mdconstructs_text.proofs.Plain.Items.{Tried, backslash-at, byte-rows, from-construct}
 
 -- nothing is at a position if nothing is left
 nothing-at : (xs : List Seat) (p : ℕ) → drop p xs ≡ [] → slice_get xs p ≡ None
@@ -31,10 +31,6 @@ module _ (g : Given) (text : Text) where
   pub adds-backslash : (p : ℕ) (ended : Bool) (events : List Event) (local : Local Unit Unit) (s : Seat) (ss : List Seat) → drop p text.seats ≡ s ∷ ss → s.byte ≡ 92
       → Adds g text p ended events local (s ∷ ss) (item_at g.options.constructs (bytes_of (s ∷ ss)))
   adds-backslash p ended events local s ss here is =
-      let on = g.options.constructs.character_escape in
-      let o = escape_at (bytes_of (s ∷ ss)) in
       subst (Adds g text p ended events local (s ∷ ss)) (sym (backslash-at g.options.constructs s.byte (bytes_of ss) is))
-      (elim on as (λ t. on ≡ t → Adds g text p ended events local (s ∷ ss) (or_else (if_on t o) (plain_of (s ∷ ss)))) [
-        | true ↦ λ h. from-tried g text p ended events local s ss here o (tries-backslash p ended events local s ss here is h)
-        | false ↦ λ h. from-untried-escape g text p ended events local s ss here is h
-      ] refl)
+      (from-construct g text escapes CharacterEscapeStart p ended events local s ss here (byte-rows g text p 92 s (at-front text.seats p s ss here) is) g.options.constructs.character_escape refl (escape_at (bytes_of (s ∷ ss)))
+      (tries-backslash p ended events local s ss here is))

@@ -1,5 +1,5 @@
 -- Plain data as an item: if no construct is there, data is read with its events.
-use Rattle.mdconstructs_text.proofs.Prelude.{at-front, ◌≡◌, ℕ, ◌+◌, ◌∷◌, ◌++◌, [], List, Bool, true, false, refl, sym, ◌∙◌, ap, subst, Option, Some, None, length, take, drop, slice_get, ◌==◌, ◌||◌, Constructs, Event, Name, Next, Retry, TextBefore, TextBeforeData, RawTextStart, AutolinkStart, CharacterEscapeStart, Seat, Nothing, Byte, Attempt, Given, Text, Configuration, Local, Choice, Sight, sight, byte_of, class_of, counts, Item, plain_run, part, item_length, item_at, is_special, plain_length, code_span_at, autolink_at, escape_at, if_on, or_else, text_byte, bytes_of, item_events, text_before_rows, tries, spans_code, links_by_itself, escapes}
+use Rattle.mdconstructs_text.proofs.Prelude.{at-front, ◌≡◌, ℕ, ◌+◌, ◌∷◌, ◌++◌, [], List, Bool, true, false, refl, sym, ◌∙◌, ap, subst, Option, Some, None, length, take, drop, slice_get, ◌==◌, ◌||◌, Constructs, Event, Name, Next, Retry, TextBefore, TextBeforeData, Seat, Nothing, Byte, Attempt, Given, Text, Configuration, Local, Choice, Sight, sight, byte_of, class_of, counts, Item, plain_run, part, item_length, item_at, is_special, plain_length, code_span_at, autolink_at, escape_at, if_on, or_else, text_byte, bytes_of, item_events, text_before_rows, tries}
 use Rattle.mdconstructs_text.proofs.Texts.Steps.{Leads, between_items, leads-byte, leads-seen, leads-tested, before_class, waiting_class}
 use Rattle.mdconstructs_text.proofs.Texts.LineEndings.{Adds, nowhere}
 use Rattle.mdconstructs_text.proofs.Plain.Classes.{plain-class}
@@ -82,7 +82,7 @@ module _ (g : Given) (text : Text) where
       from-byte p ended events local s (s ∷ ss) (plain_of (s ∷ ss)) (at-front text.seats p s ss here) read.0 read.1 (λ es h. comes es (read.2 es h))
 
   -- a construct that was tried is read, or data is
-  pub from-tried : (p : ℕ) (ended : Bool) (events : List Event) (local : Local Unit Unit) (s : Seat) (ss : List Seat) → drop p text.seats ≡ s ∷ ss → (o : Option Item)
+  from-tried : (p : ℕ) (ended : Bool) (events : List Event) (local : Local Unit Unit) (s : Seat) (ss : List Seat) → drop p text.seats ≡ s ∷ ss → (o : Option Item)
       → Tried p ended events local (s ∷ ss) o → Adds g text p ended events local (s ∷ ss) (or_else o (plain_of (s ∷ ss)))
   from-tried p ended events local s ss here (Some item) taken = from-byte p ended events local s (s ∷ ss) item (at-front text.seats p s ss here) taken.0 taken.1 taken.2
   from-tried p ended events local s ss here None refused =
@@ -107,28 +107,11 @@ module _ (g : Given) (text : Text) where
       → Leads g text (between_items p Byte ended events local) [] (Retry TextBefore) (between_items p Byte ended events (counts local)) (outer p ended events ∷ []) (Retry name)
   leads-tried test name p ended events local rows on es = leads-tested g text test text_before_rows (between_items p Byte ended events local) [] TextBefore es refl rows on refl
 
-  -- if that construct is off, data is read
-  untried-data : (test : Given → Sight → Configuration Unit Unit → Bool) (name : Name) (p : ℕ) (ended : Bool) (events : List Event) (local : Local Unit Unit) (s : Seat) (ss : List Seat)
+  -- a construct at a byte that may begin it: it is read if it is on and there, and else data is
+  pub from-construct : (test : Given → Sight → Configuration Unit Unit → Bool) (name : Name) (p : ℕ) (ended : Bool) (events : List Event) (local : Local Unit Unit) (s : Seat) (ss : List Seat)
       → drop p text.seats ≡ s ∷ ss → text_before_rows (before_class g text p) (waiting_class g text p) ≡ tries test name
-      → (let k = between_items p Byte ended events (counts local) in test g (sight g text k) k ≡ false)
-      → Adds g text p ended events local (s ∷ ss) (plain_of (s ∷ ss))
-  untried-data test name p ended events local s ss here rows off =
-      from-data p ended events local s ss here (counts local) (λ es. leads-tested g text test text_before_rows (between_items p Byte ended events local) [] TextBefore es refl rows off refl)
-
-  -- code spans
-  pub from-untried-code : (p : ℕ) (ended : Bool) (events : List Event) (local : Local Unit Unit) (s : Seat) (ss : List Seat) → drop p text.seats ≡ s ∷ ss → s.byte ≡ 96
-      → g.options.constructs.code_text ≡ false → Adds g text p ended events local (s ∷ ss) (plain_of (s ∷ ss))
-  from-untried-code p ended events local s ss here is off =
-      untried-data spans_code RawTextStart p ended events local s ss here (byte-rows p 96 s (at-front text.seats p s ss here) is) off
-
-  -- autolinks
-  pub from-untried-link : (p : ℕ) (ended : Bool) (events : List Event) (local : Local Unit Unit) (s : Seat) (ss : List Seat) → drop p text.seats ≡ s ∷ ss → s.byte ≡ 60
-      → g.options.constructs.autolink ≡ false → Adds g text p ended events local (s ∷ ss) (plain_of (s ∷ ss))
-  from-untried-link p ended events local s ss here is off =
-      untried-data links_by_itself AutolinkStart p ended events local s ss here (byte-rows p 60 s (at-front text.seats p s ss here) is) off
-
-  -- escapes
-  pub from-untried-escape : (p : ℕ) (ended : Bool) (events : List Event) (local : Local Unit Unit) (s : Seat) (ss : List Seat) → drop p text.seats ≡ s ∷ ss → s.byte ≡ 92
-      → g.options.constructs.character_escape ≡ false → Adds g text p ended events local (s ∷ ss) (plain_of (s ∷ ss))
-  from-untried-escape p ended events local s ss here is off =
-      untried-data escapes CharacterEscapeStart p ended events local s ss here (byte-rows p 92 s (at-front text.seats p s ss here) is) off
+      → (on : Bool) → (let k = between_items p Byte ended events (counts local) in test g (sight g text k) k ≡ on) → (o : Option Item) → (on ≡ true → Tried p ended events local (s ∷ ss) o)
+      → Adds g text p ended events local (s ∷ ss) (or_else (if_on on o) (plain_of (s ∷ ss)))
+  from-construct test name p ended events local s ss here rows true picks o tried = from-tried p ended events local s ss here o (tried refl)
+  from-construct test name p ended events local s ss here rows false picks o tried =
+      from-data p ended events local s ss here (counts local) (λ es. leads-tested g text test text_before_rows (between_items p Byte ended events local) [] TextBefore es refl rows picks refl)

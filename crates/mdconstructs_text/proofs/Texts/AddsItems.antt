@@ -1,8 +1,8 @@
 -- Each item is read, with its events.
-use Rattle.mdconstructs_text.proofs.Prelude.{◌≡◌, ℕ, ◌∷◌, List, Bool, true, false, refl, sym, subst, drop, ◌==◌, eqb-true, Event, Seat, Given, Text, Local, item_at, code_span_at, if_on, or_else, bytes_of, IsText, is_special}
+use Rattle.mdconstructs_text.proofs.Prelude.{◌≡◌, ℕ, ◌∷◌, List, Bool, true, false, refl, sym, subst, drop, ◌==◌, eqb-true, Event, Seat, Given, Text, Local, item_at, code_span_at, bytes_of, IsText, is_special, spans_code, RawTextStart, at-front}
 use Rattle.mdconstructs_text.proofs.Texts.LineEndings.{Adds, adds-line-ending}
 use Rattle.mdconstructs_text.proofs.Texts.Whole.{AddsItem}
-use Rattle.mdconstructs_text.proofs.Plain.Items.{plain_of, tick-at, plain-at, from-tried, from-plain, from-untried-code}
+use Rattle.mdconstructs_text.proofs.Plain.Items.{tick-at, plain-at, from-plain, byte-rows, from-construct}
 use Rattle.mdconstructs_text.proofs.Plain.Backslashes.{adds-backslash}
 use Rattle.mdconstructs_text.proofs.Autolinks.Items.{adds-less}
 use Rattle.mdconstructs_text.proofs.Autolinks.Places.{text-joined}
@@ -14,13 +14,9 @@ module _ (g : Given) (text : Text) (is-text : IsText g text) where
   adds-tick : (p : ℕ) (ended : Bool) (events : List Event) (local : Local Unit Unit) (s : Seat) (ss : List Seat) → drop p text.seats ≡ s ∷ ss → s.byte ≡ 96
       → Adds g text p ended events local (s ∷ ss) (item_at g.options.constructs (bytes_of (s ∷ ss)))
   adds-tick p ended events local s ss here is =
-      let on = g.options.constructs.code_text in
-      let o = code_span_at (bytes_of (s ∷ ss)) in
       subst (Adds g text p ended events local (s ∷ ss)) (sym (tick-at g.options.constructs s.byte (bytes_of ss) is))
-      (elim on as (λ t. on ≡ t → Adds g text p ended events local (s ∷ ss) (or_else (if_on t o) (plain_of (s ∷ ss)))) [
-        | true ↦ λ h. from-tried g text p ended events local s ss here o (tries-code-span g text (runs-of-text g text is-text) p ended events local s ss here is h)
-        | false ↦ λ h. from-untried-code g text p ended events local s ss here is h
-      ] refl)
+      (from-construct g text spans_code RawTextStart p ended events local s ss here (byte-rows g text p 96 s (at-front text.seats p s ss here) is) g.options.constructs.code_text refl (code_span_at (bytes_of (s ∷ ss)))
+      (tries-code-span g text (runs-of-text g text is-text) p ended events local s ss here is))
 
   -- any other byte is, by what it may begin
   pub adds-item : AddsItem g text

@@ -1,5 +1,5 @@
 -- How the machine of texts reads on, in small steps: to come to these events it is enough to come to them from further on.
-use Rattle.mdconstructs_text.proofs.Prelude.{◌≡◌, ℕ, ◌+◌, ◌<◌, ◌∷◌, ◌++◌, [], List, Bool, cond, Option, ap, length, slice_get, lt-ltb, Event, Name, State, Next, Retry, Ok, Nok, Waits, Nothing, Byte, End, Given, Text, Configuration, Local, Choice, Step, Sight, sight, byte_of, seat_before, Reading, EndsIn, fed, settled_at, settled-ok-ends, Rows, when, with_local, counts, subst, sym, ◌∙◌, Some, true, false, Seat, slice_get_within, class_of, picked, step_of, TextByte, text_byte, text_rules}
+use Rattle.mdconstructs_text.proofs.Prelude.{◌≡◌, ℕ, ◌<◌, ◌∷◌, ◌++◌, [], List, Bool, cond, Option, ap, length, slice_get, lt-ltb, Event, Name, State, Next, Retry, Ok, Nok, Waits, Nothing, Byte, End, Given, Text, Configuration, Local, Choice, Step, Sight, sight, byte_of, seat_before, Reading, EndsIn, fed, settled_at, settled-ok-ends, Rows, when, with_local, counts, subst, sym, ◌∙◌, Some, true, false, Seat, slice_get_within, class_of, picked, step_of, TextByte, text_byte, text_rules}
 use Rattle.markdown_base.specs.declared.event.Name.{Name as EventName}
 use Rattle.mdconstructs_machines.proofs.LineReads.Steps.{held, leads-called as line-called, leads-fed as line-fed, leads-nok as line-nok}
 use Rattle.mdconstructs_machines.proofs.LineReads.Rows.{row_step}

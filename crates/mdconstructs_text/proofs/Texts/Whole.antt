@@ -1,5 +1,5 @@
 -- The main induction: if each item is read with its events, the whole text is.
-use Rattle.mdconstructs_text.proofs.Prelude.{◌≡◌, ℕ, zero, suc, ◌+◌, ◌-◌, ◌<◌, ◌≤◌, ◌∷◌, ◌++◌, [], List, Bool, true, refl, sym, ◌∙◌, ap, subst, arith, length, take, drop, append-nil, append_assoc, drop-drop, flat_map, Constructs, Event, Next, TextBefore, Seat, Nothing, End, Given, Text, Local, counts, item_length, item_at, bytes_of, cut, item_events, seat_events, goes-next}
+use Rattle.mdconstructs_text.proofs.Prelude.{◌≡◌, ℕ, zero, suc, ◌+◌, ◌<◌, ◌≤◌, ◌∷◌, ◌++◌, [], List, Bool, true, refl, sym, ◌∙◌, ap, subst, arith, length, take, drop, append-nil, append_assoc, drop-drop, flat_map, Constructs, Event, Next, TextBefore, Seat, Nothing, End, Given, Text, Local, counts, item_length, item_at, bytes_of, cut, item_events, seat_events, goes-next}
 use Rattle.mdconstructs_text.proofs.Texts.Cutting.{drop-less}
 use Rattle.mdconstructs_text.proofs.Texts.Steps.{EndsWith, Leads, between_items, leads-called, text_step}
 use Rattle.mdconstructs_machines.proofs.LineReads.Steps.{ended as ended-so}

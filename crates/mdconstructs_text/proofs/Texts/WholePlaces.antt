@@ -42,25 +42,17 @@ module _ (g : Given) (document : IsDocument g) where
   abbrev pub place : ℕ → Point
   place p = end_place (whole_text g) p
 
-  -- it is a place of the document, and shown
-  of-seat : (o : Option Seat) (q : ℕ) → slice_get seats q ≡ o → IsPointOf g.tab g.bytes (end_or (point 1 1 0 0) o)
-  of-seat None q e = (whole-is-text g document).starts
-  of-seat (Some s) q e = end-of-is-point g.tab g.bytes some s (get-among seats q s e)
-
-  pub place-is-point : (p : ℕ) → IsPointOf g.tab g.bytes (place p)
-  place-is-point zero = (whole-is-text g document).starts
-  place-is-point (suc q) = of-seat (slice_get seats q) q refl
-
   first-shown : IsShown g.bytes (point 1 1 0 0)
   first-shown = (chain-at g.tab g.bytes (point 1 1 0 0) seats (whole-chain g.tab g.bytes some)).shown
 
-  of-seat-shown : (o : Option Seat) (q : ℕ) → slice_get seats q ≡ o → IsShown g.bytes (end_or (point 1 1 0 0) o)
-  of-seat-shown None q e = first-shown
-  of-seat-shown (Some s) q e = let among = get-among seats q s e in after-shown g.tab g.bytes some among.front s among.back among.splits
+  -- it is a place of the document, and shown
+  of-seat : (o : Option Seat) (q : ℕ) → slice_get seats q ≡ o → IsPointOf g.tab g.bytes (end_or (point 1 1 0 0) o) × IsShown g.bytes (end_or (point 1 1 0 0) o)
+  of-seat None q e = ((whole-is-text g document).starts, first-shown)
+  of-seat (Some s) q e = let among = get-among seats q s e in (end-of-is-point g.tab g.bytes some s among, after-shown g.tab g.bytes some among.front s among.back among.splits)
 
-  pub place-shown : (p : ℕ) → IsShown g.bytes (place p)
-  place-shown zero = first-shown
-  place-shown (suc q) = of-seat-shown (slice_get seats q) q refl
+  place-stands : (p : ℕ) → IsPointOf g.tab g.bytes (place p) × IsShown g.bytes (place p)
+  place-stands zero = ((whole-is-text g document).starts, first-shown)
+  place-stands (suc q) = of-seat (slice_get seats q) q refl
 
   end-shown : IsShown g.bytes (document_end g.tab g.bytes)
   end-shown = (chain-split g.tab g.bytes (point 1 1 0 0) seats [] (subst (IsChain g.tab g.bytes (point 1 1 0 0)) (sym (append-nil seats)) (whole-chain g.tab g.bytes some))).shown
@@ -89,21 +81,21 @@ module _ (g : Given) (document : IsDocument g) where
   -- the place of an enter, whatever waits, is a place of the document
   here-of : (p : ℕ) (o : Option Seat) → slice_get seats p ≡ o → IsPointOf g.tab g.bytes (shown g.bytes (point_or (document_end g.tab g.bytes) o))
   here-of p None e = subst (IsPointOf g.tab g.bytes) (sym end-shown) (end-is-point g.tab g.bytes)
-  here-of p (Some s) e = subst (IsPointOf g.tab g.bytes) (sym (seat-shown p s e)) (place-is-point p)
+  here-of p (Some s) e = subst (IsPointOf g.tab g.bytes) (sym (seat-shown p s e)) (place-stands p).0
 
   pub here-is-point : (p : ℕ) (w : Waits) → IsPointOf g.tab g.bytes (shown g.bytes (point_of (whole_text g) p w))
-  here-is-point p Nothing = subst (IsPointOf g.tab g.bytes) (sym (place-shown p)) (place-is-point p)
+  here-is-point p Nothing = subst (IsPointOf g.tab g.bytes) (sym (place-stands p).1) (place-stands p).0
   here-is-point p Byte = here-of p (slice_get seats p) refl
   here-is-point p End = subst (IsPointOf g.tab g.bytes) (sym end-shown) (end-is-point g.tab g.bytes)
 
   pub behind-is-point : (p : ℕ) → IsPointOf g.tab g.bytes (shown g.bytes (place p))
-  behind-is-point p = subst (IsPointOf g.tab g.bytes) (sym (place-shown p)) (place-is-point p)
+  behind-is-point p = subst (IsPointOf g.tab g.bytes) (sym (place-stands p).1) (place-stands p).0
 
   next-of-seat : (p : ℕ) (o : Option Seat) → slice_get seats p ≡ o → IsPointOf g.tab g.bytes (shown g.bytes (end_or (document_end g.tab g.bytes) o))
   next-of-seat p None e = subst (IsPointOf g.tab g.bytes) (sym end-shown) (end-is-point g.tab g.bytes)
   next-of-seat p (Some s) e =
-      let is : shown g.bytes s.end ≡ place (suc p) = ap (shown g.bytes) (sym (next-place p s e)) ∙ place-shown (suc p) ∙ refl in
-      subst (IsPointOf g.tab g.bytes) (sym is) (place-is-point (suc p))
+      let is : shown g.bytes s.end ≡ place (suc p) = ap (shown g.bytes) (sym (next-place p s e)) ∙ (place-stands (suc p)).1 ∙ refl in
+      subst (IsPointOf g.tab g.bytes) (sym is) (place-stands (suc p)).0
 
   pub next-is-point : (p : ℕ) (w : Waits) → IsPointOf g.tab g.bytes (shown g.bytes (next_place (whole_text g) p w))
   next-is-point p Nothing = behind-is-point p
@@ -124,7 +116,7 @@ module _ (g : Given) (document : IsDocument g) where
       let one : suc p ≡ p + 1 = omega arith in
       record {
         here = ap (λ o. shown g.bytes (point_or (document_end g.tab g.bytes) o)) e ∙ seat-shown p s e;
-        next = ap (λ o. shown g.bytes (end_or (document_end g.tab g.bytes) o)) e ∙ ap (shown g.bytes) (sym (next-place p s e)) ∙ place-shown (suc p) ∙ ap place one;
+        next = ap (λ o. shown g.bytes (end_or (document_end g.tab g.bytes) o)) e ∙ ap (shown g.bytes) (sym (next-place p s e)) ∙ (place-stands (suc p)).1 ∙ ap place one;
         line_begins = λ ten. subst (λ n. (place n).column ≡ 1) one (line-begins p s e (same ∙ ten));
         line_goes_on = λ other. subst (λ n. (place n).line ≡ (place p).line) one (line-goes-on p s e (ap (λ n. n == 10) same ∙ other));
       }
