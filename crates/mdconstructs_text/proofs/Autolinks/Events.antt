@@ -1,17 +1,11 @@
 -- The events that the machine of texts makes of an autolink are the item's.
-use Rattle.mdconstructs_text.proofs.Prelude.{at-front, ◌≡◌, ℕ, suc, ◌+◌, ◌<◌, ◌∷◌, ◌++◌, [], List, false, refl, sym, ◌∙◌, ap, Option, Some, None, arith, length, take, drop, slice_get, ◌==◌, take_at, drop_at, length-take-le, slice_get_within, between_is, between, drop-next, end-after-one, Event, Enter, Exit, Autolink, AutolinkMarker, AutolinkProtocol, Point, shown, Seat, end_after, Given, Text, point_or, end_or, end_place, autolink, event, leaf, item_events, take-suc, get_or_from_slice_get}
+use Rattle.mdconstructs_text.proofs.Prelude.{at-front, ◌≡◌, ℕ, suc, ◌+◌, ◌<◌, ◌∷◌, ◌++◌, [], List, false, sym, ◌∙◌, ap, Some, arith, length, take, drop, slice_get, ◌==◌, take_at, drop_at, length-take-le, slice_get_within, between_is, between, drop-next, end-after-one, Event, Enter, Exit, Autolink, AutolinkMarker, AutolinkProtocol, shown, Seat, end_after, Given, Text, point_or, end_place, autolink, event, leaf, item_events, take-suc, get_or_from_slice_get, append_assoc}
 use Rattle.mdconstructs_text.proofs.Plain.Stretches.{get-drop, leaf-read}
 use Rattle.mdconstructs_text.proofs.Autolinks.Steps.{begun_link, ended_link}
 
 -- A virtual byte that is no line ending ends where the next is shown: gaps are only at the starts of lines
 abbrev pub IsJoined : Given → Text → Type 0
 IsJoined g text = (p : ℕ) (s r : Seat) → slice_get text.seats p ≡ Some s → slice_get text.seats (p + 1) ≡ Some r → (s.byte == 10) ≡ false → shown g.bytes s.end ≡ shown g.bytes r.point
-
--- eight events, one after another
-eight : (es : List Event) (a b c d e f g h : Event)
-    → (((((((es ++ a ∷ []) ++ b ∷ []) ++ c ∷ []) ++ d ∷ []) ++ e ∷ []) ++ f ∷ []) ++ g ∷ []) ++ h ∷ [] ≡ es ++ a ∷ b ∷ c ∷ d ∷ e ∷ f ∷ g ∷ h ∷ []
-eight [] a b c d e f g h = refl
-eight (x ∷ es) a b c d e f g h = ap (λ l. x ∷ l) (eight es a b c d e f g h)
 
 -- the events of an autolink, by its first virtual byte, its last, and those between them
 spelled : (bytes : List ℕ) (n : ℕ) (s x : Seat) (xs : List Seat) → length xs ≡ n
@@ -30,17 +24,6 @@ spelled bytes n s x xs size =
     ∷ ((leaf bytes AutolinkMarker (s ∷ []) ++ (leaf bytes AutolinkProtocol xs ++ leaf bytes AutolinkMarker (x ∷ []))) ++ event bytes Exit Autolink e ∷ [])) (end-after-one s.end xs x)
 
 module _ (g : Given) (text : Text) where
-  -- the event at the start of a span
-  abbrev entered_at : Point → Event
-  entered_at place = record { kind = Enter; name = AutolinkProtocol; point = place; link = None }
-
-  -- the events, as they are made
-  abbrev made : List Event → Option Seat → Event → Event → Option Seat → List Event
-  made events o enters exits o' = events
-      ++ event g.bytes Enter Autolink (point_or text.end o) ∷ event g.bytes Enter AutolinkMarker (point_or text.end o) ∷ event g.bytes Exit AutolinkMarker (end_or text.end o)
-      ∷ enters ∷ exits
-      ∷ event g.bytes Enter AutolinkMarker (point_or text.end o') ∷ event g.bytes Exit AutolinkMarker (end_or text.end o') ∷ event g.bytes Exit Autolink (end_or text.end o') ∷ []
-
   -- The events that an autolink leaves are the item's
   pub link-events : IsJoined g text → (events : List Event) (p n : ℕ) (s r x : Seat) (rs : List Seat) → drop p text.seats ≡ s ∷ r ∷ rs → (s.byte == 10) ≡ false → 0 < n
       → slice_get text.seats (p + 1 + n) ≡ Some x → ended_link g text (begun_link g text events p) (p + 1 + n) ≡ events ++ item_events g.bytes (autolink n, take (n + 2) (s ∷ r ∷ rs))
@@ -59,9 +42,10 @@ module _ (g : Given) (text : Text) where
       let two_more : n + 2 ≡ suc (suc n) = omega arith in
       let all : take (n + 2) (s ∷ ss) ≡ s ∷ (take n ss ++ x ∷ []) = ap (λ k. take k (s ∷ ss)) two_more ∙ ap (λ l. s ∷ l) (take-suc ss n x within ∙ ap (λ y. take n ss ++ y ∷ []) (get_or_from_slice_get ss n x x last)) in
       let item = ap (λ l. item_events g.bytes (autolink n, l)) all ∙ spelled g.bytes n s x (take n ss) size in
-      eight events _ _ _ _ _ _ _ _
-      ∙ ap (λ o. made events o (event g.bytes Enter AutolinkProtocol (end_or text.end o)) exits (slice_get text.seats q)) at
-      ∙ ap (λ o. made events (Some s) (event g.bytes Enter AutolinkProtocol s.end) exits o) at_x
-      ∙ ap (λ e. made events (Some s) (entered_at e) exits (Some x)) (joined p s r at at_r plain)
+      let joins = joined p s r at at_r plain in
+      let made : ended_link g text (begun_link g text events p) q
+      ≡ events ++ event g.bytes Enter Autolink s.point ∷ event g.bytes Enter AutolinkMarker s.point ∷ event g.bytes Exit AutolinkMarker s.end ∷ event g.bytes Enter AutolinkProtocol r.point ∷ exits
+      ∷ event g.bytes Enter AutolinkMarker x.point ∷ event g.bytes Exit AutolinkMarker x.end ∷ event g.bytes Exit Autolink x.end ∷ [] = simp (at, at_x, joins, append_assoc) in
+      made
       ∙ ap (λ l. events ++ event g.bytes Enter Autolink s.point ∷ ((leaf g.bytes AutolinkMarker (s ∷ []) ++ (l ++ leaf g.bytes AutolinkMarker (x ∷ []))) ++ event g.bytes Exit Autolink x.end ∷ [])) protocol
       ∙ ap (λ es. events ++ es) (sym item)

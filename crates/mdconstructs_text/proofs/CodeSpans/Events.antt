@@ -8,8 +8,7 @@ use Rattle.mdconstructs_text.proofs.CodeSpans.Cuts.{cut_pieces}
 
 -- lists of events, one after another
 joined : (es : List Event) (a : Event) (l1 p l2 : List Event) (z : Event) → ((es ++ a ∷ l1) ++ p) ++ (l2 ++ z ∷ []) ≡ es ++ a ∷ ((l1 ++ (p ++ l2)) ++ z ∷ [])
-joined [] a l1 p l2 z = ap (λ l. a ∷ l) (sym (append_assoc (l1 ++ p) l2 (z ∷ [])) ∙ ap (λ l. l ++ z ∷ []) (append_assoc l1 p l2))
-joined (x ∷ es) a l1 p l2 z = ap (λ l. x ∷ l) (joined es a l1 p l2 z)
+joined es a l1 p l2 z = simp append_assoc
 
 -- the parts of a code span: its backtick strings, and what is between them
 module _ (k m : ℕ) (l : List Seat) where
