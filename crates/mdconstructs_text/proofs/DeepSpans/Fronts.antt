@@ -1,5 +1,5 @@
 -- The leading events up to a place.
-use Rattle.mdconstructs_text.proofs.Prelude.{◌≡◌, ◌∷◌, ◌++◌, [], List, Bool, true, false, cond, not, refl, sym, ◌∙◌, ap, subst, length, drop, AllByRecursion, append-nil, take_while-cons, Event, Point, stands_before, front_until, joined-parts}
+use Rattle.mdconstructs_text.proofs.Prelude.{◌≡◌, ◌∷◌, ◌++◌, [], List, true, false, cond, not, refl, sym, ◌∙◌, ap, subst, length, drop, AllByRecursion, append-nil, take_while-cons, Event, Point, stands_before, front_until, joined-parts}
 
 -- the event is not behind the place
 abbrev pub Upto : Point → Event → Type 0
@@ -22,11 +22,10 @@ module _ (end : Point) where
   -- what is in front is up to the place
   pub front-upto : (es : List Event) → AllByRecursion (Upto end) (front_until end es)
   front-upto [] = tt
-  front-upto (e ∷ es) = by (stands_before end e.point) refl (front-upto es)
-    where
-      by : (b : Bool) → stands_before end e.point ≡ b → AllByRecursion (Upto end) (front_until end es) → AllByRecursion (Upto end) (front_until end (e ∷ es))
-      by true h more = subst (AllByRecursion (Upto end)) (sym (front-none e es h)) tt
-      by false h more = subst (AllByRecursion (Upto end)) (sym (front-cons e es ∙ ap (λ b. cond (not b) (e ∷ front_until end es) []) h)) (h, more)
+  front-upto (e ∷ es) = elim (stands_before end e.point) as (λ b. stands_before end e.point ≡ b → AllByRecursion (Upto end) (front_until end (e ∷ es))) [
+    | true ↦ λ h. subst (AllByRecursion (Upto end)) (sym (front-none e es h)) tt
+    | false ↦ λ h. subst (AllByRecursion (Upto end)) (sym (front-cons e es ∙ ap (λ b. cond (not b) (e ∷ front_until end es) []) h)) (h, front-upto es)
+  ] refl
 
   -- and the rest is behind it
   pub front-and-rest : (es : List Event) → front_until end es ++ drop (length (front_until end es)) es ≡ es

@@ -114,10 +114,8 @@ module _ (bytes : List ℕ) where
       let first = take t l in
       let middle = between t (t + p) l in
       let last = drop (t + p) l in
-      let first_is : first ≡ take t seats = take-take t (t + p + t) seats (omega arith) in
-      let last_is : last ≡ take t (drop (t + p) seats) = drop-take (t + p) t seats in
-      let opens : OneLine first = plain-line first (subst NoEnding (sym first_is) opening) in
-      let closes : OneLine last = plain-line last (subst NoEnding (sym last_is) closing) in
+      let opens : OneLine first = plain-line first (subst NoEnding (sym (take-take t (t + p + t) seats (omega arith))) opening) in
+      let closes : OneLine last = plain-line last (subst NoEnding (sym (drop-take (t + p) t seats)) closing) in
       let inside = flat_map (part_events bytes CodeTextData) (pieces middle) in
       let all : first ++ (middle ++ last) ≡ l = in-three t p l in
       let es = leaf bytes CodeTextSequence first ++ (inside ++ leaf bytes CodeTextSequence last) in

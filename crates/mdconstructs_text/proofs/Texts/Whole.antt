@@ -1,8 +1,9 @@
 -- The main induction: if each item is read with its events, the whole text is.
 use Rattle.mdconstructs_text.proofs.Prelude.{◌≡◌, ℕ, zero, suc, ◌+◌, ◌<◌, ◌≤◌, ◌∷◌, ◌++◌, [], List, Bool, true, refl, sym, ◌∙◌, ap, subst, arith, length, take, drop, append-nil, append_assoc, drop-drop, flat_map, Constructs, Event, Next, TextBefore, Seat, Nothing, End, Given, Text, Local, counts, item_length, item_at, bytes_of, cut, item_events, seat_events, goes-next}
 use Rattle.mdconstructs_text.proofs.Texts.Cutting.{drop-less}
-use Rattle.mdconstructs_text.proofs.Texts.Steps.{EndsWith, Leads, between_items, leads-called, text_step}
+use Rattle.mdconstructs_text.proofs.Texts.Steps.{EndsWith, between_items, leads-called, text_step}
 use Rattle.mdconstructs_machines.proofs.LineReads.Steps.{ended as ended-so}
+use Rattle.mdconstructs_text.proofs.Texts.LineEndings.{Adds}
 
 -- each item is at least a byte
 abbrev pub ItemsArePositive : Constructs → Type 0
@@ -12,15 +13,7 @@ module _ (g : Given) (text : Text) where
   -- One item: from before it, with nothing waiting, to behind it, with its events
   abbrev pub AddsItem : Type 0
   AddsItem = (p : ℕ) (ended : Bool) (events : List Event) (local : Local Unit Unit) (s : Seat) (ss : List Seat) → drop p text.seats ≡ s ∷ ss
-      → let item = item_at g.options.constructs (bytes_of (s ∷ ss)) in
-      (ended_after : Bool) × (after : Local Unit Unit)
-      × Leads g text (between_items p Nothing ended events local) [] (Next TextBefore)
-      (between_items (p + item_length item) Nothing ended_after (events ++ item_events g.bytes (item, take (item_length item) (s ∷ ss))) after) [] (Next TextBefore)
-
-  -- The main law: from any place between items with nothing waiting, the machine adds the events of what is left
-  abbrev pub ReadsText : Type 0
-  ReadsText = (p : ℕ) (ended : Bool) (events : List Event) (local : Local Unit Unit) → p ≤ length text.seats
-      → EndsWith g text (between_items p Nothing ended events local) [] (Next TextBefore) (events ++ seat_events g.options.constructs g.bytes (drop p text.seats))
+      → Adds g text p ended events local (s ∷ ss) (item_at g.options.constructs (bytes_of (s ∷ ss)))
 
   -- nothing is left: it ends, with no event more
   none-left : (p : ℕ) (ended : Bool) (events : List Event) (local : Local Unit Unit) → drop p text.seats ≡ [] → EndsWith g text (between_items p Nothing ended events local) [] (Next TextBefore) (events ++ [])
@@ -47,5 +40,7 @@ module _ (g : Given) (text : Text) where
       (subst (λ es. EndsWith g text (between_items (p + size) Nothing added.0 (events ++ one) added.1) [] (Next TextBefore) es) (append_assoc events one others)
       (from-items adds positive n (p + size) added.0 (events ++ one) added.1 (drop size (s ∷ ss)) behind (omega (arith, less, h))))
 
-  pub reads-text : AddsItem → ItemsArePositive g.options.constructs → ReadsText
+  -- The main law: from any place between items with nothing waiting, the machine adds the events of what is left
+  pub reads-text : AddsItem → ItemsArePositive g.options.constructs → (p : ℕ) (ended : Bool) (events : List Event) (local : Local Unit Unit) → p ≤ length text.seats
+      → EndsWith g text (between_items p Nothing ended events local) [] (Next TextBefore) (events ++ seat_events g.options.constructs g.bytes (drop p text.seats))
   reads-text adds positive p ended events local h = from-items adds positive (length (drop p text.seats)) p ended events local (drop p text.seats) refl (omega arith)
