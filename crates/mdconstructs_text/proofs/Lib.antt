@@ -1,10 +1,10 @@
+pub mod Examples
+pub mod NoRefusals
 pub mod Autolinks
 pub mod CodeSpans
 pub mod DeepSpans
 pub mod Escapes
-pub mod Examples
-pub mod NoRefusals
-pub mod Paragraphs
 pub mod Plain
-pub mod Prelude
+pub mod Paragraphs
+mod Prelude
 pub mod Texts
