@@ -19,8 +19,8 @@ pub use Rattle.markdown_tokenizer.proofs.Positions
 pub use Rattle.markdown_tokenizer.proofs.Inside
 pub use Rattle.markdown_tokenizer.proofs.Readings
 pub use Rattle.markdown_tokenizer.proofs.Runs
-pub use Rattle.markdown_children.proofs.Examples
 pub use Rattle.markdown_children.proofs.ChainOrder
+pub use Rattle.markdown_children.proofs.ChildReads
+pub use Rattle.markdown_children.proofs.Examples
 pub use Rattle.markdown_children.proofs.Parts
 pub use Rattle.markdown_children.proofs.Ready
-pub use Rattle.markdown_children.proofs.ChildReads

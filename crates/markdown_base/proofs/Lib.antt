@@ -6,7 +6,7 @@ pub mod EqualityLemmas
 pub mod LineLemmas
 pub mod OpenEvents
 pub mod PointAt
-pub mod Prelude
+mod Prelude
 pub mod Scans
 pub mod Seats
 pub mod SliceLemmas

@@ -2,5 +2,5 @@ pub mod ChainOrder
 pub mod ChildReads
 pub mod Examples
 pub mod Parts
-pub mod Prelude
+mod Prelude
 pub mod Ready

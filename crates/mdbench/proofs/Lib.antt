@@ -1,2 +1,2 @@
 mod Insertions
-pub mod Prelude
+mod Prelude

@@ -1,7 +1,7 @@
-pub use Rattle.mdconstructs_tables.proofs.LinkShapes
-pub use Rattle.mdconstructs_tables.proofs.Markers
 pub use Rattle.mdconstructs_tables.proofs.GrowingTexts
 pub use Rattle.mdconstructs_tables.proofs.KeptByReading
+pub use Rattle.mdconstructs_tables.proofs.LinkShapes
+pub use Rattle.mdconstructs_tables.proofs.Markers
 pub use Rattle.mdconstructs_tables.proofs.Rows
 pub use Rattle.mdconstructs_tables.proofs.Tables
 pub use Rattle.mdconstructs_machines.proofs.BlockReads
@@ -9,9 +9,9 @@ pub use Rattle.mdconstructs_machines.proofs.Innermost
 pub use Rattle.mdconstructs_machines.proofs.LineExamples
 pub use Rattle.mdconstructs_machines.proofs.LineReads
 pub use Rattle.mdconstructs_machines.proofs.Mapped
+pub use Rattle.mdconstructs_machines.proofs.NoRefusals
 pub use Rattle.mdconstructs_machines.proofs.ParagraphExamples
 pub use Rattle.mdconstructs_machines.proofs.RowSteps
-pub use Rattle.mdconstructs_machines.proofs.NoRefusals
 pub use Rattle.mdconstructs_machines.proofs.Unfit
 pub use Rattle.mdconstructs_text.proofs.Examples
 pub use Rattle.mdconstructs_text.proofs.NoRefusals as TextNoRefusals

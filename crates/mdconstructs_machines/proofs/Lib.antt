@@ -6,6 +6,6 @@ pub mod LineReads
 pub mod Mapped
 pub mod NoRefusals
 pub mod ParagraphExamples
-pub mod Prelude
+mod Prelude
 pub mod RowSteps
 pub mod Unfit

@@ -2,6 +2,6 @@ pub mod GrowingTexts
 pub mod KeptByReading
 pub mod LinkShapes
 pub mod Markers
-pub mod Prelude
+mod Prelude
 pub mod Rows
 pub mod Tables

@@ -2,4 +2,4 @@ pub mod Blocks
 pub mod DeepEvents
 pub mod OptionWords
 pub mod Pairs
-pub mod Prelude
+mod Prelude

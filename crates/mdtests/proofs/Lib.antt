@@ -1,2 +1,2 @@
 pub mod Found
-pub mod Prelude
+mod Prelude
