@@ -1,4 +1,5 @@
-pub mod Positions
 pub mod Inside
+pub mod Positions
+pub mod Prelude
 pub mod Readings
 pub mod Runs

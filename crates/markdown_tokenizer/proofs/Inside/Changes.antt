@@ -1,40 +1,12 @@
 -- Each call that changes a text, the events or the choices of a tokenizer keeps what holds of its fields.
-use Rattle.std.specs.List.{AllByRecursion}
-use Rattle.std.proofs.Common.{◌≡◌, ℕ, zero, suc, ◌≤◌, inl, inr, ◌<◌, List, [], ◌∷◌, ◌++◌, Bool, true, false, cond, Option, Some, None, length, refl, sym, ap, ◌∙◌, subst, arith, take}
-use Rattle.std.specs.Prelude.{map, option_map, option_and_then, reverse, IfSome, unwrap_or}
-use Rattle.std.proofs.lemmas.List.{take_all}
-use Rattle.markdown_base.specs.declared.event.Point.{Point}
-use Rattle.markdown_base.specs.declared.event.Event.{Event}
-use Rattle.markdown_base.specs.declared.event.Link.{Link}
+use Rattle.markdown_tokenizer.proofs.Prelude.{AllByRecursion, ◌≡◌, ℕ, zero, suc, ◌≤◌, inl, inr, ◌<◌, List, [], ◌∷◌, ◌++◌, Bool, true, false, cond, Option, Some, None, length, refl, sym, ap, ◌∙◌, subst, arith, take, map, option_map, option_and_then, reverse, IfSome, unwrap_or, take_all, Point, Event, Link, ParseOptions, Seat, point, shown, stands_before, is_upto, denotes_same, IsPointOf, point_at, Waits, Nothing, Byte, End, Reading, AttemptKind, GoesOn, KeptChoice, Progress, Inside, Given, Text, Piece, pushed, passed, IsDocument, IsText, CanFollow, FitsAfter, followed_by, followed_by_all, empty_text, Choice, extended, resumed, IsSkip, IsReadyAt, tab_of, seen, text_within, end_point, seats_between, position_from, standing, reach, can_feed, choice_of, IsReadTo, ByteWaits, IsWhatWaits, IsProgress, AreNested, events_of, stack_of, IsSound, IsPlace, IsSeatAt, is_after_pair, IsMade, with_ends, unlinked, HasFrontUpToLinkEnds, linked_to, updated_at, next_set, previous_set, with_next, with_previous, length-map, stands-self}
 use Rattle.markdown_base.specs.declared.event.Name.{Name}
-use Rattle.markdown_base.specs.declared.configuration.ParseOptions.{ParseOptions}
-use Rattle.markdown_base.specs.Virtual.{Seat, point}
-use Rattle.markdown_base.specs.Places.{shown, stands_before, is_upto, denotes_same, IsPointOf, point_at}
-use Rattle.markdown_tokenizer.specs.declared.waiting.Waits.{Waits}
-use Rattle.markdown_tokenizer.specs.declared.waiting.Waits.TheVariants.{Nothing, Byte, End}
-use Rattle.markdown_tokenizer.specs.declared.waiting.Phase.TheVariants.{Reading}
-use Rattle.markdown_tokenizer.specs.declared.waiting.AttemptKind.{AttemptKind}
-use Rattle.markdown_tokenizer.specs.declared.waiting.GoesOn.{GoesOn}
-use Rattle.markdown_tokenizer.specs.declared.waiting.KeptChoice.{KeptChoice}
-use Rattle.markdown_tokenizer.specs.declared.waiting.Progress.{Progress}
-use Rattle.markdown_tokenizer.specs.declared.tokenizer.Tokenizer.TheInside.{Inside}
-use Rattle.markdown_tokenizer.specs.Text.{Given, Text, Piece, pushed, passed, IsDocument, IsText, CanFollow, FitsAfter, followed_by, followed_by_all, empty_text}
-use Rattle.markdown_tokenizer.specs.Configuration.{Choice}
-use Rattle.markdown_tokenizer.specs.Work.{extended}
-use Rattle.markdown_tokenizer.specs.Gaps.{resumed, IsSkip, IsReadyAt}
-use Rattle.markdown_tokenizer.specs.View.{tab_of, seen, text_within, end_point, seats_between, position_from, standing, reach, can_feed, choice_of, IsReadTo, ByteWaits, IsWhatWaits, IsProgress, AreNested, events_of, stack_of, IsSound}
-use Rattle.markdown_tokenizer.specs.Cursor.{IsPlace, IsSeatAt, is_after_pair}
 use Rattle.markdown_tokenizer.proofs.Positions.Standing.{shown-shown, place-of-point}
 use Rattle.markdown_tokenizer.proofs.Positions.Order.{after-before}
 use Rattle.markdown_tokenizer.proofs.Positions.Gaps.{same-not_before, other-before, skips-earlier}
 use Rattle.markdown_tokenizer.proofs.Positions.Cursors.{upto-order, upto-upto, same-upto}
 use Rattle.markdown_tokenizer.proofs.Positions.Points.{point_at-point, point_at-is}
-use Rattle.markdown_tokenizer.specs.Made.{IsMade}
 use Rattle.markdown_tokenizer.proofs.Inside.Made.{made-new, made-bound, made-linked, made-kept}
-use Rattle.markdown_base.specs.Events.{with_ends, unlinked, HasFrontUpToLinkEnds}
-use Rattle.markdown_edits.specs.Links.{linked_to, updated_at, next_set, previous_set, with_next, with_previous}
-use Rattle.std.proofs.lemmas.List.{length-map}
-use Rattle.markdown_base.proofs.Seats.{stands-self}
 use Rattle.markdown_tokenizer.proofs.Inside.Fields.{wide_of, text_between, next-more, kept-empty, passed-seats, passed-position, passed-skips, read-passed, passed-shown, passed-resumed, still-before, read-extended, extended-seats, extended-skips, extended-more, made-more, can-feed-more, nested-map, nested-wider}
 use Rattle.markdown_tokenizer.proofs.Inside.Steps.{end-place-in}
 

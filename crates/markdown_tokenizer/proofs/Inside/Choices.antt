@@ -1,20 +1,5 @@
 -- A choice begins.
-use Rattle.std.proofs.Common.{◌≡◌, ℕ, ◌<◌, List, [], ◌∷◌, ◌++◌, Bool, true, false, cond, Option, Some, None, length, refl, ap, arith, take}
-use Rattle.std.specs.Prelude.{map, reverse, nat_lt}
-use Rattle.std.proofs.lemmas.Bool.Decides.{nat_tests}
-use Rattle.std.proofs.lemmas.List.{take_all}
-use Rattle.markdown_tokenizer.specs.declared.waiting.AttemptKind.{AttemptKind}
-use Rattle.markdown_tokenizer.specs.declared.waiting.GoesOn.{GoesOn}
-use Rattle.markdown_tokenizer.specs.declared.waiting.KeptChoice.{KeptChoice}
-use Rattle.markdown_tokenizer.specs.declared.waiting.Progress.{Progress}
-use Rattle.markdown_tokenizer.specs.declared.tokenizer.Tokenizer.TheInside.{Inside}
-use Rattle.markdown_tokenizer.specs.Configuration.{Choice}
-use Rattle.markdown_base.specs.declared.event.Point.{Point}
-use Rattle.markdown_base.specs.Places.{shown}
-use Rattle.markdown_tokenizer.specs.declared.waiting.Waits.{Waits}
-use Rattle.markdown_tokenizer.specs.declared.waiting.Waits.TheVariants.{Nothing, Byte, End}
-use Rattle.markdown_tokenizer.specs.Made.{IsMade}
-use Rattle.markdown_tokenizer.specs.View.{tab_of, seen, text_within, state_of, choice_at, choice_of, position_from, standing, reach, can_feed, IsWhatWaits, IsProgress, AreNested, IsSound}
+use Rattle.markdown_tokenizer.proofs.Prelude.{◌≡◌, ℕ, ◌<◌, List, [], ◌∷◌, ◌++◌, Bool, true, false, cond, Option, Some, None, length, refl, ap, arith, take, map, reverse, nat_lt, nat_tests, take_all, AttemptKind, GoesOn, KeptChoice, Progress, Inside, Choice, Point, shown, Waits, Nothing, Byte, End, IsMade, tab_of, seen, text_within, state_of, choice_at, choice_of, position_from, standing, reach, can_feed, IsWhatWaits, IsProgress, AreNested, IsSound}
 use Rattle.markdown_tokenizer.proofs.Inside.Fields.{wide_of, next-more, made-more, or-true}
 use Rattle.markdown_tokenizer.proofs.Inside.Unwinding.{reverse-last}
 

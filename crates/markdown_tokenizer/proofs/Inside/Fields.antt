@@ -1,27 +1,6 @@
 -- What the steps of the code do to the fields of a tokenizer, and what that means.
-use Rattle.std.specs.List.{AllByRecursion}
-use Rattle.std.proofs.Common.{◌≡◌, ℕ, zero, suc, ◌≤◌, ◌<◌, List, [], ◌∷◌, ◌++◌, Bool, true, false, Option, Some, None, length, refl, sym, ap, ◌∙◌, subst, arith, add-one, ◌⊎◌, inl, inr, take, length-append}
-use Rattle.std.specs.Prelude.{slice_get, reverse, IfSome, filter, nat_lt, ◌||◌}
-use Rattle.std.proofs.lemmas.Bool.Decides.{nat_tests}
-use Rattle.std.proofs.lemmas.Option.{slice_get_within}
-use Rattle.std.proofs.lemmas.List.Elements.{filter-append}
-use Rattle.markdown_base.specs.declared.event.Event.{Event}
+use Rattle.markdown_tokenizer.proofs.Prelude.{AllByRecursion, ◌≡◌, ℕ, zero, suc, ◌≤◌, ◌<◌, List, [], ◌∷◌, ◌++◌, Bool, true, false, Option, Some, None, length, refl, sym, ap, ◌∙◌, subst, arith, add-one, ◌⊎◌, inl, inr, take, length-append, slice_get, reverse, IfSome, filter, nat_lt, ◌||◌, nat_tests, slice_get_within, filter-append, Event, Point, Seat, virtual, shown, stands_before, is_upto, denotes_same, IsPointOf, get-front, Waits, Nothing, Byte, End, Inside, Text, in_range, seat_before, byte_of, end_or, is_kept, resumed, IsSkip, IsMade, tab_of, text_within, seats_between, position_from, reach, can_feed, IsReadTo, IsWhatWaits, IsProgress, AreNested, events_of, stack_of, IsSound, KeptChoice, Progress, IsPlace, IsSeatAt, rest_at}
 use Rattle.markdown_base.specs.declared.event.Name.{Name}
-use Rattle.markdown_base.specs.declared.event.Point.{Point}
-use Rattle.markdown_base.specs.Virtual.{Seat, virtual}
-use Rattle.markdown_base.specs.Places.{shown, stands_before, is_upto, denotes_same, IsPointOf}
-use Rattle.markdown_base.proofs.Common.{get-front}
-use Rattle.markdown_tokenizer.specs.declared.waiting.Waits.{Waits}
-use Rattle.markdown_tokenizer.specs.declared.waiting.Waits.TheVariants.{Nothing, Byte, End}
-use Rattle.markdown_tokenizer.specs.declared.tokenizer.Tokenizer.TheInside.{Inside}
-use Rattle.markdown_tokenizer.specs.Text.{Text, in_range}
-use Rattle.markdown_tokenizer.specs.Sight.{seat_before, byte_of, end_or}
-use Rattle.markdown_tokenizer.specs.Gaps.{is_kept, resumed, IsSkip}
-use Rattle.markdown_tokenizer.specs.Made.{IsMade}
-use Rattle.markdown_tokenizer.specs.View.{tab_of, text_within, seats_between, position_from, reach, can_feed, IsReadTo, IsWhatWaits, IsProgress, AreNested, events_of, stack_of, IsSound}
-use Rattle.markdown_tokenizer.specs.declared.waiting.KeptChoice.{KeptChoice}
-use Rattle.markdown_tokenizer.specs.declared.waiting.Progress.{Progress}
-use Rattle.markdown_tokenizer.specs.Cursor.{IsPlace, IsSeatAt, rest_at}
 use Rattle.markdown_tokenizer.proofs.Positions.Order.{after-before}
 use Rattle.markdown_tokenizer.proofs.Positions.Seats.{rest-later}
 use Rattle.markdown_tokenizer.proofs.Positions.Standing.{seat-begins, place-of-point, next-begins, end-seat-place, shown-shown}

@@ -1,41 +1,9 @@
 -- Choices end, and what they go on with is fed: what that does to the fields of a tokenizer, and what it means.
-use Rattle.std.proofs.Common.{◌≡◌, ◌==◌, ℕ, ◌≤◌, ◌<◌, List, [], ◌∷◌, ◌++◌, Bool, true, false, cond, Option, Some, None, length, refl, sym, ap, ◌∙◌, subst, arith, take, length-take, ◌⊎◌, inl, inr}
-use Rattle.std.specs.Prelude.{map, reverse, IfSome, IsSome, unwrap_or, nat_lt, Result}
-use Rattle.std.specs.Global.{Vec}
+use Rattle.markdown_tokenizer.proofs.Prelude.{◌≡◌, ◌==◌, ℕ, ◌≤◌, ◌<◌, List, [], ◌∷◌, ◌++◌, Bool, true, false, cond, Option, Some, None, length, refl, sym, ap, ◌∙◌, subst, arith, take, length-take, ◌⊎◌, inl, inr, map, reverse, IfSome, IsSome, unwrap_or, nat_lt, Result, Vec, nat_tests, take-take, take_all, lt-ltb, le-ltb, Event, Kind, Enter, Exit, Point, State, Next, Ok, Nok, open_events, shown, stands-self, AttemptKind, Attempt, Check, GoesOn, KeptChoice, Other, Progress, Waits, Nothing, Byte, End, Reading, Inside, Configuration, Choice, Saved, Step, Local, TokenizerValue, at_configuration, fed, unfed, restored, settled_at, settled_all, settled_to, answer_of, answer_in, EndsClosed, TakesUp, continuation_of, saved_for, ended_by, Unwinding, unwinding, unwound, resumed, IsReadyAt, IsMade, last_kind, IsNextByte, tab_of, seen, text_within, state_of, choice_of, saved_of, position_from, standing, reach, can_feed, ByteWaits, IsWhatWaits, IsProgress, AreNested, events_of, stack_of, IsSound}
 use Rattle.std.specs.declared.result.Result.TheVariants as result
-use Rattle.std.proofs.lemmas.Bool.Decides.{nat_tests}
-use Rattle.std.proofs.lemmas.List.{take-take, take_all}
-use Rattle.std.proofs.lemmas.Bool.{lt-ltb, le-ltb}
-use Rattle.markdown_base.specs.declared.event.Event.{Event}
-use Rattle.markdown_base.specs.declared.event.Kind.{Kind}
-use Rattle.markdown_base.specs.declared.event.Kind.TheVariants.{Enter, Exit}
 use Rattle.markdown_base.specs.declared.event.Name.{Name}
-use Rattle.markdown_base.specs.declared.event.Point.{Point}
 use Rattle.markdown_base.specs.declared.state.Name.{Name as StateName}
-use Rattle.markdown_base.specs.declared.state.State.{State}
-use Rattle.markdown_base.specs.declared.state.State.TheVariants.{Next, Ok, Nok}
-use Rattle.markdown_base.specs.Events.{open_events}
-use Rattle.markdown_base.specs.Places.{shown}
-use Rattle.markdown_base.proofs.Seats.{stands-self}
-use Rattle.markdown_tokenizer.specs.declared.waiting.AttemptKind.{AttemptKind}
-use Rattle.markdown_tokenizer.specs.declared.waiting.AttemptKind.TheVariants.{Attempt, Check}
-use Rattle.markdown_tokenizer.specs.declared.waiting.GoesOn.{GoesOn}
 use Rattle.markdown_tokenizer.specs.declared.waiting.GoesOn.TheVariants as continuation
-use Rattle.markdown_tokenizer.specs.declared.waiting.KeptChoice.{KeptChoice}
-use Rattle.markdown_tokenizer.specs.declared.waiting.Moves.TheVariants.{Other}
-use Rattle.markdown_tokenizer.specs.declared.waiting.Progress.{Progress}
-use Rattle.markdown_tokenizer.specs.declared.waiting.Waits.{Waits}
-use Rattle.markdown_tokenizer.specs.declared.waiting.Waits.TheVariants.{Nothing, Byte, End}
-use Rattle.markdown_tokenizer.specs.declared.waiting.Phase.TheVariants.{Reading}
-use Rattle.markdown_tokenizer.specs.declared.tokenizer.Tokenizer.TheInside.{Inside}
-use Rattle.markdown_tokenizer.specs.Configuration.{Configuration, Choice, Saved, Step, Local, TokenizerValue, at_configuration}
-use Rattle.markdown_tokenizer.specs.Reading.{fed, unfed, restored, settled_at}
-use Rattle.markdown_tokenizer.specs.Work.{settled_all, settled_to, answer_of, answer_in, EndsClosed, TakesUp}
-use Rattle.markdown_tokenizer.specs.Unwound.{continuation_of, saved_for, ended_by, Unwinding, unwinding, unwound}
-use Rattle.markdown_tokenizer.specs.Gaps.{resumed, IsReadyAt}
-use Rattle.markdown_tokenizer.specs.Made.{IsMade, last_kind}
-use Rattle.markdown_tokenizer.specs.Cursor.{IsNextByte}
-use Rattle.markdown_tokenizer.specs.View.{tab_of, seen, text_within, state_of, choice_of, saved_of, position_from, standing, reach, can_feed, ByteWaits, IsWhatWaits, IsProgress, AreNested, events_of, stack_of, IsSound}
 use Rattle.markdown_tokenizer.proofs.Inside.Fields.{wide_of, looks, next-more, next-past, next-none-left, nested-map, nested-wider, nested-front}
 use Rattle.markdown_tokenizer.proofs.Inside.Steps.{before-end}
 use Rattle.markdown_tokenizer.proofs.Inside.Spans.{same-choices}

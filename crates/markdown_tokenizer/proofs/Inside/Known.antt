@@ -1,17 +1,5 @@
 -- What is known of the next byte, call by call.
-use Rattle.std.proofs.Common.{◌≡◌, ◌≢◌, ℕ, suc, ◌+◌, ◌*◌, ◌≤◌, ◌<◌, ◌==◌, List, length, false, refl, arith, inl, inr}
-use Rattle.std.specs.Prelude.{◌^◌, nat_lt, ◌&&◌, ◌||◌}
-use Rattle.std.proofs.Math.Nat.{mul-le-mul_left, mul-le-mul_right, mul-suc}
-use Rattle.std.proofs.lemmas.Bool.Decides.{nat_tests}
-use Rattle.markdown_base.specs.declared.event.Point.{Point}
-use Rattle.markdown_base.specs.Virtual.{IsWithinLimit}
-use Rattle.markdown_tokenizer.specs.declared.waiting.Waits.{Waits}
-use Rattle.markdown_tokenizer.specs.declared.waiting.Waits.TheVariants.{Byte}
-use Rattle.markdown_tokenizer.specs.declared.waiting.Moves.{Moves}
-use Rattle.markdown_tokenizer.specs.declared.waiting.Moves.TheVariants.{Plain, Other}
-use Rattle.markdown_tokenizer.specs.Cursor.{IsPlace, CanMove, moved, IsQuick}
-use Rattle.markdown_tokenizer.specs.Gaps.{resumed, IsReadyAt}
-use Rattle.markdown_tokenizer.specs.View.{IsKnown}
+use Rattle.markdown_tokenizer.proofs.Prelude.{◌≡◌, ◌≢◌, ℕ, suc, ◌+◌, ◌*◌, ◌≤◌, ◌<◌, ◌==◌, List, length, false, refl, arith, inl, inr, ◌^◌, nat_lt, ◌&&◌, ◌||◌, mul-le-mul_left, mul-le-mul_right, mul-suc, nat_tests, Point, IsWithinLimit, Waits, Byte, Moves, Plain, Other, IsPlace, CanMove, moved, IsQuick, resumed, IsReadyAt, IsKnown}
 use Rattle.markdown_tokenizer.proofs.Positions.Order.{not-number}
 
 -- a gap begins only at the beginning of a line

@@ -1,24 +1,7 @@
 -- What a tokenizer keeps of its events, call by call.
-use Rattle.std.proofs.Common.{◌≡◌, ℕ, zero, suc, ◌+◌, ◌-◌, ◌≤◌, Bool, true, false, cond, List, [], ◌∷◌, ◌++◌, Option, Some, None, length, take, map, reverse, get_or, refl, sym, ◌∙◌, ap, subst, arith, ◌⊎◌, inl, inr}
-use Rattle.std.specs.Prelude.{slice_get, All, AllPairs}
-use Rattle.std.specs.List.{last_or}
-use Rattle.std.proofs.lemmas.List.{reverse-append, take-map, map-append, length-map, get_or_append_left, get_or_push, length_push, take_at, take-take, length-append}
-use Rattle.std.proofs.Math.ListN.{get_or-map}
-use Rattle.std.proofs.lemmas.List.Elements.{All-nil, All-push, All-weaker}
-use Rattle.std.proofs.lemmas.List.Quantifiers.{all_pairs_push}
-use Rattle.markdown_base.specs.declared.event.Event.{Event}
-use Rattle.markdown_base.specs.declared.event.Kind.{Kind}
-use Rattle.markdown_base.specs.declared.event.Kind.TheVariants.{Enter, Exit}
-use Rattle.markdown_base.specs.declared.event.Link.{Link}
+use Rattle.markdown_tokenizer.proofs.Prelude.{◌≡◌, ℕ, zero, suc, ◌+◌, ◌-◌, ◌≤◌, Bool, true, false, cond, List, [], ◌∷◌, ◌++◌, Option, Some, None, length, take, map, reverse, get_or, refl, sym, ◌∙◌, ap, subst, arith, ◌⊎◌, inl, inr, slice_get, All, AllPairs, last_or, reverse-append, take-map, map-append, length-map, get_or_append_left, get_or_push, length_push, take_at, take-take, get_or-map, All-nil, All-push, All-weaker, all_pairs_push, Event, Kind, Enter, Exit, Link, Point, IsBalanced, empty, span, is_void, open_after, open_events, open_events_from, same_name, unlinked, HasFrontUpToLinkEnds, IsInOrder, IsVoidTight, stands_before, IsShown, open_events_from-unlinked, stands-self, names_after, names_after_all, names_after_all-append, same_name-refl, balanced_from_open, none_is_not_some, names-none, IsMade, VoidExitsFollow, last_kind}
+use Rattle.std.proofs.lemmas.List.{length-append}
 use Rattle.markdown_base.specs.declared.event.Name.{Name}
-use Rattle.markdown_base.specs.declared.event.Point.{Point}
-use Rattle.markdown_base.specs.Events.{IsBalanced, empty, span, is_void, open_after, open_events, open_events_from, same_name, unlinked, HasFrontUpToLinkEnds, IsInOrder, IsVoidTight}
-use Rattle.markdown_base.specs.Places.{stands_before, IsShown}
-use Rattle.markdown_base.proofs.OpenEvents.{open_events_from-unlinked}
-use Rattle.markdown_base.proofs.Seats.{stands-self}
-use Rattle.markdown_edits.specs.OpenNames.{names_after, names_after_all}
-use Rattle.markdown_edits.proofs.Balanced.{names_after_all-append, same_name-refl, balanced_from_open, none_is_not_some, names-none}
-use Rattle.markdown_tokenizer.specs.Made.{IsMade, VoidExitsFollow, last_kind}
 use Rattle.markdown_tokenizer.proofs.Positions.Order.{after-before, later-later}
 
 -- ---- orders of places

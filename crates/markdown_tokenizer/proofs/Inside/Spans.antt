@@ -1,29 +1,8 @@
 -- A span begins or ends: the fields of a tokenizer keep what holds of them.
-use Rattle.std.proofs.Common.{◌≡◌, ℕ, suc, ◌-◌, ◌≤◌, ◌<◌, List, [], ◌∷◌, ◌++◌, Bool, Option, Some, None, length, refl, sym, ap, ◌∙◌, subst, arith, length-append, take, length-take}
-use Rattle.std.specs.Prelude.{map, reverse, IfSome, All}
-use Rattle.std.proofs.lemmas.List.{take-append-le, take-take}
-use Rattle.markdown_base.specs.declared.event.Point.{Point}
-use Rattle.markdown_base.specs.declared.event.Event.{Event}
-use Rattle.markdown_base.specs.declared.event.Link.{Link}
+use Rattle.markdown_tokenizer.proofs.Prelude.{◌≡◌, ℕ, suc, ◌-◌, ◌≤◌, ◌<◌, List, [], ◌∷◌, ◌++◌, Bool, Option, Some, None, length, refl, sym, ap, ◌∙◌, subst, arith, length-append, take, length-take, map, reverse, IfSome, All, take-append-le, take-take, Point, Event, Link, Enter, Exit, shown, Waits, Nothing, Byte, End, Reading, AttemptKind, GoesOn, KeptChoice, Progress, Inside, Choice, CanExit, resumed, tab_of, seen, text_within, position_from, standing, choice_of, saved_of, IsProgress, AreNested, events_of, stack_of, IsSound, IsMade, sight}
 use Rattle.markdown_base.specs.declared.event.Name.{Name}
-use Rattle.markdown_base.specs.declared.event.Kind.TheVariants.{Enter, Exit}
-use Rattle.markdown_base.specs.Places.{shown}
-use Rattle.markdown_tokenizer.specs.declared.waiting.Waits.{Waits}
-use Rattle.markdown_tokenizer.specs.declared.waiting.Waits.TheVariants.{Nothing, Byte, End}
-use Rattle.markdown_tokenizer.specs.declared.waiting.Phase.TheVariants.{Reading}
-use Rattle.markdown_tokenizer.specs.declared.waiting.AttemptKind.{AttemptKind}
-use Rattle.markdown_tokenizer.specs.declared.waiting.GoesOn.{GoesOn}
-use Rattle.markdown_tokenizer.specs.declared.waiting.KeptChoice.{KeptChoice}
-use Rattle.markdown_tokenizer.specs.declared.waiting.Progress.{Progress}
-use Rattle.markdown_tokenizer.specs.declared.tokenizer.Tokenizer.TheInside.{Inside}
-use Rattle.markdown_tokenizer.specs.Configuration.{Choice}
-use Rattle.markdown_tokenizer.specs.Calls.{CanExit}
-use Rattle.markdown_tokenizer.specs.Gaps.{resumed}
-use Rattle.markdown_tokenizer.specs.View.{tab_of, seen, text_within, position_from, standing, choice_of, saved_of, IsProgress, AreNested, events_of, stack_of, IsSound}
-use Rattle.markdown_tokenizer.specs.Made.{IsMade}
 use Rattle.markdown_tokenizer.proofs.Inside.Made.{made-enter-at, made-exit-at}
 use Rattle.markdown_tokenizer.proofs.Inside.Fields.{nested-map, nested-wider}
-use Rattle.markdown_tokenizer.specs.Sight.{sight}
 use Rattle.markdown_tokenizer.proofs.Inside.Steps.{here-is, after_previous-is}
 
 -- what choices saved, as a list of choices, with another stack that has the same front

@@ -1,37 +1,12 @@
 -- Each call on a tokenizer keeps what holds of its fields, and does what its contract says.
-use Rattle.std.proofs.Common.{Bool, ◌≡◌, ◌≢◌, ℕ, ◌≤◌, ◌<◌, List, [], true, false, Option, Some, None, length, refl, sym, ap, ◌∙◌, subst, add-one, arith, inl, inr}
-use Rattle.std.specs.Prelude.{map}
-use Rattle.std.specs.Bool.{OnTrue}
-use Rattle.std.specs.Option.{is_some}
-use Rattle.std.proofs.lemmas.Bool.{lt-ltb}
-use Rattle.markdown_base.specs.declared.event.Point.{Point}
+use Rattle.markdown_tokenizer.proofs.Prelude.{Bool, ◌≡◌, ◌≢◌, ℕ, ◌≤◌, ◌<◌, List, [], true, false, Option, Some, None, length, refl, sym, ap, ◌∙◌, subst, add-one, arith, inl, inr, map, OnTrue, is_some, lt-ltb, Point, Seat, shown, stands_before, IsShown, open_events, stands-self, Waits, Nothing, Byte, End, Moves, Other, Reading, Inside, at_configuration, sight, byte_of, point_of, current_of, point_or, consumed, fed, IsWellFormed, IsInText, resumed, IsReadyAt, tab_of, seen, text_within, end_point, seats_between, position_from, standing, IsReadTo, ByteWaits, EndWaits, IsWhatWaits, IsKnown, IsSound, IsPlace, IsSeatAt, rest_at, is_before_pair, IsNextByte, CanMove, moved, IsQuick, IsMade}
 use Rattle.markdown_base.specs.declared.event.Name.{Name}
-use Rattle.markdown_base.specs.Virtual.{Seat}
-use Rattle.markdown_base.specs.Places.{shown, stands_before, IsShown}
-use Rattle.markdown_base.specs.Events.{open_events}
-use Rattle.markdown_base.proofs.Seats.{stands-self}
-use Rattle.markdown_tokenizer.specs.declared.waiting.Waits.{Waits}
-use Rattle.markdown_tokenizer.specs.declared.waiting.Waits.TheVariants.{Nothing, Byte, End}
-use Rattle.markdown_tokenizer.specs.declared.waiting.Moves.{Moves}
-use Rattle.markdown_tokenizer.specs.declared.waiting.Moves.TheVariants.{Other}
-use Rattle.markdown_tokenizer.specs.declared.waiting.Phase.TheVariants.{Reading}
-use Rattle.markdown_tokenizer.specs.declared.tokenizer.Tokenizer.TheInside.{Inside}
-use Rattle.markdown_tokenizer.specs.Configuration.{at_configuration}
-use Rattle.markdown_tokenizer.specs.Sight.{sight, byte_of, point_of, current_of, point_or}
-use Rattle.markdown_tokenizer.specs.Calls.{consumed}
-use Rattle.markdown_tokenizer.specs.Reading.{fed}
-use Rattle.markdown_tokenizer.specs.Engine.{IsWellFormed}
-use Rattle.markdown_tokenizer.specs.Work.{IsInText}
-use Rattle.markdown_tokenizer.specs.Gaps.{resumed, IsReadyAt}
-use Rattle.markdown_tokenizer.specs.View.{tab_of, seen, text_within, end_point, seats_between, position_from, standing, IsReadTo, ByteWaits, EndWaits, IsWhatWaits, IsKnown, IsSound}
-use Rattle.markdown_tokenizer.specs.Cursor.{IsPlace, IsSeatAt, rest_at, is_before_pair, IsNextByte, CanMove, moved, IsQuick}
 use Rattle.markdown_tokenizer.proofs.Positions.Order.{later-later}
 use Rattle.markdown_tokenizer.proofs.Positions.Seats.{one-seat}
 use Rattle.markdown_tokenizer.proofs.Positions.TextOrder.{read-shown}
 use Rattle.markdown_tokenizer.proofs.Positions.Standing.{place-of-point, shown-shown, shown-upto, seat-shown, seat-passes}
 use Rattle.markdown_tokenizer.proofs.Positions.Gaps.{IsResumed}
 use Rattle.markdown_tokenizer.proofs.Positions.Points.{point_at-is, shown-line, shown-column, same-numbers}
-use Rattle.markdown_tokenizer.specs.Made.{IsMade}
 use Rattle.markdown_tokenizer.proofs.Inside.Made.{made-consume, made-end}
 use Rattle.markdown_tokenizer.proofs.Inside.Known.{quick-there, known-unfed, known-quick, place-fits, not-before-index}
 use Rattle.markdown_tokenizer.proofs.Inside.Fields.{wide_of, looks, within, next-shown, next-seat, next-more, next-past, next-number, read-next, next-none-left, end-shown, made-later}

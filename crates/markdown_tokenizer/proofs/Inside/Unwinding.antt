@@ -1,13 +1,6 @@
 -- Laws of choices that end.
-use Rattle.std.proofs.Common.{◌≡◌, List, [], ◌∷◌, ◌++◌, refl}
-use Rattle.std.specs.Prelude.{reverse}
-use Rattle.std.proofs.lemmas.List.{reverse-append}
-use Rattle.markdown_base.specs.declared.state.Name.{Name}
-use Rattle.markdown_tokenizer.specs.declared.waiting.GoesOn.{GoesOn}
+use Rattle.markdown_tokenizer.proofs.Prelude.{◌≡◌, List, [], ◌∷◌, ◌++◌, refl, reverse, reverse-append, Name, GoesOn, KeptChoice, Progress, unwinding, unwound}
 use Rattle.markdown_tokenizer.specs.declared.waiting.GoesOn.TheVariants.{Next}
-use Rattle.markdown_tokenizer.specs.declared.waiting.KeptChoice.{KeptChoice}
-use Rattle.markdown_tokenizer.specs.declared.waiting.Progress.{Progress}
-use Rattle.markdown_tokenizer.specs.Unwound.{unwinding, unwound}
 
 -- the last of some choices
 pub reverse-last : (items ms : List KeptChoice) (choice : KeptChoice) → items ≡ ms ++ choice ∷ [] → reverse items ≡ choice ∷ reverse ms

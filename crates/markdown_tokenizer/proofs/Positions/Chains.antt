@@ -1,15 +1,5 @@
 -- The virtual bytes of a document, one after another: each begins at the place where the one before it ends.
-use Rattle.std.proofs.Common.{◌≡◌, ◌≢◌, ℕ, zero, suc, ◌+◌, ◌-◌, ◌%◌, ◌≤◌, ◌<◌, ◌==◌, List, [], ◌∷◌, ◌++◌, Bool, true, false, cond, length, drop, refl, sym, ap, ◌∙◌, subst, arith, add-one, ◌⊎◌, inl, inr}
-use Rattle.std.specs.Prelude.{slice_index, nat_lt, ◌&&◌, ◌||◌}
-use Rattle.std.proofs.lemmas.Bool.Decides.{nat_tests}
-use Rattle.std.proofs.lemmas.Bool.{cases_lt, eqb-true}
-use Rattle.std.proofs.lemmas.List.{drop_all}
-use Rattle.std.proofs.Math.ListN.{get_or-eq_default}
-use Rattle.std.proofs.Math.Nat.{mod-lt, suc-mod, mod_self, mod-eq_of_lt}
-use Rattle.markdown_base.specs.declared.event.Point.{Point}
-use Rattle.markdown_base.specs.Virtual.{Seat, point, tab_width, in_tab, virtual_from, virtual, begins_with_lf, line_feed, other_byte}
-use Rattle.markdown_base.specs.Places.{stands_before, shown, IsShown}
-use Rattle.markdown_tokenizer.specs.Cursor.{rest_at, Bounds, end_at}
+use Rattle.markdown_tokenizer.proofs.Prelude.{◌≡◌, ◌≢◌, ℕ, zero, suc, ◌+◌, ◌-◌, ◌%◌, ◌≤◌, ◌<◌, ◌==◌, List, [], ◌∷◌, ◌++◌, Bool, true, false, cond, length, drop, refl, sym, ap, ◌∙◌, subst, arith, add-one, ◌⊎◌, inl, inr, slice_index, nat_lt, ◌&&◌, ◌||◌, nat_tests, cases_lt, eqb-true, drop_all, get_or-eq_default, mod-lt, suc-mod, mod_self, mod-eq_of_lt, Point, Seat, point, tab_width, in_tab, virtual_from, virtual, begins_with_lf, line_feed, other_byte, stands_before, shown, IsShown, rest_at, Bounds, end_at}
 use Rattle.markdown_tokenizer.proofs.Positions.Order.{is-not, not-number, before-self, below-before, more-before, above-later}
 use Rattle.markdown_tokenizer.proofs.Positions.Seats.{width-pos, drop-at}
 

@@ -1,17 +1,5 @@
 -- Laws of the cursor: what was read and what is left, with the order of places up to CR and LF of one CR LF.
-use Rattle.std.specs.List.{AllByRecursion}
-use Rattle.std.proofs.Common.{◌≡◌, ℕ, ◌<◌, List, [], ◌∷◌, ◌++◌, Bool, true, false, length, refl, sym, ap, ◌∙◌, subst}
-use Rattle.std.specs.Prelude.{filter, slice_get, not, ◌&&◌, ◌||◌}
-use Rattle.std.specs.List.{list_all}
-use Rattle.std.proofs.lemmas.List.Elements.{filter-append}
-use Rattle.std.proofs.lemmas.List.{append-nil}
-use Rattle.std.proofs.lemmas.Bool.{and_parts}
-use Rattle.markdown_base.specs.declared.event.Point.{Point}
-use Rattle.markdown_base.specs.Virtual.{Seat, virtual}
-use Rattle.markdown_base.specs.Places.{stands_before, is_upto, denotes_same}
-use Rattle.markdown_base.proofs.Common.{every-map, every-append, filter-none, or-leads, leads-back}
-use Rattle.markdown_tokenizer.specs.Cursor.{rest_at, IsPlace, IsSeatAt}
-use Rattle.markdown_tokenizer.specs.Text.{in_range}
+use Rattle.markdown_tokenizer.proofs.Prelude.{AllByRecursion, ◌≡◌, ℕ, ◌<◌, List, [], ◌∷◌, ◌++◌, Bool, true, false, length, refl, sym, ap, ◌∙◌, subst, filter, slice_get, not, ◌&&◌, ◌||◌, list_all, filter-append, append-nil, and_parts, Point, Seat, virtual, stands_before, is_upto, denotes_same, every-map, every-append, filter-none, or-leads, leads-back, rest_at, IsPlace, IsSeatAt, in_range}
 use Rattle.markdown_tokenizer.proofs.Positions.Order.{before-self, before-upto, every-both, every-front, every-back, every-all, filter-every, filter-same}
 use Rattle.markdown_tokenizer.proofs.Positions.Seats.{rest-later}
 use Rattle.markdown_tokenizer.proofs.Positions.Standing.{seat-splits, next-begins, seat-rest, seat-passes}

@@ -1,19 +1,10 @@
 -- A document can be cut at every n-th of its virtual bytes.
-use Rattle.std.specs.List.{AllByRecursion}
-use Rattle.std.proofs.Common.{◌≡◌, ℕ, ◌+◌, ◌<◌, List, [], ◌∷◌, true, false, cond, refl, arith, ap}
-use Rattle.std.specs.Prelude.{filter, map}
-use Rattle.std.specs.List.{enumerate_from}
-use Rattle.markdown_base.specs.declared.event.Point.{Point}
-use Rattle.markdown_base.specs.Virtual.{Seat, point, virtual}
-use Rattle.markdown_base.specs.Places.{stands_before, IsPointOf}
-use Rattle.markdown_base.proofs.Common.{every-map}
+use Rattle.markdown_tokenizer.proofs.Prelude.{AllByRecursion, ◌≡◌, ℕ, ◌+◌, ◌<◌, List, [], ◌∷◌, true, false, cond, refl, arith, ap, filter, map, enumerate_from, Point, Seat, point, virtual, stands_before, IsPointOf, every-map, place_of, is_cut, cuts_every, FollowInOrder, AreCuts}
 use Rattle.markdown_tokenizer.proofs.Positions.Order.{after-before, not-before, every-all}
 use Rattle.markdown_tokenizer.proofs.Positions.Standing.{IsAmong}
 use Rattle.markdown_tokenizer.proofs.Positions.SeatLaws.{seat-is-point}
 use Rattle.markdown_tokenizer.proofs.Positions.Points.{point_at-point}
 use Rattle.markdown_tokenizer.proofs.Positions.Cursors.{upto-order}
-use Rattle.markdown_tokenizer.specs.Cuts.{place_of, is_cut, cuts_every}
-use Rattle.markdown_tokenizer.specs.Engine.{FollowInOrder, AreCuts}
 use Rattle.markdown_tokenizer.proofs.Positions.TextOrder.{AreInOrder, Follows, virtual-order}
 
 every-among : (P : Seat → Type 0) (all xs : List Seat) → ((s : Seat) → IsAmong s xs → P s) → AllByRecursion P xs

@@ -1,24 +1,11 @@
 -- Laws about gaps: places in lines and columns, and what a gap leaves to be read.
-use Rattle.std.specs.List.{AllByRecursion}
-use Rattle.std.proofs.Common.{◌≡◌, ℕ, ◌≤◌, ◌<◌, ◌==◌, List, [], ◌∷◌, ◌++◌, Bool, true, false, cond, Option, Some, None, refl, sym, ap, ◌∙◌, subst, arith, ◌⊎◌, inl, inr}
-use Rattle.std.specs.Prelude.{filter, unwrap_or, not, ◌&&◌}
-use Rattle.std.proofs.lemmas.Bool.Decides.{nat_tests}
-use Rattle.std.proofs.lemmas.List.Elements.{filter-append}
-use Rattle.std.proofs.lemmas.List.{append-nil}
-use Rattle.std.proofs.lemmas.Bool.{eqb-true, not-true}
-use Rattle.markdown_base.specs.declared.event.Point.{Point}
-use Rattle.markdown_base.specs.Virtual.{Seat, point, virtual, end_after}
-use Rattle.markdown_base.specs.Places.{stands_before, shown, is_upto, denotes_same}
-use Rattle.markdown_base.proofs.Common.{every-map, every-append, filter-none, leads-back}
-use Rattle.markdown_tokenizer.specs.Cursor.{rest_at, IsPlace, IsSeatAt, goes_on, end_at}
-use Rattle.markdown_tokenizer.specs.Text.{in_range}
+use Rattle.markdown_tokenizer.proofs.Prelude.{AllByRecursion, ◌≡◌, ℕ, ◌≤◌, ◌<◌, ◌==◌, List, [], ◌∷◌, ◌++◌, Bool, true, false, cond, Option, Some, None, refl, sym, ap, ◌∙◌, subst, arith, ◌⊎◌, inl, inr, filter, unwrap_or, not, ◌&&◌, nat_tests, filter-append, append-nil, eqb-true, not-true, Point, Seat, point, virtual, end_after, stands_before, shown, is_upto, denotes_same, every-map, every-append, filter-none, leads-back, rest_at, IsPlace, IsSeatAt, goes_on, end_at, in_range, skip_of, is_kept_by, is_kept, resumed, kept_between, IsSkip, IsOutside}
 use Rattle.markdown_tokenizer.proofs.Positions.Order.{later-later, before-self, is-not, before-upto, upto-before, after-before, every-both, filter-every, filter-same}
 use Rattle.markdown_tokenizer.proofs.Positions.Seats.{rest-later}
 use Rattle.markdown_tokenizer.proofs.Positions.Chains.{IsChain, whole-chain}
 use Rattle.markdown_tokenizer.proofs.Positions.Standing.{next-begins, shown-upto, chain-upto}
 use Rattle.markdown_tokenizer.proofs.Positions.Cursors.{upto-order, upto-self, upto-upto, same-upto, same-back, same-self, left_of, text-splits, range-same, range-empty, Leads, upto-leads, split-every}
 use Rattle.markdown_tokenizer.proofs.Positions.Points.{shown-line, shown-column, same-shown}
-use Rattle.markdown_tokenizer.specs.Gaps.{skip_of, is_kept_by, is_kept, resumed, kept_between, IsSkip, IsOutside}
 use Rattle.markdown_tokenizer.proofs.Positions.Lines.{lies_before, lies-alike, lies-later, LiesIn, StandsBetween, every-kept, every-for, every-given, begins-line, chain-between, way-chain, way-ends, way-none, upto-shown, places-rise, seats-rise}
 
 skip-cases : (P : Point → Type 0) (x : Point) (xs : List Point) (line : ℕ) (p : Point) (b : Bool) → (x.line == line) ≡ b → P x → (skip_of xs line ≡ Some p → (p.line ≡ line) × P p)

@@ -1,16 +1,5 @@
 -- Places in lines and columns, and the virtual bytes between two places.
-use Rattle.std.specs.List.{AllByRecursion}
-use Rattle.std.proofs.Common.{◌≡◌, ℕ, suc, ◌≤◌, ◌<◌, ◌==◌, List, [], ◌∷◌, ◌++◌, Bool, true, false, cond, refl, sym, ap, ◌∙◌, subst, arith, append_assoc, ◌⊎◌, inl, inr}
-use Rattle.std.specs.Prelude.{filter, nat_lt, ◌&&◌, ◌||◌}
-use Rattle.std.proofs.lemmas.Bool.Decides.{nat_tests}
-use Rattle.std.proofs.lemmas.List.Elements.{filter-append}
-use Rattle.std.proofs.lemmas.List.{append-nil, append_cancel_left}
-use Rattle.markdown_base.specs.declared.event.Point.{Point}
-use Rattle.markdown_base.specs.Virtual.{Seat, point, end_after}
-use Rattle.markdown_base.specs.Places.{stands_before, shown, is_upto, denotes_same}
-use Rattle.markdown_base.proofs.Common.{every-map}
-use Rattle.markdown_base.proofs.Seats.{end-after-append}
-use Rattle.markdown_tokenizer.specs.Cursor.{rest_at, IsPlace, goes_on, end_at}
+use Rattle.markdown_tokenizer.proofs.Prelude.{AllByRecursion, ◌≡◌, ℕ, suc, ◌≤◌, ◌<◌, ◌==◌, List, [], ◌∷◌, ◌++◌, Bool, true, false, cond, refl, sym, ap, ◌∙◌, subst, arith, append_assoc, ◌⊎◌, inl, inr, filter, nat_lt, ◌&&◌, ◌||◌, nat_tests, filter-append, append-nil, append_cancel_left, Point, Seat, point, end_after, stands_before, shown, is_upto, denotes_same, every-map, end-after-append, rest_at, IsPlace, goes_on, end_at}
 use Rattle.markdown_tokenizer.proofs.Positions.Order.{later-later, before-self, before-upto, after-before, below-before, more-before, every-both, every-all, filter-every}
 use Rattle.markdown_tokenizer.proofs.Positions.Chains.{Begins, IsChain, whole-chain}
 use Rattle.markdown_tokenizer.proofs.Positions.Standing.{chain-split, chain-upto}

@@ -1,8 +1,5 @@
 -- The order of places, and lists of seats.
-use Rattle.std.specs.List.{AllByRecursion}
-use Rattle.std.proofs.Common.{◌≡◌, ◌≢◌, ℕ, suc, ◌≤◌, ◌<◌, ◌==◌, List, [], ◌∷◌, ◌++◌, Bool, true, false, cond, refl, ap, arith}
-use Rattle.std.specs.Prelude.{filter, nat_lt, ◌&&◌, ◌||◌}
-use Rattle.std.proofs.lemmas.Bool.Decides.{nat_tests}
+use Rattle.markdown_tokenizer.proofs.Prelude.{AllByRecursion, ◌≡◌, ◌≢◌, ℕ, suc, ◌≤◌, ◌<◌, ◌==◌, List, [], ◌∷◌, ◌++◌, Bool, true, false, cond, refl, ap, arith, filter, nat_lt, ◌&&◌, ◌||◌, nat_tests}
 
 pub later-later : (i j m n u v : ℕ) → (nat_lt i m || ((i == m) && nat_lt j n)) ≡ false → (nat_lt m u || ((m == u) && nat_lt n v)) ≡ false → (nat_lt i u || ((i == u) && nat_lt j v)) ≡ false
 later-later i j m n u v h k = grind (arith, nat_tests)

@@ -1,11 +1,5 @@
 -- Places that denote the same are shown alike, and a place has one point.
-use Rattle.std.proofs.Common.{◌≡◌, ℕ, zero, suc, ◌-◌, ◌<◌, ◌==◌, List, [], ◌∷◌, Bool, true, false, cond, Some, refl, sym, ap, ◌∙◌, subst, arith}
-use Rattle.std.specs.Prelude.{nat_lt, ◌&&◌, ◌||◌, find, slice_index, Contains}
-use Rattle.std.proofs.lemmas.Bool.Decides.{nat_tests}
-use Rattle.markdown_base.specs.declared.event.Point.{Point}
-use Rattle.markdown_base.specs.Virtual.{point, end_after}
-use Rattle.markdown_base.specs.Places.{shown, follows_cr, is_upto, denotes_same, IsPointOf, points, point_at}
-use Rattle.markdown_tokenizer.specs.Cursor.{IsPlace}
+use Rattle.markdown_tokenizer.proofs.Prelude.{◌≡◌, ℕ, zero, suc, ◌-◌, ◌<◌, ◌==◌, List, [], ◌∷◌, Bool, true, false, cond, Some, refl, sym, ap, ◌∙◌, subst, arith, nat_lt, ◌&&◌, ◌||◌, find, slice_index, Contains, nat_tests, Point, point, end_after, shown, follows_cr, is_upto, denotes_same, IsPointOf, points, point_at, IsPlace}
 use Rattle.markdown_tokenizer.proofs.Positions.Standing.{place-of-point}
 use Rattle.markdown_tokenizer.proofs.Positions.Cursors.{same-behind, upto-order, upto-same}
 

@@ -1,11 +1,5 @@
 -- The next virtual byte at a place, if the byte at its index tells it.
-use Rattle.std.proofs.Common.{◌≡◌, ◌≢◌, ℕ, ◌≤◌, ◌<◌, List, length, Bool, true, false, cond, Some, refl, sym, ap, ◌∙◌, arith, ◌⊎◌, inl, inr}
-use Rattle.std.specs.Prelude.{slice_index}
-use Rattle.markdown_base.specs.declared.event.Point.{Point}
-use Rattle.markdown_base.specs.Virtual.{Seat}
-use Rattle.markdown_tokenizer.specs.declared.waiting.Moves.{Moves}
-use Rattle.markdown_tokenizer.specs.declared.waiting.Moves.TheVariants.{Plain, Tab, Last}
-use Rattle.markdown_tokenizer.specs.Cursor.{goes_on, IsPlace, IsSeatAt, IsNextSeat, IsQuick, moved}
+use Rattle.markdown_tokenizer.proofs.Prelude.{◌≡◌, ◌≢◌, ℕ, ◌≤◌, ◌<◌, List, length, Bool, true, false, cond, Some, refl, sym, ap, ◌∙◌, arith, ◌⊎◌, inl, inr, slice_index, Point, Seat, Moves, Plain, Tab, Last, goes_on, IsPlace, IsSeatAt, IsNextSeat, IsQuick, moved}
 use Rattle.markdown_tokenizer.proofs.Positions.Order.{not-number}
 use Rattle.markdown_tokenizer.proofs.Positions.Seats.{one-seat, seat-other, seat-in-tab}
 use Rattle.markdown_tokenizer.proofs.Positions.Standing.{end-of-other}

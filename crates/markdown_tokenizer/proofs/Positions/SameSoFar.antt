@@ -1,12 +1,5 @@
 -- A walk over the text decides whether two places denote the same: the bytes so far are before both or before neither.
-use Rattle.std.proofs.Common.{◌≡◌, ℕ, ◌<◌, List, [], ◌∷◌, ◌++◌, Bool, true, false, refl, sym, ap, ◌∙◌, subst}
-use Rattle.std.specs.List.{AllByRecursion}
-use Rattle.std.proofs.lemmas.List.{append-nil}
-use Rattle.markdown_base.specs.declared.event.Point.{Point}
-use Rattle.markdown_base.specs.Virtual.{Seat, virtual}
-use Rattle.markdown_base.specs.Places.{stands_before, denotes_same}
-use Rattle.markdown_base.proofs.Common.{every-map, every-append}
-use Rattle.markdown_tokenizer.specs.Cursor.{rest_at, IsPlace, IsSeatAt}
+use Rattle.markdown_tokenizer.proofs.Prelude.{◌≡◌, ℕ, ◌<◌, List, [], ◌∷◌, ◌++◌, Bool, true, false, refl, sym, ap, ◌∙◌, subst, AllByRecursion, append-nil, Point, Seat, virtual, stands_before, denotes_same, every-map, every-append, rest_at, IsPlace, IsSeatAt}
 use Rattle.markdown_tokenizer.proofs.Positions.Cursors.{Leads, leads-upto, upto-same, same-before}
 use Rattle.markdown_tokenizer.proofs.Positions.Order.{every-back}
 use Rattle.markdown_tokenizer.proofs.Positions.Walks.{IsWalk, walk-place, walk-next}

@@ -1,14 +1,5 @@
 -- Seats of a text, and the points of places at which they begin, are shown and end.
-use Rattle.std.proofs.Common.{◌≡◌, ℕ, zero, suc, ◌<◌, List, [], ◌∷◌, ◌++◌, Some, refl, sym, ap, ◌∙◌, subst, arith, append_assoc}
-use Rattle.std.specs.Prelude.{slice_get, Contains}
-use Rattle.std.specs.List.{flat_map}
-use Rattle.std.proofs.lemmas.List.{append-nil}
-use Rattle.std.proofs.lemmas.Grind.{flat_map-append}
-use Rattle.std.proofs.lemmas.List.Elements.{Contains-append_right}
-use Rattle.markdown_base.specs.declared.event.Point.{Point}
-use Rattle.markdown_base.specs.Virtual.{Seat, point, virtual, end_after, document_end}
-use Rattle.markdown_base.specs.Places.{shown, IsPointOf, points}
-use Rattle.markdown_base.proofs.Seats.{end-after-one}
+use Rattle.markdown_tokenizer.proofs.Prelude.{◌≡◌, ℕ, zero, suc, ◌<◌, List, [], ◌∷◌, ◌++◌, Some, refl, sym, ap, ◌∙◌, subst, arith, append_assoc, slice_get, Contains, flat_map, append-nil, flat_map-append, Contains-append_right, Point, Seat, point, virtual, end_after, document_end, shown, IsPointOf, points, end-after-one}
 use Rattle.markdown_tokenizer.proofs.Positions.Standing.{IsAmong, seat-begins}
 
 -- a seat of a list, and of a filtered list

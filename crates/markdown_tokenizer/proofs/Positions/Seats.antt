@@ -1,16 +1,5 @@
 -- The virtual byte at a place, read from the bytes.
-use Rattle.std.specs.List.{AllByRecursion}
-use Rattle.std.proofs.Common.{◌≡◌, ◌≢◌, ℕ, zero, suc, ◌+◌, ◌-◌, ◌≤◌, ◌<◌, ◌==◌, List, [], ◌∷◌, ◌++◌, Bool, true, false, cond, length, drop, Some, ◌⊎◌, inl, inr, refl, sym, ap, ◌∙◌, arith, drop-cons, add-one, rules}
-use Rattle.std.specs.Prelude.{slice_index, nat_lt, ◌&&◌}
-use Rattle.std.proofs.lemmas.List.{drop_all}
-use Rattle.std.proofs.lemmas.Bool.{ltb-true, lt-ltb, eqb-true, and_parts}
-use Rattle.std.proofs.lemmas.Bool.Decides.{nat_tests}
-use Rattle.std.proofs.Math.Nat.{mod-lt}
-use Rattle.markdown_base.specs.declared.event.Point.{Point}
-use Rattle.markdown_base.specs.Virtual.{Seat, point, tab_width, in_tab, end_in_tab, virtual_from, begins_with_lf}
-use Rattle.markdown_base.specs.Places.{stands_before}
-use Rattle.markdown_base.proofs.Common.{every-map, every-append}
-use Rattle.markdown_tokenizer.specs.Cursor.{rest_at, begins_pair, IsSeatAt, IsNextSeat}
+use Rattle.markdown_tokenizer.proofs.Prelude.{AllByRecursion, ◌≡◌, ◌≢◌, ℕ, zero, suc, ◌+◌, ◌-◌, ◌≤◌, ◌<◌, ◌==◌, List, [], ◌∷◌, ◌++◌, Bool, true, false, cond, length, drop, Some, ◌⊎◌, inl, inr, refl, sym, ap, ◌∙◌, arith, drop-cons, add-one, rules, slice_index, nat_lt, ◌&&◌, drop_all, ltb-true, lt-ltb, eqb-true, and_parts, nat_tests, mod-lt, Point, Seat, point, tab_width, in_tab, end_in_tab, virtual_from, begins_with_lf, stands_before, every-map, every-append, rest_at, begins_pair, IsSeatAt, IsNextSeat}
 use Rattle.markdown_tokenizer.proofs.Positions.Order.{every-cond, not-before, not-before-in, above-later, before-self, eq-zero, is-not, not-number}
 
 -- seats from an index on

@@ -1,12 +1,5 @@
 -- Looking for the gap of a line by halves.
-use Rattle.std.proofs.Common.{◌≡◌, ℕ, zero, suc, ◌≤◌, ◌<◌, ◌==◌, List, [], ◌∷◌, ◌++◌, Bool, true, false, cond, Option, Some, None, length, get_or, refl, sym, ap, ◌∙◌, arith}
-use Rattle.std.specs.List.{AllByRecursion}
-use Rattle.std.specs.List.Sorted.{IsNonDecreasingBy}
-use Rattle.std.specs.Prelude.{slice_get, unwrap_or}
-use Rattle.std.proofs.lemmas.Bool.Decides.{nat_tests}
-use Rattle.std.proofs.lemmas.Option.{slice_get-get_or}
-use Rattle.markdown_base.specs.declared.event.Point.{Point}
-use Rattle.markdown_tokenizer.specs.Gaps.{skip_of, AreSorted}
+use Rattle.markdown_tokenizer.proofs.Prelude.{◌≡◌, ℕ, zero, suc, ◌≤◌, ◌<◌, ◌==◌, List, [], ◌∷◌, ◌++◌, Bool, true, false, cond, Option, Some, None, length, get_or, refl, sym, ap, ◌∙◌, arith, AllByRecursion, IsNonDecreasingBy, slice_get, unwrap_or, nat_tests, slice_get-get_or, Point, skip_of, AreSorted}
 
 not-line : (m n : ℕ) → (m ≡ n → ⊥) → (m == n) ≡ false
 not-line m n h = grind (arith, nat_tests)

@@ -1,18 +1,5 @@
 -- Places of a document: where each virtual byte begins, is shown and ends, and what is left there.
-use Rattle.std.specs.List.{AllByRecursion}
-use Rattle.std.proofs.Common.{◌≡◌, ◌≢◌, ℕ, zero, suc, ◌+◌, ◌-◌, ◌<◌, ◌==◌, List, [], ◌∷◌, ◌++◌, Bool, true, false, cond, refl, sym, ap, ◌∙◌, subst, arith, append_assoc, ◌⊎◌, inl, inr}
-use Rattle.std.specs.Prelude.{slice_index, nat_lt, ◌&&◌, ◌||◌, Contains}
-use Rattle.std.specs.List.{flat_map}
-use Rattle.std.proofs.lemmas.Bool.Decides.{nat_tests}
-use Rattle.std.proofs.lemmas.List.{append-nil}
-use Rattle.std.proofs.lemmas.List.Elements.{Contains-append_cases}
-use Rattle.std.proofs.lemmas.Bool.{eqb-true}
-use Rattle.markdown_base.specs.declared.event.Point.{Point}
-use Rattle.markdown_base.specs.Virtual.{Seat, point, virtual, end_after, document_end}
-use Rattle.markdown_base.specs.Places.{stands_before, shown, follows_cr, IsShown, IsPointOf}
-use Rattle.markdown_base.proofs.Common.{every-map}
-use Rattle.markdown_base.proofs.Seats.{end-after-one}
-use Rattle.markdown_tokenizer.specs.Cursor.{rest_at, IsPlace, IsSeatAt, begins_pair, goes_on, end_at}
+use Rattle.markdown_tokenizer.proofs.Prelude.{AllByRecursion, ◌≡◌, ◌≢◌, ℕ, zero, suc, ◌+◌, ◌-◌, ◌<◌, ◌==◌, List, [], ◌∷◌, ◌++◌, Bool, true, false, cond, refl, sym, ap, ◌∙◌, subst, arith, append_assoc, ◌⊎◌, inl, inr, slice_index, nat_lt, ◌&&◌, ◌||◌, Contains, flat_map, nat_tests, append-nil, Contains-append_cases, eqb-true, Point, Seat, point, virtual, end_after, document_end, stands_before, shown, follows_cr, IsShown, IsPointOf, every-map, end-after-one, rest_at, IsPlace, IsSeatAt, begins_pair, goes_on, end_at}
 use Rattle.markdown_tokenizer.proofs.Positions.Order.{not-number, before-self, later-later, after-before, before-upto}
 use Rattle.markdown_tokenizer.proofs.Positions.Seats.{StandsThere, stands-there}
 use Rattle.markdown_tokenizer.proofs.Positions.Chains.{IsAt, Begins, IsChain, whole-chain, shown-other}

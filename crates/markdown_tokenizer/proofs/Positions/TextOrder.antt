@@ -1,17 +1,5 @@
 -- The virtual bytes of a text are in order: each begins before it ends, and none begins before the previous one ends.
-use Rattle.std.specs.List.{AllByRecursion}
-use Rattle.std.proofs.Common.{◌≡◌, ◌≢◌, ℕ, zero, suc, ◌+◌, ◌<◌, ◌≤◌, List, [], ◌∷◌, ◌++◌, Bool, true, false, cond, Option, Some, None, length, refl, sym, ap, ◌∙◌, subst, arith, inl, inr}
-use Rattle.std.specs.Prelude.{slice_get, slice_index, drop, ◌==◌, nat_lt, not, ◌&&◌, ◌||◌, filter}
-use Rattle.std.proofs.lemmas.Bool.{ltb-true, eqb-true}
-use Rattle.std.proofs.lemmas.Bool.Decides.{nat_tests}
-use Rattle.std.proofs.lemmas.Option.{slice_get_cases}
-use Rattle.markdown_base.specs.declared.event.Point.{Point}
-use Rattle.markdown_base.specs.Virtual.{Seat, point, tab_width, in_tab, end_in_tab, line_feed, other_byte, begins_with_lf, virtual_from, virtual}
-use Rattle.markdown_base.specs.Places.{stands_before, shown, IsShown, is_upto, denotes_same}
-use Rattle.markdown_base.proofs.Common.{every-append, every-map, every-get}
-use Rattle.markdown_tokenizer.specs.declared.waiting.Waits.TheVariants.{Byte}
-use Rattle.markdown_tokenizer.specs.Text.{Given, Text, Piece, pushed, passed, IsText, empty_text, followed_by, followed_by_all, FitsAfter, CanFollow, in_range}
-use Rattle.markdown_tokenizer.specs.Sight.{sight_in, byte_of, seat_before, end_or, end_place}
+use Rattle.markdown_tokenizer.proofs.Prelude.{AllByRecursion, ◌≡◌, ◌≢◌, ℕ, zero, suc, ◌+◌, ◌<◌, ◌≤◌, List, [], ◌∷◌, ◌++◌, Bool, true, false, cond, Option, Some, None, length, refl, sym, ap, ◌∙◌, subst, arith, inl, inr, slice_get, slice_index, drop, ◌==◌, nat_lt, not, ◌&&◌, ◌||◌, filter, ltb-true, eqb-true, nat_tests, slice_get_cases, Point, Seat, point, tab_width, in_tab, end_in_tab, line_feed, other_byte, begins_with_lf, virtual_from, virtual, stands_before, shown, IsShown, is_upto, denotes_same, every-append, every-map, every-get, Byte, Given, Text, Piece, pushed, passed, IsText, empty_text, followed_by, followed_by_all, FitsAfter, CanFollow, in_range, sight_in, byte_of, seat_before, end_or, end_place}
 use Rattle.markdown_tokenizer.proofs.Positions.Order.{before-self, above-later, below-before, more-before, not-before, not-before-in, is-not, after-before, before-upto, upto-before, later-later, every-both, every-all}
 use Rattle.markdown_tokenizer.proofs.Positions.Seats.{virtual-index, tab-index}
 use Rattle.markdown_tokenizer.proofs.Positions.Chains.{shown-other, shown-after}

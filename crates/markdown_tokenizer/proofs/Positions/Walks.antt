@@ -1,21 +1,5 @@
 -- Walks over the virtual bytes of a document, from its start.
-use Rattle.std.proofs.Common.{◌≡◌, ◌≢◌, ℕ, suc, ◌+◌, ◌*◌, ◌%◌, ◌≤◌, ◌<◌, ◌==◌, List, [], ◌∷◌, ◌++◌, Bool, true, false, cond, Option, Some, None, length, refl, sym, ap, ◌∙◌, subst, arith, append_assoc, length-append, ◌⊎◌, inl, inr}
-use Rattle.std.specs.Prelude.{filter, nat_lt, ◌&&◌, ◌||◌, find, map}
-use Rattle.std.specs.List.{flat_map, enumerate_from}
-use Rattle.std.specs.Option.{option_or}
-use Rattle.std.proofs.lemmas.List.{append-nil, map-append}
-use Rattle.std.proofs.lemmas.List.Elements.{filter-append}
-use Rattle.std.proofs.lemmas.List.Folds.{find-append}
-use Rattle.std.proofs.lemmas.Grind.{flat_map-append}
-use Rattle.std.proofs.lemmas.Bool.{cases_lt}
-use Rattle.std.proofs.lemmas.Bool.Decides.{nat_tests}
-use Rattle.std.proofs.Math.Nat.{mul-le-mul_left}
-use Rattle.markdown_base.specs.declared.event.Point.{Point}
-use Rattle.markdown_base.specs.Virtual.{Seat, point, virtual, end_after, document_end}
-use Rattle.markdown_base.specs.Places.{shown, points, point_at}
-use Rattle.markdown_base.proofs.Seats.{end-after-one}
-use Rattle.markdown_tokenizer.specs.Cursor.{rest_at, IsPlace, IsSeatAt, Bounds}
-use Rattle.markdown_tokenizer.specs.Cuts.{place_of, is_cut, cuts_every}
+use Rattle.markdown_tokenizer.proofs.Prelude.{◌≡◌, ◌≢◌, ℕ, suc, ◌+◌, ◌*◌, ◌%◌, ◌≤◌, ◌<◌, ◌==◌, List, [], ◌∷◌, ◌++◌, Bool, true, false, cond, Option, Some, None, length, refl, sym, ap, ◌∙◌, subst, arith, append_assoc, length-append, ◌⊎◌, inl, inr, filter, nat_lt, ◌&&◌, ◌||◌, find, map, flat_map, enumerate_from, option_or, append-nil, map-append, filter-append, find-append, flat_map-append, cases_lt, nat_tests, mul-le-mul_left, Point, Seat, point, virtual, end_after, document_end, shown, points, point_at, end-after-one, rest_at, IsPlace, IsSeatAt, Bounds, place_of, is_cut, cuts_every}
 use Rattle.markdown_tokenizer.proofs.Positions.Order.{upto-before}
 use Rattle.markdown_tokenizer.proofs.Positions.Chains.{IsChain, whole-chain}
 use Rattle.markdown_tokenizer.proofs.Positions.Standing.{place-after, after-rest}

@@ -1,12 +1,6 @@
 -- Laws of readings: a larger bound gives the same, and calls add up.
-use Rattle.std.proofs.Common.{◌≡◌, ℕ, zero, suc, ◌+◌, List, [], ◌∷◌, ◌++◌, refl, sym, ◌∙◌, ap, Option, Some, None, arith, add_assoc, zero-add, suc-add, ◌↔◌}
-use Rattle.markdown_base.specs.declared.state.Name.{Name}
-use Rattle.markdown_base.specs.declared.state.State.{State}
-use Rattle.markdown_base.specs.declared.state.State.TheVariants.{Next, Retry, Ok, Nok, Error}
-use Rattle.markdown_tokenizer.specs.Text.{Given, Text}
-use Rattle.markdown_tokenizer.specs.Configuration.{Configuration, Choice, Step}
-use Rattle.markdown_tokenizer.specs.Sight.{Sight, sight}
-use Rattle.markdown_tokenizer.specs.Reading.{Reading, fed, settled_at, more_calls, settle, after_choices, read_step, read, outcome, EndsIn}
+use Rattle.markdown_tokenizer.proofs.Prelude.{◌≡◌, ℕ, zero, suc, ◌+◌, List, [], ◌∷◌, ◌++◌, refl, sym, ◌∙◌, ap, Option, Some, None, arith, add_assoc, zero-add, suc-add, ◌↔◌, Name, State, Next, Retry, Ok, Nok, Error, Given, Text, Configuration, Choice, Step, Sight, sight, fed, settled_at, more_calls, settle, after_choices, read_step, read, outcome, EndsIn}
+use Rattle.markdown_tokenizer.specs.Reading.{Reading}
 
 -- what one function reads the other reads, with the same result
 abbrev pub Grows : {R D : Type 0} → (Configuration R D → State → Option (Reading R D)) → (Configuration R D → State → Option (Reading R D)) → Type 0

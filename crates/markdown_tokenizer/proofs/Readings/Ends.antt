@@ -1,16 +1,6 @@
 -- For a lawful machine each reading has an end, within its cost.
-use Rattle.std.proofs.Common.{◌≡◌, ◌+◌, ◌≤◌, ℕ, zero, suc, List, [], ◌∷◌, ◌++◌, Option, Some, sum_by, refl, ap, arith}
-use Rattle.std.proofs.lemmas.List.Sums.{sum_by-append, sum_by-cons}
-use Rattle.markdown_base.specs.declared.message.Message.{Message}
-use Rattle.markdown_base.specs.declared.state.Name.{Name}
-use Rattle.markdown_base.specs.declared.state.State.{State}
-use Rattle.markdown_base.specs.declared.state.State.TheVariants.{Next, Retry, Ok, Nok, Error}
-use Rattle.markdown_tokenizer.specs.Text.{Given, Text, IsText}
-use Rattle.markdown_tokenizer.specs.Configuration.{Configuration, Choice}
-use Rattle.markdown_tokenizer.specs.Sight.{sight}
-use Rattle.markdown_tokenizer.specs.Reading.{Reading, fed, settled_at, more_calls, after_choices, read, EndsIn}
-use Rattle.markdown_tokenizer.specs.Rules.{Rules}
-use Rattle.markdown_tokenizer.specs.Lawful.{KeepsInvariant, CostPays}
+use Rattle.markdown_tokenizer.proofs.Prelude.{◌≡◌, ◌+◌, ◌≤◌, ℕ, zero, suc, List, [], ◌∷◌, ◌++◌, Option, Some, sum_by, refl, ap, arith, sum_by-append, sum_by-cons, Message, Name, State, Next, Retry, Ok, Nok, Error, Given, Text, IsText, Configuration, Choice, sight, fed, settled_at, more_calls, after_choices, read, EndsIn, Rules, KeepsInvariant, CostPays}
+use Rattle.markdown_tokenizer.specs.Reading.{Reading}
 use Rattle.markdown_tokenizer.proofs.Readings.Bounds.{fed-ends, called-ends, settled-ok-ends, settled-nok-ends}
 
 pub error-stays : {R D : Type 0} (f : Configuration R D → State → Option (Reading R D)) (cs : List Choice) (k : Configuration R D) (m : Message) (n : ℕ)

@@ -1,24 +1,5 @@
 -- The laws of machines without resolvers and links, from the laws of their states.
-use Rattle.std.proofs.Common.{◌≡◌, ℕ, zero, suc, ◌+◌, ◌≤◌, List, [], ◌∷◌, ◌++◌, Bool, true, false, cond, Option, Some, None, length, refl, sym, ap, ◌∙◌, subst, arith, take}
-use Rattle.std.specs.Prelude.{nat_lt, All}
-use Rattle.markdown_base.specs.declared.event.Event.{Event}
-use Rattle.markdown_base.specs.declared.state.State.{State}
-use Rattle.markdown_base.specs.declared.state.State.TheVariants.{Next, Retry, Ok, Nok, Error}
-use Rattle.markdown_base.specs.Events.{IsBalanced, EndsBelow, relinked}
-use Rattle.markdown_tokenizer.specs.declared.waiting.Waits.TheVariants.{Byte, End}
-use Rattle.markdown_tokenizer.specs.declared.waiting.AttemptKind.{AttemptKind}
-use Rattle.markdown_tokenizer.specs.declared.waiting.AttemptKind.TheVariants.{Attempt, Check}
-use Rattle.markdown_tokenizer.specs.Text.{Given, Text}
-use Rattle.markdown_tokenizer.specs.Configuration.{Configuration, Saved}
-use Rattle.markdown_tokenizer.specs.Sight.{sight}
-use Rattle.markdown_tokenizer.specs.Reading.{restored, settled_at}
-use Rattle.markdown_edits.specs.Edited.{edited}
-use Rattle.markdown_edits.specs.Woven.{Tagged, of_list, placed_end, placed_in, woven}
-use Rattle.markdown_edits.specs.Links.{next_of, previous_of, AreMutual}
-use Rattle.markdown_tokenizer.specs.Resolving.{IsInShape}
-use Rattle.markdown_tokenizer.specs.Rules.{Rules}
-use Rattle.markdown_tokenizer.specs.Lawful.{IsAsFar, ConsumesOnce, OnlyAdds, EndsWhenRead, KeepsInvariant, CostPays, ResolversKeep, IsLawful}
-use Rattle.markdown_tokenizer.specs.Plain.{HaveNoLinks, IsPlain, KeepsPlain, NothingResolves, plain}
+use Rattle.markdown_tokenizer.proofs.Prelude.{◌≡◌, ℕ, zero, suc, ◌+◌, ◌≤◌, List, [], ◌∷◌, ◌++◌, Bool, true, false, cond, Option, Some, None, length, refl, sym, ap, ◌∙◌, subst, arith, take, nat_lt, All, Event, State, Next, Retry, Ok, Nok, Error, IsBalanced, EndsBelow, relinked, Byte, End, AttemptKind, Attempt, Check, Given, Text, Configuration, Saved, sight, restored, settled_at, edited, Tagged, of_list, placed_end, placed_in, woven, next_of, previous_of, AreMutual, IsInShape, Rules, IsAsFar, ConsumesOnce, OnlyAdds, EndsWhenRead, KeepsInvariant, CostPays, ResolversKeep, IsLawful, HaveNoLinks, IsPlain, KeepsPlain, NothingResolves, plain}
 
 -- more events without links
 pub no-links-append : (xs ys : List Event) → HaveNoLinks xs → HaveNoLinks ys → HaveNoLinks (xs ++ ys)

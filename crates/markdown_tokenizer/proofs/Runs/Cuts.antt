@@ -1,16 +1,5 @@
 -- A run that takes its cuts by index: what each push and the flush require, and what a push leaves.
-use Rattle.std.proofs.Common.{◌≡◌, ◌+◌, ◌<◌, ℕ, List, length, get_or, drop}
-use Rattle.std.specs.Prelude.{Contains}
-use Rattle.markdown_base.specs.declared.state.Name.{Name}
-use Rattle.markdown_base.specs.declared.state.State.{State}
-use Rattle.markdown_base.specs.declared.state.State.TheVariants.{Next}
-use Rattle.markdown_base.specs.Virtual.{point}
-use Rattle.markdown_tokenizer.specs.declared.parser.ParseState.{ParseState}
-use Rattle.markdown_tokenizer.specs.Text.{Given, IsDocument, empty_text}
-use Rattle.markdown_tokenizer.specs.Configuration.{TokenizerValue, start_seen}
-use Rattle.markdown_tokenizer.specs.Rules.{Rules}
-use Rattle.markdown_tokenizer.specs.Lawful.{IsLawful}
-use Rattle.markdown_tokenizer.specs.Engine.{CanPush, HoldsOf, IsPushed, AreCuts, given_of}
+use Rattle.markdown_tokenizer.proofs.Prelude.{◌≡◌, ◌+◌, ◌<◌, ℕ, List, length, get_or, drop, Contains, Name, State, Next, point, ParseState, Given, IsDocument, empty_text, TokenizerValue, start_seen, Rules, IsLawful, CanPush, HoldsOf, IsPushed, AreCuts, given_of}
 use Rattle.markdown_tokenizer.proofs.Runs.Whole.{RunsBy, run-start, run-at, run-last, run-range, run-holds, run-pushed}
 
 -- The run has come to the cut of this index. The range up to that cut can be pushed, and so can the range up to the document's end.

@@ -1,12 +1,5 @@
 -- What was read after a configuration keeps its events, up to the ends of their links.
-use Rattle.std.proofs.Common.{◌≡◌, List, [], ◌∷◌, length, refl, sym, ap, ◌∙◌, take}
-use Rattle.std.specs.Prelude.{map}
-use Rattle.std.proofs.lemmas.List.{take-map, length-map}
-use Rattle.std.proofs.Math.Seq.{take-length}
-use Rattle.markdown_base.specs.declared.event.Event.{Event}
-use Rattle.markdown_base.specs.Events.{unlinked, HasFrontUpToLinkEnds}
-use Rattle.markdown_tokenizer.specs.Configuration.{Configuration}
-use Rattle.markdown_tokenizer.specs.Laws.{Later, here, added, went_back}
+use Rattle.markdown_tokenizer.proofs.Prelude.{◌≡◌, List, [], ◌∷◌, length, refl, sym, ap, ◌∙◌, take, map, take-map, length-map, take-length, Event, unlinked, HasFrontUpToLinkEnds, Configuration, Later, here, added, went_back}
 
 -- a front of a front
 front-front : {A : Type 0} (l m s : List A) → take (length m) l ≡ m → take (length s) m ≡ s → take (length s) l ≡ s

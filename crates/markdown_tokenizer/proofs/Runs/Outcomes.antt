@@ -1,19 +1,6 @@
 -- What a push and a flush leave.
-use Rattle.std.proofs.Common.{◌≡◌, ◌≤◌, ℕ, zero, List, [], Bool, true, false, Some, length, ◌⊎◌, inl, inr, refl, sym, ap, ◌∙◌, arith, subst, add-zero}
-use Rattle.markdown_base.specs.declared.event.Point.{Point}
-use Rattle.markdown_base.specs.declared.message.Message.{Message}
-use Rattle.markdown_base.specs.declared.state.Name.{Name}
-use Rattle.markdown_base.specs.declared.state.State.{State}
-use Rattle.markdown_base.specs.declared.state.State.TheVariants.{Next, Retry, Ok, Nok, Error}
-use Rattle.markdown_tokenizer.specs.Text.{Given, Text, pushed, followed_by, IsText}
-use Rattle.markdown_tokenizer.specs.Configuration.{Configuration, Choice, Step, TokenizerValue}
-use Rattle.markdown_tokenizer.specs.Sight.{Sight}
-use Rattle.markdown_tokenizer.specs.Reading.{Reading, EndsIn, more_calls, read}
-use Rattle.markdown_tokenizer.specs.Rules.{Rules}
-use Rattle.markdown_tokenizer.specs.Lawful.{IsLawful}
-use Rattle.markdown_tokenizer.specs.Engine.{ForPoints, IsPushed, IsWellFormed, budget}
-use Rattle.markdown_tokenizer.specs.Resolving.{taken}
-use Rattle.markdown_tokenizer.specs.Work.{LeadsAll, Stops, extended, OnlyWorked, IsInText}
+use Rattle.markdown_tokenizer.proofs.Prelude.{◌≡◌, ◌≤◌, ℕ, zero, List, [], Bool, true, false, Some, length, ◌⊎◌, inl, inr, refl, sym, ap, ◌∙◌, arith, subst, add-zero, Point, Message, Name, State, Next, Retry, Ok, Nok, Error, Given, Text, pushed, followed_by, IsText, Configuration, Choice, Step, TokenizerValue, Sight, EndsIn, more_calls, read, Rules, IsLawful, ForPoints, IsPushed, IsWellFormed, budget, taken, LeadsAll, Stops, extended, OnlyWorked, IsInText}
+use Rattle.markdown_tokenizer.specs.Reading.{Reading}
 use Rattle.markdown_tokenizer.proofs.Readings.Ends.{error-stays}
 
 -- an ended reading, with no choice waiting, is its own outcome

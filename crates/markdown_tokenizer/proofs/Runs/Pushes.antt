@@ -1,16 +1,6 @@
 -- A range that is pushed in two parts is pushed at once.
-use Rattle.std.proofs.Common.{◌≡◌, ℕ, ◌∷◌, ◌++◌, List, true, Some, sym, ap, ◌∙◌, subst, arith}
-use Rattle.std.specs.Prelude.{filter}
+use Rattle.markdown_tokenizer.proofs.Prelude.{◌≡◌, ℕ, ◌∷◌, ◌++◌, List, true, Some, sym, ap, ◌∙◌, subst, arith, filter, Point, State, Seat, virtual, is_upto, point_at, Given, Text, Piece, IsText, FitsAfter, CanFollow, in_range, pushed, followed_by, followed_by_all, TokenizerValue, Rules, CanPush, ForPoints, IsPushed, LeadsOn, IsOneRange}
 use Rattle.std.proofs.lemmas.List.{append_assoc}
-use Rattle.markdown_base.specs.declared.event.Point.{Point}
-use Rattle.markdown_base.specs.declared.state.State.{State}
-use Rattle.markdown_base.specs.Virtual.{Seat, virtual}
-use Rattle.markdown_base.specs.Places.{is_upto, point_at}
-use Rattle.markdown_tokenizer.specs.Text.{Given, Text, Piece, IsText, FitsAfter, CanFollow, in_range, pushed, followed_by, followed_by_all}
-use Rattle.markdown_tokenizer.specs.Configuration.{TokenizerValue}
-use Rattle.markdown_tokenizer.specs.Rules.{Rules}
-use Rattle.markdown_tokenizer.specs.Engine.{CanPush, ForPoints, IsPushed, LeadsOn}
-use Rattle.markdown_tokenizer.specs.Laws.{IsOneRange}
 use Rattle.markdown_tokenizer.proofs.Positions.Standing.{place-of-point}
 use Rattle.markdown_tokenizer.proofs.Positions.Cursors.{same-back, same-upto, upto-upto, range-continued}
 use Rattle.markdown_tokenizer.proofs.Runs.Working.{leads-trans}

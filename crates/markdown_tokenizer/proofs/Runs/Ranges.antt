@@ -1,22 +1,6 @@
 -- An open tokenizer, from its start over ranges and gaps: what a caller must prove at each call, and what holds after it. `StandsAt` is for
 -- a caller that finds its ranges as it goes, `HasRanges` for one that has them in a list.
-use Rattle.std.proofs.Common.{◌≡◌, ◌+◌, ◌<◌, ◌⊎◌, inl, inr, ℕ, length, List, [], ◌∷◌, Option, Some, None, Bool, true, false, cond, drop, get_or, refl, sym, ap, ◌∙◌, subst}
-use Rattle.std.specs.Prelude.{Contains}
-use Rattle.std.proofs.lemmas.List.{drop_more}
-use Rattle.markdown_base.specs.declared.configuration.ParseOptions.{ParseOptions}
-use Rattle.markdown_base.specs.declared.event.Point.{Point}
-use Rattle.markdown_base.specs.declared.state.Name.{Name}
-use Rattle.markdown_base.specs.declared.state.State.{State}
-use Rattle.markdown_base.specs.declared.state.State.TheVariants.{Next}
-use Rattle.markdown_base.specs.Virtual.{point}
-use Rattle.markdown_base.specs.Places.{point_at, denotes_same, stands_before}
-use Rattle.markdown_tokenizer.specs.Text.{Given, Text, Piece, FitsAfter, CanFollow, IsDocument, passed, empty_text, followed_by, followed_by_all}
-use Rattle.markdown_tokenizer.specs.Configuration.{TokenizerValue, start_seen, start_configuration}
-use Rattle.markdown_tokenizer.specs.Ranges.{AfterGap, IsGapFrom, IsRangeFrom, FollowOn, after_gap}
-use Rattle.markdown_tokenizer.specs.Rules.{Rules}
-use Rattle.markdown_tokenizer.specs.Lawful.{KeepsInvariant}
-use Rattle.markdown_tokenizer.specs.Engine.{CanPush, HoldsOf, IsPushed, given_by}
-use Rattle.markdown_tokenizer.specs.Work.{extended}
+use Rattle.markdown_tokenizer.proofs.Prelude.{◌≡◌, ◌+◌, ◌<◌, ◌⊎◌, inl, inr, ℕ, length, List, [], ◌∷◌, Option, Some, None, Bool, true, false, cond, drop, get_or, refl, sym, ap, ◌∙◌, subst, Contains, drop_more, ParseOptions, Point, Name, State, Next, point, point_at, denotes_same, stands_before, Given, Text, Piece, FitsAfter, CanFollow, IsDocument, passed, empty_text, followed_by, followed_by_all, TokenizerValue, start_seen, start_configuration, AfterGap, IsGapFrom, IsRangeFrom, FollowOn, after_gap, Rules, KeepsInvariant, CanPush, HoldsOf, IsPushed, given_by, extended}
 use Rattle.markdown_tokenizer.proofs.Runs.Whole.{start-is-text, found-place}
 use Rattle.markdown_tokenizer.proofs.Runs.Working.{holds-on}
 

@@ -1,30 +1,7 @@
 -- Resolvers go over the events.
-use Rattle.std.proofs.Common.{◌≡◌, ℕ, suc, ◌+◌, ◌<◌, List, [], ◌∷◌, ◌++◌, Bool, true, false, Option, Some, length, refl, sym, ap, ◌∙◌, subst, arith, drop, get_or}
-use Rattle.std.specs.Prelude.{reverse}
-use Rattle.std.specs.Global.{Vec}
-use Rattle.std.specs.Cmp.{IsEquivalence}
-use Rattle.std.specs.List.{AllByRecursion, IsDistinct, list_any}
-use Rattle.std.proofs.lemmas.Bool.{or_parts}
-use Rattle.std.proofs.lemmas.Map.Keys.{IsDistinct-cons, IsDistinct-push}
-use Rattle.markdown_base.specs.declared.event.Event.{Event}
-use Rattle.markdown_base.specs.declared.message.Message.{Message}
-use Rattle.markdown_base.proofs.Common.{none-mapped}
-use Rattle.markdown_tokenizer.specs.declared.subtokenize.Subresult.{Subresult}
-use Rattle.markdown_tokenizer.specs.declared.tokenizer.Tokenizer.TheInside.{Inside}
-use Rattle.markdown_tokenizer.specs.declared.waiting.Phase.{Phase}
-use Rattle.markdown_tokenizer.specs.declared.waiting.Phase.TheVariants.{Reading, Resolving}
-use Rattle.markdown_tokenizer.specs.Text.{Given, Text, IsText}
-use Rattle.markdown_tokenizer.specs.Configuration.{Configuration, TokenizerValue, at_configuration}
-use Rattle.markdown_tokenizer.specs.Sight.{Sight, sight, sight_of}
-use Rattle.markdown_tokenizer.specs.Rules.{Rules}
-use Rattle.markdown_tokenizer.specs.Calls.{with_resolvers}
-use Rattle.markdown_tokenizer.specs.Resolving.{Resolved, resolving, taken, found, done, refused, with_more, edits_made, resolved_by, CanBeEdited, IsInShape}
-use Rattle.markdown_tokenizer.specs.Lawful.{ResolversKeep}
-use Rattle.markdown_tokenizer.specs.Work.{resolved_in, GoneOver}
-use Rattle.markdown_tokenizer.specs.declared.waiting.KeptChoice.{KeptChoice}
-use Rattle.markdown_tokenizer.specs.declared.waiting.Progress.{Progress}
-use Rattle.markdown_edits.specs.Edits.{Edit}
-use Rattle.markdown_tokenizer.specs.View.{tab_of, seen, text_within, choice_of, position_from, AreNested, IsProgress, IsSound}
+use Rattle.markdown_tokenizer.proofs.Prelude.{◌≡◌, ℕ, suc, ◌+◌, ◌<◌, List, [], ◌∷◌, ◌++◌, Bool, true, false, Option, Some, length, refl, sym, ap, ◌∙◌, subst, arith, drop, get_or, reverse, Vec, IsEquivalence, AllByRecursion, list_any, or_parts, IsDistinct-cons, IsDistinct-push, Event, Message, none-mapped, Subresult, Inside, Phase, Reading, Resolving, Given, Text, IsText, Configuration, TokenizerValue, at_configuration, Sight, sight, sight_of, Rules, with_resolvers, Resolved, resolving, taken, found, refused, with_more, edits_made, resolved_by, CanBeEdited, IsInShape, ResolversKeep, resolved_in, GoneOver, KeptChoice, Progress, Edit, tab_of, seen, text_within, choice_of, position_from, AreNested, IsProgress, IsSound}
+use Rattle.std.specs.List.{IsDistinct}
+use Rattle.markdown_tokenizer.specs.Resolving.{done}
 use Rattle.markdown_tokenizer.proofs.Inside.Fields.{nested-map}
 use Rattle.markdown_tokenizer.proofs.Runs.Whole.{drop-get}
 

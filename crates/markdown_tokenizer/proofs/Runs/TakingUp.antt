@@ -1,17 +1,6 @@
 -- The work from the start to a turn: what holds at a call, and after it.
-use Rattle.std.proofs.Common.{◌≡◌, ◌≢◌, ◌-◌, ◌<◌, Bool, false, refl, sym, ap, subst, ◌∙◌, arith}
+use Rattle.markdown_tokenizer.proofs.Prelude.{◌≡◌, ◌≢◌, ◌-◌, ◌<◌, Bool, false, refl, sym, ap, subst, ◌∙◌, arith, Name, State, Retry, End, Given, IsText, followed_by_all, TokenizerValue, sight, Rules, DidStep, IsLawful, budget, HoldsAll, Stops, settled_all, settled_to, EndsClosed, TakesUp, IsInText}
 use Rattle.std.specs.declared.result.Result.TheVariants as result
-use Rattle.markdown_base.specs.declared.state.Name.{Name}
-use Rattle.markdown_base.specs.declared.state.State.{State}
-use Rattle.markdown_base.specs.declared.state.State.TheVariants.{Retry}
-use Rattle.markdown_tokenizer.specs.declared.waiting.Waits.TheVariants.{End}
-use Rattle.markdown_tokenizer.specs.Text.{Given, IsText, followed_by_all}
-use Rattle.markdown_tokenizer.specs.Configuration.{TokenizerValue}
-use Rattle.markdown_tokenizer.specs.Sight.{sight}
-use Rattle.markdown_tokenizer.specs.Rules.{Rules}
-use Rattle.markdown_tokenizer.specs.Lawful.{DidStep, IsLawful}
-use Rattle.markdown_tokenizer.specs.Engine.{budget}
-use Rattle.markdown_tokenizer.specs.Work.{HoldsAll, Stops, settled_all, settled_to, EndsClosed, TakesUp, IsInText}
 use Rattle.markdown_tokenizer.proofs.Runs.Working.{KeptBy, leads-refl, leads-for-settled, settled-only, settled-message, settled-end, settled-ends, settled-closes, stops-there, kept-settled, kept-ended, kept-taken, kept-turn, kept-holds, kept-calls, text-worked, taken-calls, smaller}
 
 module _ {M R D : Type 0} (rules : M → Given → Rules R D) (laws : (m : M) (given : Given) → IsLawful given (rules m given)) where

@@ -1,31 +1,7 @@
 -- A run over the whole document: how it begins and ends, and what holds at each cut.
-use Rattle.std.specs.List.{AllByRecursion}
-use Rattle.std.proofs.Common.{◌≡◌, ◌≢◌, ◌+◌, ◌≤◌, ◌<◌, ◌==◌, ◌-◌, ℕ, zero, suc, List, [], ◌∷◌, ◌++◌, Bool, true, false, cond, Some, length, ◌⊎◌, inl, inr, refl, sym, ap, ◌∙◌, arith, subst}
-use Rattle.std.specs.Prelude.{filter, find, slice_index, nat_lt, ◌&&◌, ◌||◌, drop, get_or, Contains, Result, IsErrAnd, IfErr, IfOk}
+use Rattle.markdown_tokenizer.proofs.Prelude.{AllByRecursion, ◌≡◌, ◌≢◌, ◌+◌, ◌≤◌, ◌<◌, ◌==◌, ◌-◌, ℕ, zero, suc, List, [], ◌∷◌, ◌++◌, Bool, true, false, cond, Some, length, ◌⊎◌, inl, inr, refl, sym, ap, ◌∙◌, arith, subst, filter, find, slice_index, nat_lt, ◌&&◌, ◌||◌, drop, get_or, Contains, Result, IsErrAnd, IfErr, IfOk, flat_map, nat_tests, cases_lt, append-nil, Point, Name, State, Next, Seat, point, virtual, end_after, document_end, stands_before, shown, follows_cr, points, point_at, IsPointOf, is_upto, Given, Text, pushed, in_range, empty_text, followed_by, followed_by_all, FitsAfter, CanFollow, IsDocument, IsText, TokenizerValue, start_configuration, start_seen, Rules, KeepsInvariant, LeadsOn, KeepsOutcome, CanPush, IsPushed, IsFlushed, IsRefused, IsWellFormed, IsRun, IsRunRefused, AreCuts, budget, given_by, whole_text, FollowInOrder, IsResolved, IsResolvingRefused, IsInShape, EndsIn, Subresult, ParseOptions, Event, Message, every-map, rest_at, IsPlace, IsNextSeat, Bounds}
 use Rattle.std.specs.declared.result.Result.TheVariants as result
-use Rattle.std.specs.List.{flat_map}
-use Rattle.std.proofs.lemmas.Bool.Decides.{nat_tests}
-use Rattle.std.proofs.lemmas.Bool.{cases_lt}
-use Rattle.std.proofs.lemmas.List.{append-nil}
-use Rattle.markdown_base.specs.declared.event.Point.{Point}
-use Rattle.markdown_base.specs.declared.state.Name.{Name}
-use Rattle.markdown_base.specs.declared.state.State.{State}
-use Rattle.markdown_base.specs.declared.state.State.TheVariants.{Next}
-use Rattle.markdown_base.specs.Virtual.{Seat, point, virtual, end_after, document_end}
-use Rattle.markdown_base.specs.Places.{stands_before, shown, follows_cr, points, point_at, IsPointOf, is_upto}
-use Rattle.markdown_tokenizer.specs.Text.{Given, Text, pushed, in_range, empty_text, followed_by, followed_by_all, FitsAfter, CanFollow, IsDocument, IsText}
-use Rattle.markdown_tokenizer.specs.Configuration.{TokenizerValue, start_configuration, start_seen}
-use Rattle.markdown_tokenizer.specs.Rules.{Rules}
-use Rattle.markdown_tokenizer.specs.Lawful.{KeepsInvariant}
-use Rattle.markdown_tokenizer.specs.Engine.{LeadsOn, KeepsOutcome, CanPush, IsPushed, IsFlushed, IsRefused, IsWellFormed, IsRun, IsRunRefused, AreCuts, budget, given_by, whole_text, FollowInOrder}
-use Rattle.markdown_tokenizer.specs.Resolving.{IsResolved, IsResolvingRefused, IsInShape}
-use Rattle.markdown_tokenizer.specs.Reading.{Reading, EndsIn}
-use Rattle.markdown_tokenizer.specs.declared.subtokenize.Subresult.{Subresult}
-use Rattle.markdown_base.specs.declared.configuration.ParseOptions.{ParseOptions}
-use Rattle.markdown_base.specs.declared.event.Event.{Event}
-use Rattle.markdown_base.specs.declared.message.Message.{Message}
-use Rattle.markdown_base.proofs.Common.{every-map}
-use Rattle.markdown_tokenizer.specs.Cursor.{rest_at, IsPlace, IsNextSeat, Bounds}
+use Rattle.markdown_tokenizer.specs.Reading.{Reading}
 use Rattle.markdown_tokenizer.proofs.Positions.Order.{filter-every}
 use Rattle.markdown_tokenizer.proofs.Positions.Seats.{seat-in-tab, seat-other, seat-cr, seat-crlf}
 use Rattle.markdown_tokenizer.proofs.Positions.Chains.{IsChain, whole-chain}

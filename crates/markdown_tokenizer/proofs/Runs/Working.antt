@@ -1,30 +1,6 @@
 -- Each step of the work leads on.
-use Rattle.std.proofs.Common.{◌≡◌, ◌≢◌, ◌+◌, ◌≤◌, ◌<◌, ℕ, zero, suc, List, [], ◌∷◌, ◌++◌, Bool, true, false, cond, Option, Some, None, length, inl, inr, refl, sym, ap, ◌∙◌, arith, subst, append_assoc, length-append, ◌-◌, rules}
-use Rattle.std.proofs.lemmas.Bool.{lt-ltb}
-use Rattle.std.proofs.lemmas.List.Sums.{sum_by-append, sum_by-cons}
-use Rattle.std.proofs.lemmas.List.{append-nil}
-use Rattle.std.specs.Prelude.{filter, slice_get, IsSome}
+use Rattle.markdown_tokenizer.proofs.Prelude.{◌≡◌, ◌≢◌, ◌+◌, ◌≤◌, ◌<◌, ℕ, zero, suc, List, [], ◌∷◌, ◌++◌, Bool, true, false, cond, Option, Some, None, length, inl, inr, refl, sym, ap, ◌∙◌, arith, subst, append_assoc, length-append, ◌-◌, rules, lt-ltb, sum_by-append, sum_by-cons, append-nil, filter, slice_get, IsSome, Point, Message, Name, State, Next, Retry, Ok, Nok, Error, Seat, virtual, IsPointOf, denotes_same, get-front, AttemptKind, Attempt, Check, Waits, Nothing, Byte, End, Given, Text, Piece, pushed, passed, in_range, empty_text, followed_by, followed_by_all, CanFollow, IsText, Configuration, Choice, Step, TokenizerValue, Saved, at_configuration, Sight, sight, sight_in, seat_before, fed, restored, settled_at, Rules, stepped, DidStep, ConsumesOnce, KeepsInvariant, IsLawful, LeadsOn, budget, LeadsAll, Stops, settled_all, settled_to, EndsClosed, OnlyWorked, TakesUp, IsInText, answer_in}
 use Rattle.std.specs.declared.result.Result.TheVariants as result
-use Rattle.markdown_base.specs.declared.event.Point.{Point}
-use Rattle.markdown_base.specs.declared.message.Message.{Message}
-use Rattle.markdown_base.specs.declared.state.Name.{Name}
-use Rattle.markdown_base.specs.declared.state.State.{State}
-use Rattle.markdown_base.specs.declared.state.State.TheVariants.{Next, Retry, Ok, Nok, Error}
-use Rattle.markdown_base.specs.Virtual.{Seat, virtual}
-use Rattle.markdown_base.specs.Places.{IsPointOf, denotes_same}
-use Rattle.markdown_base.proofs.Common.{get-front}
-use Rattle.markdown_tokenizer.specs.declared.waiting.AttemptKind.{AttemptKind}
-use Rattle.markdown_tokenizer.specs.declared.waiting.AttemptKind.TheVariants.{Attempt, Check}
-use Rattle.markdown_tokenizer.specs.declared.waiting.Waits.{Waits}
-use Rattle.markdown_tokenizer.specs.declared.waiting.Waits.TheVariants.{Nothing, Byte, End}
-use Rattle.markdown_tokenizer.specs.Text.{Given, Text, Piece, pushed, passed, in_range, empty_text, followed_by, followed_by_all, CanFollow, IsText}
-use Rattle.markdown_tokenizer.specs.Configuration.{Configuration, Choice, Step, TokenizerValue, Saved, at_configuration}
-use Rattle.markdown_tokenizer.specs.Sight.{Sight, sight, sight_in, seat_before}
-use Rattle.markdown_tokenizer.specs.Reading.{fed, restored, settled_at}
-use Rattle.markdown_tokenizer.specs.Rules.{Rules}
-use Rattle.markdown_tokenizer.specs.Lawful.{stepped, DidStep, ConsumesOnce, KeepsInvariant, IsLawful}
-use Rattle.markdown_tokenizer.specs.Engine.{LeadsOn, budget}
-use Rattle.markdown_tokenizer.specs.Work.{LeadsAll, Stops, settled_all, settled_to, EndsClosed, OnlyWorked, TakesUp, IsInText, answer_in}
 use Rattle.markdown_tokenizer.proofs.Readings.Bounds.{fed-ends, called-ends, settled-ok-ends, settled-nok-ends}
 
 -- the tokenizer after one choice ended

@@ -1,4 +1,4 @@
-use Rattle.std.proofs.Common.{inr, refl, sym, ◌∙◌}
+use Rattle.markdown_tokenizer.proofs.Prelude.{inr, refl, sym, ◌∙◌}
 use Rattle.markdown_tokenizer.proofs.cursor.next_byte.Goals as goal
 
 pub returns-then-is_before : goal.returns-then-is_before

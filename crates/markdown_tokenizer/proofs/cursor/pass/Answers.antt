@@ -1,7 +1,4 @@
-use Rattle.std.proofs.Common.{◌≡◌, ◌≢◌, ◌<◌, ℕ, List, true, false, arith, sym, ap, ◌∙◌}
-use Rattle.markdown_base.specs.declared.event.Point.{Point}
-use Rattle.markdown_base.specs.Virtual.{Seat}
-use Rattle.markdown_tokenizer.specs.Cursor.{goes_on, IsPlace, IsSeatAt}
+use Rattle.markdown_tokenizer.proofs.Prelude.{◌≡◌, ◌≢◌, ◌<◌, ℕ, List, true, false, arith, sym, ap, ◌∙◌, Point, Seat, goes_on, IsPlace, IsSeatAt}
 use Rattle.markdown_tokenizer.proofs.Positions.Seats.{one-seat, seat-in-tab}
 use Rattle.markdown_tokenizer.proofs.Positions.Standing.{end-of-pair, end-of-line, end-of-other}
 use Rattle.markdown_tokenizer.proofs.cursor.pass.Goals as goal

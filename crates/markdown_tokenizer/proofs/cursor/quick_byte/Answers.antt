@@ -1,4 +1,4 @@
-use Rattle.std.proofs.Common.{true, false, refl, sym, ◌∙◌}
+use Rattle.markdown_tokenizer.proofs.Prelude.{true, false, refl, sym, ◌∙◌}
 use Rattle.markdown_tokenizer.proofs.Positions.QuickBytes.{quick-in-tab, quick-plain, quick-tab-here}
 use Rattle.markdown_tokenizer.proofs.cursor.quick_byte.Goals as goal
 

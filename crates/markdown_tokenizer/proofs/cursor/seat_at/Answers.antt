@@ -1,4 +1,4 @@
-use Rattle.std.proofs.Common.{arith, add-one, sym, ◌∙◌}
+use Rattle.markdown_tokenizer.proofs.Prelude.{arith, add-one, sym, ◌∙◌}
 use Rattle.markdown_tokenizer.proofs.Positions.Seats.{seat-in-tab, seat-none, seat-other, seat-crlf, seat-cr, pair-is, no-pair-is}
 use Rattle.markdown_tokenizer.proofs.cursor.seat_at.Goals as goal
 

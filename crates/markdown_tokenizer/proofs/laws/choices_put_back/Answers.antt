@@ -1,4 +1,4 @@
-use Rattle.std.proofs.Common.{refl}
+use Rattle.markdown_tokenizer.proofs.Prelude.{refl}
 use Rattle.markdown_tokenizer.proofs.Runs.Later.{later-kept}
 use Rattle.markdown_tokenizer.proofs.laws.choices_put_back.Goals as goal
 

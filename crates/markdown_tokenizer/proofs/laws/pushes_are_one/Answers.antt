@@ -1,6 +1,4 @@
-use Rattle.std.proofs.Common.{subst}
-use Rattle.markdown_tokenizer.specs.Text.{Given}
-use Rattle.markdown_tokenizer.specs.Engine.{IsPushed}
+use Rattle.markdown_tokenizer.proofs.Prelude.{subst, Given, IsPushed}
 use Rattle.markdown_tokenizer.proofs.Runs.Pushes.{can-push-whole, pushed-whole}
 use Rattle.markdown_tokenizer.proofs.laws.pushes_are_one.Goals as goal
 

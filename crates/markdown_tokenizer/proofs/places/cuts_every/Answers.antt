@@ -1,12 +1,7 @@
-use Rattle.markdown_base.specs.Virtual.{IsWithinLimit}
-use Rattle.std.proofs.Common.{◌≡◌, ◌+◌, ◌*◌, ◌<◌, ◌≤◌, ℕ, true, false, List, length, arith, refl, sym, ap, ◌∙◌, subst, Vec, Global}
-use Rattle.std.proofs.lemmas.List.{append-nil}
-use Rattle.markdown_tokenizer.specs.Cuts.{is_cut, cuts_every}
-use Rattle.markdown_base.specs.declared.event.Point.{Point}
-use Rattle.markdown_tokenizer.specs.Cursor.{rest_at}
+use Rattle.markdown_tokenizer.proofs.Prelude.{IsWithinLimit, ◌≡◌, ◌+◌, ◌*◌, ◌<◌, ◌≤◌, ℕ, true, false, List, length, arith, refl, sym, ap, ◌∙◌, subst, Global, append-nil, is_cut, cuts_every, Point, rest_at, AreCuts}
+use Rattle.std.proofs.Common.{Vec}
 use Rattle.markdown_tokenizer.proofs.Positions.Walks.{IsCutting, cutting-place, cutting-number, cutting-next, cutting-ended, walk-shorter, bounds-fit, cut-is, cut-not, cut-first}
 use Rattle.markdown_tokenizer.proofs.places.cuts_every.Goals.{then-number-gt0+then-number-n-eq0+in_ok-push, else-number-gt0, else-number-gt0-via-then-number-gt0+else-number-n-eq0, else-number-gt0-via-else-number-gt0}
-use Rattle.markdown_tokenizer.specs.Engine.{AreCuts}
 use Rattle.markdown_tokenizer.proofs.Positions.Cuts.{cuts_every-are-cuts}
 use Rattle.markdown_tokenizer.proofs.places.cuts_every.Goals as goal
 

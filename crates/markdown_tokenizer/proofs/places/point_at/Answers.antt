@@ -1,8 +1,4 @@
-use Rattle.markdown_base.specs.Virtual.{IsWithinLimit}
-use Rattle.std.proofs.Common.{◌≡◌, ◌<◌, ℕ, Bool, true, false, Some, None, length, refl, sym, ap, ◌∙◌, subst, cond}
-use Rattle.markdown_base.specs.declared.event.Point.{Point}
-use Rattle.markdown_base.specs.Places.{shown, point_at}
-use Rattle.markdown_tokenizer.specs.Cursor.{rest_at}
+use Rattle.markdown_tokenizer.proofs.Prelude.{IsWithinLimit, ◌≡◌, ◌<◌, ℕ, Bool, true, false, Some, None, length, refl, sym, ap, ◌∙◌, subst, cond, Point, shown, point_at, rest_at}
 use Rattle.markdown_tokenizer.proofs.Positions.Walks.{IsSearch, is_place, search-place, search-shown, search-seat, search-next, search-ended, walk-shorter}
 use Rattle.markdown_tokenizer.proofs.places.point_at.Goals as goal
 

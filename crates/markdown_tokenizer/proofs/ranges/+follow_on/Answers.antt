@@ -1,9 +1,4 @@
-use Rattle.std.proofs.Common.{◌≡◌, ℕ, List, Option, Some, true, sym, ap, ◌∙◌, subst}
-use Rattle.std.specs.Prelude.{unwrap_or}
-use Rattle.std.proofs.lemmas.Bool.{false≢true}
-use Rattle.markdown_base.specs.declared.event.Point.{Point}
-use Rattle.markdown_base.specs.Places.{point_at, denotes_same, is_upto}
-use Rattle.markdown_tokenizer.specs.Ranges.{IsRangeFrom, FollowOn, after_any}
+use Rattle.markdown_tokenizer.proofs.Prelude.{◌≡◌, ℕ, List, Option, Some, true, sym, ap, ◌∙◌, subst, unwrap_or, false≢true, Point, point_at, denotes_same, is_upto, IsRangeFrom, FollowOn, after_any}
 use Rattle.markdown_tokenizer.proofs.Positions.Cursors.{same-back, same-same}
 use Rattle.markdown_tokenizer.proofs.ranges.+follow_on.Goals as goal
 

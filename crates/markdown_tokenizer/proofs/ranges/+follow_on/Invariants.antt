@@ -1,4 +1,4 @@
-use Rattle.std.proofs.Common.{length}
+use Rattle.markdown_tokenizer.proofs.Prelude.{length}
 use Rattle.markdown_tokenizer.proofs.ranges.+follow_on.Given as goal
 
 abbrev pub decreases-follow_on : goal.decreases-follow_on

@@ -1,9 +1,4 @@
-use Rattle.std.proofs.Common.{◌≡◌, ◌<◌, ℕ, Bool, true, false, length, refl, sym, ap, ◌∙◌, subst}
-use Rattle.std.specs.Prelude.{not}
-use mathlib.Core.Bool.{beq}
-use Rattle.markdown_base.specs.declared.event.Point.{Point}
-use Rattle.markdown_base.specs.Places.{denotes_same}
-use Rattle.markdown_tokenizer.specs.Cursor.{rest_at}
+use Rattle.markdown_tokenizer.proofs.Prelude.{◌≡◌, ◌<◌, ℕ, Bool, true, false, length, refl, sym, ap, ◌∙◌, subst, not, beq, Point, denotes_same, rest_at}
 use Rattle.markdown_tokenizer.proofs.Positions.SameSoFar.{IsAlikeSoFar, alike-place, alike-ended, alike-other, alike-next}
 use Rattle.markdown_tokenizer.proofs.Positions.Walks.{walk-shorter}
 use Rattle.markdown_tokenizer.proofs.ranges.denote_same.Goals as goal

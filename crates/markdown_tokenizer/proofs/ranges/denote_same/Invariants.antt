@@ -1,5 +1,4 @@
-use Rattle.std.proofs.Common.{length}
-use Rattle.markdown_tokenizer.specs.Cursor.{rest_at}
+use Rattle.markdown_tokenizer.proofs.Prelude.{length, rest_at}
 use Rattle.markdown_tokenizer.proofs.Positions.SameSoFar.{IsAlikeSoFar}
 use Rattle.markdown_tokenizer.proofs.ranges.denote_same.Given as goal
 

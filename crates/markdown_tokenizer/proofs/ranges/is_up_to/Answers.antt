@@ -1,7 +1,4 @@
-use Rattle.std.proofs.Common.{◌≡◌, ℕ, Bool, true, false, refl, sym, ap, ◌∙◌, arith}
-use Rattle.std.specs.Prelude.{not, nat_lt, ◌==◌, ◌&&◌, ◌||◌}
-use Rattle.std.proofs.lemmas.Bool.Decides.{nat_tests}
-use Rattle.markdown_base.specs.Places.{is_upto}
+use Rattle.markdown_tokenizer.proofs.Prelude.{◌≡◌, ℕ, Bool, true, false, refl, sym, ap, ◌∙◌, arith, not, nat_lt, ◌==◌, ◌&&◌, ◌||◌, nat_tests, is_upto}
 use Rattle.markdown_tokenizer.proofs.Positions.Cursors.{upto-order}
 use Rattle.markdown_tokenizer.proofs.ranges.is_up_to.Goals as goal
 

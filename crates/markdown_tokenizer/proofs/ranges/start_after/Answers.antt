@@ -1,8 +1,5 @@
-use Rattle.std.proofs.Common.{◌≡◌, ℕ, List, Bool, true, false, cond, refl}
-use Rattle.markdown_base.specs.declared.event.Point.{Point}
-use Rattle.markdown_base.specs.Places.{denotes_same}
+use Rattle.markdown_tokenizer.proofs.Prelude.{◌≡◌, ℕ, List, Bool, true, false, cond, refl, Point, denotes_same, after_gap}
 use Rattle.markdown_tokenizer.proofs.Positions.Cursors.{same-self}
-use Rattle.markdown_tokenizer.specs.Ranges.{after_gap}
 use Rattle.markdown_tokenizer.proofs.ranges.start_after.Goals as goal
 
 -- a gap that ends at the same byte leaves the text's end as it is

@@ -1,4 +1,4 @@
-use Rattle.std.proofs.Common.{◌∙◌, reverse}
+use Rattle.markdown_tokenizer.proofs.Prelude.{◌∙◌, reverse}
 use Rattle.markdown_tokenizer.proofs.Inside.Unwinding.{unwound-next}
 use Rattle.markdown_tokenizer.proofs.waiting.unwind.Goals as goal
 

@@ -1,5 +1,4 @@
-use Rattle.std.proofs.Common.{◌≡◌, reverse, length}
-use Rattle.markdown_tokenizer.specs.Unwound.{unwound, ended_by}
+use Rattle.markdown_tokenizer.proofs.Prelude.{◌≡◌, reverse, length, unwound, ended_by}
 use Rattle.markdown_tokenizer.proofs.waiting.unwind.Given as goal
 
 abbrev pub invariant-loop-goal : goal.invariant-loop-goal

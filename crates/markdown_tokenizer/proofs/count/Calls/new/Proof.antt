@@ -1,25 +1,7 @@
 use mathlib.Core.Path.{refl}
 use mathlib.Core.List.{[], ◌∷◌}
-use seplogic.Ra.Ura.{Ura}
-use mir.Val.{vstruct, vnil}
-use base.Logic.{SProp, ent, emp, via, fst∗}
-use prog.Memory.{Memory}
-use prog.Routine.{Routine}
-use prog.Wp.{Calls, Loops, WpFn, Tables}
-use types.Logic.{Logic}
-use contract.Monad.{Fun}
-use contract.Running.{tables, tables_of}
-use sound.WpLaws.{WpFn-mono}
-use types.Kit.{‵, raw, ◌$◌, ◌∵◌, !, qed, move, suffices, done}
-use types.Run.{no_more, returns, enter}
-use types.Part.{agg}
-use types.ByLocal.{alloc_all, pass_all, free_all, look_at, sets}
-use denote.RattleType.{owns}
-use denote.Shadow.{pure_i}
-use denote.Triple.Entry.{on_entry, alive}
-use denote.Triple.Spec.{Meets, triple_of}
-use denote.Triple.Table.{entered}
-use denote.Triple.Walked.{says, Stays, walk_of, Walks, ends_at, walked, walk_Meets}
+use Rattle.markdown_tokenizer.proofs.Prelude.{Ura, vstruct, vnil, SProp, ent, emp, via, fst∗, Memory, Routine, Calls, Loops, WpFn, Tables, Logic, Fun, tables, WpFn-mono, ‵, raw, ◌$◌, ◌∵◌, !, qed, move, suffices, done, no_more, returns, enter, agg, alloc_all, pass_all, free_all, look_at, sets, owns, pure_i, on_entry, alive, Meets, triple_of, entered, says, Stays, walk_of, Walks, ends_at, walked, walk_Meets}
+use contract.Running.{tables_of}
 use Rattle.markdown_tokenizer.specs.contracts.count.Calls.new.Key.{name as key}
 use Rattle.markdown_tokenizer.specs.contracts.count.Calls.new as f
 use Rattle.markdown_tokenizer.proofs.count.Calls.new.Statement as stated

@@ -1,32 +1,9 @@
 use mathlib.Core.Path.{refl}
 use mathlib.Core.List.{[], ◌∷◌}
 use Prim.Native.Nat.{◌+◌}
-use seplogic.Ra.Ura.{Ura}
-use mir.Syntax.{named}
-use mir.Val.{Val, vptr, vstruct, vnil}
-use base.Logic.{SProp, ent, emp, via, fst∗}
-use base.Fml.{Fml}
-use prog.Memory.{Memory}
-use prog.Routine.{Routine}
-use prog.Wp.{Calls, Loops, WpFn, Tables}
-use types.Logic.{Logic}
-use contract.Lifetimes.{Lfts, Shares}
-use contract.Monad.{Fun}
-use contract.Running.{tables, tables_of}
-use sound.WpLaws.{WpFn-mono}
-use types.Kit.{‵, raw, ◌$◌, ◌∵◌, !, qed, move, suffices, done}
-use types.Run.{no_more, returns, enter}
-use types.Part.{agg}
-use types.ByLocal.{alloc_all, pass_all, free_all, look_at, sets}
-use denote.Exit.{yes}
-use denote.RattleType.{owns}
-use denote.Ref.{shr_vals, shr_Tells}
-use denote.Shadow.{pure_i}
-use denote.Signature.{plain, types_at}
-use denote.Triple.Entry.{on_entry, alive, Args}
-use denote.Triple.Spec.{Meets, triple_of}
-use denote.Triple.Table.{entered}
-use denote.Triple.Walked.{says, stay_none_ref, Stays, walk_of, Walks, ends_at, walked, Goes-none_ref, walk_Meets}
+use Rattle.markdown_tokenizer.proofs.Prelude.{Ura, named, Val, vptr, vstruct, vnil, SProp, ent, emp, via, fst∗, Fml, Memory, Routine, Calls, Loops, WpFn, Tables, Logic, Lfts, Shares, Fun, tables, WpFn-mono, ‵, raw, ◌$◌, ◌∵◌, !, qed, move, suffices, done, no_more, returns, enter, agg, alloc_all, pass_all, free_all, look_at, sets, yes, owns, shr_vals, shr_Tells, pure_i, types_at, on_entry, alive, Args, Meets, triple_of, entered, says, stay_none_ref, Stays, walk_of, Walks, ends_at, walked, Goes-none_ref, walk_Meets}
+use contract.Running.{tables_of}
+use denote.Signature.{plain}
 use Rattle.markdown_tokenizer.specs.contracts.count.Calls.next.Key.{name as key}
 use Rattle.markdown_tokenizer.specs.contracts.count.Calls.next as f
 use Rattle.markdown_tokenizer.proofs.count.Calls.next.Statement as stated

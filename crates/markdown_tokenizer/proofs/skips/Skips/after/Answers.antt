@@ -1,10 +1,4 @@
-use Rattle.std.proofs.Common.{◌≡◌, ℕ, ◌<◌, ◌≤◌, ltb, true, false, List, length, get_or, Option, sym, ap, ◌∙◌, arith, rules}
-use Rattle.std.specs.List.Sorted.{IsPartitionPoint}
-use Rattle.std.specs.Prelude.{slice_get}
-use Rattle.std.proofs.lemmas.Bool.{ltb-true, ltb-false}
-use Rattle.std.proofs.lemmas.List.Sorted.{IsPartitionPoint-from_clause, IsPartitionedBy-ltb}
-use Rattle.markdown_base.specs.declared.event.Point.{Point}
-use Rattle.markdown_tokenizer.specs.Gaps.{skip_of, AreSorted}
+use Rattle.markdown_tokenizer.proofs.Prelude.{◌≡◌, ℕ, ◌<◌, ◌≤◌, ltb, true, false, List, length, get_or, Option, sym, ap, ◌∙◌, arith, rules, IsPartitionPoint, slice_get, ltb-true, ltb-false, IsPartitionPoint-from_clause, IsPartitionedBy-ltb, Point, skip_of, AreSorted}
 use Rattle.markdown_tokenizer.proofs.Positions.Skips.{IsNonDecreasingBy-lines, found, found-by, found-there, found-other, or-else, or-found, nothing-there, something-there}
 use Rattle.markdown_tokenizer.proofs.skips.Skips.after.Goals as goal
 

@@ -1,10 +1,5 @@
-use Rattle.std.proofs.Common.{◌≡◌, Bool, true, false, not, refl}
-use Rattle.markdown_tokenizer.specs.declared.waiting.GoesOn.{GoesOn}
+use Rattle.markdown_tokenizer.proofs.Prelude.{◌≡◌, Bool, true, false, not, refl, GoesOn, Attempt, Configuration, attempt_at, state_of, choice_at}
 use Rattle.markdown_tokenizer.specs.declared.waiting.GoesOn.TheVariants.{Next, Ok, Nok}
-use Rattle.markdown_tokenizer.specs.declared.waiting.AttemptKind.TheVariants.{Attempt}
-use Rattle.markdown_tokenizer.specs.Configuration.{Configuration}
-use Rattle.markdown_tokenizer.specs.Calls.{attempt_at}
-use Rattle.markdown_tokenizer.specs.View.{state_of, choice_at}
 use Rattle.markdown_tokenizer.proofs.tokenizer.Tokenizer.attempt.Goals.{in-Nok, in_default}
 use Rattle.markdown_tokenizer.proofs.tokenizer.Tokenizer.attempt.Goals as goal
 

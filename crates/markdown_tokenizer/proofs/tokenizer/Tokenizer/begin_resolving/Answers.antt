@@ -1,5 +1,5 @@
 use Rattle.markdown_tokenizer.proofs.Runs.Resolvers.{phase-sound, none-twice}
-use Rattle.markdown_tokenizer.specs.declared.waiting.Phase.TheVariants.{Resolving}
+use Rattle.markdown_tokenizer.proofs.Prelude.{Resolving}
 use Rattle.markdown_tokenizer.proofs.tokenizer.Tokenizer.begin_resolving.Goals as goal
 
 pub invariant_of-self : goal.invariant_of-self

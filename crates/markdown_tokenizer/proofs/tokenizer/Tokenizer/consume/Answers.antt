@@ -1,9 +1,4 @@
-use Rattle.std.proofs.Common.{◌≡◌, ◌∙◌, ap, sym, subst}
-use Rattle.markdown_base.specs.declared.event.Point.{Point}
-use Rattle.markdown_tokenizer.specs.declared.waiting.Moves.{Moves}
-use Rattle.markdown_tokenizer.specs.declared.waiting.Moves.TheVariants.{Plain, Other}
-use Rattle.markdown_tokenizer.specs.Cursor.{moved}
-use Rattle.markdown_tokenizer.specs.Gaps.{IsReadyAt}
+use Rattle.markdown_tokenizer.proofs.Prelude.{◌≡◌, ◌∙◌, ap, sym, subst, Point, Moves, Plain, Other, moved, IsReadyAt}
 use Rattle.markdown_tokenizer.proofs.Inside.Known.{ready-plain}
 use Rattle.markdown_tokenizer.proofs.Inside.Steps.{byte-waits, consumed-sound, consumed-seen, told-fits, told-moved}
 use Rattle.markdown_tokenizer.proofs.tokenizer.Tokenizer.consume.Goals as goal

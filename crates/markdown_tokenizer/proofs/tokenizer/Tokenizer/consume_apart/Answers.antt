@@ -1,4 +1,4 @@
-use Rattle.std.proofs.Common.{refl, ◌∙◌}
+use Rattle.markdown_tokenizer.proofs.Prelude.{refl, ◌∙◌}
 use Rattle.markdown_tokenizer.proofs.Inside.Steps.{byte-waits, consumed-sound, consumed-seen, told-fits, told-moved, unmoved}
 use Rattle.markdown_tokenizer.proofs.tokenizer.Tokenizer.consume_apart.Goals as goal
 

@@ -1,5 +1,4 @@
-use Rattle.std.proofs.Common.{ℕ, refl, sym, subst}
-use Rattle.markdown_tokenizer.specs.Cursor.{IsSeatAt}
+use Rattle.markdown_tokenizer.proofs.Prelude.{ℕ, refl, sym, subst, IsSeatAt}
 use Rattle.markdown_tokenizer.proofs.Inside.Fields.{wide_of}
 use Rattle.markdown_tokenizer.proofs.Inside.Steps.{byte-waits, consumed-sound, consumed-seen, place-at, seat-at}
 use Rattle.markdown_tokenizer.proofs.tokenizer.Tokenizer.consume_rarely.Goals as goal

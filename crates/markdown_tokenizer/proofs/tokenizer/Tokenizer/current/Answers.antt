@@ -1,5 +1,4 @@
-use Rattle.std.proofs.Common.{inl, inr}
-use Rattle.markdown_tokenizer.specs.declared.waiting.Waits.TheVariants.{Nothing, Byte, End}
+use Rattle.markdown_tokenizer.proofs.Prelude.{inl, inr, Nothing, Byte, End}
 use Rattle.markdown_tokenizer.proofs.Inside.Steps.{current-is}
 use Rattle.markdown_tokenizer.proofs.tokenizer.Tokenizer.current.Goals as goal
 

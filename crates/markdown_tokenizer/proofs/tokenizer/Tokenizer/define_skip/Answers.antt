@@ -1,7 +1,4 @@
-use Rattle.std.proofs.Common.{◌∙◌, sym, ap}
-use Rattle.markdown_base.specs.declared.event.Point.{Point}
-use Rattle.markdown_tokenizer.specs.Cursor.{is_after_pair}
-use Rattle.markdown_tokenizer.specs.View.{tab_of}
+use Rattle.markdown_tokenizer.proofs.Prelude.{◌∙◌, sym, ap, Point, is_after_pair, tab_of}
 use Rattle.markdown_tokenizer.proofs.Inside.Known.{known-other, ready-none}
 use Rattle.markdown_tokenizer.proofs.Inside.Changes.{passes, passed-nothing, passed-behind, added-end_at, added-text_is, added-skips_are, added-read_to, added-waiting, added-made, added-kept_choices, added-seen}
 use Rattle.markdown_tokenizer.proofs.tokenizer.Tokenizer.define_skip.Goals as goal

@@ -1,4 +1,4 @@
-use Rattle.std.proofs.Common.{refl}
+use Rattle.markdown_tokenizer.proofs.Prelude.{refl}
 use Rattle.markdown_tokenizer.proofs.Inside.Spans.{entered-made, entered-kept_choices, entered-choices, entered-at, entered-here}
 use Rattle.markdown_tokenizer.proofs.tokenizer.Tokenizer.enter_apart.Goals as goal
 

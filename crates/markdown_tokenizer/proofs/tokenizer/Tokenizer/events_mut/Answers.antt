@@ -1,5 +1,5 @@
 use Rattle.markdown_tokenizer.proofs.Runs.Resolvers.{events-sound}
-use Rattle.std.proofs.Common.{refl}
+use Rattle.markdown_tokenizer.proofs.Prelude.{refl}
 use Rattle.markdown_tokenizer.proofs.tokenizer.Tokenizer.events_mut.Goals as goal
 
 pub invariant_of-self-lent : goal.invariant_of-self-lent

@@ -1,4 +1,4 @@
-use Rattle.std.proofs.Common.{refl}
+use Rattle.markdown_tokenizer.proofs.Prelude.{refl}
 use Rattle.markdown_tokenizer.proofs.Inside.Spans.{exited-made, exited-kept_choices, exited-choices, exited-at}
 use Rattle.markdown_tokenizer.proofs.Inside.Steps.{after-byte}
 use Rattle.markdown_tokenizer.proofs.tokenizer.Tokenizer.exit.Goals as goal

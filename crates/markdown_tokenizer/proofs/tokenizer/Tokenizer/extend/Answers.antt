@@ -1,6 +1,5 @@
-use Rattle.std.proofs.Common.{◌≡◌, ◌∙◌, sym, subst}
+use Rattle.markdown_tokenizer.proofs.Prelude.{◌≡◌, ◌∙◌, sym, subst, Point}
 use Rattle.markdown_tokenizer.proofs.Inside.Changes.{extended-sound, extended-seen, same-some, ExtendedAt}
-use Rattle.markdown_base.specs.declared.event.Point.{Point}
 use Rattle.markdown_tokenizer.proofs.tokenizer.Tokenizer.extend.Goals as goal
 
 pub invariant_of-self : goal.invariant_of-self

@@ -1,7 +1,4 @@
-use Rattle.std.proofs.Common.{length, ◌≤◌, List, ℕ, sym, subst}
-use Rattle.markdown_tokenizer.specs.declared.waiting.Moves.{Moves}
-use Rattle.markdown_tokenizer.specs.declared.waiting.Moves.TheVariants.{Plain}
-use Rattle.markdown_tokenizer.specs.Cursor.{IsQuick}
+use Rattle.markdown_tokenizer.proofs.Prelude.{length, ◌≤◌, List, ℕ, sym, subst, Moves, Plain, IsQuick}
 use Rattle.markdown_tokenizer.proofs.Inside.Steps.{end-inside, quick-more, quick-seen, quick-sound}
 use Rattle.markdown_tokenizer.proofs.tokenizer.Tokenizer.feed.Goals as goal
 

@@ -1,7 +1,4 @@
-use Rattle.std.proofs.Common.{refl, Some, None}
-use Rattle.markdown_tokenizer.specs.declared.waiting.Moves.TheVariants.{Other}
-use Rattle.markdown_tokenizer.specs.declared.waiting.Waits.TheVariants.{Byte}
-use Rattle.markdown_tokenizer.specs.View.{tab_of}
+use Rattle.markdown_tokenizer.proofs.Prelude.{refl, Some, None, Other, Byte, tab_of}
 use Rattle.markdown_tokenizer.proofs.Inside.Known.{known-other}
 use Rattle.markdown_tokenizer.proofs.Inside.Fields.{wide_of}
 use Rattle.markdown_tokenizer.proofs.Inside.Steps.{within-at, byte-at, fed-more, fed-seen, fed-sound, fed-none}

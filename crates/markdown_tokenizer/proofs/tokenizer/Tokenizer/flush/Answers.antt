@@ -1,7 +1,5 @@
-use Rattle.std.proofs.Common.{◌≡◌, ◌∙◌, ap, inl, inr, refl, sym, true, false}
-use Rattle.std.proofs.lemmas.Result.{IfOk-weaker}
+use Rattle.markdown_tokenizer.proofs.Prelude.{◌≡◌, ◌∙◌, ap, inl, inr, refl, sym, true, false, IfOk-weaker, Ok, Error}
 use Rattle.markdown_tokenizer.proofs.Runs.Resolvers.{resolving-is}
-use Rattle.markdown_base.specs.declared.state.State.TheVariants.{Ok, Error}
 use Rattle.markdown_tokenizer.proofs.Runs.Working.{text-worked}
 use Rattle.markdown_tokenizer.proofs.Runs.Outcomes.{flush-ok, flush-refused, flush-paid, leads-holds, taken-formed}
 use Rattle.markdown_tokenizer.proofs.tokenizer.Tokenizer.flush.Goals as goal

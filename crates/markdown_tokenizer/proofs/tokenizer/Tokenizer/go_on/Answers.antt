@@ -1,8 +1,4 @@
-use Rattle.std.proofs.Common.{◌≡◌, ◌∙◌, refl, ap, inl, inr, reverse, Some, None}
-use Rattle.markdown_tokenizer.specs.declared.waiting.Progress.{Progress}
-use Rattle.markdown_tokenizer.specs.Unwound.{unwound, ended_by}
-use Rattle.markdown_tokenizer.specs.View.{state_of, tab_of}
-use Rattle.markdown_tokenizer.specs.Work.{answer_of}
+use Rattle.markdown_tokenizer.proofs.Prelude.{◌≡◌, ◌∙◌, refl, ap, inl, inr, reverse, Some, None, Progress, unwound, ended_by, state_of, tab_of, answer_of}
 use Rattle.markdown_tokenizer.proofs.Inside.Fields.{wide_of}
 use Rattle.markdown_tokenizer.proofs.Inside.Choices.{progress_of}
 use Rattle.markdown_tokenizer.proofs.Inside.GoingOn.{some-by, none-by, takes-ended, going-next, going-within, within-there, byte-sound, end-sound, none-sound, ended-sound, closes, takes-byte, takes-end, takes-none, takes-ok, takes-nok}

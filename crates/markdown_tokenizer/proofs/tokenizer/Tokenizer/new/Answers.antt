@@ -1,6 +1,5 @@
-use Rattle.std.proofs.Common.{refl}
+use Rattle.markdown_tokenizer.proofs.Prelude.{refl, Nothing}
 use Rattle.markdown_tokenizer.proofs.Inside.Fields.{read-start}
-use Rattle.markdown_tokenizer.specs.declared.waiting.Waits.TheVariants.{Nothing}
 use Rattle.markdown_tokenizer.proofs.Inside.Known.{known-other, ready-none}
 use Rattle.markdown_tokenizer.proofs.Runs.Resolvers.{none-twice}
 use Rattle.markdown_tokenizer.proofs.Inside.Changes.{start-end, start-empty, start-found, start-text, start-made}

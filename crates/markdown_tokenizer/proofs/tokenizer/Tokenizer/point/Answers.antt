@@ -1,5 +1,4 @@
-use Rattle.std.proofs.Common.{refl}
-use Rattle.markdown_tokenizer.specs.View.{tab_of}
+use Rattle.markdown_tokenizer.proofs.Prelude.{refl, tab_of}
 use Rattle.markdown_tokenizer.proofs.Inside.Fields.{wide_of}
 use Rattle.markdown_tokenizer.proofs.Inside.Steps.{byte-is-there-at, point-byte-at, point-end-at}
 use Rattle.markdown_tokenizer.proofs.tokenizer.Tokenizer.point.Goals as goal

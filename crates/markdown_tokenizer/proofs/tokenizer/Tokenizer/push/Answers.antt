@@ -1,6 +1,4 @@
-use Rattle.std.proofs.Common.{◌≡◌, ◌∙◌, ◌∷◌, sym, ap, true, false}
-use Rattle.std.proofs.lemmas.Bool.{false_from_ne_true}
-use Rattle.markdown_tokenizer.specs.Text.{pushed}
+use Rattle.markdown_tokenizer.proofs.Prelude.{◌≡◌, ◌∙◌, ◌∷◌, sym, ap, true, false, false_from_ne_true, pushed}
 use Rattle.markdown_tokenizer.proofs.Runs.Working.{holds-on}
 use Rattle.markdown_tokenizer.proofs.Runs.Outcomes.{is-pushed}
 use Rattle.markdown_tokenizer.proofs.tokenizer.Tokenizer.push.Goals as goal

@@ -1,5 +1,4 @@
-use Rattle.std.proofs.Common.{◌≡◌, ◌∙◌, ◌++◌, ◌∷◌, [], Option, ap, refl}
-use Rattle.markdown_tokenizer.specs.declared.waiting.Progress.{Progress}
+use Rattle.markdown_tokenizer.proofs.Prelude.{◌≡◌, ◌∙◌, ◌++◌, ◌∷◌, [], Option, ap, refl, Progress}
 use Rattle.markdown_tokenizer.proofs.Inside.Choices.{saved_if, chosen-kept_choices, chosen-choices}
 use Rattle.markdown_tokenizer.proofs.tokenizer.Tokenizer.push_choice.Goals.{then-saves, else-saves}
 use Rattle.markdown_tokenizer.proofs.tokenizer.Tokenizer.push_choice.Goals as goal

@@ -1,5 +1,5 @@
 use Rattle.markdown_tokenizer.proofs.Runs.Resolvers.{once-behind}
-use Rattle.std.proofs.Common.{sym, refl, ◌∙◌}
+use Rattle.markdown_tokenizer.proofs.Prelude.{sym, refl, ◌∙◌}
 use Rattle.markdown_tokenizer.proofs.tokenizer.Tokenizer.register_resolver.Goals as goal
 
 pub returns-then-contains-clause-ok : goal.returns-then-contains-clause-ok

@@ -1,5 +1,5 @@
 use Rattle.markdown_tokenizer.proofs.Runs.Resolvers.{once-before}
-use Rattle.std.proofs.Common.{sym, refl, ◌∙◌}
+use Rattle.markdown_tokenizer.proofs.Prelude.{sym, refl, ◌∙◌}
 use Rattle.markdown_tokenizer.proofs.tokenizer.Tokenizer.register_resolver_before.Goals as goal
 
 pub returns-else-not-contains-clause-ok : goal.returns-else-not-contains-clause-ok

@@ -1,5 +1,4 @@
-use Rattle.std.proofs.Common.{◌≡◌, ◌∙◌, ◌+◌, ◌∷◌, [], drop, sym, ap}
-use Rattle.std.proofs.lemmas.List.{drop_all}
+use Rattle.markdown_tokenizer.proofs.Prelude.{◌≡◌, ◌∙◌, ◌+◌, ◌∷◌, [], drop, sym, ap, drop_all}
 use Rattle.markdown_tokenizer.proofs.Runs.Resolvers.{drop-one, resolves-first, resolves-left, resolves-holds, resolves-next, resolves-refused, resolves-can, resolves-done}
 use Rattle.markdown_tokenizer.proofs.tokenizer.Tokenizer.resolve_each.Goals as goal
 

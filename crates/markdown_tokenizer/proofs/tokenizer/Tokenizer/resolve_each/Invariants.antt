@@ -1,4 +1,4 @@
-use Rattle.std.specs.Prelude.{drop}
+use Rattle.markdown_tokenizer.proofs.Prelude.{drop}
 use Rattle.markdown_tokenizer.proofs.Runs.Resolvers.{ResolvesOn}
 use Rattle.markdown_tokenizer.proofs.tokenizer.Tokenizer.resolve_each.Given as goal
 

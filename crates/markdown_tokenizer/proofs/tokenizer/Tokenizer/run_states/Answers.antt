@@ -1,7 +1,4 @@
-use Rattle.std.proofs.Common.{◌∙◌, refl}
-use Rattle.markdown_base.specs.declared.state.State.TheVariants.{Next, Retry, Ok, Nok, Error}
-use Rattle.markdown_tokenizer.specs.Text.{Given}
-use Rattle.markdown_tokenizer.specs.Lawful.{IsLawful}
+use Rattle.markdown_tokenizer.proofs.Prelude.{◌∙◌, refl, Next, Retry, Ok, Nok, Error, Given, IsLawful}
 use Rattle.markdown_tokenizer.proofs.Runs.TakingUp.{kept-first, kept-next, kept-last, kept-answer, holds-there, closes-there, fewer-left, stops-at}
 use Rattle.markdown_tokenizer.proofs.tokenizer.Tokenizer.run_states.Given.{Over}
 use Rattle.markdown_tokenizer.proofs.tokenizer.Tokenizer.run_states.Goals as goal

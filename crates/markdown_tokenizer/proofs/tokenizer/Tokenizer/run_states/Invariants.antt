@@ -1,6 +1,4 @@
-use Rattle.std.proofs.Common.{◌-◌}
-use Rattle.markdown_base.specs.declared.state.State.TheVariants.{Retry}
-use Rattle.markdown_tokenizer.specs.Engine.{budget}
+use Rattle.markdown_tokenizer.proofs.Prelude.{◌-◌, Retry, budget}
 use Rattle.markdown_tokenizer.proofs.Runs.Working.{KeptBy}
 use Rattle.markdown_tokenizer.proofs.tokenizer.Tokenizer.run_states.Given as goal
 

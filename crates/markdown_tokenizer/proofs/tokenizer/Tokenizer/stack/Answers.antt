@@ -1,4 +1,4 @@
-use Rattle.std.proofs.Common.{◌∙◌}
+use Rattle.markdown_tokenizer.proofs.Prelude.{◌∙◌}
 use Rattle.markdown_tokenizer.proofs.Inside.Steps.{stack-is}
 use Rattle.markdown_tokenizer.proofs.tokenizer.Tokenizer.stack.Goals as goal
 

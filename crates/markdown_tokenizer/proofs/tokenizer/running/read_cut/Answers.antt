@@ -1,6 +1,4 @@
-use Rattle.std.proofs.Common.{◌+◌, ℕ, [], length, get_or, refl}
-use Rattle.std.specs.Prelude.{drop}
-use Rattle.markdown_tokenizer.specs.Engine.{given_by}
+use Rattle.markdown_tokenizer.proofs.Prelude.{◌+◌, ℕ, [], length, get_or, refl, drop, given_by}
 use Rattle.markdown_tokenizer.proofs.Runs.Whole.{run-start, run-at, run-last, run-range, run-holds, run-pushed, run-flushed, run-refused, ok-if}
 use Rattle.markdown_tokenizer.proofs.tokenizer.running.read_cut.Goals as goal
 

@@ -1,4 +1,4 @@
-use Rattle.std.specs.Prelude.{drop}
+use Rattle.markdown_tokenizer.proofs.Prelude.{drop}
 use Rattle.markdown_tokenizer.proofs.Runs.Whole.{RunsBy}
 use Rattle.markdown_tokenizer.proofs.tokenizer.running.read_cut.Given as goal
 

@@ -1,4 +1,4 @@
-use Rattle.markdown_tokenizer.specs.Engine.{given_by}
+use Rattle.markdown_tokenizer.proofs.Prelude.{given_by}
 use Rattle.markdown_tokenizer.proofs.Runs.Whole.{start-is-point}
 use Rattle.markdown_tokenizer.proofs.tokenizer.running.run.Goals as goal
 

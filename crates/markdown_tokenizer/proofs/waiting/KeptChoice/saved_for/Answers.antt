@@ -1,7 +1,4 @@
-use Rattle.std.proofs.Common.{sym, refl}
-use denote.Enum.Bare.{same_true}
-use Rattle.markdown_tokenizer.specs.contracts.waiting.AttemptKind.{the_type}
-use Rattle.markdown_tokenizer.specs.declared.waiting.AttemptKind.TheVariants.{Attempt}
+use Rattle.markdown_tokenizer.proofs.Prelude.{sym, refl, same_true, the_type, Attempt}
 use Rattle.markdown_tokenizer.proofs.waiting.KeptChoice.saved_for.Goals as goal
 
 pub returns-then-eq : goal.returns-then-eq

@@ -1,4 +1,4 @@
-use Rattle.std.proofs.Common.{refl}
+use Rattle.markdown_tokenizer.proofs.Prelude.{refl}
 use Rattle.markdown_tokenizer.proofs.tokenizer.fault.FaultFromAllocError.from.Goals as goal
 
 pub returns : goal.returns
