@@ -1,5 +1,5 @@
 -- Each call that changes a text, the events or the choices of a tokenizer keeps what holds of its fields.
-use Rattle.markdown_tokenizer.proofs.Prelude.{AllByRecursion, ◌≡◌, ℕ, zero, suc, ◌≤◌, inl, inr, ◌<◌, List, [], ◌∷◌, ◌++◌, Bool, true, false, cond, Option, Some, None, length, refl, sym, ap, ◌∙◌, subst, arith, take, map, option_map, option_and_then, reverse, IfSome, unwrap_or, take_all, Point, Event, Link, ParseOptions, Seat, point, shown, stands_before, is_upto, denotes_same, IsPointOf, point_at, Waits, Nothing, Byte, End, Reading, AttemptKind, GoesOn, KeptChoice, Progress, Inside, Given, Text, Piece, pushed, passed, IsDocument, IsText, CanFollow, FitsAfter, followed_by, followed_by_all, empty_text, Choice, extended, resumed, IsSkip, IsReadyAt, tab_of, seen, text_within, end_point, seats_between, position_from, standing, reach, can_feed, choice_of, IsReadTo, ByteWaits, IsWhatWaits, IsProgress, AreNested, events_of, stack_of, IsSound, IsPlace, IsSeatAt, is_after_pair, IsMade, with_ends, unlinked, HasFrontUpToLinkEnds, linked_to, updated_at, next_set, previous_set, with_next, with_previous, length-map, stands-self}
+use Rattle.markdown_tokenizer.proofs.Prelude.{AllByRecursion, ◌≡◌, ℕ, zero, suc, ◌≤◌, inl, inr, ◌<◌, List, [], ◌∷◌, ◌++◌, Bool, true, false, cond, Option, Some, None, length, refl, sym, ap, ◌∙◌, subst, arith, take, map, option_map, option_and_then, reverse, IfSome, unwrap_or, take_all, Point, Event, Link, ParseOptions, Seat, point, shown, stands_before, is_upto, denotes_same, IsPointOf, point_at, Waits, Nothing, Byte, End, Reading, AttemptKind, GoesOn, KeptChoice, Progress, Inside, Given, Text, Piece, pushed, passed, IsDocument, IsText, CanFollow, FitsAfter, followed_by, followed_by_all, empty_text, Choice, extended, resumed, IsSkip, IsReadyAt, tab_of, seen, text_within, end_point, seats_between, position_from, standing, reach, can_feed, choice_of, IsReadTo, ByteWaits, IsWhatWaits, IsProgress, AreNested, events_of, stack_of, IsSound, IsPlace, IsSeatAt, is_after_pair, IsMade, with_ends, unlinked, HasFrontUpToLinkEnds, linked_to, updated_at, next_set, previous_set, with_next, with_previous, length-map, stands-self, Other}
 use Rattle.markdown_base.specs.declared.event.Name.{Name}
 use Rattle.markdown_tokenizer.proofs.Positions.Standing.{shown-shown, place-of-point}
 use Rattle.markdown_tokenizer.proofs.Positions.Order.{after-before}
@@ -8,6 +8,7 @@ use Rattle.markdown_tokenizer.proofs.Positions.Cursors.{upto-order, upto-upto, s
 use Rattle.markdown_tokenizer.proofs.Positions.Points.{point_at-point, point_at-is}
 use Rattle.markdown_tokenizer.proofs.Inside.Made.{made-new, made-bound, made-linked, made-kept}
 use Rattle.markdown_tokenizer.proofs.Inside.Fields.{wide_of, text_between, next-more, kept-empty, passed-seats, passed-position, passed-skips, read-passed, passed-shown, passed-resumed, still-before, read-extended, extended-seats, extended-skips, extended-more, made-more, can-feed-more, nested-map, nested-wider}
+use Rattle.markdown_tokenizer.proofs.Inside.Known.{known-other, ready-none}
 use Rattle.markdown_tokenizer.proofs.Inside.Steps.{end-place-in}
 
 -- pieces that can follow one after another
@@ -261,30 +262,25 @@ module _ {M R D : Type 0} {same : R → R → Bool} (t : Inside M R D) (sound : 
       passed-end = ap (λ (o : Option Point). unwrap_or o (point 1 1 0 0)) (point_at-point tab_in bytes_in wide_in q fits.0)
 
       module _ (list : List Point) (put : list ≡ added) where
-        pub added-end_at : point_at tab_in bytes_in (q.index, q.vs) ≡ Some (end_point tab_in bytes_in (q.index, q.vs))
-        added-end_at = let e = passed-end in rw e (point_at-point tab_in bytes_in wide_in q fits.0)
-
-        pub added-text_is : IsText (seen t).given (text_between tab_in bytes_in list t.start (end_point tab_in bytes_in (q.index, q.vs)))
-        added-text_is = let e = passed-end in rw (put, e) (subst (IsText (seen t).given) text-passed (text-more (seen t).given (text_within t) (passed q) sound.placed.text fits))
-
-        pub added-skips_are : AllByRecursion (IsSkip tab_in bytes_in (end_point tab_in bytes_in (q.index, q.vs))) list
-        added-skips_are =
-            let e = passed-end in rw (put, e) (passed-skips tab_in wide_in bytes_in skips_in t.start end_in q t.after_previous t.previous sound.placed.skips sound.placed.read (end-place-in t sound) passed-place starts-upto is.first is.line is.before is.other)
-
-        pub added-read_to : IsReadTo tab_in bytes_in list (text_between tab_in bytes_in list t.start (end_point tab_in bytes_in (q.index, q.vs))) t.after_previous t.previous
-        added-read_to = let e = passed-end in rw (put, e) (read-on t.after_previous t.previous sound.placed.read)
-
-        pub added-waiting : IsWhatWaits tab_in bytes_in list (text_between tab_in bytes_in list t.start (end_point tab_in bytes_in (q.index, q.vs))) t.after_previous t.byte t.closed t.waits
-        added-waiting = let e = passed-end in rw (put, e) waits-on
-
-        pub added-made : t.phase ≡ Reading → IsMade bytes_in t.events.items t.stack.items (shown bytes_in t.after_previous) (shown bytes_in (standing list t.after_previous t.waits))
-        added-made reads = rw put (standing-on t.events.items t.stack.items t.after_previous t.previous sound.placed.read t.waits (sound.made reads))
-
-        pub added-kept_choices : AreNested (IsProgress t.phase tab_in bytes_in list (text_between tab_in bytes_in list t.start (end_point tab_in bytes_in (q.index, q.vs))) t.events.items t.stack.items t.closed) (length t.events.items) (length t.stack.items) (reverse t.kept_choices.items)
-        added-kept_choices =
-            let e = passed-end in
-            rw (put, e) (nested-map (IsProgress t.phase tab_in bytes_in skips_in (text_within t) t.events.items t.stack.items t.closed) (IsProgress t.phase tab_in bytes_in added text_added t.events.items t.stack.items t.closed)
-            (length t.events.items) (length t.stack.items) (reverse t.kept_choices.items) (λ p a b h. saved-on p h) sound.kept_choices)
+        pub added-sound : IsSound same (record t { skips = list; end = (q.index, q.vs); ready = 0; moves = Other })
+        added-sound =
+            let e = passed-end in record {
+              placed = record {
+                tab = sound.placed.tab;
+                reads = sound.placed.reads;
+                end_at = rw e (point_at-point tab_in bytes_in wide_in q fits.0);
+                text = rw (put, e) (subst (IsText (seen t).given) text-passed (text-more (seen t).given (text_within t) (passed q) sound.placed.text fits));
+                skips = rw (put, e) (passed-skips tab_in wide_in bytes_in skips_in t.start end_in q t.after_previous t.previous sound.placed.skips sound.placed.read (end-place-in t sound) passed-place starts-upto is.first is.line is.before is.other);
+                read = rw (put, e) (read-on t.after_previous t.previous sound.placed.read);
+                waiting = rw (put, e) waits-on;
+                ended = sound.placed.ended;
+              };
+              made = λ reads. rw put (standing-on t.events.items t.stack.items t.after_previous t.previous sound.placed.read t.waits (sound.made reads));
+              kept_choices = rw (put, e) (nested-map (IsProgress t.phase tab_in bytes_in skips_in (text_within t) t.events.items t.stack.items t.closed) (IsProgress t.phase tab_in bytes_in added text_added t.events.items t.stack.items t.closed)
+                  (length t.events.items) (length t.stack.items) (reverse t.kept_choices.items) (λ p a b h. saved-on p h) sound.kept_choices);
+              once = sound.once;
+              known = known-other list t.after_previous q.index t.bytes.now tab_in bytes_in sound.known.own_bytes 0 (ready-none list t.after_previous q.index) t.waits;
+            }
 
         added-text_seen : text_between tab_in bytes_in list t.start (end_point tab_in bytes_in (q.index, q.vs)) ≡ followed_by (seen t).given (text_within t) (passed q)
         added-text_seen = let e = passed-end in rw (put, e) (sym text-passed)

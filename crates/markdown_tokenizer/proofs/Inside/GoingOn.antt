@@ -1,12 +1,12 @@
 -- Choices end, and what they go on with is fed: what that does to the fields of a tokenizer, and what it means.
-use Rattle.markdown_tokenizer.proofs.Prelude.{◌≡◌, ◌==◌, ℕ, ◌≤◌, ◌<◌, List, [], ◌∷◌, ◌++◌, Bool, true, false, cond, Option, Some, None, length, refl, sym, ap, ◌∙◌, subst, arith, take, length-take, ◌⊎◌, inl, inr, map, reverse, IfSome, IsSome, unwrap_or, nat_lt, Result, Vec, nat_tests, take-take, take_all, lt-ltb, le-ltb, Event, Kind, Enter, Exit, Point, State, Next, Ok, Nok, open_events, shown, stands-self, AttemptKind, Attempt, Check, GoesOn, KeptChoice, Other, Progress, Waits, Nothing, Byte, End, Reading, Inside, Configuration, Choice, Saved, Step, Local, TokenizerValue, at_configuration, fed, unfed, restored, settled_at, settled_all, settled_to, answer_of, answer_in, EndsClosed, TakesUp, continuation_of, saved_for, ended_by, Unwinding, unwinding, unwound, resumed, IsReadyAt, IsMade, last_kind, IsNextByte, tab_of, seen, text_within, state_of, choice_of, saved_of, position_from, standing, reach, can_feed, ByteWaits, IsWhatWaits, IsProgress, AreNested, events_of, stack_of, IsSound}
+use Rattle.markdown_tokenizer.proofs.Prelude.{◌≡◌, ◌==◌, ℕ, ◌≤◌, ◌<◌, List, [], ◌∷◌, ◌++◌, Bool, true, false, cond, Option, Some, None, length, refl, sym, ap, ◌∙◌, subst, arith, take, length-take, ◌⊎◌, inl, inr, map, reverse, IfSome, IsSome, unwrap_or, nat_lt, Result, Vec, nat_tests, take-take, take_all, lt-ltb, le-ltb, Event, Kind, Enter, Exit, Point, State, Next, Ok, Nok, open_events, shown, stands-self, AttemptKind, Attempt, Check, GoesOn, KeptChoice, Other, Progress, Waits, Nothing, Byte, End, Reading, Inside, Configuration, Choice, Saved, Step, Local, TokenizerValue, at_configuration, fed, unfed, restored, settled_at, settled_all, settled_to, answer_of, answer_in, EndsClosed, TakesUp, continuation_of, saved_for, ended_by, Unwinding, unwinding, unwound, resumed, IsReadyAt, IsMade, last_kind, IsNextByte, tab_of, seen, text_within, state_of, choice_of, saved_of, position_from, standing, reach, can_feed, IsWhatWaits, AreNested, events_of, stack_of, IsSound}
 use Rattle.std.specs.declared.result.Result.TheVariants as result
 use Rattle.markdown_base.specs.declared.event.Name.{Name}
 use Rattle.markdown_base.specs.declared.state.Name.{Name as StateName}
 use Rattle.markdown_tokenizer.specs.declared.waiting.GoesOn.TheVariants as continuation
-use Rattle.markdown_tokenizer.proofs.Inside.Fields.{wide_of, looks, next-more, next-past, next-none-left, nested-map, nested-wider, nested-front}
+use Rattle.markdown_tokenizer.proofs.Inside.Fields.{wide_of, placed-there, looks, next-more, next-past, next-none-left, nested-front}
 use Rattle.markdown_tokenizer.proofs.Inside.Steps.{before-end}
-use Rattle.markdown_tokenizer.proofs.Inside.Spans.{same-choices}
+use Rattle.markdown_tokenizer.proofs.Inside.Spans.{Saves, same-front, same-choices}
 use Rattle.markdown_tokenizer.proofs.Inside.Known.{known-other}
 use Rattle.markdown_tokenizer.proofs.Inside.Choices.{progress_of, saves-here, byte-more, closed-more}
 use Rattle.markdown_tokenizer.proofs.Inside.Made.{last_view, open_events-enter}
@@ -154,129 +154,6 @@ made-closed bytes events stack after_previous bound m e = record {
   bound_shown = m.left_shown;
 }
 
--- a tokenizer whose choices end
-module _ {M R D : Type 0} {same : R → R → Bool} (t : Inside M R D) (sound : IsSound same t) (ok : Bool) (some : t.kept_choices.items ≡ [] → ⊥) (list : List KeptChoice) (goal : GoesOn) (from : Progress)
-    (ends : unwinding (reverse list) goal from ≡ unwound (reverse t.kept_choices.items) (ended_by ok) (progress_of t)) where
-  abbrev bytes_in : List ℕ
-  bytes_in = t.parse_state.now.bytes.now
-
-  abbrev tab_in : ℕ
-  tab_in = tab_of t.parse_state.now
-
-  wide_in : 0 < tab_in
-  wide_in = wide_of t sound
-
-  abbrev position_in : Point → ℕ
-  position_in = position_from tab_in bytes_in t.skips t.start
-
-  abbrev Kept : Progress → Type 0
-  Kept = IsProgress t.phase tab_in bytes_in t.skips (text_within t) t.events.items t.stack.items t.closed
-
-  goes-from : GoesFrom Kept (progress_of t) (reverse list) from
-  goes-from = subst (λ (u : Unwinding). GoesFrom Kept (progress_of t) u.kept_choices u.from) (sym ends) (from-all Kept (reverse t.kept_choices.items) (ended_by ok) (progress_of t) (saves-here t sound) sound.kept_choices)
-
-  pub kept-here : Kept from
-  kept-here = goes-from.0
-
-  some-choices : map (choice_of position_in t.stack.items) (reverse t.kept_choices.items) ≡ [] → ⊥
-  some-choices = cases (last_view t.kept_choices.items)
-    where
-      cases : (t.kept_choices.items ≡ []) ⊎ ((ms : List KeptChoice) × (m : KeptChoice) × (t.kept_choices.items ≡ ms ++ m ∷ [])) → map (choice_of position_in t.stack.items) (reverse t.kept_choices.items) ≡ [] → ⊥
-      cases (inl none) h = some none
-      cases (inr p) h = (let e = ap (map (choice_of position_in t.stack.items)) (reverse-last t.kept_choices.items p.0 p.1 p.2) in let g = sym e ∙ h in cc)
-
-  unfed-here : unfed (seen t).configuration ≡ at_from position_in t.events.items t.stack.items (seen t).configuration.local (progress_of t)
-  unfed-here =
-      let e : take (length t.events.items) t.events.items ≡ t.events.items = take_all (length t.events.items) t.events.items (omega arith) in
-      let s : take (length t.stack.items) t.stack.items ≡ t.stack.items = take_all (length t.stack.items) t.stack.items (omega arith) in
-      rw (e, s) refl
-
-  -- what the definition comes to
-  pub settled-is : settled_all (seen t).configuration (seen t).choices (answer_of ok) ≡ step_of position_in t.events.items t.stack.items (seen t).configuration.local (unwinding (reverse list) goal from)
-  settled-is =
-      let local = (seen t).configuration.local in
-      some-unfed (seen t).choices ok (seen t).configuration some-choices
-      ∙ ap (λ (k : Configuration R D). settled_all k (seen t).choices (answer_of ok)) unfed-here
-      ∙ ap (settled_all (at_from position_in t.events.items t.stack.items local (progress_of t)) (seen t).choices) (sym (ended-state ok))
-      ∙ settled-unwound position_in t.events.items t.stack.items local Kept (reverse t.kept_choices.items) (ended_by ok) (progress_of t) (saves-here t sound) sound.kept_choices
-      ∙ ap (step_of position_in t.events.items t.stack.items local) (sym ends)
-
-  module _ (events : List Event) (stack : List Name) (cut : events ≡ take from.events_len t.events.items) (top : stack ≡ take from.stack_len t.stack.items) where
-    front-events : (n : ℕ) → n ≤ from.events_len → take n events ≡ take n t.events.items
-    front-events n le = rw cut (take-take n from.events_len t.events.items le)
-
-    front-stack : (n : ℕ) → n ≤ from.stack_len → take n stack ≡ take n t.stack.items
-    front-stack n le = rw top (take-take n from.stack_len t.stack.items le)
-
-    pub going-kept_choices : AreNested (IsProgress t.phase tab_in bytes_in t.skips (text_within t) events stack t.closed) (length events) (length stack) (reverse list)
-    going-kept_choices =
-        let Q = IsProgress t.phase tab_in bytes_in t.skips (text_within t) events stack t.closed in
-        nested-wider Q from.events_len from.stack_len (length events) (length stack) (reverse list)
-        (omega (arith, goes-from.2.0, ap length cut, length-take from.events_len t.events.items))
-        (omega (arith, goes-from.2.1, ap length top, length-take from.stack_len t.stack.items))
-        (nested-map Kept Q from.events_len from.stack_len (reverse list)
-        (λ q a b h. let e = front-events q.events_len a in let s = front-stack q.stack_len b in
-        record { read = h.read; ended = h.ended; made = rw (e, s) h.made }) goes-from.1)
-
-    pub going-choices : map (choice_of position_in stack) (reverse list) ≡ map (choice_of position_in t.stack.items) (reverse list)
-    going-choices = same-choices position_in stack t.stack.items Kept from.events_len from.stack_len (reverse list) front-stack goes-from.1
-
-    abbrev size_in : ℕ
-    size_in = length (text_within t).seats
-
-    abbrev MadeUpto : Point → Type 0
-    MadeUpto p = t.phase ≡ Reading → IsMade bytes_in events stack (shown bytes_in from.after_previous) (shown bytes_in p)
-
-    going-reach : MadeUpto (reach t.skips from.after_previous (can_feed (position_in from.after_previous) size_in t.closed))
-    going-reach = rw (cut, top) kept-here.made
-
-    reach-is : (b : Bool) → can_feed (position_in from.after_previous) size_in t.closed ≡ b → MadeUpto (reach t.skips from.after_previous b)
-    reach-is b e = subst (λ (c : Bool). MadeUpto (reach t.skips from.after_previous c)) e going-reach
-
-    -- a byte is fed
-    module _ (byte : ℕ) (n : IsNextByte tab_in bytes_in (resumed t.skips from.after_previous) t.end (Some byte)) where
-      pub byte-left : position_in from.after_previous < size_in
-      byte-left = next-more tab_in wide_in bytes_in t.skips t.start (text_within t).end from.after_previous from.previous sound.placed.skips kept-here.read n.0 n.1 (before-end t sound n.0.point ∙ n.2)
-
-      pub byte-waits-there : ByteWaits tab_in bytes_in t.skips from.after_previous (text_within t).end byte
-      byte-waits-there = record { seat = n.0; at = n.1; before = before-end t sound n.0.point ∙ n.2; is = sym n.3 }
-
-      pub byte-made : MadeUpto (resumed t.skips from.after_previous)
-      byte-made = reach-is true (byte-more (position_in from.after_previous) size_in t.closed byte-left)
-
-    -- no byte is left
-    module _ (n : IsNextByte tab_in bytes_in (resumed t.skips from.after_previous) t.end None) where
-      pub none-left-there : size_in ≤ position_in from.after_previous
-      none-left-there = by n
-        where
-          by : IsNextByte tab_in bytes_in (resumed t.skips from.after_previous) t.end None → size_in ≤ position_in from.after_previous
-          by (inl e) = next-none-left tab_in wide_in bytes_in t.skips t.start (text_within t).end from.after_previous from.previous sound.placed.skips kept-here.read e
-          by (inr m) = next-past tab_in wide_in bytes_in t.skips t.start (text_within t).end from.after_previous from.previous sound.placed.skips kept-here.read m.0 m.1 (before-end t sound m.0.point ∙ m.2)
-
-      pub end-made : t.closed ≡ true → MadeUpto (resumed t.skips from.after_previous)
-      end-made closed = reach-is true (closed-more (position_in from.after_previous) size_in t.closed closed)
-
-      pub none-made : t.closed ≡ false → MadeUpto from.after_previous
-      none-made still = reach-is false (none-more (position_in from.after_previous) size_in t.closed none-left-there still)
-        where
-          none-more : (position size : ℕ) (closed : Bool) → size ≤ position → closed ≡ false → can_feed position size closed ≡ false
-          none-more position size closed le e = let f = le-ltb position size le in rw (e, f) refl
-
-    -- the reading has ended
-    pub ended-made : stack ≡ [] → MadeUpto from.after_previous
-    ended-made e reads = made-closed bytes_in events stack (shown bytes_in from.after_previous) (shown bytes_in (reach t.skips from.after_previous (can_feed (position_in from.after_previous) size_in t.closed))) (going-reach reads) e
-
--- where the code looks for the next byte
-module _ (skips : List Point) (after_previous : Point) (slice : List Point) (place : Point) (same : slice ≡ skips) (here : place ≡ resumed slice after_previous) where
-  going-at : place ≡ resumed skips after_previous
-  going-at = here ∙ ap (λ (xs : List Point). resumed xs after_previous) same
-
-  pub going-next : (tab : ℕ) (bytes : List ℕ) (end : ℕ × ℕ) (o : Option ℕ) → IsNextByte tab bytes place end o → IsNextByte tab bytes (resumed skips after_previous) end o
-  going-next tab bytes end o h = subst (λ (p : Point). IsNextByte tab bytes p end o) going-at h
-
-  pub going-within : (bytes : List ℕ) → (0 < (resumed skips after_previous).vs → (resumed skips after_previous).index < length bytes) → 0 < place.vs → place.index < length bytes
-  going-within bytes h = subst (λ (p : Point). 0 < p.vs → p.index < length bytes) (sym going-at) h
-
 pub some-by : (items : List KeptChoice) (n : ℕ) (b : Bool) → b ≡ (n == 0) → b ≡ false → n ≡ length items → items ≡ [] → ⊥
 some-by items n b e f g none = let z : n ≡ 0 = g ∙ ap length none in let same : b ≡ true = e ∙ ap (λ (k : ℕ). k == 0) z in let c : true ≡ false = sym same ∙ f in cc
 
@@ -293,136 +170,184 @@ pub takes-ended : {M R D : Type 0} (flush : Bool) (q : TokenizerValue M R D) (ok
 takes-ended flush q true answer e f = rw e (refl, f)
 takes-ended flush q false answer e f = rw e (refl, f)
 
--- the fields once choices have ended
-module _ {M R D : Type 0} {same : R → R → Bool} (t : Inside M R D) (sound : IsSound same t) (flush ok : Bool) (some : t.kept_choices.items ≡ [] → ⊥) (kept_choices : Vec KeptChoice) (goal : GoesOn) (from : Progress)
-    (ends : unwinding (reverse kept_choices.items) goal from ≡ unwound (reverse t.kept_choices.items) (ended_by ok) (progress_of t))
-    (events : Vec Event) (stack : Vec Name) (cut : events.items ≡ take from.events_len t.events.items) (top : stack.items ≡ take from.stack_len t.stack.items)
-    (ready : ℕ) (near : IsReadyAt t.skips from.after_previous t.end.0 ready) where
-  abbrev bytes_there : List ℕ
-  bytes_there = t.parse_state.now.bytes.now
+-- Choices of a tokenizer that ended, and what the code kept of its events and its stack.
+pub record IsUnwound {M R D : Type 0} (t : Inside M R D) (ok : Bool) (kept_choices : Vec KeptChoice) (goal : GoesOn) (from : Progress) (events : Vec Event) (stack : Vec Name) (ready : ℕ) : Type 0 where
+  pub some : t.kept_choices.items ≡ [] → ⊥
+  pub ends : unwinding (reverse kept_choices.items) goal from ≡ unwound (reverse t.kept_choices.items) (ended_by ok) (progress_of t)
+  pub cut : events.items ≡ take from.events_len t.events.items
+  pub top : stack.items ≡ take from.stack_len t.stack.items
+  pub near : IsReadyAt t.skips from.after_previous t.end.0 ready
 
-  abbrev tab_there : ℕ
-  tab_there = tab_of t.parse_state.now
+-- from what the calls of the code return
+pub unwound-by : {M R D : Type 0} (t : Inside M R D) (ok : Bool) (kept_choices : Vec KeptChoice) (goal : GoesOn) (from : Progress) (events : Vec Event) (stack : Vec Name) (ready events_len stack_len choices_len : ℕ) (none : Bool)
+    → none ≡ (choices_len == 0) → none ≡ false → choices_len ≡ length t.kept_choices.items → events_len ≡ length t.events.items → stack_len ≡ length t.stack.items
+    → unwinding (reverse kept_choices.items) goal from ≡ unwound (reverse t.kept_choices.items) (ended_by ok) (record { after_previous = t.after_previous; previous = t.previous; ended = t.ended; events_len = events_len; stack_len = stack_len })
+    → events.items ≡ take from.events_len t.events.items → stack.items ≡ take from.stack_len t.stack.items → IsReadyAt t.skips from.after_previous t.end.0 ready → IsUnwound t ok kept_choices goal from events stack ready
+unwound-by t ok kept_choices goal from events stack ready events_len stack_len choices_len none is some count a b ends cut top near =
+    record { some = some-by t.kept_choices.items choices_len none is some count; ends = rw (a, b) at ends; cut = cut; top = top; near = near }
 
-  wide_there : 0 < tab_there
-  wide_there = wide_of t sound
+-- a tokenizer whose choices end
+module _ {M R D : Type 0} {same : R → R → Bool} (t : Inside M R D) (sound : IsSound same t) {ok : Bool} {kept_choices : Vec KeptChoice} {goal : GoesOn} {from : Progress} {events : Vec Event} {stack : Vec Name} {ready : ℕ}
+    (h : IsUnwound t ok kept_choices goal from events stack ready) where
+  abbrev bytes_in : List ℕ
+  bytes_in = t.parse_state.now.bytes.now
+
+  abbrev tab_in : ℕ
+  tab_in = tab_of t.parse_state.now
+
+  wide_in : 0 < tab_in
+  wide_in = wide_of t sound
+
+  abbrev position_in : Point → ℕ
+  position_in = position_from tab_in bytes_in t.skips t.start
 
   abbrev position_there : ℕ
-  position_there = position_from tab_there bytes_there t.skips t.start from.after_previous
+  position_there = position_in from.after_previous
 
-  abbrev size_there : ℕ
-  size_there = length (text_within t).seats
+  abbrev size_in : ℕ
+  size_in = length (text_within t).seats
 
-  abbrev pub after : Waits → Bool → ℕ → Inside M R D
-  after waits ended byte = record t { kept_choices = kept_choices; after_previous = from.after_previous; previous = from.previous; events = events; stack = stack; waits = waits; ended = ended; byte = byte; ready = ready; moves = Other }
+  goes-from : GoesFrom (Saves t) (progress_of t) (reverse kept_choices.items) from
+  goes-from = subst (λ (u : Unwinding). GoesFrom (Saves t) (progress_of t) u.kept_choices u.from) (sym h.ends) (from-all (Saves t) (reverse t.kept_choices.items) (ended_by ok) (progress_of t) (saves-here t sound) sound.kept_choices)
+
+  kept-here : Saves t from
+  kept-here = goes-from.0
+
+  some-choices : map (choice_of position_in t.stack.items) (reverse t.kept_choices.items) ≡ [] → ⊥
+  some-choices = cases (last_view t.kept_choices.items)
+    where
+      cases : (t.kept_choices.items ≡ []) ⊎ ((ms : List KeptChoice) × (m : KeptChoice) × (t.kept_choices.items ≡ ms ++ m ∷ [])) → map (choice_of position_in t.stack.items) (reverse t.kept_choices.items) ≡ [] → ⊥
+      cases (inl none) e = h.some none
+      cases (inr p) f = (let e = ap (map (choice_of position_in t.stack.items)) (reverse-last t.kept_choices.items p.0 p.1 p.2) in let g = sym e ∙ f in cc)
+
+  unfed-here : unfed (seen t).configuration ≡ at_from position_in t.events.items t.stack.items (seen t).configuration.local (progress_of t)
+  unfed-here =
+      let e : take (length t.events.items) t.events.items ≡ t.events.items = take_all (length t.events.items) t.events.items (omega arith) in
+      let s : take (length t.stack.items) t.stack.items ≡ t.stack.items = take_all (length t.stack.items) t.stack.items (omega arith) in
+      rw (e, s) refl
+
+  abbrev step_there : Step R D
+  step_there = step_of position_in t.events.items t.stack.items (seen t).configuration.local (unwinding (reverse kept_choices.items) goal from)
+
+  -- what the definition comes to
+  settled-is : settled_all (seen t).configuration (seen t).choices (answer_of ok) ≡ step_there
+  settled-is =
+      let local = (seen t).configuration.local in
+      some-unfed (seen t).choices ok (seen t).configuration some-choices
+      ∙ ap (λ (k : Configuration R D). settled_all k (seen t).choices (answer_of ok)) unfed-here
+      ∙ ap (settled_all (at_from position_in t.events.items t.stack.items local (progress_of t)) (seen t).choices) (sym (ended-state ok))
+      ∙ settled-unwound position_in t.events.items t.stack.items local (Saves t) (reverse t.kept_choices.items) (ended_by ok) (progress_of t) (saves-here t sound) sound.kept_choices
+      ∙ ap (step_of position_in t.events.items t.stack.items local) (sym h.ends)
+
+  front-stack : (n : ℕ) → n ≤ from.stack_len → take n stack.items ≡ take n t.stack.items
+  front-stack n le = rw h.top (take-take n from.stack_len t.stack.items le)
+
+  abbrev MadeUpto : Point → Type 0
+  MadeUpto p = t.phase ≡ Reading → IsMade bytes_in events.items stack.items (shown bytes_in from.after_previous) (shown bytes_in p)
+
+  reach-is : (b : Bool) → can_feed position_there size_in t.closed ≡ b → MadeUpto (reach t.skips from.after_previous b)
+  reach-is b e = let cut = h.cut in let top = h.top in subst (λ (c : Bool). MadeUpto (reach t.skips from.after_previous c)) e (rw (cut, top) kept-here.made)
 
   abbrev NextThere : Option ℕ → Type 0
-  NextThere o = IsNextByte tab_there bytes_there (resumed t.skips from.after_previous) t.end o
+  NextThere o = IsNextByte tab_in bytes_in (resumed t.skips from.after_previous) t.end o
 
-  sound-by : (waits : Waits) (ended : Bool) (byte : ℕ) → IsWhatWaits tab_there bytes_there t.skips (text_within t) from.after_previous byte t.closed waits → (ended ≡ true → t.closed ≡ true)
-      → (t.phase ≡ Reading → IsMade bytes_there events.items stack.items (shown bytes_there from.after_previous) (shown bytes_there (standing t.skips from.after_previous waits))) → IsSound same (after waits ended byte)
+  -- where the code looks for the next byte
+  pub next-there : (slice : List Point) (place : Point) (o : Option ℕ) → slice ≡ t.skips → place ≡ resumed slice from.after_previous → ((tab : ℕ) → 0 < tab → IsNextByte tab bytes_in place t.end o) → NextThere o
+  next-there slice place o e f next = subst (λ (p : Point). IsNextByte tab_in bytes_in p t.end o) (f ∙ ap (λ (xs : List Point). resumed xs from.after_previous) e) (next tab_in wide_in)
+
+  pub within-there : (slice : List Point) (place : Point) → slice ≡ t.skips → place ≡ resumed slice from.after_previous → 0 < place.vs → place.index < length bytes_in
+  within-there slice place e f = subst (λ (p : Point). 0 < p.vs → p.index < length bytes_in) (sym (f ∙ ap (λ (xs : List Point). resumed xs from.after_previous) e))
+      (looks tab_in wide_in bytes_in t.skips t.start (text_within t).end from.after_previous from.previous sound.placed.skips kept-here.read).place.bounds.tab
+
+  byte-left : (byte : ℕ) → NextThere (Some byte) → position_there < size_in
+  byte-left byte n = next-more tab_in wide_in bytes_in t.skips t.start (text_within t).end from.after_previous from.previous sound.placed.skips kept-here.read n.0 n.1 (before-end t sound n.0.point ∙ n.2)
+
+  none-left : NextThere None → size_in ≤ position_there
+  none-left (inl e) = next-none-left tab_in wide_in bytes_in t.skips t.start (text_within t).end from.after_previous from.previous sound.placed.skips kept-here.read e
+  none-left (inr m) = next-past tab_in wide_in bytes_in t.skips t.start (text_within t).end from.after_previous from.previous sound.placed.skips kept-here.read m.0 m.1 (before-end t sound m.0.point ∙ m.2)
+
+  none-more : (position size : ℕ) (closed : Bool) → size ≤ position → closed ≡ false → can_feed position size closed ≡ false
+  none-more position size closed le e = let f = le-ltb position size le in rw (e, f) refl
+
+  -- the fields once the choices have ended
+  abbrev after : Waits → Bool → ℕ → Inside M R D
+  after waits ended byte = record t { kept_choices = kept_choices; after_previous = from.after_previous; previous = from.previous; events = events; stack = stack; waits = waits; ended = ended; byte = byte; ready = ready; moves = Other }
+
+  sound-by : (waits : Waits) (ended : Bool) (byte : ℕ) → IsWhatWaits tab_in bytes_in t.skips (text_within t) from.after_previous byte t.closed waits → (ended ≡ true → t.closed ≡ true)
+      → MadeUpto (standing t.skips from.after_previous waits) → IsSound same (after waits ended byte)
   sound-by waits ended byte w e m = record {
-    placed = record {
-      tab = sound.placed.tab;
-      reads = sound.placed.reads;
-      end_at = sound.placed.end_at;
-      text = sound.placed.text;
-      skips = sound.placed.skips;
-      read = (kept-here t sound ok some kept_choices.items goal from ends).read;
-      waiting = w;
-      ended = e;
-    };
+    placed = placed-there sound.placed kept-here.read w e;
     made = m;
-    kept_choices = going-kept_choices t sound ok some kept_choices.items goal from ends events.items stack.items cut top;
+    kept_choices = same-front t from.events_len from.stack_len events.items stack.items (reverse kept_choices.items)
+        (omega (arith, goes-from.2.0, ap length h.cut, length-take from.events_len t.events.items))
+        (omega (arith, goes-from.2.1, ap length h.top, length-take from.stack_len t.stack.items))
+        (λ n le. let cut = h.cut in rw cut (take-take n from.events_len t.events.items le)) front-stack goes-from.1;
     once = sound.once;
-    known = known-other t.skips from.after_previous t.end.0 t.bytes.now tab_there bytes_there sound.known.own_bytes ready near waits;
+    known = known-other t.skips from.after_previous t.end.0 t.bytes.now tab_in bytes_in sound.known.own_bytes ready h.near waits;
   }
 
   -- a byte
   pub byte-sound : (byte : ℕ) → NextThere (Some byte) → IsSound same (after Byte from.ended byte)
-  byte-sound byte n = sound-by Byte from.ended byte (byte-waits-there t sound ok some kept_choices.items goal from ends events.items stack.items cut top byte n)
-      (kept-here t sound ok some kept_choices.items goal from ends).ended (byte-made t sound ok some kept_choices.items goal from ends events.items stack.items cut top byte n)
+  byte-sound byte n = sound-by Byte from.ended byte (record { seat = n.0; at = n.1; before = before-end t sound n.0.point ∙ n.2; is = sym n.3 }) kept-here.ended
+      (reach-is true (byte-more position_there size_in t.closed (byte-left byte n)))
 
   -- the end
   pub end-sound : NextThere None → t.closed ≡ true → IsSound same (after End true t.byte)
-  end-sound n closed = sound-by End true t.byte (record { closed_too = closed; all = none-left-there t sound ok some kept_choices.items goal from ends events.items stack.items cut top n })
-      (λ _. closed) (end-made t sound ok some kept_choices.items goal from ends events.items stack.items cut top n closed)
+  end-sound n closed = sound-by End true t.byte (record { closed_too = closed; all = none-left n }) (λ _. closed) (reach-is true (closed-more position_there size_in t.closed closed))
 
   -- nothing
   pub none-sound : NextThere None → t.closed ≡ false → IsSound same (after Nothing from.ended t.byte)
-  none-sound n still = sound-by Nothing from.ended t.byte tt (kept-here t sound ok some kept_choices.items goal from ends).ended
-      (none-made t sound ok some kept_choices.items goal from ends events.items stack.items cut top n still)
+  none-sound n still = sound-by Nothing from.ended t.byte tt kept-here.ended (reach-is false (none-more position_there size_in t.closed (none-left n) still))
 
   -- the reading has ended
   pub ended-sound : stack.items ≡ [] → IsSound same (after Nothing from.ended t.byte)
-  ended-sound e = sound-by Nothing from.ended t.byte tt (kept-here t sound ok some kept_choices.items goal from ends).ended
-      (ended-made t sound ok some kept_choices.items goal from ends events.items stack.items cut top e)
-
-  abbrev step_there : Step R D
-  step_there = step_of (position_from tab_there bytes_there t.skips t.start) t.events.items t.stack.items (seen t).configuration.local (unwinding (reverse kept_choices.items) goal from)
-
-  abbrev TakesThere : TokenizerValue M R D → Result StateName State → Type 0
-  TakesThere new answer = let s = settled_all (seen t).configuration (seen t).choices (answer_of ok) in TakesUp flush (settled_to (seen t) s) new s.answer answer
-
-  by-step : (new : TokenizerValue M R D) (answer : Result StateName State) → TakesUp flush (settled_to (seen t) step_there) new (state_of goal) answer → TakesThere new answer
-  by-step new answer h = subst (λ (s : Step R D). TakesUp flush (settled_to (seen t) s) new s.answer answer) (sym (settled-is t sound ok some kept_choices.items goal from ends)) h
+  ended-sound e = sound-by Nothing from.ended t.byte tt kept-here.ended
+      (λ reads. made-closed bytes_in events.items stack.items (shown bytes_in from.after_previous) (shown bytes_in (reach t.skips from.after_previous (can_feed position_there size_in t.closed))) (reach-is _ refl reads) e)
 
   abbrev waiting_there : Waits → Bool → TokenizerValue M R D
-  waiting_there waits ended = record {
-    given = (seen t).given;
-    machine = (seen t).machine;
-    text = (seen t).text;
-    configuration = record {
-      position = position_there;
-      waiting = waits;
-      ended = ended;
-      events = take from.events_len t.events.items;
-      stack = take from.stack_len t.stack.items;
-      local = (seen t).configuration.local;
-    };
-    choices = step_there.choices;
-    calls = (seen t).calls;
-    closed = (seen t).closed;
-    phase = (seen t).phase;
-  }
+  waiting_there waits ended = record (seen t) { configuration = record step_there.configuration { waiting = waits; ended = ended }; choices = step_there.choices }
 
   seen-there : (waits : Waits) (ended : Bool) (byte : ℕ) → seen (after waits ended byte) ≡ waiting_there waits ended
-  seen-there waits ended byte = let c = going-choices t sound ok some kept_choices.items goal from ends events.items stack.items cut top in rw (c, cut, top) refl
+  seen-there waits ended byte =
+      let choices = same-choices position_in stack.items t.stack.items (Saves t) from.events_len from.stack_len (reverse kept_choices.items) front-stack goes-from.1 in
+      let cut = h.cut in let top = h.top in
+      rw (choices, cut, top) refl
 
-  fed-there : (b : Bool) → nat_lt position_there size_there ≡ b
+  fed-there : (b : Bool) → nat_lt position_there size_in ≡ b
       → at_configuration (settled_to (seen t) step_there) (fed (seen t).text step_there.configuration) ≡ cond b (waiting_there Byte from.ended) (waiting_there End true)
   fed-there true e = rw e refl
   fed-there false e = rw e refl
 
-  -- what waits, and for which state
-  pub takes-byte : (name : StateName) (byte : ℕ) → goal ≡ continuation.Next name → NextThere (Some byte) → TakesThere (seen (after Byte from.ended byte)) (result.Ok name)
-  takes-byte name byte e n =
-      let lt = byte-left t sound ok some kept_choices.items goal from ends events.items stack.items cut top byte n in
-      by-step _ _ (rw e (refl, seen-there Byte from.ended byte ∙ sym (fed-there true (lt-ltb position_there size_there lt)), λ f. lt))
-
-  pub takes-end : (name : StateName) → goal ≡ continuation.Next name → flush ≡ true → NextThere None → TakesThere (seen (after End true t.byte)) (result.Ok name)
-  takes-end name e f n =
-      let le = none-left-there t sound ok some kept_choices.items goal from ends events.items stack.items cut top n in
-      by-step _ _ (rw e (refl, seen-there End true t.byte ∙ sym (fed-there false (le-ltb position_there size_there le)), λ g. absurd (let c : true ≡ false = sym f ∙ g in cc)))
-
-  pub takes-none : (name : StateName) → goal ≡ continuation.Next name → flush ≡ false → NextThere None → TakesThere (seen (after Nothing from.ended t.byte)) (result.Err (Next name))
-  takes-none name e f n =
-      let le = none-left-there t sound ok some kept_choices.items goal from ends events.items stack.items cut top n in
-      by-step _ _ (rw e (seen-there Nothing from.ended t.byte, refl, f, le))
-
-  pub takes-ok : goal ≡ continuation.Ok → TakesThere (seen (after Nothing from.ended t.byte)) (result.Err Ok)
-  takes-ok e = by-step _ _ (rw e (seen-there Nothing from.ended t.byte, refl))
-
-  pub takes-nok : goal ≡ continuation.Nok → TakesThere (seen (after Nothing from.ended t.byte)) (result.Err Nok)
-  takes-nok e = by-step _ _ (rw e (seen-there Nothing from.ended t.byte, refl))
-
   -- no span is open where the reading has ended
   pub closes : EndsClosed (settled_all (seen t).configuration (seen t).choices (answer_of ok)) → (goal ≡ continuation.Ok) ⊎ (goal ≡ continuation.Nok) → stack.items ≡ []
-  closes h o = top ∙ subst EndsClosed (settled-is t sound ok some kept_choices.items goal from ends) h (answered o)
+  closes closed o = h.top ∙ subst EndsClosed settled-is closed (answered o)
     where
       answered : (goal ≡ continuation.Ok) ⊎ (goal ≡ continuation.Nok) → IsSome (answer_in (state_of goal))
       answered (inl e) = rw e refl
       answered (inr e) = rw e refl
 
-  pub within-there : 0 < (resumed t.skips from.after_previous).vs → (resumed t.skips from.after_previous).index < length bytes_there
-  within-there = (looks tab_there wide_there bytes_there t.skips t.start (text_within t).end from.after_previous from.previous sound.placed.skips (kept-here t sound ok some kept_choices.items goal from ends).read).place.bounds.tab
+  module _ (flush : Bool) where
+    abbrev TakesThere : TokenizerValue M R D → Result StateName State → Type 0
+    TakesThere new answer = let s = settled_all (seen t).configuration (seen t).choices (answer_of ok) in TakesUp flush (settled_to (seen t) s) new s.answer answer
+
+    by-step : (new : TokenizerValue M R D) (answer : Result StateName State) → TakesUp flush (settled_to (seen t) step_there) new (state_of goal) answer → TakesThere new answer
+    by-step new answer takes = subst (λ (s : Step R D). TakesUp flush (settled_to (seen t) s) new s.answer answer) (sym settled-is) takes
+
+    -- what waits, and for which state
+    pub takes-byte : (name : StateName) (byte : ℕ) → goal ≡ continuation.Next name → NextThere (Some byte) → TakesThere (seen (after Byte from.ended byte)) (result.Ok name)
+    takes-byte name byte e n =
+        let lt = byte-left byte n in
+        by-step _ _ (rw e (refl, seen-there Byte from.ended byte ∙ sym (fed-there true (lt-ltb position_there size_in lt)), λ f. lt))
+
+    pub takes-end : (name : StateName) → goal ≡ continuation.Next name → flush ≡ true → NextThere None → TakesThere (seen (after End true t.byte)) (result.Ok name)
+    takes-end name e f n =
+        by-step _ _ (rw e (refl, seen-there End true t.byte ∙ sym (fed-there false (le-ltb position_there size_in (none-left n))), λ g. absurd (let c : true ≡ false = sym f ∙ g in cc)))
+
+    pub takes-none : (name : StateName) → goal ≡ continuation.Next name → flush ≡ false → NextThere None → TakesThere (seen (after Nothing from.ended t.byte)) (result.Err (Next name))
+    takes-none name e f n = by-step _ _ (rw e (seen-there Nothing from.ended t.byte, refl, f, none-left n))
+
+    pub takes-ok : goal ≡ continuation.Ok → TakesThere (seen (after Nothing from.ended t.byte)) (result.Err Ok)
+    takes-ok e = by-step _ _ (rw e (seen-there Nothing from.ended t.byte, refl))
+
+    pub takes-nok : goal ≡ continuation.Nok → TakesThere (seen (after Nothing from.ended t.byte)) (result.Err Nok)
+    takes-nok e = by-step _ _ (rw e (seen-there Nothing from.ended t.byte, refl))

@@ -1,5 +1,5 @@
 -- What a tokenizer keeps of its events, call by call.
-use Rattle.markdown_tokenizer.proofs.Prelude.{◌≡◌, ℕ, zero, suc, ◌+◌, ◌-◌, ◌≤◌, Bool, true, false, cond, List, [], ◌∷◌, ◌++◌, Option, Some, None, length, take, map, reverse, get_or, refl, sym, ◌∙◌, ap, subst, arith, ◌⊎◌, inl, inr, slice_get, All, AllPairs, last_or, reverse-append, take-map, map-append, length-map, get_or_append_left, get_or_push, length_push, take_at, take-take, get_or-map, All-nil, All-push, All-weaker, all_pairs_push, Event, Kind, Enter, Exit, Link, Point, IsBalanced, empty, span, is_void, open_after, open_events, open_events_from, same_name, unlinked, HasFrontUpToLinkEnds, IsInOrder, IsVoidTight, stands_before, IsShown, open_events_from-unlinked, stands-self, names_after, names_after_all, names_after_all-append, same_name-refl, balanced_from_open, none_is_not_some, names-none, IsMade, VoidExitsFollow, last_kind}
+use Rattle.markdown_tokenizer.proofs.Prelude.{◌≡◌, ℕ, zero, suc, ◌+◌, ◌-◌, ◌≤◌, Bool, true, false, cond, List, [], ◌∷◌, ◌++◌, Option, Some, None, length, take, map, reverse, get_or, refl, sym, ◌∙◌, ap, subst, arith, ◌⊎◌, inl, inr, slice_get, All, AllPairs, last_or, reverse-append, take-map, map-append, length-map, get_or_append_left, get_or_push, length_push, take_at, take-take, get_or-map, All-nil, All-push, All-weaker, all_pairs_push, Event, Kind, Enter, Exit, Point, IsBalanced, empty, span, is_void, open_after, open_events, open_events_from, same_name, unlinked, HasFrontUpToLinkEnds, IsInOrder, IsVoidTight, stands_before, IsShown, open_events_from-unlinked, stands-self, names_after, names_after_all, names_after_all-append, same_name-refl, balanced_from_open, none_is_not_some, names-none, IsMade, VoidExitsFollow, last_kind}
 use Rattle.std.proofs.lemmas.List.{length-append}
 use Rattle.markdown_base.specs.declared.event.Name.{Name}
 use Rattle.markdown_tokenizer.proofs.Positions.Order.{after-before, later-later}
@@ -211,20 +211,6 @@ module _ (bytes : List ℕ) (events : List Event) (stack : List Name) (after_pre
     bound_shown = b;
   }
 
--- an enter at the current place
-pub made-enter-at : (bytes : List ℕ) (events : List Event) (stack : List Name) (after_previous bound : Point) → IsMade bytes events stack after_previous bound → (name : Name) (link : Option Link)
-    → IsMade bytes (events ++ record { kind = Enter; name = name; point = bound; link = link } ∷ []) (stack ++ name ∷ []) after_previous bound
-made-enter-at bytes events stack after_previous bound m name link =
-    made-enter bytes events stack after_previous bound m (record { kind = Enter; name = name; point = bound; link = link }) refl (stands-self bound) (stands-self bound) m.bound_shown
-
--- an exit of the last open name
-pub made-exit-at : (bytes : List ℕ) (events : List Event) (stack : List Name) (after_previous bound : Point) → IsMade bytes events stack after_previous bound → (name : Name) → last_or None stack ≡ Some name
-    → ((o : Event) → last_or None (open_events events) ≡ Some o → stands_before o.point after_previous ≡ true)
-    → (is_void name ≡ true → (o : Event) × (last_or None events ≡ Some o) × (o.kind ≡ Enter))
-    → IsMade bytes (events ++ record { kind = Exit; name = name; point = after_previous; link = None } ∷ []) (take (length stack - 1) stack) after_previous bound
-made-exit-at bytes events stack after_previous bound m name top read last =
-    made-exit bytes events stack after_previous bound m (record { kind = Exit; name = name; point = after_previous; link = None }) refl refl top read last
-
 -- ---- ends
 
 -- the first of these is the exit of the name
@@ -290,8 +276,6 @@ pub made-end : (bytes : List ℕ) (events : List Event) (after_previous bound : 
 made-end bytes events after_previous bound m =
     let balanced : IsBalanced events = balanced_from_open events m.nested in
     (balanced, λ k e is en v. followed-at is_void events (balanced-followed is_void balanced Exit m.tight) k e is en v, m.in_order)
-
--- ---- what choices saved
 
 -- ---- links
 

@@ -1,7 +1,7 @@
 -- A span begins or ends: the fields of a tokenizer keep what holds of them.
-use Rattle.markdown_tokenizer.proofs.Prelude.{◌≡◌, ℕ, suc, ◌-◌, ◌≤◌, ◌<◌, List, [], ◌∷◌, ◌++◌, Bool, Option, Some, None, length, refl, sym, ap, ◌∙◌, subst, arith, length-append, take, length-take, map, reverse, IfSome, All, take-append-le, take-take, Point, Event, Link, Enter, Exit, shown, Waits, Nothing, Byte, End, Reading, AttemptKind, GoesOn, KeptChoice, Progress, Inside, Choice, CanExit, resumed, tab_of, seen, text_within, position_from, standing, choice_of, saved_of, IsProgress, AreNested, events_of, stack_of, IsSound, IsMade, sight}
+use Rattle.markdown_tokenizer.proofs.Prelude.{◌≡◌, ℕ, suc, ◌-◌, ◌≤◌, ◌<◌, List, [], ◌∷◌, ◌++◌, Bool, Option, Some, None, length, refl, sym, ap, ◌∙◌, subst, arith, length-append, take, length-take, map, reverse, IfSome, All, take-append-le, take-take, Point, Event, Link, Enter, Exit, shown, Waits, Nothing, Byte, End, AttemptKind, GoesOn, KeptChoice, Progress, Inside, Choice, CanExit, resumed, tab_of, seen, text_within, position_from, standing, choice_of, saved_of, IsProgress, AreNested, events_of, stack_of, IsSound, Vec, with_enter, with_exit, stands-self}
 use Rattle.markdown_base.specs.declared.event.Name.{Name}
-use Rattle.markdown_tokenizer.proofs.Inside.Made.{made-enter-at, made-exit-at}
+use Rattle.markdown_tokenizer.proofs.Inside.Made.{made-enter, made-exit}
 use Rattle.markdown_tokenizer.proofs.Inside.Fields.{nested-map, nested-wider}
 use Rattle.markdown_tokenizer.proofs.Inside.Steps.{here-is, after_previous-is}
 
@@ -27,6 +27,19 @@ same-choices position a b P events stack (choice ∷ kept_choices) same h =
     let others = same-choices position a b P (events_of events choice.saved) (stack_of stack choice.saved) kept_choices (narrower a b stack P events choice.saved same h.0) h.1 in
     ap (λ (c : Choice). c ∷ map (choice_of position a) kept_choices) first ∙ ap (λ (cs : List Choice). choice_of position b choice ∷ cs) others
 
+-- what a choice of a tokenizer saved
+abbrev pub Saves : {M R D : Type 0} → Inside M R D → Progress → Type 0
+Saves t = IsProgress t.phase (tab_of t.parse_state.now) t.parse_state.now.bytes.now t.skips (text_within t) t.events.items t.stack.items t.closed
+
+-- choices saved the same of other events and another stack, where the front is the same
+pub same-front : {M R D : Type 0} (t : Inside M R D) (m n : ℕ) (events : List Event) (stack : List Name) (kept_choices : List KeptChoice) → m ≤ length events → n ≤ length stack
+    → ((k : ℕ) → k ≤ m → take k events ≡ take k t.events.items) → ((k : ℕ) → k ≤ n → take k stack ≡ take k t.stack.items) → AreNested (Saves t) m n kept_choices
+    → AreNested (IsProgress t.phase (tab_of t.parse_state.now) t.parse_state.now.bytes.now t.skips (text_within t) events stack t.closed) (length events) (length stack) kept_choices
+same-front t m n events stack kept_choices more higher front top h =
+    let Q = IsProgress t.phase (tab_of t.parse_state.now) t.parse_state.now.bytes.now t.skips (text_within t) events stack t.closed in
+    nested-wider Q m n (length events) (length stack) kept_choices more higher (nested-map (Saves t) Q m n kept_choices
+    (λ p a b h. let e = front p.events_len a in let s = top p.stack_len b in record { read = h.read; ended = h.ended; made = rw (e, s) h.made }) h)
+
 -- the code's place, from its list of gaps
 pub entered-here : {M R D : Type 0} (t : Inside M R D) (slice : List Point) (place here : Point) → slice ≡ t.skips → place ≡ standing slice t.after_previous t.waits
     → here ≡ shown t.parse_state.now.bytes.now place → here ≡ shown t.parse_state.now.bytes.now (standing t.skips t.after_previous t.waits)
@@ -45,42 +58,30 @@ entered-there t slice here e there is =
 
 module _ {M R D : Type 0} {same : R → R → Bool} (t : Inside M R D) (sound : IsSound same t) where
   -- a span begins
-  module _ (name : Name) (link : Option Link) (here : Point) (is : here ≡ shown t.parse_state.now.bytes.now (standing t.skips t.after_previous t.waits)) (events : List Event) (stack : List Name)
-      (put : events ≡ t.events.items ++ record { kind = Enter; name = name; point = here; link = link } ∷ []) (top : stack ≡ t.stack.items ++ name ∷ []) where
-    abbrev left_in : Point
-    left_in = shown t.parse_state.now.bytes.now t.after_previous
-
-    abbrev bound_in : Point
-    bound_in = shown t.parse_state.now.bytes.now (standing t.skips t.after_previous t.waits)
-
-    pub entered-made : t.phase ≡ Reading → IsMade t.parse_state.now.bytes.now events stack left_in bound_in
-    entered-made reads =
-        rw (put, top, is) (made-enter-at t.parse_state.now.bytes.now t.events.items t.stack.items left_in bound_in (sound.made reads) name link)
-
-    entered-front : (n : ℕ) → n ≤ length t.stack.items → take n stack ≡ take n t.stack.items
+  module _ (name : Name) (link : Option Link) (here : Point) (is : here ≡ shown t.parse_state.now.bytes.now (standing t.skips t.after_previous t.waits)) (events : Vec Event) (stack : Vec Name)
+      (put : events.items ≡ t.events.items ++ record { kind = Enter; name = name; point = here; link = link } ∷ []) (top : stack.items ≡ t.stack.items ++ name ∷ []) where
+    entered-front : (n : ℕ) → n ≤ length t.stack.items → take n stack.items ≡ take n t.stack.items
     entered-front n le = rw top (take-append-le n t.stack.items (name ∷ []) le)
 
-    entered-events : (n : ℕ) → n ≤ length t.events.items → take n events ≡ take n t.events.items
-    entered-events n le = rw put (take-append-le n t.events.items (record { kind = Enter; name = name; point = here; link = link } ∷ []) le)
+    pub entered-sound : IsSound same (record t { events = events; stack = stack })
+    entered-sound = record {
+      placed = sound.placed;
+      made = λ reads. rw (put, top, is) (let bound = shown t.parse_state.now.bytes.now (standing t.skips t.after_previous t.waits) in let m = sound.made reads in
+          made-enter t.parse_state.now.bytes.now t.events.items t.stack.items (shown t.parse_state.now.bytes.now t.after_previous) bound m (record { kind = Enter; name = name; point = bound; link = link }) refl
+          (stands-self bound) (stands-self bound) m.bound_shown);
+      kept_choices = same-front t (length t.events.items) (length t.stack.items) events.items stack.items (reverse t.kept_choices.items)
+          (omega (arith, ap length put, length-append t.events.items (record { kind = Enter; name = name; point = here; link = link } ∷ [])))
+          (omega (arith, ap length top, length-append t.stack.items (name ∷ [])))
+          (λ n le. rw put (take-append-le n t.events.items (record { kind = Enter; name = name; point = here; link = link } ∷ []) le)) entered-front sound.kept_choices;
+      once = sound.once;
+      known = sound.known;
+    }
 
-    pub entered-kept_choices : AreNested (IsProgress t.phase (tab_of t.parse_state.now) t.parse_state.now.bytes.now t.skips (text_within t) events stack t.closed) (length events) (length stack) (reverse t.kept_choices.items)
-    entered-kept_choices =
-        let P = IsProgress t.phase (tab_of t.parse_state.now) t.parse_state.now.bytes.now t.skips (text_within t) t.events.items t.stack.items t.closed in
-        let Q = IsProgress t.phase (tab_of t.parse_state.now) t.parse_state.now.bytes.now t.skips (text_within t) events stack t.closed in
-        nested-wider Q (length t.events.items) (length t.stack.items) (length events) (length stack) (reverse t.kept_choices.items)
-        (omega (arith, ap length put, length-append t.events.items (record { kind = Enter; name = name; point = here; link = link } ∷ [])))
-        (omega (arith, ap length top, length-append t.stack.items (name ∷ [])))
-        (nested-map P Q (length t.events.items) (length t.stack.items) (reverse t.kept_choices.items)
-        (λ p a b h. let e = entered-events p.events_len a in let s = entered-front p.stack_len b in
-        record { read = h.read; ended = h.ended; made = rw (e, s) h.made }) sound.kept_choices)
-
-    pub entered-choices : map (choice_of (position_from (tab_of t.parse_state.now) t.parse_state.now.bytes.now t.skips t.start) stack) (reverse t.kept_choices.items) ≡ map (choice_of (position_from (tab_of t.parse_state.now) t.parse_state.now.bytes.now t.skips t.start) t.stack.items) (reverse t.kept_choices.items)
-    entered-choices =
-        same-choices (position_from (tab_of t.parse_state.now) t.parse_state.now.bytes.now t.skips t.start) stack t.stack.items (IsProgress t.phase (tab_of t.parse_state.now) t.parse_state.now.bytes.now t.skips (text_within t) t.events.items t.stack.items t.closed)
-        (length t.events.items) (length t.stack.items) (reverse t.kept_choices.items) entered-front sound.kept_choices
-
-    pub entered-at : here ≡ (sight (seen t).given (seen t).text (seen t).configuration).enter_place
-    entered-at = is ∙ here-is t sound
+    pub entered-seen : seen (record t { events = events; stack = stack }) ≡ with_enter name link (seen t)
+    entered-seen =
+        let choices = same-choices (position_from (tab_of t.parse_state.now) t.parse_state.now.bytes.now t.skips t.start) stack.items t.stack.items (Saves t) (length t.events.items) (length t.stack.items) (reverse t.kept_choices.items) entered-front sound.kept_choices in
+        let at = is ∙ here-is t sound in
+        rw (choices, put, top, at) refl
 
 module _ (position : Point → ℕ) (stack : List Name) (P : Progress → Type 0) where
   abbrev IsAbove : Choice → Type 0
@@ -105,48 +106,33 @@ module _ (position : Point → ℕ) (stack : List Name) (P : Progress → Type 0
   nested-below events [] a h = tt
   nested-below events (choice ∷ kept_choices) a h = below-mark events choice.saved kept_choices (first-above choice kept_choices a) (nested-below events kept_choices (rest-above choice kept_choices a)) h.0 h.1
 
-module _ {M R D : Type 0} {same : R → R → Bool} (t : Inside M R D) (sound : IsSound same t) (name : Name) (can : CanExit name (seen t)) (events : List Event) (stack : List Name) (here : Point)
-    (is : here ≡ shown t.parse_state.now.bytes.now t.after_previous)
-    (put : events ≡ t.events.items ++ record { kind = Exit; name = name; point = here; link = None } ∷ []) (top : stack ≡ take (length t.stack.items - 1) t.stack.items) where
-  abbrev left_at : Point
-  left_at = shown t.parse_state.now.bytes.now t.after_previous
-
-  abbrev bound_at : Point
-  bound_at = shown t.parse_state.now.bytes.now (standing t.skips t.after_previous t.waits)
-
-  pub exited-made : t.phase ≡ Reading → IsMade t.parse_state.now.bytes.now events stack left_at bound_at
-  exited-made reads =
-      let l = after_previous-is t sound in
-      rw (put, top, is) (made-exit-at t.parse_state.now.bytes.now t.events.items t.stack.items left_at bound_at (sound.made reads) name can.top
-      (λ o e. rw l (can.read o e)) can.void)
-
-  exited-front : (n : ℕ) → n ≤ length t.stack.items - 1 → take n stack ≡ take n t.stack.items
+module _ {M R D : Type 0} {same : R → R → Bool} (t : Inside M R D) (sound : IsSound same t) (name : Name) (can : CanExit name (seen t)) (here : Point)
+    (is : here ≡ shown t.parse_state.now.bytes.now t.after_previous) (events : Vec Event) (stack : Vec Name)
+    (put : events.items ≡ t.events.items ++ record { kind = Exit; name = name; point = here; link = None } ∷ []) (top : stack.items ≡ take (length t.stack.items - 1) t.stack.items) where
+  exited-front : (n : ℕ) → n ≤ length t.stack.items - 1 → take n stack.items ≡ take n t.stack.items
   exited-front n le = rw top (take-take n (length t.stack.items - 1) t.stack.items le)
 
-  exited-events : (n : ℕ) → n ≤ length t.events.items → take n events ≡ take n t.events.items
-  exited-events n le = rw put (take-append-le n t.events.items (record { kind = Exit; name = name; point = here; link = None } ∷ []) le)
-
-  exited-nested : AreNested (IsProgress t.phase (tab_of t.parse_state.now) t.parse_state.now.bytes.now t.skips (text_within t) t.events.items t.stack.items t.closed) (length t.events.items) (length t.stack.items - 1) (reverse t.kept_choices.items)
+  exited-nested : AreNested (Saves t) (length t.events.items) (length t.stack.items - 1) (reverse t.kept_choices.items)
   exited-nested =
-      nested-below (position_from (tab_of t.parse_state.now) t.parse_state.now.bytes.now t.skips t.start) t.stack.items (IsProgress t.phase (tab_of t.parse_state.now) t.parse_state.now.bytes.now t.skips (text_within t) t.events.items t.stack.items t.closed)
-      (length t.events.items) (reverse t.kept_choices.items) can.above sound.kept_choices
+      nested-below (position_from (tab_of t.parse_state.now) t.parse_state.now.bytes.now t.skips t.start) t.stack.items (Saves t) (length t.events.items) (reverse t.kept_choices.items) can.above sound.kept_choices
 
-  pub exited-kept_choices : AreNested (IsProgress t.phase (tab_of t.parse_state.now) t.parse_state.now.bytes.now t.skips (text_within t) events stack t.closed) (length events) (length stack) (reverse t.kept_choices.items)
-  exited-kept_choices =
-      let P = IsProgress t.phase (tab_of t.parse_state.now) t.parse_state.now.bytes.now t.skips (text_within t) t.events.items t.stack.items t.closed in
-      let Q = IsProgress t.phase (tab_of t.parse_state.now) t.parse_state.now.bytes.now t.skips (text_within t) events stack t.closed in
-      let m = length t.stack.items - 1 in
-      nested-wider Q (length t.events.items) m (length events) (length stack) (reverse t.kept_choices.items)
-      (omega (arith, ap length put, length-append t.events.items (record { kind = Exit; name = name; point = here; link = None } ∷ [])))
-      (omega (arith, ap length top, length-take m t.stack.items))
-      (nested-map P Q (length t.events.items) m (reverse t.kept_choices.items)
-      (λ p a b h. let e = exited-events p.events_len a in let s = exited-front p.stack_len b in
-      record { read = h.read; ended = h.ended; made = rw (e, s) h.made }) exited-nested)
+  pub exited-sound : IsSound same (record t { events = events; stack = stack })
+  exited-sound = record {
+    placed = sound.placed;
+    made = λ reads. let l = after_previous-is t sound in
+        rw (put, top, is) (let left = shown t.parse_state.now.bytes.now t.after_previous in
+        made-exit t.parse_state.now.bytes.now t.events.items t.stack.items left (shown t.parse_state.now.bytes.now (standing t.skips t.after_previous t.waits)) (sound.made reads)
+        (record { kind = Exit; name = name; point = left; link = None }) refl refl can.top (λ o e. rw l (can.read o e)) can.void);
+    kept_choices = same-front t (length t.events.items) (length t.stack.items - 1) events.items stack.items (reverse t.kept_choices.items)
+        (omega (arith, ap length put, length-append t.events.items (record { kind = Exit; name = name; point = here; link = None } ∷ [])))
+        (omega (arith, ap length top, length-take (length t.stack.items - 1) t.stack.items))
+        (λ n le. rw put (take-append-le n t.events.items (record { kind = Exit; name = name; point = here; link = None } ∷ []) le)) exited-front exited-nested;
+    once = sound.once;
+    known = sound.known;
+  }
 
-  pub exited-choices : map (choice_of (position_from (tab_of t.parse_state.now) t.parse_state.now.bytes.now t.skips t.start) stack) (reverse t.kept_choices.items) ≡ map (choice_of (position_from (tab_of t.parse_state.now) t.parse_state.now.bytes.now t.skips t.start) t.stack.items) (reverse t.kept_choices.items)
-  exited-choices =
-      same-choices (position_from (tab_of t.parse_state.now) t.parse_state.now.bytes.now t.skips t.start) stack t.stack.items (IsProgress t.phase (tab_of t.parse_state.now) t.parse_state.now.bytes.now t.skips (text_within t) t.events.items t.stack.items t.closed)
-      (length t.events.items) (length t.stack.items - 1) (reverse t.kept_choices.items) exited-front exited-nested
-
-  pub exited-at : here ≡ (sight (seen t).given (seen t).text (seen t).configuration).exit_place
-  exited-at = is ∙ after_previous-is t sound
+  pub exited-seen : seen (record t { events = events; stack = stack }) ≡ with_exit name (seen t)
+  exited-seen =
+      let choices = same-choices (position_from (tab_of t.parse_state.now) t.parse_state.now.bytes.now t.skips t.start) stack.items t.stack.items (Saves t) (length t.events.items) (length t.stack.items - 1) (reverse t.kept_choices.items) exited-front exited-nested in
+      let at = is ∙ after_previous-is t sound in
+      rw (choices, put, top, at) refl

@@ -9,7 +9,7 @@ use Rattle.markdown_tokenizer.proofs.Positions.Gaps.{IsResumed}
 use Rattle.markdown_tokenizer.proofs.Positions.Points.{point_at-is, shown-line, shown-column, same-numbers}
 use Rattle.markdown_tokenizer.proofs.Inside.Made.{made-consume, made-end}
 use Rattle.markdown_tokenizer.proofs.Inside.Known.{quick-there, known-unfed, known-quick, place-fits, not-before-index}
-use Rattle.markdown_tokenizer.proofs.Inside.Fields.{wide_of, looks, within, next-shown, next-seat, next-more, next-past, next-number, read-next, next-none-left, end-shown, made-later}
+use Rattle.markdown_tokenizer.proofs.Inside.Fields.{wide_of, placed-there, looks, within, next-shown, next-seat, next-more, next-past, next-number, read-next, next-none-left, end-shown, made-later}
 
 module _ {M R D : Type 0} {same : R → R → Bool} (t : Inside M R D) (sound : IsSound same t) where
   abbrev bytes_in : List ℕ
@@ -174,16 +174,7 @@ module _ {M R D : Type 0} {same : R → R → Bool} (t : Inside M R D) (sound : 
     pub fed-sound : (byte : ℕ) → is_before_pair seat.point t.end ≡ true → seat.byte ≡ byte → (moves : Moves) → IsKnown t.bytes.now tab_in bytes_in skips_in t.after_previous t.end.0 t.ready Byte moves
         → IsSound same (record t { waits = Byte; byte = byte; moves = moves })
     fed-sound byte lt e moves known = record {
-      placed = record {
-        tab = sound.placed.tab;
-        reads = sound.placed.reads;
-        end_at = sound.placed.end_at;
-        text = sound.placed.text;
-        skips = sound.placed.skips;
-        read = sound.placed.read;
-        waiting = record { seat = seat; at = n; before = before-end seat.point ∙ lt; is = sym e };
-        ended = sound.placed.ended;
-      };
+      placed = placed-there sound.placed sound.placed.read (record { seat = seat; at = n; before = before-end seat.point ∙ lt; is = sym e }) sound.placed.ended;
       made = made-here;
       kept_choices = sound.kept_choices;
       once = sound.once;
@@ -204,16 +195,7 @@ module _ {M R D : Type 0} {same : R → R → Bool} (t : Inside M R D) (sound : 
   -- the end is fed
   pub end-fed-sound : length (seen t).text.seats ≤ (seen t).configuration.position → t.closed ≡ true → IsSound same (record t { waits = End; ended = true })
   end-fed-sound all closed = record {
-    placed = record {
-      tab = sound.placed.tab;
-      reads = sound.placed.reads;
-      end_at = sound.placed.end_at;
-      text = sound.placed.text;
-      skips = sound.placed.skips;
-      read = sound.placed.read;
-      waiting = record { closed_too = closed; all = all };
-      ended = λ _. closed;
-    };
+    placed = placed-there sound.placed sound.placed.read (record { closed_too = closed; all = all }) (λ _. closed);
     made = made-here;
     kept_choices = sound.kept_choices;
     once = sound.once;
@@ -290,16 +272,7 @@ module _ {M R D : Type 0} {same : R → R → Bool} (t : Inside M R D) (sound : 
 
       pub consumed-sound : IsSound same (record t { after_previous = after_previous; previous = Some t.byte; ended = false; waits = Nothing; moves = Other; ready = ready })
       consumed-sound = record {
-        placed = record {
-          tab = sound.placed.tab;
-          reads = sound.placed.reads;
-          end_at = sound.placed.end_at;
-          text = sound.placed.text;
-          skips = sound.placed.skips;
-          read = consumed-read;
-          waiting = tt;
-          ended = λ h. absurd cc;
-        };
+        placed = placed-there sound.placed consumed-read tt (λ h. absurd cc);
         made = consumed-made;
         kept_choices = sound.kept_choices;
         once = sound.once;

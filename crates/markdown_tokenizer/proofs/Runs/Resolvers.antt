@@ -1,5 +1,5 @@
 -- Resolvers go over the events.
-use Rattle.markdown_tokenizer.proofs.Prelude.{◌≡◌, ℕ, suc, ◌+◌, ◌<◌, List, [], ◌∷◌, ◌++◌, Bool, true, false, Option, Some, length, refl, sym, ap, ◌∙◌, subst, arith, drop, get_or, reverse, Vec, IsEquivalence, AllByRecursion, list_any, or_parts, IsDistinct-cons, IsDistinct-push, Event, Message, none-mapped, Subresult, Inside, Phase, Reading, Resolving, Given, Text, IsText, Configuration, TokenizerValue, at_configuration, Sight, sight, sight_of, Rules, with_resolvers, Resolved, resolving, taken, found, refused, with_more, edits_made, resolved_by, CanBeEdited, IsInShape, ResolversKeep, resolved_in, GoneOver, KeptChoice, Progress, Edit, tab_of, seen, text_within, choice_of, position_from, AreNested, IsProgress, IsSound}
+use Rattle.markdown_tokenizer.proofs.Prelude.{◌≡◌, ℕ, suc, ◌+◌, ◌<◌, List, [], ◌∷◌, ◌++◌, Bool, true, false, Option, Some, length, refl, sym, ap, ◌∙◌, subst, arith, drop, get_or, reverse, Vec, IsEquivalence, AllByRecursion, list_any, or_parts, IsDistinct-cons, IsDistinct-push, Event, Message, none-mapped, Subresult, Inside, Phase, Reading, Resolving, Given, Text, IsText, Configuration, TokenizerValue, at_configuration, Sight, sight, sight_of, Rules, with_resolvers, Resolved, resolving, taken, found, refused, with_more, edits_made, resolved_by, CanBeEdited, IsInShape, ResolversKeep, resolved_in, GoneOver, KeptChoice, Progress, Edit, tab_of, seen, text_within, choice_of, position_from, AreNested, IsProgress, IsSound, drop_all, ◌≤◌}
 use Rattle.std.specs.List.{IsDistinct}
 use Rattle.markdown_tokenizer.specs.Resolving.{done}
 use Rattle.markdown_tokenizer.proofs.Inside.Fields.{nested-map}
@@ -79,8 +79,8 @@ module _ {R D : Type 0} (resolver : Sight → Configuration R D → R → Resolv
       → resolved_by resolver g text (r ∷ rs) k sub ≡ refused m
   step-refused r rs k sub m e = ap (after rs sub) e
 
-pub drop-one : {A : Type 0} (xs : List A) (n : ℕ) (d : A) → n < length xs → drop n xs ≡ get_or xs n d ∷ drop (n + 1) xs
-drop-one xs n d h = let next : suc n ≡ n + 1 = omega arith in drop-get xs n d h ∙ ap (λ (k : ℕ). get_or xs n d ∷ drop k xs) next
+one-left : {A : Type 0} (xs : List A) (n : ℕ) (x : A) → n < length xs → x ≡ get_or xs n x → drop n xs ≡ x ∷ drop (n + 1) xs
+one-left {A = A} xs n x h e = let next : suc n ≡ n + 1 = omega arith in drop-get xs n x h ∙ ap (λ (k : ℕ). get_or xs n x ∷ drop k xs) next ∙ ap (λ (y : A). y ∷ drop (n + 1) xs) (sym e)
 
 module _ {M R D : Type 0} (rules : M → Given → Rules R D) where
   abbrev rules_of : TokenizerValue M R D → Rules R D
@@ -92,46 +92,50 @@ module _ {M R D : Type 0} (rules : M → Given → Rules R D) where
     pub holds : (rules_of start).resolves start.text after_previous now.configuration
     pub leads : resolved_in (rules_of start) start names start.configuration sub ≡ resolved_in (rules_of start) start after_previous now.configuration found
 
-  module _ (start : TokenizerValue M R D) (names : List R) (sub : Subresult) (is : IsText start.given start.text) (law : ResolversKeep start.given (rules_of start)) where
-    pub resolves-first : (rules_of start).resolves start.text names start.configuration → ResolvesOn start names names sub start sub
-    resolves-first h = record { same = refl; holds = h; leads = refl }
+  pub resolves-first : (start : TokenizerValue M R D) (names : List R) (sub : Subresult) → (rules_of start).resolves start.text names start.configuration → ResolvesOn start names names sub start sub
+  resolves-first start names sub h = record { same = refl; holds = h; leads = refl }
 
-    module _ (now : TokenizerValue M R D) (found : Subresult) where
-      pub resolves-left : (a b : List R) → a ≡ b → ResolvesOn start names a sub now found → ResolvesOn start names b sub now found
-      resolves-left a b e r = subst (λ (x : List R). ResolvesOn start names x sub now found) e r
+  module _ {start : TokenizerValue M R D} {names : List R} {sub : Subresult} {now : TokenizerValue M R D} {found : Subresult} where
+    -- the first of those that are left
+    pub resolves-one : (n : ℕ) (x : R) → n < length names → x ≡ get_or names n x → ResolvesOn start names (drop n names) sub now found → ResolvesOn start names (x ∷ drop (n + 1) names) sub now found
+    resolves-one n x h e r = subst (λ (rest : List R). ResolvesOn start names rest sub now found) (one-left names n x h e) r
 
-      module _ (x : R) (rest : List R) (r : ResolvesOn start names (x ∷ rest) sub now found) where
-        pub resolves-holds : (rules_of now).resolves now.text (x ∷ rest) now.configuration
-        resolves-holds = subst (λ (s : TokenizerValue M R D). (rules_of s).resolves s.text (x ∷ rest) now.configuration) (sym r.same) r.holds
+    -- none is left
+    pub resolves-last : (n : ℕ) → length names ≤ n → ResolvesOn start names (drop n names) sub now found → ResolvesOn start names [] sub now found
+    resolves-last n h r = subst (λ (rest : List R). ResolvesOn start names rest sub now found) (drop_all n names h) r
 
-        gives-here : (a : Resolved R D) → (rules_of now).resolver (sight_of now) now.configuration x ≡ a
-            → (rules_of start).resolver (sight start.given start.text now.configuration) now.configuration x ≡ a
-        gives-here a e = subst (λ (s : TokenizerValue M R D). (rules_of s).resolver (sight s.given s.text now.configuration) now.configuration x ≡ a) r.same e
+    module _ {x : R} {rest : List R} (r : ResolvesOn start names (x ∷ rest) sub now found) where
+      pub resolves-holds : (rules_of now).resolves now.text (x ∷ rest) now.configuration
+      resolves-holds = subst (λ (s : TokenizerValue M R D). (rules_of s).resolves s.text (x ∷ rest) now.configuration) (sym r.same) r.holds
 
-        pub resolves-next : (new : TokenizerValue M R D) (all : Subresult) → new ≡ at_configuration now new.configuration → (more : Option Subresult)
-            → (rules_of now).resolver (sight_of now) now.configuration x ≡ done new.configuration more → all ≡ with_more found more
-            → ResolvesOn start names rest sub new all
-        resolves-next new all same more e w =
-            let e' = gives-here (done new.configuration more) e in record {
-              same = same ∙ ap (λ (s : TokenizerValue M R D). at_configuration s new.configuration) r.same;
-              holds = (law.by_resolvers start.text x rest now.configuration new.configuration more is r.holds e').0;
-              leads = r.leads ∙ step-done (rules_of start).resolver start.given start.text x rest now.configuration new.configuration found more e'
-                  ∙ ap (λ (s : Subresult). resolved_in (rules_of start) start rest new.configuration s) (sym w);
-            }
+      gives-here : (a : Resolved R D) → (rules_of now).resolver (sight_of now) now.configuration x ≡ a
+          → (rules_of start).resolver (sight start.given start.text now.configuration) now.configuration x ≡ a
+      gives-here a e = subst (λ (s : TokenizerValue M R D). (rules_of s).resolver (sight s.given s.text now.configuration) now.configuration x ≡ a) r.same e
 
-        pub resolves-refused : (m : Message) → (rules_of now).resolver (sight_of now) now.configuration x ≡ refused m → resolved_in (rules_of start) start names start.configuration sub ≡ refused m
-        resolves-refused m e = r.leads ∙ step-refused (rules_of start).resolver start.given start.text x rest now.configuration found m (gives-here (refused m) e)
+      pub resolves-next : IsText start.given start.text → ResolversKeep start.given (rules_of start) → (new : TokenizerValue M R D) (all : Subresult) → new ≡ at_configuration now new.configuration → (more : Option Subresult)
+          → (rules_of now).resolver (sight_of now) now.configuration x ≡ done new.configuration more → all ≡ with_more found more
+          → ResolvesOn start names rest sub new all
+      resolves-next is law new all same more e w =
+          let e' = gives-here (done new.configuration more) e in record {
+            same = same ∙ ap (λ (s : TokenizerValue M R D). at_configuration s new.configuration) r.same;
+            holds = (law.by_resolvers start.text x rest now.configuration new.configuration more is r.holds e').0;
+            leads = r.leads ∙ step-done (rules_of start).resolver start.given start.text x rest now.configuration new.configuration found more e'
+                ∙ ap (λ (s : Subresult). resolved_in (rules_of start) start rest new.configuration s) (sym w);
+          }
 
-      module _ (r : ResolvesOn start names [] sub now found) where
-        pub resolves-can : CanBeEdited now.configuration
-        resolves-can = (law.at_last start.text now.configuration is r.holds).0
+      pub resolves-refused : (m : Message) → (rules_of now).resolver (sight_of now) now.configuration x ≡ refused m → resolved_in (rules_of start) start names start.configuration sub ≡ refused m
+      resolves-refused m e = r.leads ∙ step-refused (rules_of start).resolver start.given start.text x rest now.configuration found m (gives-here (refused m) e)
 
-        pub resolves-done : (new : TokenizerValue M R D) → new ≡ at_configuration now (edits_made now.configuration) → GoneOver (rules_of start) start names start.configuration sub new found
-        resolves-done new e =
-            let k = ap (λ (s : TokenizerValue M R D). s.configuration) e in record {
-              is = r.leads ∙ ap (λ (c : Configuration R D). done c (Some found)) (sym k);
-              in_shape = subst (λ (c : Configuration R D). IsInShape c.events) (sym k) (law.at_last start.text now.configuration is r.holds).1;
-            }
+    module _ (is : IsText start.given start.text) (law : ResolversKeep start.given (rules_of start)) (r : ResolvesOn start names [] sub now found) where
+      pub resolves-can : CanBeEdited now.configuration
+      resolves-can = (law.at_last start.text now.configuration is r.holds).0
+
+      pub resolves-done : (new : TokenizerValue M R D) → new ≡ at_configuration now (edits_made now.configuration) → GoneOver (rules_of start) start names start.configuration sub new found
+      resolves-done new e =
+          let k = ap (λ (s : TokenizerValue M R D). s.configuration) e in record {
+            is = r.leads ∙ ap (λ (c : Configuration R D). done c (Some found)) (sym k);
+            in_shape = subst (λ (c : Configuration R D). IsInShape c.events) (sym k) (law.at_last start.text now.configuration is r.holds).1;
+          }
 
   -- what resolvers make of what the work left, once the definitions were taken out
   pub resolving-is : (old u w : TokenizerValue M R D) (sub : Subresult) (a : Resolved R D) → u.given ≡ old.given → u.machine ≡ old.machine → u.text ≡ old.text

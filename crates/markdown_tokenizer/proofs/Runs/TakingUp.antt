@@ -3,7 +3,7 @@ use Rattle.markdown_tokenizer.proofs.Prelude.{◌≡◌, ◌≢◌, ◌-◌, ◌
 use Rattle.std.specs.declared.result.Result.TheVariants as result
 use Rattle.markdown_tokenizer.proofs.Runs.Working.{KeptBy, leads-refl, leads-for-settled, settled-only, settled-message, settled-end, settled-ends, settled-closes, stops-there, kept-settled, kept-ended, kept-taken, kept-turn, kept-holds, kept-calls, text-worked, taken-calls, smaller}
 
-module _ {M R D : Type 0} (rules : M → Given → Rules R D) (laws : (m : M) (given : Given) → IsLawful given (rules m given)) where
+module _ {M R D : Type 0} {rules : M → Given → Rules R D} (laws : (m : M) (given : Given) → IsLawful given (rules m given)) where
   -- what the work kept since its start
   abbrev KeptFrom : Bool → TokenizerValue M R D → State → TokenizerValue M R D → State → Type 0
   KeptFrom flush t a u s = KeptBy rules t.machine t.given flush t a u s
@@ -26,9 +26,9 @@ module _ {M R D : Type 0} (rules : M → Given → Rules R D) (laws : (m : M) (g
       (leads-for-settled rules u.machine u.given (laws u.machine u.given) u s)
 
   -- a state is taken up
-  pub kept-next : (flush : Bool) (t u v : TokenizerValue M R D) (a s : State) (n : Name) → IsText t.given t.text → KeptFrom flush t a u s
+  pub kept-next : {flush : Bool} {t u : TokenizerValue M R D} {a s : State} (v : TokenizerValue M R D) (n : Name) → IsText t.given t.text → KeptFrom flush t a u s
       → (let e = settled_all u.configuration u.choices s in TakesUp flush (settled_to u e) v e.answer (result.Ok n)) → KeptFrom flush t a v (Retry n)
-  kept-next flush t u v a s n is k takes =
+  kept-next {flush} {t} {u} {a} {s} v n is k takes =
       let e = settled_all u.configuration u.choices s in
       let mid = settled_to u e in
       let k1 = kept-mid flush t u a s is k in
@@ -36,42 +36,36 @@ module _ {M R D : Type 0} (rules : M → Given → Rules R D) (laws : (m : M) (g
       (text-worked t.given t mid is k1.same) takes k1
 
   -- the work ends
-  pub kept-last : (flush : Bool) (t u v : TokenizerValue M R D) (a s answer : State) → IsText t.given t.text → KeptFrom flush t a u s
+  pub kept-last : {flush : Bool} {t u : TokenizerValue M R D} {a s : State} (v : TokenizerValue M R D) (answer : State) → IsText t.given t.text → KeptFrom flush t a u s
       → (let e = settled_all u.configuration u.choices s in TakesUp flush (settled_to u e) v e.answer (result.Err answer)) → KeptFrom flush t a v answer
-  kept-last flush t u v a s answer is k takes =
+  kept-last {flush} {t} {u} {a} {s} v answer is k takes =
       let e = settled_all u.configuration u.choices s in
       kept-ended rules t.machine t.given flush t (settled_to u e) v a e.answer answer takes (kept-mid flush t u a s is k)
 
-  -- a state is called
-  pub kept-call : (flush : Bool) (t u v : TokenizerValue M R D) (a s : State) (n : Name) → IsText t.given t.text → IsInText u
-      → DidStep u v ((rules u.machine u.given).step (sight u.given u.text u.configuration) u.configuration n) s → KeptFrom flush t a u (Retry n) → KeptFrom flush t a v s
-  kept-call flush t u v a s n is within called k =
-      kept-turn rules t.machine t.given (laws t.machine t.given) flush t u v a s n
-      (text-worked t.given t u is k.same) (sym k.same.machine) (sym k.same.given) within called k
-
-  -- and it returned this
-  pub kept-answer : (flush : Bool) (t u v : TokenizerValue M R D) (a s answer : State) (n : Name) → answer ≡ s → IsText t.given t.text → IsInText u
+  -- a state is called, and returned this
+  pub kept-answer : {flush : Bool} {t u v : TokenizerValue M R D} {a s answer : State} {n : Name} → answer ≡ s → IsText t.given t.text → IsInText u
       → DidStep u v ((rules u.machine u.given).step (sight u.given u.text u.configuration) u.configuration n) answer → KeptFrom flush t a u (Retry n) → KeptFrom flush t a v s
-  kept-answer flush t u v a s answer n e is within called k =
-      kept-call flush t u v a s n is within (subst (λ (x : State). DidStep u v ((rules u.machine u.given).step (sight u.given u.text u.configuration) u.configuration n) x) e called) k
+  kept-answer {flush} {t} {u} {v} {a} {s} {answer} {n} e is within called k =
+      kept-turn rules t.machine t.given (laws t.machine t.given) flush t u v a s n (text-worked t.given t u is k.same) (sym k.same.machine) (sym k.same.given) within
+      (subst (λ (x : State). DidStep u v ((rules u.machine u.given).step (sight u.given u.text u.configuration) u.configuration n) x) e called) k
 
-  pub holds-there : (flush : Bool) (t u : TokenizerValue M R D) (a s : State) → KeptFrom flush t a u s → (rules u.machine u.given).holds u.text u.configuration u.choices s
-  holds-there flush t u a s k = kept-holds rules t.machine t.given flush t u a s (sym k.same.machine) (sym k.same.given) k
+  pub holds-there : {flush : Bool} {t u : TokenizerValue M R D} {a s : State} → KeptFrom flush t a u s → (rules u.machine u.given).holds u.text u.configuration u.choices s
+  holds-there {flush} {t} {u} {a} {s} k = kept-holds rules t.machine t.given flush t u a s (sym k.same.machine) (sym k.same.given) k
 
-  pub closes-there : (flush : Bool) (t u : TokenizerValue M R D) (a s : State) → IsText t.given t.text → KeptFrom flush t a u s → EndsClosed (settled_all u.configuration u.choices s)
-  closes-there flush t u a s is k =
+  pub closes-there : {flush : Bool} {t u : TokenizerValue M R D} {a s : State} → IsText t.given t.text → KeptFrom flush t a u s → EndsClosed (settled_all u.configuration u.choices s)
+  closes-there {flush} {t} {u} {a} {s} is k =
       settled-closes rules u.machine u.given (laws u.machine u.given) u s
-      (subst (λ (q : Given). IsText q u.text) (sym k.same.given) (text-worked t.given t u is k.same)) (holds-there flush t u a s k)
+      (subst (λ (q : Given). IsText q u.text) (sym k.same.given) (text-worked t.given t u is k.same)) (holds-there k)
 
   -- a call, after which a state is taken up, leaves fewer
-  pub fewer-left : (flush : Bool) (t u v w : TokenizerValue M R D) (a s answer : State) (n next : Name) → IsText t.given t.text → KeptFrom flush t a v s
+  pub fewer-left : {flush : Bool} {t u v : TokenizerValue M R D} {a s answer : State} {n : Name} (w : TokenizerValue M R D) (next : Name) → IsText t.given t.text → KeptFrom flush t a v s
       → DidStep u v ((rules u.machine u.given).step (sight u.given u.text u.configuration) u.configuration n) answer
       → (let e = settled_all v.configuration v.choices s in TakesUp flush (settled_to v e) w e.answer (result.Ok next))
       → let all = budget (rules t.machine t.given) t.text t a in all - w.calls < all - u.calls
-  fewer-left flush t u v w a s answer n next is k called takes =
+  fewer-left {flush} {t} {u} {v} {a} {s} {answer} {n} w next is k called takes =
       let e = settled_all v.configuration v.choices s in
       smaller (budget (rules t.machine t.given) t.text t a) u.calls w.calls
-      (kept-calls rules t.machine t.given flush t w a (Retry next) (kept-next flush t v w a s next is k takes))
+      (kept-calls rules t.machine t.given flush t w a (Retry next) (kept-next w next is k takes))
       (taken-calls flush (settled_to v e) w e.answer next takes ∙ ap (λ q. q.calls) called.became)
 
 -- the work ends

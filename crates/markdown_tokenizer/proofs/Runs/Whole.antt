@@ -189,6 +189,12 @@ pub record Runs {M R D : Type 0} (bytes : List ℕ) (options : ParseOptions) (m 
   pub outcome : KeepsOutcome (given_by bytes options) rules (start_seen (given_by bytes options) m (empty_text (point 1 1 0 0))) (Next start) t state
   pub order : FollowInOrder options.tab_size bytes place cuts
 
+-- with other cuts to come
+runs-over : {M R D : Type 0} {bytes : List ℕ} {options : ParseOptions} {m : M} {rules : Rules R D} {start : Name} {from : ℕ × ℕ} {cuts others : List (ℕ × ℕ)} {t : TokenizerValue M R D} {state : State}
+    (r : Runs bytes options m rules start from cuts t state) → FollowInOrder options.tab_size bytes r.place others → Runs bytes options m rules start from others t state
+runs-over r order =
+    record { same_given = r.same_given; wide = r.wide; machine = r.machine; open_still = r.open_still; place = r.place; place_is = r.place_is; text = r.text; outcome = r.outcome; order = order }
+
 module _ {M R D : Type 0} (rules : M → Given → Rules R D) where
   abbrev pub RunsBy : List ℕ → ParseOptions → M → Name → ℕ × ℕ → List (ℕ × ℕ) → TokenizerValue M R D → State → Type 0
   RunsBy bytes options m = let given = given_by bytes options in Runs bytes options m (rules m given)
@@ -228,32 +234,14 @@ module _ {M R D : Type 0} (rules : M → Given → Rules R D) where
   pub run-at : (bytes : List ℕ) (options : ParseOptions) (m : M) (start : Name) (from : ℕ × ℕ) (cuts : List (ℕ × ℕ)) (n : ℕ) (d : ℕ × ℕ) (t : TokenizerValue M R D) (state : State)
       → n < length cuts → RunsBy bytes options m start from (drop n cuts) t state → RunsBy bytes options m start from (get_or cuts n d ∷ drop (n + 1) cuts) t state
   run-at bytes options m start from cuts n d t state lt r =
-      let next : suc n ≡ n + 1 = omega arith in record {
-        same_given = r.same_given;
-        wide = r.wide;
-        machine = r.machine;
-        open_still = r.open_still;
-        place = r.place;
-        place_is = r.place_is;
-        text = r.text;
-        outcome = r.outcome;
-        order = subst (λ (cs : List (ℕ × ℕ)). FollowInOrder options.tab_size bytes r.place cs) (drop-get cuts n d lt ∙ ap (λ (k : ℕ). get_or cuts n d ∷ drop k cuts) next) r.order;
-      }
+      let next : suc n ≡ n + 1 = omega arith in
+      runs-over r (subst (λ (cs : List (ℕ × ℕ)). FollowInOrder options.tab_size bytes r.place cs) (drop-get cuts n d lt ∙ ap (λ (k : ℕ). get_or cuts n d ∷ drop k cuts) next) r.order)
 
   -- the last range ends at the document's end
   pub run-last : (bytes : List ℕ) (options : ParseOptions) (m : M) (start : Name) (from : ℕ × ℕ) (cuts : List (ℕ × ℕ)) (t : TokenizerValue M R D) (state : State)
       → RunsBy bytes options m start from cuts t state → RunsBy bytes options m start from ((length bytes, 0) ∷ []) t state
-  run-last bytes options m start from cuts t state r = record {
-    same_given = r.same_given;
-    wide = r.wide;
-    machine = r.machine;
-    open_still = r.open_still;
-    place = r.place;
-    place_is = r.place_is;
-    text = r.text;
-    outcome = r.outcome;
-    order = (document_end options.tab_size bytes, end-at options.tab_size r.wide bytes, end-upto options.tab_size r.wide bytes r.place (found-place options.tab_size bytes from r.place r.place_is), tt);
-  }
+  run-last bytes options m start from cuts t state r =
+      runs-over r (document_end options.tab_size bytes, end-at options.tab_size r.wide bytes, end-upto options.tab_size r.wide bytes r.place (found-place options.tab_size bytes from r.place r.place_is), tt)
 
   module _ (bytes : List ℕ) (options : ParseOptions) (m : M) (start : Name) (from cut : ℕ × ℕ) (cuts : List (ℕ × ℕ)) (t : TokenizerValue M R D) (state : State)
       (r : RunsBy bytes options m start from (cut ∷ cuts) t state) where
