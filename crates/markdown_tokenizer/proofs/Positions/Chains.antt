@@ -82,6 +82,27 @@ no-lf-first bs bytes i e f (inl h) = λ k.
 no-lf-first bs bytes i e f (inr h) = λ k. let z : slice_index bytes i ≡ 0 = get_or-eq_default bytes 0 h in absurd (omega arith)
 
 module _ (t : ℕ) (bytes : List ℕ) (d : 0 < t) where
+  -- a virtual byte that is shown where it is, and ends after that
+  one-chain : (p : Point) (byte : ℕ) (end : Point) (rest : List Seat) → p.index < length bytes → stands_before p end ≡ true → end_at t byte p ≡ end
+      → IsAt t bytes p (record { byte = byte; point = p; end = end } ∷ rest) → IsChain t bytes end rest → IsChain t bytes p (record { byte = byte; point = p; end = end } ∷ rest)
+  one-chain p byte end rest inside before ends at more =
+      let same : shown bytes p ≡ p = at.shown in (
+        at,
+        record {
+          at_seat = at.is;
+          at_shown = rw same at.is;
+          seat_bounds = at.bounds;
+          shown_bounds = rw same at.bounds;
+          later = before-self p.index p.vs;
+          shown_later = rw same (before-self p.index p.vs);
+          shown_is = same;
+          ends = before;
+          end_is = ends;
+          inside = inside;
+        },
+        more,
+      )
+
   -- virtual bytes of a tab, from one of them on
   tab-chain : (byte n l c i v column : ℕ) → slice_index bytes i ≡ 9 → i < length bytes → tab_width t c ≡ suc n → c + suc n ≡ column → (v + suc n ≤ t)
       → ((byte == 9) || nat_lt 0 v) ≡ true → (byte == 10) ≡ false
@@ -91,26 +112,11 @@ module _ (t : ℕ) (bytes : List ℕ) (d : 0 < t) where
   tab-chain byte zero l c i v column tab inside width last fits is_tab no_lf at more =
       let ends = tab-ends t c d at.bounds.first width in
       let there : column ≡ suc c = omega arith in
-      let same : shown bytes (point l c i v) ≡ point l c i v = at.shown in (
-        at,
-        record {
-          at_seat = at.is;
-          at_shown = rw same at.is;
-          seat_bounds = at.bounds;
-          shown_bounds = rw same at.bounds;
-          later = before-self i v;
-          shown_later = rw same (before-self i v);
-          shown_is = same;
-          ends = below-before i v (suc i) 0 (omega arith);
-          end_is = rw (no_lf, is_tab, ends) refl;
-          inside = inside;
-        },
-        subst (λ (k : ℕ). IsChain t bytes (point l k (suc i) 0) (virtual_from t l column (suc i) (drop (suc i) bytes))) there more,
-      )
+      one-chain (point l c i v) byte (point l (suc c) (suc i) 0) (virtual_from t l column (suc i) (drop (suc i) bytes)) inside (below-before i v (suc i) 0 (omega arith)) (rw (no_lf, is_tab, ends) refl) at
+      (subst (λ (k : ℕ). IsChain t bytes (point l k (suc i) 0) (virtual_from t l column (suc i) (drop (suc i) bytes))) there more)
   tab-chain byte (suc n) l c i v column tab inside width last fits is_tab no_lf at more =
       let shorter = tab-shorter t c n d at.bounds.first width in
       let go_on : (c % t == 0) ≡ false = not-number (c % t) 0 shorter.1 in
-      let same : shown bytes (point l c i v) ≡ point l c i v = at.shown in
       let next_width = shorter.0 in
       let ahead = in_tab 32 (suc n) l (suc c) i (suc v) ++ virtual_from t l column (suc i) (drop (suc i) bytes) in
       let columns_are : suc c + suc n ≡ column = omega arith in
@@ -121,22 +127,9 @@ module _ (t : ℕ) (bytes : List ℕ) (d : 0 < t) where
         is = next_rest;
         shown = shown-other bytes (point l (suc c) i (suc v)) (λ e. let f : 9 ≡ 10 = sym tab ∙ e in absurd (omega arith));
         bounds = record { inside = b.inside; lines = b.lines; columns = omega (arith, b.columns); first = omega arith; beyond = omega (arith, b.beyond); spaces = omega arith; tab = λ _. inside };
-      } in (
-        at,
-        record {
-          at_seat = at.is;
-          at_shown = rw same at.is;
-          seat_bounds = at.bounds;
-          shown_bounds = rw same at.bounds;
-          later = before-self i v;
-          shown_later = rw same (before-self i v);
-          shown_is = same;
-          ends = more-before i v;
-          end_is = rw (no_lf, is_tab, go_on) refl;
-          inside = inside;
-        },
-        tab-chain 32 n l (suc c) i (suc v) column tab inside next_width columns_are (omega arith) (grind (arith, nat_tests)) refl next more,
-      )
+      } in
+      one-chain (point l c i v) byte (point l (suc c) i (suc v)) ahead inside (more-before i v) (rw (no_lf, is_tab, go_on) refl) at
+      (tab-chain 32 n l (suc c) i (suc v) column tab inside next_width columns_are (omega arith) (grind (arith, nat_tests)) refl next more)
 
   drop-first : (i b : ℕ) (bs : List ℕ) → drop i bytes ≡ b ∷ bs → i < length bytes ⊎ length bytes ≤ i → (i < length bytes) × (slice_index bytes i ≡ b) × (drop (suc i) bytes ≡ bs)
   drop-first i b bs e (inl h) = let is : slice_index bytes i ∷ drop (suc i) bytes ≡ b ∷ bs = sym (drop-at bytes i h) ∙ e in (h, (cc), (cc))
@@ -147,28 +140,6 @@ module _ (t : ℕ) (bytes : List ℕ) (d : 0 < t) where
 
   bounds-column : (l c i n : ℕ) → Bounds t bytes (point l c i 0) → i < length bytes → n ≤ t → Bounds t bytes (point l (c + n) (suc i) 0)
   bounds-column l c i n b h k = record { inside = omega arith; lines = omega (arith, b.lines); columns = omega (arith, b.columns); first = omega (arith, b.first); beyond = omega (arith, b.first); spaces = d; tab = λ k. absurd (omega arith) }
-
-  -- a virtual byte that is one byte
-  one-chain : (l c i byte : ℕ) (end : Point) (rest : List Seat) → i < length bytes → i < end.index → end_at t byte (point l c i 0) ≡ end
-      → IsAt t bytes (point l c i 0) (record { byte = byte; point = point l c i 0; end = end } ∷ rest) → IsChain t bytes end rest
-      → IsChain t bytes (point l c i 0) (record { byte = byte; point = point l c i 0; end = end } ∷ rest)
-  one-chain l c i byte end rest inside below ends at more =
-      let same : shown bytes (point l c i 0) ≡ point l c i 0 = at.shown in (
-        at,
-        record {
-          at_seat = at.is;
-          at_shown = rw same at.is;
-          seat_bounds = at.bounds;
-          shown_bounds = rw same at.bounds;
-          later = before-self i 0;
-          shown_later = rw same (before-self i 0);
-          shown_is = same;
-          ends = below-before i 0 end.index end.vs below;
-          end_is = ends;
-          inside = inside;
-        },
-        more,
-      )
 
   -- a CR LF
   crlf-chain : (l c i : ℕ) (rest : List Seat) → suc i < length bytes → slice_index bytes i ≡ 13 → slice_index bytes (suc i) ≡ 10
@@ -203,7 +174,7 @@ module _ (t : ℕ) (bytes : List ℕ) (d : 0 < t) where
       → IsChain t bytes (point l c i 0) (line_feed l c i ∷ virtual_from t (suc l) 1 (suc i) bs)
   lf-chain l c i b bs next inside here ten there whole shown bounds =
       let e : drop i bytes ≡ 10 ∷ bs = whole ∙ ap (λ (n : ℕ). n ∷ bs) ten in
-      one-chain l c i 10 (point (suc l) 1 (suc i) 0) (virtual_from t (suc l) 1 (suc i) bs) inside (omega arith) refl
+      one-chain (point l c i 0) 10 (point (suc l) 1 (suc i) 0) (virtual_from t (suc l) 1 (suc i) bs) inside (below-before i 0 (suc i) 0 (omega arith)) refl
       (record { is = rw e refl; shown = shown; bounds = bounds })
       (next (suc l) 1 there inside (shown-after bytes (suc l) 1 i 0 (λ k. absurd (omega arith))) (bounds-line l c i bounds inside))
 
@@ -211,7 +182,7 @@ module _ (t : ℕ) (bytes : List ℕ) (d : 0 < t) where
       → IsChain t bytes (point l c i 0) (line_feed l c i ∷ virtual_from t (suc l) 1 (suc i) bs)
   cr-chain l c i b bs next inside here cr alone there whole shown bounds =
       let e : drop i bytes ≡ 13 ∷ bs = whole ∙ ap (λ (n : ℕ). n ∷ bs) cr in
-      one-chain l c i 10 (point (suc l) 1 (suc i) 0) (virtual_from t (suc l) 1 (suc i) bs) inside (omega arith) refl
+      one-chain (point l c i 0) 10 (point (suc l) 1 (suc i) 0) (virtual_from t (suc l) 1 (suc i) bs) inside (below-before i 0 (suc i) 0 (omega arith)) refl
       (record { is = rw e (rw alone refl); shown = shown; bounds = bounds })
       (next (suc l) 1 there inside (shown-other bytes (point (suc l) 1 (suc i) 0) (no-lf-first bs bytes (suc i) alone there (cases_lt (suc i) (length bytes)))) (bounds-line l c i bounds inside))
 
@@ -232,7 +203,7 @@ module _ (t : ℕ) (bytes : List ℕ) (d : 0 < t) where
       → IsChain t bytes (point l c i 0) (other_byte b l c i ∷ virtual_from t l (suc c) (suc i) bs)
   plain-chain l c i b bs next inside here x y z there whole shown bounds =
       let x0 = not-number b 10 x in let y0 = not-number b 13 y in let z0 = not-number b 9 z in
-      one-chain l c i b (point l (suc c) (suc i) 0) (virtual_from t l (suc c) (suc i) bs) inside (omega arith) (rw (x0, z0) refl)
+      one-chain (point l c i 0) b (point l (suc c) (suc i) 0) (virtual_from t l (suc c) (suc i) bs) inside (below-before i 0 (suc i) 0 (omega arith)) (rw (x0, z0) refl)
       (record { is = rw whole (rw (x0, y0, z0) refl); shown = shown; bounds = bounds })
       (next l (suc c) there inside (shown-after bytes l (suc c) i 0 (λ k. y (sym here ∙ k))) (rw (← add-one c) (bounds-column l c i 1 bounds inside d)))
 

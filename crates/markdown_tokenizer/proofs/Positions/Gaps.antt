@@ -22,12 +22,6 @@ skip-is P (x ∷ xs) line p h e = skip-cases P x xs line p (x.line == line) refl
 kept-by : (skips : List Point) (s : Seat) (line : ℕ) (o : Option Point) → s.point.line ≡ line → skip_of skips line ≡ o → is_kept skips s ≡ is_kept_by o s
 kept-by skips s line o e f = ap (λ (l : ℕ). is_kept_by (skip_of skips l) s) e ∙ ap (λ (x : Option Point). is_kept_by x s) f
 
-not-of-true : (b : Bool) → b ≡ true → not b ≡ false
-not-of-true b e = ap not e
-
-not-of-false : (b : Bool) → b ≡ false → not b ≡ true
-not-of-false b e = ap not e
-
 -- What holds of the place from which on the next byte is looked for
 pub record IsResumed (t : ℕ) (bytes : List ℕ) (skips : List Point) (start end after_previous r : Point) : Type 0 where
   pub place : IsPlace t bytes r
@@ -66,7 +60,7 @@ module _ (t : ℕ) (bytes : List ℕ) (d : 0 < t) where
         let f = λ (s : Seat). stands_before s.point q in
         filter-none (is_kept skips) (left_of t bytes after_previous q)
         (every-map (λ s. (stands_before s.point q ≡ true → StandsBetween after_previous q s) × (f s ≡ true)) (λ s. is_kept skips s ≡ false)
-        (λ s h. let between = h.0 h.1 in let same : s.point.line ≡ after_previous.line = omega (arith, between.0, between.1) in kept-by skips s after_previous.line (Some q) same e ∙ not-of-true (stands_before s.point q) h.1)
+        (λ s h. let between = h.0 h.1 in let same : s.point.line ≡ after_previous.line = omega (arith, between.0, between.1) in kept-by skips s after_previous.line (Some q) same e ∙ ap not h.1)
         (left_of t bytes after_previous q) (every-kept (λ s. stands_before s.point q ≡ true → StandsBetween after_previous q s) f (rest_at t bytes after_previous) (seats-rise t bytes d after_previous q place at later)))
 
     jump-same : (start q : Point) → is_upto t bytes start after_previous ≡ true → IsPlace t bytes q → q.line ≡ after_previous.line → skip_of skips after_previous.line ≡ Some q → is_upto t bytes after_previous q ≡ true → kept_between t bytes skips start q ≡ kept_between t bytes skips start after_previous
@@ -96,7 +90,7 @@ module _ (t : ℕ) (bytes : List ℕ) (d : 0 < t) where
     fresh-after : (p q : Point) → IsPlace t bytes p → p.line ≡ after_previous.line → skip_of skips after_previous.line ≡ Some q → stands_before p q ≡ false → (seat : Seat) → IsSeatAt t bytes p seat → is_kept skips seat ≡ true
     fresh-after p q at line e later seat n =
         kept-by skips seat after_previous.line (Some q) (seat-line p seat at n ∙ line) e
-        ∙ not-of-false (stands_before seat.point q) (later-later seat.point.index seat.point.vs p.index p.vs q.index q.vs n.later later)
+        ∙ ap not (later-later seat.point.index seat.point.vs p.index p.vs q.index q.vs n.later later)
 
     stays-after : (q : Point) → (after_previous.column == 1) ≡ false → skip_of skips after_previous.line ≡ Some q → IsResumed t bytes skips start end after_previous after_previous
     stays-after q e f = elim (outside q f) [
@@ -182,7 +176,7 @@ module _ (t : ℕ) (bytes : List ℕ) (d : 0 < t) where
   kept-past skips end are s past None e = kept-by skips s s.point.line None refl e
   kept-past skips end are s past (Some p) e =
       let found = skip-is (IsSkip t bytes end) skips s.point.line p are e in
-      kept-by skips s s.point.line (Some p) refl e ∙ not-of-false (stands_before s.point p) (past p found.1.upto)
+      kept-by skips s s.point.line (Some p) refl e ∙ ap not (past p found.1.upto)
 
   -- a range that is pushed
   module _ (skips : List Point) (end from to : Point) (are : AllByRecursion (IsSkip t bytes end) skips) (place : IsPlace t bytes end) (same : denotes_same t bytes from end ≡ true) (upto : is_upto t bytes from to ≡ true) where

@@ -1,5 +1,5 @@
 -- Places of a document: where each virtual byte begins, is shown and ends, and what is left there.
-use Rattle.markdown_tokenizer.proofs.Prelude.{AllByRecursion, ◌≡◌, ◌≢◌, ℕ, zero, suc, ◌+◌, ◌-◌, ◌<◌, ◌==◌, List, [], ◌∷◌, ◌++◌, Bool, true, false, cond, refl, sym, ap, ◌∙◌, subst, arith, append_assoc, ◌⊎◌, inl, inr, slice_index, nat_lt, ◌&&◌, ◌||◌, Contains, flat_map, nat_tests, append-nil, Contains-append_cases, eqb-true, Point, Seat, point, virtual, end_after, document_end, stands_before, shown, follows_cr, IsShown, IsPointOf, every-map, end-after-one, rest_at, IsPlace, IsSeatAt, begins_pair, goes_on, end_at}
+use Rattle.markdown_tokenizer.proofs.Prelude.{AllByRecursion, ◌≡◌, ◌≢◌, ℕ, zero, suc, ◌+◌, ◌-◌, ◌<◌, ◌==◌, List, [], ◌∷◌, ◌++◌, Bool, true, false, cond, refl, sym, ap, ◌∙◌, subst, arith, append_assoc, inl, inr, slice_index, nat_lt, ◌&&◌, ◌||◌, Contains, flat_map, nat_tests, append-nil, Contains-append_cases, eqb-true, Point, Seat, point, virtual, end_after, document_end, stands_before, shown, follows_cr, IsShown, IsPointOf, every-map, end-after-one, rest_at, IsPlace, IsSeatAt, begins_pair, goes_on, end_at}
 use Rattle.markdown_tokenizer.proofs.Positions.Order.{not-number, before-self, later-later, after-before, before-upto}
 use Rattle.markdown_tokenizer.proofs.Positions.Seats.{StandsThere, stands-there}
 use Rattle.markdown_tokenizer.proofs.Positions.Chains.{IsAt, Begins, IsChain, whole-chain, shown-other}
@@ -139,44 +139,22 @@ module _ (t : ℕ) (bytes : List ℕ) (d : 0 < t) where
     pub after-shown : IsShown bytes s.end
     after-shown = (chain-at t bytes s.end ys from-here.2).shown
 
-no-element : {A : Type 0} (y : A) → Contains [] y → ⊥
-no-element y (k, lt, is) = absurd (omega arith)
+-- the points of seats, and where they are shown, are places
+place-among : (t : ℕ) (bytes : List ℕ) → 0 < t → (p : Point) (xs ys : List Seat) → virtual t bytes ≡ xs ++ ys → Contains (flat_map (λ s. shown bytes s.point ∷ s.point ∷ []) ys) p → IsPlace t bytes p
+place-among t bytes d p xs [] e (k, lt, is) = absurd (omega arith)
+place-among t bytes d p xs (s ∷ ss) e (zero, lt, is) = subst (IsPlace t bytes) is (shown-place t bytes d xs s ss e)
+place-among t bytes d p xs (s ∷ ss) e (suc zero, lt, is) = subst (IsPlace t bytes) is (point-place t bytes d xs s ss e)
+place-among t bytes d p xs (s ∷ ss) e (suc (suc k), lt, is) = place-among t bytes d p (xs ++ s ∷ []) ss (e ∙ sym (append_assoc xs (s ∷ []) ss)) (k, omega arith, is)
 
-contains-cons : {A : Type 0} (x : A) (xs : List A) (y : A) → Contains (x ∷ xs) y → (x ≡ y) ⊎ Contains xs y
-contains-cons x xs y (zero, lt, is) = inl is
-contains-cons x xs y (suc k, lt, is) = inr (k, (omega arith), is)
-
--- a seat at which a point is
-abbrev SeatOf : List ℕ → Point → List Seat → Type 0
-SeatOf bytes p xs = (s : Seat) × IsAmong s xs × ((shown bytes s.point ≡ p) ⊎ (s.point ≡ p))
-
-later-seat : (bytes : List ℕ) (p : Point) (x : Seat) (xs : List Seat) → SeatOf bytes p xs → SeatOf bytes p (x ∷ xs)
-later-seat bytes p x xs (s, among, is) = (s, record { front = x ∷ among.front; back = among.back; splits = ap (λ (ys : List Seat). x ∷ ys) among.splits }, is)
-
-seat-of-or : (bytes : List ℕ) (p : Point) (x : Seat) (xs : List Seat) → (SeatOf bytes p xs) ⊎ ((shown bytes x.point ≡ p) ⊎ (x.point ≡ p)) → SeatOf bytes p (x ∷ xs)
-seat-of-or bytes p x xs (inl h) = later-seat bytes p x xs h
-seat-of-or bytes p x xs (inr h) = (x, record { front = []; back = xs; splits = refl }, h)
-
-seat-of-cases : (bytes : List ℕ) (p : Point) (x : Seat) (xs : List Seat) (rest : List Point) → (Contains rest p → SeatOf bytes p xs)
-    → (shown bytes x.point ≡ p) ⊎ Contains (x.point ∷ rest) p → (SeatOf bytes p xs) ⊎ ((shown bytes x.point ≡ p) ⊎ (x.point ≡ p))
-seat-of-cases bytes p x xs rest f (inl h) = inr (inl h)
-seat-of-cases bytes p x xs rest f (inr h) = elim (contains-cons x.point rest p h) [ inl k ↦ inr (inr k) | inr k ↦ inl (f k) ]
-
-seat-of : (bytes : List ℕ) (p : Point) (xs : List Seat) → Contains (flat_map (λ s. shown bytes s.point ∷ s.point ∷ []) xs) p → SeatOf bytes p xs
-seat-of bytes p [] h = absurd (no-element p h)
-seat-of bytes p (x ∷ xs) h =
-    let rest = flat_map (λ s. shown bytes s.point ∷ s.point ∷ []) xs in
-    seat-of-or bytes p x xs (seat-of-cases bytes p x xs rest (seat-of bytes p xs) (contains-cons (shown bytes x.point) (x.point ∷ rest) p h))
-
-seat-of-place : (t : ℕ) (bytes : List ℕ) → 0 < t → (p : Point) → SeatOf bytes p (virtual t bytes) → IsPlace t bytes p
-seat-of-place t bytes d p (s, among, inl e) = subst (IsPlace t bytes) e (shown-place t bytes d among.front s among.back among.splits)
-seat-of-place t bytes d p (s, among, inr e) = subst (IsPlace t bytes) e (point-place t bytes d among.front s among.back among.splits)
+place-at-end : (t : ℕ) (bytes : List ℕ) → 0 < t → (p : Point) → Contains (document_end t bytes ∷ []) p → IsPlace t bytes p
+place-at-end t bytes d p (zero, lt, is) = subst (IsPlace t bytes) is (end-place t bytes d)
+place-at-end t bytes d p (suc k, lt, is) = absurd (omega arith)
 
 -- the point of a place of the document is one that its numbers describe
 pub place-of-point : (t : ℕ) (bytes : List ℕ) → 0 < t → (p : Point) → IsPointOf t bytes p → IsPlace t bytes p
 place-of-point t bytes d p h = elim (Contains-append_cases (flat_map (λ s. shown bytes s.point ∷ s.point ∷ []) (virtual t bytes)) (document_end t bytes ∷ []) p h) [
-  | inl k ↦ seat-of-place t bytes d p (seat-of bytes p (virtual t bytes) k)
-  | inr k ↦ (elim (contains-cons (document_end t bytes) [] p k) [ inl e ↦ subst (IsPlace t bytes) e (end-place t bytes d) | inr n ↦ absurd (no-element p n) ])
+  | inl k ↦ place-among t bytes d p [] (virtual t bytes) refl k
+  | inr k ↦ place-at-end t bytes d p k
 ]
 
 -- the next virtual byte from a place on

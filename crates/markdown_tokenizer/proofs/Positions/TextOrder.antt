@@ -292,9 +292,6 @@ shown-before bytes s h =
     let q = shown bytes s.point in
     rw h.1 (upto-before q.index q.vs s.point.index s.point.vs s.end.index s.end.vs (shown-upto 0 bytes s.point) h.0)
 
-before-end : (bytes : List ℕ) (s : Seat) (q : Point) → IsGood bytes s → stands_before q s.point ≡ true → stands_before q (shown bytes s.end) ≡ true
-before-end bytes s q h k = rw h.1 (before-upto q.index q.vs s.point.index s.point.vs s.end.index s.end.vs k (after-before s.point.index s.point.vs s.end.index s.end.vs h.0))
-
 -- A byte that waits begins before it ends
 pub begins-before_end : (g : Given) (text : Text) (p : ℕ) → IsText g text → p < length text.seats
     → stands_before (sight_in g text p Byte).enter_place (sight_in g text p Byte).next ≡ true
@@ -302,28 +299,6 @@ begins-before_end g text p is inside =
     let (s, at) = there text p inside in
     let good = good-get g.bytes text.seats p s (text-order g text is).order at in
     rw at (shown-before g.bytes s good)
-
--- What began before the end of the byte before began before the end of the byte that waits
-pub began-before_next : (g : Given) (text : Text) (p : ℕ) (q : Point) → IsText g text → p < length text.seats
-    → stands_before q (sight_in g text p Byte).exit_place ≡ true → stands_before q (sight_in g text p Byte).next ≡ true
-began-before_next g text zero q is inside h =
-    let (s, at) = there text 0 inside in
-    let order = text-order g text is in
-    let good = good-get g.bytes text.seats 0 s order.order at in
-    let after = every-get (λ r. stands_before r.point text.start ≡ false) text.seats 0 s order.after_start at in
-    let start = text.start in
-    let shown_start = shown g.bytes start in
-    let before = before-upto q.index q.vs shown_start.index shown_start.vs start.index start.vs h (shown-upto 0 g.bytes start) in
-    rw at (before-end g.bytes s q good (before-upto q.index q.vs start.index start.vs s.point.index s.point.vs before after))
-began-before_next g text (suc j) q is inside h =
-    let (s, at) = there text (suc j) inside in
-    let (r, at_before) = there text j (omega arith) in
-    let order = text-order g text is in
-    let good = good-get g.bytes text.seats (suc j) s order.order at in
-    let good_before = good-get g.bytes text.seats j r order.order at_before in
-    let follows = follows-get g.bytes text.seats j r s order.order at_before at in
-    let before : stands_before q r.end ≡ true = rw good_before.1 at (rw at_before at h) in
-    rw at (before-end g.bytes s q good (before-upto q.index q.vs r.end.index r.end.vs s.point.index s.point.vs before follows.1))
 
 -- The byte before ends before the end of the byte that waits
 pub ends-before_next : (g : Given) (text : Text) (p : ℕ) → IsText g text → p < length text.seats
@@ -345,6 +320,13 @@ ends-before_next g text (suc j) is inside =
     let good_before = good-get g.bytes text.seats j r order.order at_before in
     let follows = follows-get g.bytes text.seats j r s order.order at_before at in
     rw (at, at_before) (rw (good.1, good_before.1) (upto-before r.end.index r.end.vs s.point.index s.point.vs s.end.index s.end.vs follows.1 good.0))
+
+-- What began before the end of the byte before began before the end of the byte that waits
+pub began-before_next : (g : Given) (text : Text) (p : ℕ) (q : Point) → IsText g text → p < length text.seats
+    → stands_before q (sight_in g text p Byte).exit_place ≡ true → stands_before q (sight_in g text p Byte).next ≡ true
+began-before_next g text p q is inside h =
+    let exit = (sight_in g text p Byte).exit_place in let next = (sight_in g text p Byte).next in
+    before-upto q.index q.vs exit.index exit.vs next.index next.vs h (after-before exit.index exit.vs next.index next.vs (ends-before_next g text p is inside))
 
 -- the place after a byte that was read is shown at itself
 pub read-shown : (g : Given) (text : Text) → IsText g text → (p byte : ℕ) → byte_of (seat_before text p) ≡ Some byte → IsShown g.bytes (end_place text p)

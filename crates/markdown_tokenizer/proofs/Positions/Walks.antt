@@ -53,11 +53,11 @@ module _ (t : ℕ) (bytes : List ℕ) (d : 0 < t) where
         stands = end-after-one (point 1 1 0 0) passed seat;
       }
 
-      pub walk-shorter : length (rest_at t bytes seat.end) < length (rest_at t bytes p)
-      walk-shorter =
+      pub walk-shorter : (q : Point) → q ≡ seat.end → length (rest_at t bytes q) < length (rest_at t bytes p)
+      walk-shorter q is =
           let e = after-rest t bytes d passed seat n.after walk-splits in
           let f = n.is in
-          rw (e, f) (omega arith)
+          rw (is, e, f) (omega arith)
 
 -- none of the virtual bytes that a walk has passed has the place that is looked for
 abbrev pub is_place : ℕ × ℕ → Point → Bool

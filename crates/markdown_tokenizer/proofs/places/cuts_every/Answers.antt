@@ -1,4 +1,4 @@
-use Rattle.markdown_tokenizer.proofs.Prelude.{IsWithinLimit, ◌≡◌, ◌+◌, ◌*◌, ◌<◌, ◌≤◌, ℕ, true, false, List, length, arith, refl, sym, ap, ◌∙◌, subst, Global, append-nil, is_cut, cuts_every, Point, rest_at, AreCuts}
+use Rattle.markdown_tokenizer.proofs.Prelude.{IsWithinLimit, ◌≡◌, ◌+◌, ◌*◌, ◌<◌, ◌≤◌, ℕ, true, false, List, length, arith, refl, sym, ap, ◌∙◌, subst, Global, append-nil, is_cut, cuts_every, Point, AreCuts}
 use Rattle.std.proofs.Common.{Vec}
 use Rattle.markdown_tokenizer.proofs.Positions.Walks.{IsCutting, cutting-place, cutting-number, cutting-next, cutting-ended, walk-shorter, bounds-fit, cut-is, cut-not, cut-first}
 use Rattle.markdown_tokenizer.proofs.places.cuts_every.Goals.{then-number-gt0+then-number-n-eq0+in_ok-push, else-number-gt0, else-number-gt0-via-then-number-gt0+else-number-n-eq0, else-number-gt0-via-else-number-gt0}
@@ -33,10 +33,7 @@ pass-requires-clause-place c = cutting-place c.get-t.result c.args.bytes.now c.g
 pub loop-byte-smaller : goal.loop-byte-smaller
 loop-byte-smaller c =
     let s = c.in-Some.ensures c.get-t.result c.get-t.ensures.least in
-    let bytes = c.args.bytes.now in
-    let r : s.0 ≡ c.pass.new.point = sym (c.pass.ensures _ s.1) in
-    subst (λ (q : Point). length (rest_at c.get-t.result bytes q) < length (rest_at c.get-t.result bytes c.loop-byte.after_previous)) r
-    (walk-shorter c.get-t.result bytes c.get-t.ensures.least c.loop-byte.after_previous c.loop-byte.invariant.passed c.loop-byte.invariant.walk _ s.1)
+    walk-shorter c.get-t.result c.args.bytes.now c.get-t.ensures.least c.loop-byte.after_previous c.loop-byte.invariant.passed c.loop-byte.invariant.walk _ s.1 c.pass.new.point (c.pass.ensures _ s.1)
 
 pub loop-byte-preserved : goal.loop-byte-preserved
 loop-byte-preserved c =

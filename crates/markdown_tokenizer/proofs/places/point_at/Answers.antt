@@ -1,4 +1,4 @@
-use Rattle.markdown_tokenizer.proofs.Prelude.{IsWithinLimit, ◌≡◌, ◌<◌, ℕ, Bool, true, false, Some, None, length, refl, sym, ap, ◌∙◌, subst, cond, Point, shown, point_at, rest_at}
+use Rattle.markdown_tokenizer.proofs.Prelude.{IsWithinLimit, ◌≡◌, ℕ, Bool, true, false, Some, None, refl, sym, ap, ◌∙◌, subst, cond, shown, point_at}
 use Rattle.markdown_tokenizer.proofs.Positions.Walks.{IsSearch, is_place, search-place, search-shown, search-seat, search-next, search-ended, walk-shorter}
 use Rattle.markdown_tokenizer.proofs.places.point_at.Goals as goal
 
@@ -34,10 +34,7 @@ pass-requires-clause-place c = search-place c.get-t.result c.args.bytes.now c.ge
 pub loop-byte-smaller : goal.loop-byte-smaller
 loop-byte-smaller c =
     let s = c.in-Some.ensures c.get-t.result c.get-t.ensures.least in
-    let bytes = c.args.bytes.now in
-    let r : s.0 ≡ c.pass.new.point = sym (c.pass.ensures _ s.1) in
-    subst (λ (q : Point). length (rest_at c.get-t.result bytes q) < length (rest_at c.get-t.result bytes c.loop-byte.after_previous)) r
-    (walk-shorter c.get-t.result bytes c.get-t.ensures.least c.loop-byte.after_previous c.loop-byte.invariant.passed c.loop-byte.invariant.walk _ s.1)
+    walk-shorter c.get-t.result c.args.bytes.now c.get-t.ensures.least c.loop-byte.after_previous c.loop-byte.invariant.passed c.loop-byte.invariant.walk _ s.1 c.pass.new.point (c.pass.ensures _ s.1)
 
 pub loop-byte-preserved : goal.loop-byte-preserved
 loop-byte-preserved c =

@@ -1,4 +1,4 @@
-use Rattle.markdown_tokenizer.proofs.Prelude.{◌≡◌, ◌<◌, ℕ, Bool, true, false, length, refl, sym, ap, ◌∙◌, subst, not, beq, Point, denotes_same, rest_at}
+use Rattle.markdown_tokenizer.proofs.Prelude.{◌≡◌, ℕ, Bool, true, false, refl, sym, ap, ◌∙◌, subst, not, beq, denotes_same}
 use Rattle.markdown_tokenizer.proofs.Positions.SameSoFar.{IsAlikeSoFar, alike-place, alike-ended, alike-other, alike-next}
 use Rattle.markdown_tokenizer.proofs.Positions.Walks.{walk-shorter}
 use Rattle.markdown_tokenizer.proofs.ranges.denote_same.Goals as goal
@@ -38,10 +38,7 @@ pass-requires-clause-next c =
 pub loop-byte-smaller : goal.loop-byte-smaller
 loop-byte-smaller c =
     let s = c.in-Some.ensures c.get-t.result c.get-t.ensures.least in
-    let bytes = c.args.bytes.now in
-    let r : s.0 ≡ c.pass.new.point = sym (c.pass.ensures _ s.1) in
-    subst (λ (q : Point). length (rest_at c.get-t.result bytes q) < length (rest_at c.get-t.result bytes c.loop-byte.after_previous)) r
-    (walk-shorter c.get-t.result bytes c.get-t.ensures.least c.loop-byte.after_previous c.loop-byte.invariant.passed c.loop-byte.invariant.walk _ s.1)
+    walk-shorter c.get-t.result c.args.bytes.now c.get-t.ensures.least c.loop-byte.after_previous c.loop-byte.invariant.passed c.loop-byte.invariant.walk _ s.1 c.pass.new.point (c.pass.ensures _ s.1)
 
 pub loop-byte-preserved : goal.loop-byte-preserved
 loop-byte-preserved c =

@@ -6,8 +6,8 @@ use Rattle.markdown_tokenizer.proofs.skips.Skips.after.Goals as goal
 abbrev IsParted : List Point → ℕ → ℕ → Type 0
 IsParted xs line i = IsPartitionPoint (λ (p : Point). ltb p.line line ≡ true) (λ (p : Point). ltb p.line line ≡ false) xs i
 
-looked : (xs : List Point) (line i : ℕ) → AreSorted xs → i ≤ length xs → IsParted xs line i → skip_of xs line ≡ found (slice_get xs i) line
-looked xs line i h l p = found-by xs i line h
+looked : (xs now : List Point) (line i : ℕ) → now ≡ xs → AreSorted xs → i ≤ length now → IsParted now line i → skip_of xs line ≡ found (slice_get xs i) line
+looked xs now line i e h l parted = let p = rw e at parted in let bound = rw e at l in found-by xs i line h
     (λ k d m n. ltb-true (get_or xs k d).line line (p.0 k d (omega arith) m))
     (λ d m. ltb-false (get_or xs i d).line line (p.1 i d (omega arith) m))
 
@@ -17,12 +17,10 @@ returns-in-None c =
     let line = c.args.place.now.line in
     let i = c.partition_point-at.result in
     let p = IsPartitionPoint-from_clause (λ (p : Point). ltb p.line line) c.deref.result.now i c.partition_point-at.ensures.partitioned (IsPartitionedBy-ltb (λ (p : Point). p.line) c.deref.result.now line (rw c.deref.ensures.value (IsNonDecreasingBy-lines xs c.self.invariant))) (λ a r q k. search rules) in
-    let parted : IsParted xs line i = rw c.deref.ensures.value at p in
-    let bound : i ≤ length xs = rw c.deref.ensures.value at c.partition_point-at.ensures.bound in
     let told : length xs ≤ i = rw c.deref-2.ensures.value at c.in-None.ensures.lookup.3 in
     let got = nothing-there xs i told in
     or-else (skip_of c.args.self.now line) c.args.place.now
-    (ap (λ ys. skip_of ys line) (sym c.self.view_is) ∙ looked xs line i c.self.invariant bound parted ∙ ap (λ (o : Option Point). found o line) got)
+    (ap (λ ys. skip_of ys line) (sym c.self.view_is) ∙ looked xs c.deref.result.now line i c.deref.ensures.value c.self.invariant c.partition_point-at.ensures.bound p ∙ ap (λ (o : Option Point). found o line) got)
 
 pub returns-then-skip-line : goal.returns-then-skip-line
 returns-then-skip-line c =
@@ -30,13 +28,11 @@ returns-then-skip-line c =
     let line = c.args.place.now.line in
     let i = c.partition_point-at.result in
     let p = IsPartitionPoint-from_clause (λ (p : Point). ltb p.line line) c.deref.result.now i c.partition_point-at.ensures.partitioned (IsPartitionedBy-ltb (λ (p : Point). p.line) c.deref.result.now line (rw c.deref.ensures.value (IsNonDecreasingBy-lines xs c.self.invariant))) (λ a r q k. search rules) in
-    let parted : IsParted xs line i = rw c.deref.ensures.value at p in
-    let bound : i ≤ length xs = rw c.deref.ensures.value at c.partition_point-at.ensures.bound in
     let inside : i < length xs = rw c.deref-2.ensures.value at c.in-Some.ensures.lookup.3.0 in
     let told : c.in-Some.skip.now ≡ get_or xs i c.in-Some.skip.now = rw c.deref-2.ensures.value at (c.in-Some.ensures.lookup.3.1 c.in-Some.skip.now) in
     let got = something-there xs i c.in-Some.skip.now inside told in
     or-found (skip_of c.args.self.now line) c.in-Some.skip.now c.args.place.now
-    (ap (λ ys. skip_of ys line) (sym c.self.view_is) ∙ looked xs line i c.self.invariant bound parted ∙ ap (λ (o : Option Point). found o line) got ∙ found-there c.in-Some.skip.now line c.if-skip-line.true)
+    (ap (λ ys. skip_of ys line) (sym c.self.view_is) ∙ looked xs c.deref.result.now line i c.deref.ensures.value c.self.invariant c.partition_point-at.ensures.bound p ∙ ap (λ (o : Option Point). found o line) got ∙ found-there c.in-Some.skip.now line c.if-skip-line.true)
 
 pub returns-else-skip-line : goal.returns-else-skip-line
 returns-else-skip-line c =
@@ -44,10 +40,8 @@ returns-else-skip-line c =
     let line = c.args.place.now.line in
     let i = c.partition_point-at.result in
     let p = IsPartitionPoint-from_clause (λ (p : Point). ltb p.line line) c.deref.result.now i c.partition_point-at.ensures.partitioned (IsPartitionedBy-ltb (λ (p : Point). p.line) c.deref.result.now line (rw c.deref.ensures.value (IsNonDecreasingBy-lines xs c.self.invariant))) (λ a r q k. search rules) in
-    let parted : IsParted xs line i = rw c.deref.ensures.value at p in
-    let bound : i ≤ length xs = rw c.deref.ensures.value at c.partition_point-at.ensures.bound in
     let inside : i < length xs = rw c.deref-2.ensures.value at c.in-Some.ensures.lookup.3.0 in
     let told : c.in-Some.skip.now ≡ get_or xs i c.in-Some.skip.now = rw c.deref-2.ensures.value at (c.in-Some.ensures.lookup.3.1 c.in-Some.skip.now) in
     let got = something-there xs i c.in-Some.skip.now inside told in
     or-else (skip_of c.args.self.now line) c.args.place.now
-    (ap (λ ys. skip_of ys line) (sym c.self.view_is) ∙ looked xs line i c.self.invariant bound parted ∙ ap (λ (o : Option Point). found o line) got ∙ found-other c.in-Some.skip.now line c.if-skip-line.false)
+    (ap (λ ys. skip_of ys line) (sym c.self.view_is) ∙ looked xs c.deref.result.now line i c.deref.ensures.value c.self.invariant c.partition_point-at.ensures.bound p ∙ ap (λ (o : Option Point). found o line) got ∙ found-other c.in-Some.skip.now line c.if-skip-line.false)
