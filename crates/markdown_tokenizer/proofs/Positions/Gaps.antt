@@ -1,5 +1,5 @@
 -- Laws about gaps: places in lines and columns, and what a gap leaves to be read.
-use Rattle.markdown_tokenizer.proofs.Prelude.{AllByRecursion, ◌≡◌, ℕ, ◌≤◌, ◌<◌, ◌==◌, List, [], ◌∷◌, ◌++◌, Bool, true, false, cond, Option, Some, None, refl, sym, ap, ◌∙◌, subst, arith, ◌⊎◌, inl, inr, filter, unwrap_or, not, ◌&&◌, nat_tests, filter-append, append-nil, eqb-true, not-true, Point, Seat, point, virtual, end_after, stands_before, shown, is_upto, denotes_same, every-map, every-append, filter-none, leads-back, rest_at, IsPlace, IsSeatAt, goes_on, end_at, in_range, skip_of, is_kept_by, is_kept, resumed, kept_between, IsSkip, IsOutside}
+use Rattle.markdown_tokenizer.proofs.Prelude.{AllByRecursion, ◌≡◌, ℕ, ◌≤◌, ◌<◌, ◌==◌, List, [], ◌∷◌, ◌++◌, Bool, true, false, cond, Option, Some, None, refl, sym, ap, ◌∙◌, subst, arith, ◌⊎◌, inl, inr, filter, unwrap_or, not, nat_tests, filter-append, append-nil, eqb-true, not-true, Point, Seat, point, virtual, end_after, stands_before, shown, is_upto, denotes_same, every-map, every-append, filter-none, leads-back, rest_at, IsPlace, IsSeatAt, goes_on, end_at, in_range, skip_of, is_kept_by, is_kept, resumed, kept_between, IsSkip, IsOutside, and_parts}
 use Rattle.markdown_tokenizer.proofs.Positions.Order.{later-later, before-self, is-not, before-upto, upto-before, after-before, every-both, filter-every, filter-same}
 use Rattle.markdown_tokenizer.proofs.Positions.Seats.{rest-later}
 use Rattle.markdown_tokenizer.proofs.Positions.Chains.{IsChain, whole-chain}
@@ -225,10 +225,6 @@ no-seat-first : (line column : ℕ) (p : Point) → 1 ≤ p.column → column �
 no-seat-first line column p h e (inl l) = l
 no-seat-first line column p h e (inr l) = let f = l.1 in absurd (omega arith)
 
-in-range-before : (a b : Bool) → (not a && b) ≡ true → b ≡ true
-in-range-before true b h = absurd (cc)
-in-range-before false b h = h
-
 resumed-like : (skips added : List Point) (p : Point) → skip_of added p.line ≡ skip_of skips p.line → resumed added p ≡ resumed skips p
 resumed-like skips added p e = ap (λ (o : Option Point). cond (p.column == 1) (unwrap_or o p) p) e
 
@@ -271,7 +267,7 @@ module _ (t : ℕ) (bytes : List ℕ) (d : 0 < t) where
     read-earlier : (start after_previous : Point) → is_upto t bytes after_previous e ≡ true → AllByRecursion (λ s. s.point.line < e.line) (filter (in_range start after_previous) (virtual t bytes))
     read-earlier start after_previous upto =
         every-map (λ s. Earlier after_previous s × (in_range start after_previous s ≡ true)) (λ s. s.point.line < e.line)
-        (λ s h. h.0 (in-range-before (stands_before s.point start) (stands_before s.point after_previous) h.1)) (filter (in_range start after_previous) (virtual t bytes))
+        (λ s h. h.0 ((and_parts (not (stands_before s.point start)) (stands_before s.point after_previous) h.1).1)) (filter (in_range start after_previous) (virtual t bytes))
         (every-kept (Earlier after_previous) (in_range start after_previous) (virtual t bytes)
         (every-both (Leads after_previous e) (Earlier e) (Earlier after_previous) (λ s h k l. k (h l)) (virtual t bytes) (upto-leads t bytes after_previous e upto) seats-earlier))
 

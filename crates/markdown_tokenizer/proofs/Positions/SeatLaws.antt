@@ -1,6 +1,6 @@
 -- Seats of a text, and the points of places at which they begin, are shown and end.
-use Rattle.markdown_tokenizer.proofs.Prelude.{◌≡◌, ℕ, zero, suc, ◌<◌, List, [], ◌∷◌, ◌++◌, Some, refl, sym, ap, ◌∙◌, subst, arith, append_assoc, slice_get, Contains, flat_map, append-nil, flat_map-append, Contains-append_right, Point, Seat, point, virtual, end_after, document_end, shown, IsPointOf, points, end-after-one}
-use Rattle.markdown_tokenizer.proofs.Positions.Standing.{IsAmong, seat-begins}
+use Rattle.markdown_tokenizer.proofs.Prelude.{◌≡◌, ℕ, zero, suc, ◌<◌, List, [], ◌∷◌, ◌++◌, Some, refl, sym, ap, ◌∙◌, subst, arith, append_assoc, slice_get, Contains, append-nil, Contains-append_right, Point, Seat, point, virtual, end_after, document_end, shown, IsPointOf, end-after-one}
+use Rattle.markdown_tokenizer.proofs.Positions.Standing.{IsAmong, points_of, points-split, seat-begins}
 
 -- a seat of a list, and of a filtered list
 pub get-among : (xs : List Seat) (k : ℕ) (s : Seat) → slice_get xs k ≡ Some s → IsAmong s xs
@@ -10,45 +10,21 @@ get-among (x ∷ xs) (suc k) s e =
     let a = get-among xs k s e in
     record { front = x ∷ a.front; back = a.back; splits = ap (λ (ys : List Seat). x ∷ ys) a.splits }
 
-contains-first : {A : Type 0} (x : A) (xs : List A) → Contains (x ∷ xs) x
-contains-first x xs = (0, omega arith, refl)
-
-contains-later : {A : Type 0} (x : A) (xs : List A) (y : A) → Contains xs y → Contains (x ∷ xs) y
-contains-later x xs y (k, lt, is) = (suc k, omega arith, is)
-
 -- both points of each seat are points of places
 module _ (t : ℕ) (bytes : List ℕ) where
-  points-split : (xs : List Seat) (s : Seat) (ys : List Seat) → virtual t bytes ≡ xs ++ s ∷ ys
-      → points t bytes ≡ flat_map (λ r. shown bytes r.point ∷ r.point ∷ []) xs ++ (shown bytes s.point ∷ s.point ∷ (flat_map (λ r. shown bytes r.point ∷ r.point ∷ []) ys ++ document_end t bytes ∷ []))
-  points-split xs s ys e =
-      let f = λ (r : Seat). shown bytes r.point ∷ r.point ∷ [] in
-      ap (λ (zs : List Seat). flat_map f zs ++ document_end t bytes ∷ []) e
-      ∙ ap (λ (ps : List Point). ps ++ document_end t bytes ∷ []) (flat_map-append f xs (s ∷ ys))
-      ∙ append_assoc (flat_map f xs) (flat_map f (s ∷ ys)) (document_end t bytes ∷ [])
-
   module _ (s : Seat) (among : IsAmong s (virtual t bytes)) where
-    rest-points : List Point
-    rest-points = flat_map (λ r. shown bytes r.point ∷ r.point ∷ []) among.back ++ document_end t bytes ∷ []
+    either-is-point : (p : Point) → Contains (shown bytes s.point ∷ s.point ∷ (points_of bytes among.back ++ document_end t bytes ∷ [])) p → IsPointOf t bytes p
+    either-is-point p c = subst (λ (ps : List Point). Contains ps p) (sym (points-split t bytes among.front (s ∷ among.back) among.splits))
+        (Contains-append_right (points_of bytes among.front) (shown bytes s.point ∷ s.point ∷ (points_of bytes among.back ++ document_end t bytes ∷ [])) p c)
 
     pub shown-is-point : IsPointOf t bytes (shown bytes s.point)
-    unfolding rest-points
-    shown-is-point =
-        let f = λ (r : Seat). shown bytes r.point ∷ r.point ∷ [] in
-        let e = sym (points-split among.front s among.back among.splits) in
-        subst (λ (ps : List Point). Contains ps (shown bytes s.point)) e
-        (Contains-append_right (flat_map f among.front) (shown bytes s.point ∷ s.point ∷ rest-points) (shown bytes s.point) (contains-first (shown bytes s.point) (s.point ∷ rest-points)))
+    shown-is-point = either-is-point (shown bytes s.point) (0, omega arith, refl)
 
     pub seat-is-point : IsPointOf t bytes s.point
-    unfolding rest-points
-    seat-is-point =
-        let f = λ (r : Seat). shown bytes r.point ∷ r.point ∷ [] in
-        let e = sym (points-split among.front s among.back among.splits) in
-        subst (λ (ps : List Point). Contains ps s.point) e
-        (Contains-append_right (flat_map f among.front) (shown bytes s.point ∷ s.point ∷ rest-points) s.point
-        (contains-later (shown bytes s.point) (s.point ∷ rest-points) s.point (contains-first s.point rest-points)))
+    seat-is-point = either-is-point s.point (1, omega arith, refl)
 
   pub end-is-point : IsPointOf t bytes (document_end t bytes)
-  end-is-point = Contains-append_right (flat_map (λ s. shown bytes s.point ∷ s.point ∷ []) (virtual t bytes)) (document_end t bytes ∷ []) (document_end t bytes) (contains-first (document_end t bytes) [])
+  end-is-point = Contains-append_right (points_of bytes (virtual t bytes)) (document_end t bytes ∷ []) (document_end t bytes) (0, omega arith, refl)
 
   module _ (d : 0 < t) where
     -- the place after some of the virtual bytes is where the next is shown, or the document's end

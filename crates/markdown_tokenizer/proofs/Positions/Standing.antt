@@ -1,5 +1,5 @@
 -- Places of a document: where each virtual byte begins, is shown and ends, and what is left there.
-use Rattle.markdown_tokenizer.proofs.Prelude.{AllByRecursion, ◌≡◌, ◌≢◌, ℕ, zero, suc, ◌+◌, ◌-◌, ◌<◌, ◌==◌, List, [], ◌∷◌, ◌++◌, Bool, true, false, cond, refl, sym, ap, ◌∙◌, subst, arith, append_assoc, inl, inr, slice_index, nat_lt, ◌&&◌, ◌||◌, Contains, flat_map, nat_tests, append-nil, Contains-append_cases, eqb-true, Point, Seat, point, virtual, end_after, document_end, stands_before, shown, follows_cr, IsShown, IsPointOf, every-map, end-after-one, rest_at, IsPlace, IsSeatAt, begins_pair, goes_on, end_at}
+use Rattle.markdown_tokenizer.proofs.Prelude.{AllByRecursion, ◌≡◌, ◌≢◌, ℕ, zero, suc, ◌+◌, ◌-◌, ◌<◌, ◌==◌, List, [], ◌∷◌, ◌++◌, Bool, true, false, cond, refl, sym, ap, ◌∙◌, subst, arith, append_assoc, inl, inr, slice_index, nat_lt, ◌&&◌, ◌||◌, Contains, flat_map, nat_tests, append-nil, Contains-append_cases, eqb-true, Point, Seat, point, virtual, end_after, document_end, stands_before, shown, follows_cr, IsShown, IsPointOf, every-map, end-after-one, rest_at, IsPlace, IsSeatAt, begins_pair, goes_on, end_at, points, flat_map-append}
 use Rattle.markdown_tokenizer.proofs.Positions.Order.{not-number, before-self, later-later, after-before, before-upto}
 use Rattle.markdown_tokenizer.proofs.Positions.Seats.{StandsThere, stands-there}
 use Rattle.markdown_tokenizer.proofs.Positions.Chains.{IsAt, Begins, IsChain, whole-chain, shown-other}
@@ -63,6 +63,15 @@ module _ (t : ℕ) (bytes : List ℕ) where
   -- the place at which a place is shown is shown at itself
   pub shown-shown : (p : Point) → IsShown bytes (shown bytes p)
   shown-shown p = shown-again p (slice_index bytes p.index == 10) (follows_cr bytes p.index) refl refl
+
+-- the points of seats, and where they are shown
+abbrev pub points_of : List ℕ → List Seat → List Point
+points_of bytes xs = flat_map (λ s. shown bytes s.point ∷ s.point ∷ []) xs
+
+pub points-split : (t : ℕ) (bytes : List ℕ) (xs ys : List Seat) → virtual t bytes ≡ xs ++ ys → points t bytes ≡ points_of bytes xs ++ (points_of bytes ys ++ document_end t bytes ∷ [])
+points-split t bytes xs ys e = ap (λ (zs : List Seat). points_of bytes zs ++ document_end t bytes ∷ []) e
+    ∙ ap (λ (ps : List Point). ps ++ document_end t bytes ∷ []) (flat_map-append (λ (s : Seat). shown bytes s.point ∷ s.point ∷ []) xs ys)
+    ∙ append_assoc (points_of bytes xs) (points_of bytes ys) (document_end t bytes ∷ [])
 
 -- one of these seats
 pub record IsAmong (s : Seat) (xs : List Seat) : Type 0 where
@@ -139,8 +148,8 @@ module _ (t : ℕ) (bytes : List ℕ) (d : 0 < t) where
     pub after-shown : IsShown bytes s.end
     after-shown = (chain-at t bytes s.end ys from-here.2).shown
 
--- the points of seats, and where they are shown, are places
-place-among : (t : ℕ) (bytes : List ℕ) → 0 < t → (p : Point) (xs ys : List Seat) → virtual t bytes ≡ xs ++ ys → Contains (flat_map (λ s. shown bytes s.point ∷ s.point ∷ []) ys) p → IsPlace t bytes p
+-- those of the document are places
+place-among : (t : ℕ) (bytes : List ℕ) → 0 < t → (p : Point) (xs ys : List Seat) → virtual t bytes ≡ xs ++ ys → Contains (points_of bytes ys) p → IsPlace t bytes p
 place-among t bytes d p xs [] e (k, lt, is) = absurd (omega arith)
 place-among t bytes d p xs (s ∷ ss) e (zero, lt, is) = subst (IsPlace t bytes) is (shown-place t bytes d xs s ss e)
 place-among t bytes d p xs (s ∷ ss) e (suc zero, lt, is) = subst (IsPlace t bytes) is (point-place t bytes d xs s ss e)
@@ -152,7 +161,7 @@ place-at-end t bytes d p (suc k, lt, is) = absurd (omega arith)
 
 -- the point of a place of the document is one that its numbers describe
 pub place-of-point : (t : ℕ) (bytes : List ℕ) → 0 < t → (p : Point) → IsPointOf t bytes p → IsPlace t bytes p
-place-of-point t bytes d p h = elim (Contains-append_cases (flat_map (λ s. shown bytes s.point ∷ s.point ∷ []) (virtual t bytes)) (document_end t bytes ∷ []) p h) [
+place-of-point t bytes d p h = elim (Contains-append_cases (points_of bytes (virtual t bytes)) (document_end t bytes ∷ []) p h) [
   | inl k ↦ place-among t bytes d p [] (virtual t bytes) refl k
   | inr k ↦ place-at-end t bytes d p k
 ]

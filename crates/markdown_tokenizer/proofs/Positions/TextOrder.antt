@@ -1,10 +1,11 @@
 -- The virtual bytes of a text are in order: each begins before it ends, and none begins before the previous one ends.
-use Rattle.markdown_tokenizer.proofs.Prelude.{AllByRecursion, ◌≡◌, ◌≢◌, ℕ, zero, suc, ◌+◌, ◌<◌, ◌≤◌, List, [], ◌∷◌, ◌++◌, Bool, true, false, cond, Option, Some, None, length, refl, sym, ap, ◌∙◌, subst, arith, inl, inr, slice_get, slice_index, drop, ◌==◌, nat_lt, not, ◌&&◌, ◌||◌, filter, ltb-true, eqb-true, nat_tests, slice_get_cases, Point, Seat, point, tab_width, in_tab, end_in_tab, line_feed, other_byte, begins_with_lf, virtual_from, virtual, stands_before, shown, IsShown, is_upto, denotes_same, every-append, every-map, every-get, Byte, Given, Text, Piece, pushed, passed, IsText, empty_text, followed_by, followed_by_all, FitsAfter, CanFollow, in_range, sight_in, byte_of, seat_before, end_or, end_place}
+use Rattle.markdown_tokenizer.proofs.Prelude.{AllByRecursion, ◌≡◌, ◌≢◌, ℕ, zero, suc, ◌+◌, ◌<◌, ◌≤◌, List, [], ◌∷◌, ◌++◌, Bool, true, false, cond, Option, Some, None, length, refl, sym, ap, ◌∙◌, subst, arith, inl, inr, slice_get, slice_index, drop, ◌==◌, nat_lt, not, ◌&&◌, ◌||◌, filter, ltb-true, eqb-true, nat_tests, slice_get_cases, Point, Seat, point, tab_width, in_tab, end_in_tab, line_feed, other_byte, begins_with_lf, virtual_from, virtual, stands_before, shown, IsShown, is_upto, denotes_same, every-append, every-map, every-get, Byte, Given, Text, Piece, pushed, passed, IsText, empty_text, followed_by, followed_by_all, FitsAfter, CanFollow, in_range, sight_in, byte_of, seat_before, end_or, end_place, leads-back}
 use Rattle.markdown_tokenizer.proofs.Positions.Order.{before-self, above-later, below-before, more-before, not-before, not-before-in, is-not, after-before, before-upto, upto-before, later-later, every-both, every-all}
 use Rattle.markdown_tokenizer.proofs.Positions.Seats.{virtual-index, tab-index}
 use Rattle.markdown_tokenizer.proofs.Positions.Chains.{shown-other, shown-after}
 use Rattle.markdown_tokenizer.proofs.Positions.Standing.{shown-upto}
-use Rattle.markdown_tokenizer.proofs.Positions.Cursors.{same-before, list-every}
+use Rattle.markdown_tokenizer.proofs.Positions.Cursors.{Leads, upto-leads, same-before}
+use Rattle.markdown_tokenizer.proofs.Positions.Lines.{every-kept}
 
 -- a virtual byte begins before it ends, at a place that is shown at itself
 abbrev pub IsGood : List ℕ → Seat → Type 0
@@ -19,13 +20,8 @@ abbrev pub AreInOrder : List ℕ → List Seat → Type 0
 AreInOrder bytes [] = Unit {0}
 AreInOrder bytes (s ∷ ss) = IsGood bytes s × AllByRecursion (Follows s) ss × AreInOrder bytes ss
 
-given-at : (P : Seat → Type 0) (x : Seat) (ys : List Seat) (b : Bool) → (b ≡ true → P x) → AllByRecursion P ys → AllByRecursion P (cond b (x ∷ ys) ys)
-given-at P x ys true h k = (h refl, k)
-given-at P x ys false h k = k
-
 every-given : (P : Seat → Type 0) (f : Seat → Bool) (xs : List Seat) → AllByRecursion (λ x. f x ≡ true → P x) xs → AllByRecursion P (filter f xs)
-every-given P f [] h = tt
-every-given P f (x ∷ xs) h = given-at P x (filter f xs) (f x) h.0 (every-given P f xs h.1)
+every-given P f xs h = every-map (λ x. (f x ≡ true → P x) × (f x ≡ true)) P (λ x k. k.0 k.1) (filter f xs) (every-kept (λ x. f x ≡ true → P x) f xs h)
 
 module _ (bytes : List ℕ) where
   order-append : (xs ys : List Seat) → AreInOrder bytes xs → AreInOrder bytes ys → AllByRecursion (λ s. AllByRecursion (Follows s) ys) xs → AreInOrder bytes (xs ++ ys)
@@ -176,15 +172,8 @@ module _ (t : ℕ) (bytes : List ℕ) where
   virtual-compared = compared (virtual t bytes) virtual-order
 
   -- what is before the one place is before the other
-  or-before : (a b : Bool) → (not a || b) ≡ true → b ≡ false → a ≡ false
-  or-before true true h e = absurd (cc)
-  or-before true false h e = absurd (cc)
-  or-before false b h e = refl
-
   upto-later : (p q : Point) → is_upto t bytes p q ≡ true → AllByRecursion (λ r. stands_before r.point q ≡ false → stands_before r.point p ≡ false) (virtual t bytes)
-  upto-later p q h =
-      every-map (λ r. (not (stands_before r.point p) || stands_before r.point q) ≡ true) (λ r. stands_before r.point q ≡ false → stands_before r.point p ≡ false)
-      (λ r e. or-before (stands_before r.point p) (stands_before r.point q) e) (virtual t bytes) (list-every (λ (r : Seat). not (stands_before r.point p) || stands_before r.point q) (virtual t bytes) h)
+  upto-later p q h = every-map (Leads p q) (λ r. stands_before r.point q ≡ false → stands_before r.point p ≡ false) (λ r k e. leads-back (stands_before r.point p) (stands_before r.point q) k e) (virtual t bytes) (upto-leads t bytes p q h)
 
   same-later : (p q : Point) → denotes_same t bytes p q ≡ true → AllByRecursion (λ r. stands_before r.point p ≡ false → stands_before r.point q ≡ false) (virtual t bytes)
   same-later p q h = every-map (λ r. stands_before r.point p ≡ stands_before r.point q) (λ r. stands_before r.point p ≡ false → stands_before r.point q ≡ false) (λ r e k. sym e ∙ k) (virtual t bytes) (same-before t bytes p q h)

@@ -1,8 +1,8 @@
 -- Walks over the virtual bytes of a document, from its start.
-use Rattle.markdown_tokenizer.proofs.Prelude.{◌≡◌, ◌≢◌, ℕ, suc, ◌+◌, ◌*◌, ◌%◌, ◌≤◌, ◌<◌, ◌==◌, List, [], ◌∷◌, ◌++◌, Bool, true, false, cond, Option, Some, None, length, refl, sym, ap, ◌∙◌, subst, arith, append_assoc, length-append, ◌⊎◌, inl, inr, filter, nat_lt, ◌&&◌, ◌||◌, find, map, flat_map, enumerate_from, option_or, append-nil, map-append, filter-append, find-append, flat_map-append, cases_lt, nat_tests, mul-le-mul_left, Point, Seat, point, virtual, end_after, document_end, shown, points, point_at, end-after-one, rest_at, IsPlace, IsSeatAt, Bounds, place_of, is_cut, cuts_every}
+use Rattle.markdown_tokenizer.proofs.Prelude.{◌≡◌, ◌≢◌, ℕ, suc, ◌+◌, ◌*◌, ◌%◌, ◌≤◌, ◌<◌, ◌==◌, List, [], ◌∷◌, ◌++◌, Bool, true, false, cond, Option, Some, None, length, refl, sym, ap, ◌∙◌, subst, arith, append_assoc, length-append, ◌⊎◌, inl, inr, filter, nat_lt, ◌&&◌, ◌||◌, find, map, enumerate_from, option_or, append-nil, map-append, filter-append, find-append, flat_map-append, cases_lt, nat_tests, mul-le-mul_left, Point, Seat, point, virtual, end_after, document_end, shown, point_at, end-after-one, rest_at, IsPlace, IsSeatAt, Bounds, place_of, is_cut, cuts_every}
 use Rattle.markdown_tokenizer.proofs.Positions.Order.{upto-before}
 use Rattle.markdown_tokenizer.proofs.Positions.Chains.{IsChain, whole-chain}
-use Rattle.markdown_tokenizer.proofs.Positions.Standing.{place-after, after-rest}
+use Rattle.markdown_tokenizer.proofs.Positions.Standing.{points_of, points-split, place-after, after-rest}
 
 -- a walk is at a place, and has passed these virtual bytes
 pub record IsWalk (t : ℕ) (bytes : List ℕ) (p : Point) (passed : List Seat) : Type 0 where
@@ -63,25 +63,17 @@ module _ (t : ℕ) (bytes : List ℕ) (d : 0 < t) where
 abbrev pub is_place : ℕ × ℕ → Point → Bool
 is_place place p = (p.index == place.0) && (p.vs == place.1)
 
-abbrev pub points_of : List ℕ → List Seat → List Point
-points_of bytes xs = flat_map (λ s. shown bytes s.point ∷ s.point ∷ []) xs
-
 pub record IsSearch (t : ℕ) (bytes : List ℕ) (place : ℕ × ℕ) (p : Point) : Type 0 where
   pub passed : List Seat
   pub walk : IsWalk t bytes p passed
   pub none : find (is_place place) (points_of bytes passed) ≡ None
 
 module _ (t : ℕ) (bytes : List ℕ) (d : 0 < t) (place : ℕ × ℕ) where
-  points-split : (xs ys : List Seat) → virtual t bytes ≡ xs ++ ys → points t bytes ≡ points_of bytes xs ++ (points_of bytes ys ++ document_end t bytes ∷ [])
-  points-split xs ys e = ap (λ (zs : List Seat). points_of bytes zs ++ document_end t bytes ∷ []) e
-      ∙ ap (λ (ps : List Point). ps ++ document_end t bytes ∷ []) (flat_map-append (λ (s : Seat). shown bytes s.point ∷ s.point ∷ []) xs ys)
-      ∙ append_assoc (points_of bytes xs) (points_of bytes ys) (document_end t bytes ∷ [])
-
   find-after : (xs ys : List Seat) → virtual t bytes ≡ xs ++ ys → find (is_place place) (points_of bytes xs) ≡ None
       → point_at t bytes place ≡ find (is_place place) (points_of bytes ys ++ document_end t bytes ∷ [])
   find-after xs ys e none =
       let rest = points_of bytes ys ++ document_end t bytes ∷ [] in
-      ap (find (is_place place)) (points-split xs ys e) ∙ find-append (is_place place) (points_of bytes xs) rest ∙ ap (λ (o : Option Point). option_or o (find (is_place place) rest)) none
+      ap (find (is_place place)) (points-split t bytes xs ys e) ∙ find-append (is_place place) (points_of bytes xs) rest ∙ ap (λ (o : Option Point). option_or o (find (is_place place) rest)) none
 
   module _ (p : Point) (search : IsSearch t bytes place p) where
     pub search-place : IsPlace t bytes p

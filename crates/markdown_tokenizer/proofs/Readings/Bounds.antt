@@ -82,33 +82,26 @@ module _ {R D : Type 0} (given : Given) (step : Sight → Configuration R D → 
   fed-outcome zero k cs n = refl
   fed-outcome (suc b) k cs n = refl
 
+  -- what has the same outcome within each bound ends in the same
+  ends-same : (calls : ℕ) (k l : Configuration R D) (cs ds : List Choice) (s u : State) (r : Reading R D) → ((b : ℕ) → outcome given step text b k cs s ≡ outcome given step text b l ds u)
+      → EndsIn given step text calls l ds u r ↔ EndsIn given step text calls k cs s r
+  ends-same calls k l cs ds s u r e =
+      ((λ h. record { bound = h.bound; is = ap (more_calls calls) (e h.bound) ∙ h.is }), (λ h. record { bound = h.bound; is = ap (more_calls calls) (sym (e h.bound)) ∙ h.is }))
+
   pub fed-ends : (calls : ℕ) (k : Configuration R D) (cs : List Choice) (n : Name) (r : Reading R D)
       → EndsIn given step text calls (fed text k) cs (Retry n) r ↔ EndsIn given step text calls k cs (Next n) r
-  fed-ends calls k cs n r = (
-    (λ h. record { bound = h.bound; is = ap (more_calls calls) (fed-outcome h.bound k cs n) ∙ h.is }),
-    (λ h. record { bound = h.bound; is = ap (more_calls calls) (sym (fed-outcome h.bound k cs n)) ∙ h.is }),
-  )
+  fed-ends calls k cs n r = ends-same calls k (fed text k) cs cs (Next n) (Retry n) r (λ b. fed-outcome b k cs n)
 
   -- a choice that ends
-  settled-ok : (b : ℕ) (k : Configuration R D) (c : Choice) (cs : List Choice) → outcome given step text b k (c ∷ cs) Ok ≡ outcome given step text b (settled_at c.kind c.saved Ok k) cs c.ok
-  settled-ok b k c cs = ap (after_choices (read given step text b) cs) (more-zero (read given step text b (settled_at c.kind c.saved Ok k) c.ok))
-
-  settled-nok : (b : ℕ) (k : Configuration R D) (c : Choice) (cs : List Choice) → outcome given step text b k (c ∷ cs) Nok ≡ outcome given step text b (settled_at c.kind c.saved Nok k) cs c.nok
-  settled-nok b k c cs = ap (after_choices (read given step text b) cs) (more-zero (read given step text b (settled_at c.kind c.saved Nok k) c.nok))
-
   pub settled-ok-ends : (calls : ℕ) (k : Configuration R D) (c : Choice) (cs : List Choice) (r : Reading R D)
       → EndsIn given step text calls (settled_at c.kind c.saved Ok k) cs c.ok r ↔ EndsIn given step text calls k (c ∷ cs) Ok r
-  settled-ok-ends calls k c cs r = (
-    (λ h. record { bound = h.bound; is = ap (more_calls calls) (settled-ok h.bound k c cs) ∙ h.is }),
-    (λ h. record { bound = h.bound; is = ap (more_calls calls) (sym (settled-ok h.bound k c cs)) ∙ h.is }),
-  )
+  settled-ok-ends calls k c cs r = let next = settled_at c.kind c.saved Ok k in
+      ends-same calls k next (c ∷ cs) cs Ok c.ok r (λ b. ap (after_choices (read given step text b) cs) (more-zero (read given step text b next c.ok)))
 
   pub settled-nok-ends : (calls : ℕ) (k : Configuration R D) (c : Choice) (cs : List Choice) (r : Reading R D)
       → EndsIn given step text calls (settled_at c.kind c.saved Nok k) cs c.nok r ↔ EndsIn given step text calls k (c ∷ cs) Nok r
-  settled-nok-ends calls k c cs r = (
-    (λ h. record { bound = h.bound; is = ap (more_calls calls) (settled-nok h.bound k c cs) ∙ h.is }),
-    (λ h. record { bound = h.bound; is = ap (more_calls calls) (sym (settled-nok h.bound k c cs)) ∙ h.is }),
-  )
+  settled-nok-ends calls k c cs r = let next = settled_at c.kind c.saved Nok k in
+      ends-same calls k next (c ∷ cs) cs Nok c.nok r (λ b. ap (after_choices (read given step text b) cs) (more-zero (read given step text b next c.nok)))
 
   -- a call: what is read before it, at one more, is what is read after it, and one call more
   step-outcome : (b : ℕ) (k : Configuration R D) (cs : List Choice) (n : Name)

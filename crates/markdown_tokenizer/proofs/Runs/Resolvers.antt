@@ -1,9 +1,8 @@
 -- Resolvers go over the events.
-use Rattle.markdown_tokenizer.proofs.Prelude.{◌≡◌, ℕ, suc, ◌+◌, ◌<◌, List, [], ◌∷◌, ◌++◌, Bool, true, false, Option, Some, length, refl, sym, ap, ◌∙◌, subst, arith, drop, get_or, reverse, Vec, IsEquivalence, AllByRecursion, list_any, or_parts, IsDistinct-cons, IsDistinct-push, Event, Message, none-mapped, Subresult, Inside, Phase, Reading, Resolving, Given, Text, IsText, Configuration, TokenizerValue, at_configuration, Sight, sight, sight_of, Rules, with_resolvers, Resolved, resolving, taken, found, refused, with_more, edits_made, resolved_by, CanBeEdited, IsInShape, ResolversKeep, resolved_in, GoneOver, KeptChoice, Progress, Edit, tab_of, seen, text_within, choice_of, position_from, AreNested, IsProgress, IsSound, drop_all, ◌≤◌}
+use Rattle.markdown_tokenizer.proofs.Prelude.{◌≡◌, ℕ, ◌+◌, ◌<◌, List, [], ◌∷◌, ◌++◌, Bool, true, false, Option, Some, length, refl, sym, ap, ◌∙◌, subst, drop, get_or, reverse, Vec, IsEquivalence, AllByRecursion, list_any, or_parts, IsDistinct-cons, IsDistinct-push, Event, Message, none-mapped, Subresult, Inside, Phase, Reading, Resolving, Given, Text, IsText, Configuration, TokenizerValue, at_configuration, Sight, sight, sight_of, Rules, with_resolvers, Resolved, resolving, taken, found, refused, with_more, edits_made, resolved_by, CanBeEdited, IsInShape, ResolversKeep, resolved_in, GoneOver, KeptChoice, Progress, Edit, tab_of, seen, text_within, choice_of, position_from, AreNested, IsProgress, IsSound, drop_all, ◌≤◌, drop_more}
 use Rattle.std.specs.List.{IsDistinct}
 use Rattle.markdown_tokenizer.specs.Resolving.{done}
 use Rattle.markdown_tokenizer.proofs.Inside.Fields.{nested-map}
-use Rattle.markdown_tokenizer.proofs.Runs.Whole.{drop-get}
 
 -- none is there twice where none is
 pub none-twice : {R : Type 0} (same : R → R → Bool) → IsDistinct same []
@@ -79,9 +78,6 @@ module _ {R D : Type 0} (resolver : Sight → Configuration R D → R → Resolv
       → resolved_by resolver g text (r ∷ rs) k sub ≡ refused m
   step-refused r rs k sub m e = ap (after rs sub) e
 
-one-left : {A : Type 0} (xs : List A) (n : ℕ) (x : A) → n < length xs → x ≡ get_or xs n x → drop n xs ≡ x ∷ drop (n + 1) xs
-one-left {A = A} xs n x h e = let next : suc n ≡ n + 1 = omega arith in drop-get xs n x h ∙ ap (λ (k : ℕ). get_or xs n x ∷ drop k xs) next ∙ ap (λ (y : A). y ∷ drop (n + 1) xs) (sym e)
-
 module _ {M R D : Type 0} (rules : M → Given → Rules R D) where
   abbrev rules_of : TokenizerValue M R D → Rules R D
   rules_of t = rules t.machine t.given
@@ -98,7 +94,7 @@ module _ {M R D : Type 0} (rules : M → Given → Rules R D) where
   module _ {start : TokenizerValue M R D} {names : List R} {sub : Subresult} {now : TokenizerValue M R D} {found : Subresult} where
     -- the first of those that are left
     pub resolves-one : (n : ℕ) (x : R) → n < length names → x ≡ get_or names n x → ResolvesOn start names (drop n names) sub now found → ResolvesOn start names (x ∷ drop (n + 1) names) sub now found
-    resolves-one n x h e r = subst (λ (rest : List R). ResolvesOn start names rest sub now found) (one-left names n x h e) r
+    resolves-one n x h e r = subst (λ (rest : List R). ResolvesOn start names rest sub now found) (drop_more names n x h ∙ ap (λ (y : R). y ∷ drop (n + 1) names) (sym e)) r
 
     -- none is left
     pub resolves-last : (n : ℕ) → length names ≤ n → ResolvesOn start names (drop n names) sub now found → ResolvesOn start names [] sub now found

@@ -1,5 +1,5 @@
 -- A run over the whole document: how it begins and ends, and what holds at each cut.
-use Rattle.markdown_tokenizer.proofs.Prelude.{AllByRecursion, ◌≡◌, ◌≢◌, ◌+◌, ◌≤◌, ◌<◌, ◌==◌, ◌-◌, ℕ, zero, suc, List, [], ◌∷◌, ◌++◌, Bool, true, false, cond, Some, length, ◌⊎◌, inl, inr, refl, sym, ap, ◌∙◌, arith, subst, filter, find, slice_index, nat_lt, ◌&&◌, ◌||◌, drop, get_or, Contains, Result, IsErrAnd, IfErr, IfOk, flat_map, nat_tests, cases_lt, append-nil, Point, Name, State, Next, Seat, point, virtual, end_after, document_end, stands_before, shown, follows_cr, points, point_at, IsPointOf, is_upto, Given, Text, pushed, in_range, empty_text, followed_by, followed_by_all, FitsAfter, CanFollow, IsDocument, IsText, TokenizerValue, start_configuration, start_seen, Rules, KeepsInvariant, LeadsOn, KeepsOutcome, CanPush, IsPushed, IsFlushed, IsRefused, IsWellFormed, IsRun, IsRunRefused, AreCuts, budget, given_by, whole_text, FollowInOrder, IsResolved, IsResolvingRefused, IsInShape, EndsIn, Subresult, ParseOptions, Event, Message, every-map, rest_at, IsPlace, IsNextSeat, Bounds}
+use Rattle.markdown_tokenizer.proofs.Prelude.{AllByRecursion, ◌≡◌, ◌≢◌, ◌+◌, ◌≤◌, ◌<◌, ◌==◌, ◌-◌, ℕ, suc, List, [], ◌∷◌, ◌++◌, Bool, true, false, cond, Some, length, ◌⊎◌, inl, inr, refl, sym, ap, ◌∙◌, arith, subst, filter, find, slice_index, nat_lt, ◌&&◌, ◌||◌, drop, get_or, Contains, Result, IsErrAnd, IfErr, IfOk, flat_map, nat_tests, cases_lt, append-nil, Point, Name, State, Next, Seat, point, virtual, end_after, document_end, stands_before, shown, follows_cr, points, point_at, IsPointOf, is_upto, Given, Text, pushed, in_range, empty_text, followed_by, followed_by_all, FitsAfter, CanFollow, IsDocument, IsText, TokenizerValue, start_configuration, start_seen, Rules, KeepsInvariant, LeadsOn, KeepsOutcome, CanPush, IsPushed, IsFlushed, IsRefused, IsWellFormed, IsRun, IsRunRefused, AreCuts, budget, given_by, whole_text, FollowInOrder, IsResolved, IsResolvingRefused, IsInShape, EndsIn, Subresult, ParseOptions, Event, Message, every-map, rest_at, IsPlace, IsNextSeat, Bounds, drop_more}
 use Rattle.std.specs.declared.result.Result.TheVariants as result
 use Rattle.markdown_tokenizer.specs.Reading.{Reading}
 use Rattle.markdown_tokenizer.proofs.Positions.Order.{filter-every}
@@ -155,11 +155,6 @@ module _ (given : Given) (wide : 0 < given.tab) where
       (filter-every (in_range (point 1 1 0 0) e) (virtual given.tab given.bytes)
       (every-map (λ s. stands_before s.point e ≡ true) (λ s. in_range (point 1 1 0 0) e s ≡ true) (λ s h. first-in s e h) (virtual given.tab given.bytes) behind))
 
-pub drop-get : {A : Type 0} (xs : List A) (n : ℕ) (d : A) → n < length xs → drop n xs ≡ get_or xs n d ∷ drop (suc n) xs
-drop-get [] n d lt = absurd (omega arith)
-drop-get (y ∷ ys) zero d lt = refl
-drop-get (y ∷ ys) (suc n) d lt = drop-get ys n d (omega arith)
-
 pub start-is-text : (bytes : List ℕ) (options : ParseOptions) → IsDocument (given_by bytes options) → IsText (given_by bytes options) (empty_text (point 1 1 0 0))
 start-is-text bytes options document = record {
   document = document;
@@ -234,8 +229,7 @@ module _ {M R D : Type 0} (rules : M → Given → Rules R D) where
   pub run-at : (bytes : List ℕ) (options : ParseOptions) (m : M) (start : Name) (from : ℕ × ℕ) (cuts : List (ℕ × ℕ)) (n : ℕ) (d : ℕ × ℕ) (t : TokenizerValue M R D) (state : State)
       → n < length cuts → RunsBy bytes options m start from (drop n cuts) t state → RunsBy bytes options m start from (get_or cuts n d ∷ drop (n + 1) cuts) t state
   run-at bytes options m start from cuts n d t state lt r =
-      let next : suc n ≡ n + 1 = omega arith in
-      runs-over r (subst (λ (cs : List (ℕ × ℕ)). FollowInOrder options.tab_size bytes r.place cs) (drop-get cuts n d lt ∙ ap (λ (k : ℕ). get_or cuts n d ∷ drop k cuts) next) r.order)
+      runs-over r (subst (λ (cs : List (ℕ × ℕ)). FollowInOrder options.tab_size bytes r.place cs) (drop_more cuts n d lt) r.order)
 
   -- the last range ends at the document's end
   pub run-last : (bytes : List ℕ) (options : ParseOptions) (m : M) (start : Name) (from : ℕ × ℕ) (cuts : List (ℕ × ℕ)) (t : TokenizerValue M R D) (state : State)
