@@ -202,9 +202,8 @@ module _ {M R D : Type 0} {same : R → R → Bool} (t : Inside M R D) (sound : 
 
       pub text-passed : followed_by (seen t).given (text_within t) (passed q) ≡ text_added
       text-passed =
-          let o = is.other in
           let seats = passed-seats tab_in wide_in bytes_in skips_in t.start end_in q t.after_previous t.previous sound.placed.skips sound.placed.read (end-place-in t sound) passed-place starts-upto is.first is.line is.before is.other in
-          rw o (ap (λ (xs : List Seat). record { start = t.start; seats = xs; end = q }) (sym seats))
+          rw is.other (ap (λ (xs : List Seat). record { start = t.start; seats = xs; end = q }) (sym seats))
 
       -- the gaps so far are in earlier lines
       pub passed-behind : AllByRecursion (λ (p : Point). p.line < q.line) skips_in

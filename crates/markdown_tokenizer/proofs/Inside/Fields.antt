@@ -61,8 +61,7 @@ empty-or-first (x ∷ xs) = inr (x, xs, refl)
 -- the first virtual byte of what is left is the next one
 next-of-rest : (tab : ℕ) (wide : 0 < tab) (bytes : List ℕ) (after_previous : Point) (place : IsPlace tab bytes after_previous) (seat : Seat) (after : List Seat) → rest_at tab bytes after_previous ≡ seat ∷ after → IsSeatAt tab bytes after_previous seat
 next-of-rest tab wide bytes after_previous place seat after e =
-    let splits = place.splits ∙ ap (λ (xs : List Seat). place.before ++ xs) e in
-    let begins = seat-begins tab bytes wide place.before seat after splits in
+    let begins = seat-begins tab bytes wide place.before seat after (place.splits ∙ ap (λ (xs : List Seat). place.before ++ xs) e) in
     let later = subst (AllByRecursion (λ s. stands_before s.point after_previous ≡ false)) e (rest-later tab bytes after_previous) in
     record { after = after; is = e; same = begins.at_seat ∙ sym e; later = later.0; inside = begins.inside }
 
@@ -216,8 +215,7 @@ module _ (tab : ℕ) (wide : 0 < tab) (bytes : List ℕ) (skips : List Point) (s
 
   pub read-passed : IsReadTo tab bytes added (text_between tab bytes added start q) after_previous previous
   read-passed =
-      let n = position_from tab bytes skips start after_previous in
-      let e = ap (seat_before (text_between tab bytes added start q)) passed-position ∙ passed-before n in
+      let e = ap (seat_before (text_between tab bytes added start q)) passed-position ∙ passed-before (position_from tab bytes skips start after_previous) in
       record {
         place = read.place;
         from = read.from;

@@ -309,9 +309,8 @@ module _ {M R D : Type 0} {same : R → R → Bool} (t : Inside M R D) (sound : 
 
   seen-there : (waits : Waits) (ended : Bool) (byte : ℕ) → seen (after waits ended byte) ≡ waiting_there waits ended
   seen-there waits ended byte =
-      let choices = same-choices position_in stack.items t.stack.items (Saves t) from.events_len from.stack_len (reverse kept_choices.items) front-stack goes-from.1 in
       let cut = h.cut in let top = h.top in
-      rw (choices, cut, top) refl
+      rw (same-choices position_in stack.items t.stack.items (Saves t) from.events_len from.stack_len (reverse kept_choices.items) front-stack goes-from.1, cut, top) refl
 
   fed-there : (b : Bool) → nat_lt position_there size_in ≡ b
       → at_configuration (settled_to (seen t) step_there) (fed (seen t).text step_there.configuration) ≡ cond b (waiting_there Byte from.ended) (waiting_there End true)

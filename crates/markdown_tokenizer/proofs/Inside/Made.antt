@@ -256,8 +256,7 @@ module _ (void : Name → Bool) where
   balanced-followed : {l : List Event} → IsBalanced l → (k : Kind) → VoidExitsFollow void k l → AreFollowed void l
   balanced-followed empty k h = tt
   balanced-followed (span e f us vs {l} is en ex same b c) k h =
-      let t = subst (VoidExitsFollow void k) is h in
-      subst (AreFollowed void) (sym is) (span-followed e f us vs en ex same b (balanced-followed b e.kind) (balanced-followed c f.kind) t.1)
+      subst (AreFollowed void) (sym is) (span-followed e f us vs en ex same b (balanced-followed b e.kind) (balanced-followed c f.kind) (subst (VoidExitsFollow void k) is h).1)
 
   first-followed : (n : Name) (es : List Event) → IsFollowed n es → (f : Event) × (slice_get es 0 ≡ Some f) × (f.kind ≡ Exit) × (f.name ≡ n)
   first-followed n [] h = absurd h

@@ -80,8 +80,7 @@ module _ {M R D : Type 0} {same : R → R → Bool} (t : Inside M R D) (sound : 
     pub entered-seen : seen (record t { events = events; stack = stack }) ≡ with_enter name link (seen t)
     entered-seen =
         let choices = same-choices (position_from (tab_of t.parse_state.now) t.parse_state.now.bytes.now t.skips t.start) stack.items t.stack.items (Saves t) (length t.events.items) (length t.stack.items) (reverse t.kept_choices.items) entered-front sound.kept_choices in
-        let at = is ∙ here-is t sound in
-        rw (choices, put, top, at) refl
+        rw (choices, put, top, is ∙ here-is t sound) refl
 
 module _ (position : Point → ℕ) (stack : List Name) (P : Progress → Type 0) where
   abbrev IsAbove : Choice → Type 0
@@ -134,5 +133,4 @@ module _ {M R D : Type 0} {same : R → R → Bool} (t : Inside M R D) (sound : 
   pub exited-seen : seen (record t { events = events; stack = stack }) ≡ with_exit name (seen t)
   exited-seen =
       let choices = same-choices (position_from (tab_of t.parse_state.now) t.parse_state.now.bytes.now t.skips t.start) stack.items t.stack.items (Saves t) (length t.events.items) (length t.stack.items - 1) (reverse t.kept_choices.items) exited-front exited-nested in
-      let at = is ∙ after_previous-is t sound in
-      rw (choices, put, top, at) refl
+      rw (choices, put, top, is ∙ after_previous-is t sound) refl

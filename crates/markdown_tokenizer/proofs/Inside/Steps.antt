@@ -139,8 +139,7 @@ module _ {M R D : Type 0} {same : R → R → Bool} (t : Inside M R D) (sound : 
   pub well-formed : t.phase ≡ Reading → t.stack.items ≡ [] → IsWellFormed bytes_in (seen t).configuration
   well-formed reads e =
       let after_previous = shown bytes_in t.after_previous in let bound = shown bytes_in (standing skips_in t.after_previous t.waits) in
-      let m = subst (λ (stack : List Name). IsMade bytes_in t.events.items stack after_previous bound) e (sound.made reads) in
-      let w = made-end bytes_in t.events.items after_previous bound m in
+      let w = made-end bytes_in t.events.items after_previous bound (subst (λ (stack : List Name). IsMade bytes_in t.events.items stack after_previous bound) e (sound.made reads)) in
       record { balanced = w.0; void_tight = w.1; in_order = w.2 }
 
   pub stack-is : t.phase ≡ Reading → t.stack.items ≡ map (λ e. e.name) (open_events t.events.items)
@@ -257,8 +256,7 @@ module _ {M R D : Type 0} {same : R → R → Bool} (t : Inside M R D) (sound : 
     module _ (after_previous : Point) (l : after_previous ≡ waits.seat.end) (ready : ℕ) (r : IsReadyAt skips_in after_previous t.end.0 ready) where
       pub consumed-read : IsReadTo tab_in bytes_in skips_in (text_within t) after_previous (Some t.byte)
       consumed-read =
-          let r = read-next tab_in wide_in bytes_in skips_in t.start end_in t.after_previous t.previous sound.placed.skips sound.placed.read waits.seat waits.at waits.before in
-          let f = waits.is in rw (l, f) r
+          let f = waits.is in rw (l, f) (read-next tab_in wide_in bytes_in skips_in t.start end_in t.after_previous t.previous sound.placed.skips sound.placed.read waits.seat waits.at waits.before)
 
       consumed-later : stands_before (shown bytes_in after_previous) (shown bytes_in here_in) ≡ false
       consumed-later =
@@ -282,8 +280,7 @@ module _ {M R D : Type 0} {same : R → R → Bool} (t : Inside M R D) (sound : 
   pub consumed-seen : (waits : ByteWaits tab_in bytes_in skips_in t.after_previous end_in t.byte) (after_previous : Point) → after_previous ≡ waits.seat.end
       → seen (record t { after_previous = after_previous; previous = Some t.byte; ended = false; waits = Nothing }) ≡ at_configuration (seen t) (consumed (seen t).configuration)
   consumed-seen waits after_previous l =
-      let n = next-number tab_in wide_in bytes_in skips_in t.start end_in t.after_previous t.previous sound.placed.skips sound.placed.read waits.seat waits.at ∙ sym (add-one position_in) in
-      rw (l, n) refl
+      rw (l, next-number tab_in wide_in bytes_in skips_in t.start end_in t.after_previous t.previous sound.placed.skips sound.placed.read waits.seat waits.at ∙ sym (add-one position_in)) refl
 
   -- the place is the place of a byte, or the end of the document
   pub here-within : 0 < here_in.vs → here_in.index < length bytes_in

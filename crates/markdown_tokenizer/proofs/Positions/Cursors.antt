@@ -189,5 +189,4 @@ module _ (t : ℕ) (bytes : List ℕ) (p : Point) (seat : Seat) (place : IsPlace
         let begins = next-begins t bytes d p seat place n in
         let f = λ (s : Seat). stands_before s.point seat.end in
         let past : AllByRecursion (λ s. stands_before s.point seat.end ≡ false) n.after = subst (AllByRecursion (λ s. stands_before s.point seat.end ≡ false)) (seat-rest t bytes d p seat place n) (rest-later t bytes seat.end) in
-        let ends = begins.ends in
-        ap (filter f) n.is ∙ (rw ends (ap (λ (ys : List Seat). seat ∷ ys) (filter-none f n.after past)))
+        ap (filter f) n.is ∙ (rw begins.ends (ap (λ (ys : List Seat). seat ∷ ys) (filter-none f n.after past)))

@@ -142,8 +142,7 @@ module _ (t : ℕ) (bytes : List ℕ) (d : 0 < t) where
     after-kept : (p : Point) → seat.end.line ≡ seat.point.line → skip_of skips seat.end.line ≡ Some p → stands_before seat.end p ≡ false
     after-kept p line e =
         let begins = next-begins t bytes d r seat place n in
-        let same = ap (skip_of skips) (sym line) ∙ e in
-        let later = not-true (stands_before seat.point p) (sym (kept-by skips seat seat.point.line (Some p) refl same) ∙ kept) in
+        let later = not-true (stands_before seat.point p) (sym (kept-by skips seat seat.point.line (Some p) refl (ap (skip_of skips) (sym line) ∙ e)) ∙ kept) in
         later-later seat.end.index seat.end.vs seat.point.index seat.point.vs p.index p.vs (after-before seat.point.index seat.point.vs seat.end.index seat.end.vs begins.ends) later
 
     end-line : (seat.end.column ≡ 1) ⊎ (seat.end.line ≡ seat.point.line)
@@ -175,8 +174,7 @@ module _ (t : ℕ) (bytes : List ℕ) (d : 0 < t) where
   kept-past : (skips : List Point) (end : Point) → AllByRecursion (IsSkip t bytes end) skips → (s : Seat) → PastGaps end s → (o : Option Point) → skip_of skips s.point.line ≡ o → is_kept skips s ≡ true
   kept-past skips end are s past None e = kept-by skips s s.point.line None refl e
   kept-past skips end are s past (Some p) e =
-      let found = skip-is (IsSkip t bytes end) skips s.point.line p are e in
-      kept-by skips s s.point.line (Some p) refl e ∙ ap not (past p found.1.upto)
+      kept-by skips s s.point.line (Some p) refl e ∙ ap not (past p (skip-is (IsSkip t bytes end) skips s.point.line p are e).1.upto)
 
   -- a range that is pushed
   module _ (skips : List Point) (end from to : Point) (are : AllByRecursion (IsSkip t bytes end) skips) (place : IsPlace t bytes end) (same : denotes_same t bytes from end ≡ true) (upto : is_upto t bytes from to ≡ true) where

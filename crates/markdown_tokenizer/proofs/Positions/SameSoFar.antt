@@ -32,8 +32,7 @@ module _ (t : ℕ) (bytes : List ℕ) (p q : Point) where
 
     pub alike-ended : rest_at t bytes from ≡ [] → denotes_same t bytes p q ≡ true
     alike-ended e =
-        let all = so_far.walk.splits ∙ ap (λ (ys : List Seat). so_far.passed ++ ys) e ∙ append-nil so_far.passed in
-        all-alike (subst (AllByRecursion (IsAlike p q)) (sym all) so_far.alike)
+        all-alike (subst (AllByRecursion (IsAlike p q)) (sym (so_far.walk.splits ∙ ap (λ (ys : List Seat). so_far.passed ++ ys) e ∙ append-nil so_far.passed)) so_far.alike)
 
     module _ (seat : Seat) (n : IsSeatAt t bytes from seat) where
       pub alike-other : ¬ IsAlike p q seat → denotes_same t bytes p q ≡ false

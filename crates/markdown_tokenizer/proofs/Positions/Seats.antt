@@ -128,8 +128,7 @@ seat-crlf t bytes p h i cr lf =
 
 pub seat-other : (t : ℕ) (bytes : List ℕ) (p : Point) → 0 < t → p.vs ≡ 0 → p.index < length bytes → slice_index bytes p.index ≢ 13 → IsNextSeat t bytes p (Some (slice_index bytes p.index, p))
 seat-other t bytes p d h i ne =
-    let e = not-number (slice_index bytes p.index) 13 ne in
-    let s = seat-plain t bytes p (slice_index bytes p.index) d h i refl (λ k. absurd (ne k)) in rw e at s
+    let s = seat-plain t bytes p (slice_index bytes p.index) d h i refl (λ k. absurd (ne k)) in rw (not-number (slice_index bytes p.index) 13 ne) at s
 
 no-lf-at : (bytes : List ℕ) (i : ℕ) (b : Bool) → nat_lt i (length bytes) ≡ b → (i < length bytes → slice_index bytes i ≢ 10) → begins_with_lf (drop i bytes) ≡ false
 no-lf-at bytes i true e alone =

@@ -21,9 +21,8 @@ module _ (t : ℕ) (bytes : List ℕ) where
   chain-upto p [] ys c = before-self p.index p.vs
   chain-upto p (s ∷ ss) ys c =
       let q = end_after s.end ss in
-      let after = after-before s.point.index s.point.vs s.end.index s.end.vs c.1.ends in
       later-later q.index q.vs s.end.index s.end.vs p.index p.vs (chain-upto s.end ss ys c.2)
-      (later-later s.end.index s.end.vs s.point.index s.point.vs p.index p.vs after c.1.later)
+      (later-later s.end.index s.end.vs s.point.index s.point.vs p.index p.vs (after-before s.point.index s.point.vs s.end.index s.end.vs c.1.ends) c.1.later)
 
   chain-behind : (p : Point) (xs ys : List Seat) → IsChain t bytes p (xs ++ ys) → AllByRecursion (λ s. stands_before s.point (end_after p xs) ≡ true) xs
   chain-behind p [] ys c = tt
@@ -95,8 +94,7 @@ module _ (t : ℕ) (bytes : List ℕ) (d : 0 < t) where
 
   pub rest-after : (xs ys : List Seat) → virtual t bytes ≡ xs ++ ys → rest_at t bytes (end_after (point 1 1 0 0) xs) ≡ ys
   rest-after xs ys e =
-      let c = subst (IsChain t bytes (point 1 1 0 0)) e (whole-chain t bytes d) in
-      (chain-at t bytes (end_after (point 1 1 0 0) xs) ys (chain-split t bytes (point 1 1 0 0) xs ys c)).is
+      (chain-at t bytes (end_after (point 1 1 0 0) xs) ys (chain-split t bytes (point 1 1 0 0) xs ys (subst (IsChain t bytes (point 1 1 0 0)) e (whole-chain t bytes d)))).is
 
   pub end-place : IsPlace t bytes (document_end t bytes)
   end-place = place-after (virtual t bytes) [] (sym (append-nil (virtual t bytes)))

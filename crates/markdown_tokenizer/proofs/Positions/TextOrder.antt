@@ -215,9 +215,8 @@ module _ (g : Given) where
 
   pushed-order : (text : Text) (from to : Point) → IsInOrder g text → denotes_same g.tab g.bytes from text.end ≡ true → is_upto g.tab g.bytes from to ≡ true → IsInOrder g (followed_by g text (pushed from to))
   pushed-order text from to h same on =
-      let to_from = upto-later g.tab g.bytes from to on in
       let from_end = same-later g.tab g.bytes from text.end same in
-      let to_end = composed g.tab g.bytes to from text.end to_from from_end in
+      let to_end = composed g.tab g.bytes to from text.end (upto-later g.tab g.bytes from to on) from_end in
       let from_start = composed g.tab g.bytes from text.end text.start from_end h.upto in
       let more = filter (in_range from to) all_seats in
       let follow : AllByRecursion (λ s. AllByRecursion (Follows s) more) text.seats =
@@ -286,8 +285,7 @@ pub begins-before_end : (g : Given) (text : Text) (p : ℕ) → IsText g text �
     → stands_before (sight_in g text p Byte).enter_place (sight_in g text p Byte).next ≡ true
 begins-before_end g text p is inside =
     let (s, at) = there text p inside in
-    let good = good-get g.bytes text.seats p s (text-order g text is).order at in
-    rw at (shown-before g.bytes s good)
+    rw at (shown-before g.bytes s (good-get g.bytes text.seats p s (text-order g text is).order at))
 
 -- The byte before ends before the end of the byte that waits
 pub ends-before_next : (g : Given) (text : Text) (p : ℕ) → IsText g text → p < length text.seats
@@ -306,9 +304,8 @@ ends-before_next g text (suc j) is inside =
     let (r, at_before) = there text j (omega arith) in
     let order = text-order g text is in
     let good = good-get g.bytes text.seats (suc j) s order.order at in
-    let good_before = good-get g.bytes text.seats j r order.order at_before in
     let follows = follows-get g.bytes text.seats j r s order.order at_before at in
-    rw (at, at_before) (rw (good.1, good_before.1) (upto-before r.end.index r.end.vs s.point.index s.point.vs s.end.index s.end.vs follows.1 good.0))
+    rw (at, at_before) (rw (good.1, (good-get g.bytes text.seats j r order.order at_before).1) (upto-before r.end.index r.end.vs s.point.index s.point.vs s.end.index s.end.vs follows.1 good.0))
 
 -- What began before the end of the byte before began before the end of the byte that waits
 pub began-before_next : (g : Given) (text : Text) (p : ℕ) (q : Point) → IsText g text → p < length text.seats

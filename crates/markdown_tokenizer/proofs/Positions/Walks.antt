@@ -140,8 +140,7 @@ module _ (t : ℕ) (bytes : List ℕ) (d : 0 < t) (n : ℕ) where
 
     pub cutting-ended : rest_at t bytes p ≡ [] → cuts ≡ cuts_every t bytes n
     cutting-ended e =
-        let all = cutting.walk.splits ∙ ap (λ (ys : List Seat). cutting.passed ++ ys) e ∙ append-nil cutting.passed in
-        cutting.made ∙ ap (cuts_of n 0) (sym all)
+        cutting.made ∙ ap (cuts_of n 0) (sym (cutting.walk.splits ∙ ap (λ (ys : List Seat). cutting.passed ++ ys) e ∙ append-nil cutting.passed))
 
     module _ (seat : Seat) (s : IsSeatAt t bytes p seat) where
       pub cutting-next : (b : Bool) → is_cut n number ≡ b → IsCutting t bytes n seat.end (number + 1) (cuts ++ cond b (place_of seat ∷ []) [])

@@ -113,9 +113,7 @@ module _ {R D : Type 0} (g : Given) (rules : Rules R D) where
         let same : k ≡ new = cc in
         subst (λ (q : Configuration R D). NothingResolves text rs q × IsAsFar q k × (q.stack ≡ k.stack)) same (h, (refl, refl, refl), refl);
     at_last = λ text k is h.
-        let map = h.0.1 in
-        let same = edited-same k.events h.0.2 in
-        rw (map, same) ((from-zero (length k.events), no-links-below (length k.events) k.events h.0.2), no-links-shape k.events h.0.2 h.1);
+        rw (h.0.1, edited-same k.events h.0.2) ((from-zero (length k.events), no-links-below (length k.events) k.events h.0.2), no-links-shape k.events h.0.2 h.1);
   }
 
   -- such a machine is lawful if its states keep the laws of calls

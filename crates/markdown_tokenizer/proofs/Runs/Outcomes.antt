@@ -25,8 +25,7 @@ module _ {M R D : Type 0} (given : Given) (rules : Rules R D) where
   flush-ends : (t u : TokenizerValue M R D) (a s : State) → OnlyWorked t u → LeadsAll given rules true t a u s → (r : Reading R D)
       → EndsIn given rules.step u.text u.calls u.configuration u.choices s r → EndsIn given rules.step t.text t.calls t.configuration t.choices a r
   flush-ends t u a s only leads r ends =
-      let one = leads [] tt (λ _. refl) in
-      subst (λ (q : Text). EndsIn given rules.step q t.calls t.configuration t.choices a r) only.text ((one.same r).0 ends)
+      subst (λ (q : Text). EndsIn given rules.step q t.calls t.configuration t.choices a r) only.text (((leads [] tt (λ _. refl)).same r).0 ends)
 
   pub flush-ok : (t u : TokenizerValue M R D) (a s : State) → OnlyWorked t u → LeadsAll given rules true t a u s → s ≡ Ok → u.choices ≡ []
       → EndsIn given rules.step t.text t.calls t.configuration t.choices a (record { configuration = u.configuration; answer = Ok; calls = u.calls })

@@ -49,9 +49,7 @@ module _ {M R D : Type 0} (rules : Rules R D) (old mid new : TokenizerValue M R 
 
   text-whole : ForPoints g a d (λ f t. new.text ≡ followed_by g old.text (pushed f t))
   text-whole f t f_is t_is =
-      let from = one-point g a f can.0 f_is can.2 in
-      let to = one-point g d t next-there.1 t_is next-there.3 in
-      rw (from, to) (text-there ∙ range.same)
+      rw (one-point g a f can.0 f_is can.2, one-point g d t next-there.1 t_is next-there.3) (text-there ∙ range.same)
 
   pub can-push-whole : CanPush g old.text a d
   can-push-whole = (can.0, next-there.1, can.2, next-there.3, range.allowed)

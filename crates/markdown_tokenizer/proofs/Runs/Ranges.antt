@@ -40,9 +40,8 @@ module _ {M R D : Type 0} (rules : M → Given → Rules R D) where
     -- a gap that begins at the place fits: what `define_skip` requires
     pub stands-gap : (w : Point) → IsGapFrom options.tab_size bytes p w → FitsAfter t.given t.text (passed w)
     stands-gap w gap =
-        let e = s.given in
         let leads = subst (λ (x : Point). (denotes_same options.tab_size bytes w x ≡ true) ⊎ ((x.column ≡ 1) × (w.line ≡ x.line) × (stands_before x w ≡ true))) (sym s.end) gap.leads in
-        rw e (found-place options.tab_size bytes (w.index, w.vs) w gap.at, leads)
+        rw s.given (found-place options.tab_size bytes (w.index, w.vs) w gap.at, leads)
 
     -- after `define_skip` the tokenizer is where the gap ends
     pub stands-passed : (w : Point) → IsGapFrom options.tab_size bytes p w → (u : TokenizerValue M R D) → u ≡ extended t (followed_by t.given t.text (passed w)) → StandsAt bytes options (after_gap options.tab_size bytes p w) u state
@@ -57,9 +56,8 @@ module _ {M R D : Type 0} (rules : M → Given → Rules R D) where
       -- a range that begins at the place fits: what `push` requires of it
       pub stands-range : CanPush t.given t.text from to
       stands-range =
-          let e = s.given in
           let same = subst (λ (x : Point). denotes_same options.tab_size bytes r.first x ≡ true) (sym s.end) r.begins in
-          rw e (r.first, r.last, r.from_is, r.to_is, (found-place options.tab_size bytes from r.first r.from_is, found-place options.tab_size bytes to r.last r.to_is, same, r.upto))
+          rw s.given (r.first, r.last, r.from_is, r.to_is, (found-place options.tab_size bytes from r.first r.from_is, found-place options.tab_size bytes to r.last r.to_is, same, r.upto))
 
       -- after `push` the tokenizer is at the range's end
       pub stands-pushed : (u : TokenizerValue M R D) (answer : State) → IsPushed (rules t.machine t.given) t from to state u answer → StandsAt bytes options r.last u answer

@@ -28,8 +28,7 @@ start-found : (t : ℕ) (wide : 0 < t) (bytes : List ℕ) (xs : List Seat) → I
     → find (is_at (0, 0)) (flat_map (λ s. shown bytes s.point ∷ s.point ∷ []) xs ++ end_after (point 1 1 0 0) xs ∷ []) ≡ Some (point 1 1 0 0)
 start-found t wide bytes [] c = refl
 start-found t wide bytes (s ∷ ss) c =
-    let is = c.1.shown_is in
-    rw is refl
+    rw c.1.shown_is refl
 
 -- a document begins at its first place
 pub start-at : (t : ℕ) (wide : 0 < t) (bytes : List ℕ) → point_at t bytes (0, 0) ≡ Some (point 1 1 0 0)
@@ -94,9 +93,7 @@ end-found-at t wide bytes n e p [] is at c = rw at refl
 end-found-at t wide bytes n e p (s ∷ ss) is at c =
     let inside = c.1.inside in
     let lt : s.point.index < n = omega arith in
-    let one = not-shown-at-end bytes s.point ((slice_index bytes s.point.index == 10) && follows_cr bytes s.point.index) n lt in
-    let two = not-at-end s.point n lt in
-    rw (one, two) (end-found-at t wide bytes n e s.end ss is at c.2)
+    rw (not-shown-at-end bytes s.point ((slice_index bytes s.point.index == 10) && follows_cr bytes s.point.index) n lt, not-at-end s.point n lt) (end-found-at t wide bytes n e s.end ss is at c.2)
 
 at-numbers : (p : Point) (n : ℕ) → (p.index ≡ n) → (p.vs ≡ 0) → is_at (n, 0) p ≡ true
 at-numbers p n e f = grind (arith, nat_tests)
@@ -272,8 +269,7 @@ module _ {M R D : Type 0} (rules : M → Given → Rules R D) where
           place_is = r.order.1;
           text = run-text u text_is;
           outcome = λ rest can.
-              let can_mid = subst (λ (x : Text). CanFollow given x rest) text_is can in
-              let first = r.outcome (piece ∷ rest) (fits, can_mid) in
+              let first = r.outcome (piece ∷ rest) (fits, subst (λ (x : Text). CanFollow given x rest) text_is can) in
               let second = subst (λ (x : Text). LeadsIn m given (followed_by_all given x rest) t state u answer) text_is (outcome rest can) in
               subst (λ (x : Text). LeadsIn m given (followed_by_all given x rest) (StartsWith bytes options m) (Next start) u answer) (sym text_is)
               (leads-trans given (rules m given) (followed_by_all given mid rest) (StartsWith bytes options m) t u (Next start) state answer first second);

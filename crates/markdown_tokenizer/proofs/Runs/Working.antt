@@ -79,9 +79,7 @@ module _ (text w : Text) (c : Continues text w) where
   sight-same given p Byte h b e =
       let before = before-same p h in let starts = c.starts in
       let front = ap (λ (s : List Seat). slice_get s p) c.seats ∙ get-front text.seats c.more p (b refl) in
-      let some = get-some text.seats p (b refl) in
-      let is = some.1 in
-      rw (before, starts, front, is) refl
+      rw (before, starts, front, (get-some text.seats p (b refl)).1) refl
   sight-same given p End h b e = absurd (e refl)
 
 module _ {M R D : Type 0} (given : Given) (rules : Rules R D) where

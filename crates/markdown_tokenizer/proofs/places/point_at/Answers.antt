@@ -15,8 +15,7 @@ returns-then-is_at c =
 pub returns-then-is_at-2 : goal.returns-then-is_at-2
 returns-then-is_at-2 c =
     let s = c.in-Some.ensures c.get-t.result c.get-t.ensures.least in
-    let first = c.shown-first.ensures in
-    let e : is_place c.args.place (shown c.args.bytes.now c.in-Some.seat) ≡ false = ap (is_place c.args.place) (sym first) ∙ sym c.is_at.ensures ∙ c.if-is_at.false in
+    let e : is_place c.args.place (shown c.args.bytes.now c.in-Some.seat) ≡ false = ap (is_place c.args.place) (sym c.shown-first.ensures) ∙ sym c.is_at.ensures ∙ c.if-is_at.false in
     let f : is_place c.args.place c.in-Some.seat ≡ true = sym c.is_at-in-Some.ensures ∙ c.if-is_at-2.true in
     sym (ap (λ (t : ℕ). point_at t c.args.bytes.now c.args.place) (sym c.get-t.ensures.columns) ∙ search-seat c.get-t.result c.args.bytes.now c.get-t.ensures.least c.args.place c.loop-byte.after_previous c.loop-byte.invariant _ s.1 e f)
 
@@ -41,8 +40,7 @@ loop-byte-preserved c =
     let s = c.in-Some.ensures c.get-t.result c.get-t.ensures.least in
     let bytes = c.args.bytes.now in
     let r : s.0 ≡ c.pass.new.point = sym (c.pass.ensures _ s.1) in
-    let first = c.shown-first.ensures in
-    let e : is_place c.args.place (shown c.args.bytes.now c.in-Some.seat) ≡ false = ap (is_place c.args.place) (sym first) ∙ sym c.is_at.ensures ∙ c.if-is_at.false in
+    let e : is_place c.args.place (shown c.args.bytes.now c.in-Some.seat) ≡ false = ap (is_place c.args.place) (sym c.shown-first.ensures) ∙ sym c.is_at.ensures ∙ c.if-is_at.false in
     let f : is_place c.args.place c.in-Some.seat ≡ false = sym c.is_at-in-Some.ensures ∙ c.if-is_at-2.false in
     subst (IsSearch c.get-t.result bytes c.args.place) r (search-next c.get-t.result bytes c.get-t.ensures.least c.args.place c.loop-byte.after_previous c.loop-byte.invariant _ s.1 e f)
 

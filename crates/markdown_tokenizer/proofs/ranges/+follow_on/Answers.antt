@@ -48,8 +48,7 @@ returns t c =
       begins = same-same tab bytes from start p same c.in-Some-start_after.ensures.start;
       upto = sym c.is_up_to.ensures ∙ c.if-not-is_up_to.false;
     } in
-    let are = c.in-Some.ensures.cases.0 in
-    rw are (
+    rw c.in-Some.ensures.cases.0 (
       (λ h. (c.in-Some-start_after.ensures.leads, is_range, c.follow_on.ensures.0 h)),
       λ h. c.follow_on.ensures.1 (subst (λ (q : Point). FollowOn tab bytes q c.in-Some.rest.now) (last-is tab bytes p range.1 range.2 from to from_is to_is h.1) h.2),
     )

@@ -3,5 +3,4 @@ use Rattle.markdown_tokenizer.proofs.skips.Skips.push.Goals as goal
 
 pub invariant_of-self-2 : goal.invariant_of-self-2
 invariant_of-self-2 c =
-    let below = rw (← c.self.view_is) at c.requires in
-    rw c.in_ok-push.ensures.items (AreSorted-push c.self.inside.places.items c.args.place c.self.invariant below)
+    rw c.in_ok-push.ensures.items (AreSorted-push c.self.inside.places.items c.args.place c.self.invariant (rw (← c.self.view_is) at c.requires))

@@ -15,9 +15,8 @@ returns-clause-err g c = c.push_choice.ensures.err
 
 pub returns-clause-ok : goal.returns-clause-ok
 returns-clause-ok g c =
-    let k = c.args.self.now.configuration in
     let ok = c.of.ensures in let nok = c.of-nok.ensures in
-    let same = attempts c.of.result c.of-nok.result c.match-matches.matches k
+    let same = attempts c.of.result c.of-nok.result c.match-matches.matches c.args.self.now.configuration
     (λ h. elim c.match-matches.branch [ in-Nok w ↦ w.matches-is | in_default w ↦ absurd (w.in_default.not-Nok h) ])
     (λ h. elim c.match-matches.branch [ in-Nok w ↦ absurd (h w.in-Nok.is) | in_default w ↦ w.matches-is ]) in
     rw (ok, nok) at (rw same at c.push_choice.ensures.ok)

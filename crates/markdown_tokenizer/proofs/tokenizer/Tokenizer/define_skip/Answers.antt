@@ -6,8 +6,7 @@ pub push-requires : goal.push-requires
 push-requires g c =
     let t = c.self.inside in let sound = c.self.invariant in
     let fits = rw (← c.self.view_is) at c.requires in
-    let is = passes t sound c.args.point fits (ap (λ (p : Point). is_after_pair p t.end) (sym c.shown.ensures) ∙ sym c.is_after.ensures ∙ c.if-is_after.true) in
-    passed-behind t sound c.args.point fits is
+    passed-behind t sound c.args.point fits (passes t sound c.args.point fits (ap (λ (p : Point). is_after_pair p t.end) (sym c.shown.ensures) ∙ sym c.is_after.ensures ∙ c.if-is_after.true))
 
 pub invariant_of-self-then-is_after : goal.invariant_of-self-then-is_after
 invariant_of-self-then-is_after g c =

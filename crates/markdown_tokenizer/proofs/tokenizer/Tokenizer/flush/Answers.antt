@@ -11,10 +11,8 @@ unreachable-requires g c =
     let u = c.run_states.new.self in
     let e = c.in-Ok.ensures in
     let is = text-worked given old u (rw c.close.ensures c.shows_in_text.ensures.text) e.same in
-    let none = rw c.in-Nok.is at e.stops in
-    let h = leads-holds given (i.rules m given) true old u c.args.state c.in-Ok.answer e.leads none in
-    let h' = rw c.in-Nok.is at h in
-    (g.met.M.Machine.lawful m given).ends_when_read.nok u.text u.configuration is h'
+    let h = leads-holds given (i.rules m given) true old u c.args.state c.in-Ok.answer e.leads (rw c.in-Nok.is at e.stops) in
+    (g.met.M.Machine.lawful m given).ends_when_read.nok u.text u.configuration is (rw c.in-Nok.is at h)
 
 pub returns-in-Error-clause-message : goal.returns-in-Error-clause-message
 returns-in-Error-clause-message g c message is =
@@ -42,13 +40,11 @@ resolve_all-requires-clause-invariant g c =
     let u = c.run_states.new.self in
     let e = c.in-Ok.ensures in
     let close = c.close.ensures in let rest = c.take_definitions-sub.ensures.rest in
-    let none = rw c.in-Ok-answer.is at e.stops in
     let is = text-worked given old u (rw close c.shows_in_text.ensures.text) e.same in
-    let held = rw c.in-Ok-answer.is at (leads-holds given (i.rules m given) true old u c.args.state c.in-Ok.answer e.leads none) in
+    let held = rw c.in-Ok-answer.is at (leads-holds given (i.rules m given) true old u c.args.state c.in-Ok.answer e.leads (rw c.in-Ok-answer.is at e.stops)) in
     let closed = ((g.met.M.Machine.lawful m given).ends_when_read.ok u.text u.configuration is held).1 in
-    let reads = e.same.phase ∙ ap (λ t. t.phase) close ∙ c.shows_in_text.ensures.reads (sym c.is_closed.ensures ∙ c.if-is_closed.false) in
     let given_is = e.same.given in let machine_is = e.same.machine in
-    let formed = rw given_is at (c.shows_events.ensures reads closed) in
+    let formed = rw given_is at (c.shows_events.ensures (e.same.phase ∙ ap (λ t. t.phase) close ∙ c.shows_in_text.ensures.reads (sym c.is_closed.ensures ∙ c.if-is_closed.false)) closed) in
     rw (rest, machine_is, given_is) ((g.met.M.Machine.lawful m given).resolvers_keep.at_end u.text u.configuration is formed held)
 
 pub returns-then-resolve-clause-ok : goal.returns-then-resolve-clause-ok

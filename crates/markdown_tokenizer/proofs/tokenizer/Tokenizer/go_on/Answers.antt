@@ -17,8 +17,7 @@ pub invariant_of-self : goal.invariant_of-self
 invariant_of-self g c =
     let t = c.self.inside in let sound = c.self.invariant in
     let h = unwound-by t c.args.ok c.unwind-goal.new.kept_choices c.unwind-goal.result.0 c.unwind-goal.result.1 c.truncate.new.self c.truncate-2.new.self c.ready_at-self-inside.result _ _ _ _ c.is_empty.ensures c.if-is_empty.false t.kept_choices.ok.0 (c.len.ensures ∙ t.events.ok.0) (c.len-2.ensures ∙ t.stack.ok.0) c.unwind-goal.ensures c.truncate.ensures.items c.truncate-2.ensures.items c.ready_at-self-inside.ensures in
-    let closed = rw (← c.self.view_is) at c.requires.ends in
-    ended-sound t sound h (closes t sound h closed (inl c.in-Ok.is))
+    ended-sound t sound h (closes t sound h (rw (← c.self.view_is) at c.requires.ends) (inl c.in-Ok.is))
 
 pub returns-in-Ok : goal.returns-in-Ok
 returns-in-Ok g c =
@@ -30,8 +29,7 @@ pub invariant_of-self-in-Nok : goal.invariant_of-self-in-Nok
 invariant_of-self-in-Nok g c =
     let t = c.self.inside in let sound = c.self.invariant in
     let h = unwound-by t c.args.ok c.unwind-goal.new.kept_choices c.unwind-goal.result.0 c.unwind-goal.result.1 c.truncate.new.self c.truncate-2.new.self c.ready_at-self-inside.result _ _ _ _ c.is_empty.ensures c.if-is_empty.false t.kept_choices.ok.0 (c.len.ensures ∙ t.events.ok.0) (c.len-2.ensures ∙ t.stack.ok.0) c.unwind-goal.ensures c.truncate.ensures.items c.truncate-2.ensures.items c.ready_at-self-inside.ensures in
-    let closed = rw (← c.self.view_is) at c.requires.ends in
-    ended-sound t sound h (closes t sound h closed (inr c.in-Nok.is))
+    ended-sound t sound h (closes t sound h (rw (← c.self.view_is) at c.requires.ends) (inr c.in-Nok.is))
 
 pub returns-in-Nok : goal.returns-in-Nok
 returns-in-Nok g c =
@@ -55,15 +53,13 @@ pub invariant_of-self-then-flush : goal.invariant_of-self-then-flush
 invariant_of-self-then-flush g c =
     let t = c.self.inside in let sound = c.self.invariant in
     let h = unwound-by t c.args.ok c.unwind-goal.new.kept_choices c.unwind-goal.result.0 c.unwind-goal.result.1 c.truncate.new.self c.truncate-2.new.self c.ready_at-self-inside.result _ _ _ _ c.is_empty.ensures c.if-is_empty.false t.kept_choices.ok.0 (c.len.ensures ∙ t.events.ok.0) (c.len-2.ensures ∙ t.stack.ok.0) c.unwind-goal.ensures c.truncate.ensures.items c.truncate-2.ensures.items c.ready_at-self-inside.ensures in
-    let closed = rw (← c.self.view_is) at c.requires.closed in
-    end-sound t sound h (next-there t sound h _ _ None refl c.resumed-again.ensures c.in-None.ensures) (closed ∙ c.if-flush.true)
+    end-sound t sound h (next-there t sound h _ _ None refl c.resumed-again.ensures c.in-None.ensures) ((rw (← c.self.view_is) at c.requires.closed) ∙ c.if-flush.true)
 
 pub invariant_of-self-else-flush : goal.invariant_of-self-else-flush
 invariant_of-self-else-flush g c =
     let t = c.self.inside in let sound = c.self.invariant in
     let h = unwound-by t c.args.ok c.unwind-goal.new.kept_choices c.unwind-goal.result.0 c.unwind-goal.result.1 c.truncate.new.self c.truncate-2.new.self c.ready_at-self-inside.result _ _ _ _ c.is_empty.ensures c.if-is_empty.false t.kept_choices.ok.0 (c.len.ensures ∙ t.events.ok.0) (c.len-2.ensures ∙ t.stack.ok.0) c.unwind-goal.ensures c.truncate.ensures.items c.truncate-2.ensures.items c.ready_at-self-inside.ensures in
-    let closed = rw (← c.self.view_is) at c.requires.closed in
-    none-sound t sound h (next-there t sound h _ _ None refl c.resumed-again.ensures c.in-None-2.ensures) (closed ∙ c.if-flush.false)
+    none-sound t sound h (next-there t sound h _ _ None refl c.resumed-again.ensures c.in-None-2.ensures) ((rw (← c.self.view_is) at c.requires.closed) ∙ c.if-flush.false)
 
 pub returns-in-Some : goal.returns-in-Some
 returns-in-Some g c =

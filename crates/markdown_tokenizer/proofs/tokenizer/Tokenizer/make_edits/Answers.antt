@@ -3,6 +3,4 @@ use Rattle.markdown_tokenizer.proofs.tokenizer.Tokenizer.make_edits.Goals as goa
 
 pub invariant_of-self : goal.invariant_of-self
 invariant_of-self g c =
-    let resolves = rw (← c.self.view_is) at c.requires.resolving in
-    let alone = rw (← c.self.view_is) at c.requires.alone in
-    events-sound c.self.inside c.self.invariant resolves alone _ _
+    events-sound c.self.inside c.self.invariant (rw (← c.self.view_is) at c.requires.resolving) (rw (← c.self.view_is) at c.requires.alone) _ _

@@ -48,9 +48,7 @@ returns-clause-start g c =
     let kept_choices = c.new-kept_choices.ensures.items in
     let skips = c.new-skips.ensures in
     let map = c.new-map.ensures in
-    let state = c.new-tokenize_state.ensures in
-    let calls = c.new-calls.ensures in
-    rw (skips, here, none, events, stack, resolvers, kept_choices, map, state, calls) refl
+    rw (skips, here, none, events, stack, resolvers, kept_choices, map, c.new-tokenize_state.ensures, c.new-calls.ensures) refl
 
 pub returns-clause-document : goal.returns-clause-document
 returns-clause-document g c =

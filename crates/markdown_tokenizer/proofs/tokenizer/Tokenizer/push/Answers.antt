@@ -9,8 +9,7 @@ run_states-requires-clause-text g c =
     let old = c.args.self.now in let m = old.machine in let given = old.given in
     let open_still : old.closed ≡ false = sym c.is_closed.ensures ∙ c.if-is_closed.false in
     let r = c.requires.range open_still in
-    let ext = c.extend.ensures r.0 r.1 r.2 r.3 in
-    rw ext (text-more given old.text (pushed r.0 r.1) c.shows_in_text.ensures.text r.4)
+    rw (c.extend.ensures r.0 r.1 r.2 r.3) (text-more given old.text (pushed r.0 r.1) c.shows_in_text.ensures.text r.4)
 
 pub run_states-requires-clause-holds : goal.run_states-requires-clause-holds
 run_states-requires-clause-holds g c =
@@ -28,8 +27,7 @@ pub run_states-requires-clause-closed : goal.run_states-requires-clause-closed
 run_states-requires-clause-closed g c =
     let open_still : c.args.self.now.closed ≡ false = sym c.is_closed.ensures ∙ c.if-is_closed.false in
     let r = c.requires.range open_still in
-    let ext = c.extend.ensures r.0 r.1 r.2 r.3 in
-    rw ext open_still
+    rw (c.extend.ensures r.0 r.1 r.2 r.3) open_still
 
 pub run_states-requires-clause-waits : goal.run_states-requires-clause-waits
 run_states-requires-clause-waits g c =
@@ -62,5 +60,4 @@ pub run_states-requires-clause-reading : goal.run_states-requires-clause-reading
 run_states-requires-clause-reading g c =
     let open_still : c.args.self.now.closed ≡ false = sym c.is_closed.ensures ∙ c.if-is_closed.false in
     let r = c.requires.range open_still in
-    let ext = c.extend.ensures r.0 r.1 r.2 r.3 in
-    rw ext (c.shows_in_text.ensures.reads open_still)
+    rw (c.extend.ensures r.0 r.1 r.2 r.3) (c.shows_in_text.ensures.reads open_still)

@@ -29,5 +29,4 @@ returns-clause-ok g c =
     ]) in
     let put : c.push.new.self.items ≡ t.kept_choices.items ++ record { kind = c.args.kind; ok = c.args.ok; nok = c.args.nok; saved = saved_if c.args.saves t } ∷ [] =
     c.in_ok-push.ensures.items ∙ ap (λ (s : Option Progress). t.kept_choices.items ++ record { kind = c.args.kind; ok = c.args.ok; nok = c.args.nok; saved = s } ∷ []) saved in
-    let choices = chosen-choices t sound c.args.kind c.args.ok c.args.nok c.args.saves c.push.new.self.items put in
-    rw (← c.self.view_is) (rw choices refl)
+    rw (← c.self.view_is) (rw (chosen-choices t sound c.args.kind c.args.ok c.args.nok c.args.saves c.push.new.self.items put) refl)

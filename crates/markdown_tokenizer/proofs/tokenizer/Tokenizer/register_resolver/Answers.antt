@@ -4,14 +4,11 @@ use Rattle.markdown_tokenizer.proofs.tokenizer.Tokenizer.register_resolver.Goals
 
 pub returns-then-contains-clause-ok : goal.returns-then-contains-clause-ok
 returns-then-contains-clause-ok g c =
-    let there = rw c.deref.ensures.value at (sym c.contains.ensures.value ∙ c.if-contains.true) in
-    rw (← c.self.view_is) (rw there refl)
+    rw (← c.self.view_is) (rw (rw c.deref.ensures.value at (sym c.contains.ensures.value ∙ c.if-contains.true)) refl)
 
 pub returns-clause-ok : goal.returns-clause-ok
 returns-clause-ok g c =
-    let absent = rw c.deref.ensures.value at (sym c.contains.ensures.value ∙ c.if-contains.false) in
-    let items = c.in_ok-push.ensures.items in
-    rw (← c.self.view_is) (rw (items, absent) refl)
+    rw (← c.self.view_is) (rw (c.in_ok-push.ensures.items, (rw c.deref.ensures.value at (sym c.contains.ensures.value ∙ c.if-contains.false))) refl)
 
 pub invariant_of-self-2 : goal.invariant_of-self-2
 invariant_of-self-2 g c =

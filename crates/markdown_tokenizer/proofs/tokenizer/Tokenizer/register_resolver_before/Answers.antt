@@ -4,14 +4,11 @@ use Rattle.markdown_tokenizer.proofs.tokenizer.Tokenizer.register_resolver_befor
 
 pub returns-else-not-contains-clause-ok : goal.returns-else-not-contains-clause-ok
 returns-else-not-contains-clause-ok g c =
-    let there = rw c.deref.ensures.value at (sym c.contains.ensures.value ∙ c.if-not-contains.false) in
-    rw (← c.self.view_is) (rw there refl)
+    rw (← c.self.view_is) (rw (rw c.deref.ensures.value at (sym c.contains.ensures.value ∙ c.if-not-contains.false)) refl)
 
 pub returns-in_ok-insert-clause-ok : goal.returns-in_ok-insert-clause-ok
 returns-in_ok-insert-clause-ok g c =
-    let absent = rw c.deref.ensures.value at (sym c.contains.ensures.value ∙ c.if-not-contains.true) in
-    let items = c.in_ok-insert.ensures.items in
-    rw (← c.self.view_is) (rw (items, absent) refl)
+    rw (← c.self.view_is) (rw (c.in_ok-insert.ensures.items, (rw c.deref.ensures.value at (sym c.contains.ensures.value ∙ c.if-not-contains.true))) refl)
 
 pub invariant_of-self : goal.invariant_of-self
 invariant_of-self g c =

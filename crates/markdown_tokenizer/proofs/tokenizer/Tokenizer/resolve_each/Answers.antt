@@ -27,8 +27,7 @@ loop-name-preserved g c =
 pub make_edits-requires-clause-can : goal.make_edits-requires-clause-can
 make_edits-requires-clause-can g c =
     let start = c.args.self.now in let law = (g.met.M.Machine.lawful start.machine start.given).resolvers_keep in
-    let r = resolves-last g.M.Machine.rules c.loop-name.name-index c.loop-name-test.false c.loop-name.invariant in
-    resolves-can g.M.Machine.rules c.requires.text law r
+    resolves-can g.M.Machine.rules c.requires.text law (resolves-last g.M.Machine.rules c.loop-name.name-index c.loop-name-test.false c.loop-name.invariant)
 
 pub returns-clause-ok : goal.returns-clause-ok
 returns-clause-ok g c =

@@ -10,8 +10,7 @@ laws_of g m given = let met = g.met.M.Machine in
 
 pub next_call-requires-clause-ends : goal.next_call-requires-clause-ends
 next_call-requires-clause-ends g c =
-    let k = kept-first (laws_of g) c.args.flush c.args.self.now c.args.state c.requires.waits c.requires.holds in
-    closes-there (laws_of g) c.requires.text k
+    closes-there (laws_of g) c.requires.text (kept-first (laws_of g) c.args.flush c.args.self.now c.args.state c.requires.waits c.requires.holds)
 
 pub returns-in-None-clause-leads : goal.returns-in-None-clause-leads
 returns-in-None-clause-leads g c =
@@ -34,14 +33,12 @@ returns-in-None-clause-stops g c =
 
 pub loop-answer-init : goal.loop-answer-init
 loop-answer-init g c =
-    let k = kept-first (laws_of g) c.args.flush c.args.self.now c.args.state c.requires.waits c.requires.holds in
-    kept-next (laws_of g) c.next_call.new.self c.in-Some.name c.requires.text k c.in-Some.ensures
+    kept-next (laws_of g) c.next_call.new.self c.in-Some.name c.requires.text (kept-first (laws_of g) c.args.flush c.args.self.now c.args.state c.requires.waits c.requires.holds) c.in-Some.ensures
 
 pub call_state-requires-clause-waits : goal.call_state-requires-clause-waits
 call_state-requires-clause-waits g c =
     let u = c.loop-answer.self in
-    let now = holds-there (laws_of g) c.loop-answer.invariant in
-    (g.met.M.Machine.lawful u.machine u.given).invariant_kept.waits u.text u.configuration u.choices c.loop-answer.name c.shows_in_text.ensures.text now
+    (g.met.M.Machine.lawful u.machine u.given).invariant_kept.waits u.text u.configuration u.choices c.loop-answer.name c.shows_in_text.ensures.text (holds-there (laws_of g) c.loop-answer.invariant)
 
 pub call_state-requires-clause-reading : goal.call_state-requires-clause-reading
 call_state-requires-clause-reading g c = c.loop-answer.invariant.same.phase ∙ c.requires.reading
@@ -52,13 +49,11 @@ call_state-requires-clause-holds g c =
 
 pub go_on-requires-clause-ends : goal.go_on-requires-clause-ends
 go_on-requires-clause-ends g c =
-    let k = kept-answer (laws_of g) c.in-Ok-answer.is c.requires.text c.shows_in_text.ensures c.in-Ok.ensures c.loop-answer.invariant in
-    closes-there (laws_of g) c.requires.text k
+    closes-there (laws_of g) c.requires.text (kept-answer (laws_of g) c.in-Ok-answer.is c.requires.text c.shows_in_text.ensures c.in-Ok.ensures c.loop-answer.invariant)
 
 pub go_on-requires-in-Nok-clause-ends : goal.go_on-requires-in-Nok-clause-ends
 go_on-requires-in-Nok-clause-ends g c =
-    let k = kept-answer (laws_of g) c.in-Nok.is c.requires.text c.shows_in_text.ensures c.in-Ok.ensures c.loop-answer.invariant in
-    closes-there (laws_of g) c.requires.text k
+    closes-there (laws_of g) c.requires.text (kept-answer (laws_of g) c.in-Nok.is c.requires.text c.shows_in_text.ensures c.in-Ok.ensures c.loop-answer.invariant)
 
 pub returns-else-feed_next-clause-same : goal.returns-else-feed_next-clause-same
 returns-else-feed_next-clause-same g c =

@@ -4,8 +4,7 @@ use Rattle.markdown_tokenizer.proofs.tokenizer.Tokenizer.run_states.Given as goa
 
 abbrev pub invariant-loop-answer : goal.invariant-loop-answer
 invariant-loop-answer g l =
-    let i = g.M.Machine in
-    KeptBy i.rules l.fn.self.machine l.fn.self.given l.flush l.fn.self l.fn.state l.self (Retry l.name)
+    KeptBy g.M.Machine.rules l.fn.self.machine l.fn.self.given l.flush l.fn.self l.fn.state l.self (Retry l.name)
 
 abbrev pub decreases-loop-answer : goal.decreases-loop-answer
 decreases-loop-answer g l =

@@ -10,8 +10,7 @@ loop-cut-init g c =
 
 pub push-requires-clause-range : goal.push-requires-clause-range
 push-requires-clause-range g c =
-    let r = run-at g.M.Machine.rules _ _ _ _ _ _ c.loop-cut.cut-index (0, 0) _ _ c.loop-cut-test.true c.loop-cut.invariant in
-    λ _. run-range g.M.Machine.rules _ _ _ _ _ _ _ _ _ r
+    λ _. run-range g.M.Machine.rules _ _ _ _ _ _ _ _ _ (run-at g.M.Machine.rules _ _ _ _ _ _ c.loop-cut.cut-index (0, 0) _ _ c.loop-cut-test.true c.loop-cut.invariant)
 
 pub push-requires-clause-holds : goal.push-requires-clause-holds
 push-requires-clause-holds g c =
@@ -24,8 +23,7 @@ loop-cut-preserved g c =
 
 pub push-requires-2-clause-range : goal.push-requires-2-clause-range
 push-requires-2-clause-range g c =
-    let r = run-last g.M.Machine.rules _ _ _ _ _ _ _ _ c.loop-cut.invariant in
-    λ _. run-range g.M.Machine.rules _ _ _ _ _ _ _ _ _ r
+    λ _. run-range g.M.Machine.rules _ _ _ _ _ _ _ _ _ (run-last g.M.Machine.rules _ _ _ _ _ _ _ _ c.loop-cut.invariant)
 
 pub push-requires-2-clause-holds : goal.push-requires-2-clause-holds
 push-requires-2-clause-holds g c =
@@ -33,24 +31,20 @@ push-requires-2-clause-holds g c =
 
 pub flush-requires : goal.flush-requires
 flush-requires g c =
-    let r = run-last g.M.Machine.rules _ _ _ _ _ _ _ _ c.loop-cut.invariant in
-    let e = run-pushed g.M.Machine.rules _ _ _ _ _ _ _ _ _ r c.push-2.new.self c.in_ok-state-2.state c.in_ok-state-2.ensures.ok in
+    let e = run-pushed g.M.Machine.rules _ _ _ _ _ _ _ _ _ (run-last g.M.Machine.rules _ _ _ _ _ _ _ _ c.loop-cut.invariant) c.push-2.new.self c.in_ok-state-2.state c.in_ok-state-2.ensures.ok in
     record { holds = λ _. run-holds g.M.Machine.rules _ _ _ _ _ _ _ _ e }
 
 pub returns-clause-message : goal.returns-clause-message
 returns-clause-message g c =
-    let r = run-last g.M.Machine.rules _ _ _ _ _ _ _ _ c.loop-cut.invariant in
-    let e = run-pushed g.M.Machine.rules _ _ _ _ _ _ _ _ _ r c.push-2.new.self c.in_ok-state-2.state c.in_ok-state-2.ensures.ok in
+    let e = run-pushed g.M.Machine.rules _ _ _ _ _ _ _ _ _ (run-last g.M.Machine.rules _ _ _ _ _ _ _ _ c.loop-cut.invariant) c.push-2.new.self c.in_ok-state-2.state c.in_ok-state-2.ensures.ok in
     λ message is. run-refused g.M.Machine.rules _ _ _ _ _ _ e c.args.resolve c.flush.new.self message (c.flush.ensures.message message is)
 
 pub returns-clause-err : goal.returns-clause-err
 returns-clause-err g c =
-    let r = run-last g.M.Machine.rules _ _ _ _ _ _ _ _ c.loop-cut.invariant in
-    let e = run-pushed g.M.Machine.rules _ _ _ _ _ _ _ _ _ r c.push-2.new.self c.in_ok-state-2.state c.in_ok-state-2.ensures.ok in
+    let e = run-pushed g.M.Machine.rules _ _ _ _ _ _ _ _ _ (run-last g.M.Machine.rules _ _ _ _ _ _ _ _ c.loop-cut.invariant) c.push-2.new.self c.in_ok-state-2.state c.in_ok-state-2.ensures.ok in
     c.flush.ensures.err e.open_still
 
 pub returns-clause-ok : goal.returns-clause-ok
 returns-clause-ok g c =
-    let r = run-last g.M.Machine.rules _ _ _ _ _ _ _ _ c.loop-cut.invariant in
-    let e = run-pushed g.M.Machine.rules _ _ _ _ _ _ _ _ _ r c.push-2.new.self c.in_ok-state-2.state c.in_ok-state-2.ensures.ok in
+    let e = run-pushed g.M.Machine.rules _ _ _ _ _ _ _ _ _ (run-last g.M.Machine.rules _ _ _ _ _ _ _ _ c.loop-cut.invariant) c.push-2.new.self c.in_ok-state-2.state c.in_ok-state-2.ensures.ok in
     ok-if c.flush.result _ _ (λ sub f. run-flushed g.M.Machine.rules _ _ _ _ _ _ e c.args.resolve c.flush.new.self c.flush.new.self.configuration.events sub f refl) c.flush.ensures.ok

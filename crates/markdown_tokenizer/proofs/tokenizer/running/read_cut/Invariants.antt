@@ -4,5 +4,4 @@ use Rattle.markdown_tokenizer.proofs.tokenizer.running.read_cut.Given as goal
 
 abbrev pub invariant-loop-cut : goal.invariant-loop-cut
 invariant-loop-cut g l =
-    let i = g.M.Machine in
-    RunsBy i.rules l.fn.parse_state.bytes.now l.fn.parse_state.options.now l.fn.parse_state.machine.now l.fn.start l.from (drop l.cut-index l.cuts) l.tokenizer l.state
+    RunsBy g.M.Machine.rules l.fn.parse_state.bytes.now l.fn.parse_state.options.now l.fn.parse_state.machine.now l.fn.start l.from (drop l.cut-index l.cuts) l.tokenizer l.state
