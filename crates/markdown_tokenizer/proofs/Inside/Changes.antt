@@ -1,5 +1,5 @@
 -- Each call that changes a text, the events or the choices of a tokenizer keeps what holds of its fields.
-use Rattle.markdown_tokenizer.proofs.Prelude.{AllByRecursion, ◌≡◌, ℕ, zero, suc, ◌≤◌, inl, inr, ◌<◌, List, [], ◌∷◌, ◌++◌, Bool, true, false, cond, Option, Some, None, length, refl, sym, ap, ◌∙◌, subst, arith, take, map, option_map, option_and_then, reverse, IfSome, unwrap_or, take_all, Point, Event, Link, ParseOptions, Seat, point, shown, stands_before, is_upto, denotes_same, IsPointOf, point_at, Waits, Nothing, Byte, End, Reading, AttemptKind, GoesOn, KeptChoice, Progress, Inside, Given, Text, Piece, pushed, passed, IsDocument, IsText, CanFollow, FitsAfter, followed_by, followed_by_all, empty_text, Choice, extended, resumed, IsSkip, IsReadyAt, tab_of, seen, text_within, end_point, seats_between, position_from, standing, reach, can_feed, choice_of, IsReadTo, ByteWaits, IsWhatWaits, IsProgress, AreNested, events_of, stack_of, IsSound, IsPlace, IsSeatAt, is_after_pair, IsMade, with_ends, unlinked, HasFrontUpToLinkEnds, linked_to, updated_at, next_set, previous_set, with_next, with_previous, length-map, stands-self, Other}
+use Rattle.markdown_tokenizer.proofs.Prelude.{AllByRecursion, ◌≡◌, ℕ, zero, suc, ◌≤◌, inl, inr, ◌<◌, List, [], ◌∷◌, ◌++◌, Bool, true, false, cond, Option, Some, None, length, refl, sym, ap, ◌∙◌, subst, arith, take, map, option_map, option_and_then, reverse, unwrap_or, take_all, Point, Event, Link, ParseOptions, Seat, point, shown, stands_before, is_upto, denotes_same, IsPointOf, point_at, Waits, Nothing, Byte, End, Reading, Progress, Inside, Given, Text, Piece, pushed, passed, IsDocument, IsText, CanFollow, FitsAfter, followed_by, followed_by_all, empty_text, extended, resumed, IsSkip, IsReadyAt, tab_of, seen, text_within, end_point, seats_between, position_from, standing, reach, can_feed, choice_of, IsReadTo, ByteWaits, IsWhatWaits, IsProgress, AreNested, IsSound, IsPlace, IsSeatAt, is_after_pair, IsMade, with_ends, unlinked, HasFrontUpToLinkEnds, linked_to, updated_at, next_set, previous_set, with_next, with_previous, length-map, stands-self, Other}
 use Rattle.markdown_base.specs.declared.event.Name.{Name}
 use Rattle.markdown_tokenizer.proofs.Positions.Standing.{shown-shown, place-of-point}
 use Rattle.markdown_tokenizer.proofs.Positions.Order.{after-before}
@@ -9,6 +9,7 @@ use Rattle.markdown_tokenizer.proofs.Positions.Points.{point_at-point, point_at-
 use Rattle.markdown_tokenizer.proofs.Inside.Made.{made-new, made-bound, made-linked, made-kept}
 use Rattle.markdown_tokenizer.proofs.Inside.Fields.{wide_of, text_between, next-more, kept-empty, passed-seats, passed-position, passed-skips, read-passed, passed-shown, passed-resumed, still-before, read-extended, extended-seats, extended-skips, extended-more, made-more, can-feed-more, nested-map, nested-wider}
 use Rattle.markdown_tokenizer.proofs.Inside.Known.{known-other, ready-none}
+use Rattle.markdown_tokenizer.proofs.Inside.Spans.{same-choices}
 use Rattle.markdown_tokenizer.proofs.Inside.Steps.{end-place-in}
 
 -- pieces that can follow one after another
@@ -41,21 +42,6 @@ text-more g text piece h fits = record {
 
     starts-same : (p : Piece) → IsPointOf g.tab g.bytes text.start → IsPointOf g.tab g.bytes (followed_by g text p).start
     starts-same p s = subst (IsPointOf g.tab g.bytes) (sym (start-same p)) s
-
--- what choices saved, as a list of choices, with the same positions
-position-choice : (f g : Point → ℕ) (stack : List Name) (kind : AttemptKind) (ok nok : GoesOn) (P : Progress → Type 0) (events open_len : ℕ) (saved : Option Progress)
-    → ((p : Progress) → P p → f p.after_previous ≡ g p.after_previous) → IfSome saved (λ p. (p.events_len ≤ events) × (p.stack_len ≤ open_len) × P p)
-    → choice_of f stack (record { kind = kind; ok = ok; nok = nok; saved = saved }) ≡ choice_of g stack (record { kind = kind; ok = ok; nok = nok; saved = saved })
-position-choice f g stack kind ok nok P events open_len None same h = refl
-position-choice f g stack kind ok nok P events open_len (Some p) same h = let e = same p h.2 in rw e refl
-
-same-positions : (f g : Point → ℕ) (stack : List Name) (P : Progress → Type 0) → ((p : Progress) → P p → f p.after_previous ≡ g p.after_previous) → (events open_len : ℕ) (kept_choices : List KeptChoice) → AreNested P events open_len kept_choices
-    → map (choice_of f stack) kept_choices ≡ map (choice_of g stack) kept_choices
-same-positions f g stack P same events open_len [] h = refl
-same-positions f g stack P same events open_len (choice ∷ kept_choices) h =
-    let first = position-choice f g stack choice.kind choice.ok choice.nok P events open_len choice.saved same h.0 in
-    let others = same-positions f g stack P same (events_of events choice.saved) (stack_of open_len choice.saved) kept_choices h.1 in
-    ap (λ (c : Choice). c ∷ map (choice_of f stack) kept_choices) first ∙ ap (λ (cs : List Choice). choice_of g stack choice ∷ cs) others
 
 module _ {M R D : Type 0} {same : R → R → Bool} (t : Inside M R D) (sound : IsSound same t) where
   abbrev bytes_in : List ℕ
@@ -289,8 +275,8 @@ module _ {M R D : Type 0} {same : R → R → Bool} (t : Inside M R D) (sound : 
 
         added-choices : map (choice_of (position_from tab_in bytes_in list t.start) t.stack.items) (reverse t.kept_choices.items) ≡ map (choice_of (position_from tab_in bytes_in skips_in t.start) t.stack.items) (reverse t.kept_choices.items)
         added-choices =
-            rw put (same-positions (position_from tab_in bytes_in added t.start) (position_from tab_in bytes_in skips_in t.start) t.stack.items (IsProgress t.phase tab_in bytes_in skips_in (text_within t) t.events.items t.stack.items t.closed)
-            (λ p h. position-same p.after_previous p.previous h.read) (length t.events.items) (length t.stack.items) (reverse t.kept_choices.items) sound.kept_choices)
+            rw put (same-choices (position_from tab_in bytes_in added t.start) (position_from tab_in bytes_in skips_in t.start) t.stack.items t.stack.items (IsProgress t.phase tab_in bytes_in skips_in (text_within t) t.events.items t.stack.items t.closed)
+            (length t.events.items) (length t.stack.items) (reverse t.kept_choices.items) (λ p le saved. rw (position-same p.after_previous p.previous saved.read) refl) sound.kept_choices)
 
       pub added-seen : (skips : List Point) (put : skips ≡ added) → seen (record t { skips = skips; end = (q.index, q.vs) }) ≡ extended (seen t) (followed_by (seen t).given (seen t).text (passed q))
       added-seen skips put =

@@ -1,5 +1,5 @@
 -- What the steps of the code do to the fields of a tokenizer, and what that means.
-use Rattle.markdown_tokenizer.proofs.Prelude.{AllByRecursion, ◌≡◌, ℕ, zero, suc, ◌≤◌, ◌<◌, List, [], ◌∷◌, ◌++◌, Bool, true, false, Option, Some, None, length, refl, sym, ap, ◌∙◌, subst, arith, add-one, ◌⊎◌, inl, inr, take, length-append, slice_get, reverse, IfSome, filter, nat_lt, ◌||◌, nat_tests, slice_get_within, filter-append, Event, Point, Seat, virtual, shown, stands_before, is_upto, denotes_same, IsPointOf, get-front, Waits, Nothing, Byte, End, Inside, Text, in_range, seat_before, byte_of, end_or, is_kept, resumed, IsSkip, IsMade, tab_of, text_within, seats_between, position_from, reach, can_feed, IsReadTo, IsWhatWaits, IsProgress, AreNested, events_of, stack_of, IsSound, KeptChoice, Progress, IsPlace, IsSeatAt, rest_at, Given, IsPlaced, Phase}
+use Rattle.markdown_tokenizer.proofs.Prelude.{AllByRecursion, ◌≡◌, ℕ, zero, suc, ◌≤◌, ◌<◌, List, [], ◌∷◌, ◌++◌, Bool, true, false, Option, Some, None, length, refl, sym, ap, ◌∙◌, subst, arith, add-one, ◌⊎◌, inl, inr, take, length-append, slice_get, reverse, IfSome, filter, nat_lt, ◌||◌, nat_tests, slice_get_within, filter-append, Event, Point, Seat, virtual, shown, stands_before, is_upto, denotes_same, IsPointOf, get-front, Waits, Nothing, Byte, End, Inside, Text, in_range, seat_before, byte_of, end_or, is_kept, resumed, IsSkip, IsMade, tab_of, text_within, seats_between, position_from, reach, can_feed, IsReadTo, IsWhatWaits, IsProgress, AreNested, events_of, stack_of, IsSound, KeptChoice, Progress, IsPlace, IsSeatAt, rest_at, Given, IsPlaced, Phase, Reading}
 use Rattle.markdown_base.specs.declared.event.Name.{Name}
 use Rattle.markdown_tokenizer.proofs.Positions.Order.{after-before}
 use Rattle.markdown_tokenizer.proofs.Positions.Seats.{rest-later}
@@ -13,11 +13,11 @@ use Rattle.markdown_tokenizer.proofs.Positions.Points.{same-shown}
 pub wide_of : {M R D : Type 0} {same : R → R → Bool} (t : Inside M R D) → IsSound same t → 0 < tab_of t.parse_state.now
 wide_of t sound = let least : 1 ≤ tab_of t.parse_state.now = sound.placed.text.document.tab.0 in omega (arith, least)
 
--- another place was read to, and something else waits
-pub placed-there : {g : Given} {size : ℕ} {passes : List Point} {text : Text} {last : ℕ × ℕ} {after after_previous : Point} {before previous : Option ℕ} {waited byte : ℕ} {some waits : Waits} {fed end_fed closed : Bool} {phase : Phase}
-    → IsPlaced g size passes text last after before waited some fed closed phase → IsReadTo g.tab g.bytes passes text after_previous previous → IsWhatWaits g.tab g.bytes passes text after_previous byte closed waits
-    → (end_fed ≡ true → closed ≡ true) → IsPlaced g size passes text last after_previous previous byte waits end_fed closed phase
-placed-there p read waiting ended = record { tab = p.tab; end_at = p.end_at; text = p.text; skips = p.skips; read = read; waiting = waiting; ended = ended; reads = p.reads }
+-- another place was read to, something else waits, or a text is closed
+pub placed-there : {g : Given} {size : ℕ} {passes : List Point} {text : Text} {last : ℕ × ℕ} {after after_previous : Point} {before previous : Option ℕ} {waited byte : ℕ} {some waits : Waits} {fed end_fed open_still closed : Bool} {was phase : Phase}
+    → IsPlaced g size passes text last after before waited some fed open_still was → IsReadTo g.tab g.bytes passes text after_previous previous → IsWhatWaits g.tab g.bytes passes text after_previous byte closed waits
+    → (end_fed ≡ true → closed ≡ true) → (closed ≡ false → phase ≡ Reading) → IsPlaced g size passes text last after_previous previous byte waits end_fed closed phase
+placed-there p read waiting ended reads = record { tab = p.tab; end_at = p.end_at; text = p.text; skips = p.skips; read = read; waiting = waiting; ended = ended; reads = reads }
 
 module _ (tab : ℕ) (wide : 0 < tab) (bytes : List ℕ) (skips : List Point) where
   -- the text is what was read and what is left
@@ -328,16 +328,7 @@ module _ {M R D : Type 0} {same : R → R → Bool} (t : Inside M R D) (sound : 
       let skips = t.skips in
       let text = text_within t in
       record {
-        placed = record {
-          tab = sound.placed.tab;
-          reads = λ e. absurd (let f : true ≡ false = e in cc);
-          end_at = sound.placed.end_at;
-          text = sound.placed.text;
-          skips = sound.placed.skips;
-          read = sound.placed.read;
-          waiting = waiting-closed tab bytes skips text t.after_previous t.byte t.closed t.waits sound.placed.waiting;
-          ended = λ _. refl;
-        };
+        placed = placed-there sound.placed sound.placed.read (waiting-closed tab bytes skips text t.after_previous t.byte t.closed t.waits sound.placed.waiting) (λ _. refl) (λ e. absurd (let f : true ≡ false = e in cc));
         made = sound.made;
         kept_choices = nested-map (IsProgress t.phase tab bytes skips text t.events.items t.stack.items t.closed) (IsProgress t.phase tab bytes skips text t.events.items t.stack.items true) (length t.events.items) (length t.stack.items) (reverse t.kept_choices.items)
             (λ p a b h.

@@ -276,7 +276,7 @@ module _ {M R D : Type 0} {same : R → R → Bool} (t : Inside M R D) (sound : 
   sound-by : (waits : Waits) (ended : Bool) (byte : ℕ) → IsWhatWaits tab_in bytes_in t.skips (text_within t) from.after_previous byte t.closed waits → (ended ≡ true → t.closed ≡ true)
       → MadeUpto (standing t.skips from.after_previous waits) → IsSound same (after waits ended byte)
   sound-by waits ended byte w e m = record {
-    placed = placed-there sound.placed kept-here.read w e;
+    placed = placed-there sound.placed kept-here.read w e sound.placed.reads;
     made = m;
     kept_choices = same-front t from.events_len from.stack_len events.items stack.items (reverse kept_choices.items)
         (omega (arith, goes-from.2.0, ap length h.cut, length-take from.events_len t.events.items))
@@ -310,7 +310,12 @@ module _ {M R D : Type 0} {same : R → R → Bool} (t : Inside M R D) (sound : 
   seen-there : (waits : Waits) (ended : Bool) (byte : ℕ) → seen (after waits ended byte) ≡ waiting_there waits ended
   seen-there waits ended byte =
       let cut = h.cut in let top = h.top in
-      rw (same-choices position_in stack.items t.stack.items (Saves t) from.events_len from.stack_len (reverse kept_choices.items) front-stack goes-from.1, cut, top) refl
+      rw (
+        same-choices position_in position_in stack.items t.stack.items (Saves t) from.events_len from.stack_len (reverse kept_choices.items)
+            (λ p le saved. rw (front-stack p.stack_len le) refl) goes-from.1,
+        cut,
+        top,
+      ) refl
 
   fed-there : (b : Bool) → nat_lt position_there size_in ≡ b
       → at_configuration (settled_to (seen t) step_there) (fed (seen t).text step_there.configuration) ≡ cond b (waiting_there Byte from.ended) (waiting_there End true)

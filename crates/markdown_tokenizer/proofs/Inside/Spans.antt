@@ -1,31 +1,31 @@
 -- A span begins or ends: the fields of a tokenizer keep what holds of them.
-use Rattle.markdown_tokenizer.proofs.Prelude.{◌≡◌, ℕ, suc, ◌-◌, ◌≤◌, ◌<◌, List, [], ◌∷◌, ◌++◌, Bool, Option, Some, None, length, refl, sym, ap, ◌∙◌, subst, arith, length-append, take, length-take, map, reverse, IfSome, All, take-append-le, take-take, Point, Event, Link, Enter, Exit, shown, Waits, Nothing, Byte, End, AttemptKind, GoesOn, KeptChoice, Progress, Inside, Choice, CanExit, resumed, tab_of, seen, text_within, position_from, standing, choice_of, saved_of, IsProgress, AreNested, events_of, stack_of, IsSound, Vec, with_enter, with_exit, stands-self}
+use Rattle.markdown_tokenizer.proofs.Prelude.{◌≡◌, ℕ, suc, ◌-◌, ◌≤◌, ◌<◌, List, [], ◌∷◌, ◌++◌, Bool, Option, Some, None, length, refl, sym, ap, ◌∙◌, subst, arith, length-append, take, length-take, map, reverse, IfSome, All, take-append-le, take-take, Point, Event, Link, Enter, Exit, shown, Waits, Nothing, Byte, End, AttemptKind, GoesOn, KeptChoice, Progress, Inside, Choice, CanExit, resumed, tab_of, seen, text_within, position_from, standing, choice_of, saved_of, IsProgress, AreNested, events_of, stack_of, IsSound, Vec, with_enter, with_exit, stands-self, saved_at_place}
 use Rattle.markdown_base.specs.declared.event.Name.{Name}
 use Rattle.markdown_tokenizer.proofs.Inside.Made.{made-enter, made-exit}
 use Rattle.markdown_tokenizer.proofs.Inside.Fields.{nested-map, nested-wider}
 use Rattle.markdown_tokenizer.proofs.Inside.Steps.{here-is, after_previous-is}
 
--- what choices saved, as a list of choices, with another stack that has the same front
-choice-mark : (position : Point → ℕ) (a b : List Name) (stack : ℕ) (kind : AttemptKind) (ok nok : GoesOn) (P : Progress → Type 0) (events : ℕ) (saved : Option Progress)
-    → ((n : ℕ) → n ≤ stack → take n a ≡ take n b) → IfSome saved (λ p. (p.events_len ≤ events) × (p.stack_len ≤ stack) × P p)
-    → choice_of position a (record { kind = kind; ok = ok; nok = nok; saved = saved }) ≡ choice_of position b (record { kind = kind; ok = ok; nok = nok; saved = saved })
-choice-mark position a b stack kind ok nok P events None same h = refl
-choice-mark position a b stack kind ok nok P events (Some p) same h = let e = same p.stack_len h.1 in rw e refl
+-- what choices saved, as a list of choices, with other positions and another stack, where each is seen as the same
+same-mark : (f g : Point → ℕ) (a b : List Name) (kind : AttemptKind) (ok nok : GoesOn) (P : Progress → Type 0) (events stack : ℕ) (saved : Option Progress)
+    → ((p : Progress) → p.stack_len ≤ stack → P p → saved_at_place f a p ≡ saved_at_place g b p) → IfSome saved (λ p. (p.events_len ≤ events) × (p.stack_len ≤ stack) × P p)
+    → choice_of f a (record { kind = kind; ok = ok; nok = nok; saved = saved }) ≡ choice_of g b (record { kind = kind; ok = ok; nok = nok; saved = saved })
+same-mark f g a b kind ok nok P events stack None same h = refl
+same-mark f g a b kind ok nok P events stack (Some p) same h = let e = same p h.1 h.2 in rw e refl
 
-narrower : (a b : List Name) (stack : ℕ) (P : Progress → Type 0) (events : ℕ) (saved : Option Progress)
-    → ((n : ℕ) → n ≤ stack → take n a ≡ take n b) → IfSome saved (λ p. (p.events_len ≤ events) × (p.stack_len ≤ stack) × P p)
-    → (n : ℕ) → n ≤ stack_of stack saved → take n a ≡ take n b
-narrower a b stack P events None same h n le = same n le
-narrower a b stack P events (Some p) same h n le = same n (omega (arith, h.1))
+narrower : (f g : Point → ℕ) (a b : List Name) (P : Progress → Type 0) (events stack : ℕ) (saved : Option Progress)
+    → ((p : Progress) → p.stack_len ≤ stack → P p → saved_at_place f a p ≡ saved_at_place g b p) → IfSome saved (λ p. (p.events_len ≤ events) × (p.stack_len ≤ stack) × P p)
+    → (p : Progress) → p.stack_len ≤ stack_of stack saved → P p → saved_at_place f a p ≡ saved_at_place g b p
+narrower f g a b P events stack None same h q le k = same q le k
+narrower f g a b P events stack (Some p) same h q le k = same q (omega (arith, h.1)) k
 
-pub same-choices : (position : Point → ℕ) (a b : List Name) (P : Progress → Type 0) (events stack : ℕ) (kept_choices : List KeptChoice)
-    → ((n : ℕ) → n ≤ stack → take n a ≡ take n b) → AreNested P events stack kept_choices
-    → map (choice_of position a) kept_choices ≡ map (choice_of position b) kept_choices
-same-choices position a b P events stack [] same h = refl
-same-choices position a b P events stack (choice ∷ kept_choices) same h =
-    let first = choice-mark position a b stack choice.kind choice.ok choice.nok P events choice.saved same h.0 in
-    let others = same-choices position a b P (events_of events choice.saved) (stack_of stack choice.saved) kept_choices (narrower a b stack P events choice.saved same h.0) h.1 in
-    ap (λ (c : Choice). c ∷ map (choice_of position a) kept_choices) first ∙ ap (λ (cs : List Choice). choice_of position b choice ∷ cs) others
+pub same-choices : (f g : Point → ℕ) (a b : List Name) (P : Progress → Type 0) (events stack : ℕ) (kept_choices : List KeptChoice)
+    → ((p : Progress) → p.stack_len ≤ stack → P p → saved_at_place f a p ≡ saved_at_place g b p) → AreNested P events stack kept_choices
+    → map (choice_of f a) kept_choices ≡ map (choice_of g b) kept_choices
+same-choices f g a b P events stack [] same h = refl
+same-choices f g a b P events stack (choice ∷ kept_choices) same h =
+    let first = same-mark f g a b choice.kind choice.ok choice.nok P events stack choice.saved same h.0 in
+    let others = same-choices f g a b P (events_of events choice.saved) (stack_of stack choice.saved) kept_choices (narrower f g a b P events stack choice.saved same h.0) h.1 in
+    ap (λ (c : Choice). c ∷ map (choice_of f a) kept_choices) first ∙ ap (λ (cs : List Choice). choice_of g b choice ∷ cs) others
 
 -- what a choice of a tokenizer saved
 abbrev pub Saves : {M R D : Type 0} → Inside M R D → Progress → Type 0
@@ -79,7 +79,8 @@ module _ {M R D : Type 0} {same : R → R → Bool} (t : Inside M R D) (sound : 
 
     pub entered-seen : seen (record t { events = events; stack = stack }) ≡ with_enter name link (seen t)
     entered-seen =
-        let choices = same-choices (position_from (tab_of t.parse_state.now) t.parse_state.now.bytes.now t.skips t.start) stack.items t.stack.items (Saves t) (length t.events.items) (length t.stack.items) (reverse t.kept_choices.items) entered-front sound.kept_choices in
+        let position = position_from (tab_of t.parse_state.now) t.parse_state.now.bytes.now t.skips t.start in
+        let choices = same-choices position position stack.items t.stack.items (Saves t) (length t.events.items) (length t.stack.items) (reverse t.kept_choices.items) (λ p le saved. rw (entered-front p.stack_len le) refl) sound.kept_choices in
         rw (choices, put, top, is ∙ here-is t sound) refl
 
 module _ (position : Point → ℕ) (stack : List Name) (P : Progress → Type 0) where
@@ -132,5 +133,6 @@ module _ {M R D : Type 0} {same : R → R → Bool} (t : Inside M R D) (sound : 
 
   pub exited-seen : seen (record t { events = events; stack = stack }) ≡ with_exit name (seen t)
   exited-seen =
-      let choices = same-choices (position_from (tab_of t.parse_state.now) t.parse_state.now.bytes.now t.skips t.start) stack.items t.stack.items (Saves t) (length t.events.items) (length t.stack.items - 1) (reverse t.kept_choices.items) exited-front exited-nested in
+      let position = position_from (tab_of t.parse_state.now) t.parse_state.now.bytes.now t.skips t.start in
+      let choices = same-choices position position stack.items t.stack.items (Saves t) (length t.events.items) (length t.stack.items - 1) (reverse t.kept_choices.items) (λ p le saved. rw (exited-front p.stack_len le) refl) exited-nested in
       rw (choices, put, top, is ∙ after_previous-is t sound) refl

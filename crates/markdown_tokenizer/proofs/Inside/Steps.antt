@@ -116,22 +116,12 @@ module _ {M R D : Type 0} {same : R → R → Bool} (t : Inside M R D) (sound : 
       by None h = tt
       by (Some byte) h = subst (IsShown bytes_in) (sym sound.placed.read.back) (read-shown (seen t).given (text_within t) sound.placed.text position_in byte (sym sound.placed.read.previous_is ∙ h))
 
-  closed-by : (w : Waits) → t.waits ≡ w → IsWhatWaits tab_in bytes_in skips_in (text_within t) t.after_previous t.byte t.closed w → w ≡ End → t.closed ≡ true
-  closed-by Nothing e h f = absurd cc
-  closed-by Byte e h f = absurd cc
-  closed-by End e h f = h.closed_too
-
-  more-by : (w : Waits) → IsWhatWaits tab_in bytes_in skips_in (text_within t) t.after_previous t.byte t.closed w → w ≡ Byte → position_in < length (seats_between tab_in bytes_in skips_in t.start end_in)
-  more-by Nothing h f = absurd cc
-  more-by Byte h f = next-more tab_in wide_in bytes_in skips_in t.start end_in t.after_previous t.previous sound.placed.skips sound.placed.read h.seat h.at h.before
-  more-by End h f = absurd cc
-
   pub in-text : IsInText (seen t)
   in-text = record {
     text = sound.placed.text;
     within = within tab_in wide_in bytes_in skips_in t.start end_in t.after_previous t.previous sound.placed.skips sound.placed.read;
-    byte = more-by t.waits sound.placed.waiting;
-    end = closed-by t.waits refl sound.placed.waiting;
+    byte = λ e. let w = byte-waits e in next-more tab_in wide_in bytes_in skips_in t.start end_in t.after_previous t.previous sound.placed.skips sound.placed.read w.seat w.at w.before;
+    end = λ e. (end-waits e).closed_too;
     ended = sound.placed.ended;
     reads = sound.placed.reads;
   }
@@ -173,7 +163,7 @@ module _ {M R D : Type 0} {same : R → R → Bool} (t : Inside M R D) (sound : 
     pub fed-sound : (byte : ℕ) → is_before_pair seat.point t.end ≡ true → seat.byte ≡ byte → (moves : Moves) → IsKnown t.bytes.now tab_in bytes_in skips_in t.after_previous t.end.0 t.ready Byte moves
         → IsSound same (record t { waits = Byte; byte = byte; moves = moves })
     fed-sound byte lt e moves known = record {
-      placed = placed-there sound.placed sound.placed.read (record { seat = seat; at = n; before = before-end seat.point ∙ lt; is = sym e }) sound.placed.ended;
+      placed = placed-there sound.placed sound.placed.read (record { seat = seat; at = n; before = before-end seat.point ∙ lt; is = sym e }) sound.placed.ended sound.placed.reads;
       made = made-here;
       kept_choices = sound.kept_choices;
       once = sound.once;
@@ -194,7 +184,7 @@ module _ {M R D : Type 0} {same : R → R → Bool} (t : Inside M R D) (sound : 
   -- the end is fed
   pub end-fed-sound : length (seen t).text.seats ≤ (seen t).configuration.position → t.closed ≡ true → IsSound same (record t { waits = End; ended = true })
   end-fed-sound all closed = record {
-    placed = placed-there sound.placed sound.placed.read (record { closed_too = closed; all = all }) (λ _. closed);
+    placed = placed-there sound.placed sound.placed.read (record { closed_too = closed; all = all }) (λ _. closed) sound.placed.reads;
     made = made-here;
     kept_choices = sound.kept_choices;
     once = sound.once;
@@ -270,7 +260,7 @@ module _ {M R D : Type 0} {same : R → R → Bool} (t : Inside M R D) (sound : 
 
       pub consumed-sound : IsSound same (record t { after_previous = after_previous; previous = Some t.byte; ended = false; waits = Nothing; moves = Other; ready = ready })
       consumed-sound = record {
-        placed = placed-there sound.placed consumed-read tt (λ h. absurd cc);
+        placed = placed-there sound.placed consumed-read tt (λ h. absurd cc) sound.placed.reads;
         made = consumed-made;
         kept_choices = sound.kept_choices;
         once = sound.once;

@@ -2,7 +2,7 @@
 use Rattle.markdown_tokenizer.proofs.Prelude.{◌≡◌, ℕ, ◌+◌, ◌<◌, List, [], ◌∷◌, ◌++◌, Bool, true, false, Option, Some, length, refl, sym, ap, ◌∙◌, subst, drop, get_or, reverse, Vec, IsEquivalence, AllByRecursion, list_any, or_parts, IsDistinct-cons, IsDistinct-push, Event, Message, none-mapped, Subresult, Inside, Phase, Reading, Resolving, Given, Text, IsText, Configuration, TokenizerValue, at_configuration, Sight, sight, sight_of, Rules, with_resolvers, Resolved, resolving, taken, found, refused, with_more, edits_made, resolved_by, CanBeEdited, IsInShape, ResolversKeep, resolved_in, GoneOver, KeptChoice, Progress, Edit, tab_of, seen, text_within, choice_of, position_from, AreNested, IsProgress, IsSound, drop_all, ◌≤◌, drop_more}
 use Rattle.std.specs.List.{IsDistinct}
 use Rattle.markdown_tokenizer.specs.Resolving.{done}
-use Rattle.markdown_tokenizer.proofs.Inside.Fields.{nested-map}
+use Rattle.markdown_tokenizer.proofs.Inside.Fields.{placed-there, nested-map}
 
 -- none is there twice where none is
 pub none-twice : {R : Type 0} (same : R → R → Bool) → IsDistinct same []
@@ -31,16 +31,7 @@ pub phase-sound : {M R D : Type 0} {same : R → R → Bool} (t : Inside M R D) 
     → IsSound same (record t { phase = phase; resolvers = resolvers })
 phase-sound t sound phase resolvers once other closed =
     let bytes = t.parse_state.now.bytes.now in record {
-      placed = record {
-        tab = sound.placed.tab;
-        end_at = sound.placed.end_at;
-        text = sound.placed.text;
-        skips = sound.placed.skips;
-        read = sound.placed.read;
-        waiting = sound.placed.waiting;
-        ended = sound.placed.ended;
-        reads = λ e. absurd (let f : true ≡ false = sym closed ∙ e in cc);
-      };
+      placed = placed-there sound.placed sound.placed.read sound.placed.waiting sound.placed.ended (λ e. absurd (let f : true ≡ false = sym closed ∙ e in cc));
       made = λ e. absurd (other e);
       kept_choices = nested-map (IsProgress t.phase (tab_of t.parse_state.now) bytes t.skips (text_within t) t.events.items t.stack.items t.closed) (IsProgress phase (tab_of t.parse_state.now) bytes t.skips (text_within t) t.events.items t.stack.items t.closed)
           (length t.events.items) (length t.stack.items) (reverse t.kept_choices.items) (λ p a b h. record { read = h.read; ended = h.ended; made = λ e. absurd (other e) }) sound.kept_choices;
