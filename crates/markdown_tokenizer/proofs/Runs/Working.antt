@@ -78,8 +78,7 @@ module _ (text w : Text) (c : Continues text w) where
       rw (before, starts) refl
   sight-same given p Byte h b e =
       let before = before-same p h in let starts = c.starts in
-      let front = ap (λ (s : List Seat). slice_get s p) c.seats ∙ get-front text.seats c.more p (b refl) in
-      rw (before, starts, front, (get-some text.seats p (b refl)).1) refl
+      rw (before, starts, ap (λ (s : List Seat). slice_get s p) c.seats ∙ get-front text.seats c.more p (b refl), (get-some text.seats p (b refl)).1) refl
   sight-same given p End h b e = absurd (e refl)
 
 module _ {M R D : Type 0} (given : Given) (rules : Rules R D) where
@@ -315,32 +314,26 @@ module _ {M R D : Type 0} (rules : M → Given → Rules R D) where
       closed-by Ok k some h = (laws.ends_when_read.ok t.text k is h).1
       closed-by Nok k some h = absurd (laws.ends_when_read.nok t.text k is h)
 
-  settled-same : (m : M) (given : Given) (flush : Bool) (t u v : TokenizerValue M R D) (a s next : State) → IsText given u.text → KeptBy m given flush t a u s → OnlyWorked u v
-      → (v.configuration.waiting ≡ End → u.configuration.waiting ≡ End) → ((e : Message) → s ≡ Error e → (next ≡ Error e) × (v ≡ u)) → LeadsFor m given u s v next
-      → KeptBy m given flush t a v next
-  settled-same m given flush t u v a s next is k only waits stays leads = record {
-    same = only-trans t u v k.same only;
-    message = λ e is_error.
-        let now = k.message e is_error in
-        let after = stays e now.0 in
-        (after.0, after.1 ∙ now.1);
-    waits = λ f e. k.waits f (waits e);
-    leads = λ rest can one.
-        let can' = subst (λ (q : Text). CanFollow given q rest) only.text can in
-        let w = followed_by_all given u.text rest in
-        let same : w ≡ followed_by_all given v.text rest = ap (λ (q : Text). followed_by_all given q rest) (sym only.text) in
-        let first = k.leads rest can' one in
-        subst (λ (q : Text). LeadsBy m given q t a v next) same
-        (leads-trans given (rules m given) w t u v a s next first (leads w (text-on given u.text rest is can') first.kept));
-  }
-
   pub kept-settled : (m : M) (given : Given) (flush : Bool) (t u v : TokenizerValue M R D) (a s next : State) → IsText given u.text → m ≡ u.machine → given ≡ u.given
       → KeptBy m given flush t a u s → OnlyWorked u v
       → (v.configuration.waiting ≡ End → u.configuration.waiting ≡ End) → ((e : Message) → s ≡ Error e → (next ≡ Error e) × (v ≡ u)) → LeadsFor u.machine u.given u s v next
       → KeptBy m given flush t a v next
   kept-settled m given flush t u v a s next is e f k only waits stays leads =
-      settled-same m given flush t u v a s next is k only waits stays
-      (subst (λ (q : M). LeadsFor q given u s v next) (sym e) (subst (λ (q : Given). LeadsFor u.machine q u s v next) (sym f) leads))
+      let leads_here = subst (λ (q : M). LeadsFor q given u s v next) (sym e) (subst (λ (q : Given). LeadsFor u.machine q u s v next) (sym f) leads) in record {
+        same = only-trans t u v k.same only;
+        message = λ e is_error.
+            let now = k.message e is_error in
+            let after = stays e now.0 in
+            (after.0, after.1 ∙ now.1);
+        waits = λ f e. k.waits f (waits e);
+        leads = λ rest can one.
+            let can' = subst (λ (q : Text). CanFollow given q rest) only.text can in
+            let w = followed_by_all given u.text rest in
+            let same : w ≡ followed_by_all given v.text rest = ap (λ (q : Text). followed_by_all given q rest) (sym only.text) in
+            let first = k.leads rest can' one in
+            subst (λ (q : Text). LeadsBy m given q t a v next) same
+            (leads-trans given (rules m given) w t u v a s next first (leads_here w (text-on given u.text rest is can') first.kept));
+      }
 
   pub kept-ended : (m : M) (given : Given) (flush : Bool) (t u v : TokenizerValue M R D) (a s answer : State) → TakesUp flush u v s (result.Err answer)
       → KeptBy m given flush t a u s → KeptBy m given flush t a v answer

@@ -48,12 +48,11 @@ loop-byte-preserved c =
           let f = w.in_ok-push.ensures.items in
           subst (IsCutting c.get-t.result bytes c.args.n s.0 (c.loop-byte.number + 1)) (sym f ∙ ap items_of (sym e)) (next true (cut-is c.args.n c.loop-byte.number w.if-number-gt0.true w.if-number-n-eq0.true))
       | else-number-gt0 w ↦
-          let e = w.cuts-is in
           let no_cut : is_cut c.args.n c.loop-byte.number ≡ false = (elim w.else-number-gt0.branch [
             | else-number-gt0-via-then-number-gt0+else-number-n-eq0 v ↦ cut-not c.args.n c.loop-byte.number v.if-number-n-eq0.false
             | else-number-gt0-via-else-number-gt0 v ↦ cut-first c.args.n c.loop-byte.number v.if-number-gt0.false
           ]) in
-          subst (IsCutting c.get-t.result bytes c.args.n s.0 (c.loop-byte.number + 1)) (append-nil c.loop-byte.cuts.items ∙ ap items_of (sym e)) (next false no_cut)
+          subst (IsCutting c.get-t.result bytes c.args.n s.0 (c.loop-byte.number + 1)) (append-nil c.loop-byte.cuts.items ∙ ap items_of (sym w.cuts-is)) (next false no_cut)
     ])
 
 pub returns : goal.returns

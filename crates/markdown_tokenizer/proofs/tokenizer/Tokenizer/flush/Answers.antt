@@ -6,12 +6,11 @@ use Rattle.markdown_tokenizer.proofs.tokenizer.Tokenizer.flush.Goals as goal
 
 pub unreachable-requires : goal.unreachable-requires
 unreachable-requires g c =
-    let i = g.M.Machine in
     let old = c.close.new.self in let m = old.machine in let given = old.given in
     let u = c.run_states.new.self in
     let e = c.in-Ok.ensures in
     let is = text-worked given old u (rw c.close.ensures c.shows_in_text.ensures.text) e.same in
-    let h = leads-holds given (i.rules m given) true old u c.args.state c.in-Ok.answer e.leads (rw c.in-Nok.is at e.stops) in
+    let h = leads-holds given (g.M.Machine.rules m given) true old u c.args.state c.in-Ok.answer e.leads (rw c.in-Nok.is at e.stops) in
     (g.met.M.Machine.lawful m given).ends_when_read.nok u.text u.configuration is (rw c.in-Nok.is at h)
 
 pub returns-in-Error-clause-message : goal.returns-in-Error-clause-message
@@ -35,13 +34,12 @@ returns-in-Error-clause-message g c message is =
 
 pub resolve_all-requires-clause-invariant : goal.resolve_all-requires-clause-invariant
 resolve_all-requires-clause-invariant g c =
-    let i = g.M.Machine in
     let old = c.close.new.self in let m = old.machine in let given = old.given in
     let u = c.run_states.new.self in
     let e = c.in-Ok.ensures in
     let close = c.close.ensures in let rest = c.take_definitions-sub.ensures.rest in
     let is = text-worked given old u (rw close c.shows_in_text.ensures.text) e.same in
-    let held = rw c.in-Ok-answer.is at (leads-holds given (i.rules m given) true old u c.args.state c.in-Ok.answer e.leads (rw c.in-Ok-answer.is at e.stops)) in
+    let held = rw c.in-Ok-answer.is at (leads-holds given (g.M.Machine.rules m given) true old u c.args.state c.in-Ok.answer e.leads (rw c.in-Ok-answer.is at e.stops)) in
     let closed = ((g.met.M.Machine.lawful m given).ends_when_read.ok u.text u.configuration is held).1 in
     let given_is = e.same.given in let machine_is = e.same.machine in
     let formed = rw given_is at (c.shows_events.ensures (e.same.phase ∙ ap (λ t. t.phase) close ∙ c.shows_in_text.ensures.reads (sym c.is_closed.ensures ∙ c.if-is_closed.false)) closed) in

@@ -13,9 +13,6 @@ invariant_of-result g c =
     let p = c.args.point in
     let here = start-end tab apart.0 bytes p c.requires.place in
     let none = start-empty tab apart.0 bytes p c.requires.place in
-    let events = c.new-events.ensures.items in
-    let stack = c.new-stack.ensures.items in
-    let kept_choices = c.new-kept_choices.ensures.items in
     let skips = c.new-skips.ensures in
     record {
       placed = record {
@@ -28,8 +25,8 @@ invariant_of-result g c =
         waiting = tt;
         ended = λ h. absurd cc;
       };
-      made = λ _. rw (events, stack) (start-made tab apart.0 bytes p c.requires.place);
-      kept_choices = rw kept_choices tt;
+      made = λ _. rw (c.new-events.ensures.items, c.new-stack.ensures.items) (start-made tab apart.0 bytes p c.requires.place);
+      kept_choices = rw c.new-kept_choices.ensures.items tt;
       once = rw c.new-resolvers.ensures.items (none-twice g.M.Resolver.PartialEq.eq);
       known = known-other c.new-skips.result p p.index bytes tab bytes refl 0 (ready-none c.new-skips.result p p.index) Nothing;
     }
@@ -42,13 +39,8 @@ returns-clause-start g c =
     let p = c.args.point in
     let here = start-end tab apart.0 bytes p c.requires.place in
     let none = start-empty tab apart.0 bytes p c.requires.place in
-    let events = c.new-events.ensures.items in
-    let stack = c.new-stack.ensures.items in
-    let resolvers = c.new-resolvers.ensures.items in
-    let kept_choices = c.new-kept_choices.ensures.items in
     let skips = c.new-skips.ensures in
-    let map = c.new-map.ensures in
-    rw (skips, here, none, events, stack, resolvers, kept_choices, map, c.new-tokenize_state.ensures, c.new-calls.ensures) refl
+    rw (skips, here, none, c.new-events.ensures.items, c.new-stack.ensures.items, c.new-resolvers.ensures.items, c.new-kept_choices.ensures.items, c.new-map.ensures, c.new-tokenize_state.ensures, c.new-calls.ensures) refl
 
 pub returns-clause-document : goal.returns-clause-document
 returns-clause-document g c =

@@ -44,13 +44,12 @@ returns-in-Ok-clause-ok g c =
     let i = g.M.Machine in let met = g.met.M.Machine in
     let old = c.args.self.now in let m = old.machine in let given = old.given in
     let open_still : old.closed ≡ false = sym c.is_closed.ensures ∙ c.if-is_closed.false in
-    let u = c.run_states.new.self in
     let r = c.requires.range open_still in
     let ext = c.extend.ensures r.0 r.1 r.2 r.3 in
     let only = rw ext at c.in-Ok.ensures.same in
     let is = rw (only.given, only.text) at c.shows_in_text-in-Ok.ensures.text in
     is-pushed old (i.rules m given) (met.lawful m given)
-    u c.args.from c.args.to r.0 r.1 c.args.state c.in-Ok.answer is open_still (λ f q f_is q_is. c.in-Ok.ensures.same.text ∙ ap (λ t. t.text) (c.extend.ensures f q f_is q_is))
+    c.run_states.new.self c.args.from c.args.to r.0 r.1 c.args.state c.in-Ok.answer is open_still (λ f q f_is q_is. c.in-Ok.ensures.same.text ∙ ap (λ t. t.text) (c.extend.ensures f q f_is q_is))
     only (rw ext at c.in-Ok.ensures.leads) c.in-Ok.ensures.stops c.shows_in_text-in-Ok.ensures (rw ext at c.in-Ok.ensures.message)
 
 pub extend-requires-clause-range : goal.extend-requires-clause-range

@@ -14,11 +14,10 @@ pub invariant_of-self-2 : goal.invariant_of-self-2
 invariant_of-self-2 g c =
     let sound = c.self.invariant in
     let absent = rw c.deref.ensures.value at (sym c.contains.ensures.value ∙ c.if-contains.false) in
-    let items = c.in_ok-push.ensures.items in
     record {
       placed = sound.placed;
       made = sound.made;
       kept_choices = sound.kept_choices;
-      once = rw items (once-behind g.M.Resolver.PartialEq.eq g.met.M.Resolver.Eq.laws c.args.name c.self.inside.resolvers.items sound.once absent);
+      once = rw c.in_ok-push.ensures.items (once-behind g.M.Resolver.PartialEq.eq g.met.M.Resolver.Eq.laws c.args.name c.self.inside.resolvers.items sound.once absent);
       known = c.self.invariant.known;
     }

@@ -14,11 +14,10 @@ pub invariant_of-self : goal.invariant_of-self
 invariant_of-self g c =
     let sound = c.self.invariant in
     let absent = rw c.deref.ensures.value at (sym c.contains.ensures.value ∙ c.if-not-contains.true) in
-    let items = c.in_ok-insert.ensures.items in
     record {
       placed = sound.placed;
       made = sound.made;
       kept_choices = sound.kept_choices;
-      once = rw items (once-before g.M.Resolver.PartialEq.eq g.met.M.Resolver.Eq.laws c.args.name c.self.inside.resolvers.items sound.once absent);
+      once = rw c.in_ok-insert.ensures.items (once-before g.M.Resolver.PartialEq.eq g.met.M.Resolver.Eq.laws c.args.name c.self.inside.resolvers.items sound.once absent);
       known = c.self.invariant.known;
     }

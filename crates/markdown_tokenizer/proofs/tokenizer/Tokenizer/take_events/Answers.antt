@@ -4,13 +4,11 @@ use Rattle.markdown_tokenizer.proofs.tokenizer.Tokenizer.take_events.Goals as go
 pub invariant_of-self : goal.invariant_of-self
 invariant_of-self g c =
     let t = c.self.inside in let sound = c.self.invariant in
-    let left = c.replace.ensures.after in
-    let events = c.new-none.ensures.items in
     let stack = c.clear.ensures.items in
     let kept_choices = c.clear-2.ensures.items in
     record {
       placed = sound.placed;
-      made = λ f. let m = sound.made f in rw (left, events, stack) (made-new t.parse_state.now.bytes.now _ _ m.left_bound m.left_shown m.bound_shown);
+      made = λ f. let m = sound.made f in rw (c.replace.ensures.after, c.new-none.ensures.items, stack) (made-new t.parse_state.now.bytes.now _ _ m.left_bound m.left_shown m.bound_shown);
       kept_choices = rw kept_choices tt;
       once = sound.once;
       known = sound.known;
