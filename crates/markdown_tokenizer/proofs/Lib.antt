@@ -1,5 +1,5 @@
-pub mod Inside
 pub mod Positions
-pub mod Prelude
+pub mod Inside
+mod Prelude
 pub mod Readings
 pub mod Runs
