@@ -1,7 +1,7 @@
 -- The virtual bytes of a document, one after another: each begins at the place where the one before it ends.
-use Rattle.markdown_tokenizer.proofs.Prelude.{◌≡◌, ◌≢◌, ℕ, zero, suc, ◌+◌, ◌-◌, ◌%◌, ◌≤◌, ◌<◌, ◌==◌, List, [], ◌∷◌, ◌++◌, Bool, true, false, cond, length, drop, refl, sym, ap, ◌∙◌, subst, arith, add-one, ◌⊎◌, inl, inr, slice_index, nat_lt, ◌&&◌, ◌||◌, nat_tests, cases_lt, eqb-true, drop_all, get_or-eq_default, mod-lt, suc-mod, mod_self, mod-eq_of_lt, Point, Seat, point, tab_width, in_tab, virtual_from, virtual, begins_with_lf, line_feed, other_byte, stands_before, shown, IsShown, rest_at, Bounds, end_at}
+use Rattle.markdown_tokenizer.proofs.Prelude.{◌≡◌, ◌≢◌, ℕ, zero, suc, ◌+◌, ◌-◌, ◌%◌, ◌≤◌, ◌<◌, ◌==◌, List, [], ◌∷◌, ◌++◌, Bool, true, false, cond, length, drop, refl, sym, ap, ◌∙◌, subst, arith, add-one, slice_index, nat_lt, ◌&&◌, ◌||◌, nat_tests, eqb-true, mod-lt, suc-mod, mod_self, mod-eq_of_lt, Point, Seat, point, tab_width, in_tab, virtual_from, virtual, begins_with_lf, line_feed, other_byte, stands_before, shown, IsShown, rest_at, Bounds, end_at}
 use Rattle.markdown_tokenizer.proofs.Positions.Order.{is-not, not-number, before-self, below-before, more-before, above-later}
-use Rattle.markdown_tokenizer.proofs.Positions.Seats.{width-pos, drop-at}
+use Rattle.markdown_tokenizer.proofs.Positions.Seats.{width-pos, drop-first, no-lf-there}
 
 -- the place after a virtual byte, and what is left there
 pub record IsAt (t : ℕ) (bytes : List ℕ) (p : Point) (rest : List Seat) : Type 0 where
@@ -58,12 +58,12 @@ tab-ends t c d h w =
 pub shown-other : (bytes : List ℕ) (p : Point) → slice_index bytes p.index ≢ 10 → IsShown bytes p
 shown-other bytes p h = let e = not-number (slice_index bytes p.index) 10 h in rw e refl
 
-shown-after-at : (bytes : List ℕ) (p q : Point) (b : Bool) → cond (b && false) q p ≡ p
-shown-after-at bytes p q true = refl
-shown-after-at bytes p q false = refl
+shown-after-at : (p q : Point) (b : Bool) → cond (b && false) q p ≡ p
+shown-after-at p q true = refl
+shown-after-at p q false = refl
 
 pub shown-after : (bytes : List ℕ) (l c i v : ℕ) → slice_index bytes i ≢ 13 → IsShown bytes (point l c (suc i) v)
-shown-after bytes l c i v h = let e = not-number (slice_index bytes i) 13 h in rw e (shown-after-at bytes (point l c (suc i) v) (point l c (suc i - 1) v) (slice_index bytes (suc i) == 10))
+shown-after bytes l c i v h = let e = not-number (slice_index bytes i) 13 h in rw e (shown-after-at (point l c (suc i) v) (point l c (suc i - 1) v) (slice_index bytes (suc i) == 10))
 
 -- all but the first
 abbrev tail : List ℕ → List ℕ
@@ -74,17 +74,11 @@ lf-first : (bs : List ℕ) → begins_with_lf bs ≡ true → bs ≡ 10 ∷ tail
 lf-first [] e = absurd (cc)
 lf-first (b ∷ bs) e = let f = eqb-true b 10 e in rw f refl
 
-no-lf-first : (bs bytes : List ℕ) (i : ℕ) → begins_with_lf bs ≡ false → drop i bytes ≡ bs → i < length bytes ⊎ length bytes ≤ i → slice_index bytes i ≢ 10
-no-lf-first bs bytes i e f (inl h) = λ k.
-    let is : slice_index bytes i ∷ drop (suc i) bytes ≡ bs = sym (drop-at bytes i h) ∙ f in
-    let lf : begins_with_lf bs ≡ true = ap begins_with_lf (sym is) ∙ (rw k refl) in
-    absurd (cc)
-no-lf-first bs bytes i e f (inr h) = λ k. let z : slice_index bytes i ≡ 0 = get_or-eq_default bytes 0 h in absurd (omega arith)
-
 module _ (t : ℕ) (bytes : List ℕ) (d : 0 < t) where
-  -- a virtual byte that is shown where it is, and ends after that
+  -- a virtual byte that is shown at itself
   one-chain : (p : Point) (byte : ℕ) (end : Point) (rest : List Seat) → p.index < length bytes → stands_before p end ≡ true → end_at t byte p ≡ end
-      → IsAt t bytes p (record { byte = byte; point = p; end = end } ∷ rest) → IsChain t bytes end rest → IsChain t bytes p (record { byte = byte; point = p; end = end } ∷ rest)
+      → IsAt t bytes p (record { byte = byte; point = p; end = end } ∷ rest) → IsChain t bytes end rest
+      → IsChain t bytes p (record { byte = byte; point = p; end = end } ∷ rest)
   one-chain p byte end rest inside before ends at more =
       let same : shown bytes p ≡ p = at.shown in (
         at,
@@ -131,10 +125,6 @@ module _ (t : ℕ) (bytes : List ℕ) (d : 0 < t) where
       one-chain (point l c i v) byte (point l (suc c) i (suc v)) ahead inside (more-before i v) (rw (no_lf, is_tab, go_on) refl) at
       (tab-chain 32 n l (suc c) i (suc v) column tab inside next_width columns_are (omega arith) (grind (arith, nat_tests)) refl next more)
 
-  drop-first : (i b : ℕ) (bs : List ℕ) → drop i bytes ≡ b ∷ bs → i < length bytes ⊎ length bytes ≤ i → (i < length bytes) × (slice_index bytes i ≡ b) × (drop (suc i) bytes ≡ bs)
-  drop-first i b bs e (inl h) = let is : slice_index bytes i ∷ drop (suc i) bytes ≡ b ∷ bs = sym (drop-at bytes i h) ∙ e in (h, (cc), (cc))
-  drop-first i b bs e (inr h) = let none : [] ≡ b ∷ bs = sym (drop_all i bytes h) ∙ e in absurd (cc)
-
   bounds-line : (l c i : ℕ) → Bounds t bytes (point l c i 0) → i < length bytes → Bounds t bytes (point (suc l) 1 (suc i) 0)
   bounds-line l c i b h = record { inside = omega arith; lines = omega (arith, b.lines); columns = omega arith; first = omega arith; beyond = omega arith; spaces = d; tab = λ k. absurd (omega arith) }
 
@@ -170,27 +160,18 @@ module _ (t : ℕ) (bytes : List ℕ) (d : 0 < t) where
   abbrev Next : ℕ → List ℕ → Type 0
   Next i bs = (l c : ℕ) → drop i bytes ≡ bs → i ≤ length bytes → IsShown bytes (point l c i 0) → Bounds t bytes (point l c i 0) → IsChain t bytes (point l c i 0) (virtual_from t l c i bs)
 
-  lf-chain : (l c i b : ℕ) (bs : List ℕ) → Next (suc i) bs → i < length bytes → slice_index bytes i ≡ b → b ≡ 10 → drop (suc i) bytes ≡ bs → drop i bytes ≡ b ∷ bs → IsShown bytes (point l c i 0) → Bounds t bytes (point l c i 0)
-      → IsChain t bytes (point l c i 0) (line_feed l c i ∷ virtual_from t (suc l) 1 (suc i) bs)
-  lf-chain l c i b bs next inside here ten there whole shown bounds =
-      let e : drop i bytes ≡ 10 ∷ bs = whole ∙ ap (λ (n : ℕ). n ∷ bs) ten in
+  -- an LF, or a CR alone
+  line-chain : (l c i b : ℕ) (bs : List ℕ) → Next (suc i) bs → i < length bytes → virtual_from t l c i (b ∷ bs) ≡ line_feed l c i ∷ virtual_from t (suc l) 1 (suc i) bs → IsShown bytes (point (suc l) 1 (suc i) 0)
+      → drop (suc i) bytes ≡ bs → drop i bytes ≡ b ∷ bs → IsShown bytes (point l c i 0) → Bounds t bytes (point l c i 0) → IsChain t bytes (point l c i 0) (line_feed l c i ∷ virtual_from t (suc l) 1 (suc i) bs)
+  line-chain l c i b bs next inside line after there whole shown bounds =
       one-chain (point l c i 0) 10 (point (suc l) 1 (suc i) 0) (virtual_from t (suc l) 1 (suc i) bs) inside (below-before i 0 (suc i) 0 (omega arith)) refl
-      (record { is = rw e refl; shown = shown; bounds = bounds })
-      (next (suc l) 1 there inside (shown-after bytes (suc l) 1 i 0 (λ k. absurd (omega arith))) (bounds-line l c i bounds inside))
-
-  cr-chain : (l c i b : ℕ) (bs : List ℕ) → Next (suc i) bs → i < length bytes → slice_index bytes i ≡ b → b ≡ 13 → begins_with_lf bs ≡ false → drop (suc i) bytes ≡ bs → drop i bytes ≡ b ∷ bs → IsShown bytes (point l c i 0) → Bounds t bytes (point l c i 0)
-      → IsChain t bytes (point l c i 0) (line_feed l c i ∷ virtual_from t (suc l) 1 (suc i) bs)
-  cr-chain l c i b bs next inside here cr alone there whole shown bounds =
-      let e : drop i bytes ≡ 13 ∷ bs = whole ∙ ap (λ (n : ℕ). n ∷ bs) cr in
-      one-chain (point l c i 0) 10 (point (suc l) 1 (suc i) 0) (virtual_from t (suc l) 1 (suc i) bs) inside (below-before i 0 (suc i) 0 (omega arith)) refl
-      (record { is = rw e (rw alone refl); shown = shown; bounds = bounds })
-      (next (suc l) 1 there inside (shown-other bytes (point (suc l) 1 (suc i) 0) (no-lf-first bs bytes (suc i) alone there (cases_lt (suc i) (length bytes)))) (bounds-line l c i bounds inside))
+      (record { is = rw whole line; shown = shown; bounds = bounds }) (next (suc l) 1 there inside after (bounds-line l c i bounds inside))
 
   crlf-first : (l c i b : ℕ) (bs : List ℕ) → Next (suc (suc i)) (tail bs) → i < length bytes → slice_index bytes i ≡ b → b ≡ 13 → begins_with_lf bs ≡ true → drop (suc i) bytes ≡ bs → drop i bytes ≡ b ∷ bs → IsShown bytes (point l c i 0) → Bounds t bytes (point l c i 0)
       → IsChain t bytes (point l c i 0) (line_feed l c (suc i) ∷ virtual_from t (suc l) 1 (suc (suc i)) (tail bs))
   crlf-first l c i b bs next inside here cr lf there whole shown bounds =
       let bs_are = lf-first bs lf in
-      let second = drop-first (suc i) 10 (tail bs) (there ∙ bs_are) (cases_lt (suc i) (length bytes)) in
+      let second = drop-first (suc i) bytes 10 (tail bs) (there ∙ bs_are) in
       let e : drop i bytes ≡ 13 ∷ 10 ∷ tail bs = whole ∙ ap (λ (n : ℕ). n ∷ bs) cr ∙ ap (λ (xs : List ℕ). 13 ∷ xs) bs_are in
       let f : drop (suc i) bytes ≡ 10 ∷ tail bs = there ∙ bs_are in
       crlf-chain l c i (virtual_from t (suc l) 1 (suc (suc i)) (tail bs)) second.0 (here ∙ cr) second.1
@@ -231,12 +212,12 @@ module _ (t : ℕ) (bytes : List ℕ) (d : 0 < t) where
   byte-chain : (l c i b : ℕ) (bs : List ℕ) (x y z w : Bool) → (b == 10) ≡ x → (b == 13) ≡ y → (b == 9) ≡ z → begins_with_lf bs ≡ w → Next (suc i) bs → Next (suc (suc i)) (tail bs)
       → i < length bytes → slice_index bytes i ≡ b → drop (suc i) bytes ≡ bs → drop i bytes ≡ b ∷ bs → IsShown bytes (point l c i 0) → Bounds t bytes (point l c i 0) → IsChain t bytes (point l c i 0) (virtual_from t l c i (b ∷ bs))
   byte-chain l c i b bs true y z w ex ey ez ew next after inside here there whole shown bounds =
-      let ten = eqb-true b 10 ex in rw ex (lf-chain l c i b bs next inside here ten there whole shown bounds)
+      rw ex (line-chain l c i b bs next inside (rw ex refl) (shown-after bytes (suc l) 1 i 0 (λ k. let ten = eqb-true b 10 ex in absurd (omega arith))) there whole shown bounds)
   byte-chain l c i b bs false true z true ex ey ez ew next after inside here there whole shown bounds =
       let e : virtual_from t l c (suc i) bs ≡ line_feed l c (suc i) ∷ virtual_from t (suc l) 1 (suc (suc i)) (tail bs) = ap (virtual_from t l c (suc i)) (lf-first bs ew) in
       rw (ex, ey, ew) (subst (IsChain t bytes (point l c i 0)) (sym e) (crlf-first l c i b bs after inside here (eqb-true b 13 ey) ew there whole shown bounds))
   byte-chain l c i b bs false true z false ex ey ez ew next after inside here there whole shown bounds =
-      rw (ex, ey, ew) (cr-chain l c i b bs next inside here (eqb-true b 13 ey) ew there whole shown bounds)
+      rw (ex, ey, ew) (line-chain l c i b bs next inside (rw (ex, ey, ew) refl) (shown-other bytes (point (suc l) 1 (suc i) 0) (no-lf-there (suc i) bytes bs there ew)) there whole shown bounds)
   byte-chain l c i b bs false false true w ex ey ez ew next after inside here there whole shown bounds =
       rw (ex, ey, ez) (tab-first-chain l c i b bs next inside here (eqb-true b 9 ez) there whole shown bounds)
   byte-chain l c i b bs false false false w ex ey ez ew next after inside here there whole shown bounds =
@@ -245,18 +226,14 @@ module _ (t : ℕ) (bytes : List ℕ) (d : 0 < t) where
   from-chain : (i : ℕ) (bs : List ℕ) → Next i bs
   from-chain i [] l c e inside shown bounds = record { is = rw e refl; shown = shown; bounds = bounds }
   from-chain i (b ∷ []) l c e inside shown bounds =
-      let f = drop-first i b [] e (cases_lt i (length bytes)) in
+      let f = drop-first i bytes b [] e in
       byte-chain l c i b [] (b == 10) (b == 13) (b == 9) false refl refl refl refl (from-chain (suc i) [])
       (λ l2 c2 g h k m. record { is = rw g refl; shown = k; bounds = m }) f.0 f.1 f.2 e shown bounds
   from-chain i (b ∷ b2 ∷ bs) l c e inside shown bounds =
-      let f = drop-first i b (b2 ∷ bs) e (cases_lt i (length bytes)) in
+      let f = drop-first i bytes b (b2 ∷ bs) e in
       byte-chain l c i b (b2 ∷ bs) (b == 10) (b == 13) (b == 9) (b2 == 10) refl refl refl refl (from-chain (suc i) (b2 ∷ bs)) (from-chain (suc (suc i)) bs) f.0 f.1 f.2 e shown bounds
-
-  first-shown : (b : Bool) → cond (b && false) (point 1 1 0 0) (point 1 1 0 0) ≡ point 1 1 0 0
-  first-shown true = refl
-  first-shown false = refl
 
   -- the virtual bytes of a document
   pub whole-chain : IsChain t bytes (point 1 1 0 0) (virtual t bytes)
-  whole-chain = from-chain 0 bytes 1 1 refl (omega arith) (first-shown (slice_index bytes 0 == 10))
+  whole-chain = from-chain 0 bytes 1 1 refl (omega arith) (shown-after-at (point 1 1 0 0) (point 1 1 0 0) (slice_index bytes 0 == 10))
       (record { inside = omega arith; lines = omega arith; columns = omega arith; first = omega arith; beyond = omega arith; spaces = d; tab = λ k. absurd (omega arith) })

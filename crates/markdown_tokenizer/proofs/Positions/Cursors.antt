@@ -25,9 +25,6 @@ both-ways true b h k = sym (h refl)
 both-ways false true h k = k refl
 both-ways false false h k = refl
 
-and-same : (a b c : Bool) → b ≡ c → (not a && b) ≡ (not a && c)
-and-same a b c e = rw e refl
-
 and-false : (a c : Bool) → c ≡ false → (not a && c) ≡ false
 and-false true c e = refl
 and-false false c e = e
@@ -84,13 +81,10 @@ module _ (t : ℕ) (bytes : List ℕ) where
       let b = same-upto p q h in
       every-both (Leads p q) (Leads q p) (λ s. stands_before s.point p ≡ stands_before s.point q) (λ s a c. both-ways (stands_before s.point p) (stands_before s.point q) a c) (virtual t bytes) (upto-leads p q b.0) (upto-leads q p b.1)
 
-  in-range-same : (a b c d : Point) (s : Seat) → stands_before s.point a ≡ stands_before s.point c → stands_before s.point b ≡ stands_before s.point d → in_range a b s ≡ in_range c d s
-  in-range-same a b c d s e f = rw (e, f) refl
-
   -- a range depends on its ends only by what they denote
   pub range-same : (a b c d : Point) → denotes_same t bytes a c ≡ true → denotes_same t bytes b d ≡ true → filter (in_range a b) (virtual t bytes) ≡ filter (in_range c d) (virtual t bytes)
   range-same a b c d h k = filter-same (in_range a b) (in_range c d) (virtual t bytes)
-      (every-both (λ s. stands_before s.point a ≡ stands_before s.point c) (λ s. stands_before s.point b ≡ stands_before s.point d) (λ s. in_range a b s ≡ in_range c d s) (λ s e f. in-range-same a b c d s e f) (virtual t bytes) (same-before a c h) (same-before b d k))
+      (every-both (λ s. stands_before s.point a ≡ stands_before s.point c) (λ s. stands_before s.point b ≡ stands_before s.point d) (λ s. in_range a b s ≡ in_range c d s) (λ s e f. rw (e, f) refl) (virtual t bytes) (same-before a c h) (same-before b d k))
 
   -- what a place has behind it, by its order
   pub place-before : (p : Point) (place : IsPlace t bytes p) → filter (λ s. stands_before s.point p) (virtual t bytes) ≡ place.before
@@ -131,7 +125,7 @@ module _ (t : ℕ) (bytes : List ℕ) where
       let ends = split-every (Leads p end) p place (upto-leads p end upto) in
       let front : filter f place.before ≡ filter g place.before = filter-same f g place.before
       (every-both (λ s. stands_before s.point p ≡ true) (Leads p end) (λ s. f s ≡ g s)
-      (λ s h k. and-same (stands_before s.point start) (stands_before s.point end) (stands_before s.point p) (k h ∙ sym h)) place.before place.behind ends.0) in
+      (λ s h k. ap (λ (b : Bool). not (stands_before s.point start) && b) (k h ∙ sym h)) place.before place.behind ends.0) in
       let none : filter g rest ≡ [] = filter-none g rest
       (every-map (λ s. stands_before s.point p ≡ false) (λ s. g s ≡ false) (λ s h. and-false (stands_before s.point start) (stands_before s.point p) h) rest (rest-later t bytes p)) in
       let back : filter f rest ≡ left_of p end = filter-same f (λ s. stands_before s.point end) rest
@@ -189,4 +183,5 @@ module _ (t : ℕ) (bytes : List ℕ) (p : Point) (seat : Seat) (place : IsPlace
         let begins = next-begins t bytes d p seat place n in
         let f = λ (s : Seat). stands_before s.point seat.end in
         let past : AllByRecursion (λ s. stands_before s.point seat.end ≡ false) n.after = subst (AllByRecursion (λ s. stands_before s.point seat.end ≡ false)) (seat-rest t bytes d p seat place n) (rest-later t bytes seat.end) in
-        ap (filter f) n.is ∙ (rw begins.ends (ap (λ (ys : List Seat). seat ∷ ys) (filter-none f n.after past)))
+        let ends = begins.ends in
+        ap (filter f) n.is ∙ (rw ends (ap (λ (ys : List Seat). seat ∷ ys) (filter-none f n.after past)))

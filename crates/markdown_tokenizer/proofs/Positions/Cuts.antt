@@ -7,24 +7,17 @@ use Rattle.markdown_tokenizer.proofs.Positions.Points.{point_at-point}
 use Rattle.markdown_tokenizer.proofs.Positions.Cursors.{upto-order}
 use Rattle.markdown_tokenizer.proofs.Positions.TextOrder.{AreInOrder, Follows, virtual-order}
 
-every-among : (P : Seat → Type 0) (all xs : List Seat) → ((s : Seat) → IsAmong s xs → P s) → AllByRecursion P xs
-every-among P all [] h = tt
-every-among P all (x ∷ xs) h = (h x (record { front = []; back = xs; splits = refl }), every-among P all xs (λ s a. h s (record { front = x ∷ a.front; back = a.back; splits = ap (λ ys. x ∷ ys) a.splits })))
+every-among : (P : Seat → Type 0) (xs : List Seat) → ((s : Seat) → IsAmong s xs → P s) → AllByRecursion P xs
+every-among P [] h = tt
+every-among P (x ∷ xs) h = (h x (record { front = []; back = xs; splits = refl }), every-among P xs (λ s a. h s (record { front = x ∷ a.front; back = a.back; splits = ap (λ ys. x ∷ ys) a.splits })))
 
 module _ (t : ℕ) (bytes : List ℕ) (d : 0 < t) where
-  seats-are-points : AllByRecursion (λ s. IsPointOf t bytes s.point) (virtual t bytes)
-  seats-are-points = every-among (λ s. IsPointOf t bytes s.point) [] (virtual t bytes) (λ s a. seat-is-point t bytes s a)
-
-  -- those that come later are not before it
-  later : (s : Seat) (ss : List Seat) → AllByRecursion (Follows s) ss → AllByRecursion (λ r. stands_before r.point s.point ≡ false) ss
-  later s ss h = every-map (Follows s) (λ r. stands_before r.point s.point ≡ false) (λ r k. after-before s.point.index s.point.vs r.point.index r.point.vs k.0) ss h
-
   cuts-follow : (n number : ℕ) (p : Point) (xs : List Seat) → AllByRecursion (λ s. IsPointOf t bytes s.point) xs → AllByRecursion (λ s. stands_before s.point p ≡ false) xs → AreInOrder bytes xs
       → FollowInOrder t bytes p (map (λ x. place_of x.1) (filter (λ x. is_cut n x.0) (enumerate_from number xs)))
   cuts-follow n number p [] points h order = tt
   cuts-follow n number p (s ∷ ss) points h order =
       let rest = filter (λ (x : ℕ × Seat). is_cut n x.0) (enumerate_from (number + 1) ss) in
-      let cut = cuts-follow n (number + 1) s.point ss points.1 (later s ss order.1) order.2 in
+      let cut = cuts-follow n (number + 1) s.point ss points.1 (every-map (Follows s) (λ r. stands_before r.point s.point ≡ false) (λ r k. after-before s.point.index s.point.vs r.point.index r.point.vs k.0) ss order.1) order.2 in
       let uncut = cuts-follow n (number + 1) p ss points.1 h.1 order.2 in
       elim (is_cut n number) as (λ b. FollowInOrder t bytes p (map (λ (x : ℕ × Seat). place_of x.1) (cond b ((number, s) ∷ rest) rest))) [
         | true ↦ (s.point, point_at-point t bytes d s.point points.0, upto-order t bytes p s.point h.0, cut)
@@ -34,5 +27,5 @@ module _ (t : ℕ) (bytes : List ℕ) (d : 0 < t) where
 -- the places of the virtual bytes number n, 2n, 3n, .. are cuts
 pub cuts_every-are-cuts : (t : ℕ) → 0 < t → (bytes : List ℕ) (n : ℕ) → AreCuts t bytes (cuts_every t bytes n)
 cuts_every-are-cuts t d bytes n =
-    cuts-follow t bytes d n 0 (point 1 1 0 0) (virtual t bytes) (seats-are-points t bytes d)
-    (every-all (λ s. stands_before s.point (point 1 1 0 0) ≡ false) (λ s. not-before s.point.index s.point.vs 0 0 (omega arith) refl) (virtual t bytes)) (virtual-order t bytes)
+    cuts-follow t bytes d n 0 (point 1 1 0 0) (virtual t bytes) (every-among (λ s. IsPointOf t bytes s.point) (virtual t bytes) (seat-is-point t bytes))
+    (every-all (λ s. stands_before s.point (point 1 1 0 0) ≡ false) (λ s. not-before s.point.index s.point.vs 0 0 (omega arith) refl) (virtual t bytes)) (virtual-order t bytes d)

@@ -1,22 +1,20 @@
 -- Laws about gaps: places in lines and columns, and what a gap leaves to be read.
-use Rattle.markdown_tokenizer.proofs.Prelude.{AllByRecursion, ◌≡◌, ℕ, ◌≤◌, ◌<◌, ◌==◌, List, [], ◌∷◌, ◌++◌, Bool, true, false, cond, Option, Some, None, refl, sym, ap, ◌∙◌, subst, arith, ◌⊎◌, inl, inr, filter, unwrap_or, not, nat_tests, filter-append, append-nil, eqb-true, not-true, Point, Seat, point, virtual, end_after, stands_before, shown, is_upto, denotes_same, every-map, every-append, filter-none, leads-back, rest_at, IsPlace, IsSeatAt, goes_on, end_at, in_range, skip_of, is_kept_by, is_kept, resumed, kept_between, IsSkip, IsOutside, and_parts}
-use Rattle.markdown_tokenizer.proofs.Positions.Order.{later-later, before-self, is-not, before-upto, upto-before, after-before, every-both, filter-every, filter-same}
+use Rattle.markdown_tokenizer.proofs.Prelude.{AllByRecursion, ◌≡◌, ℕ, ◌≤◌, ◌<◌, ◌==◌, List, [], ◌∷◌, ◌++◌, Bool, true, false, cond, Option, Some, None, refl, sym, ap, ◌∙◌, subst, arith, ◌⊎◌, inl, inr, filter, unwrap_or, not, nat_tests, find-append, filter-append, append-nil, eqb-true, not-true, and_parts, Point, Seat, point, virtual, end_after, stands_before, shown, is_upto, denotes_same, every-map, every-append, filter-none, leads-back, rest_at, IsPlace, IsSeatAt, goes_on, end_at, in_range, skip_of, is_kept_by, is_kept, resumed, kept_between, IsSkip, IsOutside}
+use Rattle.markdown_tokenizer.proofs.Positions.Order.{later-later, before-self, is-not, before-upto, upto-before, after-before, every-both, every-kept, not-number, filter-every, filter-same}
 use Rattle.markdown_tokenizer.proofs.Positions.Seats.{rest-later}
 use Rattle.markdown_tokenizer.proofs.Positions.Chains.{IsChain, whole-chain}
 use Rattle.markdown_tokenizer.proofs.Positions.Standing.{next-begins, shown-upto, chain-upto}
 use Rattle.markdown_tokenizer.proofs.Positions.Cursors.{upto-order, upto-self, upto-upto, same-upto, same-back, same-self, left_of, text-splits, range-same, range-empty, Leads, upto-leads, split-every}
 use Rattle.markdown_tokenizer.proofs.Positions.Points.{shown-line, shown-column, same-shown}
-use Rattle.markdown_tokenizer.proofs.Positions.Lines.{lies_before, lies-alike, lies-later, LiesIn, StandsBetween, every-kept, every-for, every-given, begins-line, chain-between, way-chain, way-ends, way-none, upto-shown, places-rise, seats-rise}
-
-skip-cases : (P : Point → Type 0) (x : Point) (xs : List Point) (line : ℕ) (p : Point) (b : Bool) → (x.line == line) ≡ b → P x → (skip_of xs line ≡ Some p → (p.line ≡ line) × P p)
-    → cond b (Some x) (skip_of xs line) ≡ Some p → (p.line ≡ line) × P p
-skip-cases P x xs line p true e h k f = let is : x ≡ p = cc in subst (λ (y : Point). (y.line ≡ line) × P y) is (eqb-true x.line line e, h)
-skip-cases P x xs line p false e h k f = k f
+use Rattle.markdown_tokenizer.proofs.Positions.Lines.{lies_before, lies-shown, lies-later, LiesIn, StandsBetween, every-for, every-given, begins-line, chain-between, way-chain, way-ends, way-none, upto-shown, places-rise, seats-between}
 
 -- the place at which a line's gap ends is in that line, and in the list
 skip-is : (P : Point → Type 0) (skips : List Point) (line : ℕ) (p : Point) → AllByRecursion P skips → skip_of skips line ≡ Some p → (p.line ≡ line) × P p
 skip-is P [] line p h e = absurd (cc)
-skip-is P (x ∷ xs) line p h e = skip-cases P x xs line p (x.line == line) refl h.0 (skip-is P xs line p h.1) e
+skip-is P (x ∷ xs) line p h e = elim (x.line == line) as (λ b. (x.line == line) ≡ b → cond b (Some x) (skip_of xs line) ≡ Some p → (p.line ≡ line) × P p) [
+  | true ↦ λ f k. (let is : x ≡ p = cc in subst (λ (y : Point). (y.line ≡ line) × P y) is (eqb-true x.line line f, h.0))
+  | false ↦ λ f k. skip-is P xs line p h.1 k
+] refl e
 
 -- whether a virtual byte is in a gap is said by its line
 kept-by : (skips : List Point) (s : Seat) (line : ℕ) (o : Option Point) → s.point.line ≡ line → skip_of skips line ≡ o → is_kept skips s ≡ is_kept_by o s
@@ -58,10 +56,11 @@ module _ (t : ℕ) (bytes : List ℕ) (d : 0 < t) where
     jump-none : (q : Point) → IsPlace t bytes q → q.line ≡ after_previous.line → skip_of skips after_previous.line ≡ Some q → is_upto t bytes after_previous q ≡ true → filter (is_kept skips) (left_of t bytes after_previous q) ≡ []
     jump-none q at line e later =
         let f = λ (s : Seat). stands_before s.point q in
-        filter-none (is_kept skips) (left_of t bytes after_previous q)
-        (every-map (λ s. (stands_before s.point q ≡ true → StandsBetween after_previous q s) × (f s ≡ true)) (λ s. is_kept skips s ≡ false)
-        (λ s h. let between = h.0 h.1 in let same : s.point.line ≡ after_previous.line = omega (arith, between.0, between.1) in kept-by skips s after_previous.line (Some q) same e ∙ ap not h.1)
-        (left_of t bytes after_previous q) (every-kept (λ s. stands_before s.point q ≡ true → StandsBetween after_previous q s) f (rest_at t bytes after_previous) (seats-rise t bytes d after_previous q place at later)))
+        let left = left_of t bytes after_previous q in
+        filter-none (is_kept skips) left (every-both (StandsBetween after_previous q) (λ s. f s ≡ true) (λ s. is_kept skips s ≡ false)
+        (λ s b h. let same : s.point.line ≡ after_previous.line = omega (arith, b.0, b.1) in kept-by skips s after_previous.line (Some q) same e ∙ ap not h) left
+        (seats-between t bytes d after_previous q place at later)
+        (every-kept (λ s. stands_before s.point after_previous ≡ false) (λ s. f s ≡ true) f (λ s k h. h) (rest_at t bytes after_previous) (rest-later t bytes after_previous)))
 
     jump-same : (start q : Point) → is_upto t bytes start after_previous ≡ true → IsPlace t bytes q → q.line ≡ after_previous.line → skip_of skips after_previous.line ≡ Some q → is_upto t bytes after_previous q ≡ true → kept_between t bytes skips start q ≡ kept_between t bytes skips start after_previous
     jump-same start q from at line e later =
@@ -83,20 +82,11 @@ module _ (t : ℕ) (bytes : List ℕ) (d : 0 < t) where
       fresh = fresh;
     }
 
-    fresh-none : skip_of skips after_previous.line ≡ None → (seat : Seat) → IsSeatAt t bytes after_previous seat → is_kept skips seat ≡ true
-    fresh-none e seat n = kept-by skips seat after_previous.line None (seat-line after_previous seat place n) e
-
     -- after a gap
     fresh-after : (p q : Point) → IsPlace t bytes p → p.line ≡ after_previous.line → skip_of skips after_previous.line ≡ Some q → stands_before p q ≡ false → (seat : Seat) → IsSeatAt t bytes p seat → is_kept skips seat ≡ true
     fresh-after p q at line e later seat n =
         kept-by skips seat after_previous.line (Some q) (seat-line p seat at n ∙ line) e
         ∙ ap not (later-later seat.point.index seat.point.vs p.index p.vs q.index q.vs n.later later)
-
-    stays-after : (q : Point) → (after_previous.column == 1) ≡ false → skip_of skips after_previous.line ≡ Some q → IsResumed t bytes skips start end after_previous after_previous
-    stays-after q e f = elim (outside q f) [
-      | inl h ↦ absurd (is-not after_previous.column 1 e h)
-      | inr h ↦ stays (fresh-after after_previous q place refl f h)
-    ]
 
     jump-before : (q : Point) → IsPlace t bytes q → after_previous.column ≡ 1 → q.line ≡ after_previous.line → 1 < q.column → stands_before after_previous q ≡ true
     jump-before q at first line inside = elim (stands_before after_previous q) as (λ b. (stands_before after_previous q ≡ b) → b ≡ true) [
@@ -122,9 +112,9 @@ module _ (t : ℕ) (bytes : List ℕ) (d : 0 < t) where
         }
 
     resumed-by : (b : Bool) (o : Option Point) → (after_previous.column == 1) ≡ b → skip_of skips after_previous.line ≡ o → IsResumed t bytes skips start end after_previous (cond b (unwrap_or o after_previous) after_previous)
-    resumed-by false None e f = stays (fresh-none f)
-    resumed-by false (Some q) e f = stays-after q e f
-    resumed-by true None e f = stays (fresh-none f)
+    resumed-by false None e f = stays (λ seat n. kept-by skips seat after_previous.line None (seat-line after_previous seat place n) f)
+    resumed-by true None e f = stays (λ seat n. kept-by skips seat after_previous.line None (seat-line after_previous seat place n) f)
+    resumed-by false (Some q) e f = elim (outside q f) [ inl h ↦ absurd (is-not after_previous.column 1 e h) | inr h ↦ stays (fresh-after after_previous q place refl f h) ]
     resumed-by true (Some q) e f = jumps q (eqb-true after_previous.column 1 e) f
 
     pub resumed-at : IsResumed t bytes skips start end after_previous (resumed skips after_previous)
@@ -142,7 +132,8 @@ module _ (t : ℕ) (bytes : List ℕ) (d : 0 < t) where
     after-kept : (p : Point) → seat.end.line ≡ seat.point.line → skip_of skips seat.end.line ≡ Some p → stands_before seat.end p ≡ false
     after-kept p line e =
         let begins = next-begins t bytes d r seat place n in
-        let later = not-true (stands_before seat.point p) (sym (kept-by skips seat seat.point.line (Some p) refl (ap (skip_of skips) (sym line) ∙ e)) ∙ kept) in
+        let same = ap (skip_of skips) (sym line) ∙ e in
+        let later = not-true (stands_before seat.point p) (sym (kept-by skips seat seat.point.line (Some p) refl same) ∙ kept) in
         later-later seat.end.index seat.end.vs seat.point.index seat.point.vs p.index p.vs (after-before seat.point.index seat.point.vs seat.end.index seat.end.vs begins.ends) later
 
     end-line : (seat.end.column ≡ 1) ⊎ (seat.end.line ≡ seat.point.line)
@@ -174,7 +165,8 @@ module _ (t : ℕ) (bytes : List ℕ) (d : 0 < t) where
   kept-past : (skips : List Point) (end : Point) → AllByRecursion (IsSkip t bytes end) skips → (s : Seat) → PastGaps end s → (o : Option Point) → skip_of skips s.point.line ≡ o → is_kept skips s ≡ true
   kept-past skips end are s past None e = kept-by skips s s.point.line None refl e
   kept-past skips end are s past (Some p) e =
-      kept-by skips s s.point.line (Some p) refl e ∙ ap not (past p (skip-is (IsSkip t bytes end) skips s.point.line p are e).1.upto)
+      let found = skip-is (IsSkip t bytes end) skips s.point.line p are e in
+      kept-by skips s s.point.line (Some p) refl e ∙ ap not (past p found.1.upto)
 
   -- a range that is pushed
   module _ (skips : List Point) (end from to : Point) (are : AllByRecursion (IsSkip t bytes end) skips) (place : IsPlace t bytes end) (same : denotes_same t bytes from end ≡ true) (upto : is_upto t bytes from to ≡ true) where
@@ -189,10 +181,9 @@ module _ (t : ℕ) (bytes : List ℕ) (d : 0 < t) where
     -- none of what is pushed is in a gap
     pub pushed-kept : filter (is_kept skips) (filter (in_range from to) (virtual t bytes)) ≡ filter (in_range from to) (virtual t bytes)
     pushed-kept =
-        let f = λ (s : Seat). stands_before s.point to in
         ap (filter (is_kept skips)) pushed-is
-        ∙ filter-every (is_kept skips) (left_of t bytes end to) (every-map (λ s. PastGaps end s × (f s ≡ true)) (λ s. is_kept skips s ≡ true) (λ s h. kept-past skips end are s h.0 (skip_of skips s.point.line) refl)
-        (left_of t bytes end to) (every-kept (PastGaps end) f (rest_at t bytes end) (past-gaps end place)))
+        ∙ filter-every (is_kept skips) (left_of t bytes end to)
+        (every-kept (PastGaps end) (λ s. is_kept skips s ≡ true) (λ s. stands_before s.point to) (λ s h e. kept-past skips end are s h (skip_of skips s.point.line) refl) (rest_at t bytes end) (past-gaps end place))
         ∙ sym pushed-is
 
     pub pushed-skips : AllByRecursion (IsSkip t bytes to) skips
@@ -203,34 +194,10 @@ skip-other [] q line e = rw e refl
 skip-other (x ∷ xs) q line e = ap (λ (o : Option Point). cond (x.line == line) (Some x) o) (skip-other xs q line e)
 
 skip-added : (skips : List Point) (q : Point) (line : ℕ) → (q.line == line) ≡ true → skip_of skips line ≡ None → skip_of (skips ++ q ∷ []) line ≡ Some q
-skip-added [] q line e h = rw e refl
-skip-added (x ∷ xs) q line e h = elim (x.line == line) as (λ b. cond b (Some x) (skip_of xs line) ≡ None → cond b (Some x) (skip_of (xs ++ q ∷ []) line) ≡ Some q) [
-  | true ↦ λ k. absurd (cc)
-  | false ↦ λ k. skip-added xs q line e k
-] h
+skip-added skips q line e h = find-append (λ (p : Point). p.line == line) skips (q ∷ []) ∙ rw (h, e) refl
 
-below-not : (m n : ℕ) → n < m → (m == n) ≡ false
-below-not m n h = grind (arith, nat_tests)
-
-is-line : (m n : ℕ) → m ≡ n → (m == n) ≡ true
-is-line m n e = grind (arith, nat_tests)
-
-none-of : (o : Option Point) → ((p : Point) → o ≡ Some p → ⊥) → o ≡ None
-none-of None h = refl
-none-of (Some p) h = absurd (h p refl)
-
-no-seat-first : (line column : ℕ) (p : Point) → 1 ≤ p.column → column ≡ 1 → (p.line < line) ⊎ ((p.line ≡ line) × (p.column < column)) → p.line < line
-no-seat-first line column p h e (inl l) = l
-no-seat-first line column p h e (inr l) = let f = l.1 in absurd (omega arith)
-
-resumed-like : (skips added : List Point) (p : Point) → skip_of added p.line ≡ skip_of skips p.line → resumed added p ≡ resumed skips p
-resumed-like skips added p e = ap (λ (o : Option Point). cond (p.column == 1) (unwrap_or o p) p) e
-
-resumed-to : (skips : List Point) (p q : Point) → p.column ≡ 1 → skip_of skips p.line ≡ Some q → resumed skips p ≡ q
-resumed-to skips p q e f = let g = is-line p.column 1 e in rw (g, f) refl
-
-resumed-none : (skips : List Point) (p : Point) → p.column ≡ 1 → skip_of skips p.line ≡ None → resumed skips p ≡ p
-resumed-none skips p e f = let g = is-line p.column 1 e in rw (g, f) refl
+resumed-at_first : (skips : List Point) (p : Point) → p.column ≡ 1 → resumed skips p ≡ unwrap_or (skip_of skips p.line) p
+resumed-at_first skips p e = let g : (p.column == 1) ≡ true = grind (arith, nat_tests) in rw g refl
 
 module _ (t : ℕ) (bytes : List ℕ) (d : 0 < t) where
   chain-columns : (p : Point) (xs ys : List Seat) → IsChain t bytes p (xs ++ ys) → AllByRecursion (λ s. 1 ≤ s.point.column) xs
@@ -244,8 +211,7 @@ module _ (t : ℕ) (bytes : List ℕ) (d : 0 < t) where
 
     behind-lies : (s : Seat) → LiesIn (point 1 1 0 0) (end_after (point 1 1 0 0) at.before) s → 1 ≤ s.point.column → s.point.line < e.line
     behind-lies s h k =
-        let lies = lies-alike s.point e (shown bytes e) (sym (shown-line bytes e)) (sym (shown-column bytes e)) ∙ ap (lies_before s.point) at.stands ∙ h.1 in
-        no-seat-first e.line e.column s.point k first (lies-later s.point e lies)
+        elim (lies-later s.point e (lies-shown bytes s.point e ∙ ap (lies_before s.point) at.stands ∙ h.1)) [ inl l ↦ l | inr l ↦ absurd (omega (arith, l.1)) ]
 
     behind-earlier : AllByRecursion (λ s. s.point.line < e.line) at.before
     behind-earlier =
@@ -264,23 +230,18 @@ module _ (t : ℕ) (bytes : List ℕ) (d : 0 < t) where
 
     read-earlier : (start after_previous : Point) → is_upto t bytes after_previous e ≡ true → AllByRecursion (λ s. s.point.line < e.line) (filter (in_range start after_previous) (virtual t bytes))
     read-earlier start after_previous upto =
-        every-map (λ s. Earlier after_previous s × (in_range start after_previous s ≡ true)) (λ s. s.point.line < e.line)
-        (λ s h. h.0 ((and_parts (not (stands_before s.point start)) (stands_before s.point after_previous) h.1).1)) (filter (in_range start after_previous) (virtual t bytes))
-        (every-kept (Earlier after_previous) (in_range start after_previous) (virtual t bytes)
-        (every-both (Leads after_previous e) (Earlier e) (Earlier after_previous) (λ s h k l. k (h l)) (virtual t bytes) (upto-leads t bytes after_previous e upto) seats-earlier))
-
-    after_previous-cases : (after_previous : Point) → IsPlace t bytes after_previous → (denotes_same t bytes after_previous e ≡ true) ⊎ ((after_previous.line < e.line) ⊎ ((after_previous.line ≡ e.line) × (after_previous.column < e.column)))
-        → (after_previous.line < e.line) ⊎ ((after_previous.line ≡ e.line) × (after_previous.column ≡ 1) × (denotes_same t bytes after_previous e ≡ true))
-    after_previous-cases after_previous place (inl h) =
-        let s = same-shown t bytes after_previous e place at h in
-        inr (sym (shown-line bytes after_previous) ∙ ap (λ (x : Point). x.line) s ∙ shown-line bytes e, same-column t bytes d after_previous e place at h ∙ first, h)
-    after_previous-cases after_previous place (inr (inl h)) = inl h
-    after_previous-cases after_previous place (inr (inr h)) = let c = h.1 in let b = place.bounds.first in absurd (omega arith)
+        every-kept (Earlier after_previous) (λ s. s.point.line < e.line) (in_range start after_previous)
+        (λ s h k. h ((and_parts (not (stands_before s.point start)) (stands_before s.point after_previous) k).1)) (virtual t bytes)
+        (every-both (Leads after_previous e) (Earlier e) (Earlier after_previous) (λ s h k l. k (h l)) (virtual t bytes) (upto-leads t bytes after_previous e upto) seats-earlier)
 
     -- a place that is not after the beginning of a line is in an earlier line, or denotes the same
     pub after_previous-earlier : (after_previous : Point) → IsPlace t bytes after_previous → is_upto t bytes after_previous e ≡ true
         → (after_previous.line < e.line) ⊎ ((after_previous.line ≡ e.line) × (after_previous.column ≡ 1) × (denotes_same t bytes after_previous e ≡ true))
-    after_previous-earlier after_previous place upto = after_previous-cases after_previous place (places-rise t bytes d after_previous e place at upto)
+    after_previous-earlier after_previous place upto = elim (places-rise t bytes d after_previous e place at upto) [
+      | inl h ↦ (let s = same-shown t bytes after_previous e place at h in inr (sym (shown-line bytes after_previous) ∙ ap (λ (x : Point). x.line) s ∙ shown-line bytes e, same-column t bytes d after_previous e place at h ∙ first, h))
+      | inr (inl h) ↦ inl h
+      | inr (inr h) ↦ (let c = h.1 in let b = place.bounds.first in absurd (omega arith))
+    ]
 
     -- gaps that end up to there are in earlier lines
     pub skips-earlier : (skips : List Point) → AllByRecursion (IsSkip t bytes e) skips → AllByRecursion (λ (p : Point). p.line < e.line) skips
@@ -298,12 +259,16 @@ module _ (t : ℕ) (bytes : List ℕ) (d : 0 < t) where
 
     -- the line had no gap
     pub added-none : skip_of skips e.line ≡ None
-    added-none = none-of (skip_of skips e.line) (λ p h.
-        let found = skip-is (IsSkip t bytes e) skips e.line p are h in
-        let skip = found.1 in
-        let inside = skip.inside in
-        let column = column-rises t bytes d p e skip.place at skip.upto found.0 in
-        absurd (omega arith))
+    added-none = elim (skip_of skips e.line) as (λ o. skip_of skips e.line ≡ o → o ≡ None) [
+      | None ↦ λ h. refl
+      | Some p ↦ λ h. (
+          let found = skip-is (IsSkip t bytes e) skips e.line p are h in
+          let skip = found.1 in
+          let inside = skip.inside in
+          let column = column-rises t bytes d p e skip.place at skip.upto found.0 in
+          absurd (omega arith)
+          )
+    ] refl
 
     added-inside : 1 < q.column
     added-inside = elim (places-rise t bytes d e q at to added-upto) [
@@ -317,10 +282,10 @@ module _ (t : ℕ) (bytes : List ℕ) (d : 0 < t) where
         (record { place = to; inside = added-inside; upto = upto-self t bytes q }, tt)
 
     added-there : (k : ℕ) → k ≡ e.line → skip_of (skips ++ q ∷ []) k ≡ Some q
-    added-there k h = skip-added skips q k (is-line q.line k (line ∙ sym h)) (ap (skip_of skips) h ∙ added-none)
+    added-there k h = let same : (q.line == k) ≡ true = grind (arith, nat_tests) in skip-added skips q k same (ap (skip_of skips) h ∙ added-none)
 
     added-earlier : (k : ℕ) → k < e.line → skip_of (skips ++ q ∷ []) k ≡ skip_of skips k
-    added-earlier k h = skip-other skips q k (below-not q.line k (omega arith))
+    added-earlier k h = skip-other skips q k (not-number q.line k (λ f. absurd (omega arith)))
 
     -- what was read keeps what it kept
     pub added-read : (after_previous : Point) → is_upto t bytes after_previous e ≡ true → kept_between t bytes (skips ++ q ∷ []) start after_previous ≡ kept_between t bytes skips start after_previous
@@ -345,8 +310,12 @@ module _ (t : ℕ) (bytes : List ℕ) (d : 0 < t) where
       -- the next byte is looked for where it was, or after the gap
       pub added-resumed : (resumed (skips ++ q ∷ []) after_previous ≡ resumed skips after_previous) ⊎ ((denotes_same t bytes after_previous e ≡ true) × (resumed skips after_previous ≡ after_previous) × (resumed (skips ++ q ∷ []) after_previous ≡ q))
       added-resumed = elim (after_previous-earlier e at first after_previous place upto) [
-        | inl l ↦ inl (resumed-like skips (skips ++ q ∷ []) after_previous (added-earlier after_previous.line l))
-        | inr l ↦ inr (l.2, resumed-none skips after_previous l.1 (ap (skip_of skips) l.0 ∙ added-none), resumed-to (skips ++ q ∷ []) after_previous q l.1 (added-there after_previous.line l.0))
+        | inl l ↦ inl (ap (λ (o : Option Point). cond (after_previous.column == 1) (unwrap_or o after_previous) after_previous) (added-earlier after_previous.line l))
+        | inr l ↦ inr (
+          l.2,
+          resumed-at_first skips after_previous l.1 ∙ ap (λ (o : Option Point). unwrap_or o after_previous) (ap (skip_of skips) l.0 ∙ added-none),
+          resumed-at_first (skips ++ q ∷ []) after_previous l.1 ∙ ap (λ (o : Option Point). unwrap_or o after_previous) (added-there after_previous.line l.0),
+        )
       ]
 
       pub added-shown : stands_before (shown bytes (resumed (skips ++ q ∷ []) after_previous)) (shown bytes (resumed skips after_previous)) ≡ false
@@ -365,11 +334,10 @@ module _ (t : ℕ) (bytes : List ℕ) (d : 0 < t) where
   further p e a b upto (s ∷ ss) h =
       let c = subst (λ (xs : List Seat). IsChain t bytes (shown bytes e) (xs ++ rest_at t bytes p)) h (way-chain t bytes d e p b a upto) in
       let ends : shown bytes p ≡ end_after s.end ss = way-ends t bytes d e p b a upto ∙ ap (end_after (shown bytes e)) h in
-      let f = λ (r : Seat). stands_before r.point p in
-      let after = λ (r : Seat). (stands_before r.point e ≡ false) × (f r ≡ true) in
-      let later = subst (AllByRecursion after) h (every-kept (λ r. stands_before r.point e ≡ false) f (rest_at t bytes e) (rest-later t bytes e)) in
+      let after = λ (r : Seat). stands_before r.point e ≡ false in
+      let later = subst (AllByRecursion after) h (every-kept after after (λ r. stands_before r.point p) (λ r k l. k) (rest_at t bytes e) (rest-later t bytes e)) in
       let q = end_after s.end ss in
-      let passes = upto-before e.index e.vs s.point.index s.point.vs s.end.index s.end.vs later.0.0 c.1.ends in
+      let passes = upto-before e.index e.vs s.point.index s.point.vs s.end.index s.end.vs later.0 c.1.ends in
       inr (ap (stands_before e) ends ∙ before-upto e.index e.vs s.end.index s.end.vs q.index q.vs passes (chain-upto t bytes s.end ss (rest_at t bytes p) c.2))
 
   pub other-before : (p e : Point) → IsPlace t bytes p → IsPlace t bytes e → stands_before e p ≡ true → denotes_same t bytes p e ≡ false → stands_before e (shown bytes p) ≡ true

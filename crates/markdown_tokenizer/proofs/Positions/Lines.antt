@@ -1,5 +1,5 @@
 -- Places in lines and columns, and the virtual bytes between two places.
-use Rattle.markdown_tokenizer.proofs.Prelude.{AllByRecursion, ◌≡◌, ℕ, suc, ◌≤◌, ◌<◌, ◌==◌, List, [], ◌∷◌, ◌++◌, Bool, true, false, cond, refl, sym, ap, ◌∙◌, subst, arith, append_assoc, ◌⊎◌, inl, inr, filter, nat_lt, ◌&&◌, ◌||◌, nat_tests, filter-append, append-nil, append_cancel_left, Point, Seat, point, end_after, stands_before, shown, is_upto, denotes_same, every-map, end-after-append, rest_at, IsPlace, goes_on, end_at}
+use Rattle.markdown_tokenizer.proofs.Prelude.{AllByRecursion, ◌≡◌, ℕ, suc, ◌≤◌, ◌<◌, ◌==◌, List, [], ◌∷◌, ◌++◌, Bool, true, false, refl, sym, ap, ◌∙◌, subst, arith, append_assoc, cases_lt, ◌⊎◌, inl, inr, filter, nat_lt, ◌&&◌, ◌||◌, nat_tests, filter-append, append-nil, append_cancel_left, Point, Seat, point, virtual, end_after, stands_before, shown, is_upto, denotes_same, every-map, end-after-append, rest_at, IsPlace, goes_on, end_at}
 use Rattle.markdown_tokenizer.proofs.Positions.Order.{later-later, before-self, before-upto, after-before, below-before, more-before, every-both, every-all, filter-every}
 use Rattle.markdown_tokenizer.proofs.Positions.Chains.{Begins, IsChain, whole-chain}
 use Rattle.markdown_tokenizer.proofs.Positions.Standing.{chain-split, chain-upto}
@@ -19,19 +19,16 @@ end_at-lies t byte p false false e f = rw (e, f) (more-before p.line p.column)
 lies-like : (p q r : Point) → p.line ≡ q.line → p.column ≡ q.column → lies_before p r ≡ lies_before q r
 lies-like p q r e f = rw (e, f) refl
 
-pub lies-alike : (r p q : Point) → p.line ≡ q.line → p.column ≡ q.column → lies_before r p ≡ lies_before r q
-lies-alike r p q e f = rw (e, f) refl
+-- a place lies where it is shown
+pub lies-shown : (bytes : List ℕ) (r p : Point) → lies_before r p ≡ lies_before r (shown bytes p)
+lies-shown bytes r p = rw (shown-line bytes p, shown-column bytes p) refl
 
 not-lies : (p q : Point) → p.line ≡ q.line → p.column ≡ q.column → lies_before p q ≡ false
 not-lies p q e f = rw (e, f) (before-self q.line q.column)
 
-lies-numbers : (k l m n : ℕ) (b : Bool) → nat_lt k m ≡ b → (nat_lt k m || ((k == m) && nat_lt l n)) ≡ true → (k < m) ⊎ ((k ≡ m) × (l < n))
-lies-numbers k l m n true e h = inl (grind (arith, nat_tests))
-lies-numbers k l m n false e h = inr (grind (arith, nat_tests), grind (arith, nat_tests))
-
 -- in a later line, or in a later column of the line
 pub lies-later : (p q : Point) → lies_before p q ≡ true → (p.line < q.line) ⊎ ((p.line ≡ q.line) × (p.column < q.column))
-lies-later p q h = lies-numbers p.line p.column q.line q.column (nat_lt p.line q.line) refl h
+lies-later p q h = elim (cases_lt p.line q.line) [ inl l ↦ inl l | inr g ↦ inr (grind (arith, nat_tests), grind (arith, nat_tests)) ]
 
 lies-in-numbers : (i j k l m n : ℕ) → (nat_lt k i || ((k == i) && nat_lt l j)) ≡ false → (nat_lt k m || ((k == m) && nat_lt l n)) ≡ true → (i ≤ k) × (k ≤ m) × (k ≡ i → j ≤ l)
 lies-in-numbers i j k l m n h g = (grind (arith, nat_tests), grind (arith, nat_tests), λ e. grind (arith, nat_tests))
@@ -43,21 +40,6 @@ LiesIn p q s = (lies_before s.point p ≡ false) × (lies_before s.point q ≡ t
 -- so its line is between theirs
 abbrev pub StandsBetween : Point → Point → Seat → Type 0
 StandsBetween p q s = (p.line ≤ s.point.line) × (s.point.line ≤ q.line) × (s.point.line ≡ p.line → p.column ≤ s.point.column)
-
-every-unfilter : (P : Seat → Type 0) (f : Seat → Bool) (xs : List Seat) → AllByRecursion P (filter f xs) → AllByRecursion (λ s. f s ≡ true → P s) xs
-every-unfilter P f [] h = tt
-every-unfilter P f (x ∷ xs) h = elim (f x) as (λ b. (f x ≡ b) → AllByRecursion P (cond b (x ∷ filter f xs) (filter f xs)) → AllByRecursion (λ s. f s ≡ true → P s) (x ∷ xs)) [
-  | true ↦ λ e k. (λ g. k.0, every-unfilter P f xs k.1)
-  | false ↦ λ e k. (λ g. absurd (cc), every-unfilter P f xs k)
-] refl h
-
--- what a filter keeps passes it
-pub every-kept : (P : Seat → Type 0) (f : Seat → Bool) (xs : List Seat) → AllByRecursion P xs → AllByRecursion (λ s. P s × (f s ≡ true)) (filter f xs)
-every-kept P f [] h = tt
-every-kept P f (x ∷ xs) h = elim (f x) as (λ b. (f x ≡ b) → AllByRecursion (λ s. P s × (f s ≡ true)) (cond b (x ∷ filter f xs) (filter f xs))) [
-  | true ↦ λ e. ((h.0, e), every-kept P f xs h.1)
-  | false ↦ λ e. every-kept P f xs h.1
-] refl
 
 -- each of many facts holds of each element
 pub every-for : {A : Type 0} {X : Type 0} (P : X → A → Type 0) (xs : List A) → ((x : X) → AllByRecursion (P x) xs) → AllByRecursion (λ a. (x : X) → P x a) xs
@@ -113,10 +95,15 @@ module _ (t : ℕ) (bytes : List ℕ) where
         sym (place-before t bytes b second) ∙ ap (filter f) first.splits ∙ filter-append f first.before (rest_at t bytes a)
         ∙ ap (λ (xs : List Seat). xs ++ left_of t bytes a b) (filter-every f first.before (every-both (λ s. stands_before s.point a ≡ true) (Leads a b) (λ s. f s ≡ true) (λ s h k. k h) first.before first.behind leads.0))
 
+    way-splits : virtual t bytes ≡ first.before ++ (left_of t bytes a b ++ rest_at t bytes b)
+    way-splits = second.splits ∙ ap (λ (xs : List Seat). xs ++ rest_at t bytes b) before-grows ∙ append_assoc first.before (left_of t bytes a b) (rest_at t bytes b)
+
+    pub way-rest : rest_at t bytes a ≡ left_of t bytes a b ++ rest_at t bytes b
+    way-rest = append_cancel_left first.before (rest_at t bytes a) (left_of t bytes a b ++ rest_at t bytes b) (sym first.splits ∙ way-splits)
+
     pub way-chain : IsChain t bytes (shown bytes a) (left_of t bytes a b ++ rest_at t bytes b)
     way-chain =
-        let whole = second.splits ∙ ap (λ (xs : List Seat). xs ++ rest_at t bytes b) before-grows ∙ append_assoc first.before (left_of t bytes a b) (rest_at t bytes b) in
-        let c = chain-split t bytes (point 1 1 0 0) first.before (left_of t bytes a b ++ rest_at t bytes b) (subst (IsChain t bytes (point 1 1 0 0)) whole (whole-chain t bytes d)) in
+        let c = chain-split t bytes (point 1 1 0 0) first.before (left_of t bytes a b ++ rest_at t bytes b) (subst (IsChain t bytes (point 1 1 0 0)) way-splits (whole-chain t bytes d)) in
         subst (λ (p : Point). IsChain t bytes p (left_of t bytes a b ++ rest_at t bytes b)) (sym first.stands) c
 
     pub way-ends : shown bytes b ≡ end_after (shown bytes a) (left_of t bytes a b)
@@ -131,32 +118,12 @@ module _ (t : ℕ) (bytes : List ℕ) where
         (ap (λ (xs : List Seat). xs ++ rest_at t bytes b) (sym same) ∙ sym second.splits ∙ first.splits) in
         upto-same t bytes a b upto (rest-upto t bytes a b first rest)
 
-    lies-shown : lies_before (shown bytes a) (shown bytes b) ≡ lies_before a b
-    lies-shown = rw (shown-line bytes a, shown-line bytes b, shown-column bytes a, shown-column bytes b) refl
-
-    way-cases : (mid : List Seat) → left_of t bytes a b ≡ mid → (denotes_same t bytes a b ≡ true) ⊎ (lies_before a b ≡ true)
+    way-cases : (mid : List Seat) → left_of t bytes a b ≡ mid → (denotes_same t bytes a b ≡ true) ⊎ ((a.line < b.line) ⊎ ((a.line ≡ b.line) × (a.column < b.column)))
     way-cases [] e = inl (way-none e)
     way-cases (s ∷ ss) e =
         let c = subst (λ (xs : List Seat). IsChain t bytes (shown bytes a) (xs ++ rest_at t bytes b)) e way-chain in
         let ends : shown bytes b ≡ end_after s.end ss = way-ends ∙ ap (end_after (shown bytes a)) e in
-        inr (sym lies-shown ∙ ap (lies_before (shown bytes a)) ends ∙ chain-passes (shown bytes a) s ss (rest_at t bytes b) c)
-
-    -- it denotes the same, or lies in a later line or a later column
-    pub upto-lies : (denotes_same t bytes a b ≡ true) ⊎ (lies_before a b ≡ true)
-    upto-lies = way-cases (left_of t bytes a b) refl
-
-    between-upto : (s : Seat) → lies_before s.point (shown bytes a) ≡ false → lies_before s.point a ≡ false
-    between-upto s h = lies-alike s.point a (shown bytes a) (sym (shown-line bytes a)) (sym (shown-column bytes a)) ∙ h
-
-    between-below : (s : Seat) → lies_before s.point (end_after (shown bytes a) (left_of t bytes a b)) ≡ true → lies_before s.point b ≡ true
-    between-below s h = lies-alike s.point b (shown bytes b) (sym (shown-line bytes b)) (sym (shown-column bytes b)) ∙ ap (lies_before s.point) way-ends ∙ h
-
-    -- their places are between the two
-    pub between-lies : AllByRecursion (LiesIn a b) (left_of t bytes a b)
-    between-lies =
-        let p = shown bytes a in
-        let q = end_after p (left_of t bytes a b) in
-        every-map (LiesIn p q) (LiesIn a b) (λ s h. (between-upto s h.0, between-below s h.1)) (left_of t bytes a b) (chain-between p (left_of t bytes a b) (rest_at t bytes b) way-chain)
+        inr (lies-later a b (lies-like a (shown bytes a) b (sym (shown-line bytes a)) (sym (shown-column bytes a)) ∙ lies-shown bytes (shown bytes a) b ∙ ap (lies_before (shown bytes a)) ends ∙ chain-passes (shown bytes a) s ss (rest_at t bytes b) c))
 
     -- it is not shown before the first
     pub upto-shown : stands_before (shown bytes b) (shown bytes a) ≡ false
@@ -164,11 +131,13 @@ module _ (t : ℕ) (bytes : List ℕ) where
 
     -- it denotes the same, or its line is later, or its column is in the same line
     pub places-rise : (denotes_same t bytes a b ≡ true) ⊎ ((a.line < b.line) ⊎ ((a.line ≡ b.line) × (a.column < b.column)))
-    places-rise = elim upto-lies [ inl h ↦ inl h | inr h ↦ inr (lies-later a b h) ]
+    places-rise = way-cases (left_of t bytes a b) refl
 
+    -- the places between the two are in lines between theirs
     pub seats-between : AllByRecursion (StandsBetween a b) (left_of t bytes a b)
-    seats-between = every-map (LiesIn a b) (StandsBetween a b) (λ s h. lies-in-numbers a.line a.column s.point.line s.point.column b.line b.column h.0 h.1) (left_of t bytes a b) between-lies
-
-    -- said of what is left at the first place
-    pub seats-rise : AllByRecursion (λ s. stands_before s.point b ≡ true → StandsBetween a b s) (rest_at t bytes a)
-    seats-rise = every-unfilter (StandsBetween a b) (λ s. stands_before s.point b) (rest_at t bytes a) seats-between
+    seats-between =
+        let p = shown bytes a in
+        let q = end_after p (left_of t bytes a b) in
+        every-map (LiesIn p q) (StandsBetween a b)
+        (λ s h. lies-in-numbers a.line a.column s.point.line s.point.column b.line b.column (lies-shown bytes s.point a ∙ h.0) (lies-shown bytes s.point b ∙ ap (lies_before s.point) way-ends ∙ h.1))
+        (left_of t bytes a b) (chain-between p (left_of t bytes a b) (rest_at t bytes b) way-chain)

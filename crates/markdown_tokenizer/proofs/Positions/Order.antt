@@ -70,3 +70,11 @@ filter-every f (x ∷ xs) h = let e = h.0 in rw e (ap (λ (ys : List _). x ∷ y
 pub filter-same : {A : Type 0} (f g : A → Bool) (xs : List A) → AllByRecursion (λ x. f x ≡ g x) xs → filter f xs ≡ filter g xs
 filter-same f g [] h = refl
 filter-same f g (x ∷ xs) h = let e = h.0 in rw e (ap (λ (ys : List _). cond (g x) (x ∷ ys) ys) (filter-same f g xs h.1))
+
+-- what a test that passes adds to what holds of each element holds of each that a filter keeps
+pub every-kept : {A : Type 0} (P Q : A → Type 0) (f : A → Bool) → ((x : A) → P x → f x ≡ true → Q x) → (xs : List A) → AllByRecursion P xs → AllByRecursion Q (filter f xs)
+every-kept P Q f h [] k = tt
+every-kept P Q f h (x ∷ xs) k = elim (f x) as (λ b. (f x ≡ b) → AllByRecursion Q (cond b (x ∷ filter f xs) (filter f xs))) [
+  | true ↦ λ e. (h x k.0 e, every-kept P Q f h xs k.1)
+  | false ↦ λ e. every-kept P Q f h xs k.1
+] refl

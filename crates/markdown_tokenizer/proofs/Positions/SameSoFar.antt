@@ -1,5 +1,5 @@
 -- A walk over the text decides whether two places denote the same: the bytes so far are before both or before neither.
-use Rattle.markdown_tokenizer.proofs.Prelude.{◌≡◌, ℕ, ◌<◌, List, [], ◌∷◌, ◌++◌, Bool, true, false, refl, sym, ap, ◌∙◌, subst, AllByRecursion, append-nil, Point, Seat, virtual, stands_before, denotes_same, every-map, every-append, rest_at, IsPlace, IsSeatAt}
+use Rattle.markdown_tokenizer.proofs.Prelude.{◌≡◌, ℕ, ◌<◌, List, [], ◌∷◌, ◌++◌, true, false, refl, sym, ap, ◌∙◌, subst, AllByRecursion, append-nil, Point, Seat, virtual, stands_before, denotes_same, every-map, every-append, rest_at, IsPlace, IsSeatAt}
 use Rattle.markdown_tokenizer.proofs.Positions.Cursors.{Leads, leads-upto, upto-same, same-before}
 use Rattle.markdown_tokenizer.proofs.Positions.Order.{every-back}
 use Rattle.markdown_tokenizer.proofs.Positions.Walks.{IsWalk, walk-place, walk-next}
@@ -20,11 +20,10 @@ module _ (t : ℕ) (bytes : List ℕ) (p q : Point) where
       (leads-upto t bytes q p (every-map (IsAlike p q) (Leads q p) (λ s e b. e ∙ b) (virtual t bytes) h))
 
   one-other : (front : List Seat) (s : Seat) (back : List Seat) → virtual t bytes ≡ front ++ s ∷ back → ¬ IsAlike p q s → denotes_same t bytes p q ≡ false
-  one-other front s back e other = go (denotes_same t bytes p q) refl
-    where
-      go : (b : Bool) → denotes_same t bytes p q ≡ b → b ≡ false
-      go false h = refl
-      go true h = absurd (other ((every-back (IsAlike p q) front (s ∷ back) (subst (AllByRecursion (IsAlike p q)) e (same-before t bytes p q h))).0))
+  one-other front s back e other = elim (denotes_same t bytes p q) as (λ b. denotes_same t bytes p q ≡ b → b ≡ false) [
+    | false ↦ λ h. refl
+    | true ↦ λ h. absurd (other ((every-back (IsAlike p q) front (s ∷ back) (subst (AllByRecursion (IsAlike p q)) e (same-before t bytes p q h))).0))
+  ] refl
 
   module _ (d : 0 < t) (from : Point) (so_far : IsAlikeSoFar t bytes p q from) where
     pub alike-place : IsPlace t bytes from
@@ -32,7 +31,8 @@ module _ (t : ℕ) (bytes : List ℕ) (p q : Point) where
 
     pub alike-ended : rest_at t bytes from ≡ [] → denotes_same t bytes p q ≡ true
     alike-ended e =
-        all-alike (subst (AllByRecursion (IsAlike p q)) (sym (so_far.walk.splits ∙ ap (λ (ys : List Seat). so_far.passed ++ ys) e ∙ append-nil so_far.passed)) so_far.alike)
+        let all = so_far.walk.splits ∙ ap (λ (ys : List Seat). so_far.passed ++ ys) e ∙ append-nil so_far.passed in
+        all-alike (subst (AllByRecursion (IsAlike p q)) (sym all) so_far.alike)
 
     module _ (seat : Seat) (n : IsSeatAt t bytes from seat) where
       pub alike-other : ¬ IsAlike p q seat → denotes_same t bytes p q ≡ false

@@ -1,13 +1,10 @@
 -- The virtual byte at a place, read from the bytes.
-use Rattle.markdown_tokenizer.proofs.Prelude.{AllByRecursion, ◌≡◌, ◌≢◌, ℕ, zero, suc, ◌+◌, ◌-◌, ◌≤◌, ◌<◌, ◌==◌, List, [], ◌∷◌, ◌++◌, Bool, true, false, cond, length, drop, Some, ◌⊎◌, inl, inr, refl, sym, ap, ◌∙◌, arith, drop-cons, add-one, rules, slice_index, nat_lt, ◌&&◌, drop_all, ltb-true, lt-ltb, eqb-true, and_parts, nat_tests, mod-lt, Point, Seat, point, tab_width, in_tab, end_in_tab, virtual_from, begins_with_lf, stands_before, every-map, every-append, rest_at, begins_pair, IsSeatAt, IsNextSeat}
+use Rattle.markdown_tokenizer.proofs.Prelude.{AllByRecursion, ◌≡◌, ◌≢◌, ℕ, zero, suc, ◌+◌, ◌-◌, ◌≤◌, ◌<◌, ◌==◌, List, [], ◌∷◌, ◌++◌, Bool, true, false, cond, length, drop, Some, ◌⊎◌, inl, inr, refl, sym, ap, ◌∙◌, arith, drop-cons, add-one, rules, slice_index, nat_lt, ◌&&◌, drop_all, ltb-true, lt-ltb, eqb-true, cases_lt, and_parts, nat_tests, mod-lt, Point, Seat, point, tab_width, in_tab, end_in_tab, virtual_from, begins_with_lf, stands_before, every-map, every-append, rest_at, begins_pair, IsSeatAt, IsNextSeat}
 use Rattle.markdown_tokenizer.proofs.Positions.Order.{every-cond, not-before, not-before-in, above-later, before-self, eq-zero, is-not, not-number}
 
 -- seats from an index on
 abbrev FromIndex : ℕ → Seat → Type 0
 FromIndex i s = i ≤ s.point.index
-
-from-later : (i : ℕ) (xs : List Seat) → AllByRecursion (FromIndex (suc i)) xs → AllByRecursion (FromIndex i) xs
-from-later i xs h = every-map (FromIndex (suc i)) (FromIndex i) (λ s k. omega (arith, k)) xs h
 
 pub tab-index : (byte n line column index vs : ℕ) → AllByRecursion (λ s. (s.point.index ≡ index) × (vs ≤ s.point.vs)) (in_tab byte n line column index vs)
 tab-index byte zero line column index vs = tt
@@ -19,7 +16,7 @@ virtual-index t line column index [] = tt
 virtual-index t line column index (b ∷ bs) =
     let P = FromIndex index in
     let here : index ≤ index = omega arith in
-    let next = λ (l m : ℕ). from-later index (virtual_from t l m (suc index) bs) (virtual-index t l m (suc index) bs) in
+    let next = λ (l m : ℕ). every-map (FromIndex (suc index)) P (λ s k. omega (arith, k)) (virtual_from t l m (suc index) bs) (virtual-index t l m (suc index) bs) in
     every-cond P (b == 10) _ _ (here, next (suc line) 1)
     (every-cond P (b == 13) _ _ (every-cond P (begins_with_lf bs) _ _ (next line column) (here, next (suc line) 1))
     (every-cond P (b == 9) _ _
@@ -43,6 +40,19 @@ rest-later t bytes p = rest-later-at t bytes p (p.vs == 0) refl
 
 pub drop-at : (bytes : List ℕ) (i : ℕ) → i < length bytes → drop i bytes ≡ slice_index bytes i ∷ drop (suc i) bytes
 drop-at bytes i h = drop-cons bytes i 0 h
+
+-- the first of what is left at an index is the byte there
+pub drop-first : (i : ℕ) (bytes : List ℕ) (b : ℕ) (bs : List ℕ) → drop i bytes ≡ b ∷ bs → (i < length bytes) × (slice_index bytes i ≡ b) × (drop (suc i) bytes ≡ bs)
+drop-first zero [] b bs e = absurd (cc)
+drop-first zero (x ∷ xs) b bs e = (omega arith, (cc), (cc))
+drop-first (suc i) [] b bs e = absurd (cc)
+drop-first (suc i) (x ∷ xs) b bs e = let h = drop-first i xs b bs e in (omega (arith, h.0), h.1, h.2)
+
+-- what is left at an index does not begin with LF, so no LF is there
+pub no-lf-there : (i : ℕ) (bytes bs : List ℕ) → drop i bytes ≡ bs → begins_with_lf bs ≡ false → slice_index bytes i ≢ 10
+no-lf-there i [] bs e f = λ k. absurd (omega arith)
+no-lf-there zero (x ∷ xs) bs e f = is-not x 10 (ap begins_with_lf e ∙ f)
+no-lf-there (suc i) (x ∷ xs) bs e f = no-lf-there i xs bs e f
 
 tab-tail : (byte n line column index vs : ℕ) → 0 < n → (end : Point) × (after : List Seat) × (in_tab byte n line column index vs ≡ record { byte = byte; point = point line column index vs; end = end } ∷ after)
 tab-tail byte zero line column index vs h = absurd (omega arith)
@@ -128,20 +138,14 @@ seat-crlf t bytes p h i cr lf =
 
 pub seat-other : (t : ℕ) (bytes : List ℕ) (p : Point) → 0 < t → p.vs ≡ 0 → p.index < length bytes → slice_index bytes p.index ≢ 13 → IsNextSeat t bytes p (Some (slice_index bytes p.index, p))
 seat-other t bytes p d h i ne =
-    let s = seat-plain t bytes p (slice_index bytes p.index) d h i refl (λ k. absurd (ne k)) in rw (not-number (slice_index bytes p.index) 13 ne) at s
-
-no-lf-at : (bytes : List ℕ) (i : ℕ) (b : Bool) → nat_lt i (length bytes) ≡ b → (i < length bytes → slice_index bytes i ≢ 10) → begins_with_lf (drop i bytes) ≡ false
-no-lf-at bytes i true e alone =
-    let l = ltb-true i (length bytes) e in
-    let is = drop-at bytes i l in
-    let no = not-number (slice_index bytes i) 10 (alone l) in
-    rw is no
-no-lf-at bytes i false e alone =
-    let past : length bytes ≤ i = grind (arith, nat_tests) in
-    let none : drop i bytes ≡ [] = drop_all i bytes past in rw none refl
+    let e = not-number (slice_index bytes p.index) 13 ne in
+    let s = seat-plain t bytes p (slice_index bytes p.index) d h i refl (λ k. absurd (ne k)) in rw e at s
 
 no-lf : (bytes : List ℕ) (i : ℕ) → (i < length bytes → slice_index bytes i ≢ 10) → begins_with_lf (drop i bytes) ≡ false
-no-lf bytes i alone = no-lf-at bytes i (nat_lt i (length bytes)) refl alone
+no-lf [] zero alone = refl
+no-lf [] (suc i) alone = refl
+no-lf (b ∷ bs) zero alone = not-number b 10 (alone (omega arith))
+no-lf (b ∷ bs) (suc i) alone = no-lf bs i (λ l. alone (omega arith))
 
 pub seat-cr : (t : ℕ) (bytes : List ℕ) (p : Point) → 0 < t → p.vs ≡ 0 → p.index < length bytes → slice_index bytes p.index ≡ 13 → (p.index + 1 < length bytes → slice_index bytes (p.index + 1) ≢ 10) → IsNextSeat t bytes p (Some (10, p))
 seat-cr t bytes p d h i cr alone = seat-plain t bytes p 13 d h i cr (λ k. no-lf bytes (suc p.index) (λ l e. alone (omega arith) (rw add-one e)))
@@ -149,10 +153,6 @@ seat-cr t bytes p d h i cr alone = seat-plain t bytes p 13 d h i cr (λ k. no-lf
 -- the next virtual byte is one
 pub one-seat : (t : ℕ) (bytes : List ℕ) (p : Point) (a b : Seat) → IsSeatAt t bytes p a → IsSeatAt t bytes p b → a ≡ b
 one-seat t bytes p a b h k = let e : a ∷ h.after ≡ b ∷ k.after = sym h.is ∙ k.is in cc
-
-and-no : (a b : Bool) → b ≡ false → (a && b) ≡ false
-and-no true b e = e
-and-no false b e = refl
 
 -- a CR LF begins at an index
 pub pair-is : (bytes : List ℕ) (i : ℕ) → begins_pair bytes i ≡ true → (i + 1 < length bytes) × (slice_index bytes i ≡ 13) × (slice_index bytes (i + 1) ≡ 10)
@@ -177,41 +177,28 @@ module _ (t : ℕ) (bytes : List ℕ) (p : Point) (seat : Seat) (d : 0 < t) (tab
   same-seat : (byte : ℕ) (q : Point) → IsNextSeat t bytes p (Some (byte, q)) → (seat.byte ≡ byte) × (seat.point ≡ q)
   same-seat byte q s = let e = one-seat t bytes p seat (record { byte = byte; point = q; end = s.0 }) n s.1 in (ap (λ (r : Seat). r.byte) e, ap (λ (r : Seat). r.point) e)
 
-  within-at : p.vs ≡ 0 → (b : Bool) → nat_lt p.index (length bytes) ≡ b → p.index < length bytes
-  within-at h true e = ltb-true p.index (length bytes) e
-  within-at h false e =
-      let past : length bytes ≤ p.index = grind (arith, nat_tests) in
-      let f = sym (seat-none t bytes p h past) ∙ n.is in absurd cc
-
   within-bytes : p.vs ≡ 0 → p.index < length bytes
-  within-bytes h = within-at h (nat_lt p.index (length bytes)) refl
+  within-bytes h = elim (cases_lt p.index (length bytes)) [ inl l ↦ l | inr past ↦ (let f = sym (seat-none t bytes p h past) ∙ n.is in absurd cc) ]
 
-  -- by whether a byte follows, and whether that is LF
-  there-cr : p.vs ≡ 0 → slice_index bytes p.index ≡ 13 → (b c : Bool) → nat_lt (p.index + 1) (length bytes) ≡ b → (slice_index bytes (p.index + 1) == 10) ≡ c → StandsThere bytes p seat
-  there-cr h cr true true e f =
-      let l = ltb-true (p.index + 1) (length bytes) e in
-      let lf = eqb-true (slice_index bytes (p.index + 1)) 10 f in
-      let s = same-seat 10 (point p.line p.column (suc p.index) p.vs) (seat-crlf t bytes p h (rw add-one at l) cr (rw add-one at lf)) in
-      inr (rw (e, cr, f) refl, s.0, s.1)
-  there-cr h cr true false e f =
-      let s = same-seat 10 p (seat-cr t bytes p d h (within-bytes h) cr (λ l. is-not (slice_index bytes (p.index + 1)) 10 f)) in
-      inl (s.1, λ _. rw (e, cr, f) refl)
-  there-cr h cr false c e f =
-      let past : length bytes ≤ p.index + 1 = grind (arith, nat_tests) in
-      let s = same-seat 10 p (seat-cr t bytes p d h (within-bytes h) cr (λ l. absurd (omega arith))) in
-      inl (s.1, λ _. rw e refl)
-
-  -- by whether the place is in a tab, and whether a CR is there
-  there-at : (b c : Bool) → (p.vs == 0) ≡ b → (slice_index bytes p.index == 13) ≡ c → StandsThere bytes p seat
-  there-at true true e f = there-cr (eqb-true p.vs 0 e) (eqb-true (slice_index bytes p.index) 13 f) (nat_lt (p.index + 1) (length bytes)) (slice_index bytes (p.index + 1) == 10) refl refl
-  there-at true false e f =
+  -- by whether the place is in a tab, whether a CR is there, and whether a CR LF begins there
+  there-at : (b c w : Bool) → (p.vs == 0) ≡ b → (slice_index bytes p.index == 13) ≡ c → begins_pair bytes p.index ≡ w → StandsThere bytes p seat
+  there-at true c true e f g =
+      let pair = pair-is bytes p.index g in
+      let s = same-seat 10 (point p.line p.column (suc p.index) p.vs) (seat-crlf t bytes p (eqb-true p.vs 0 e) (rw add-one at pair.0) pair.1 (rw add-one at pair.2)) in
+      inr (g, s.0, s.1)
+  there-at true true false e f g =
+      let h = eqb-true p.vs 0 e in
+      let cr = eqb-true (slice_index bytes p.index) 13 f in
+      let s = same-seat 10 p (seat-cr t bytes p d h (within-bytes h) cr (no-pair-is bytes p.index cr g)) in
+      inl (s.1, λ _. g)
+  there-at true false false e f g =
       let h = eqb-true p.vs 0 e in
       let s = same-seat (slice_index bytes p.index) p (seat-other t bytes p d h (within-bytes h) (is-not (slice_index bytes p.index) 13 f)) in
-      inl (s.1, λ _. and-no (nat_lt (p.index + 1) (length bytes)) ((slice_index bytes p.index == 13) && (slice_index bytes (p.index + 1) == 10)) (rw f refl))
-  there-at false c e f =
+      inl (s.1, λ _. g)
+  there-at false c w e f g =
       let h : 0 < p.vs = grind (arith, nat_tests) in
       let s = same-seat 32 p (seat-in-tab t bytes p d h (tab h)) in
       inl (s.1, λ b. let g = sym s.0 ∙ b in absurd cc)
 
   pub stands-there : StandsThere bytes p seat
-  stands-there = there-at (p.vs == 0) (slice_index bytes p.index == 13) refl refl
+  stands-there = there-at (p.vs == 0) (slice_index bytes p.index == 13) (begins_pair bytes p.index) refl refl refl

@@ -1,11 +1,11 @@
 -- Places of a document: where each virtual byte begins, is shown and ends, and what is left there.
-use Rattle.markdown_tokenizer.proofs.Prelude.{AllByRecursion, ◌≡◌, ◌≢◌, ℕ, zero, suc, ◌+◌, ◌-◌, ◌<◌, ◌==◌, List, [], ◌∷◌, ◌++◌, Bool, true, false, cond, refl, sym, ap, ◌∙◌, subst, arith, append_assoc, inl, inr, slice_index, nat_lt, ◌&&◌, ◌||◌, Contains, flat_map, nat_tests, append-nil, Contains-append_cases, eqb-true, Point, Seat, point, virtual, end_after, document_end, stands_before, shown, follows_cr, IsShown, IsPointOf, every-map, end-after-one, rest_at, IsPlace, IsSeatAt, begins_pair, goes_on, end_at, points, flat_map-append}
+use Rattle.markdown_tokenizer.proofs.Prelude.{AllByRecursion, ◌≡◌, ◌≢◌, ℕ, zero, suc, ◌+◌, ◌-◌, ◌<◌, ◌==◌, List, [], ◌∷◌, ◌++◌, Bool, true, false, cond, refl, sym, ap, ◌∙◌, subst, arith, append_assoc, inl, inr, slice_index, ◌&&◌, Contains, flat_map, nat_tests, append-nil, eqb-true, Point, Seat, point, virtual, end_after, document_end, stands_before, shown, follows_cr, IsShown, IsPointOf, every-map, every-append, end-after-one, rest_at, IsPlace, IsSeatAt, begins_pair, goes_on, end_at}
 use Rattle.markdown_tokenizer.proofs.Positions.Order.{not-number, before-self, later-later, after-before, before-upto}
 use Rattle.markdown_tokenizer.proofs.Positions.Seats.{StandsThere, stands-there}
 use Rattle.markdown_tokenizer.proofs.Positions.Chains.{IsAt, Begins, IsChain, whole-chain, shown-other}
 
-point-of-numbers : (a b c d e f : ℕ) → a ≡ b → d ≡ e → point a c d f ≡ point b c e f
-point-of-numbers a b c d e f h k = rw (h, k) refl
+pub same-numbers : (a b c d e f g h : ℕ) → a ≡ e → b ≡ f → c ≡ g → d ≡ h → point a b c d ≡ point e f g h
+same-numbers a b c d e f g h p q r s = rw (p, q, r, s) refl
 
 module _ (t : ℕ) (bytes : List ℕ) where
   pub chain-at : (p : Point) (xs : List Seat) → IsChain t bytes p xs → IsAt t bytes p xs
@@ -21,8 +21,9 @@ module _ (t : ℕ) (bytes : List ℕ) where
   chain-upto p [] ys c = before-self p.index p.vs
   chain-upto p (s ∷ ss) ys c =
       let q = end_after s.end ss in
+      let after = after-before s.point.index s.point.vs s.end.index s.end.vs c.1.ends in
       later-later q.index q.vs s.end.index s.end.vs p.index p.vs (chain-upto s.end ss ys c.2)
-      (later-later s.end.index s.end.vs s.point.index s.point.vs p.index p.vs (after-before s.point.index s.point.vs s.end.index s.end.vs c.1.ends) c.1.later)
+      (later-later s.end.index s.end.vs s.point.index s.point.vs p.index p.vs after c.1.later)
 
   chain-behind : (p : Point) (xs ys : List Seat) → IsChain t bytes p (xs ++ ys) → AllByRecursion (λ s. stands_before s.point (end_after p xs) ≡ true) xs
   chain-behind p [] ys c = tt
@@ -30,26 +31,19 @@ module _ (t : ℕ) (bytes : List ℕ) where
       let q = end_after s.end ss in
       (before-upto s.point.index s.point.vs s.end.index s.end.vs q.index q.vs c.1.ends (chain-upto s.end ss ys c.2), chain-behind s.end ss ys c.2)
 
-  back-upto : (i v : ℕ) → (nat_lt i (i - 1) || ((i == i - 1) && nat_lt v v)) ≡ false
-  back-upto i v = grind (arith, nat_tests)
-
-  shown-upto-at : (p : Point) (b : Bool) → stands_before p (cond b (record { line = p.line; column = p.column; index = p.index - 1; vs = p.vs }) p) ≡ false
-  shown-upto-at p true = back-upto p.index p.vs
-  shown-upto-at p false = before-self p.index p.vs
-
   -- a place is not before where it is shown
   pub shown-upto : (p : Point) → stands_before p (shown bytes p) ≡ false
-  shown-upto p = shown-upto-at p ((slice_index bytes p.index == 10) && follows_cr bytes p.index)
-
-  not-both : (n : ℕ) → n ≡ 13 → n ≡ 10 → ⊥
-  not-both n e f = absurd (omega arith)
+  shown-upto p = elim ((slice_index bytes p.index == 10) && follows_cr bytes p.index) as (λ b. stands_before p (cond b (point p.line p.column (p.index - 1) p.vs) p) ≡ false) [
+    | true ↦ grind (arith, nat_tests)
+    | false ↦ before-self p.index p.vs
+  ]
 
   follows-back : (i : ℕ) → follows_cr bytes i ≡ true → slice_index bytes (i - 1) ≢ 10
   follows-back zero e = absurd (cc)
   follows-back (suc i) e =
-      let cr = eqb-true (slice_index bytes i) 13 e in
+      let cr : slice_index bytes i ≡ 13 = eqb-true (slice_index bytes i) 13 e in
       let back : suc i - 1 ≡ i = omega arith in
-      λ k. not-both (slice_index bytes i) cr (ap (slice_index bytes) (sym back) ∙ k)
+      λ k. let lf : slice_index bytes i ≡ 10 = ap (slice_index bytes) (sym back) ∙ k in absurd (omega arith)
 
   shown-again : (p : Point) (b c : Bool) → (slice_index bytes p.index == 10) ≡ b → follows_cr bytes p.index ≡ c → IsShown bytes (shown bytes p)
   shown-again p true true e f =
@@ -62,15 +56,6 @@ module _ (t : ℕ) (bytes : List ℕ) where
   -- the place at which a place is shown is shown at itself
   pub shown-shown : (p : Point) → IsShown bytes (shown bytes p)
   shown-shown p = shown-again p (slice_index bytes p.index == 10) (follows_cr bytes p.index) refl refl
-
--- the points of seats, and where they are shown
-abbrev pub points_of : List ℕ → List Seat → List Point
-points_of bytes xs = flat_map (λ s. shown bytes s.point ∷ s.point ∷ []) xs
-
-pub points-split : (t : ℕ) (bytes : List ℕ) (xs ys : List Seat) → virtual t bytes ≡ xs ++ ys → points t bytes ≡ points_of bytes xs ++ (points_of bytes ys ++ document_end t bytes ∷ [])
-points-split t bytes xs ys e = ap (λ (zs : List Seat). points_of bytes zs ++ document_end t bytes ∷ []) e
-    ∙ ap (λ (ps : List Point). ps ++ document_end t bytes ∷ []) (flat_map-append (λ (s : Seat). shown bytes s.point ∷ s.point ∷ []) xs ys)
-    ∙ append_assoc (points_of bytes xs) (points_of bytes ys) (document_end t bytes ∷ [])
 
 -- one of these seats
 pub record IsAmong (s : Seat) (xs : List Seat) : Type 0 where
@@ -94,7 +79,8 @@ module _ (t : ℕ) (bytes : List ℕ) (d : 0 < t) where
 
   pub rest-after : (xs ys : List Seat) → virtual t bytes ≡ xs ++ ys → rest_at t bytes (end_after (point 1 1 0 0) xs) ≡ ys
   rest-after xs ys e =
-      (chain-at t bytes (end_after (point 1 1 0 0) xs) ys (chain-split t bytes (point 1 1 0 0) xs ys (subst (IsChain t bytes (point 1 1 0 0)) e (whole-chain t bytes d)))).is
+      let c = subst (IsChain t bytes (point 1 1 0 0)) e (whole-chain t bytes d) in
+      (chain-at t bytes (end_after (point 1 1 0 0) xs) ys (chain-split t bytes (point 1 1 0 0) xs ys c)).is
 
   pub end-place : IsPlace t bytes (document_end t bytes)
   end-place = place-after (virtual t bytes) [] (sym (append-nil (virtual t bytes)))
@@ -146,23 +132,28 @@ module _ (t : ℕ) (bytes : List ℕ) (d : 0 < t) where
     pub after-shown : IsShown bytes s.end
     after-shown = (chain-at t bytes s.end ys from-here.2).shown
 
--- those of the document are places
-place-among : (t : ℕ) (bytes : List ℕ) → 0 < t → (p : Point) (xs ys : List Seat) → virtual t bytes ≡ xs ++ ys → Contains (points_of bytes ys) p → IsPlace t bytes p
-place-among t bytes d p xs [] e (k, lt, is) = absurd (omega arith)
-place-among t bytes d p xs (s ∷ ss) e (zero, lt, is) = subst (IsPlace t bytes) is (shown-place t bytes d xs s ss e)
-place-among t bytes d p xs (s ∷ ss) e (suc zero, lt, is) = subst (IsPlace t bytes) is (point-place t bytes d xs s ss e)
-place-among t bytes d p xs (s ∷ ss) e (suc (suc k), lt, is) = place-among t bytes d p (xs ++ s ∷ []) ss (e ∙ sym (append_assoc xs (s ∷ []) ss)) (k, omega arith, is)
+pub contains-here : {A : Type 0} (x : A) (xs : List A) → Contains (x ∷ xs) x
+contains-here x xs = (0, omega arith, refl)
 
-place-at-end : (t : ℕ) (bytes : List ℕ) → 0 < t → (p : Point) → Contains (document_end t bytes ∷ []) p → IsPlace t bytes p
-place-at-end t bytes d p (zero, lt, is) = subst (IsPlace t bytes) is (end-place t bytes d)
-place-at-end t bytes d p (suc k, lt, is) = absurd (omega arith)
+pub contains-later : {A : Type 0} (x : A) (xs : List A) (y : A) → Contains xs y → Contains (x ∷ xs) y
+contains-later x xs y (k, lt, is) = (suc k, omega arith, is)
+
+every-contains : {A : Type 0} (P : A → Type 0) (xs : List A) → AllByRecursion P xs → (y : A) → Contains xs y → P y
+every-contains P [] h y (k, lt, is) = absurd (omega arith)
+every-contains P (x ∷ xs) h y (zero, lt, is) = subst P is h.0
+every-contains P (x ∷ xs) h y (suc k, lt, is) = every-contains P xs h.1 y (k, (omega arith), is)
+
+module _ (t : ℕ) (bytes : List ℕ) (d : 0 < t) where
+  seats-are-places : (xs ys : List Seat) → virtual t bytes ≡ xs ++ ys → AllByRecursion (IsPlace t bytes) (flat_map (λ s. shown bytes s.point ∷ s.point ∷ []) ys)
+  seats-are-places xs [] e = tt
+  seats-are-places xs (s ∷ ys) e = (shown-place t bytes d xs s ys e, (point-place t bytes d xs s ys e, seats-are-places (xs ++ s ∷ []) ys (end-splits t bytes d xs s ys e)))
 
 -- the point of a place of the document is one that its numbers describe
 pub place-of-point : (t : ℕ) (bytes : List ℕ) → 0 < t → (p : Point) → IsPointOf t bytes p → IsPlace t bytes p
-place-of-point t bytes d p h = elim (Contains-append_cases (points_of bytes (virtual t bytes)) (document_end t bytes ∷ []) p h) [
-  | inl k ↦ place-among t bytes d p [] (virtual t bytes) refl k
-  | inr k ↦ place-at-end t bytes d p k
-]
+place-of-point t bytes d p h =
+    let seats = flat_map (λ s. shown bytes s.point ∷ s.point ∷ []) (virtual t bytes) in
+    every-contains (IsPlace t bytes) (seats ++ document_end t bytes ∷ [])
+    (every-append (IsPlace t bytes) seats (document_end t bytes ∷ []) (seats-are-places t bytes d [] (virtual t bytes) refl) (end-place t bytes d, tt)) p h
 
 -- the next virtual byte from a place on
 module _ (t : ℕ) (bytes : List ℕ) (d : 0 < t) (p : Point) (seat : Seat) (place : IsPlace t bytes p) (n : IsSeatAt t bytes p seat) where
@@ -202,13 +193,13 @@ module _ (t : ℕ) (bytes : List ℕ) (d : 0 < t) (p : Point) (seat : Seat) (pla
   pub end-of-pair : seat.byte ≡ 10 → begins_pair bytes p.index ≡ true → point (p.line + 1) 1 (p.index + 2) 0 ≡ seat.end
   end-of-pair b pair = elim there [
     | inl h ↦ (let f = sym pair ∙ h.1 b in absurd cc)
-    | inr h ↦ (let q = point p.line p.column (suc p.index) p.vs in point-of-numbers (p.line + 1) (suc p.line) 1 (p.index + 2) (suc (suc p.index)) 0 (omega arith) (omega arith) ∙ sym (lf-is b q) ∙ ends-at q h.2)
+    | inr h ↦ (let q = point p.line p.column (suc p.index) p.vs in same-numbers (p.line + 1) 1 (p.index + 2) 0 (suc p.line) 1 (suc (suc p.index)) 0 (omega arith) refl (omega arith) refl ∙ sym (lf-is b q) ∙ ends-at q h.2)
   ]
 
   -- after another line ending,
   pub end-of-line : seat.byte ≡ 10 → begins_pair bytes p.index ≡ false → point (p.line + 1) 1 (p.index + 1) 0 ≡ seat.end
   end-of-line b single = elim there [
-    | inl h ↦ point-of-numbers (p.line + 1) (suc p.line) 1 (p.index + 1) (suc p.index) 0 (omega arith) (omega arith) ∙ sym (lf-is b p) ∙ ends-at p h.0
+    | inl h ↦ same-numbers (p.line + 1) 1 (p.index + 1) 0 (suc p.line) 1 (suc p.index) 0 (omega arith) refl (omega arith) refl ∙ sym (lf-is b p) ∙ ends-at p h.0
     | inr h ↦ (let f = sym single ∙ h.0 in absurd cc)
   ]
 

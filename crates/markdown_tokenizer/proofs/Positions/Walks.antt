@@ -1,23 +1,19 @@
 -- Walks over the virtual bytes of a document, from its start.
-use Rattle.markdown_tokenizer.proofs.Prelude.{◌≡◌, ◌≢◌, ℕ, suc, ◌+◌, ◌*◌, ◌%◌, ◌≤◌, ◌<◌, ◌==◌, List, [], ◌∷◌, ◌++◌, Bool, true, false, cond, Option, Some, None, length, refl, sym, ap, ◌∙◌, subst, arith, append_assoc, length-append, ◌⊎◌, inl, inr, filter, nat_lt, ◌&&◌, ◌||◌, find, map, enumerate_from, option_or, append-nil, map-append, filter-append, find-append, flat_map-append, cases_lt, nat_tests, mul-le-mul_left, Point, Seat, point, virtual, end_after, document_end, shown, point_at, end-after-one, rest_at, IsPlace, IsSeatAt, Bounds, place_of, is_cut, cuts_every}
-use Rattle.markdown_tokenizer.proofs.Positions.Order.{upto-before}
+use Rattle.markdown_tokenizer.proofs.Prelude.{◌≡◌, ◌≢◌, ℕ, suc, ◌+◌, ◌*◌, ◌%◌, ◌≤◌, ◌<◌, ◌==◌, List, [], ◌∷◌, ◌++◌, Bool, true, false, cond, Option, Some, None, length, refl, sym, ap, ◌∙◌, subst, arith, append_assoc, length-append, inl, inr, filter, nat_lt, ◌&&◌, ◌||◌, find, map, flat_map, enumerate_from, option_or, append-nil, map-append, filter-append, find-append, flat_map-append, cases_lt, nat_tests, mul-le-mul_left, Point, Seat, point, virtual, end_after, document_end, shown, points, point_at, end-after-one, rest_at, IsPlace, IsSeatAt, Bounds, place_of, is_cut, cuts_every}
+use Rattle.markdown_tokenizer.proofs.Positions.Order.{upto-before, not-number}
 use Rattle.markdown_tokenizer.proofs.Positions.Chains.{IsChain, whole-chain}
-use Rattle.markdown_tokenizer.proofs.Positions.Standing.{points_of, points-split, place-after, after-rest}
+use Rattle.markdown_tokenizer.proofs.Positions.Standing.{place-after, after-rest}
 
 -- a walk is at a place, and has passed these virtual bytes
 pub record IsWalk (t : ℕ) (bytes : List ℕ) (p : Point) (passed : List Seat) : Type 0 where
   pub splits : virtual t bytes ≡ passed ++ rest_at t bytes p
   pub stands : end_after (point 1 1 0 0) passed ≡ p
 
-same-further : (i j v w : ℕ) → j ≤ i → (nat_lt i j || ((i == j) && nat_lt v w)) ≡ true → (i ≡ j) × (v < w)
-same-further i j v w h e = (grind (arith, nat_tests), grind (arith, nat_tests))
-
-further-at : (t i j v w : ℕ) → v < t → (nat_lt i j || ((i == j) && nat_lt v w)) ≡ true → (i < j) ⊎ (j ≤ i) → t * i + v + 1 ≤ t * j + w
-further-at t i j v w h e (inl lt) = let k : suc i ≤ j = lt in omega (arith, mul-le-mul_left t k)
-further-at t i j v w h e (inr ge) = let k = same-further i j v w ge e in let f : t * i ≡ t * j = ap (λ (m : ℕ). t * m) k.0 in omega (arith, k.1)
-
 further : (t i j v w : ℕ) → v < t → (nat_lt i j || ((i == j) && nat_lt v w)) ≡ true → t * i + v + 1 ≤ t * j + w
-further t i j v w h e = further-at t i j v w h e (cases_lt i j)
+further t i j v w h e = elim (cases_lt i j) [
+  | inl lt ↦ (let k : suc i ≤ j = lt in omega (arith, mul-le-mul_left t k))
+  | inr ge ↦ (let same : i ≡ j = grind (arith, nat_tests) in let less : v < w = grind (arith, nat_tests) in let f : t * i ≡ t * j = ap (λ (m : ℕ). t * m) same in omega arith)
+]
 
 module _ (t : ℕ) (bytes : List ℕ) (d : 0 < t) where
   -- a chain is no longer than the virtual columns that it passes
@@ -63,6 +59,14 @@ module _ (t : ℕ) (bytes : List ℕ) (d : 0 < t) where
 abbrev pub is_place : ℕ × ℕ → Point → Bool
 is_place place p = (p.index == place.0) && (p.vs == place.1)
 
+abbrev pub points_of : List ℕ → List Seat → List Point
+points_of bytes xs = flat_map (λ s. shown bytes s.point ∷ s.point ∷ []) xs
+
+pub points-split : (t : ℕ) (bytes : List ℕ) (xs ys : List Seat) → virtual t bytes ≡ xs ++ ys → points t bytes ≡ points_of bytes xs ++ (points_of bytes ys ++ document_end t bytes ∷ [])
+points-split t bytes xs ys e = ap (λ (zs : List Seat). points_of bytes zs ++ document_end t bytes ∷ []) e
+    ∙ ap (λ (ps : List Point). ps ++ document_end t bytes ∷ []) (flat_map-append (λ (s : Seat). shown bytes s.point ∷ s.point ∷ []) xs ys)
+    ∙ append_assoc (points_of bytes xs) (points_of bytes ys) (document_end t bytes ∷ [])
+
 pub record IsSearch (t : ℕ) (bytes : List ℕ) (place : ℕ × ℕ) (p : Point) : Type 0 where
   pub passed : List Seat
   pub walk : IsWalk t bytes p passed
@@ -86,14 +90,11 @@ module _ (t : ℕ) (bytes : List ℕ) (d : 0 < t) (place : ℕ × ℕ) where
         find-after search.passed [] (search.walk.splits ∙ ap (λ (ys : List Seat). search.passed ++ ys) e) search.none ∙ ap (λ (q : Point). cond (is_place place q) (Some q) None) end
 
     module _ (seat : Seat) (n : IsSeatAt t bytes p seat) where
-      split-here : virtual t bytes ≡ search.passed ++ seat ∷ n.after
-      split-here = search.walk.splits ∙ ap (λ (ys : List Seat). search.passed ++ ys) n.is
-
       pub search-shown : is_place place (shown bytes seat.point) ≡ true → point_at t bytes place ≡ Some (shown bytes seat.point)
-      search-shown e = find-after search.passed (seat ∷ n.after) split-here search.none ∙ (rw e refl)
+      search-shown e = find-after search.passed (seat ∷ n.after) (walk-splits t bytes d p search.passed search.walk seat n) search.none ∙ (rw e refl)
 
       pub search-seat : is_place place (shown bytes seat.point) ≡ false → is_place place seat.point ≡ true → point_at t bytes place ≡ Some seat.point
-      search-seat e f = find-after search.passed (seat ∷ n.after) split-here search.none ∙ (rw (e, f) refl)
+      search-seat e f = find-after search.passed (seat ∷ n.after) (walk-splits t bytes d p search.passed search.walk seat n) search.none ∙ (rw (e, f) refl)
 
       pub search-next : is_place place (shown bytes seat.point) ≡ false → is_place place seat.point ≡ false → IsSearch t bytes place seat.end
       search-next e f = record {
@@ -140,7 +141,8 @@ module _ (t : ℕ) (bytes : List ℕ) (d : 0 < t) (n : ℕ) where
 
     pub cutting-ended : rest_at t bytes p ≡ [] → cuts ≡ cuts_every t bytes n
     cutting-ended e =
-        cutting.made ∙ ap (cuts_of n 0) (sym (cutting.walk.splits ∙ ap (λ (ys : List Seat). cutting.passed ++ ys) e ∙ append-nil cutting.passed))
+        let all = cutting.walk.splits ∙ ap (λ (ys : List Seat). cutting.passed ++ ys) e ∙ append-nil cutting.passed in
+        cutting.made ∙ ap (cuts_of n 0) (sym all)
 
     module _ (seat : Seat) (s : IsSeatAt t bytes p seat) where
       pub cutting-next : (b : Bool) → is_cut n number ≡ b → IsCutting t bytes n seat.end (number + 1) (cuts ++ cond b (place_of seat ∷ []) [])
@@ -154,25 +156,18 @@ module _ (t : ℕ) (bytes : List ℕ) (d : 0 < t) (n : ℕ) where
       }
 
 -- what the tests of a number mean
-rest-of-cut : (n m r : ℕ) → 0 < m → r ≡ 0 → (nat_lt 0 m && (r == 0)) ≡ true
-rest-of-cut n m r h e = grind (arith, nat_tests)
-
-no-rest : (m r : ℕ) → r ≢ 0 → (nat_lt 0 m && (r == 0)) ≡ false
-no-rest m r h = grind (arith, nat_tests)
-
 pub cut-is : (n m : ℕ) → 0 < m → m % n ≡ 0 → is_cut n m ≡ true
-cut-is n m h e = rest-of-cut n m (m % n) h e
+cut-is n m h e = rw e (grind (arith, nat_tests))
 
 pub cut-not : (n m : ℕ) → m % n ≢ 0 → is_cut n m ≡ false
-cut-not n m h = no-rest m (m % n) h
+cut-not n m h = let e = not-number (m % n) 0 h in rw e (grind (arith, nat_tests))
 
 pub cut-first : (n m : ℕ) → m ≤ 0 → is_cut n m ≡ false
 cut-first n m h = let e : m ≡ 0 = omega arith in rw e refl
 
-bounds-fit-at : (t : ℕ) (bytes : List ℕ) (p : Point) → Bounds t bytes p → (0 < p.vs) ⊎ (p.vs ≤ 0) → t * p.index + p.vs ≤ t * length bytes
-bounds-fit-at t bytes p b (inl h) = let i : suc p.index ≤ length bytes = b.tab h in omega (arith, b.spaces, mul-le-mul_left t i)
-bounds-fit-at t bytes p b (inr h) = omega (arith, mul-le-mul_left t b.inside)
-
 -- a place is no further than the bytes allow
 pub bounds-fit : (t : ℕ) (bytes : List ℕ) (p : Point) → Bounds t bytes p → t * p.index + p.vs ≤ t * length bytes
-bounds-fit t bytes p b = bounds-fit-at t bytes p b (cases_lt 0 p.vs)
+bounds-fit t bytes p b = elim (cases_lt 0 p.vs) [
+  | inl h ↦ (let i : suc p.index ≤ length bytes = b.tab h in omega (arith, b.spaces, mul-le-mul_left t i))
+  | inr h ↦ omega (arith, mul-le-mul_left t b.inside)
+]

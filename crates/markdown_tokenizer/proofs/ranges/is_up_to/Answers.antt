@@ -1,10 +1,7 @@
-use Rattle.markdown_tokenizer.proofs.Prelude.{◌≡◌, ℕ, Bool, true, false, refl, sym, ap, ◌∙◌, arith, not, nat_lt, ◌==◌, ◌&&◌, ◌||◌, nat_tests, is_upto}
+use Rattle.markdown_tokenizer.proofs.Prelude.{◌≡◌, Bool, true, false, refl, sym, ap, ◌∙◌, not, ◌&&◌, is_upto}
+use Rattle.markdown_tokenizer.proofs.Positions.Order.{after-before}
 use Rattle.markdown_tokenizer.proofs.Positions.Cursors.{upto-order}
 use Rattle.markdown_tokenizer.proofs.ranges.is_up_to.Goals as goal
-
--- two places are not each before the other
-not-both : (i j m n : ℕ) → (nat_lt i m || ((i == m) && nat_lt j n)) ≡ true → (nat_lt m i || ((m == i) && nat_lt n j)) ≡ false
-not-both i j m n h = grind (arith, nat_tests)
 
 and-true : (a b : Bool) → b ≡ true → (a && b) ≡ a
 and-true true true h = refl
@@ -19,5 +16,5 @@ returns-then-not-is_before c =
 pub returns-else-not-is_before : goal.returns-else-not-is_before
 returns-else-not-is_before c =
     let t = c.args.tab in let bytes = c.args.bytes.now in let from = c.args.from in let to = c.args.to in
-    let back = upto-order t bytes to from (not-both to.index to.vs from.index from.vs (sym c.is_before.ensures ∙ c.if-not-is_before.false)) in
+    let back = upto-order t bytes to from (after-before to.index to.vs from.index from.vs (sym c.is_before.ensures ∙ c.if-not-is_before.false)) in
     c.denote_same.ensures ∙ and-true (is_upto t bytes from to) (is_upto t bytes to from) back
