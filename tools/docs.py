@@ -19,7 +19,7 @@ PATHS = set(FILES) | {f[:i] for f in FILES for i in range(len(f)) if f[i] == "/"
 PAGES = ["README.md"] + [f for f in FILES if f.startswith("docs/") and f.endswith(".md")]
 MAP = "docs/maintaining/MAP.md"
 # Words in backticks that are of Rust, of the system or of the prover
-FOREIGN = set("unsafe debug_assert unwrap respects_eq allocate cap ptr grep steal Lts rattle-kit-13b _rows NAME_in".split())
+FOREIGN = set("unsafe debug_assert unwrap respects_eq allocate cap ptr grep steal Lts rattle-kit-13f _rows NAME_in".split())
 FENCE = re.compile(r"^```(\w+) (\S+)((?: \S+)*)\n(.*?)^```$", flags=re.S | re.M)
 FILE = re.compile(r"[\w./+-]+\.(?:rt|antt|md|py|sh|edit|txt)|(?:crates|docs|tools|bench|bindings|wrong-bodies|specs|proofs|src)/[\w./+-]*")
 PATH = re.compile(r"(?:\w+::)+\{?\w+\}?")  # markdown::tokenizer
@@ -140,7 +140,7 @@ def rooms():
         if m := re.fullmatch(r"crates/(\w+)/(src|specs|proofs)/([\w/+]+)\.(rt|antt)", file):
             room, folder = file.rsplit(".", 1)[0], m[3].split("/")[0]
             of_code = m[2] == "proofs" and (folder[0].islower() or folder[0] == "+")
-            if m[3] not in ("lib", "main", "Lib", "util") and not of_code and not any(room == c or room.startswith(c + "/") for c in covered):
+            if m[3] not in ("lib", "main", "Lib", "Prelude", "util") and not of_code and not any(room == c or room.startswith(c + "/") for c in covered):
                 failed.append(f"{MAP}: no room for {file}")
 
 
