@@ -1,6 +1,7 @@
 -- Lemmas on the bytes between two places.
-use Rattle.markdown_base.proofs.Prelude.{◌≡◌, ℕ, zero, suc, ◌+◌, ◌-◌, ◌≤◌, min, max, Bool, true, false, List, [], ◌∷◌, length, take, drop, get_or, refl, sym, ap, ◌∙◌, arith, ltb-true, ltb-false, ◌&&◌, not, nat_lt, filter, map, slice_index, slice_range, range_with_len, Point, stands_before, lies_between, byte_place, bytes_between, first_byte, nat_tests}
+use Rattle.markdown_base.proofs.Prelude.{◌≡◌, ℕ, zero, suc, ◌+◌, ◌-◌, ◌≤◌, min, max, Bool, true, false, List, ◌∷◌, length, take, drop, get_or, refl, sym, ap, ◌∙◌, arith, ltb-true, ltb-false, ◌&&◌, not, nat_lt, filter, map, slice_index, slice_range, range_with_len, Point, stands_before, lies_between, byte_place, bytes_between, first_byte, nat_tests}
 use Rattle.std.proofs.Math.Seq.{drop-cons}
+use Rattle.std.proofs.lemmas.List.Elements.{filter_agree}
 
 -- the bytes before a place are the bytes before the first one that is not before it
 before_first : (p : Point) (index : ℕ) → stands_before (byte_place index) p ≡ nat_lt index (first_byte p)
@@ -39,19 +40,12 @@ bytes_at bytes start (suc n) within =
     let next : start + 1 ≡ suc start = omega arith in
     ap (λ xs. get_or bytes start 0 ∷ xs) (more ∙ ap (λ i. take n (drop i bytes)) next) ∙ ap (λ xs. take (suc n) xs) (sym (drop-cons bytes start 0 (omega arith)))
 
-filter-as : (f g : ℕ → Bool) → ((i : ℕ) → f i ≡ g i) → (xs : List ℕ) → filter f xs ≡ filter g xs
-filter-as f g same [] = refl
-filter-as f g same (x ∷ xs) =
-    let more = filter-as f g same xs in
-    let here = same x in
-    grind arith
-
 -- the bytes between two places are those from the one's first byte on, up to the other's
 pub bytes-between : (bytes : List ℕ) (p q : Point) → first_byte p ≤ first_byte q → first_byte q ≤ length bytes → slice_range bytes (first_byte p) (first_byte q) ≡ bytes_between bytes p q
 bytes-between bytes p q ordered within =
     let a = first_byte p in
     let b = first_byte q in
-    let kept = filter-as (λ i. lies_between p q (byte_place i)) (is_within a b) (λ i. rw (before_first p i, before_first q i) refl) (range_with_len 0 (length bytes)) ∙ kept_range a b 0 (length bytes) in
+    let kept = filter_agree (λ i. lies_between p q (byte_place i)) (is_within a b) (λ i. rw (before_first p i, before_first q i) refl) (range_with_len 0 (length bytes)) ∙ kept_range a b 0 (length bytes) in
     let len : min b (0 + length bytes) - max 0 a ≡ b - a = omega arith in
     let at : max 0 a ≡ a = omega arith in
     sym (ap (map (slice_index bytes)) (kept ∙ ap (λ m. range_with_len (max 0 a) m) len ∙ ap (λ i. range_with_len i (b - a)) at) ∙ bytes_at bytes a (b - a) (omega arith))

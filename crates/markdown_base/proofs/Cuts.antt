@@ -3,14 +3,6 @@ use Rattle.markdown_base.proofs.Prelude.{◌≡◌, ◌≢◌, ℕ, zero, suc, �
 use Rattle.markdown_base.proofs.Common.{every-append, every-map, filter-none}
 use Rattle.markdown_base.proofs.Scans.{IsReached, IsSeatPlace, IsOfTab, of_tab, place-of, byte_here}
 
--- what is left of a tab at a column inside it
-pub tab_left : (t column vs : ℕ) → 0 < t → 1 ≤ column → vs < tab_width t column → tab_width t column - vs ≡ tab_width t (column + vs)
-tab_left t column vs some first inside =
-    let rest = (column - 1) % t in
-    let split : column + vs - 1 ≡ (column - 1) / t * t + ((column - 1) % t + vs) = omega (arith, div-add-mod' (column - 1) t) in
-    let left : (column + vs - 1) % t ≡ (column - 1) % t + vs = ap (λ n. n % t) split ∙ mod-mul-add ((column - 1) / t) t ((column - 1) % t + vs) (omega arith) in
-    omega (arith, left)
-
 -- whether the virtual byte of this number lies in a range
 abbrev pub is_within : (low high : ℕ) → Seat → Bool
 is_within low high s = nat_le low s.point.vs && nat_lt s.point.vs high
@@ -62,7 +54,6 @@ tab_count : (t : ℕ) (bytes : List ℕ) (line column index : ℕ) → IsReached
     → (low high : ℕ) (h : Seat → Bool) → ((s : Seat) → s.point.index ≡ index → s.point.vs < tab_width t column → h s ≡ is_within low high s)
     → length (filter (λ s. (s.point.index == index) && h s) (virtual t bytes)) ≡ min high (tab_width t column) - low
 tab_count t bytes line column index r within is low high h same =
-    let f : Seat → Bool = λ s. (s.point.index == index) && h s in
     let alone = tab_alone t bytes line column index r within is (λ s. (s.point.index == index) && h s) (λ s ne. rw (ne_eqb s.point.index index ne) refl) in
     let count = count_in_tab (λ s. (s.point.index == index) && h s) low high (tab_width t column) line index (λ s e lt. rw (eq-eqb s.point.index index e) (same s e lt)) 9 (tab_width t column) 0 column (omega arith) in
     ap (λ xs. length xs) alone ∙ count ∙ (omega arith)
@@ -71,19 +62,9 @@ tab_count t bytes line column index r within is low high h same =
 behind_cut : (low vs : ℕ) (r : Bool) → 0 < low → (nat_lt 0 vs && (not (nat_lt vs low) && r)) ≡ (nat_le low vs && r)
 behind_cut low vs r some = grind (arith, nat_tests)
 
--- of two places at one index, and of a place at a later one
+-- of two places at one index
 before_here : (s p : Point) → s.index ≡ p.index → stands_before s p ≡ nat_lt s.vs p.vs
 before_here s p e = rw (le-ltb s.index p.index (omega arith), eq-eqb s.index p.index e) refl
-
-before_later : (s p : Point) → s.index < p.index → stands_before s p ≡ true
-before_later s p lt = rw (lt-ltb s.index p.index lt) refl
-
-before_earlier : (s p : Point) → p.index < s.index → stands_before s p ≡ false
-before_earlier s p lt = rw (le-ltb s.index p.index (omega arith), ne_eqb s.index p.index (λ e. omega arith)) refl
-
--- a place that is not before another
-not_before : (p q : Point) → stands_before q p ≡ false → (p.index < q.index) ⊎ ((p.index ≡ q.index) × (p.vs ≤ q.vs))
-not_before p q h = grind (arith, nat_tests)
 
 -- the first byte from a place on, and that from a later place on
 pub first_ordered : (p q : Point) → stands_before q p ≡ false → first_byte p ≤ first_byte q
@@ -116,8 +97,12 @@ spaces-behind_start t some bytes p q is cut later =
     let place = cut_place t some bytes p is cut in
     let tab = place.in_tab cut in
     let count = tab_count t bytes p.line place.column p.index place.reached tab.0 tab.1 p.vs (tab_width t place.column) (λ s. nat_lt 0 s.point.vs && in_range p q s)
-    (λ s e lt. rw (before_here s.point p e, before_later s.point q (omega arith), lt-ltb s.point.vs (tab_width t place.column) lt) (behind_cut p.vs s.point.vs true cut)) in
-    rw (lt-ltb 0 p.vs cut) (count ∙ (omega arith) ∙ tab_left t place.column p.vs some place.reached.first tab.2 ∙ ap (λ c. tab_width t c) (sym place.across))
+    (λ s e lt. rw (before_here s.point p e, lt-ltb s.point.index q.index (omega arith), lt-ltb s.point.vs (tab_width t place.column) lt) (behind_cut p.vs s.point.vs true cut)) in
+    let before = place.column - 1 in
+    let split : place.column + p.vs - 1 ≡ before / t * t + (before % t + p.vs) = omega (arith, div-add-mod' before t, place.reached.first) in
+    let left : (place.column + p.vs - 1) % t ≡ before % t + p.vs = ap (λ n. n % t) split ∙ mod-mul-add (before / t) t (before % t + p.vs) (omega (arith, tab.2)) in
+    let rest : min (tab_width t place.column) (tab_width t place.column) - p.vs ≡ tab_width t (place.column + p.vs) = omega (arith, left, tab.2) in
+    rw (lt-ltb 0 p.vs cut) (count ∙ rest ∙ ap (λ c. tab_width t c) (sym place.across))
 
 -- of a tab that only the end cuts
 pub spaces-before_end : (t : ℕ) → 0 < t → (bytes : List ℕ) (p q : Point) → IsPointOf t bytes q → 0 < q.vs → (p.index < q.index) ⊎ ((p.index ≡ q.index) × (p.vs ≡ 0)) → spaces_between t bytes q.index p q ≡ q.vs - 1
@@ -125,14 +110,14 @@ spaces-before_end t some bytes p q is cut where_p =
     let place = cut_place t some bytes q is cut in
     let tab = place.in_tab cut in
     let count = tab_count t bytes q.line place.column q.index place.reached tab.0 tab.1 1 q.vs (λ s. nat_lt 0 s.point.vs && in_range p q s)
-    (λ s e lt. rw (starts_before s.point e, before_here s.point q e) (ltb-one s.point.vs (nat_lt s.point.vs q.vs))) in
+    (λ s e lt. rw (starts_before s.point e, before_here s.point q e) refl) in
     count ∙ (omega (arith, tab.2))
   where
     starts_before : (s : Point) → s.index ≡ q.index → stands_before s p ≡ false
-    starts_before s e = elim where_p [ inl lt ↦ before_earlier s p (omega arith) | inr h ↦ before_here s p (e ∙ sym h.0) ∙ le-ltb s.vs p.vs (omega (arith, h.1)) ]
-
-    ltb-one : (vs : ℕ) (r : Bool) → (nat_lt 0 vs && r) ≡ (nat_le 1 vs && r)
-    ltb-one vs r = refl
+    starts_before s e = elim where_p [
+      | inl lt ↦ rw (le-ltb s.index p.index (omega arith), ne_eqb s.index p.index (λ same. omega arith)) refl
+      | inr h ↦ before_here s p (e ∙ sym h.0) ∙ le-ltb s.vs p.vs (omega (arith, h.1))
+    ]
 
 -- the start of a range is at a lower index than its end, or in the same byte and not after it
 pub at_lower_index : (p q : Point) → stands_before q p ≡ false → p.index ≢ q.index → p.index < q.index
@@ -144,7 +129,7 @@ not_behind p q ordered same = grind (arith, nat_tests)
 -- the tab that the end cuts is not cut by the start
 pub spaces-after_is : (t : ℕ) → 0 < t → (bytes : List ℕ) (p q : Point) → IsPointOf t bytes q → stands_before q p ≡ false → 0 < q.vs → (p.vs ≡ 0) ⊎ (p.index ≢ q.index) → spaces_after t bytes p q ≡ q.vs - 1
 spaces-after_is t some bytes p q is ordered cut (inl whole) =
-    let start : (p.index < q.index) ⊎ ((p.index ≡ q.index) × (p.vs ≡ 0)) = elim (not_before p q ordered) [ inl lt ↦ inl lt | inr h ↦ inr (h.0, whole) ] in
+    let start : (p.index < q.index) ⊎ ((p.index ≡ q.index) × (p.vs ≡ 0)) = grind (arith, nat_tests) in
     rw (lt-ltb 0 q.vs cut, le-ltb 0 p.vs (omega arith)) (spaces-before_end t some bytes p q is cut start)
 spaces-after_is t some bytes p q is ordered cut (inr other) =
     rw (lt-ltb 0 q.vs cut, ne_eqb p.index q.index other, and-false (nat_lt 0 p.vs)) (spaces-before_end t some bytes p q is cut (inl (at_lower_index p q ordered other)))

@@ -1,7 +1,7 @@
 -- Lemmas on the point of a place that the virtual text reaches, and on how it moves along a line.
-use Rattle.markdown_base.proofs.Prelude.{◌≡◌, ◌≢◌, ℕ, zero, suc, ◌+◌, ◌-◌, ◌*◌, ◌<◌, ◌≤◌, inl, inr, Bool, true, false, List, [], ◌∷◌, ◌++◌, length, drop, get_or, refl, ap, ◌∙◌, arith, subst, eq-eqb, ne_eqb, ◌==◌, ◌&&◌, slice_index, find, Some, AllByRecursion, flat_map, false≢true, mul-le-mul_left, flat_map-append, Point, Seat, point, tab_width, in_tab, other_byte, begins_with_lf, virtual_from, end_after, document_end, shown, follows_cr, point_at, IsPointOf, HasNoLineEnding, nat_tests}
+use Rattle.markdown_base.proofs.Prelude.{◌≡◌, ◌≢◌, ℕ, zero, suc, ◌+◌, ◌-◌, ◌<◌, ◌≤◌, inl, inr, Bool, true, false, List, [], ◌∷◌, ◌++◌, drop, refl, ap, ◌∙◌, arith, subst, eq-eqb, ne_eqb, ◌==◌, ◌&&◌, slice_index, find, Some, AllByRecursion, flat_map, false≢true, flat_map-append, Point, Seat, point, tab_width, in_tab, other_byte, begins_with_lf, virtual_from, end_after, document_end, shown, follows_cr, point_at, IsPointOf, HasNoLineEnding, nat_tests}
 use Rattle.std.proofs.lemmas.List.{append_assoc}
-use Rattle.markdown_base.proofs.Scans.{IsReached, drop_is, reached-tab, reached-plain, tab_width-least, place-of}
+use Rattle.markdown_base.proofs.Scans.{IsReached, drop_is, tab_width-least, place-of}
 
 -- the test that seeks the place of an index, no virtual byte of a tab behind its first
 abbrev is_at : ℕ → Point → Bool
@@ -71,20 +71,3 @@ reached-of_point t some bytes p to is whole forward other_byte = elim (place-of 
   | inl place ↦ let same : place.column ≡ p.column = omega (arith, place.across) in subst (λ c. IsReached t bytes p.line c p.index) same place.reached
   | inr cr ↦ absurd ((other_byte p.index (omega arith) forward).1 cr.2)
 ]
-
--- one byte on in a line: a tab, and any other byte
-pub moved-tab : (t : ℕ) → 0 < t → (bytes : List ℕ) (line column index : ℕ) → IsReached t bytes line column index → index < length bytes → get_or bytes index 0 ≡ 9 → IsReached t bytes line (column + tab_width t column) (suc index)
-moved-tab t some bytes line column index r within is =
-    reached-tab t bytes line column index r within some (ne_eqb (get_or bytes index 0) 10 (λ e. omega arith)) (ne_eqb (get_or bytes index 0) 13 (λ e. omega arith)) (eq-eqb (get_or bytes index 0) 9 is)
-
-pub moved-plain : (t : ℕ) → 0 < t → (bytes : List ℕ) (line column index : ℕ) → IsReached t bytes line column index → index < length bytes
-    → get_or bytes index 0 ≢ 10 → get_or bytes index 0 ≢ 13 → get_or bytes index 0 ≢ 9 → IsReached t bytes line (suc column) (suc index)
-moved-plain t some bytes line column index r within not_lf not_cr not_tab =
-    reached-plain t bytes line column index r within some (ne_eqb (get_or bytes index 0) 10 not_lf) (ne_eqb (get_or bytes index 0) 13 not_cr) (ne_eqb (get_or bytes index 0) 9 not_tab)
-
--- the column behind a byte fits where the premise on a document's length does
-pub column-fits : (t : ℕ) → 0 < t → (bytes : List ℕ) (line column index : ℕ) → IsReached t bytes line column index → index < length bytes
-    → (column + tab_width t column ≤ t * length bytes + 1) × (column + 1 ≤ t * length bytes + 1)
-column-fits t some bytes line column index r within =
-    let more : t * suc index ≤ t * length bytes = mul-le-mul_left t within in
-    ((omega (arith, r.bound, more)), (omega (arith, r.bound, more)))

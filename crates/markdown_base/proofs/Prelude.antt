@@ -19,10 +19,10 @@ pub use Rattle.std.proofs.lemmas.Option.{slice_get-get_or}
 pub use Rattle.std.proofs.lemmas.Str.{Chars-Drains, IsCharBoundary-after_ascii, IsCharBoundary-start, IsUtf8-between, IsUtf8-take, chars-append, chars-nil, encode_ascii, encodes-chars}
 pub use Rattle.std.specs.Char.{is_ascii_punctuation, is_ascii_whitespace, is_whitespace}
 pub use Rattle.std.specs.Fmt.{digits, digits_output, format_spec, option_append, styled_digits_output}
-pub use Rattle.std.specs.List.{AllByRecursion, AllWithin, flat_map, last_or, list_any, prefix_len, range_with_len}
+pub use Rattle.std.specs.List.{AllByRecursion, AllWithin, flat_map, last_or, list_any, range_with_len}
 pub use Rattle.std.specs.List.Sorted.{IsNonDecreasingBy, IsPartitionPoint}
 pub use Rattle.std.specs.Option.{ForSome, MatchOption, option_eq}
-pub use Rattle.std.specs.Prelude.{Err, IfOk, IfSome, IsCharBoundary, IsSome, IsUtf8, None, Ok, Option, Result, Some, String, chars, codes, filter, find, fold, map, nat_eq, nat_lt, not, option_and_then, option_map, replicate, reverse, slice_get, slice_index, slice_range, string_bytes, take_while, ◌&&◌, ◌==◌}
+pub use Rattle.std.specs.Prelude.{Err, IfOk, IfSome, IsCharBoundary, IsSome, IsUtf8, None, Ok, Option, Result, Some, String, chars, codes, filter, find, fold, map, nat_eq, nat_lt, not, option_and_then, option_map, replicate, slice_get, slice_index, slice_range, string_bytes, take_while, ◌&&◌, ◌==◌}
 pub use Rattle.std.specs.Str.{encode_utf8_all}
 pub use denote.Enum.Bare.{false_same, same_true, sameb, true_same}
 pub use mathlib.Core.List.{append_assoc}
@@ -46,8 +46,6 @@ pub use Rattle.markdown_base.specs.declared.event.Link.{Link}
 pub use Rattle.markdown_base.specs.declared.event.Name.{Name}
 pub use Rattle.markdown_base.specs.declared.event.Name.TheVariants.{AttentionSequence}
 pub use Rattle.markdown_base.specs.declared.event.Point.{Point}
-pub use Rattle.markdown_base.specs.declared.message.Message.{Message}
-pub use Rattle.markdown_base.specs.declared.state.State.{State}
 pub use Rattle.markdown_base.specs.declared.util.char.Kind.TheVariants.{Punctuation, Whitespace}
 pub use Rattle.markdown_base.specs.declared.util.line_ending.LineEnding.{LineEnding}
 pub use Rattle.markdown_base.specs.declared.util.line_ending.LineEnding.TheVariants.{CarriageReturn, CarriageReturnLineFeed, LineFeed}

@@ -1,6 +1,7 @@
 -- Lemmas on the virtual text of a document from an index on, and on where its places lie.
 use Rattle.markdown_base.proofs.Prelude.{◌≡◌, ℕ, zero, suc, ◌+◌, ◌-◌, ◌*◌, ◌<◌, ◌≤◌, ◌⊎◌, inl, inr, Bool, true, false, List, [], ◌∷◌, ◌++◌, length, drop, get_or, refl, sym, ap, ◌∙◌, arith, subst, drop-cons, eqb-true, mod-lt, ◌==◌, ◌&&◌, slice_index, false≢true, AllByRecursion, flat_map, Point, Seat, point, tab_width, in_tab, line_feed, other_byte, begins_with_lf, virtual_from, virtual, end_after, document_end, shown, follows_cr, points, IsPointOf, nat_tests}
 use Rattle.std.proofs.lemmas.List.{append_assoc}
+use Rattle.std.proofs.lemmas.List.Elements.{All-from_recursion}
 use Rattle.markdown_base.proofs.Common.{and-right, every-append, every-map}
 use Rattle.markdown_base.proofs.Seats.{end-after-append}
 
@@ -81,7 +82,6 @@ module _ (t : ℕ) (bytes : List ℕ) (line column index : ℕ) (r : IsReached t
 
   pub reached-tab : 0 < t → (get_or bytes index 0 == 10) ≡ false → (get_or bytes index 0 == 13) ≡ false → (get_or bytes index 0 == 9) ≡ true → IsReached t bytes line (column + tab_width t column) (suc index)
   reached-tab some not_lf nor is =
-      let width = tab_width t column in
       let rest = virtual_from t line (column + tab_width t column) (suc index) (drop (suc index) bytes) in
       advance t bytes line column index line (column + tab_width t column) (in_tab 9 (tab_width t column) line column index 0) r within
       (rw (byte_here, not_lf, nor, is) refl)
@@ -120,16 +120,12 @@ abbrev ArePlaced : (t : ℕ) (bytes : List ℕ) (line column index : ℕ) → Li
 ArePlaced t bytes line column index rest =
     AllByRecursion (IsPlaced t bytes) (virtual_from t line column index rest) × IsPlace t bytes (end_after (point line column index 0) (virtual_from t line column index rest))
 
-shown-other : (bytes : List ℕ) (p : Point) → (get_or bytes p.index 0 == 10) ≡ false → shown bytes p ≡ p
-shown-other bytes p not_lf = rw not_lf refl
-
 placed-here : (t : ℕ) (bytes : List ℕ) (line column index : ℕ) → IsReached t bytes line column index → IsPlace t bytes (point line column index 0)
 placed-here t bytes line column index r =
-    let none : column ≡ column + 0 = omega arith in
-    inl (record { column = column; reached = r; across = none; in_tab = λ some. absurd (omega arith) })
+    inl (record { column = column; reached = r; across = omega arith; in_tab = λ some. absurd (omega arith) })
 
 placed-other : (t : ℕ) (bytes : List ℕ) (s : Seat) → IsPlace t bytes s.point → (get_or bytes s.point.index 0 == 10) ≡ false → IsPlaced t bytes s
-placed-other t bytes s here not_lf = (here, subst (IsPlace t bytes) (sym (shown-other bytes s.point not_lf)) here)
+placed-other t bytes s here not_lf = (here, rw not_lf here)
 
 cr_before : (bytes : List ℕ) (i : ℕ) → follows_cr bytes i ≡ true → i < length bytes → (i - 1 < length bytes) × (get_or bytes (i - 1) 0 ≡ 13)
 cr_before bytes i is within = grind (arith, nat_tests)
@@ -191,13 +187,8 @@ places-of : (t : ℕ) (bytes : List ℕ) (seats : List Seat) (end : Point) → A
 places-of t bytes [] end placed last = (last, tt)
 places-of t bytes (s ∷ seats) end placed last = (placed.0.1, (placed.0.0, places-of t bytes seats end placed.1 last))
 
-every-at : {X : Type 0} (P : X → Type 0) (xs : List X) (k : ℕ) (d : X) → AllByRecursion P xs → k < length xs → P (get_or xs k d)
-every-at P [] k d h within = absurd (omega arith)
-every-at P (x ∷ xs) zero d h within = h.0
-every-at P (x ∷ xs) (suc k) d h within = every-at P xs k d h.1 (omega arith)
-
 -- each point of a document is the point of a place
 pub place-of : (t : ℕ) → 0 < t → (bytes : List ℕ) (p : Point) → IsPointOf t bytes p → IsPlace t bytes p
 place-of t some bytes p h =
     let all = placed-from t some bytes 1 1 0 bytes refl (reached_start t bytes) in
-    subst (IsPlace t bytes) h.2 (every-at (IsPlace t bytes) (points t bytes) h.0 p (places-of t bytes (virtual t bytes) (document_end t bytes) all.0 all.1) h.1)
+    subst (IsPlace t bytes) h.2 (All-from_recursion (IsPlace t bytes) (points t bytes) (places-of t bytes (virtual t bytes) (document_end t bytes) all.0 all.1) h.0 p h.1)

@@ -1,4 +1,5 @@
-use Rattle.markdown_base.proofs.Prelude.{◌≡◌, ◌⊎◌, ◌||◌, Bool, true, false, List, [], ◌∷◌, sym, refl, ⊎_elim, list_any, true_same, false_same, the_type, Name, same_name, void_names, rules}
+use Rattle.markdown_base.proofs.Prelude.{◌≡◌, ◌⊎◌, true, false, List, [], ◌∷◌, sym, refl, ⊎_elim, list_any, true_same, false_same, the_type, Name, same_name, void_names, rules}
+use mathlib.Core.Bool.{or-true}
 use Rattle.markdown_base.proofs.event.Name.is_void.Goals as goal
 
 -- the name is in a pattern
@@ -7,16 +8,12 @@ IsOneOf a [] = ⊥
 IsOneOf a (n ∷ []) = a ≡ n
 IsOneOf a (n ∷ m ∷ ns) = (a ≡ n) ⊎ IsOneOf a (m ∷ ns)
 
-or-true : (b : Bool) → true ≡ b || true
-or-true true = refl
-or-true false = refl
-
 one-is-found : (a : Name) (ns : List Name) → IsOneOf a ns → true ≡ list_any (λ v. same_name v a) ns
 one-is-found a [] h = absurd h
 one-is-found a (n ∷ []) h = let e : same_name n a ≡ true = true_same the_type n a (sym h) in rw e refl
 one-is-found a (n ∷ m ∷ ns) h = ⊎_elim
     (λ here. let e : same_name n a ≡ true = true_same the_type n a (sym here) in rw e refl)
-    (λ there. rw (sym (one-is-found a (m ∷ ns) there)) (or-true (same_name n a)))
+    (λ there. rw (sym (one-is-found a (m ∷ ns) there)) (sym (or-true (same_name n a))))
     h
 
 pub returns-in-AttentionSequence : goal.returns-in-AttentionSequence

@@ -1,9 +1,9 @@
-use Rattle.markdown_base.proofs.Prelude.{◌-◌, ap, sym, ◌∙◌, take, drop, arith, None, last_or, IsUtf8-between, Chars-Drains, encodes-chars}
-use Rattle.markdown_base.proofs.CharLemmas.{char_before_part, none_before}
+use Rattle.markdown_base.proofs.Prelude.{refl, chars-nil, ◌-◌, ap, sym, ◌∙◌, take, drop, arith, None, last_or, IsUtf8-between, Chars-Drains, encodes-chars}
+use Rattle.markdown_base.proofs.CharLemmas.{char_before_part}
 use Rattle.markdown_base.proofs.util.char.before_index.Goals as goal
 
 pub returns-then-index-eq0 : goal.returns-then-index-eq0
-returns-then-index-eq0 c = record { character = sym (none_before c.args.bytes.now c.args.index c.if-index-eq0.true) }
+returns-then-index-eq0 c = record { character = rw (c.if-index-eq0.true, chars-nil) refl }
 
 pub returns-in-Ok : goal.returns-in-Ok
 returns-in-Ok c =

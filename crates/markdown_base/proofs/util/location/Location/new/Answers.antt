@@ -1,13 +1,14 @@
 use Rattle.markdown_base.proofs.Prelude.{◌≡◌, ◌+◌, sym, ◌∙◌, ap, arith, ◌<◌, ◌^◌, length, subst, range_with_len, is_line_start, IsKept}
+use Rattle.std.proofs.Common.{true, false, append-nil}
 use Rattle.std.specs.List.{filter}
-use Rattle.markdown_base.proofs.LineLemmas.{passing_pushed, passing_kept, lines_are_kept}
+use Rattle.markdown_base.proofs.LineLemmas.{passing_next, lines_are_kept}
 use Rattle.markdown_base.proofs.util.location.Location.new.Goals as goal
 use Rattle.markdown_base.proofs.util.location.Location.new.Goals.{then-starts_line+in_ok-push, else-starts_line}
 
 pub loop-index-preserved : goal.loop-index-preserved
 loop-index-preserved c = elim c.if-starts_line.branch [
-  | then-starts_line+in_ok-push w ↦ passing_pushed (is_line_start c.args.bytes.now) c.loop-index.index c.loop-index.starts.items c.if-starts_line.starts.items c.loop-index.invariant (cc) (cc (w.in_ok-push.ensures.items))
-  | else-starts_line w ↦ rw w.starts-is (passing_kept (is_line_start c.args.bytes.now) c.loop-index.index c.loop-index.starts.items c.loop-index.invariant (cc))
+  | then-starts_line+in_ok-push w ↦ passing_next (is_line_start c.args.bytes.now) c.loop-index.index c.loop-index.starts.items c.if-starts_line.starts.items true c.loop-index.invariant (cc) (cc (w.in_ok-push.ensures.items))
+  | else-starts_line w ↦ passing_next (is_line_start c.args.bytes.now) c.loop-index.index c.loop-index.starts.items c.if-starts_line.starts.items false c.loop-index.invariant (cc) (rw append-nil (cc))
 ]
 
 pub invariant_of-result : goal.invariant_of-result

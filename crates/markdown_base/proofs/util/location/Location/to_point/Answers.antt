@@ -13,17 +13,13 @@ divides c =
 pub overflow_sub-line : goal.overflow_sub-line
 overflow_sub-line c = some_line c.self.inside.end c.args.offset c.self.inside.starts.items c.partition_point-line.result c.self.invariant (divides c)
 
--- that place is no further than their number
-inside : (c : After-partition_point-line) → c.partition_point-line.result ≤ length c.self.inside.starts.items
-inside c = rw c.deref.ensures.value at c.partition_point-line.ensures.bound
-
 pub overflow_sub-offset : goal.overflow_sub-offset
 overflow_sub-offset c =
     let p = (goal.at.overflow_sub-offset c).After-partition_point-line in
     let n = c.partition_point-line.result in
     let xs = c.self.inside.starts.items in
     let least = some_line c.self.inside.end c.args.offset xs n c.self.invariant (divides p) in
-    let within : n - 1 < length xs = omega (arith, inside p) in
+    let within : n - 1 < length xs = omega (arith, rw c.deref.ensures.value at c.partition_point-line.ensures.bound) in
     let next : n ≡ suc (n - 1) = omega arith in
     omega (arith, (get_or_read xs (n - 1) _ within c.index.ensures 0), starts_before c.args.offset xs (n - 1) (subst (Divides c.args.offset xs) next (divides p)))
 
@@ -33,6 +29,7 @@ returns c =
     let n = c.partition_point-line.result in
     let xs = c.self.inside.starts.items in
     let least = some_line c.self.inside.end c.args.offset xs n c.self.invariant (divides p) in
-    let within : n - 1 < length xs = omega (arith, inside p) in
-    let found = point_found c.self.inside.end c.args.offset xs n c.self.invariant c.if-offset-self.false (inside p) (divides p) in
+    let inside : n ≤ length xs = rw c.deref.ensures.value at c.partition_point-line.ensures.bound in
+    let within : n - 1 < length xs = omega arith in
+    let found = point_found c.self.inside.end c.args.offset xs n c.self.invariant c.if-offset-self.false inside (divides p) in
     record { point = rw (c.new.ensures, get_or_read xs (n - 1) _ within c.index.ensures 0, ← c.self.view_is) found }

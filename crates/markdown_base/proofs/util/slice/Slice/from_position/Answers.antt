@@ -1,4 +1,4 @@
-use Rattle.markdown_base.proofs.Prelude.{◌≡◌, ◌<◌, ◌≤◌, ℕ, arith, ap, sym, subst, ◌∙◌, slice_range, IsPointOf, spaces_before, first_byte}
+use Rattle.markdown_base.proofs.Prelude.{◌≡◌, ◌<◌, ◌≤◌, ℕ, arith, subst}
 use Rattle.markdown_base.proofs.ByteLemmas.{bytes-between}
 use Rattle.markdown_base.proofs.Cuts.{cut_place, first_ordered, place_inside}
 use Rattle.markdown_base.proofs.util.slice.Slice.from_position.Goals as goal
@@ -24,23 +24,15 @@ pub slice_bounds-result-end : goal.slice_bounds-result-end
 slice_bounds-result-end c =
     omega (arith, (place_inside c.args.tab_size (some c.get-t.ensures.columns c.get-t.ensures.least) c.args.bytes.now c.args.position.now.end.now c.requires.end_is_place).1)
 
-pub returns-clause-bytes : goal.returns-clause-bytes
-returns-clause-bytes c =
-    let bytes = c.args.bytes.now in
-    let start = c.args.position.now.start.now in
-    let end = c.args.position.now.end.now in
-    ap (λ a. slice_range bytes a c.first_byte-to.result) c.first_byte-from.ensures ∙ ap (λ b. slice_range bytes (first_byte start) b) c.first_byte-to.ensures
-    ∙ bytes-between bytes start end (first_ordered start end c.requires.ordered) (place_inside c.args.tab_size (some c.get-t.ensures.columns c.get-t.ensures.least) bytes end c.requires.end_is_place).1
-
-pub returns-clause-before : goal.returns-clause-before
-returns-clause-before c =
+pub returns : goal.returns
+returns c =
     let bytes = c.args.bytes.now in
     let start = c.args.position.now.start.now in
     let end = c.args.position.now.end.now in
     let is = c.get-t.ensures.columns in
-    c.spaces_before.ensures bytes (subst (λ t. IsPointOf t bytes start) (sym is) c.requires.start_is_place) (subst (λ t. IsPointOf t bytes end) (sym is) c.requires.end_is_place)
-    ∙ ap (λ t. spaces_before t bytes start end) is
-
-pub returns-clause-after : goal.returns-clause-after
-returns-clause-after c =
-    c.spaces_after.ensures c.args.tab_size c.args.bytes.now (some c.get-t.ensures.columns c.get-t.ensures.least) c.requires.start_is_place c.requires.end_is_place
+    record {
+      bytes = rw (c.first_byte-from.ensures, c.first_byte-to.ensures)
+          (bytes-between bytes start end (first_ordered start end c.requires.ordered) (place_inside c.args.tab_size (some is c.get-t.ensures.least) bytes end c.requires.end_is_place).1);
+      before = rw is at (c.spaces_before.ensures bytes (rw is c.requires.start_is_place) (rw is c.requires.end_is_place));
+      after = c.spaces_after.ensures c.args.tab_size bytes (some is c.get-t.ensures.least) c.requires.start_is_place c.requires.end_is_place;
+    }
