@@ -21,13 +21,8 @@ same_name-true m n e = same_true the_type tt m n e
 pub names_after_balanced : {xs : List Event} → IsBalanced xs → (st : List Name) → names_after_all (Some st) xs ≡ Some st
 names_after_balanced empty st = refl
 names_after_balanced (span e f xs ys {l} is en ex same b c) st =
-    ap (names_after_all (Some st)) is
-    ∙ ap (λ k. names_after_all (names_after k e.name st) (xs ++ f ∷ ys)) en
-    ∙ names_after_all-append (Some (e.name ∷ st)) xs (f ∷ ys)
-    ∙ ap (λ o. names_after_all o (f ∷ ys)) (names_after_balanced b (e.name ∷ st))
-    ∙ ap (λ k. names_after_all (names_after k f.name (e.name ∷ st)) ys) ex
-    ∙ ap (λ (t : Bool). names_after_all (cond t (Some st) None) ys) (ap (same_name e.name) same ∙ same_name-refl e.name)
-    ∙ names_after_balanced c st
+    rw (is, en, names_after_all-append (Some (e.name ∷ st)) xs (f ∷ ys), names_after_balanced b (e.name ∷ st), ex, same)
+    (ap (λ (t : Bool). names_after_all (cond t (Some st) None) ys) (same_name-refl e.name) ∙ names_after_balanced c st)
 
 -- what is left of a balanced list while names are open: for each a balanced list and its exit, and then a balanced list
 pub data Closes : List Name → List Event → Type 0 where

@@ -1,5 +1,5 @@
 -- Lists with one event changed.
-use Rattle.markdown_edits.proofs.Prelude.{◌≡◌, ℕ, zero, suc, ◌<◌, List, [], ◌∷◌, length, get_or, set, length-set, refl, ap, ◌∙◌, arith, IsSomeAnd, Event, with_next, with_previous, updated_at, linked_to}
+use Rattle.markdown_edits.proofs.Prelude.{◌≡◌, ℕ, zero, suc, ◌<◌, List, [], ◌∷◌, length, get_or, set, refl, ap, arith, IsSomeAnd, Event, updated_at}
 use Rattle.std.specs.Prelude.{slice_get}
 
 -- as many events as before
@@ -19,11 +19,3 @@ pub some-within : (P : Event → Type 0) (i : ℕ) (es : List Event) → IsSomeA
 some-within P i [] h = absurd h
 some-within P zero (e ∷ es) h = omega arith
 some-within P (suc i) (e ∷ es) h = let l = some-within P i es h in omega (arith, l)
-
--- two writes; the events are read with any default
-pub set-linked_to : (previous next : ℕ) (es : List Event) (d : Event) (a b : Event) → previous < length es → next < length es
-    → a ≡ with_next next (get_or es previous d) → b ≡ with_previous previous (get_or (set es previous a) next d) → set (set es previous a) next b ≡ linked_to previous next es
-set-linked_to previous next es d a b l m p q =
-    let one : set es previous a ≡ updated_at previous (with_next next) es = ap (set es previous) p ∙ set-updated_at previous (with_next next) es d l in
-    let inside : next < length (set es previous a) = rw (length-set es previous a) m in
-    ap (set (set es previous a) next) q ∙ set-updated_at next (with_previous previous) (set es previous a) d inside ∙ ap (updated_at next (with_previous previous)) one

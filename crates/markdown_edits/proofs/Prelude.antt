@@ -9,7 +9,7 @@ pub use Rattle.std.proofs.lemmas.List.Sorted.{IsPartitionPoint-from_clause, IsPa
 pub use Rattle.std.proofs.lemmas.Map.Iter.{rest_more}
 pub use Rattle.std.proofs.lemmas.Map.Keys.{sorted_head, sorted_tail}
 pub use Rattle.std.proofs.lemmas.Option.{none-some, same_Some, slice_get-map, slice_get_within}
-pub use Rattle.std.specs.BTreeMap.{BTreeMap, IsEmpty, insert_entry, is_at}
+pub use Rattle.std.specs.BTreeMap.{BTreeMap, insert_entry, is_at}
 pub use Rattle.std.specs.List.{All, AllByRecursion, between, slice_get}
 pub use Rattle.std.specs.List.Sorted.{IsNonDecreasingBy, IsPartitionPoint, IsStrictlySortedBy}
 pub use Rattle.std.specs.Map.{keys_of, lookup, set_value}
@@ -30,15 +30,15 @@ pub use Rattle.markdown_base.specs.declared.event.Name.{Name}
 pub use denote.Enum.Bare.{same_true, true_same}
 pub use Rattle.markdown_edits.specs.Edited.{as_addition, as_change, edited}
 pub use Rattle.markdown_edits.specs.Edits.{AreBehind, AreDisjoint, Edit, added_after, added_before, added_by, edit_at, is_no_edit, merged, put_after, put_before, put_by, removal_at}
-pub use Rattle.markdown_edits.specs.Links.{IsLinkedEnter, linked_to, next_of, previous_of, updated_at, with_next, with_previous}
+pub use Rattle.markdown_edits.specs.Links.{IsLinkedEnter, next_of, previous_of, updated_at, with_next, with_previous}
 pub use Rattle.markdown_edits.specs.OpenNames.{names_after, names_after_all}
-pub use Rattle.markdown_edits.specs.Shifts.{AreShifts, EndsFit, place_by, shifts}
+pub use Rattle.markdown_edits.specs.Shifts.{AreShifts, place_by, shifts}
 pub use Rattle.markdown_edits.specs.SpanWalks.{IsFront, IsLongestRunFrom, IsLongestRunTo, IsSpan, IsSpanRun, is_wanted, no_span, one_more}
 pub use Rattle.markdown_edits.specs.SpanWalksInner.{depth_after, flip, flip_kind, is_stop, mirror, run_len}
 pub use Rattle.markdown_edits.specs.Spliced.{moved, place_from, spliced}
 pub use Rattle.markdown_edits.specs.Stored.{IsAscending, IsPart, as_edit, edits_of, moved_by, part_edit, pooled}
 pub use Rattle.markdown_edits.specs.Survivors.{AreNew, KeepsLinks, KeepsOrder, StaysAsItWas, StaysUnlessRemoved, place_after}
-pub use Rattle.markdown_edits.specs.Woven.{Change, Identity, Tagged, as_listed, changed, events_at, is_removed, is_same, of_list, place_in, placed_end, placed_in, woven}
+pub use Rattle.markdown_edits.specs.Woven.{Change, Identity, Tagged, as_listed, events_at, is_removed, of_list, place_in, placed_end, placed_in, woven}
 pub use Rattle.markdown_edits.specs.declared.pool.Entry.{Entry}
 pub use Rattle.markdown_edits.specs.declared.replacement.Replacement.{Replacement}
 pub use Rattle.markdown_edits.specs.declared.shift.Shift.{Shift}

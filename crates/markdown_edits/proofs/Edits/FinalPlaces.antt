@@ -1,5 +1,5 @@
 -- The places of the events of a list after disjoint changes.
-use Rattle.markdown_edits.proofs.Prelude.{◌≡◌, ℕ, suc, ◌+◌, ◌-◌, ◌<◌, ◌≤◌, Bool, cond, ltb, List, [], ◌∷◌, ◌++◌, length, take, drop, Option, Some, None, refl, ap, subst, arith, length-drop, AllByRecursion, option_map, length-take-le, Event, Identity, of_list, Tagged, place_in, is_same, Change, nat_tests}
+use Rattle.markdown_edits.proofs.Prelude.{◌≡◌, ℕ, suc, ◌+◌, ◌-◌, ◌<◌, ◌≤◌, cond, ltb, List, [], ◌∷◌, ◌++◌, length, take, drop, Option, Some, None, refl, ap, subst, arith, length-drop, AllByRecursion, option_map, length-take-le, Event, Identity, of_list, Tagged, place_in, Change, nat_tests}
 use Rattle.markdown_edits.proofs.Edits.Passes.{olds, pass, AreApart, AreApart-le}
 
 -- the place in the first of two lists, or that in the second behind n
@@ -7,15 +7,9 @@ abbrev pub or_after : ℕ → Option ℕ → Option ℕ → Option ℕ
 or_after n None o = option_map (λ p. n + p) o
 or_after n (Some p) o = Some p
 
-or_after-step : (c : Bool) (n : ℕ) (a o : Option ℕ) → cond c (Some 0) (option_map suc (or_after n a o)) ≡ or_after (suc n) (cond c (Some 0) (option_map suc a)) o
-or_after-step c n a o = grind (arith, nat_tests)
-
-or_after-zero : (o : Option ℕ) → o ≡ or_after 0 None o
-or_after-zero o = grind (arith, nat_tests)
-
 pub place_in-append : (b : Identity) (xs ys : List Tagged) → place_in b (xs ++ ys) ≡ or_after (length xs) (place_in b xs) (place_in b ys)
-place_in-append b [] ys = or_after-zero (place_in b ys)
-place_in-append b (t ∷ xs) ys = rw (place_in-append b xs ys) (or_after-step (is_same b t.identity) (length xs) (place_in b xs) (place_in b ys))
+place_in-append b [] ys = grind (arith, nat_tests)
+place_in-append b (t ∷ xs) ys = rw (place_in-append b xs ys) (grind (arith, nat_tests))
 
 pub length-olds : (i : ℕ) (xs : List Event) → length (olds i xs) ≡ length xs
 length-olds i [] = refl
@@ -55,8 +49,7 @@ place_in-pass_below (e ∷ es) n i xs h d l =
     let b : e.index + e.remove ≤ i + length xs = AreApart-le es (e.index + e.remove) (i + length xs) d.1 in
     let m : i + length xs ≡ e.index + e.remove + length (drop (e.index + e.remove - i) xs) = omega (arith, length-drop (e.index + e.remove - i) xs) in
     let d' : AreApart (e.index + e.remove) es (e.index + e.remove + length (drop (e.index + e.remove - i) xs)) = subst (λ k. AreApart (e.index + e.remove) es k) m d.1 in
-    let more : place_in (of_list n) (pass es (e.index + e.remove) (drop (e.index + e.remove - i) xs)) ≡ None =
-    place_in-pass_below es n (e.index + e.remove) (drop (e.index + e.remove - i) xs) h.1 d' (omega arith) in
+    let more = place_in-pass_below es n (e.index + e.remove) (drop (e.index + e.remove - i) xs) h.1 d' (omega arith) in
     rw (place_in-part n i (take (e.index - i) xs) e.events (pass es (e.index + e.remove) (drop (e.index + e.remove - i) xs)) h.0, place_in-olds_below n i (take (e.index - i) xs) l, more) refl
 
 -- prefix sums place an event of the list: `removed` events went and `added` events came before i

@@ -1,11 +1,7 @@
 -- Edits whose additions are parts of one list.
-use Rattle.markdown_edits.proofs.Prelude.{◌≡◌, ℕ, zero, suc, ◌+◌, ◌-◌, ◌<◌, ◌≤◌, List, [], ◌∷◌, ◌++◌, length, map, take, drop, Some, refl, ◌∙◌, ap, arith, length-append, length-drop, All, AllByRecursion, between, slice_get, drop-append-add, map-append, drop-append-le, take-append-le, take_all, All-head, All-tail, All-map, same_Some, Event, Edit, edit_at, part_edit, pooled, IsPart, moved_by, IsAscending, Entry}
+use Rattle.markdown_edits.proofs.Prelude.{All-append, ◌≡◌, ℕ, zero, suc, ◌+◌, ◌-◌, ◌<◌, List, [], ◌∷◌, ◌++◌, length, map, take, drop, Some, refl, ◌∙◌, ap, arith, length-append, length-drop, All, AllByRecursion, between, slice_get, drop-append-add, map-append, drop-append-le, take-append-le, take_all, All-head, All-tail, All-map, same_Some, Event, Edit, edit_at, part_edit, pooled, IsPart, moved_by, IsAscending, Entry}
 
 module _ (xs ys : List Event) where
-  between-more : (s t : ℕ) → s ≤ t → t ≤ length xs → between s t (xs ++ ys) ≡ between s t xs
-  between-more s t l m =
-      ap (take (t - s)) (drop-append-le s xs ys (omega arith)) ∙ take-append-le (t - s) (drop s xs) ys (omega (arith, length-drop s xs))
-
   between-behind : (s t : ℕ) → between (s + length xs) (t + length xs) (xs ++ ys) ≡ between s t ys
   between-behind s t =
       let a : t + length xs - (s + length xs) ≡ t - s = omega arith in
@@ -17,26 +13,15 @@ module _ (xs ys : List Event) where
   pooled-more [] h = refl
   pooled-more (e ∷ es) h =
       let p = All-head (IsPart (length xs)) e es h in
-      ap (λ zs. edit_at e.index e.remove zs ∷ pooled (xs ++ ys) es) (between-more e.start e.end p.0 p.1)
+      let part = ap (take (e.end - e.start)) (drop-append-le e.start xs ys (omega (arith, p.0, p.1))) ∙ take-append-le (e.end - e.start) (drop e.start xs) ys (omega (arith, length-drop e.start xs, p.1)) in
+      ap (λ zs. edit_at e.index e.remove zs ∷ pooled (xs ++ ys) es) part
       ∙ ap (λ ds. part_edit xs e ∷ ds) (pooled-more es (All-tail (IsPart (length xs)) e es h))
-
-  pub parts-more : (es : List Entry) → All (IsPart (length xs)) es → All (IsPart (length (xs ++ ys))) es
-  parts-more es h k d l = let p = h k d l in (p.0, (omega (arith, length-append xs ys, p.1)))
 
   -- a second list's parts are further on in both together
   pooled-behind : (es : List Entry) → pooled (xs ++ ys) (map (moved_by (length xs)) es) ≡ pooled ys es
   pooled-behind [] = refl
   pooled-behind (e ∷ es) =
       ap (λ zs. edit_at e.index e.remove zs ∷ pooled (xs ++ ys) (map (moved_by (length xs)) es)) (between-behind e.start e.end) ∙ ap (λ ds. part_edit ys e ∷ ds) (pooled-behind es)
-
-  pub parts-behind : (es : List Entry) → All (IsPart (length ys)) es → All (IsPart (length (xs ++ ys))) (map (moved_by (length xs)) es)
-  parts-behind es h = All-map (IsPart (length (xs ++ ys))) (moved_by (length xs)) es (λ k d l. let p = h k d l in ((omega (arith, p.0)), (omega (arith, length-append xs ys, p.1))))
-
-  -- the edits of both together
-  pub pooled-both : (es fs : List Entry) → All (IsPart (length xs)) es → pooled (xs ++ ys) (es ++ map (moved_by (length xs)) fs) ≡ pooled xs es ++ pooled ys fs
-  pooled-both es fs h =
-      map-append (part_edit (xs ++ ys)) es (map (moved_by (length xs)) fs)
-      ∙ ap (λ ds. ds ++ pooled (xs ++ ys) (map (moved_by (length xs)) fs)) (pooled-more es h) ∙ ap (λ ds. pooled xs es ++ ds) (pooled-behind fs)
 
   -- an edit more, whose additions are put behind the others
   pub pooled-push : (es : List Entry) (e : Entry) → All (IsPart (length xs)) es → e.start ≡ length xs → e.end ≡ length xs + length ys
@@ -49,6 +34,19 @@ module _ (xs ys : List Event) where
       map-append (part_edit (xs ++ ys)) es (e ∷ [])
       ∙ ap (λ ds. ds ++ part_edit (xs ++ ys) e ∷ []) (pooled-more es h)
       ∙ ap (λ zs. pooled xs es ++ edit_at e.index e.remove zs ∷ []) part
+
+-- the entries of two pools together, whose additions are in one list
+module _ (xs ys zs : List Event) (es fs more all : List Entry) (n : ℕ) (additions : zs ≡ xs ++ ys) (entries : all ≡ es ++ map (moved_by n) more) (same : more ≡ fs) (shift : n ≡ length xs)
+    (inside : All (IsPart (length xs)) es) where
+  pub parts-both : All (IsPart (length ys)) fs → All (IsPart (length zs)) all
+  parts-both behind =
+      rw (additions, entries, same, shift)
+      (All-append (IsPart (length (xs ++ ys))) es (map (moved_by (length xs)) fs)
+      (λ k d l. let p = inside k d l in (p.0, (omega (arith, length-append xs ys, p.1))))
+      (All-map (IsPart (length (xs ++ ys))) (moved_by (length xs)) fs (λ k d l. let p = behind k d l in ((omega (arith, p.0)), (omega (arith, length-append xs ys, p.1))))))
+
+  pub pooled-both : pooled zs all ≡ pooled xs es ++ pooled ys fs
+  pooled-both = rw (additions, entries, same, shift, map-append (part_edit (xs ++ ys)) es (map (moved_by (length xs)) fs), pooled-more xs ys es inside, pooled-behind xs ys fs) refl
 
 -- if the last of ascending edits is before an index, all are
 pub all-before : (xs : List Event) (es : List Entry) (k : ℕ) (e : Entry) (n : ℕ) → suc k ≡ length es → Some e ≡ slice_get es k → IsAscending (pooled xs es) → e.index < n → AllByRecursion (λ (d : Edit). d.index < n) (pooled xs es)

@@ -1,5 +1,5 @@
 -- Edits put into a list in the order of the indices.
-use Rattle.markdown_edits.proofs.Prelude.{◌≡◌, ℕ, ◌<◌, ◌≤◌, Bool, true, false, cond, List, [], ◌∷◌, ◌++◌, append-nil, append_assoc, refl, sym, ◌∙◌, ap, ⊎_elim, arith, AllByRecursion, cases_order, Event, every-map, Edit, merged, put_by, put_before, put_after, removal_at, is_no_edit, added_after, added_before, IsAscending, nat_tests}
+use Rattle.markdown_edits.proofs.Prelude.{◌≡◌, ℕ, ◌<◌, ◌≤◌, Bool, true, false, cond, List, [], ◌∷◌, ◌++◌, append-nil, refl, sym, ◌∙◌, ap, ⊎_elim, arith, AllByRecursion, cases_order, Event, every-map, Edit, merged, put_by, put_before, put_after, removal_at, is_no_edit, added_after, added_before, IsAscending, nat_tests}
 
 module _ (f : List Event → List Event → List Event) where
   pub put-less : (e d : Edit) (es : List Edit) → d.index < e.index → put_by f (e ∷ es) d ≡ d ∷ e ∷ es
@@ -88,10 +88,6 @@ pub IsAscending-last : (es ds : List Edit) → IsAscending (es ++ ds) → IsAsce
 IsAscending-last [] ds a = a
 IsAscending-last (e ∷ es) ds a = IsAscending-last es ds a.1
 
--- the edits after one of them have greater indices
-pub above-next : (es : List Edit) (d : Edit) (ds : List Edit) → IsAscending (es ++ d ∷ ds) → AllByRecursion (λ (e : Edit). d.index < e.index) ds
-above-next es d ds a = let b : IsAscending (d ∷ ds) = IsAscending-last es (d ∷ ds) a in b.0
-
 -- what holds of the edits of two lists holds of the second one's
 pub every-last : (P : Edit → Type 0) (es ds : List Edit) → AllByRecursion P (es ++ ds) → AllByRecursion P ds
 every-last P [] ds h = h
@@ -101,10 +97,6 @@ every-last P (e ∷ es) ds h = every-last P es ds h.1
 pub none-below : (es : List Edit) → AllByRecursion (λ (e : Edit). e.index < 0) es → es ≡ []
 none-below [] h = refl
 none-below (e ∷ es) h = absurd (let l : e.index < 0 = h.0 in omega arith)
-
--- the edits of two maps, if one of the four lists is empty
-pub joined-nil : (es ds more ms : List Edit) → ds ≡ [] → (es ++ more) ++ ms ≡ (es ++ ds) ++ (more ++ ms)
-joined-nil es ds more ms z = append_assoc es more ms ∙ ap (λ fs. fs ++ (more ++ ms)) (sym (ap (λ fs. es ++ fs) z ∙ append-nil es))
 
 -- both lists are empty if both together are
 pub nil-both : (es ds : List Edit) → es ++ ds ≡ [] → (es ≡ []) × (ds ≡ [])

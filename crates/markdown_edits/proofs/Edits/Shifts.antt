@@ -1,6 +1,7 @@
 -- The table of shifts: what it says of a place, and how it is searched.
-use Rattle.markdown_edits.proofs.Prelude.{◌≡◌, ℕ, zero, suc, ◌+◌, ◌-◌, ◌<◌, ◌≤◌, ◌^◌, true, cond, ltb, List, [], ◌∷◌, length, get_or, Option, Some, None, refl, ap, subst, arith, All, IsNonDecreasingBy, lt-ltb, Event, Link, EndsBelow, EachEnd, Edit, AreDisjoint, added_by, shifts, place_by, AreShifts, EndsFit, place_from, Shift, nat_tests}
+use Rattle.markdown_edits.proofs.Prelude.{◌≡◌, ℕ, zero, suc, ◌+◌, ◌-◌, ◌<◌, ◌≤◌, ◌^◌, true, cond, ltb, List, [], ◌∷◌, length, get_or, Option, Some, None, refl, ap, subst, arith, IsNonDecreasingBy, lt-ltb, Link, EachEnd, Edit, AreDisjoint, added_by, shifts, place_by, AreShifts, place_from, Shift, nat_tests}
 use Rattle.std.proofs.Common.{IfSome}
+use Rattle.std.proofs.lemmas.Option.{IfSome_then}
 
 -- the table gives the places that the edits give
 pub place_by-shifts : (es : List Edit) (removed added n : ℕ) → place_by (shifts removed added es) removed added n ≡ place_from es removed added n
@@ -20,16 +21,10 @@ AreShifts-le [] m n from l h = tt
 AreShifts-le (s ∷ ss) m n from l h = let a : n + s.added < 2 ^ 64 = h.3 in (h.0, h.1, h.2, (omega arith), AreShifts-le ss m n s.end l h.4)
 
 -- nor is a link end that is one
-end_fits : (ss : List Shift) (n : ℕ) (o : Option ℕ) → AreShifts n 0 ss → IfSome o (λ k. k < n) → IfSome o (λ k. AreShifts k 0 ss)
-end_fits ss n None h l = tt
-end_fits ss n (Some k) h l = let a : k < n = l in AreShifts-le ss k n 0 (omega arith) h
-
-link_fits : (ss : List Shift) (n : ℕ) (o : Option Link) → AreShifts n 0 ss → IfSome o (EachEnd (λ k. k < n)) → IfSome o (EachEnd (λ k. AreShifts k 0 ss))
-link_fits ss n None h l = tt
-link_fits ss n (Some k) h l = (end_fits ss n k.previous h l.0, end_fits ss n k.next h l.1)
-
-pub EndsFit-all : (ss : List Shift) (n : ℕ) (xs : List Event) → AreShifts n 0 ss → All (EndsBelow n) xs → All (EndsFit ss) xs
-EndsFit-all ss n xs h b = λ k d l. link_fits ss n (get_or xs k d).link h (b k d l)
+pub link_fits : (ss : List Shift) (n : ℕ) (o : Option Link) → AreShifts n 0 ss → IfSome o (EachEnd (λ k. k < n)) → IfSome o (EachEnd (λ k. AreShifts k 0 ss))
+link_fits ss n o h l =
+    let fits = λ (k : ℕ) (below : k < n). AreShifts-le ss k n 0 (omega arith) h in
+    IfSome_then o l (λ link ends. (IfSome_then link.previous ends.0 fits, IfSome_then link.next ends.1 fits))
 
 -- the indices of a table ascend
 above : (ss : List Shift) (n from i : ℕ) (d : Shift) → AreShifts n from ss → i < length ss → from ≤ (get_or ss i d).index
@@ -60,21 +55,13 @@ place_by-row (r ∷ ss) zero removed added n from s h l g a b =
     grind (arith, nat_tests)
 place_by-row (r ∷ ss) (suc k) removed added n from s h l g a b =
     let c : r.index ≤ r.end = h.1 in
-    let e : r.end ≤ s.index = row_above ss k s h.4 (omega arith) g in
-    let rest = place_by-row ss k r.removed r.added n r.end s h.4 (omega arith) g a (λ d m. later d m) in
+    let e : r.end ≤ s.index = omega (arith, above ss n r.end k s h.4 (omega arith), ap (λ (x : Shift). x.index) g) in
+    let z : suc k + 1 ≡ suc (k + 1) = omega arith in
+    let rest = place_by-row ss k r.removed r.added n r.end s h.4 (omega arith) g a (λ d m. subst (λ (q : ℕ). n < (get_or (r ∷ ss) q d).index) z (b d (omega arith))) in
     grind (arith, nat_tests)
-  where
-    later : (d : Shift) → k + 1 < length ss → n < (get_or ss (k + 1) d).index
-    later d m = let z : suc k + 1 ≡ suc (k + 1) = omega arith in subst (λ (q : ℕ). n < (get_or (r ∷ ss) q d).index) z (b d (omega arith))
-
-    row_above : (ss : List Shift) (k : ℕ) (s : Shift) → AreShifts n r.end ss → k < length ss → s ≡ get_or ss k s → r.end ≤ s.index
-    row_above ss k s h l g = omega (arith, above ss n r.end k s h l, ap (λ (x : Shift). x.index) g)
 
 -- a row's sums fit
 pub row_fits : (ss : List Shift) (k n from : ℕ) (s : Shift) → AreShifts n from ss → k < length ss → s ≡ get_or ss k s → (s.removed ≤ s.end) × (n + s.added < 2 ^ 64)
 row_fits [] k n from s h l g = absurd (omega arith)
-row_fits (r ∷ ss) zero n from s h l g =
-    let a : r.removed ≤ r.end = h.2 in
-    let b : n + r.added < 2 ^ 64 = h.3 in
-    ((omega (arith, ap (λ (x : Shift). x.removed) g, ap (λ (x : Shift). x.end) g)), (omega (arith, ap (λ (x : Shift). x.added) g)))
+row_fits (r ∷ ss) zero n from s h l g = rw g (h.2, h.3)
 row_fits (r ∷ ss) (suc k) n from s h l g = row_fits ss k n r.end s h.4 (omega arith) g

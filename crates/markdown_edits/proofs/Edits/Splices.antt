@@ -1,5 +1,5 @@
 -- The edited list by identities is the one by prefix sums.
-use Rattle.markdown_edits.proofs.Prelude.{◌≡◌, ℕ, ◌+◌, ◌-◌, ◌<◌, cond, ltb, List, [], ◌∷◌, ◌++◌, map, length, take, drop, Option, Some, None, refl, sym, ◌∙◌, ap, subst, arith, option_map, option_and_then, IfSome, All, map-append, length-map, All-head, All-tail, All-take, All-drop, All-from_recursion, Event, Link, relinked, with_ends, EndsBelow, EachEnd, Edit, AreDisjoint, as_addition, as_change, edited, Change, of_list, Tagged, place_in, placed_end, woven, placed_in, AreNew, shifts, place_by, place_from, moved, spliced}
+use Rattle.markdown_edits.proofs.Prelude.{◌≡◌, ℕ, ◌+◌, ◌-◌, ◌<◌, cond, ltb, List, [], ◌∷◌, map, length, take, drop, Option, Some, None, refl, sym, ◌∙◌, ap, subst, arith, option_map, option_and_then, IfSome, All, map-append, length-map, All-head, All-tail, All-take, All-drop, Event, Link, relinked, with_ends, EndsBelow, EachEnd, Edit, AreDisjoint, as_addition, as_change, edited, of_list, Tagged, place_in, woven, placed_in, shifts, place_by, place_from, moved, spliced}
 use Rattle.markdown_edits.proofs.Edits.Passes.{olds, pass, AreApart, woven-pass}
 use Rattle.markdown_edits.proofs.Edits.FinalPlaces.{HasNo, old_place, old_place-pass}
 use Rattle.markdown_edits.proofs.Edits.Shifts.{place_by-shifts}
@@ -14,12 +14,9 @@ place_in-additions n [] = refl
 place_in-additions n (x ∷ xs) = rw (place_in-additions n xs) refl
 
 -- no addition is an event of the list
-HasNo-edits : (n : ℕ) (es : List Edit) → HasNo (of_list n) (map as_change es)
+pub HasNo-edits : (n : ℕ) (es : List Edit) → HasNo (of_list n) (map as_change es)
 HasNo-edits n [] = tt
 HasNo-edits n (e ∷ es) = (place_in-additions n e.additions, HasNo-edits n es)
-
-pub AreNew-edits : (es : List Edit) → AreNew (map as_change es)
-AreNew-edits es n = All-from_recursion (λ (w : Change). place_in (of_list n) w.events ≡ None) (map as_change es) (HasNo-edits n es)
 
 old_place-edits : (es : List Edit) (removed added n : ℕ) → old_place (map as_change es) removed added n ≡ place_from es removed added n
 old_place-edits [] removed added n = refl
@@ -28,14 +25,10 @@ old_place-edits (e ∷ es) removed added n =
     (ap (λ (o : Option ℕ). cond (ltb n e.index) (Some (n - removed + added)) (cond (ltb n (e.index + e.remove)) None o)) (old_place-edits es (removed + e.remove) (added + length e.additions) n))
 
 -- ends that are left as they are
-end_same : (o : Option ℕ) → option_and_then Some o ≡ o
-end_same o = grind arith
-
-link_same : (o : Option Link) → option_map (with_ends Some) o ≡ o
-link_same o = grind arith
-
 pub relinked-same : (e : Event) → relinked Some e ≡ e
-relinked-same e = ap (λ (l : Option Link). record e { link = l }) (link_same e.link)
+relinked-same e =
+    let same : option_map (with_ends Some) e.link ≡ e.link = grind arith in
+    ap (λ (l : Option Link). record e { link = l }) same
 
 -- two ways to move ends that agree below n
 end_agree : (f g : ℕ → Option ℕ) (n : ℕ) (o : Option ℕ) → ((k : ℕ) → k < n → f k ≡ g k) → IfSome o (λ k. k < n) → option_and_then f o ≡ option_and_then g o
@@ -53,9 +46,6 @@ pub placed_in-additions : (ts : List Tagged) (xs : List Event) → placed_in ts 
 placed_in-additions ts [] = refl
 placed_in-additions ts (x ∷ xs) = rw (relinked-same x, placed_in-additions ts xs) refl
 
-pub placed_in-append : (ts us vs : List Tagged) → placed_in ts (us ++ vs) ≡ placed_in ts us ++ placed_in ts vs
-placed_in-append ts us vs = map-append (λ (u : Tagged). relinked (placed_end ts u.identity) u.event) us vs
-
 pub placed_in-olds : (ts : List Tagged) (place : ℕ → Option ℕ) (n i : ℕ) (xs : List Event) → ((k : ℕ) → k < n → place_in (of_list k) ts ≡ place k) → All (EndsBelow n) xs → placed_in ts (olds i xs) ≡ moved place xs
 placed_in-olds ts place n i [] h b = refl
 placed_in-olds ts place n i (x ∷ xs) h b =
@@ -66,8 +56,8 @@ pub placed_in-pass : (ts : List Tagged) (place : ℕ → Option ℕ) (n : ℕ) �
 placed_in-pass ts place n h [] i xs b = placed_in-olds ts place n i xs h b
 placed_in-pass ts place n h (e ∷ es) i xs b =
     rw (
-      placed_in-append ts (olds i (take (e.index - i) xs)) (map as_addition e.additions ++ pass (map as_change es) (e.index + e.remove) (drop (e.index + e.remove - i) xs)),
-      placed_in-append ts (map as_addition e.additions) (pass (map as_change es) (e.index + e.remove) (drop (e.index + e.remove - i) xs)),
+      map-append,
+      map-append,
       placed_in-additions ts e.additions,
       (placed_in-olds ts place n i (take (e.index - i) xs) h (All-take (EndsBelow n) (e.index - i) xs b)),
       (placed_in-pass ts place n h es (e.index + e.remove) (drop (e.index + e.remove - i) xs) (All-drop (EndsBelow n) (e.index + e.remove - i) xs b)),
@@ -76,16 +66,6 @@ placed_in-pass ts place n h (e ∷ es) i xs b =
 -- a place that nothing has shifted
 pub same_shift : (o : Option ℕ) → option_map (λ p. 0 - 0 + 0 + p) o ≡ o
 same_shift o = grind arith
-
--- an event's place by prefix sums
-pub place_in-woven : (es : List Edit) (xs : List Event) → AreDisjoint 0 es (length xs) → (k : ℕ) → k < length xs → place_in (of_list k) (woven (map as_change es) 0 xs) ≡ place_from es 0 0 k
-place_in-woven es xs d k l =
-    let z : length xs ≡ 0 + length xs = omega arith in
-    let d' : AreApart 0 (map as_change es) (0 + length xs) = subst (λ m. AreApart 0 (map as_change es) m) z (AreApart-edits es 0 (length xs) d) in
-    rw (woven-pass (map as_change es) 0 xs d')
-    (sym (same_shift (place_in (of_list k) (pass (map as_change es) 0 xs)))
-    ∙ old_place-pass (map as_change es) k 0 0 0 xs (HasNo-edits k es) d' (omega arith) (omega arith) (omega arith)
-    ∙ old_place-edits es 0 0 k)
 
 -- the new places of the events of a list after edits, by the table of their shifts
 abbrev pub place_after : List Edit → ℕ → Option ℕ
@@ -97,8 +77,11 @@ edited-spliced es xs d b =
     let z : length xs ≡ 0 + length xs = omega arith in
     let d' : AreApart 0 (map as_change es) (0 + length xs) = subst (λ m. AreApart 0 (map as_change es) m) z (AreApart-edits es 0 (length xs) d) in
     let all : List Tagged = woven (map as_change es) 0 xs in
-    ap (placed_in all) (woven-pass (map as_change es) 0 xs d')
-    ∙ placed_in-pass all (place_after es) (length xs) (λ k l. place_in-woven es xs d k l ∙ sym (place_by-shifts es 0 0 k)) es 0 xs b
+    let place : (k : ℕ) → k < length xs → place_in (of_list k) all ≡ place_after es k = λ k l.
+    ap (place_in (of_list k)) (woven-pass (map as_change es) 0 xs d') ∙ sym (same_shift (place_in (of_list k) (pass (map as_change es) 0 xs)))
+    ∙ old_place-pass (map as_change es) k 0 0 0 xs (HasNo-edits k es) d' (omega arith) (omega arith) (omega arith)
+    ∙ old_place-edits es 0 0 k ∙ sym (place_by-shifts es 0 0 k) in
+    ap (placed_in all) (woven-pass (map as_change es) 0 xs d') ∙ placed_in-pass all (place_after es) (length xs) place es 0 xs b
 
 moved-none : (n : ℕ) (xs : List Event) → All (EndsBelow n) xs → moved (place_by [] 0 0) xs ≡ xs
 moved-none n [] b = refl

@@ -1,14 +1,10 @@
 -- The events of a list that stay through changes keep their order, and links between them.
-use Rattle.markdown_edits.proofs.Prelude.{◌≡◌, ℕ, suc, ◌+◌, ◌-◌, ◌<◌, ◌≤◌, ◌⊎◌, ◌↔◌, Bool, false, not, cond, eqb, List, [], ◌∷◌, ◌++◌, length, Option, Some, None, refl, sym, ◌∙◌, ap, inl, inr, ⊎_elim, arith, slice_get, option_map, option_and_then, is_some, cases_order, none-some, slice_get-map, recursion_from_All, Event, Link, relinked, next_of, previous_of, Identity, of_list, Tagged, as_listed, place_in, placed_end, Change, events_at, is_removed, woven, changed, AreNew, place_after, StaysUnlessRemoved, StaysAsItWas, KeepsOrder, KeepsLinks, nat_tests, common_steps}
+use Rattle.markdown_edits.proofs.Prelude.{cases_order, ◌≡◌, ℕ, suc, ◌+◌, ◌-◌, ◌<◌, ◌≤◌, ◌⊎◌, ◌↔◌, Bool, false, not, cond, eqb, List, [], ◌∷◌, ◌++◌, length, Option, Some, None, refl, sym, ◌∙◌, ap, inl, inr, ⊎_elim, arith, slice_get, option_map, option_and_then, is_some, none-some, slice_get-map, recursion_from_All, Event, Link, relinked, next_of, previous_of, Identity, of_list, Tagged, as_listed, place_in, placed_end, Change, events_at, is_removed, woven, AreNew, place_after, StaysUnlessRemoved, StaysAsItWas, KeepsOrder, KeepsLinks, nat_tests, common_steps}
 use Rattle.markdown_edits.proofs.Edits.FinalPlaces.{HasNo, place_in-append}
 
 place_in-events_at : (b : Identity) (ws : List Change) (i : ℕ) → HasNo b ws → place_in b (events_at ws i) ≡ None
 place_in-events_at b [] i h = refl
-place_in-events_at b (w ∷ ws) i h =
-    let rest = place_in-events_at b ws i h.1 in
-    let both = place_in-append b w.events (events_at ws i) in
-    let none = h.0 in
-    grind (arith, nat_tests)
+place_in-events_at b (w ∷ ws) i h = grind (arith, nat_tests, h.0, place_in-append b w.events (events_at ws i), place_in-events_at b ws i h.1)
 
 -- the place in the list from the next index on, counted after the events at this one
 abbrev behind : ℕ → Bool → Bool → Option ℕ → Option ℕ
@@ -18,10 +14,7 @@ place_in-woven_cons : (ws : List Change) (n i : ℕ) (x : Event) (xs : List Even
     → place_in (of_list n) (woven ws i (x ∷ xs)) ≡ behind (length (events_at ws i)) (is_removed ws i) (eqb n i) (place_in (of_list n) (woven ws (i + 1) xs))
 place_in-woven_cons ws n i x xs h =
     rw (place_in-append (of_list n) (events_at ws i) (cond (is_removed ws i) [] (as_listed i x ∷ []) ++ woven ws (i + 1) xs), place_in-events_at (of_list n) ws i h)
-    (ap (option_map (λ p. length (events_at ws i) + p)) (shape (is_removed ws i) (woven ws (i + 1) xs)))
-  where
-    shape : (gone : Bool) (ts : List Tagged) → place_in (of_list n) (cond gone [] (as_listed i x ∷ []) ++ ts) ≡ cond gone (place_in (of_list n) ts) (cond (eqb n i) (Some 0) (option_map suc (place_in (of_list n) ts)))
-    shape gone ts = grind arith
+    (grind arith)
 
 -- a place is the place of the event at this index, or a later one
 record Here (ws : List Change) (n i p : ℕ) : Type 0 where
@@ -48,17 +41,12 @@ le_of_place : (ws : List Change) (n i p : ℕ) (xs : List Event) → HasNo (of_l
 le_of_place ws n i p [] h e = absurd (none-some p (sym (place_in-events_at (of_list n) ws i h) ∙ e))
 le_of_place ws n i p (x ∷ xs) h e = elim (woven_cases ws n i p x xs h e) [ inl k ↦ omega (arith, k.same) | inr k ↦ omega (arith, le_of_place ws n (i + 1) k.place xs h k.found) ]
 
-place_in-below : (ws : List Change) (n i : ℕ) (xs : List Event) → HasNo (of_list n) ws → n < i → place_in (of_list n) (woven ws i xs) ≡ None
-place_in-below ws n i xs h l = let least = λ (p : ℕ). le_of_place ws n i p xs h in grind (arith, nat_tests)
-
 -- an event stays unless it is removed
 stays : (ws : List Change) (n i : ℕ) (xs : List Event) → HasNo (of_list n) ws → i ≤ n → n < i + length xs → is_some (place_in (of_list n) (woven ws i xs)) ≡ not (is_removed ws n)
 stays ws n i [] h l m = absurd (omega arith)
 stays ws n i (x ∷ xs) h l m =
-    let here = place_in-woven_cons ws n i x xs h in
-    let below = place_in-below ws n (i + 1) xs h in
-    let rest = stays ws n (i + 1) xs h in
-    grind (arith, nat_tests)
+    let least = λ (p : ℕ). le_of_place ws n (i + 1) p xs h in
+    grind (arith, nat_tests, place_in-woven_cons ws n i x xs h, stays ws n (i + 1) xs h)
 
 -- events that stay keep their order
 order : (ws : List Change) (n m i p q : ℕ) (xs : List Event) → HasNo (of_list n) ws → HasNo (of_list m) ws
@@ -130,24 +118,20 @@ pub previous_moved : (f : ℕ → Option ℕ) (o : Option Event) → option_and_
 previous_moved f o = grind arith
 
 -- no two events have the same new place
-one_place : (ws : List Change) (xs : List Event) → AreNew ws → (n m p : ℕ) → place_after ws xs n ≡ Some p → place_after ws xs m ≡ Some p → n ≡ m
-one_place ws xs new n m p e f = ⊎_elim
-    (λ (s : n ≡ m). s)
-    (⊎_elim
-    (λ (l : n < m). absurd (omega (arith, keeps_order ws xs new n m p p e f l)))
-    (λ (l : m < n). absurd (omega (arith, keeps_order ws xs new m n p p f e l))))
-    (cases_order n m)
-
 moved_end : (ws : List Change) (xs : List Event) → AreNew ws → (m q : ℕ) → place_after ws xs m ≡ Some q → (o : Option ℕ) → (o ≡ Some m) ↔ (option_and_then (place_after ws xs) o ≡ Some q)
 moved_end ws xs new m q f None = (λ e. cc, λ e. cc)
-moved_end ws xs new m q f (Some k) = (λ e. cc, λ e. ap Some (one_place ws xs new k m q e f))
+moved_end ws xs new m q f (Some k) = (
+  λ e. cc,
+  λ e. elim (cases_order k m) [
+    | inl same ↦ ap Some same
+    | inr other ↦ absurd (elim other [ inl l ↦ omega (arith, keeps_order ws xs new k m q q e f l) | inr l ↦ omega (arith, keeps_order ws xs new m k q q f e l) ])
+  ],
+)
 
 pub keeps_links : (ws : List Change) (xs : List Event) → AreNew ws → KeepsLinks ws xs
 keeps_links ws xs new n m p q e f =
-    let next : next_of (changed ws xs) p ≡ option_and_then (place_after ws xs) (next_of xs n) =
-    ap (option_and_then (λ (e : Event). option_and_then (λ (l : Link). l.next) e.link)) (stays_as_it_was ws xs new n p e) ∙ next_moved (place_after ws xs) (slice_get xs n) in
-    let previous : previous_of (changed ws xs) q ≡ option_and_then (place_after ws xs) (previous_of xs m) =
-    ap (option_and_then (λ (e : Event). option_and_then (λ (l : Link). l.previous) e.link)) (stays_as_it_was ws xs new m q f) ∙ previous_moved (place_after ws xs) (slice_get xs m) in
+    let next = ap (option_and_then (λ (e : Event). option_and_then (λ (l : Link). l.next) e.link)) (stays_as_it_was ws xs new n p e) ∙ next_moved (place_after ws xs) (slice_get xs n) in
+    let previous = ap (option_and_then (λ (e : Event). option_and_then (λ (l : Link). l.previous) e.link)) (stays_as_it_was ws xs new m q f) ∙ previous_moved (place_after ws xs) (slice_get xs m) in
     let on = moved_end ws xs new m q f (next_of xs n) in
     let back = moved_end ws xs new n p e (previous_of xs m) in
     ((λ a. (next ∙ on.0 a.0, previous ∙ back.0 a.1)), (λ a. (on.1 (sym next ∙ a.0), back.1 (sym previous ∙ a.1))))

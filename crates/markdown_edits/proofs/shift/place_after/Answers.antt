@@ -7,11 +7,6 @@ use Rattle.markdown_edits.proofs.shift.place_after.Goals.{After-partition_point-
 abbrev IsParted : List Shift → ℕ → ℕ → Type 0
 IsParted ss n i = IsPartitionPoint (λ (s : Shift). leb s.index n ≡ true) (λ (s : Shift). leb s.index n ≡ false) ss i
 
-front : (ss : List Shift) (n i : ℕ) → i ≡ 0 → IsParted ss n i → Some n ≡ place_by ss 0 0 n
-front ss n i z p =
-    let same : n - 0 + 0 ≡ n = omega arith in
-    sym (place_by-front ss 0 0 n (λ d l. leb-false (get_or ss 0 d).index n (p.1 0 d (omega arith) l)) ∙ ap Some same)
-
 -- the last of them decides the new place of the index
 behind : (ss : List Shift) (n i : ℕ) (d : Shift) → (i ≡ 0 → ⊥) → i ≤ length ss → AreShifts n 0 ss → IsParted ss n i → place_by ss 0 0 n ≡ place_at (get_or ss (i - 1) d) n
 behind ss n i d some l h p =
@@ -27,7 +22,11 @@ parted c = IsPartitionPoint-from_clause (λ (s : Shift). leb s.index c.args.inde
     (IsPartitionedBy-leb (λ s. s.index) c.args.shifts.now c.args.index (IsNonDecreasingBy-shifts c.args.shifts.now c.args.index 0 c.requires)) (λ a r q k. search rules)
 
 pub returns-then-begun-eq0 : goal.returns-then-begun-eq0
-returns-then-begun-eq0 c = front c.args.shifts.now c.args.index c.partition_point-begun.result c.if-begun-eq0.true (parted (goal.at.returns-then-begun-eq0 c).After-partition_point-begun)
+returns-then-begun-eq0 c =
+    let n = c.args.index in
+    let p = parted (goal.at.returns-then-begun-eq0 c).After-partition_point-begun in
+    let same : n - 0 + 0 ≡ n = omega arith in
+    sym (place_by-front c.args.shifts.now 0 0 n (λ d l. leb-false (get_or c.args.shifts.now 0 d).index n (p.1 0 d (omega arith) l)) ∙ ap Some same)
 
 abbrev no_shift : Shift
 no_shift = record { index = 0; end = 0; removed = 0; added = 0 }

@@ -7,13 +7,13 @@ pub overflow_add-removed : goal.overflow_add-removed
 overflow_add-removed c =
     let i = c.loop-edit.invariant.rest in
     let next = next_edit c.args.additions.now c.args.edits.now c.loop-edit.edit-index i.0 c.args.len c.loop-edit-test.true i.2 in
-    omega (arith, next.starts, next.ends, i.1, c.ranges.len.fits)
+    omega (arith, next.0, next.1, i.1, c.ranges.len.fits)
 
 pub overflow_add-edit : goal.overflow_add-edit
 overflow_add-edit c =
     let i = c.loop-edit.invariant.rest in
     let next = next_edit c.args.additions.now c.args.edits.now c.loop-edit.edit-index i.0 c.args.len c.loop-edit-test.true i.2 in
-    omega (arith, next.ends, c.ranges.len.fits)
+    omega (arith, next.1, c.ranges.len.fits)
 
 pub returns-clause-fits : goal.returns-clause-fits
 returns-clause-fits c =

@@ -1,4 +1,4 @@
-use Rattle.markdown_edits.proofs.Prelude.{◌≡◌, ◌++◌, ◌∷◌, [], ◌≤◌, false, List, sym, subst, ap, ◌∙◌, arith, Event, Edit, edit_at, is_no_edit, put_by, removal_at, IsAscending}
+use Rattle.markdown_edits.proofs.Prelude.{◌≡◌, ◌++◌, ◌∷◌, [], ◌≤◌, false, List, sym, subst, ap, ◌∙◌, arith, Event, Edit, edit_at, is_no_edit, removal_at, IsAscending}
 use Rattle.markdown_edits.proofs.Edits.Puts.{joined, IsAscending-pushed, added-pushed, put-second, added-put, removal_at-behind, IsAscending-put, IsAscending-first}
 use Rattle.markdown_edits.proofs.edit_map.EditMap.add_impl.Goals as goal
 
@@ -7,9 +7,8 @@ is_last-requires c = IsAscending-first c.self.inside.front c.self.inside.behind 
 
 pub invariant_of-self-then-is_last : goal.invariant_of-self-then-is_last
 invariant_of-self-then-is_last c =
-    let d : Edit = edit_at c.args.index c.args.remove c.args.additions.items in
-    let push = c.in_ok-push.ensures.ok ∙ ap (λ (xs : List Event). c.self.inside.front ++ edit_at c.args.index c.args.remove xs ∷ []) c.deref-then-is_last.ensures.value in
-    IsAscending-pushed c.args.before c.self.inside.front c.self.inside.behind _ [] d push (c.is_last.ensures.none c.if-is_last.true) (c.is_last.ensures.all c.if-is_last.true) c.self.invariant
+    IsAscending-pushed c.args.before c.self.inside.front c.self.inside.behind _ [] (edit_at c.args.index c.args.remove c.deref-then-is_last.result.now) c.in_ok-push.ensures.ok
+    (c.is_last.ensures.none c.if-is_last.true) (c.is_last.ensures.all c.if-is_last.true) c.self.invariant
 
 pub returns-then-is_last-clause-ok : goal.returns-then-is_last-clause-ok
 returns-then-is_last-clause-ok c =
@@ -27,15 +26,13 @@ add-requires c =
 pub invariant_of-self-2 : goal.invariant_of-self-2
 invariant_of-self-2 c =
     let d : Edit = edit_at c.args.index c.args.remove c.args.additions.items in
-    let put = ap (λ (es : List Edit). c.sink.new.front ++ es) c.in_ok-add.ensures.ok
-    ∙ put-second c.args.before c.sink.new.front c.sink.new.behind d c.in_ok-sink.ensures.ok in
-    subst IsAscending (sym put) (IsAscending-put (joined c.args.before) (c.sink.new.front ++ c.sink.new.behind) d (subst IsAscending (sym c.sink.ensures.same) c.self.invariant))
+    rw (c.in_ok-add.ensures.ok, put-second c.args.before c.sink.new.front c.sink.new.behind d c.in_ok-sink.ensures.ok)
+    (IsAscending-put (joined c.args.before) (c.sink.new.front ++ c.sink.new.behind) d (subst IsAscending (sym c.sink.ensures.same) c.self.invariant))
 
 pub returns-clause-ok : goal.returns-clause-ok
 returns-clause-ok c =
     let d : Edit = edit_at c.args.index c.args.remove c.args.additions.items in
     let some : is_no_edit d ≡ false =
     sym (c.is_nothing.ensures ∙ ap (λ (xs : List Event). is_no_edit (edit_at 0 c.args.remove xs)) c.deref.ensures.value) ∙ c.if-is_nothing.false in
-    ap (λ (es : List Edit). c.sink.new.front ++ es) c.in_ok-add.ensures.ok
-    ∙ put-second c.args.before c.sink.new.front c.sink.new.behind d c.in_ok-sink.ensures.ok
-    ∙ ap (λ (es : List Edit). put_by (joined c.args.before) es d) (c.sink.ensures.same ∙ c.self.view_is) ∙ sym (added-put c.args.before c.args.self.now d some)
+    rw (c.in_ok-add.ensures.ok, put-second c.args.before c.sink.new.front c.sink.new.behind d c.in_ok-sink.ensures.ok, c.sink.ensures.same ∙ c.self.view_is)
+    (sym (added-put c.args.before c.args.self.now d some))

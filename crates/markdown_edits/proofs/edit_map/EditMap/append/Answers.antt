@@ -1,6 +1,6 @@
-use Rattle.markdown_edits.proofs.Prelude.{◌≡◌, ◌++◌, [], ◌≤◌, ◌<◌, List, append_assoc, sym, subst, ap, ◌∙◌, AllByRecursion, Edit, AreBehind, IsAscending}
+use Rattle.markdown_edits.proofs.Prelude.{append-nil, ◌≡◌, ◌++◌, [], ◌≤◌, ◌<◌, List, append_assoc, sym, subst, ap, ◌∙◌, AllByRecursion, Edit, AreBehind, IsAscending}
 use Rattle.markdown_edits.proofs.Edits.Entries.{IsAscending-behind}
-use Rattle.markdown_edits.proofs.Edits.Puts.{joined-nil, every-last, none-below, IsAscending-last}
+use Rattle.markdown_edits.proofs.Edits.Puts.{every-last, none-below, IsAscending-last}
 use Rattle.markdown_edits.proofs.edit_map.EditMap.append.Goals as goal
 
 -- the edits of two maps ascend together
@@ -15,8 +15,7 @@ invariant_of-self-then-is_empty c =
     let first = c.more.inside.front in
     let second = c.more.inside.behind in
     let grown : c.append.new.self ++ c.swap.new.x ≡ (front ++ behind) ++ (first ++ second) =
-    ap (λ (es : List Edit). c.append.new.self ++ es) c.swap.ensures.x_after ∙ ap (λ (es : List Edit). es ++ second) c.in_ok-append.ensures.ok.0
-    ∙ joined-nil front behind first second (c.is_empty.ensures.0 c.if-is_empty.true) in
+    rw (c.swap.ensures.x_after, c.in_ok-append.ensures.ok.0, c.is_empty.ensures.0 c.if-is_empty.true, append-nil) (append_assoc front first second) in
     subst IsAscending (sym grown)
     (both (front ++ behind) (first ++ second) c.args.self.now c.args.more.now c.self.view_is c.more.view_is c.requires c.self.invariant c.more.invariant)
 
