@@ -1,6 +1,5 @@
 -- What a tokenizer keeps of its events, call by call.
-use Rattle.markdown_tokenizer.proofs.Prelude.{◌≡◌, ℕ, zero, suc, ◌+◌, ◌-◌, ◌≤◌, Bool, true, false, cond, List, [], ◌∷◌, ◌++◌, Option, Some, None, length, take, map, reverse, get_or, refl, sym, ◌∙◌, ap, subst, arith, ◌⊎◌, inl, inr, slice_get, All, AllPairs, last_or, reverse-append, take-map, map-append, length-map, get_or_append_left, get_or_push, length_push, take_at, take-take, get_or-map, All-nil, All-push, All-weaker, all_pairs_push, Event, Kind, Enter, Exit, Point, IsBalanced, empty, span, is_void, open_after, open_events, open_events_from, same_name, unlinked, HasFrontUpToLinkEnds, IsInOrder, IsVoidTight, stands_before, IsShown, open_events_from-unlinked, stands-self, names_after, names_after_all, names_after_all-append, same_name-refl, balanced_from_open, none_is_not_some, names-none, IsMade, VoidExitsFollow, last_kind}
-use Rattle.std.proofs.lemmas.List.{length-append}
+use Rattle.markdown_tokenizer.proofs.Prelude.{◌≡◌, ◌↔◌, ℕ, zero, suc, ◌+◌, ◌-◌, Bool, true, false, cond, List, [], ◌∷◌, ◌++◌, Option, Some, None, length, take, map, reverse, get_or, refl, sym, ◌∙◌, ap, subst, arith, ◌⊎◌, inl, inr, slice_get, All, AllPairs, last_or, reverse-append, take-map, map-append, length-map, get_or_append_left, get_or_push, length_push, get_or-map, All-nil, All-push, All-weaker, all_pairs_push, Event, Kind, Enter, Exit, Point, IsBalanced, empty, span, is_void, open_after, open_events, open_events_from, same_name, unlinked, IsInOrder, stands_before, IsShown, open_events_from-unlinked, stands-self, names_after, names_after_all, names_after_all-append, same_name-refl, none_is_not_some, names-none, IsMade, VoidExitsFollow, last_kind}
 use Rattle.markdown_base.specs.declared.event.Name.{Name}
 use Rattle.markdown_tokenizer.proofs.Positions.Order.{after-before, later-later}
 
@@ -21,33 +20,20 @@ last_or-push o (y ∷ xs) x = last_or-push (Some y) xs x
 -- a list is empty, or it has a last element
 pub last_view : {A : Type 0} (xs : List A) → (xs ≡ []) ⊎ ((ys : List A) × (y : A) × (xs ≡ ys ++ y ∷ []))
 last_view [] = inl refl
-last_view (x ∷ xs) = inr (longer (last_view xs))
-  where
-    longer : (xs ≡ []) ⊎ ((ys : List _) × (y : _) × (xs ≡ ys ++ y ∷ [])) → (ys : List _) × (y : _) × (x ∷ xs ≡ ys ++ y ∷ [])
-    longer (inl e) = ([], x, ap (λ l. x ∷ l) e)
-    longer (inr p) = (x ∷ p.0, p.1, ap (λ l. x ∷ l) p.2)
-
-pub take-push : {A : Type 0} (xs : List A) (x : A) → take (length (xs ++ x ∷ []) - 1) (xs ++ x ∷ []) ≡ xs
-take-push xs x = take_at xs (x ∷ []) (length (xs ++ x ∷ []) - 1) (omega (arith, length-append xs (x ∷ [])))
+last_view (x ∷ xs) = inr (elim (last_view xs) [ inl e ↦ ([], x, ap (λ l. x ∷ l) e) | inr p ↦ (x ∷ p.0, p.1, ap (λ l. x ∷ l) p.2) ])
 
 -- a list with a last element
 pub push_from_last : {A : Type 0} (xs : List A) (x : A) → last_or None xs ≡ Some x → xs ≡ take (length xs - 1) xs ++ x ∷ []
-push_from_last xs x e = cases (last_view xs)
-  where
-    cases : (xs ≡ []) ⊎ ((ys : List _) × (y : _) × (xs ≡ ys ++ y ∷ [])) → xs ≡ take (length xs - 1) xs ++ x ∷ []
-    cases (inl none) = let no : None ≡ Some x = ap (last_or None) (sym none) ∙ e in cc
-    cases (inr p) =
-        let same : Some p.1 ≡ Some x = sym (last_or-push None p.0 p.1) ∙ ap (last_or None) (sym p.2) ∙ e in
-        let at : p.1 ≡ x = cc in
-        let front : take (length xs - 1) xs ≡ p.0 = ap (λ (l : List _). take (length l - 1) l) p.2 ∙ take-push p.0 p.1 in
-        p.2 ∙ ap (λ (y : _). p.0 ++ y ∷ []) at ∙ ap (λ (l : List _). l ++ x ∷ []) (sym front)
+push_from_last [] x e = cc
+push_from_last (y ∷ []) x e = cc
+push_from_last (y ∷ z ∷ zs) x e = let k : length (y ∷ z ∷ zs) - 1 ≡ suc (length (z ∷ zs) - 1) = omega arith in rw k (ap (λ l. y ∷ l) (push_from_last (z ∷ zs) x e))
 
 pub reverse-push : {A : Type 0} (xs : List A) (x : A) → reverse (xs ++ x ∷ []) ≡ x ∷ reverse xs
 reverse-push xs x = reverse-append xs (x ∷ [])
 
 -- ---- the parts, with one more event
 
-last_kind-append : (k : Kind) (xs ys : List Event) → last_kind k (xs ++ ys) ≡ last_kind (last_kind k xs) ys
+pub last_kind-append : (k : Kind) (xs ys : List Event) → last_kind k (xs ++ ys) ≡ last_kind (last_kind k xs) ys
 last_kind-append k [] ys = refl
 last_kind-append k (e ∷ xs) ys = last_kind-append e.kind xs ys
 
@@ -58,37 +44,22 @@ open_events_from-append before (e ∷ xs) ys = open_events_from-append (open_aft
 pub open_events-enter : (xs : List Event) (e : Event) → e.kind ≡ Enter → open_events (xs ++ e ∷ []) ≡ open_events xs ++ e ∷ []
 open_events-enter xs e k = open_events_from-append [] xs (e ∷ []) ∙ ap (λ (k : Kind). open_after k e (open_events xs)) k
 
-pub open_events-exit : (xs : List Event) (e : Event) → e.kind ≡ Exit → open_events (xs ++ e ∷ []) ≡ take (length (open_events xs) - 1) (open_events xs)
-open_events-exit xs e k = open_events_from-append [] xs (e ∷ []) ∙ ap (λ (k : Kind). open_after k e (open_events xs)) k
-
 module _ (void : Name → Bool) where
   void_exits-append : (k : Kind) (xs ys : List Event) → VoidExitsFollow void k xs → VoidExitsFollow void (last_kind k xs) ys → VoidExitsFollow void k (xs ++ ys)
   void_exits-append k [] ys h t = t
   void_exits-append k (e ∷ xs) ys h t = (h.0, void_exits-append e.kind xs ys h.1 t)
 
-  void_exits-front : (k : Kind) (xs ys : List Event) → VoidExitsFollow void k (xs ++ ys) → VoidExitsFollow void k xs
-  void_exits-front k [] ys h = tt
-  void_exits-front k (e ∷ xs) ys h = (h.0, void_exits-front e.kind xs ys h.1)
-
-  void_exits-back : (k : Kind) (xs ys : List Event) → VoidExitsFollow void k (xs ++ ys) → VoidExitsFollow void (last_kind k xs) ys
-  void_exits-back k [] ys h = h
-  void_exits-back k (e ∷ xs) ys h = void_exits-back e.kind xs ys h.1
+  void_exits-parts : (k : Kind) (xs ys : List Event) → VoidExitsFollow void k (xs ++ ys) → VoidExitsFollow void k xs × VoidExitsFollow void (last_kind k xs) ys
+  void_exits-parts k [] ys h = (tt, h)
+  void_exits-parts k (e ∷ xs) ys h = let parts = void_exits-parts e.kind xs ys h.1 in ((h.0, parts.0), parts.1)
 
 -- ---- calls
 
 -- nothing is made yet
 pub made-new : (bytes : List ℕ) (after_previous bound : Point) → stands_before bound after_previous ≡ false → IsShown bytes after_previous → IsShown bytes bound → IsMade bytes [] [] after_previous bound
-made-new bytes after_previous bound upto l b = record {
-  names = refl;
-  nested = refl;
-  tight = tt;
-  in_order = (λ i j d lt within. absurd (omega arith), All-nil (λ e. IsShown bytes e.point));
-  behind = All-nil (λ e. stands_before bound e.point ≡ false);
-  read = λ _. All-nil (λ e. stands_before after_previous e.point ≡ false);
-  left_bound = upto;
-  left_shown = l;
-  bound_shown = b;
-}
+made-new bytes after_previous bound upto l b =
+    let pairs : AllPairs (λ (d f : Event). stands_before f.point d.point ≡ false) [] = λ i j d lt within. absurd (omega arith) in
+    assumption (pairs, All-nil (λ (e : Event). IsShown bytes e.point), All-nil (λ (e : Event). stands_before bound e.point ≡ false), All-nil (λ (e : Event). stands_before after_previous e.point ≡ false))
 
 in_order-push : (bytes : List ℕ) (events : List Event) (e : Event) → IsInOrder bytes events → All (λ d. stands_before e.point d.point ≡ false) events → IsShown bytes e.point → IsInOrder bytes (events ++ e ∷ [])
 in_order-push bytes events e h upto is =
@@ -107,27 +78,14 @@ AreUpto p events = All (λ e. stands_before p e.point ≡ false) events
 AreUpto-later : (p q : Point) (events : List Event) → stands_before q p ≡ false → AreUpto p events → AreUpto q events
 AreUpto-later p q events h k = All-weaker (λ e. stands_before p e.point ≡ false) (λ e. stands_before q e.point ≡ false) (λ e l. upto-upto e.point p q l h) events k
 
--- in a list in order, each place is up to the last
-pairs-last : {A : Type 0} (R : A → A → Type 0) (xs : List A) (x : A) → AllPairs R (xs ++ x ∷ []) → All (λ y. R y x) xs
-pairs-last R xs x h k d lt =
-    let pair = h k (length xs) d lt (omega (arith, length_push xs x)) in
-    rw (get_or_append_left xs (x ∷ []) d k lt, get_or_push xs x d (length xs) refl) at pair
-
--- a list that ends in an enter, which is before a place
-upto_enter : (bytes : List ℕ) (events : List Event) (after_previous : Point) → IsInOrder bytes events → last_kind Exit events ≡ Enter
-    → ((o : Event) → last_or None (open_events events) ≡ Some o → stands_before o.point after_previous ≡ true) → AreUpto after_previous events
-upto_enter bytes events after_previous order enters before = cases (last_view events)
-  where
-    cases : (events ≡ []) ⊎ ((ys : List Event) × (y : Event) × (events ≡ ys ++ y ∷ [])) → AreUpto after_previous events
-    cases (inl none) = enter-is-no-exit (sym enters ∙ ap (last_kind Exit) none)
-    cases (inr p) =
-        let k : p.1.kind ≡ Enter = sym (last_kind-append Exit p.0 (p.1 ∷ [])) ∙ ap (last_kind Exit) (sym p.2) ∙ enters in
-        let opened : open_events events ≡ open_events p.0 ++ p.1 ∷ [] = ap open_events p.2 ∙ open_events-enter p.0 p.1 k in
-        let lt : stands_before p.1.point after_previous ≡ true = before p.1 (ap (last_or None) opened ∙ last_or-push None (open_events p.0) p.1) in
-        let upto : stands_before after_previous p.1.point ≡ false = before-upto p.1.point after_previous lt in
-        let pairs : AllPairs (λ (d f : Event). stands_before f.point d.point ≡ false) (p.0 ++ p.1 ∷ []) = subst (λ (es : List Event). AllPairs (λ (d f : Event). stands_before f.point d.point ≡ false) es) p.2 order.0 in
-        let front : AreUpto p.1.point p.0 = pairs-last (λ (d f : Event). stands_before f.point d.point ≡ false) p.0 p.1 pairs in
-        subst (AreUpto after_previous) (sym p.2) (All-push (λ d. stands_before after_previous d.point ≡ false) p.0 p.1 (AreUpto-later p.1.point after_previous p.0 upto front) upto)
+-- in a list in order that ends in an enter before a place, each place is up to that
+upto_enter : (ys : List Event) (y : Event) (after_previous : Point) → AllPairs (λ (d f : Event). stands_before f.point d.point ≡ false) (ys ++ y ∷ []) → last_kind Exit (ys ++ y ∷ []) ≡ Enter
+    → ((o : Event) → last_or None (open_events (ys ++ y ∷ [])) ≡ Some o → stands_before o.point after_previous ≡ true) → AreUpto after_previous (ys ++ y ∷ [])
+upto_enter ys y after_previous pairs enters before =
+    let opened = open_events-enter ys y (sym (last_kind-append Exit ys (y ∷ [])) ∙ enters) in
+    let upto = before-upto y.point after_previous (before y (ap (last_or None) opened ∙ last_or-push None (open_events ys) y)) in
+    All-push (λ d. stands_before after_previous d.point ≡ false) ys y (AreUpto-later y.point after_previous ys upto (λ k d lt.
+    rw (get_or_append_left ys (y ∷ []) d k lt, get_or_push ys y d (length ys) refl) at (pairs k (length ys) d lt (omega (arith, length_push ys y))))) upto
 
 module _ (bytes : List ℕ) (events : List Event) (stack : List Name) (after_previous bound : Point) where
   -- an enter, at its place
@@ -147,11 +105,12 @@ module _ (bytes : List ℕ) (events : List Event) (stack : List Name) (after_pre
 
   -- if the last open enter is before an exit's place, each event is at or before it
   upto_left : IsMade bytes events stack after_previous bound → ((o : Event) → last_or None (open_events events) ≡ Some o → stands_before o.point after_previous ≡ true) → AreUpto after_previous events
-  upto_left m before = cases (last_kind Exit events) refl
+  upto_left m before = cases (last_kind Exit events) refl (last_view events)
     where
-      cases : (k : Kind) → last_kind Exit events ≡ k → AreUpto after_previous events
-      cases Enter e = upto_enter bytes events after_previous m.in_order e before
-      cases Exit e = m.read e
+      cases : (k : Kind) → last_kind Exit events ≡ k → (events ≡ []) ⊎ ((ys : List Event) × (y : Event) × (events ≡ ys ++ y ∷ [])) → AreUpto after_previous events
+      cases Exit e v = m.read e
+      cases Enter e (inl none) = enter-is-no-exit (sym e ∙ ap (last_kind Exit) none)
+      cases Enter e (inr p) = let is = p.2 in rw is (upto_enter p.0 p.1 after_previous (rw is at m.in_order.0) (rw is at e) (rw is at before))
 
   -- an exit of the last open name, at its place
   pub made-exit : IsMade bytes events stack after_previous bound → (e : Event) → e.kind ≡ Exit → e.point ≡ after_previous → last_or None stack ≡ Some e.name
@@ -165,12 +124,17 @@ module _ (bytes : List ℕ) (events : List Event) (stack : List Name) (after_pre
       let same : same_name e.name e.name ≡ true = same_name-refl e.name in
       let here : AreUpto after_previous (events ++ e ∷ []) = All-push (λ d. stands_before after_previous d.point ≡ false) events e upto (ap (stands_before after_previous) at ∙ stands-self after_previous) in
       record {
-        names = ap (map (λ (e : Event). e.name)) (open_events-exit events e k) ∙ sym (take-map (λ (e : Event). e.name) (length (open_events events) - 1) (open_events events))
+        names = ap (map (λ (e : Event). e.name)) (open_events_from-append [] events (e ∷ []) ∙ ap (λ (k : Kind). open_after k e (open_events events)) k)
+            ∙ sym (take-map (λ (e : Event). e.name) (length (open_events events) - 1) (open_events events))
             ∙ ap (λ (n : ℕ). take (n - 1) (map (λ (e : Event). e.name) (open_events events))) (sym (length-map (open_events events) (λ (e : Event). e.name)))
             ∙ ap (λ (ns : List Name). take (length ns - 1) ns) m.names;
         nested = names-push events e (reverse stack) m.nested ∙ ap (λ (k : Kind). names_after k e.name (reverse stack)) k
             ∙ ap (names_after Exit e.name) (ap reverse whole ∙ reverse-push rest e.name) ∙ ap (λ (t : Bool). cond t (Some (reverse rest)) None) same;
-        tight = void_exits-append is_void Exit events (e ∷ []) m.tight (λ _ v. follows (last v), tt);
+        tight = void_exits-append is_void Exit events (e ∷ []) m.tight (
+          λ _ v.
+              (let p = last v in ap (last_kind Exit) (push_from_last events p.0 p.1) ∙ last_kind-append Exit (take (length events - 1) events) (p.0 ∷ []) ∙ p.2),
+          tt,
+        );
         in_order = in_order-push bytes events e m.in_order (subst (λ (p : Point). AreUpto p events) (sym at) upto) (subst (IsShown bytes) (sym at) m.left_shown);
         behind = AreUpto-later after_previous bound (events ++ e ∷ []) m.left_bound here;
         read = λ _. here;
@@ -178,45 +142,23 @@ module _ (bytes : List ℕ) (events : List Event) (stack : List Name) (after_pre
         left_shown = m.left_shown;
         bound_shown = m.bound_shown;
       }
-    where
-      follows : (o : Event) × (last_or None events ≡ Some o) × (o.kind ≡ Enter) → last_kind Exit events ≡ Enter
-      follows p = ap (last_kind Exit) (push_from_last events p.0 p.1) ∙ last_kind-append Exit (take (length events - 1) events) (p.0 ∷ []) ∙ p.2
 
   -- a byte is consumed: the place of an exit is its end, and no event is after that
   pub made-consume : IsMade bytes events stack after_previous bound → (after_previous' bound' : Point) → stands_before after_previous' bound ≡ false → stands_before bound' after_previous' ≡ false → IsShown bytes after_previous' → IsShown bytes bound'
       → IsMade bytes events stack after_previous' bound'
-  made-consume m after_previous' bound' after upto l b = record {
-    names = m.names;
-    nested = m.nested;
-    tight = m.tight;
-    in_order = m.in_order;
-    behind = AreUpto-later after_previous' bound' events upto (AreUpto-later bound after_previous' events after m.behind);
-    read = λ _. AreUpto-later bound after_previous' events after m.behind;
-    left_bound = upto;
-    left_shown = l;
-    bound_shown = b;
-  }
+  made-consume m after_previous' bound' after upto l b =
+      let read = AreUpto-later bound after_previous' events after m.behind in
+      assumption (read, AreUpto-later after_previous' bound' events upto read)
 
   -- an enter would have a later place
   pub made-bound : IsMade bytes events stack after_previous bound → (bound' : Point) → stands_before bound' bound ≡ false → IsShown bytes bound' → IsMade bytes events stack after_previous bound'
-  made-bound m bound' later b = record {
-    names = m.names;
-    nested = m.nested;
-    tight = m.tight;
-    in_order = m.in_order;
-    behind = AreUpto-later bound bound' events later m.behind;
-    read = m.read;
-    left_bound = upto-upto after_previous bound bound' m.left_bound later;
-    left_shown = m.left_shown;
-    bound_shown = b;
-  }
+  made-bound m bound' later b = assumption (AreUpto-later bound bound' events later m.behind, upto-upto after_previous bound bound' m.left_bound later)
 
 -- ---- ends
 
 -- the first of these is the exit of the name
 abbrev IsFollowed : Name → List Event → Type 0
-IsFollowed n [] = ⊥
-IsFollowed n (f ∷ es) = (f.kind ≡ Exit) × (f.name ≡ n)
+IsFollowed n es = (f : Event) × (slice_get es 0 ≡ Some f) × (f.kind ≡ Exit) × (f.name ≡ n)
 
 -- each void enter is directly followed by its exit
 abbrev AreFollowed : (Name → Bool) → List Event → Type 0
@@ -224,7 +166,7 @@ AreFollowed void [] = Unit {0}
 AreFollowed void (e ∷ es) = (e.kind ≡ Enter → void e.name ≡ true → IsFollowed e.name es) × AreFollowed void es
 
 followed-append : (n : Name) (xs ys : List Event) → IsFollowed n xs → IsFollowed n (xs ++ ys)
-followed-append n [] ys h = absurd h
+followed-append n [] ys h = none_is_not_some h.0 _ h.1
 followed-append n (f ∷ xs) ys h = h
 
 -- a balanced list ends in an exit
@@ -235,7 +177,7 @@ last_kind-balanced (span e f us vs {l} is en ex same b c) =
 
 -- a balanced list that ends in an enter is empty
 first_after_enter : {l : List Event} → IsBalanced l → (k : Kind) (f : Event) (vs : List Event) → last_kind k l ≡ Enter → f.kind ≡ Exit → IsFollowed f.name (l ++ f ∷ vs)
-first_after_enter empty k f vs h ex = (ex, refl)
+first_after_enter empty k f vs h ex = (f, refl, ex, refl)
 first_after_enter (span e g us ws {l} is en gx same b c) k f vs h ex =
     enter-is-no-exit (sym h ∙ ap (last_kind k) is ∙ last_kind-append e.kind us (g ∷ ws) ∙ ap (λ (k : Kind). last_kind k ws) gx ∙ last_kind-balanced c)
 
@@ -244,37 +186,22 @@ module _ (void : Name → Bool) where
   are_followed-append [] ys h t = t
   are_followed-append (e ∷ xs) ys h t = (λ k v. followed-append e.name xs ys (h.0 k v), are_followed-append xs ys h.1 t)
 
-  span-followed : (e f : Event) (us vs : List Event) → e.kind ≡ Enter → f.kind ≡ Exit → f.name ≡ e.name → IsBalanced us
-      → (VoidExitsFollow void e.kind us → AreFollowed void us) → (VoidExitsFollow void f.kind vs → AreFollowed void vs)
-      → VoidExitsFollow void e.kind (us ++ f ∷ vs) → AreFollowed void (e ∷ (us ++ f ∷ vs))
-  span-followed e f us vs en ex same b inner later t =
-      let back = void_exits-back void e.kind us (f ∷ vs) t in (
-        λ _ v. subst (λ (n : Name). IsFollowed n (us ++ f ∷ vs)) same (first_after_enter b e.kind f vs (back.0 ex (ap void same ∙ v)) ex),
-        are_followed-append us (f ∷ vs) (inner (void_exits-front void e.kind us (f ∷ vs) t)) (λ fen _. enter-is-no-exit (sym fen ∙ ex), later back.1),
-      )
-
-  balanced-followed : {l : List Event} → IsBalanced l → (k : Kind) → VoidExitsFollow void k l → AreFollowed void l
+  pub balanced-followed : {l : List Event} → IsBalanced l → (k : Kind) → VoidExitsFollow void k l → AreFollowed void l
   balanced-followed empty k h = tt
   balanced-followed (span e f us vs {l} is en ex same b c) k h =
-      subst (AreFollowed void) (sym is) (span-followed e f us vs en ex same b (balanced-followed b e.kind) (balanced-followed c f.kind) (subst (VoidExitsFollow void k) is h).1)
+      let parts = void_exits-parts void e.kind us (f ∷ vs) (subst (VoidExitsFollow void k) is h).1 in
+      subst (AreFollowed void) (sym is) (
+        λ _ v. subst (λ (n : Name). IsFollowed n (us ++ f ∷ vs)) same (first_after_enter b e.kind f vs (parts.1.0 ex (ap void same ∙ v)) ex),
+        are_followed-append us (f ∷ vs) (balanced-followed b e.kind parts.0) (λ fen _. enter-is-no-exit (sym fen ∙ ex), balanced-followed c f.kind parts.1.1),
+      )
 
-  first-followed : (n : Name) (es : List Event) → IsFollowed n es → (f : Event) × (slice_get es 0 ≡ Some f) × (f.kind ≡ Exit) × (f.name ≡ n)
-  first-followed n [] h = absurd h
-  first-followed n (f ∷ es) h = (f, refl, h.0, h.1)
-
-  followed-at : (es : List Event) → AreFollowed void es → (k : ℕ) (e : Event) → slice_get es k ≡ Some e → e.kind ≡ Enter → void e.name ≡ true
+  pub followed-at : (es : List Event) → AreFollowed void es → (k : ℕ) (e : Event) → slice_get es k ≡ Some e → e.kind ≡ Enter → void e.name ≡ true
       → (f : Event) × (slice_get es (k + 1) ≡ Some f) × (f.kind ≡ Exit) × (f.name ≡ e.name)
   followed-at [] h k e is en v = none_is_not_some e _ is
   followed-at (x ∷ es) h zero e is en v =
       let same : x ≡ e = cc in
-      first-followed e.name es (subst (λ (y : Event). y.kind ≡ Enter → void y.name ≡ true → IsFollowed y.name es) same h.0 en v)
+      subst (λ (y : Event). y.kind ≡ Enter → void y.name ≡ true → IsFollowed y.name es) same h.0 en v
   followed-at (x ∷ es) h (suc k) e is en v = let n : suc k + 1 ≡ suc (k + 1) = omega arith in rw n (followed-at es h.1 k e is en v)
-
--- if no enter is left open, the events are balanced, void-tight and in order
-pub made-end : (bytes : List ℕ) (events : List Event) (after_previous bound : Point) → IsMade bytes events [] after_previous bound → IsBalanced events × IsVoidTight events × IsInOrder bytes events
-made-end bytes events after_previous bound m =
-    let balanced : IsBalanced events = balanced_from_open events m.nested in
-    (balanced, λ k e is en v. followed-at is_void events (balanced-followed is_void balanced Exit m.tight) k e is en v, m.in_order)
 
 -- ---- links
 
@@ -287,13 +214,9 @@ names_after_all-unlinked None es = refl
 names_after_all-unlinked (Some st) [] = refl
 names_after_all-unlinked (Some st) (e ∷ es) = names_after_all-unlinked (names_after e.kind e.name st) es
 
-void_exits-unlinked : (void : Name → Bool) (k : Kind) (es : List Event) → VoidExitsFollow void k es → VoidExitsFollow void k (map unlinked es)
-void_exits-unlinked void k [] h = tt
-void_exits-unlinked void k (e ∷ es) h = (h.0, void_exits-unlinked void e.kind es h.1)
-
-void_exits-linked : (void : Name → Bool) (k : Kind) (es : List Event) → VoidExitsFollow void k (map unlinked es) → VoidExitsFollow void k es
-void_exits-linked void k [] h = tt
-void_exits-linked void k (e ∷ es) h = (h.0, void_exits-linked void e.kind es h.1)
+void_exits-unlinked : (void : Name → Bool) (k : Kind) (es : List Event) → VoidExitsFollow void k (map unlinked es) ↔ VoidExitsFollow void k es
+void_exits-unlinked void k [] = (λ h. h, λ h. h)
+void_exits-unlinked void k (e ∷ es) = let others = void_exits-unlinked void e.kind es in (λ h. (h.0, others.0 h.1), λ h. (h.0, others.1 h.1))
 
 names-unlinked : (es : List Event) → map (λ (e : Event). e.name) (map unlinked es) ≡ map (λ (e : Event). e.name) es
 names-unlinked [] = refl
@@ -302,9 +225,6 @@ names-unlinked (e ∷ es) = ap (λ (ns : List Name). e.name ∷ ns) (names-unlin
 -- the names of open enters
 open_names-unlinked : (es : List Event) → map (λ (e : Event). e.name) (open_events (map unlinked es)) ≡ map (λ (e : Event). e.name) (open_events es)
 open_names-unlinked es = ap (map (λ (e : Event). e.name)) (open_events_from-unlinked [] es) ∙ names-unlinked (open_events es)
-
-moved_point : {p q u v : Point} → stands_before q p ≡ false → p ≡ u → q ≡ v → stands_before v u ≡ false
-moved_point {p} {q} {u} {v} h e f = subst (λ (t : Point). stands_before t u ≡ false) f (subst (λ (t : Point). stands_before q t ≡ false) e h)
 
 module _ (xs ys : List Event) (same : map unlinked xs ≡ map unlinked ys) where
   point-unlinked : (k : ℕ) (d : Event) → (get_or xs k d).point ≡ (get_or ys k d).point
@@ -322,19 +242,11 @@ module _ (xs ys : List Event) (same : map unlinked xs ≡ map unlinked ys) where
   made-linked bytes stack after_previous bound m = record {
     names = sym (open_names-unlinked ys) ∙ ap (λ (es : List Event). map (λ (e : Event). e.name) (open_events es)) (sym same) ∙ open_names-unlinked xs ∙ m.names;
     nested = sym (names_after_all-unlinked (Some []) ys) ∙ ap (names_after_all (Some [])) (sym same) ∙ names_after_all-unlinked (Some []) xs ∙ m.nested;
-    tight = void_exits-linked is_void Exit ys (subst (VoidExitsFollow is_void Exit) same (void_exits-unlinked is_void Exit xs m.tight));
-    in_order = (λ i j d lt within. moved_point (m.in_order.0 i j d lt (omega (arith, length-unlinked))) (point-unlinked i d) (point-unlinked j d), all-unlinked (IsShown bytes) m.in_order.1);
+    tight = (void_exits-unlinked is_void Exit ys).0 (subst (VoidExitsFollow is_void Exit) same ((void_exits-unlinked is_void Exit xs).1 m.tight));
+    in_order = (λ i j d lt within. rw (point-unlinked i d, point-unlinked j d) at (m.in_order.0 i j d lt (omega (arith, length-unlinked))), all-unlinked (IsShown bytes) m.in_order.1);
     behind = all-unlinked (λ p. stands_before bound p ≡ false) m.behind;
     read = λ k. all-unlinked (λ p. stands_before after_previous p ≡ false) (m.read (sym (last_kind-unlinked Exit xs) ∙ ap (last_kind Exit) same ∙ last_kind-unlinked Exit ys ∙ k));
     left_bound = m.left_bound;
     left_shown = m.left_shown;
     bound_shown = m.bound_shown;
   }
-
--- what holds for a front of the events still holds after events are added and links are changed
-pub made-kept : (bytes : List ℕ) (old new : List Event) (n : ℕ) (stack : List Name) (after_previous bound : Point) → n ≤ length old → HasFrontUpToLinkEnds new old
-    → IsMade bytes (take n old) stack after_previous bound → IsMade bytes (take n new) stack after_previous bound
-made-kept bytes old new n stack after_previous bound le front m =
-    made-linked (take n old) (take n new)
-    (sym (take-map unlinked n old) ∙ ap (take n) (sym front) ∙ take-map unlinked n (take (length old) new) ∙ ap (map unlinked) (take-take n (length old) new le))
-    bytes stack after_previous bound m

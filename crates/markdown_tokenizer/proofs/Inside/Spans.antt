@@ -1,60 +1,42 @@
 -- A span begins or ends: the fields of a tokenizer keep what holds of them.
-use Rattle.markdown_tokenizer.proofs.Prelude.{◌≡◌, ℕ, suc, ◌-◌, ◌≤◌, ◌<◌, List, [], ◌∷◌, ◌++◌, Bool, Option, Some, None, length, refl, sym, ap, ◌∙◌, subst, arith, length-append, take, length-take, map, reverse, IfSome, All, take-append-le, take-take, Point, Event, Link, Enter, Exit, shown, Waits, Nothing, Byte, End, AttemptKind, GoesOn, KeptChoice, Progress, Inside, Choice, CanExit, resumed, tab_of, seen, text_within, position_from, standing, choice_of, saved_of, IsProgress, AreNested, events_of, stack_of, IsSound, Vec, with_enter, with_exit, stands-self, saved_at_place}
+use Rattle.markdown_tokenizer.proofs.Prelude.{◌≡◌, ℕ, suc, ◌-◌, ◌≤◌, ◌<◌, List, [], ◌∷◌, ◌++◌, Bool, Option, Some, None, length, refl, sym, ap, ◌∙◌, subst, arith, length-append, take, length-take, map, reverse, IfSome, All, take-append-le, take-take, Point, Event, Link, Enter, Exit, shown, Waits, Nothing, Byte, End, KeptChoice, Progress, Inside, Choice, CanExit, resumed, tab_of, seen, text_within, position_from, standing, choice_of, saved_of, IsProgress, AreNested, IsSound, Vec, with_enter, with_exit, stands-self, saved_at_place, Saved, state_of}
 use Rattle.markdown_base.specs.declared.event.Name.{Name}
 use Rattle.markdown_tokenizer.proofs.Inside.Made.{made-enter, made-exit}
-use Rattle.markdown_tokenizer.proofs.Inside.Fields.{nested-map, nested-wider}
+use Rattle.markdown_tokenizer.proofs.Inside.Fields.{nested-as, Saves}
 use Rattle.markdown_tokenizer.proofs.Inside.Steps.{here-is, after_previous-is}
 
 -- what choices saved, as a list of choices, with other positions and another stack, where each is seen as the same
-same-mark : (f g : Point → ℕ) (a b : List Name) (kind : AttemptKind) (ok nok : GoesOn) (P : Progress → Type 0) (events stack : ℕ) (saved : Option Progress)
-    → ((p : Progress) → p.stack_len ≤ stack → P p → saved_at_place f a p ≡ saved_at_place g b p) → IfSome saved (λ p. (p.events_len ≤ events) × (p.stack_len ≤ stack) × P p)
-    → choice_of f a (record { kind = kind; ok = ok; nok = nok; saved = saved }) ≡ choice_of g b (record { kind = kind; ok = ok; nok = nok; saved = saved })
-same-mark f g a b kind ok nok P events stack None same h = refl
-same-mark f g a b kind ok nok P events stack (Some p) same h = let e = same p h.1 h.2 in rw e refl
-
-narrower : (f g : Point → ℕ) (a b : List Name) (P : Progress → Type 0) (events stack : ℕ) (saved : Option Progress)
-    → ((p : Progress) → p.stack_len ≤ stack → P p → saved_at_place f a p ≡ saved_at_place g b p) → IfSome saved (λ p. (p.events_len ≤ events) × (p.stack_len ≤ stack) × P p)
-    → (p : Progress) → p.stack_len ≤ stack_of stack saved → P p → saved_at_place f a p ≡ saved_at_place g b p
-narrower f g a b P events stack None same h q le k = same q le k
-narrower f g a b P events stack (Some p) same h q le k = same q (omega (arith, h.1)) k
-
 pub same-choices : (f g : Point → ℕ) (a b : List Name) (P : Progress → Type 0) (events stack : ℕ) (kept_choices : List KeptChoice)
     → ((p : Progress) → p.stack_len ≤ stack → P p → saved_at_place f a p ≡ saved_at_place g b p) → AreNested P events stack kept_choices
     → map (choice_of f a) kept_choices ≡ map (choice_of g b) kept_choices
 same-choices f g a b P events stack [] same h = refl
 same-choices f g a b P events stack (choice ∷ kept_choices) same h =
-    let first = same-mark f g a b choice.kind choice.ok choice.nok P events stack choice.saved same h.0 in
-    let others = same-choices f g a b P (events_of events choice.saved) (stack_of stack choice.saved) kept_choices (narrower f g a b P events stack choice.saved same h.0) h.1 in
-    ap (λ (c : Choice). c ∷ map (choice_of f a) kept_choices) first ∙ ap (λ (cs : List Choice). choice_of g b choice ∷ cs) others
-
--- what a choice of a tokenizer saved
-abbrev pub Saves : {M R D : Type 0} → Inside M R D → Progress → Type 0
-Saves t = IsProgress t.phase (tab_of t.parse_state.now) t.parse_state.now.bytes.now t.skips (text_within t) t.events.items t.stack.items t.closed
+    elim choice.saved as (λ (saved : Option Progress). AreNested P events stack (record choice { saved = saved } ∷ kept_choices)
+    → map (choice_of f a) (record choice { saved = saved } ∷ kept_choices) ≡ map (choice_of g b) (record choice { saved = saved } ∷ kept_choices)) [
+      | None ↦ λ k. ap (λ (cs : List Choice). choice_of g b (record choice { saved = None }) ∷ cs) (same-choices f g a b P events stack kept_choices same k.1)
+      | Some p ↦ λ k. ap (λ (s : Saved). record { kind = choice.kind; ok = state_of choice.ok; nok = state_of choice.nok; saved = Some s } ∷ map (choice_of f a) kept_choices) (same p k.0.1 k.0.2)
+          ∙ ap (λ (cs : List Choice). choice_of g b (record choice { saved = Some p }) ∷ cs) (same-choices f g a b P p.events_len p.stack_len kept_choices (λ q le l. same q (omega (arith, k.0.1)) l) k.1)
+    ] h
 
 -- choices saved the same of other events and another stack, where the front is the same
 pub same-front : {M R D : Type 0} (t : Inside M R D) (m n : ℕ) (events : List Event) (stack : List Name) (kept_choices : List KeptChoice) → m ≤ length events → n ≤ length stack
     → ((k : ℕ) → k ≤ m → take k events ≡ take k t.events.items) → ((k : ℕ) → k ≤ n → take k stack ≡ take k t.stack.items) → AreNested (Saves t) m n kept_choices
     → AreNested (IsProgress t.phase (tab_of t.parse_state.now) t.parse_state.now.bytes.now t.skips (text_within t) events stack t.closed) (length events) (length stack) kept_choices
 same-front t m n events stack kept_choices more higher front top h =
-    let Q = IsProgress t.phase (tab_of t.parse_state.now) t.parse_state.now.bytes.now t.skips (text_within t) events stack t.closed in
-    nested-wider Q m n (length events) (length stack) kept_choices more higher (nested-map (Saves t) Q m n kept_choices
-    (λ p a b h. let e = front p.events_len a in let s = top p.stack_len b in record { read = h.read; ended = h.ended; made = rw (e, s) h.made }) h)
+    nested-as (Saves t) (IsProgress t.phase (tab_of t.parse_state.now) t.parse_state.now.bytes.now t.skips (text_within t) events stack t.closed) m n (length events) (length stack) kept_choices
+    (λ p a b k. let e = front p.events_len a in let s = top p.stack_len b in (omega arith, omega arith, record { read = k.read; ended = k.ended; made = rw (e, s) k.made })) h
 
 -- the code's place, from its list of gaps
 pub entered-here : {M R D : Type 0} (t : Inside M R D) (slice : List Point) (place here : Point) → slice ≡ t.skips → place ≡ standing slice t.after_previous t.waits
     → here ≡ shown t.parse_state.now.bytes.now place → here ≡ shown t.parse_state.now.bytes.now (standing t.skips t.after_previous t.waits)
 entered-here t slice place here e f g = g ∙ ap (shown t.parse_state.now.bytes.now) (f ∙ ap (λ (skips : List Point). standing skips t.after_previous t.waits) e)
 
-standing-there : (skips : List Point) (p : Point) (waits : Waits) → resumed skips p ≡ p → standing skips p waits ≡ p
-standing-there skips p Nothing e = refl
-standing-there skips p Byte e = e
-standing-there skips p End e = e
-
 -- the same where the next byte is looked for at the place after the byte before
 pub entered-there : {M R D : Type 0} (t : Inside M R D) (slice : List Point) (here : Point) → slice ≡ t.skips → resumed slice t.after_previous ≡ t.after_previous
     → here ≡ shown t.parse_state.now.bytes.now t.after_previous → here ≡ shown t.parse_state.now.bytes.now (standing t.skips t.after_previous t.waits)
 entered-there t slice here e there is =
-    is ∙ ap (shown t.parse_state.now.bytes.now) (sym (standing-there t.skips t.after_previous t.waits (subst (λ (skips : List Point). resumed skips t.after_previous ≡ t.after_previous) e there)))
+    let at = subst (λ (skips : List Point). resumed skips t.after_previous ≡ t.after_previous) e there in
+    is ∙ ap (shown t.parse_state.now.bytes.now) (sym (elim t.waits as (λ (w : Waits). standing t.skips t.after_previous w ≡ t.after_previous) [ Nothing ↦ refl | Byte ↦ at | End ↦ at ]))
 
 module _ {M R D : Type 0} {same : R → R → Bool} (t : Inside M R D) (sound : IsSound same t) where
   -- a span begins
@@ -83,28 +65,17 @@ module _ {M R D : Type 0} {same : R → R → Bool} (t : Inside M R D) (sound : 
         let choices = same-choices position position stack.items t.stack.items (Saves t) (length t.events.items) (length t.stack.items) (reverse t.kept_choices.items) (λ p le saved. rw (entered-front p.stack_len le) refl) sound.kept_choices in
         rw (choices, put, top, is ∙ here-is t sound) refl
 
-module _ (position : Point → ℕ) (stack : List Name) (P : Progress → Type 0) where
-  abbrev IsAbove : Choice → Type 0
-  IsAbove c = IfSome c.saved (λ s. length s.stack < length stack)
-
-  first-above : (choice : KeptChoice) (kept_choices : List KeptChoice) → All IsAbove (map (choice_of position stack) (choice ∷ kept_choices)) → IsAbove (choice_of position stack choice)
-  first-above choice kept_choices h = h 0 (choice_of position stack choice) (omega arith)
-
-  rest-above : (choice : KeptChoice) (kept_choices : List KeptChoice) → All IsAbove (map (choice_of position stack) (choice ∷ kept_choices)) → All IsAbove (map (choice_of position stack) kept_choices)
-  rest-above choice kept_choices h = λ k d lt. h (suc k) d (omega arith)
-
-  below-mark : (events : ℕ) (saved : Option Progress) (kept_choices : List KeptChoice) → IfSome (saved_of position stack saved) (λ s. length s.stack < length stack)
-      → (AreNested P events (length stack) kept_choices → AreNested P events (length stack - 1) kept_choices)
-      → IfSome saved (λ p. (p.events_len ≤ events) × (p.stack_len ≤ length stack) × P p) → AreNested P (events_of events saved) (stack_of (length stack) saved) kept_choices
-      → IfSome saved (λ p. (p.events_len ≤ events) × (p.stack_len ≤ length stack - 1) × P p) × AreNested P (events_of events saved) (stack_of (length stack - 1) saved) kept_choices
-  below-mark events None kept_choices a more h k = (tt, more k)
-  below-mark events (Some p) kept_choices a more h k = let l = length-take p.stack_len stack in ((h.0, omega (arith, a, h.1), h.2), k)
-
-  -- waiting choices that saved a smaller stack are nested in a stack that is one smaller
-  pub nested-below : (events : ℕ) (kept_choices : List KeptChoice) → All IsAbove (map (choice_of position stack) kept_choices)
-      → AreNested P events (length stack) kept_choices → AreNested P events (length stack - 1) kept_choices
-  nested-below events [] a h = tt
-  nested-below events (choice ∷ kept_choices) a h = below-mark events choice.saved kept_choices (first-above choice kept_choices a) (nested-below events kept_choices (rest-above choice kept_choices a)) h.0 h.1
+-- waiting choices that saved a smaller stack are nested in a stack that is one smaller
+nested-below : (position : Point → ℕ) (stack : List Name) (P : Progress → Type 0) (events : ℕ) (kept_choices : List KeptChoice)
+    → All (λ c. IfSome c.saved (λ s. length s.stack < length stack)) (map (choice_of position stack) kept_choices)
+    → AreNested P events (length stack) kept_choices → AreNested P events (length stack - 1) kept_choices
+nested-below position stack P events [] above h = tt
+nested-below position stack P events (choice ∷ kept_choices) above h =
+    elim choice.saved as (λ (saved : Option Progress). IfSome (saved_of position stack saved) (λ s. length s.stack < length stack)
+    → AreNested P events (length stack) (record choice { saved = saved } ∷ kept_choices) → AreNested P events (length stack - 1) (record choice { saved = saved } ∷ kept_choices)) [
+      | None ↦ λ a k. (tt, nested-below position stack P events kept_choices (λ i d lt. above (suc i) d (omega arith)) k.1)
+      | Some p ↦ λ a k. (let l = length-take p.stack_len stack in ((k.0.0, omega (arith, a, k.0.1), k.0.2), k.1))
+    ] (above 0 (choice_of position stack choice) (omega arith)) h
 
 module _ {M R D : Type 0} {same : R → R → Bool} (t : Inside M R D) (sound : IsSound same t) (name : Name) (can : CanExit name (seen t)) (here : Point)
     (is : here ≡ shown t.parse_state.now.bytes.now t.after_previous) (events : Vec Event) (stack : Vec Name)

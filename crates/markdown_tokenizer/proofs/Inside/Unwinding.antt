@@ -1,10 +1,6 @@
 -- Laws of choices that end.
-use Rattle.markdown_tokenizer.proofs.Prelude.{◌≡◌, List, [], ◌∷◌, ◌++◌, refl, reverse, reverse-append, Name, GoesOn, KeptChoice, Progress, unwinding, unwound}
+use Rattle.markdown_tokenizer.proofs.Prelude.{◌≡◌, List, [], ◌∷◌, refl, Name, GoesOn, KeptChoice, Progress, unwinding, unwound}
 use Rattle.markdown_tokenizer.specs.declared.waiting.GoesOn.TheVariants.{Next}
-
--- the last of some choices
-pub reverse-last : (items ms : List KeptChoice) (choice : KeptChoice) → items ≡ ms ++ choice ∷ [] → reverse items ≡ choice ∷ reverse ms
-reverse-last items ms choice e = rw e (reverse-append ms (choice ∷ []))
 
 -- a state goes on
 pub unwound-next : (kept_choices : List KeptChoice) (goal : GoesOn) (name : Name) (from : Progress) → goal ≡ Next name → unwinding kept_choices goal from ≡ unwound kept_choices goal from
