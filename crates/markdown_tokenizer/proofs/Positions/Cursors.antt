@@ -1,37 +1,16 @@
 -- Laws of the cursor: what was read and what is left, with the order of places up to CR and LF of one CR LF.
-use Rattle.markdown_tokenizer.proofs.Prelude.{AllByRecursion, ◌≡◌, ℕ, ◌<◌, List, [], ◌∷◌, ◌++◌, Bool, true, false, length, refl, sym, ap, ◌∙◌, subst, filter, slice_get, not, ◌&&◌, ◌||◌, list_all, filter-append, append-nil, and_parts, Point, Seat, virtual, stands_before, is_upto, denotes_same, every-map, every-append, filter-none, or-leads, leads-back, rest_at, IsPlace, IsSeatAt, in_range}
+use Rattle.markdown_tokenizer.proofs.Prelude.{AllByRecursion, ◌≡◌, ℕ, ◌<◌, List, [], ◌∷◌, ◌++◌, Bool, true, false, length, refl, sym, ap, ◌∙◌, subst, filter, get_or, slice_get, not, ◌&&◌, ◌||◌, list_all, filter-append, append-nil, and_parts, Point, Seat, virtual, stands_before, is_upto, denotes_same, every-map, every-append, filter-none, or-leads, leads-back, rest_at, IsPlace, IsSeatAt, in_range}
+use Rattle.std.proofs.lemmas.Bool.{and_right}
+use Rattle.std.proofs.lemmas.Bool.Decides.{same_from_decides}
+use Rattle.std.proofs.lemmas.List.Elements.{All-from_recursion, recursion_from_All}
+use Rattle.std.proofs.lemmas.List.Recursion.{and_at, and_from_places}
 use Rattle.markdown_tokenizer.proofs.Positions.Order.{before-self, before-upto, every-both, every-front, every-back, every-all, filter-every, filter-same}
 use Rattle.markdown_tokenizer.proofs.Positions.Seats.{rest-later}
 use Rattle.markdown_tokenizer.proofs.Positions.Standing.{seat-splits, next-begins, seat-rest, seat-passes}
 
-module _ {A : Type 0} (f : A → Bool) where
-  pub list-every : (xs : List A) → list_all f xs ≡ true → AllByRecursion (λ x. f x ≡ true) xs
-  list-every [] h = tt
-  list-every (x ∷ xs) h = elim (f x) as (λ b. (f x ≡ b) → (b && list_all f xs) ≡ true → AllByRecursion (λ y. f y ≡ true) (x ∷ xs)) [
-    | true ↦ λ e k. (e, list-every xs k)
-    | false ↦ λ e k. absurd (cc)
-  ] refl h
-
-  every-list : (xs : List A) → AllByRecursion (λ x. f x ≡ true) xs → list_all f xs ≡ true
-  every-list [] h = refl
-  every-list (x ∷ xs) h = let e = h.0 in rw e (every-list xs h.1)
-
-pub leads-or : (a b : Bool) → (a ≡ true → b ≡ true) → (not a || b) ≡ true
+leads-or : (a b : Bool) → (a ≡ true → b ≡ true) → (not a || b) ≡ true
 leads-or true b h = h refl
 leads-or false b h = refl
-
-both-ways : (a b : Bool) → (a ≡ true → b ≡ true) → (b ≡ true → a ≡ true) → a ≡ b
-both-ways true b h k = sym (h refl)
-both-ways false true h k = k refl
-both-ways false false h k = refl
-
-and-false : (a c : Bool) → c ≡ false → (not a && c) ≡ false
-and-false true c e = refl
-and-false false c e = e
-
-not-and : (b : Bool) → (not b && b) ≡ false
-not-and true = refl
-not-and false = refl
 
 pub get-after : {A : Type 0} (xs ys : List A) → slice_get (xs ++ ys) (length xs) ≡ slice_get ys 0
 get-after [] ys = refl
@@ -43,12 +22,17 @@ Leads p q s = stands_before s.point p ≡ true → stands_before s.point q ≡ t
 
 module _ (t : ℕ) (bytes : List ℕ) where
   pub upto-leads : (p q : Point) → is_upto t bytes p q ≡ true → AllByRecursion (Leads p q) (virtual t bytes)
-  upto-leads p q h = every-map (λ s. (not (stands_before s.point p) || stands_before s.point q) ≡ true) (Leads p q) (λ s k. or-leads (stands_before s.point p) (stands_before s.point q) k) (virtual t bytes)
-      (list-every (λ (s : Seat). not (stands_before s.point p) || stands_before s.point q) (virtual t bytes) h)
+  upto-leads p q h =
+      let f = λ (s : Seat). not (stands_before s.point p) || stands_before s.point q in
+      let there = λ (k : ℕ) (d : Seat). (get_or (virtual t bytes) k d).point in
+      recursion_from_All (Leads p q) (virtual t bytes) (λ k d l. or-leads (stands_before (there k d) p) (stands_before (there k d) q) (and_at (list_all f) f refl (λ x xs. refl) (virtual t bytes) k d l h))
 
   pub leads-upto : (p q : Point) → AllByRecursion (Leads p q) (virtual t bytes) → is_upto t bytes p q ≡ true
-  leads-upto p q h = every-list (λ (s : Seat). not (stands_before s.point p) || stands_before s.point q) (virtual t bytes)
-      (every-map (Leads p q) (λ s. (not (stands_before s.point p) || stands_before s.point q) ≡ true) (λ s k. leads-or (stands_before s.point p) (stands_before s.point q) k) (virtual t bytes) h)
+  leads-upto p q h =
+      let f = λ (s : Seat). not (stands_before s.point p) || stands_before s.point q in
+      let d : Seat = record { byte = 0; point = p; end = p } in
+      let there = λ (k : ℕ). (get_or (virtual t bytes) k d).point in
+      and_from_places (list_all f) f refl (λ x xs. refl) (virtual t bytes) d (λ k l. leads-or (stands_before (there k) p) (stands_before (there k) q) (All-from_recursion (Leads p q) (virtual t bytes) h k d l))
 
   -- what is not before a place is not before it in the virtual text
   pub upto-order : (p q : Point) → stands_before q p ≡ false → is_upto t bytes p q ≡ true
@@ -79,7 +63,7 @@ module _ (t : ℕ) (bytes : List ℕ) where
   pub same-before : (p q : Point) → denotes_same t bytes p q ≡ true → AllByRecursion (λ s. stands_before s.point p ≡ stands_before s.point q) (virtual t bytes)
   same-before p q h =
       let b = same-upto p q h in
-      every-both (Leads p q) (Leads q p) (λ s. stands_before s.point p ≡ stands_before s.point q) (λ s a c. both-ways (stands_before s.point p) (stands_before s.point q) a c) (virtual t bytes) (upto-leads p q b.0) (upto-leads q p b.1)
+      every-both (Leads p q) (Leads q p) (λ s. stands_before s.point p ≡ stands_before s.point q) (λ s a c. same_from_decides {P = stands_before s.point q ≡ true} (stands_before s.point p) (stands_before s.point q) (a, c) ((λ e. e), λ e. e)) (virtual t bytes) (upto-leads p q b.0) (upto-leads q p b.1)
 
   -- a range depends on its ends only by what they denote
   pub range-same : (a b c d : Point) → denotes_same t bytes a c ≡ true → denotes_same t bytes b d ≡ true → filter (in_range a b) (virtual t bytes) ≡ filter (in_range c d) (virtual t bytes)
@@ -127,7 +111,7 @@ module _ (t : ℕ) (bytes : List ℕ) where
       (every-both (λ s. stands_before s.point p ≡ true) (Leads p end) (λ s. f s ≡ g s)
       (λ s h k. ap (λ (b : Bool). not (stands_before s.point start) && b) (k h ∙ sym h)) place.before place.behind ends.0) in
       let none : filter g rest ≡ [] = filter-none g rest
-      (every-map (λ s. stands_before s.point p ≡ false) (λ s. g s ≡ false) (λ s h. and-false (stands_before s.point start) (stands_before s.point p) h) rest (rest-later t bytes p)) in
+      (every-map (λ s. stands_before s.point p ≡ false) (λ s. g s ≡ false) (λ s h. and_right (not (stands_before s.point start)) (stands_before s.point p) h) rest (rest-later t bytes p)) in
       let back : filter f rest ≡ left_of p end = filter-same f (λ s. stands_before s.point end) rest
       (every-both (λ s. stands_before s.point p ≡ false) (Leads start p) (λ s. f s ≡ stands_before s.point end)
       (λ s h k. let e : stands_before s.point start ≡ false = leads-back (stands_before s.point start) (stands_before s.point p) k h in rw e refl) rest (rest-later t bytes p) starts.1) in
@@ -137,7 +121,8 @@ module _ (t : ℕ) (bytes : List ℕ) where
 
   -- no virtual byte is between a place and itself
   pub range-empty : (p : Point) → filter (in_range p p) (virtual t bytes) ≡ []
-  range-empty p = filter-none (in_range p p) (virtual t bytes) (every-all (λ s. in_range p p s ≡ false) (λ s. not-and (stands_before s.point p)) (virtual t bytes))
+  range-empty p = filter-none (in_range p p) (virtual t bytes)
+      (every-all (λ s. in_range p p s ≡ false) (λ s. elim (stands_before s.point p) as (λ b. (not b && b) ≡ false) [ true ↦ refl | false ↦ refl ]) (virtual t bytes))
 
   -- the end moves on
   pub range-extended : (start end to : Point) → IsPlace t bytes end → is_upto t bytes start end ≡ true → is_upto t bytes end to ≡ true

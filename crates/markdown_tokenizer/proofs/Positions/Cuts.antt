@@ -1,15 +1,11 @@
 -- A document can be cut at every n-th of its virtual bytes.
-use Rattle.markdown_tokenizer.proofs.Prelude.{AllByRecursion, ◌≡◌, ℕ, ◌+◌, ◌<◌, List, [], ◌∷◌, true, false, cond, refl, arith, ap, filter, map, enumerate_from, Point, Seat, point, virtual, stands_before, IsPointOf, every-map, place_of, is_cut, cuts_every, FollowInOrder, AreCuts}
+use Rattle.markdown_tokenizer.proofs.Prelude.{AllByRecursion, ◌≡◌, ℕ, ◌+◌, ◌<◌, List, [], ◌∷◌, true, false, cond, refl, arith, get_or, slice_get-get_or, filter, map, enumerate_from, Point, Seat, point, virtual, stands_before, IsPointOf, every-map, place_of, is_cut, cuts_every, FollowInOrder, AreCuts}
+use Rattle.std.proofs.lemmas.List.Elements.{recursion_from_All}
 use Rattle.markdown_tokenizer.proofs.Positions.Order.{after-before, not-before, every-all}
-use Rattle.markdown_tokenizer.proofs.Positions.Standing.{IsAmong}
-use Rattle.markdown_tokenizer.proofs.Positions.SeatLaws.{seat-is-point}
+use Rattle.markdown_tokenizer.proofs.Positions.SeatLaws.{get-among, seat-is-point}
 use Rattle.markdown_tokenizer.proofs.Positions.Points.{point_at-point}
 use Rattle.markdown_tokenizer.proofs.Positions.Cursors.{upto-order}
 use Rattle.markdown_tokenizer.proofs.Positions.TextOrder.{AreInOrder, Follows, virtual-order}
-
-every-among : (P : Seat → Type 0) (xs : List Seat) → ((s : Seat) → IsAmong s xs → P s) → AllByRecursion P xs
-every-among P [] h = tt
-every-among P (x ∷ xs) h = (h x (record { front = []; back = xs; splits = refl }), every-among P xs (λ s a. h s (record { front = x ∷ a.front; back = a.back; splits = ap (λ ys. x ∷ ys) a.splits })))
 
 module _ (t : ℕ) (bytes : List ℕ) (d : 0 < t) where
   cuts-follow : (n number : ℕ) (p : Point) (xs : List Seat) → AllByRecursion (λ s. IsPointOf t bytes s.point) xs → AllByRecursion (λ s. stands_before s.point p ≡ false) xs → AreInOrder bytes xs
@@ -27,5 +23,7 @@ module _ (t : ℕ) (bytes : List ℕ) (d : 0 < t) where
 -- the places of the virtual bytes number n, 2n, 3n, .. are cuts
 pub cuts_every-are-cuts : (t : ℕ) → 0 < t → (bytes : List ℕ) (n : ℕ) → AreCuts t bytes (cuts_every t bytes n)
 cuts_every-are-cuts t d bytes n =
-    cuts-follow t bytes d n 0 (point 1 1 0 0) (virtual t bytes) (every-among (λ s. IsPointOf t bytes s.point) (virtual t bytes) (seat-is-point t bytes))
-    (every-all (λ s. stands_before s.point (point 1 1 0 0) ≡ false) (λ s. not-before s.point.index s.point.vs 0 0 (omega arith) refl) (virtual t bytes)) (virtual-order t bytes d)
+    let seats = virtual t bytes in
+    let seat = λ (k : ℕ) (e : Seat). get_or seats k e in
+    cuts-follow t bytes d n 0 (point 1 1 0 0) seats (recursion_from_All (λ s. IsPointOf t bytes s.point) seats (λ k e l. seat-is-point t bytes (seat k e) (get-among seats k (seat k e) (slice_get-get_or seats k e l))))
+    (every-all (λ s. stands_before s.point (point 1 1 0 0) ≡ false) (λ s. not-before s.point.index s.point.vs 0 0 (omega arith) refl) seats) (virtual-order t bytes d)

@@ -1,12 +1,14 @@
 -- Laws about gaps: places in lines and columns, and what a gap leaves to be read.
 use Rattle.markdown_tokenizer.proofs.Prelude.{AllByRecursion, ◌≡◌, ℕ, ◌≤◌, ◌<◌, ◌==◌, List, [], ◌∷◌, ◌++◌, Bool, true, false, cond, Option, Some, None, refl, sym, ap, ◌∙◌, subst, arith, ◌⊎◌, inl, inr, filter, unwrap_or, not, nat_tests, find-append, filter-append, append-nil, eqb-true, not-true, and_parts, Point, Seat, point, virtual, end_after, stands_before, shown, is_upto, denotes_same, every-map, every-append, filter-none, leads-back, rest_at, IsPlace, IsSeatAt, goes_on, end_at, in_range, skip_of, is_kept_by, is_kept, resumed, kept_between, IsSkip, IsOutside}
-use Rattle.markdown_tokenizer.proofs.Positions.Order.{later-later, before-self, is-not, before-upto, upto-before, after-before, every-both, every-kept, not-number, filter-every, filter-same}
+use Rattle.std.proofs.lemmas.Bool.{true_from_ne_false}
+use Rattle.std.proofs.lemmas.List.Recursion.{found_push_other}
+use Rattle.markdown_tokenizer.proofs.Positions.Order.{later-later, before-self, is-not, before-upto, upto-before, after-before, every-all, every-both, every-kept, not-number, filter-every, filter-same}
 use Rattle.markdown_tokenizer.proofs.Positions.Seats.{rest-later}
 use Rattle.markdown_tokenizer.proofs.Positions.Chains.{IsChain, whole-chain}
 use Rattle.markdown_tokenizer.proofs.Positions.Standing.{next-begins, shown-upto, chain-upto}
 use Rattle.markdown_tokenizer.proofs.Positions.Cursors.{upto-order, upto-self, upto-upto, same-upto, same-back, same-self, left_of, text-splits, range-same, range-empty, Leads, upto-leads, split-every}
 use Rattle.markdown_tokenizer.proofs.Positions.Points.{shown-line, shown-column, same-shown}
-use Rattle.markdown_tokenizer.proofs.Positions.Lines.{lies_before, lies-shown, lies-later, LiesIn, StandsBetween, every-for, every-given, begins-line, chain-between, way-chain, way-ends, way-none, upto-shown, places-rise, seats-between}
+use Rattle.markdown_tokenizer.proofs.Positions.Lines.{lies_before, lies-shown, lies-later, LiesIn, StandsBetween, begins-at, chain-between, way-chain, way-ends, way-none, upto-shown, places-rise, seats-between}
 
 -- the place at which a line's gap ends is in that line, and in the list
 skip-is : (P : Point → Type 0) (skips : List Point) (line : ℕ) (p : Point) → AllByRecursion P skips → skip_of skips line ≡ Some p → (p.line ≡ line) × P p
@@ -35,7 +37,7 @@ module _ (t : ℕ) (bytes : List ℕ) (d : 0 < t) where
   -- the next virtual byte is in the line of the place
   pub seat-line : (p : Point) (seat : Seat) → IsPlace t bytes p → IsSeatAt t bytes p seat → seat.point.line ≡ p.line
   seat-line p seat place n =
-      begins-line t bytes (end_after (point 1 1 0 0) place.before) seat n.after (next-begins t bytes d p seat place n)
+      (begins-at t bytes (end_after (point 1 1 0 0) place.before) seat n.after (next-begins t bytes d p seat place n)).0
       ∙ ap (λ (x : Point). x.line) (sym place.stands) ∙ shown-line bytes p
 
   -- places of one line denote the same only in one column
@@ -50,23 +52,19 @@ module _ (t : ℕ) (bytes : List ℕ) (d : 0 < t) where
     | inr (inr l) ↦ omega (arith, l.1)
   ]
 
-  -- a gap from a place on
-  module _ (skips : List Point) (after_previous : Point) (place : IsPlace t bytes after_previous) where
-    -- all that is passed is in the gap
-    jump-none : (q : Point) → IsPlace t bytes q → q.line ≡ after_previous.line → skip_of skips after_previous.line ≡ Some q → is_upto t bytes after_previous q ≡ true → filter (is_kept skips) (left_of t bytes after_previous q) ≡ []
-    jump-none q at line e later =
-        let f = λ (s : Seat). stands_before s.point q in
-        let left = left_of t bytes after_previous q in
-        filter-none (is_kept skips) left (every-both (StandsBetween after_previous q) (λ s. f s ≡ true) (λ s. is_kept skips s ≡ false)
-        (λ s b h. let same : s.point.line ≡ after_previous.line = omega (arith, b.0, b.1) in kept-by skips s after_previous.line (Some q) same e ∙ ap not h) left
-        (seats-between t bytes d after_previous q place at later)
-        (every-kept (λ s. stands_before s.point after_previous ≡ false) (λ s. f s ≡ true) f (λ s k h. h) (rest_at t bytes after_previous) (rest-later t bytes after_previous)))
-
-    jump-same : (start q : Point) → is_upto t bytes start after_previous ≡ true → IsPlace t bytes q → q.line ≡ after_previous.line → skip_of skips after_previous.line ≡ Some q → is_upto t bytes after_previous q ≡ true → kept_between t bytes skips start q ≡ kept_between t bytes skips start after_previous
-    jump-same start q from at line e later =
-        let read = filter (in_range start after_previous) (virtual t bytes) in
-        ap (filter (is_kept skips)) (text-splits t bytes start after_previous q place from later) ∙ filter-append (is_kept skips) read (left_of t bytes after_previous q)
-        ∙ ap (λ (xs : List Seat). filter (is_kept skips) read ++ xs) (jump-none q at line e later) ∙ append-nil (filter (is_kept skips) read)
+  -- all that a gap from a place on passes is in the gap
+  jump-same : (skips : List Point) (after_previous : Point) (place : IsPlace t bytes after_previous) (start q : Point) → is_upto t bytes start after_previous ≡ true → IsPlace t bytes q → q.line ≡ after_previous.line
+      → skip_of skips after_previous.line ≡ Some q → is_upto t bytes after_previous q ≡ true → kept_between t bytes skips start q ≡ kept_between t bytes skips start after_previous
+  jump-same skips after_previous place start q from at line e later =
+      let read = filter (in_range start after_previous) (virtual t bytes) in
+      let left = left_of t bytes after_previous q in
+      let f = λ (s : Seat). stands_before s.point q in
+      let none : filter (is_kept skips) left ≡ [] = filter-none (is_kept skips) left (every-both (StandsBetween after_previous q) (λ s. f s ≡ true) (λ s. is_kept skips s ≡ false)
+      (λ s b h. let same : s.point.line ≡ after_previous.line = omega (arith, b.0, b.1) in kept-by skips s after_previous.line (Some q) same e ∙ ap not h) left
+      (seats-between t bytes d after_previous q place at later)
+      (every-kept (λ s. stands_before s.point after_previous ≡ false) (λ s. f s ≡ true) f (λ s k h. h) (rest_at t bytes after_previous) (rest-later t bytes after_previous))) in
+      ap (filter (is_kept skips)) (text-splits t bytes start after_previous q place from later) ∙ filter-append (is_kept skips) read left
+      ∙ ap (λ (xs : List Seat). filter (is_kept skips) read ++ xs) none ∙ append-nil (filter (is_kept skips) read)
 
   module _ (skips : List Point) (start end after_previous : Point) (are : AllByRecursion (IsSkip t bytes end) skips) (place : IsPlace t bytes after_previous)
       (from : is_upto t bytes start after_previous ≡ true) (upto : is_upto t bytes after_previous end ≡ true) (outside : IsOutside skips after_previous) where
@@ -88,17 +86,15 @@ module _ (t : ℕ) (bytes : List ℕ) (d : 0 < t) where
         kept-by skips seat after_previous.line (Some q) (seat-line p seat at n ∙ line) e
         ∙ ap not (later-later seat.point.index seat.point.vs p.index p.vs q.index q.vs n.later later)
 
-    jump-before : (q : Point) → IsPlace t bytes q → after_previous.column ≡ 1 → q.line ≡ after_previous.line → 1 < q.column → stands_before after_previous q ≡ true
-    jump-before q at first line inside = elim (stands_before after_previous q) as (λ b. (stands_before after_previous q ≡ b) → b ≡ true) [
-      | true ↦ λ e. refl
-      | false ↦ λ e. (let f = column-rises q after_previous at place (upto-order t bytes q after_previous e) line in absurd (omega arith))
-    ] refl
-
-    jumps : (q : Point) → after_previous.column ≡ 1 → skip_of skips after_previous.line ≡ Some q → IsResumed t bytes skips start end after_previous q
-    jumps q first e =
-        let found = skip-is (IsSkip t bytes end) skips after_previous.line q are e in
+    resumed-by : (b : Bool) (o : Option Point) → (after_previous.column == 1) ≡ b → skip_of skips after_previous.line ≡ o → IsResumed t bytes skips start end after_previous (cond b (unwrap_or o after_previous) after_previous)
+    resumed-by false None e f = stays (λ seat n. kept-by skips seat after_previous.line None (seat-line after_previous seat place n) f)
+    resumed-by true None e f = stays (λ seat n. kept-by skips seat after_previous.line None (seat-line after_previous seat place n) f)
+    resumed-by false (Some q) e f = elim (outside q f) [ inl h ↦ absurd (is-not after_previous.column 1 e h) | inr h ↦ stays (fresh-after after_previous q place refl f h) ]
+    resumed-by true (Some q) e f =
+        let first = eqb-true after_previous.column 1 e in
+        let found = skip-is (IsSkip t bytes end) skips after_previous.line q are f in
         let skip = found.1 in
-        let before = jump-before q skip.place first found.0 skip.inside in
+        let before = true_from_ne_false (stands_before after_previous q) (λ k. omega (arith, column-rises q after_previous skip.place place (upto-order t bytes q after_previous k) found.0, skip.inside)) in
         let later = upto-order t bytes after_previous q (after-before after_previous.index after_previous.vs q.index q.vs before) in
         record {
           place = skip.place;
@@ -107,15 +103,9 @@ module _ (t : ℕ) (bytes : List ℕ) (d : 0 < t) where
           shown_later = upto-shown t bytes d after_previous q place skip.place later;
           from = upto-upto t bytes start after_previous q from later;
           upto = skip.upto;
-          same = jump-same skips after_previous place start q from skip.place found.0 e later;
-          fresh = fresh-after q q skip.place found.0 e (before-self q.index q.vs);
+          same = jump-same skips after_previous place start q from skip.place found.0 f later;
+          fresh = fresh-after q q skip.place found.0 f (before-self q.index q.vs);
         }
-
-    resumed-by : (b : Bool) (o : Option Point) → (after_previous.column == 1) ≡ b → skip_of skips after_previous.line ≡ o → IsResumed t bytes skips start end after_previous (cond b (unwrap_or o after_previous) after_previous)
-    resumed-by false None e f = stays (λ seat n. kept-by skips seat after_previous.line None (seat-line after_previous seat place n) f)
-    resumed-by true None e f = stays (λ seat n. kept-by skips seat after_previous.line None (seat-line after_previous seat place n) f)
-    resumed-by false (Some q) e f = elim (outside q f) [ inl h ↦ absurd (is-not after_previous.column 1 e h) | inr h ↦ stays (fresh-after after_previous q place refl f h) ]
-    resumed-by true (Some q) e f = jumps q (eqb-true after_previous.column 1 e) f
 
     pub resumed-at : IsResumed t bytes skips start end after_previous (resumed skips after_previous)
     resumed-at = resumed-by (after_previous.column == 1) (skip_of skips after_previous.line) refl refl
@@ -128,45 +118,31 @@ end_at-line t byte p false false e f = inr (rw (e, f) refl)
 
 module _ (t : ℕ) (bytes : List ℕ) (d : 0 < t) where
   -- after a virtual byte that is in no gap one is in no gap
-  module _ (r : Point) (seat : Seat) (skips : List Point) (place : IsPlace t bytes r) (n : IsSeatAt t bytes r seat) (kept : is_kept skips seat ≡ true) where
-    after-kept : (p : Point) → seat.end.line ≡ seat.point.line → skip_of skips seat.end.line ≡ Some p → stands_before seat.end p ≡ false
-    after-kept p line e =
-        let begins = next-begins t bytes d r seat place n in
-        let same = ap (skip_of skips) (sym line) ∙ e in
-        let later = not-true (stands_before seat.point p) (sym (kept-by skips seat seat.point.line (Some p) refl same) ∙ kept) in
-        later-later seat.end.index seat.end.vs seat.point.index seat.point.vs p.index p.vs (after-before seat.point.index seat.point.vs seat.end.index seat.end.vs begins.ends) later
-
-    end-line : (seat.end.column ≡ 1) ⊎ (seat.end.line ≡ seat.point.line)
-    end-line =
-        let begins = next-begins t bytes d r seat place n in
-        subst (λ (q : Point). (q.column ≡ 1) ⊎ (q.line ≡ seat.point.line)) begins.end_is (end_at-line t seat.byte seat.point (seat.byte == 10) (goes_on t seat.byte seat.point) refl refl)
-
-    pub consumed-outside : IsOutside skips seat.end
-    consumed-outside p e = elim end-line [ inl h ↦ inl h | inr h ↦ inr (after-kept p h e) ]
-
-  -- the virtual byte is in no gap that ends by a place
-  abbrev PastGaps : Point → Seat → Type 0
-  PastGaps end s = (p : Point) → is_upto t bytes p end ≡ true → stands_before s.point p ≡ false
-
-  rest-past : (p end : Point) → IsPlace t bytes end → is_upto t bytes p end ≡ true → AllByRecursion (λ s. stands_before s.point p ≡ false) (rest_at t bytes end)
-  rest-past p end place upto =
-      every-both (Leads p end) (λ s. stands_before s.point end ≡ false) (λ s. stands_before s.point p ≡ false) (λ s h k. leads-back (stands_before s.point p) (stands_before s.point end) h k) (rest_at t bytes end)
-      (split-every t bytes (Leads p end) end place (upto-leads t bytes p end upto)).1 (rest-later t bytes end)
+  pub consumed-outside : (r : Point) (seat : Seat) (skips : List Point) → IsPlace t bytes r → IsSeatAt t bytes r seat → is_kept skips seat ≡ true → IsOutside skips seat.end
+  consumed-outside r seat skips place n kept p e =
+      let begins = next-begins t bytes d r seat place n in
+      elim (subst (λ (q : Point). (q.column ≡ 1) ⊎ (q.line ≡ seat.point.line)) begins.end_is (end_at-line t seat.byte seat.point (seat.byte == 10) (goes_on t seat.byte seat.point) refl refl)) [
+        | inl h ↦ inl h
+        | inr h ↦ inr (
+            let later = not-true (stands_before seat.point p) (sym (kept-by skips seat seat.point.line (Some p) refl (ap (skip_of skips) (sym h) ∙ e)) ∙ kept) in
+            later-later seat.end.index seat.end.vs seat.point.index seat.point.vs p.index p.vs (after-before seat.point.index seat.point.vs seat.end.index seat.end.vs begins.ends) later
+            )
+      ]
 
   -- gaps that end by a place end by a later one
   pub skips-upto : (skips : List Point) (end to : Point) → AllByRecursion (IsSkip t bytes end) skips → is_upto t bytes end to ≡ true → AllByRecursion (IsSkip t bytes to) skips
   skips-upto skips end to are h = every-map (IsSkip t bytes end) (IsSkip t bytes to)
       (λ p k. record { place = k.place; inside = k.inside; upto = upto-upto t bytes p end to k.upto h }) skips are
 
-  past-gaps : (end : Point) → IsPlace t bytes end → AllByRecursion (PastGaps end) (rest_at t bytes end)
-  past-gaps end place = every-for (λ (p : Point) (s : Seat). is_upto t bytes p end ≡ true → stands_before s.point p ≡ false) (rest_at t bytes end)
-      (λ p. every-given (is_upto t bytes p end) (λ s. stands_before s.point p ≡ false) (rest_at t bytes end) (rest-past p end place))
-
-  kept-past : (skips : List Point) (end : Point) → AllByRecursion (IsSkip t bytes end) skips → (s : Seat) → PastGaps end s → (o : Option Point) → skip_of skips s.point.line ≡ o → is_kept skips s ≡ true
-  kept-past skips end are s past None e = kept-by skips s s.point.line None refl e
-  kept-past skips end are s past (Some p) e =
-      let found = skip-is (IsSkip t bytes end) skips s.point.line p are e in
-      kept-by skips s s.point.line (Some p) refl e ∙ ap not (past p found.1.upto)
+  -- what is left at a place is in no gap that ends by it
+  kept-past : (end : Point) → IsPlace t bytes end → (skips : List Point) → AllByRecursion (IsSkip t bytes end) skips → AllByRecursion (λ s. is_kept skips s ≡ true) (rest_at t bytes end)
+  kept-past end place [] are = every-all (λ s. is_kept [] s ≡ true) (λ s. refl) (rest_at t bytes end)
+  kept-past end place (p ∷ ps) are =
+      let leads = (split-every t bytes (Leads p end) end place (upto-leads t bytes p end are.0.upto)).1 in
+      every-both (λ s. stands_before s.point p ≡ false) (λ s. is_kept ps s ≡ true) (λ s. is_kept (p ∷ ps) s ≡ true)
+      (λ s h k. elim (p.line == s.point.line) as (λ b. is_kept_by (cond b (Some p) (skip_of ps s.point.line)) s ≡ true) [ true ↦ ap not h | false ↦ k ]) (rest_at t bytes end)
+      (every-both (Leads p end) (λ s. stands_before s.point end ≡ false) (λ s. stands_before s.point p ≡ false) (λ s h k. leads-back (stands_before s.point p) (stands_before s.point end) h k)
+      (rest_at t bytes end) leads (rest-later t bytes end)) (kept-past end place ps are.1)
 
   -- a range that is pushed
   module _ (skips : List Point) (end from to : Point) (are : AllByRecursion (IsSkip t bytes end) skips) (place : IsPlace t bytes end) (same : denotes_same t bytes from end ≡ true) (upto : is_upto t bytes from to ≡ true) where
@@ -183,56 +159,37 @@ module _ (t : ℕ) (bytes : List ℕ) (d : 0 < t) where
     pushed-kept =
         ap (filter (is_kept skips)) pushed-is
         ∙ filter-every (is_kept skips) (left_of t bytes end to)
-        (every-kept (PastGaps end) (λ s. is_kept skips s ≡ true) (λ s. stands_before s.point to) (λ s h e. kept-past skips end are s h (skip_of skips s.point.line) refl) (rest_at t bytes end) (past-gaps end place))
+        (every-kept (λ s. is_kept skips s ≡ true) (λ s. is_kept skips s ≡ true) (λ s. stands_before s.point to) (λ s h e. h) (rest_at t bytes end) (kept-past end place skips are))
         ∙ sym pushed-is
 
     pub pushed-skips : AllByRecursion (IsSkip t bytes to) skips
     pushed-skips = skips-upto skips end to are end-upto
 
-skip-other : (skips : List Point) (q : Point) (line : ℕ) → (q.line == line) ≡ false → skip_of (skips ++ q ∷ []) line ≡ skip_of skips line
-skip-other [] q line e = rw e refl
-skip-other (x ∷ xs) q line e = ap (λ (o : Option Point). cond (x.line == line) (Some x) o) (skip-other xs q line e)
-
-skip-added : (skips : List Point) (q : Point) (line : ℕ) → (q.line == line) ≡ true → skip_of skips line ≡ None → skip_of (skips ++ q ∷ []) line ≡ Some q
-skip-added skips q line e h = find-append (λ (p : Point). p.line == line) skips (q ∷ []) ∙ rw (h, e) refl
-
 resumed-at_first : (skips : List Point) (p : Point) → p.column ≡ 1 → resumed skips p ≡ unwrap_or (skip_of skips p.line) p
 resumed-at_first skips p e = let g : (p.column == 1) ≡ true = grind (arith, nat_tests) in rw g refl
 
 module _ (t : ℕ) (bytes : List ℕ) (d : 0 < t) where
-  chain-columns : (p : Point) (xs ys : List Seat) → IsChain t bytes p (xs ++ ys) → AllByRecursion (λ s. 1 ≤ s.point.column) xs
-  chain-columns p [] ys c = tt
-  chain-columns p (s ∷ ss) ys c = (c.1.seat_bounds.first, chain-columns s.end ss ys c.2)
-
   -- places before the beginning of a line are in earlier lines
   module _ (e : Point) (at : IsPlace t bytes e) (first : e.column ≡ 1) where
-    behind-chain : IsChain t bytes (point 1 1 0 0) (at.before ++ rest_at t bytes e)
-    behind-chain = subst (IsChain t bytes (point 1 1 0 0)) at.splits (whole-chain t bytes d)
-
-    behind-lies : (s : Seat) → LiesIn (point 1 1 0 0) (end_after (point 1 1 0 0) at.before) s → 1 ≤ s.point.column → s.point.line < e.line
-    behind-lies s h k =
-        elim (lies-later s.point e (lies-shown bytes s.point e ∙ ap (lies_before s.point) at.stands ∙ h.1)) [ inl l ↦ l | inr l ↦ absurd (omega (arith, l.1)) ]
-
     behind-earlier : AllByRecursion (λ s. s.point.line < e.line) at.before
     behind-earlier =
         let p = point 1 1 0 0 in
-        every-both (LiesIn p (end_after p at.before)) (λ s. 1 ≤ s.point.column) (λ s. s.point.line < e.line) behind-lies at.before
-        (chain-between t bytes p at.before (rest_at t bytes e) behind-chain) (chain-columns p at.before (rest_at t bytes e) behind-chain)
+        every-map (LiesIn p (end_after p at.before)) (λ s. s.point.line < e.line)
+        (λ s h. elim (lies-later s.point e (lies-shown bytes s.point e ∙ ap (lies_before s.point) at.stands ∙ h.1)) [ inl l ↦ l | inr l ↦ absurd (omega (arith, l.1, h.2)) ])
+        at.before (chain-between t bytes p at.before (rest_at t bytes e) (subst (IsChain t bytes p) at.splits (whole-chain t bytes d)))
 
     -- a virtual byte before a place is in an earlier line
     abbrev Earlier : Point → Seat → Type 0
     Earlier after_previous s = stands_before s.point after_previous ≡ true → s.point.line < e.line
 
-    seats-earlier : AllByRecursion (Earlier e) (virtual t bytes)
-    seats-earlier = subst (AllByRecursion (Earlier e)) (sym at.splits) (every-append (Earlier e) at.before (rest_at t bytes e)
-        (every-map (λ s. s.point.line < e.line) (Earlier e) (λ s h k. h) at.before behind-earlier)
-        (every-map (λ s. stands_before s.point e ≡ false) (Earlier e) (λ s h k. absurd (cc)) (rest_at t bytes e) (rest-later t bytes e)))
-
     read-earlier : (start after_previous : Point) → is_upto t bytes after_previous e ≡ true → AllByRecursion (λ s. s.point.line < e.line) (filter (in_range start after_previous) (virtual t bytes))
     read-earlier start after_previous upto =
+        let seats : AllByRecursion (Earlier e) (virtual t bytes) = subst (AllByRecursion (Earlier e)) (sym at.splits) (every-append (Earlier e) at.before (rest_at t bytes e)
+        (every-map (λ s. s.point.line < e.line) (Earlier e) (λ s h k. h) at.before behind-earlier)
+        (every-map (λ s. stands_before s.point e ≡ false) (Earlier e) (λ s h k. absurd (cc)) (rest_at t bytes e) (rest-later t bytes e))) in
         every-kept (Earlier after_previous) (λ s. s.point.line < e.line) (in_range start after_previous)
         (λ s h k. h ((and_parts (not (stands_before s.point start)) (stands_before s.point after_previous) k).1)) (virtual t bytes)
-        (every-both (Leads after_previous e) (Earlier e) (Earlier after_previous) (λ s h k l. k (h l)) (virtual t bytes) (upto-leads t bytes after_previous e upto) seats-earlier)
+        (every-both (Leads after_previous e) (Earlier e) (Earlier after_previous) (λ s h k l. k (h l)) (virtual t bytes) (upto-leads t bytes after_previous e upto) seats)
 
     -- a place that is not after the beginning of a line is in an earlier line, or denotes the same
     pub after_previous-earlier : (after_previous : Point) → IsPlace t bytes after_previous → is_upto t bytes after_previous e ≡ true
@@ -262,30 +219,28 @@ module _ (t : ℕ) (bytes : List ℕ) (d : 0 < t) where
     added-none = elim (skip_of skips e.line) as (λ o. skip_of skips e.line ≡ o → o ≡ None) [
       | None ↦ λ h. refl
       | Some p ↦ λ h. (
-          let found = skip-is (IsSkip t bytes e) skips e.line p are h in
-          let skip = found.1 in
-          let inside = skip.inside in
-          let column = column-rises t bytes d p e skip.place at skip.upto found.0 in
-          absurd (omega arith)
+          let (line_is, skip) = skip-is (IsSkip t bytes e) skips e.line p are h in
+          absurd (omega (arith, skip.inside, column-rises t bytes d p e skip.place at skip.upto line_is))
           )
     ] refl
 
-    added-inside : 1 < q.column
-    added-inside = elim (places-rise t bytes d e q at to added-upto) [
-      | inl h ↦ (let f = same-back t bytes e q h in absurd (cc))
-      | inr (inl h) ↦ absurd (omega arith)
-      | inr (inr h) ↦ omega (arith, h.1)
-    ]
-
     pub added-skips : AllByRecursion (IsSkip t bytes q) (skips ++ q ∷ [])
-    added-skips = every-append (IsSkip t bytes q) skips (q ∷ []) (skips-upto t bytes d skips e q are added-upto)
-        (record { place = to; inside = added-inside; upto = upto-self t bytes q }, tt)
+    added-skips =
+        let inside : 1 < q.column = elim (places-rise t bytes d e q at to added-upto) [
+          | inl h ↦ absurd (let f = same-back t bytes e q h in cc)
+          | inr (inl h) ↦ absurd (omega arith)
+          | inr (inr h) ↦ omega (arith, h.1)
+        ] in
+        every-append (IsSkip t bytes q) skips (q ∷ []) (skips-upto t bytes d skips e q are added-upto) (record { place = to; inside = inside; upto = upto-self t bytes q }, tt)
 
     added-there : (k : ℕ) → k ≡ e.line → skip_of (skips ++ q ∷ []) k ≡ Some q
-    added-there k h = let same : (q.line == k) ≡ true = grind (arith, nat_tests) in skip-added skips q k same (ap (skip_of skips) h ∙ added-none)
+    added-there k h =
+        let there : (q.line == k) ≡ true = grind (arith, nat_tests) in
+        let none = ap (skip_of skips) h ∙ added-none in
+        find-append (λ (p : Point). p.line == k) skips (q ∷ []) ∙ rw (none, there) refl
 
     added-earlier : (k : ℕ) → k < e.line → skip_of (skips ++ q ∷ []) k ≡ skip_of skips k
-    added-earlier k h = skip-other skips q k (not-number q.line k (λ f. absurd (omega arith)))
+    added-earlier k h = found_push_other (λ ps. skip_of ps k) (λ (p : Point). p.line == k) Some None refl (λ x xs. refl) skips q (not-number q.line k (λ f. absurd (omega arith)))
 
     -- what was read keeps what it kept
     pub added-read : (after_previous : Point) → is_upto t bytes after_previous e ≡ true → kept_between t bytes (skips ++ q ∷ []) start after_previous ≡ kept_between t bytes skips start after_previous
@@ -329,19 +284,16 @@ module _ (t : ℕ) (bytes : List ℕ) (d : 0 < t) where
   pub same-not_before : (p e : Point) → IsPlace t bytes p → IsPlace t bytes e → denotes_same t bytes p e ≡ true → stands_before e (shown bytes p) ≡ false
   same-not_before p e a b h = ap (stands_before e) (same-shown t bytes p e a b h) ∙ shown-upto t bytes e
 
-  further : (p e : Point) (a : IsPlace t bytes p) (b : IsPlace t bytes e) → is_upto t bytes e p ≡ true → (mid : List Seat) → left_of t bytes e p ≡ mid → (denotes_same t bytes e p ≡ true) ⊎ (stands_before e (shown bytes p) ≡ true)
-  further p e a b upto [] h = inl (way-none t bytes d e p b a upto h)
-  further p e a b upto (s ∷ ss) h =
-      let c = subst (λ (xs : List Seat). IsChain t bytes (shown bytes e) (xs ++ rest_at t bytes p)) h (way-chain t bytes d e p b a upto) in
-      let ends : shown bytes p ≡ end_after s.end ss = way-ends t bytes d e p b a upto ∙ ap (end_after (shown bytes e)) h in
-      let after = λ (r : Seat). stands_before r.point e ≡ false in
-      let later = subst (AllByRecursion after) h (every-kept after after (λ r. stands_before r.point p) (λ r k l. k) (rest_at t bytes e) (rest-later t bytes e)) in
-      let q = end_after s.end ss in
-      let passes = upto-before e.index e.vs s.point.index s.point.vs s.end.index s.end.vs later.0 c.1.ends in
-      inr (ap (stands_before e) ends ∙ before-upto e.index e.vs s.end.index s.end.vs q.index q.vs passes (chain-upto t bytes s.end ss (rest_at t bytes p) c.2))
-
   pub other-before : (p e : Point) → IsPlace t bytes p → IsPlace t bytes e → stands_before e p ≡ true → denotes_same t bytes p e ≡ false → stands_before e (shown bytes p) ≡ true
-  other-before p e a b before other = elim (further p e a b (upto-order t bytes e p (after-before e.index e.vs p.index p.vs before)) (left_of t bytes e p) refl) [
-    | inl h ↦ (let f = same-back t bytes e p h in absurd (cc))
-    | inr h ↦ h
-  ]
+  other-before p e a b before other = cases (upto-order t bytes e p (after-before e.index e.vs p.index p.vs before)) (left_of t bytes e p) refl
+    where
+      cases : is_upto t bytes e p ≡ true → (mid : List Seat) → left_of t bytes e p ≡ mid → stands_before e (shown bytes p) ≡ true
+      cases upto [] h = let f = same-back t bytes e p (way-none t bytes d e p b a upto h) in absurd (cc)
+      cases upto (s ∷ ss) h =
+          let c = subst (λ (xs : List Seat). IsChain t bytes (shown bytes e) (xs ++ rest_at t bytes p)) h (way-chain t bytes d e p b a upto) in
+          let after = λ (r : Seat). stands_before r.point e ≡ false in
+          let later = subst (AllByRecursion after) h (every-kept after after (λ r. stands_before r.point p) (λ r k l. k) (rest_at t bytes e) (rest-later t bytes e)) in
+          let q = end_after s.end ss in
+          let passes = upto-before e.index e.vs s.point.index s.point.vs s.end.index s.end.vs later.0 c.1.ends in
+          ap (stands_before e) (way-ends t bytes d e p b a upto ∙ ap (end_after (shown bytes e)) h)
+          ∙ before-upto e.index e.vs s.end.index s.end.vs q.index q.vs passes (chain-upto t bytes s.end ss (rest_at t bytes p) c.2)

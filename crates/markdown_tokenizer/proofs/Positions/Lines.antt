@@ -1,6 +1,6 @@
 -- Places in lines and columns, and the virtual bytes between two places.
 use Rattle.markdown_tokenizer.proofs.Prelude.{AllByRecursion, ◌≡◌, ℕ, suc, ◌≤◌, ◌<◌, ◌==◌, List, [], ◌∷◌, ◌++◌, Bool, true, false, refl, sym, ap, ◌∙◌, subst, arith, append_assoc, cases_lt, ◌⊎◌, inl, inr, filter, nat_lt, ◌&&◌, ◌||◌, nat_tests, filter-append, append-nil, append_cancel_left, Point, Seat, point, virtual, end_after, stands_before, shown, is_upto, denotes_same, every-map, end-after-append, rest_at, IsPlace, goes_on, end_at}
-use Rattle.markdown_tokenizer.proofs.Positions.Order.{later-later, before-self, before-upto, after-before, below-before, more-before, every-both, every-all, filter-every}
+use Rattle.markdown_tokenizer.proofs.Positions.Order.{later-later, before-self, before-upto, after-before, below-before, more-before, every-both, filter-every}
 use Rattle.markdown_tokenizer.proofs.Positions.Chains.{Begins, IsChain, whole-chain}
 use Rattle.markdown_tokenizer.proofs.Positions.Standing.{chain-split, chain-upto}
 use Rattle.markdown_tokenizer.proofs.Positions.Cursors.{upto-same, rest-upto, left_of, Leads, upto-leads, split-every, place-before}
@@ -23,9 +23,6 @@ lies-like p q r e f = rw (e, f) refl
 pub lies-shown : (bytes : List ℕ) (r p : Point) → lies_before r p ≡ lies_before r (shown bytes p)
 lies-shown bytes r p = rw (shown-line bytes p, shown-column bytes p) refl
 
-not-lies : (p q : Point) → p.line ≡ q.line → p.column ≡ q.column → lies_before p q ≡ false
-not-lies p q e f = rw (e, f) (before-self q.line q.column)
-
 -- in a later line, or in a later column of the line
 pub lies-later : (p q : Point) → lies_before p q ≡ true → (p.line < q.line) ⊎ ((p.line ≡ q.line) × (p.column < q.column))
 lies-later p q h = elim (cases_lt p.line q.line) [ inl l ↦ inl l | inr g ↦ inr (grind (arith, nat_tests), grind (arith, nat_tests)) ]
@@ -33,33 +30,22 @@ lies-later p q h = elim (cases_lt p.line q.line) [ inl l ↦ inl l | inr g ↦ i
 lies-in-numbers : (i j k l m n : ℕ) → (nat_lt k i || ((k == i) && nat_lt l j)) ≡ false → (nat_lt k m || ((k == m) && nat_lt l n)) ≡ true → (i ≤ k) × (k ≤ m) × (k ≡ i → j ≤ l)
 lies-in-numbers i j k l m n h g = (grind (arith, nat_tests), grind (arith, nat_tests), λ e. grind (arith, nat_tests))
 
--- a virtual byte lies between two places
+-- a virtual byte lies between two places, in a column from 1 on
 abbrev pub LiesIn : Point → Point → Seat → Type 0
-LiesIn p q s = (lies_before s.point p ≡ false) × (lies_before s.point q ≡ true)
+LiesIn p q s = (lies_before s.point p ≡ false) × (lies_before s.point q ≡ true) × (1 ≤ s.point.column)
 
 -- so its line is between theirs
 abbrev pub StandsBetween : Point → Point → Seat → Type 0
 StandsBetween p q s = (p.line ≤ s.point.line) × (s.point.line ≤ q.line) × (s.point.line ≡ p.line → p.column ≤ s.point.column)
 
--- each of many facts holds of each element
-pub every-for : {A : Type 0} {X : Type 0} (P : X → A → Type 0) (xs : List A) → ((x : X) → AllByRecursion (P x) xs) → AllByRecursion (λ a. (x : X) → P x a) xs
-every-for P [] h = tt
-every-for P (a ∷ rest) h = (λ x. (h x).0, every-for P rest (λ x. (h x).1))
-
-pub every-given : (b : Bool) (P : Seat → Type 0) (xs : List Seat) → (b ≡ true → AllByRecursion P xs) → AllByRecursion (λ s. b ≡ true → P s) xs
-every-given true P xs h = every-map P (λ s. true ≡ true → P s) (λ s k e. k) xs (h refl)
-every-given false P xs h = every-all (λ s. false ≡ true → P s) (λ s e. absurd (cc)) xs
-
 module _ (t : ℕ) (bytes : List ℕ) where
-  pub begins-line : (p : Point) (s : Seat) (rest : List Seat) → Begins t bytes p s rest → s.point.line ≡ p.line
-  begins-line p s rest b = sym (shown-line bytes s.point) ∙ ap (λ (x : Point). x.line) b.shown_is
-
-  begins-column : (p : Point) (s : Seat) (rest : List Seat) → Begins t bytes p s rest → s.point.column ≡ p.column
-  begins-column p s rest b = sym (shown-column bytes s.point) ∙ ap (λ (x : Point). x.column) b.shown_is
+  pub begins-at : (p : Point) (s : Seat) (rest : List Seat) → Begins t bytes p s rest → (s.point.line ≡ p.line) × (s.point.column ≡ p.column)
+  begins-at p s rest b = (sym (shown-line bytes s.point) ∙ ap (λ (x : Point). x.line) b.shown_is, sym (shown-column bytes s.point) ∙ ap (λ (x : Point). x.column) b.shown_is)
 
   begins-lies : (p : Point) (s : Seat) (rest : List Seat) → Begins t bytes p s rest → lies_before p s.end ≡ true
   begins-lies p s rest b =
-      sym (lies-like s.point p s.end (begins-line p s rest b) (begins-column p s rest b))
+      let (line, column) = begins-at p s rest b in
+      sym (lies-like s.point p s.end line column)
       ∙ sym (ap (lies_before s.point) b.end_is) ∙ end_at-lies t s.byte s.point (s.byte == 10) (goes_on t s.byte s.point) refl refl
 
   chain-rises : (p : Point) (xs ys : List Seat) → IsChain t bytes p (xs ++ ys) → lies_before (end_after p xs) p ≡ false
@@ -78,12 +64,11 @@ module _ (t : ℕ) (bytes : List ℕ) where
   chain-between p [] ys c = tt
   chain-between p (s ∷ ss) ys c =
       let q = end_after s.end ss in
-      let line = begins-line p s (ss ++ ys) c.1 in
-      let column = begins-column p s (ss ++ ys) c.1 in
+      let (line, column) = begins-at p s (ss ++ ys) c.1 in
       let upto = after-before p.line p.column s.end.line s.end.column (begins-lies p s (ss ++ ys) c.1) in (
-        (not-lies s.point p line column, lies-like s.point p q line column ∙ chain-passes p s ss ys c),
+        (rw (line, column) (before-self p.line p.column), lies-like s.point p q line column ∙ chain-passes p s ss ys c, c.1.seat_bounds.first),
         every-map (LiesIn s.end q) (LiesIn p q)
-            (λ r h. (later-later r.point.line r.point.column s.end.line s.end.column p.line p.column h.0 upto, h.1)) ss (chain-between s.end ss ys c.2),
+            (λ r h. (later-later r.point.line r.point.column s.end.line s.end.column p.line p.column h.0 upto, h.1, h.2)) ss (chain-between s.end ss ys c.2),
       )
 
   -- the virtual bytes between a place and a second one, which is not before the first
@@ -118,20 +103,20 @@ module _ (t : ℕ) (bytes : List ℕ) where
         (ap (λ (xs : List Seat). xs ++ rest_at t bytes b) (sym same) ∙ sym second.splits ∙ first.splits) in
         upto-same t bytes a b upto (rest-upto t bytes a b first rest)
 
-    way-cases : (mid : List Seat) → left_of t bytes a b ≡ mid → (denotes_same t bytes a b ≡ true) ⊎ ((a.line < b.line) ⊎ ((a.line ≡ b.line) × (a.column < b.column)))
-    way-cases [] e = inl (way-none e)
-    way-cases (s ∷ ss) e =
-        let c = subst (λ (xs : List Seat). IsChain t bytes (shown bytes a) (xs ++ rest_at t bytes b)) e way-chain in
-        let ends : shown bytes b ≡ end_after s.end ss = way-ends ∙ ap (end_after (shown bytes a)) e in
-        inr (lies-later a b (lies-like a (shown bytes a) b (sym (shown-line bytes a)) (sym (shown-column bytes a)) ∙ lies-shown bytes (shown bytes a) b ∙ ap (lies_before (shown bytes a)) ends ∙ chain-passes (shown bytes a) s ss (rest_at t bytes b) c))
-
     -- it is not shown before the first
     pub upto-shown : stands_before (shown bytes b) (shown bytes a) ≡ false
     upto-shown = ap (λ (p : Point). stands_before p (shown bytes a)) way-ends ∙ chain-upto t bytes (shown bytes a) (left_of t bytes a b) (rest_at t bytes b) way-chain
 
     -- it denotes the same, or its line is later, or its column is in the same line
     pub places-rise : (denotes_same t bytes a b ≡ true) ⊎ ((a.line < b.line) ⊎ ((a.line ≡ b.line) × (a.column < b.column)))
-    places-rise = way-cases (left_of t bytes a b) refl
+    places-rise = cases (left_of t bytes a b) refl
+      where
+        cases : (mid : List Seat) → left_of t bytes a b ≡ mid → (denotes_same t bytes a b ≡ true) ⊎ ((a.line < b.line) ⊎ ((a.line ≡ b.line) × (a.column < b.column)))
+        cases [] e = inl (way-none e)
+        cases (s ∷ ss) e =
+            let c = subst (λ (xs : List Seat). IsChain t bytes (shown bytes a) (xs ++ rest_at t bytes b)) e way-chain in
+            let ends : shown bytes b ≡ end_after s.end ss = way-ends ∙ ap (end_after (shown bytes a)) e in
+            inr (lies-later a b (lies-like a (shown bytes a) b (sym (shown-line bytes a)) (sym (shown-column bytes a)) ∙ lies-shown bytes (shown bytes a) b ∙ ap (lies_before (shown bytes a)) ends ∙ chain-passes (shown bytes a) s ss (rest_at t bytes b) c))
 
     -- the places between the two are in lines between theirs
     pub seats-between : AllByRecursion (StandsBetween a b) (left_of t bytes a b)

@@ -1,5 +1,6 @@
 -- The order of places, and lists of seats.
-use Rattle.markdown_tokenizer.proofs.Prelude.{AllByRecursion, ◌≡◌, ◌≢◌, ℕ, suc, ◌≤◌, ◌<◌, ◌==◌, List, [], ◌∷◌, ◌++◌, Bool, true, false, cond, refl, ap, arith, filter, nat_lt, ◌&&◌, ◌||◌, nat_tests}
+use Rattle.markdown_tokenizer.proofs.Prelude.{AllByRecursion, ◌≡◌, ℕ, suc, ◌≤◌, ◌<◌, ◌==◌, List, [], ◌∷◌, ◌++◌, Bool, true, false, cond, refl, ap, arith, filter, nat_lt, ◌&&◌, ◌||◌, nat_tests}
+pub use Rattle.std.proofs.lemmas.Bool.{eqb-false as is-not, ne_eqb as not-number}
 
 pub later-later : (i j m n u v : ℕ) → (nat_lt i m || ((i == m) && nat_lt j n)) ≡ false → (nat_lt m u || ((m == u) && nat_lt n v)) ≡ false → (nat_lt i u || ((i == u) && nat_lt j v)) ≡ false
 later-later i j m n u v h k = grind (arith, nat_tests)
@@ -32,15 +33,6 @@ before-upto i j m n u v h k = grind (arith, nat_tests)
 -- one place is not after a second, and the second before a third
 pub upto-before : (i j m n u v : ℕ) → (nat_lt m i || ((m == i) && nat_lt n j)) ≡ false → (nat_lt m u || ((m == u) && nat_lt n v)) ≡ true → (nat_lt i u || ((i == u) && nat_lt j v)) ≡ true
 upto-before i j m n u v h k = grind (arith, nat_tests)
-
-pub eq-zero : (n : ℕ) → (n == 0) ≡ true → n ≡ 0
-eq-zero n e = grind (arith, nat_tests)
-
-pub is-not : (b n : ℕ) → (b == n) ≡ false → b ≢ n
-is-not b n e = grind (arith, nat_tests)
-
-pub not-number : (b n : ℕ) → b ≢ n → (b == n) ≡ false
-not-number b n h = grind (arith, nat_tests)
 
 module _ {A : Type 0} (P : A → Type 0) where
   pub every-cond : (b : Bool) (xs ys : List A) → AllByRecursion P xs → AllByRecursion P ys → AllByRecursion P (cond b xs ys)

@@ -1,7 +1,7 @@
 -- Places that denote the same are shown alike, and a place has one point.
-use Rattle.markdown_tokenizer.proofs.Prelude.{◌≡◌, ℕ, zero, suc, ◌-◌, ◌<◌, ◌==◌, List, [], ◌∷◌, Bool, true, false, cond, Some, refl, sym, ap, ◌∙◌, subst, arith, ◌&&◌, find, slice_index, Contains, nat_tests, Point, point, end_after, shown, follows_cr, is_upto, denotes_same, IsPointOf, points, point_at, IsPlace}
+use Rattle.markdown_tokenizer.proofs.Prelude.{◌≡◌, ℕ, zero, suc, ◌-◌, ◌<◌, ◌==◌, List, [], ◌∷◌, Bool, true, false, cond, Some, refl, sym, ap, ◌∙◌, subst, arith, ◌&&◌, find, slice_index, Contains, Contains-append_right, nat_tests, eqb-true, and_parts, Point, point, end_after, shown, follows_cr, denotes_same, IsPointOf, points, point_at, IsPlace}
 use Rattle.markdown_tokenizer.proofs.Positions.Order.{not-before-in}
-use Rattle.markdown_tokenizer.proofs.Positions.Standing.{place-of-point, contains-here, contains-later}
+use Rattle.markdown_tokenizer.proofs.Positions.Standing.{place-of-point}
 pub use Rattle.markdown_tokenizer.proofs.Positions.Standing.{same-numbers}
 use Rattle.markdown_tokenizer.proofs.Positions.Cursors.{same-behind, upto-order, upto-same}
 
@@ -21,8 +21,8 @@ module _ (t : ℕ) (bytes : List ℕ) where
   -- two places with one index and one number in a tab are one point
   pub one-point : (p q : Point) → IsPlace t bytes p → IsPlace t bytes q → p.index ≡ q.index → p.vs ≡ q.vs → p ≡ q
   one-point p q a b e f =
-      let to : is_upto t bytes p q ≡ true = upto-order t bytes p q (not-before-in q.index q.vs p.index p.vs (sym e) (omega arith)) in
-      let back : is_upto t bytes q p ≡ true = upto-order t bytes q p (not-before-in p.index p.vs q.index q.vs e (omega arith)) in
+      let to = upto-order t bytes p q (not-before-in q.index q.vs p.index p.vs (sym e) (omega arith)) in
+      let back = upto-order t bytes q p (not-before-in p.index p.vs q.index q.vs e (omega arith)) in
       let s = same-shown p q a b (upto-same t bytes p q to back) in
       same-numbers p.line p.column p.index p.vs q.line q.column q.index q.vs
       (sym (shown-line bytes p) ∙ ap (λ (x : Point). x.line) s ∙ shown-line bytes q)
@@ -34,25 +34,13 @@ find-first f [] p (k, lt, is) e = absurd (omega arith)
 find-first f (x ∷ xs) p (zero, lt, is) e = let h = ap f is ∙ e in rw h (x, refl)
 find-first f (x ∷ xs) p (suc k, lt, is) e = elim (f x) as (λ b. (q : Point) × (cond b (Some x) (find f xs) ≡ Some q)) [ true ↦ (x, refl) | false ↦ find-first f xs p (k, omega arith, is) e ]
 
-both-equal : (a b c d : ℕ) → ((a == b) && (c == d)) ≡ true → (a ≡ b) × (c ≡ d)
-both-equal a b c d e = (grind (arith, nat_tests), grind (arith, nat_tests))
-
 -- what a search finds passes, and is an element
 pub found-passes : (f : Point → Bool) (xs : List Point) (q : Point) → find f xs ≡ Some q → (f q ≡ true) × Contains xs q
 found-passes f [] q e = absurd (cc)
 found-passes f (x ∷ xs) q e = elim (f x) as (λ b. (f x ≡ b) → cond b (Some x) (find f xs) ≡ Some q → (f q ≡ true) × Contains (x ∷ xs) q) [
-  | true ↦ λ h k. (let is : x ≡ q = cc in (ap f (sym is) ∙ h, subst (Contains (x ∷ xs)) is (contains-here x xs)))
-  | false ↦ λ h k. (let r = found-passes f xs q k in (r.0, contains-later x xs q r.1))
+  | true ↦ λ h k. (let is : x ≡ q = cc in (ap f (sym is) ∙ h, subst (Contains (x ∷ xs)) is (0, omega arith, refl)))
+  | false ↦ λ h k. (let r = found-passes f xs q k in (r.0, Contains-append_right (x ∷ []) xs q r.1))
 ] refl e
-
--- the point of a place is what its index and number in a tab give
-pub point_at-point : (t : ℕ) (bytes : List ℕ) → 0 < t → (p : Point) → IsPointOf t bytes p → point_at t bytes (p.index, p.vs) ≡ Some p
-point_at-point t bytes d p h =
-    let f = λ (q : Point). (q.index == p.index) && (q.vs == p.vs) in
-    let r = find-first f (points t bytes) p h (grind (arith, nat_tests)) in
-    let found = found-passes f (points t bytes) r.0 r.1 in
-    let same = both-equal r.0.index p.index r.0.vs p.vs found.0 in
-    r.1 ∙ ap Some (one-point t bytes r.0 p (place-of-point t bytes d r.0 found.1) (place-of-point t bytes d p h) same.0 same.1)
 
 -- what a place gives is a point of the document, with its index and number
 pub record IsAtPlace (t : ℕ) (bytes : List ℕ) (place : ℕ × ℕ) (p : Point) : Type 0 where
@@ -63,5 +51,12 @@ pub record IsAtPlace (t : ℕ) (bytes : List ℕ) (place : ℕ × ℕ) (p : Poin
 pub point_at-is : (t : ℕ) (bytes : List ℕ) (place : ℕ × ℕ) (p : Point) → point_at t bytes place ≡ Some p → IsAtPlace t bytes place p
 point_at-is t bytes place p e =
     let r = found-passes (λ q. (q.index == place.0) && (q.vs == place.1)) (points t bytes) p e in
-    let same = both-equal p.index place.0 p.vs place.1 r.0 in
-    record { is_point = r.1; index = same.0; vs = same.1 }
+    let both = and_parts (p.index == place.0) (p.vs == place.1) r.0 in
+    record { is_point = r.1; index = eqb-true p.index place.0 both.0; vs = eqb-true p.vs place.1 both.1 }
+
+-- the point of a place is what its index and number in a tab give
+pub point_at-point : (t : ℕ) (bytes : List ℕ) → 0 < t → (p : Point) → IsPointOf t bytes p → point_at t bytes (p.index, p.vs) ≡ Some p
+point_at-point t bytes d p h =
+    let (q, found) = find-first (λ q. (q.index == p.index) && (q.vs == p.vs)) (points t bytes) p h (grind (arith, nat_tests)) in
+    let at = point_at-is t bytes (p.index, p.vs) q found in
+    found ∙ ap Some (one-point t bytes q p (place-of-point t bytes d q at.is_point) (place-of-point t bytes d p h) at.index at.vs)

@@ -1,6 +1,7 @@
 -- The virtual byte at a place, read from the bytes.
-use Rattle.markdown_tokenizer.proofs.Prelude.{AllByRecursion, ◌≡◌, ◌≢◌, ℕ, zero, suc, ◌+◌, ◌-◌, ◌≤◌, ◌<◌, ◌==◌, List, [], ◌∷◌, ◌++◌, Bool, true, false, cond, length, drop, Some, ◌⊎◌, inl, inr, refl, sym, ap, ◌∙◌, arith, drop-cons, add-one, rules, slice_index, nat_lt, ◌&&◌, drop_all, ltb-true, lt-ltb, eqb-true, cases_lt, and_parts, nat_tests, mod-lt, Point, Seat, point, tab_width, in_tab, end_in_tab, virtual_from, begins_with_lf, stands_before, every-map, every-append, rest_at, begins_pair, IsSeatAt, IsNextSeat}
-use Rattle.markdown_tokenizer.proofs.Positions.Order.{every-cond, not-before, not-before-in, above-later, before-self, eq-zero, is-not, not-number}
+use Rattle.markdown_tokenizer.proofs.Prelude.{AllByRecursion, ◌≡◌, ◌≢◌, ℕ, zero, suc, ◌+◌, ◌-◌, ◌≤◌, ◌<◌, ◌==◌, List, [], ◌∷◌, ◌++◌, Bool, true, false, cond, length, drop, Some, ◌⊎◌, inl, inr, refl, sym, ap, ◌∙◌, arith, drop-cons, add-one, slice_index, drop_all, eqb-true, cases_lt, nat_tests, mod-lt, Point, Seat, point, tab_width, in_tab, end_in_tab, virtual_from, begins_with_lf, stands_before, every-map, every-append, rest_at, begins_pair, IsSeatAt, IsNextSeat}
+use Rattle.std.proofs.lemmas.Bool.{cond_both}
+use Rattle.markdown_tokenizer.proofs.Positions.Order.{every-cond, not-before, not-before-in, above-later, before-self, is-not, not-number}
 
 -- seats from an index on
 abbrev FromIndex : ℕ → Seat → Type 0
@@ -24,29 +25,24 @@ virtual-index t line column index (b ∷ bs) =
     (here, next line (suc column))))
 
 -- the virtual bytes from a place on are not before it
-rest-later-at : (t : ℕ) (bytes : List ℕ) (p : Point) (b : Bool) → (p.vs == 0) ≡ b → AllByRecursion (λ s. stands_before s.point p ≡ false) (rest_at t bytes p)
-rest-later-at t bytes p true e = rw e
-    (every-map (FromIndex p.index) (λ s. stands_before s.point p ≡ false) (λ s h. not-before s.point.index s.point.vs p.index p.vs h (eq-zero p.vs e))
-    (virtual_from t p.line p.column p.index (drop p.index bytes)) (virtual-index t p.line p.column p.index (drop p.index bytes)))
-rest-later-at t bytes p false e = rw e
-    (every-append (λ s. stands_before s.point p ≡ false) (in_tab 32 (tab_width t p.column) p.line p.column p.index p.vs) (virtual_from t p.line (p.column + tab_width t p.column) (suc p.index) (drop (suc p.index) bytes))
-    (every-map (λ s. (s.point.index ≡ p.index) × (p.vs ≤ s.point.vs)) (λ s. stands_before s.point p ≡ false) (λ s h. not-before-in s.point.index s.point.vs p.index p.vs h.0 h.1)
-    (in_tab 32 (tab_width t p.column) p.line p.column p.index p.vs) (tab-index 32 (tab_width t p.column) p.line p.column p.index p.vs))
-    (every-map (FromIndex (suc p.index)) (λ s. stands_before s.point p ≡ false) (λ s h. above-later s.point.index s.point.vs p.index p.vs (omega (arith, h)))
-    (virtual_from t p.line (p.column + tab_width t p.column) (suc p.index) (drop (suc p.index) bytes)) (virtual-index t p.line (p.column + tab_width t p.column) (suc p.index) (drop (suc p.index) bytes))))
-
 pub rest-later : (t : ℕ) (bytes : List ℕ) (p : Point) → AllByRecursion (λ s. stands_before s.point p ≡ false) (rest_at t bytes p)
-rest-later t bytes p = rest-later-at t bytes p (p.vs == 0) refl
-
-pub drop-at : (bytes : List ℕ) (i : ℕ) → i < length bytes → drop i bytes ≡ slice_index bytes i ∷ drop (suc i) bytes
-drop-at bytes i h = drop-cons bytes i 0 h
+rest-later t bytes p =
+    let P = λ (s : Seat). stands_before s.point p ≡ false in
+    let here = virtual_from t p.line p.column p.index (drop p.index bytes) in
+    let spaces = in_tab 32 (tab_width t p.column) p.line p.column p.index p.vs in
+    let more = virtual_from t p.line (p.column + tab_width t p.column) (suc p.index) (drop (suc p.index) bytes) in
+    cond_both (p.vs == 0) here (spaces ++ more) (AllByRecursion P)
+    (λ e. every-map (FromIndex p.index) P (λ s h. not-before s.point.index s.point.vs p.index p.vs h (eqb-true p.vs 0 e)) here (virtual-index t p.line p.column p.index (drop p.index bytes)))
+    (λ e. every-append P spaces more
+    (every-map (λ s. (s.point.index ≡ p.index) × (p.vs ≤ s.point.vs)) P (λ s h. not-before-in s.point.index s.point.vs p.index p.vs h.0 h.1) spaces (tab-index 32 (tab_width t p.column) p.line p.column p.index p.vs))
+    (every-map (FromIndex (suc p.index)) P (λ s h. above-later s.point.index s.point.vs p.index p.vs (omega (arith, h))) more
+    (virtual-index t p.line (p.column + tab_width t p.column) (suc p.index) (drop (suc p.index) bytes))))
 
 -- the first of what is left at an index is the byte there
 pub drop-first : (i : ℕ) (bytes : List ℕ) (b : ℕ) (bs : List ℕ) → drop i bytes ≡ b ∷ bs → (i < length bytes) × (slice_index bytes i ≡ b) × (drop (suc i) bytes ≡ bs)
-drop-first zero [] b bs e = absurd (cc)
 drop-first zero (x ∷ xs) b bs e = (omega arith, (cc), (cc))
-drop-first (suc i) [] b bs e = absurd (cc)
 drop-first (suc i) (x ∷ xs) b bs e = let h = drop-first i xs b bs e in (omega (arith, h.0), h.1, h.2)
+drop-first i bytes b bs e = absurd (cc)
 
 -- what is left at an index does not begin with LF, so no LF is there
 pub no-lf-there : (i : ℕ) (bytes bs : List ℕ) → drop i bytes ≡ bs → begins_with_lf bs ≡ false → slice_index bytes i ≢ 10
@@ -84,19 +80,15 @@ seat-none t bytes p h i =
     rw (h, none) refl
 
 -- the first virtual byte of some bytes that do not begin with CR LF
-abbrev FirstIs : ℕ → ℕ → ℕ → ℕ → ℕ → List ℕ → Type 0
-FirstIs t l c i b bs = (end : Point) × (after : List Seat) × (virtual_from t l c i (b ∷ bs) ≡ record { byte = cond (b == 13) 10 b; point = point l c i 0; end = end } ∷ after)
-
-tab-first : (t l c i : ℕ) (bs : List ℕ) → 0 < t → FirstIs t l c i 9 bs
-tab-first t l c i bs d =
-    let tail = tab-tail 9 (tab_width t c) l c i 0 (width-pos t c d) in
-    let more = virtual_from t l (c + tab_width t c) (suc i) bs in
-    (tail.0, tail.1 ++ more, ap (λ (xs : List Seat). xs ++ more) tail.2)
-
-first-at : (t l c i b : ℕ) (bs : List ℕ) (x y z : Bool) → 0 < t → (b == 10) ≡ x → (b == 13) ≡ y → (b == 9) ≡ z → (b ≡ 13 → begins_with_lf bs ≡ false) → FirstIs t l c i b bs
+first-at : (t l c i b : ℕ) (bs : List ℕ) (x y z : Bool) → 0 < t → (b == 10) ≡ x → (b == 13) ≡ y → (b == 9) ≡ z → (b ≡ 13 → begins_with_lf bs ≡ false)
+    → (end : Point) × (after : List Seat) × (virtual_from t l c i (b ∷ bs) ≡ record { byte = cond (b == 13) 10 b; point = point l c i 0; end = end } ∷ after)
 first-at t l c i b bs true y z d ex ey ez alone = let e = eqb-true b 10 ex in rw e (_, _, refl)
 first-at t l c i b bs false true z d ex ey ez alone = let e = eqb-true b 13 ey in let f = alone e in rw e (rw f (_, _, refl))
-first-at t l c i b bs false false true d ex ey ez alone = let e = eqb-true b 9 ez in rw e (tab-first t l c i bs d)
+first-at t l c i b bs false false true d ex ey ez alone =
+    let e = eqb-true b 9 ez in
+    let tail = tab-tail 9 (tab_width t c) l c i 0 (width-pos t c d) in
+    let more = virtual_from t l (c + tab_width t c) (suc i) bs in
+    rw e (tail.0, tail.1 ++ more, ap (λ (xs : List Seat). xs ++ more) tail.2)
 first-at t l c i b bs false false false d ex ey ez alone = rw (ex, ey, ez) (_, _, refl)
 
 -- the seat of a byte that is no CR before LF
@@ -104,7 +96,7 @@ pub seat-plain : (t : ℕ) (bytes : List ℕ) (p : Point) (b : ℕ) → 0 < t �
     → IsNextSeat t bytes p (Some (cond (b == 13) 10 b, p))
 seat-plain t bytes p b d h i is alone =
     let first = first-at t p.line p.column p.index b (drop (suc p.index) bytes) (b == 10) (b == 13) (b == 9) d refl refl refl alone in
-    let bytes_are : drop p.index bytes ≡ b ∷ drop (suc p.index) bytes = drop-at bytes p.index i ∙ ap (λ (n : ℕ). n ∷ drop (suc p.index) bytes) is in
+    let bytes_are : drop p.index bytes ≡ b ∷ drop (suc p.index) bytes = drop-cons bytes p.index 0 i ∙ ap (λ (n : ℕ). n ∷ drop (suc p.index) bytes) is in
     let here : rest_at t bytes p ≡ virtual_from t p.line p.column p.index (b ∷ drop (suc p.index) bytes) = rw (h, bytes_are) refl in
     let at : point p.line p.column p.index 0 ≡ p = ap (λ (n : ℕ). point p.line p.column p.index n) (sym h) in (
       first.0,
@@ -121,8 +113,8 @@ seat-plain t bytes p b d h i is alone =
 pub seat-crlf : (t : ℕ) (bytes : List ℕ) (p : Point) → p.vs ≡ 0 → suc p.index < length bytes → slice_index bytes p.index ≡ 13 → slice_index bytes (suc p.index) ≡ 10
     → IsNextSeat t bytes p (Some (10, point p.line p.column (suc p.index) p.vs))
 seat-crlf t bytes p h i cr lf =
-    let first_byte : drop p.index bytes ≡ 13 ∷ drop (suc p.index) bytes = drop-at bytes p.index (omega arith) ∙ ap (λ (n : ℕ). n ∷ drop (suc p.index) bytes) cr in
-    let second_byte : drop (suc p.index) bytes ≡ 10 ∷ drop (suc (suc p.index)) bytes = drop-at bytes (suc p.index) i ∙ ap (λ (n : ℕ). n ∷ drop (suc (suc p.index)) bytes) lf in
+    let first_byte : drop p.index bytes ≡ 13 ∷ drop (suc p.index) bytes = drop-cons bytes p.index 0 (omega arith) ∙ ap (λ (n : ℕ). n ∷ drop (suc p.index) bytes) cr in
+    let second_byte : drop (suc p.index) bytes ≡ 10 ∷ drop (suc (suc p.index)) bytes = drop-cons bytes (suc p.index) 0 i ∙ ap (λ (n : ℕ). n ∷ drop (suc (suc p.index)) bytes) lf in
     let q = point p.line p.column (suc p.index) p.vs in
     let there : rest_at t bytes q ≡ virtual_from t p.line p.column (suc p.index) (10 ∷ drop (suc (suc p.index)) bytes) = rw (h, second_byte) refl in
     let here : rest_at t bytes p ≡ virtual_from t p.line p.column (suc p.index) (10 ∷ drop (suc (suc p.index)) bytes) = rw (h, first_byte, second_byte) refl in (
@@ -156,17 +148,11 @@ one-seat t bytes p a b h k = let e : a ∷ h.after ≡ b ∷ k.after = sym h.is 
 
 -- a CR LF begins at an index
 pub pair-is : (bytes : List ℕ) (i : ℕ) → begins_pair bytes i ≡ true → (i + 1 < length bytes) × (slice_index bytes i ≡ 13) × (slice_index bytes (i + 1) ≡ 10)
-pair-is bytes i h =
-    let a = and_parts (nat_lt (i + 1) (length bytes)) ((slice_index bytes i == 13) && (slice_index bytes (i + 1) == 10)) h in
-    let b = and_parts (slice_index bytes i == 13) (slice_index bytes (i + 1) == 10) a.1 in
-    (ltb-true (i + 1) (length bytes) a.0, eqb-true (slice_index bytes i) 13 b.0, eqb-true (slice_index bytes (i + 1)) 10 b.1)
+pair-is bytes i h = (grind (arith, nat_tests), grind (arith, nat_tests), grind (arith, nat_tests))
 
 -- a CR begins none
 pub no-pair-is : (bytes : List ℕ) (i : ℕ) → slice_index bytes i ≡ 13 → begins_pair bytes i ≡ false → i + 1 < length bytes → slice_index bytes (i + 1) ≢ 10
-no-pair-is bytes i cr h l lf =
-    let e : nat_lt (i + 1) (length bytes) ≡ true = search (rules, lt-ltb) in
-    let f : begins_pair bytes i ≡ true = rw (e, cr, lf) refl in
-    let g = sym f ∙ h in absurd cc
+no-pair-is bytes i cr h l lf = grind (arith, nat_tests)
 
 -- The next virtual byte from a place on is at the place, or it is the LF of a CR LF there
 abbrev pub StandsThere : List ℕ → Point → Seat → Type 0
@@ -177,28 +163,22 @@ module _ (t : ℕ) (bytes : List ℕ) (p : Point) (seat : Seat) (d : 0 < t) (tab
   same-seat : (byte : ℕ) (q : Point) → IsNextSeat t bytes p (Some (byte, q)) → (seat.byte ≡ byte) × (seat.point ≡ q)
   same-seat byte q s = let e = one-seat t bytes p seat (record { byte = byte; point = q; end = s.0 }) n s.1 in (ap (λ (r : Seat). r.byte) e, ap (λ (r : Seat). r.point) e)
 
-  within-bytes : p.vs ≡ 0 → p.index < length bytes
-  within-bytes h = elim (cases_lt p.index (length bytes)) [ inl l ↦ l | inr past ↦ (let f = sym (seat-none t bytes p h past) ∙ n.is in absurd cc) ]
-
-  -- by whether the place is in a tab, whether a CR is there, and whether a CR LF begins there
-  there-at : (b c w : Bool) → (p.vs == 0) ≡ b → (slice_index bytes p.index == 13) ≡ c → begins_pair bytes p.index ≡ w → StandsThere bytes p seat
-  there-at true c true e f g =
+  -- by whether the place is in a tab, and whether a CR LF begins there
+  there-at : (b w : Bool) → (p.vs == 0) ≡ b → begins_pair bytes p.index ≡ w → StandsThere bytes p seat
+  there-at true true e g =
       let pair = pair-is bytes p.index g in
       let s = same-seat 10 (point p.line p.column (suc p.index) p.vs) (seat-crlf t bytes p (eqb-true p.vs 0 e) (rw add-one at pair.0) pair.1 (rw add-one at pair.2)) in
       inr (g, s.0, s.1)
-  there-at true true false e f g =
-      let h = eqb-true p.vs 0 e in
-      let cr = eqb-true (slice_index bytes p.index) 13 f in
-      let s = same-seat 10 p (seat-cr t bytes p d h (within-bytes h) cr (no-pair-is bytes p.index cr g)) in
+  there-at true false e g =
+      let flat = eqb-true p.vs 0 e in
+      let byte = slice_index bytes p.index in
+      let inside : p.index < length bytes = elim (cases_lt p.index (length bytes)) [ inl l ↦ l | inr past ↦ (let f = sym (seat-none t bytes p flat past) ∙ n.is in absurd cc) ] in
+      let s = same-seat (cond (byte == 13) 10 byte) p (seat-plain t bytes p byte d flat inside refl (λ cr. no-lf bytes (suc p.index) (λ l k. no-pair-is bytes p.index cr g (omega arith) (rw add-one k)))) in
       inl (s.1, λ _. g)
-  there-at true false false e f g =
-      let h = eqb-true p.vs 0 e in
-      let s = same-seat (slice_index bytes p.index) p (seat-other t bytes p d h (within-bytes h) (is-not (slice_index bytes p.index) 13 f)) in
-      inl (s.1, λ _. g)
-  there-at false c w e f g =
+  there-at false w e g =
       let h : 0 < p.vs = grind (arith, nat_tests) in
       let s = same-seat 32 p (seat-in-tab t bytes p d h (tab h)) in
       inl (s.1, λ b. let g = sym s.0 ∙ b in absurd cc)
 
   pub stands-there : StandsThere bytes p seat
-  stands-there = there-at (p.vs == 0) (slice_index bytes p.index == 13) (begins_pair bytes p.index) refl refl refl
+  stands-there = there-at (p.vs == 0) (begins_pair bytes p.index) refl refl

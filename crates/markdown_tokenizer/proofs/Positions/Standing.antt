@@ -1,5 +1,7 @@
 -- Places of a document: where each virtual byte begins, is shown and ends, and what is left there.
-use Rattle.markdown_tokenizer.proofs.Prelude.{AllByRecursion, ◌≡◌, ◌≢◌, ℕ, zero, suc, ◌+◌, ◌-◌, ◌<◌, ◌==◌, List, [], ◌∷◌, ◌++◌, Bool, true, false, cond, refl, sym, ap, ◌∙◌, subst, arith, append_assoc, inl, inr, slice_index, ◌&&◌, Contains, flat_map, nat_tests, append-nil, eqb-true, Point, Seat, point, virtual, end_after, document_end, stands_before, shown, follows_cr, IsShown, IsPointOf, every-map, every-append, end-after-one, rest_at, IsPlace, IsSeatAt, begins_pair, goes_on, end_at}
+use Rattle.markdown_tokenizer.proofs.Prelude.{AllByRecursion, ◌≡◌, ◌≢◌, ℕ, zero, suc, ◌+◌, ◌-◌, ◌<◌, ◌==◌, List, [], ◌∷◌, ◌++◌, Bool, true, false, cond, refl, sym, ap, ◌∙◌, subst, arith, append_assoc, inl, inr, slice_index, ◌&&◌, flat_map, nat_tests, append-nil, eqb-true, and_parts, add-one, Point, Seat, point, virtual, end_after, document_end, stands_before, shown, follows_cr, IsShown, IsPointOf, points, every-map, every-append, end-after-one, rest_at, Bounds, IsPlace, IsSeatAt, begins_pair, goes_on, end_at}
+use Rattle.std.proofs.lemmas.Bool.{cond_both, cond-false}
+use Rattle.std.proofs.lemmas.List.Elements.{All-contains, All-from_recursion}
 use Rattle.markdown_tokenizer.proofs.Positions.Order.{not-number, before-self, later-later, after-before, before-upto}
 use Rattle.markdown_tokenizer.proofs.Positions.Seats.{StandsThere, stands-there}
 use Rattle.markdown_tokenizer.proofs.Positions.Chains.{IsAt, Begins, IsChain, whole-chain, shown-other}
@@ -41,21 +43,15 @@ module _ (t : ℕ) (bytes : List ℕ) where
   follows-back : (i : ℕ) → follows_cr bytes i ≡ true → slice_index bytes (i - 1) ≢ 10
   follows-back zero e = absurd (cc)
   follows-back (suc i) e =
-      let cr : slice_index bytes i ≡ 13 = eqb-true (slice_index bytes i) 13 e in
       let back : suc i - 1 ≡ i = omega arith in
-      λ k. let lf : slice_index bytes i ≡ 10 = ap (slice_index bytes) (sym back) ∙ k in absurd (omega arith)
-
-  shown-again : (p : Point) (b c : Bool) → (slice_index bytes p.index == 10) ≡ b → follows_cr bytes p.index ≡ c → IsShown bytes (shown bytes p)
-  shown-again p true true e f =
-      let q = point p.line p.column (p.index - 1) p.vs in
-      let is : shown bytes p ≡ q = rw (e, f) refl in
-      subst (IsShown bytes) (sym is) (shown-other bytes q (follows-back p.index f))
-  shown-again p true false e f = let is : shown bytes p ≡ p = rw (e, f) refl in subst (IsShown bytes) (sym is) is
-  shown-again p false c e f = let is : shown bytes p ≡ p = rw e refl in subst (IsShown bytes) (sym is) is
+      λ k. let cr = eqb-true (slice_index bytes i) 13 e in omega (arith, ap (slice_index bytes) (sym back) ∙ k)
 
   -- the place at which a place is shown is shown at itself
   pub shown-shown : (p : Point) → IsShown bytes (shown bytes p)
-  shown-shown p = shown-again p (slice_index bytes p.index == 10) (follows_cr bytes p.index) refl refl
+  shown-shown p =
+      let q = point p.line p.column (p.index - 1) p.vs in
+      let test = (slice_index bytes p.index == 10) && follows_cr bytes p.index in
+      cond_both test q p (IsShown bytes) (λ e. shown-other bytes q (follows-back p.index (and_parts (slice_index bytes p.index == 10) (follows_cr bytes p.index) e).1)) (λ e. cond-false test q p e)
 
 -- one of these seats
 pub record IsAmong (s : Seat) (xs : List Seat) : Type 0 where
@@ -92,68 +88,35 @@ module _ (t : ℕ) (bytes : List ℕ) (d : 0 < t) where
     pub seat-begins : Begins t bytes (end_after (point 1 1 0 0) xs) s ys
     seat-begins = from-here.1
 
-    behind-seat : (q : Point) → stands_before q (end_after (point 1 1 0 0) xs) ≡ false → AllByRecursion (λ r. stands_before r.point q ≡ true) xs
-    behind-seat q later =
+    -- each place where it is next, as its own and where it is shown, is a place of the document
+    place-here : (q : Point) → rest_at t bytes q ≡ s ∷ ys → Bounds t bytes q → shown bytes q ≡ end_after (point 1 1 0 0) xs → stands_before q (end_after (point 1 1 0 0) xs) ≡ false → IsPlace t bytes q
+    place-here q rest bounds stands later =
         let p = end_after (point 1 1 0 0) xs in
-        every-map (λ r. stands_before r.point p ≡ true) (λ r. stands_before r.point q ≡ true) (λ r h. before-upto r.point.index r.point.vs p.index p.vs q.index q.vs h later) xs
-        (chain-behind t bytes (point 1 1 0 0) xs (s ∷ ys) (subst (IsChain t bytes (point 1 1 0 0)) e (whole-chain t bytes d)))
+        record {
+          before = xs;
+          splits = e ∙ ap (λ (zs : List Seat). xs ++ zs) (sym rest);
+          behind = every-map (λ r. stands_before r.point p ≡ true) (λ r. stands_before r.point q ≡ true) (λ r h. before-upto r.point.index r.point.vs p.index p.vs q.index q.vs h later) xs
+              (chain-behind t bytes (point 1 1 0 0) xs (s ∷ ys) (subst (IsChain t bytes (point 1 1 0 0)) e (whole-chain t bytes d)));
+          stands = stands;
+          bounds = bounds;
+        }
 
-    -- a seat is a place
-    pub point-place : IsPlace t bytes s.point
-    point-place = record {
-      before = xs;
-      splits = e ∙ ap (λ (zs : List Seat). xs ++ zs) (sym seat-begins.at_seat);
-      behind = behind-seat s.point seat-begins.later;
-      stands = seat-begins.shown_is;
-      bounds = seat-begins.seat_bounds;
-    }
-
-    -- and so is where it is shown
-    pub shown-place : IsPlace t bytes (shown bytes s.point)
-    shown-place = record {
-      before = xs;
-      splits = e ∙ ap (λ (zs : List Seat). xs ++ zs) (sym seat-begins.at_shown);
-      behind = behind-seat (shown bytes s.point) seat-begins.shown_later;
-      stands = shown-shown t bytes s.point ∙ seat-begins.shown_is;
-      bounds = seat-begins.shown_bounds;
-    }
-
-    end-splits : virtual t bytes ≡ (xs ++ s ∷ []) ++ ys
-    end-splits = e ∙ sym (append_assoc xs (s ∷ []) ys)
-
-    -- and the place after it
-    pub after-place : IsPlace t bytes s.end
-    after-place = subst (IsPlace t bytes) (end-after-one (point 1 1 0 0) xs s) (place-after (xs ++ s ∷ []) ys end-splits)
-
-    pub after-rest : rest_at t bytes s.end ≡ ys
-    after-rest = (chain-at t bytes s.end ys from-here.2).is
-
-    -- which no LF of a CR LF is
+    -- no LF of a CR LF is at the place after it
     pub after-shown : IsShown bytes s.end
     after-shown = (chain-at t bytes s.end ys from-here.2).shown
 
-pub contains-here : {A : Type 0} (x : A) (xs : List A) → Contains (x ∷ xs) x
-contains-here x xs = (0, omega arith, refl)
-
-pub contains-later : {A : Type 0} (x : A) (xs : List A) (y : A) → Contains xs y → Contains (x ∷ xs) y
-contains-later x xs y (k, lt, is) = (suc k, omega arith, is)
-
-every-contains : {A : Type 0} (P : A → Type 0) (xs : List A) → AllByRecursion P xs → (y : A) → Contains xs y → P y
-every-contains P [] h y (k, lt, is) = absurd (omega arith)
-every-contains P (x ∷ xs) h y (zero, lt, is) = subst P is h.0
-every-contains P (x ∷ xs) h y (suc k, lt, is) = every-contains P xs h.1 y (k, (omega arith), is)
-
-module _ (t : ℕ) (bytes : List ℕ) (d : 0 < t) where
   seats-are-places : (xs ys : List Seat) → virtual t bytes ≡ xs ++ ys → AllByRecursion (IsPlace t bytes) (flat_map (λ s. shown bytes s.point ∷ s.point ∷ []) ys)
   seats-are-places xs [] e = tt
-  seats-are-places xs (s ∷ ys) e = (shown-place t bytes d xs s ys e, (point-place t bytes d xs s ys e, seats-are-places (xs ++ s ∷ []) ys (end-splits t bytes d xs s ys e)))
+  seats-are-places xs (s ∷ ys) e =
+      let b = seat-begins xs s ys e in (
+        place-here xs s ys e (shown bytes s.point) b.at_shown b.shown_bounds (shown-shown t bytes s.point ∙ b.shown_is) b.shown_later,
+        (place-here xs s ys e s.point b.at_seat b.seat_bounds b.shown_is b.later, seats-are-places (xs ++ s ∷ []) ys (e ∙ sym (append_assoc xs (s ∷ []) ys))),
+      )
 
--- the point of a place of the document is one that its numbers describe
-pub place-of-point : (t : ℕ) (bytes : List ℕ) → 0 < t → (p : Point) → IsPointOf t bytes p → IsPlace t bytes p
-place-of-point t bytes d p h =
-    let seats = flat_map (λ s. shown bytes s.point ∷ s.point ∷ []) (virtual t bytes) in
-    every-contains (IsPlace t bytes) (seats ++ document_end t bytes ∷ [])
-    (every-append (IsPlace t bytes) seats (document_end t bytes ∷ []) (seats-are-places t bytes d [] (virtual t bytes) refl) (end-place t bytes d, tt)) p h
+  -- the point of a place of the document is one that its numbers describe
+  pub place-of-point : (p : Point) → IsPointOf t bytes p → IsPlace t bytes p
+  place-of-point p h = All-contains (IsPlace t bytes) (points t bytes) p (All-from_recursion (IsPlace t bytes) (points t bytes)
+      (every-append (IsPlace t bytes) (flat_map (λ s. shown bytes s.point ∷ s.point ∷ []) (virtual t bytes)) (document_end t bytes ∷ []) (seats-are-places [] (virtual t bytes) refl) (end-place, tt))) h
 
 -- the next virtual byte from a place on
 module _ (t : ℕ) (bytes : List ℕ) (d : 0 < t) (p : Point) (seat : Seat) (place : IsPlace t bytes p) (n : IsSeatAt t bytes p seat) where
@@ -164,13 +127,14 @@ module _ (t : ℕ) (bytes : List ℕ) (d : 0 < t) (p : Point) (seat : Seat) (pla
   next-begins = seat-begins t bytes d place.before seat n.after seat-splits
 
   pub end-seat-place : IsPlace t bytes seat.end
-  end-seat-place = after-place t bytes d place.before seat n.after seat-splits
+  end-seat-place = subst (IsPlace t bytes) (end-after-one (point 1 1 0 0) place.before seat) (place-after t bytes d (place.before ++ seat ∷ []) n.after (seat-splits ∙ sym (append_assoc place.before (seat ∷ []) n.after)))
 
   pub seat-rest : rest_at t bytes seat.end ≡ n.after
-  seat-rest = after-rest t bytes d place.before seat n.after seat-splits
+  seat-rest = (chain-at t bytes seat.end n.after (from-here t bytes d place.before seat n.after seat-splits).2).is
 
-  pub seat-end-is : end_at t seat.byte seat.point ≡ seat.end
-  seat-end-is = next-begins.end_is
+  -- a step to its end comes to a place, and has only what follows it left
+  pub steps : (q : Point) → q ≡ seat.end → IsPlace t bytes q × (rest_at t bytes p ≡ seat ∷ rest_at t bytes q)
+  steps q is = (subst (IsPlace t bytes) (sym is) end-seat-place, n.is ∙ ap (λ (ys : List Seat). seat ∷ ys) (sym (ap (rest_at t bytes) is ∙ seat-rest)))
 
   pub seat-shown : IsShown bytes seat.end
   seat-shown = after-shown t bytes d place.before seat n.after seat-splits
@@ -184,34 +148,22 @@ module _ (t : ℕ) (bytes : List ℕ) (d : 0 < t) (p : Point) (seat : Seat) (pla
   there = stands-there t bytes p seat d place.bounds.tab n
 
   ends-at : (q : Point) → seat.point ≡ q → end_at t seat.byte q ≡ seat.end
-  ends-at q e = ap (end_at t seat.byte) (sym e) ∙ seat-end-is
+  ends-at q e = ap (end_at t seat.byte) (sym e) ∙ next-begins.end_is
 
-  lf-is : seat.byte ≡ 10 → (q : Point) → end_at t seat.byte q ≡ point (suc q.line) 1 (suc q.index) 0
-  lf-is b q = rw b refl
-
-  -- after a CR LF,
-  pub end-of-pair : seat.byte ≡ 10 → begins_pair bytes p.index ≡ true → point (p.line + 1) 1 (p.index + 2) 0 ≡ seat.end
-  end-of-pair b pair = elim there [
-    | inl h ↦ (let f = sym pair ∙ h.1 b in absurd cc)
-    | inr h ↦ (let q = point p.line p.column (suc p.index) p.vs in same-numbers (p.line + 1) 1 (p.index + 2) 0 (suc p.line) 1 (suc (suc p.index)) 0 (omega arith) refl (omega arith) refl ∙ sym (lf-is b q) ∙ ends-at q h.2)
+  -- after a line ending, of two bytes if a CR LF is there,
+  pub end-of-line : (w : Bool) → seat.byte ≡ 10 → begins_pair bytes p.index ≡ w → point (p.line + 1) 1 (p.index + cond w 2 1) 0 ≡ seat.end
+  end-of-line true b pair = elim there [
+    | inl h ↦ absurd (let f = sym pair ∙ h.1 b in cc)
+    | inr h ↦ same-numbers (p.line + 1) 1 (p.index + 2) 0 (suc p.line) 1 (suc (suc p.index)) 0 (omega arith) refl (omega arith) refl ∙ (rw b at (ends-at (point p.line p.column (suc p.index) p.vs) h.2))
   ]
-
-  -- after another line ending,
-  pub end-of-line : seat.byte ≡ 10 → begins_pair bytes p.index ≡ false → point (p.line + 1) 1 (p.index + 1) 0 ≡ seat.end
-  end-of-line b single = elim there [
-    | inl h ↦ same-numbers (p.line + 1) 1 (p.index + 1) 0 (suc p.line) 1 (suc p.index) 0 (omega arith) refl (omega arith) refl ∙ sym (lf-is b p) ∙ ends-at p h.0
-    | inr h ↦ (let f = sym single ∙ h.0 in absurd cc)
+  end-of-line false b single = elim there [
+    | inl h ↦ same-numbers (p.line + 1) 1 (p.index + 1) 0 (suc p.line) 1 (suc p.index) 0 (omega arith) refl (omega arith) refl ∙ (rw b at (ends-at p h.0))
+    | inr h ↦ absurd (let f = sym single ∙ h.0 in cc)
   ]
-
-  other-there : seat.byte ≢ 10 → seat.point ≡ p
-  other-there b = elim there [ inl h ↦ h.0 | inr h ↦ absurd (b h.1) ]
 
   -- and after another byte
   pub end-of-other : seat.byte ≢ 10 → (w : Bool) → goes_on t seat.byte p ≡ w → cond w (point p.line (p.column + 1) p.index (p.vs + 1)) (point p.line (p.column + 1) (p.index + 1) 0) ≡ seat.end
   end-of-other b w e =
       let f = not-number seat.byte 10 b in
-      let column : p.column + 1 ≡ suc p.column = omega arith in
-      let index : p.index + 1 ≡ suc p.index = omega arith in
-      let spaces : p.vs + 1 ≡ suc p.vs = omega arith in
-      let is : end_at t seat.byte p ≡ cond w (point p.line (p.column + 1) p.index (p.vs + 1)) (point p.line (p.column + 1) (p.index + 1) 0) = rw (f, e, column, index, spaces) refl in
-      sym is ∙ ends-at p (other-there b)
+      let is : end_at t seat.byte p ≡ cond w (point p.line (p.column + 1) p.index (p.vs + 1)) (point p.line (p.column + 1) (p.index + 1) 0) = rw (f, e, add-one p.column, add-one p.index, add-one p.vs) refl in
+      sym is ∙ ends-at p (elim there [ inl h ↦ h.0 | inr h ↦ absurd (b h.1) ])

@@ -1,5 +1,6 @@
 -- The virtual bytes of a text are in order: each begins before it ends, and none begins before the previous one ends.
-use Rattle.markdown_tokenizer.proofs.Prelude.{AllByRecursion, ◌≡◌, ℕ, zero, suc, ◌<◌, List, [], ◌∷◌, ◌++◌, Bool, true, false, cond, Option, Some, None, length, refl, sym, ap, append_assoc, append_cancel_left, rest_at, IsPlace, ◌∙◌, subst, arith, inl, inr, slice_get, filter, slice_get_cases, Point, Seat, point, virtual, stands_before, shown, IsShown, is_upto, denotes_same, every-append, every-map, every-get, Byte, Given, Text, Piece, pushed, passed, IsText, empty_text, followed_by, followed_by_all, FitsAfter, CanFollow, in_range, sight_in, byte_of, seat_before, end_or, end_place}
+use Rattle.markdown_tokenizer.proofs.Prelude.{AllByRecursion, ◌≡◌, ℕ, zero, suc, ◌<◌, List, [], ◌∷◌, ◌++◌, true, false, Option, Some, None, length, refl, sym, ap, append_assoc, append_cancel_left, rest_at, IsPlace, ◌∙◌, subst, arith, inl, inr, slice_get, filter, slice_get_cases, Point, Seat, point, virtual, stands_before, shown, IsShown, is_upto, denotes_same, every-append, every-map, every-get, Byte, Given, Text, Piece, pushed, passed, IsText, empty_text, followed_by, followed_by_all, FitsAfter, CanFollow, in_range, sight_in, byte_of, seat_before, end_or, end_place}
+use Rattle.std.proofs.lemmas.Bool.{cond_both}
 use Rattle.markdown_tokenizer.proofs.Positions.Order.{after-before, before-upto, upto-before, later-later, every-front, every-back}
 use Rattle.markdown_tokenizer.proofs.Positions.Seats.{rest-later}
 use Rattle.markdown_tokenizer.proofs.Positions.Chains.{IsChain, whole-chain}
@@ -42,64 +43,49 @@ record IsInOrder (g : Given) (text : Text) : Type 0 where
   after_start : AllByRecursion (λ s. stands_before s.point text.start ≡ false) (text.seats ++ rest_at g.tab g.bytes text.end)
 
 module _ (t : ℕ) (bytes : List ℕ) where
-  -- virtual bytes from a place on are not before it
-  chain-later : (p : Point) (xs : List Seat) → IsChain t bytes p xs → AllByRecursion (λ r. stands_before r.point p ≡ false) xs
-  chain-later p [] c = tt
-  chain-later p (s ∷ ss) c =
-      let ends = after-before s.point.index s.point.vs s.end.index s.end.vs c.1.ends in
-      let on = later-later s.end.index s.end.vs s.point.index s.point.vs p.index p.vs ends c.1.later in
-      (c.1.later, every-map (λ r. stands_before r.point s.end ≡ false) (λ r. stands_before r.point p ≡ false) (λ r h. later-later r.point.index r.point.vs s.end.index s.end.vs p.index p.vs h on) ss (chain-later s.end ss c.2))
-
   chain-order : (p : Point) (xs : List Seat) → IsChain t bytes p xs → AreInOrder bytes xs
   chain-order p [] c = tt
-  chain-order p (s ∷ ss) c = (
-    (c.1.ends, (chain-at t bytes s.end ss c.2).shown),
-    every-map (λ r. stands_before r.point s.end ≡ false) (Follows s) (λ r h. (before-upto s.point.index s.point.vs s.end.index s.end.vs r.point.index r.point.vs c.1.ends h, h)) ss (chain-later s.end ss c.2),
-    chain-order s.end ss c.2,
-  )
+  chain-order p (s ∷ ss) c =
+      let at = chain-at t bytes s.end ss c.2 in (
+        (c.1.ends, at.shown),
+        every-map (λ r. stands_before r.point s.end ≡ false) (Follows s) (λ r h. (before-upto s.point.index s.point.vs s.end.index s.end.vs r.point.index r.point.vs c.1.ends h, h)) ss
+            (subst (AllByRecursion (λ r. stands_before r.point s.end ≡ false)) at.is (rest-later t bytes s.end)),
+        chain-order s.end ss c.2,
+      )
 
   pub virtual-order : 0 < t → AreInOrder bytes (virtual t bytes)
   virtual-order d = chain-order (point 1 1 0 0) (virtual t bytes) (whole-chain t bytes d)
 
-  -- places that denote the same leave the same
-  same-rest : (p q : Point) → IsPlace t bytes p → IsPlace t bytes q → denotes_same t bytes p q ≡ true → rest_at t bytes p ≡ rest_at t bytes q
-  same-rest p q a b h =
-      append_cancel_left a.before (rest_at t bytes p) (rest_at t bytes q) (sym a.splits ∙ b.splits ∙ ap (λ (xs : List Seat). xs ++ rest_at t bytes q) (sym (same-behind t bytes p q a b h)))
-
 module _ (g : Given) (d : 0 < g.tab) where
-  pushed-order : (text : Text) (from to : Point) → IsInOrder g text → IsPlace g.tab g.bytes from → IsPlace g.tab g.bytes to → denotes_same g.tab g.bytes from text.end ≡ true → is_upto g.tab g.bytes from to ≡ true
-      → IsInOrder g (followed_by g text (pushed from to))
-  pushed-order text from to h a b same on =
+  piece-order : (text : Text) (piece : Piece) → IsInOrder g text → FitsAfter g text piece → IsInOrder g (followed_by g text piece)
+  piece-order text (pushed from to) h fits =
+      let a = place-of-point g.tab g.bytes d from fits.0 in
+      let b = place-of-point g.tab g.bytes d to fits.1 in
       let more = filter (in_range from to) (virtual g.tab g.bytes) in
       let rest = rest_at g.tab g.bytes to in
-      let range : more ≡ left_of g.tab g.bytes from to = text-splits g.tab g.bytes from from to a (upto-self g.tab g.bytes from) on ∙ ap (λ (xs : List Seat). xs ++ left_of g.tab g.bytes from to) (range-empty g.tab g.bytes from) in
-      let left : more ++ rest ≡ rest_at g.tab g.bytes text.end = ap (λ (xs : List Seat). xs ++ rest) range ∙ sym (way-rest g.tab g.bytes d from to a b on) ∙ same-rest g.tab g.bytes from text.end a h.at same in
-      let whole : text.seats ++ rest_at g.tab g.bytes text.end ≡ (text.seats ++ more) ++ rest = sym (append_assoc text.seats more rest ∙ ap (λ (ys : List Seat). text.seats ++ ys) left) in
+      let all = rest_at g.tab g.bytes text.end in
+      let range : more ≡ left_of g.tab g.bytes from to = text-splits g.tab g.bytes from from to a (upto-self g.tab g.bytes from) fits.3 ∙ ap (λ (xs : List Seat). xs ++ left_of g.tab g.bytes from to) (range-empty g.tab g.bytes from) in
+      let same : rest_at g.tab g.bytes from ≡ all = append_cancel_left a.before (rest_at g.tab g.bytes from) all
+      (sym a.splits ∙ h.at.splits ∙ ap (λ (xs : List Seat). xs ++ all) (sym (same-behind g.tab g.bytes from text.end a h.at fits.2))) in
+      let left : more ++ rest ≡ all = ap (λ (xs : List Seat). xs ++ rest) range ∙ sym (way-rest g.tab g.bytes d from to a b fits.3) ∙ same in
+      let whole : text.seats ++ all ≡ (text.seats ++ more) ++ rest = sym (append_assoc text.seats more rest ∙ ap (λ (ys : List Seat). text.seats ++ ys) left) in
       record { at = b; order = subst (AreInOrder g.bytes) whole h.order; after_start = subst (AllByRecursion (λ s. stands_before s.point text.start ≡ false)) whole h.after_start }
-
-  passed-order : (b : Bool) (text : Text) (p : Point) → IsInOrder g text → IsPlace g.tab g.bytes p → (b ≡ false → is_upto g.tab g.bytes text.end p ≡ true)
-      → IsInOrder g (cond b text (record { start = text.start; seats = text.seats; end = p }))
-  passed-order true text p h a on = h
-  passed-order false text p h a on =
+  piece-order text (passed p) h fits = cond_both (denotes_same g.tab g.bytes p text.end) text (record { start = text.start; seats = text.seats; end = p }) (IsInOrder g) (λ e. h) (λ other.
       let P = λ (s : Seat). stands_before s.point text.start ≡ false in
       let left = left_of g.tab g.bytes text.end p in
       let rest = rest_at g.tab g.bytes p in
       let all = rest_at g.tab g.bytes text.end in
-      let splits : all ≡ left ++ rest = way-rest g.tab g.bytes d text.end p h.at a (on refl) in
+      let at = place-of-point g.tab g.bytes d p fits.0 in
+      let on : is_upto g.tab g.bytes text.end p ≡ true = elim fits.1 [
+        | inl same ↦ absurd (let e : true ≡ false = sym same ∙ other in cc)
+        | inr later ↦ upto-order g.tab g.bytes text.end p (after-before text.end.index text.end.vs p.index p.vs later.2)
+      ] in
+      let splits : all ≡ left ++ rest = way-rest g.tab g.bytes d text.end p h.at at on in
       record {
-        at = a;
+        at = at;
         order = order-without g.bytes text.seats left rest (subst (λ (ys : List Seat). AreInOrder g.bytes (text.seats ++ ys)) splits h.order);
         after_start = every-append P text.seats rest (every-front P text.seats all h.after_start) (every-back P left rest (subst (AllByRecursion P) splits (every-back P text.seats all h.after_start)));
-      }
-
-  piece-order : (text : Text) (piece : Piece) → IsInOrder g text → FitsAfter g text piece → IsInOrder g (followed_by g text piece)
-  piece-order text (pushed from to) h fits = pushed-order text from to h (place-of-point g.tab g.bytes d from fits.0) (place-of-point g.tab g.bytes d to fits.1) fits.2 fits.3
-  piece-order text (passed p) h fits =
-      passed-order (denotes_same g.tab g.bytes p text.end) text p h (place-of-point g.tab g.bytes d p fits.0)
-      (elim fits.1 [
-        | inl same ↦ λ not_same. absurd (let e : true ≡ false = sym same ∙ not_same in cc)
-        | inr later ↦ λ not_same. upto-order g.tab g.bytes text.end p (after-before text.end.index text.end.vs p.index p.vs later.2)
-      ])
+      })
 
   pieces-order : (text : Text) (pieces : List Piece) → IsInOrder g text → CanFollow g text pieces → IsInOrder g (followed_by_all g text pieces)
   pieces-order text [] h fits = h
@@ -114,15 +100,12 @@ text-order g text is =
     let all = subst (IsInOrder g) (sym is.is) (pieces-order g some (empty_text text.start) is.pieces start is.follow) in
     (order-front g.bytes text.seats (rest_at g.tab g.bytes text.end) all.order, every-front (λ s. stands_before s.point text.start ≡ false) text.seats (rest_at g.tab g.bytes text.end) all.after_start)
 
-good-get : (bytes : List ℕ) (xs : List Seat) (i : ℕ) (s : Seat) → AreInOrder bytes xs → slice_get xs i ≡ Some s → IsGood bytes s
-good-get bytes [] i s h e = absurd (cc)
-good-get bytes (x ∷ xs) zero s h e = let is : x ≡ s = cc in subst (IsGood bytes) is h.0
-good-get bytes (x ∷ xs) (suc i) s h e = good-get bytes xs i s h.2 e
-
-follows-get : (bytes : List ℕ) (xs : List Seat) (i : ℕ) (r s : Seat) → AreInOrder bytes xs → slice_get xs i ≡ Some r → slice_get xs (suc i) ≡ Some s → Follows r s
-follows-get bytes [] i r s h e f = absurd (cc)
-follows-get bytes (x ∷ xs) zero r s h e f = let is : x ≡ r = cc in subst (λ y. Follows y s) is (every-get (Follows x) xs 0 s h.1 f)
-follows-get bytes (x ∷ xs) (suc i) r s h e f = follows-get bytes xs i r s h.2 e f
+order-get : (bytes : List ℕ) (xs : List Seat) (i : ℕ) (s : Seat) → AreInOrder bytes xs → slice_get xs i ≡ Some s → IsGood bytes s × ((r : Seat) → slice_get xs (suc i) ≡ Some r → Follows s r)
+order-get bytes [] i s h e = absurd (cc)
+order-get bytes (x ∷ xs) zero s h e =
+    let is : x ≡ s = cc in
+    subst (λ (y : Seat). IsGood bytes y × ((r : Seat) → slice_get xs 0 ≡ Some r → Follows y r)) is (h.0, λ r f. every-get (Follows x) xs 0 r h.1 f)
+order-get bytes (x ∷ xs) (suc i) s h e = order-get bytes xs i s h.2 e
 
 there : (text : Text) (p : ℕ) → p < length text.seats → (s : Seat) × (slice_get text.seats p ≡ Some s)
 there text p h = elim (slice_get_cases text.seats p).1 [ inl found ↦ (found.0, found.2) | inr past ↦ absurd (omega (arith, past.0)) ]
@@ -132,7 +115,7 @@ pub begins-before_end : (g : Given) (text : Text) (p : ℕ) → IsText g text �
     → stands_before (sight_in g text p Byte).enter_place (sight_in g text p Byte).next ≡ true
 begins-before_end g text p is inside =
     let (s, at) = there text p inside in
-    let good = good-get g.bytes text.seats p s (text-order g text is).0 at in
+    let good = (order-get g.bytes text.seats p s (text-order g text is).0 at).0 in
     let q = shown g.bytes s.point in
     rw at (rw good.1 (upto-before q.index q.vs s.point.index s.point.vs s.end.index s.end.vs (shown-upto 0 g.bytes s.point) good.0))
 
@@ -142,7 +125,7 @@ pub ends-before_next : (g : Given) (text : Text) (p : ℕ) → IsText g text →
 ends-before_next g text zero is inside =
     let (s, at) = there text 0 inside in
     let order = text-order g text is in
-    let good = good-get g.bytes text.seats 0 s order.0 at in
+    let good = (order-get g.bytes text.seats 0 s order.0 at).0 in
     let after = every-get (λ r. stands_before r.point text.start ≡ false) text.seats 0 s order.1 at in
     let start = text.start in
     let shown_start = shown g.bytes start in
@@ -152,10 +135,9 @@ ends-before_next g text (suc j) is inside =
     let (s, at) = there text (suc j) inside in
     let (r, at_before) = there text j (omega arith) in
     let order = text-order g text is in
-    let good = good-get g.bytes text.seats (suc j) s order.0 at in
-    let good_before = good-get g.bytes text.seats j r order.0 at_before in
-    let follows = follows-get g.bytes text.seats j r s order.0 at_before at in
-    rw (at, at_before) (rw (good.1, good_before.1) (upto-before r.end.index r.end.vs s.point.index s.point.vs s.end.index s.end.vs follows.1 good.0))
+    let good = (order-get g.bytes text.seats (suc j) s order.0 at).0 in
+    let before = order-get g.bytes text.seats j r order.0 at_before in
+    rw (at, at_before) (rw (good.1, before.0.1) (upto-before r.end.index r.end.vs s.point.index s.point.vs s.end.index s.end.vs (before.1 s at).1 good.0))
 
 -- What began before the end of the byte before began before the end of the byte that waits
 pub began-before_next : (g : Given) (text : Text) (p : ℕ) (q : Point) → IsText g text → p < length text.seats
@@ -172,4 +154,4 @@ read-shown g text is (suc q) byte e = found (slice_get text.seats q) refl e
   where
     found : (o : Option Seat) → slice_get text.seats q ≡ o → byte_of o ≡ Some byte → IsShown g.bytes (end_or text.start o)
     found None at e = absurd cc
-    found (Some s) at e = (good-get g.bytes text.seats q s (text-order g text is).0 at).1
+    found (Some s) at e = (order-get g.bytes text.seats q s (text-order g text is).0 at).0.1

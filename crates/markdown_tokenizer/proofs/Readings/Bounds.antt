@@ -1,5 +1,5 @@
 -- Laws of readings: a larger bound gives the same, and calls add up.
-use Rattle.markdown_tokenizer.proofs.Prelude.{◌≡◌, ℕ, zero, suc, ◌+◌, List, [], ◌∷◌, ◌++◌, refl, sym, ◌∙◌, ap, Option, Some, None, arith, add_assoc, zero-add, suc-add, ◌↔◌, Name, State, Next, Retry, Ok, Nok, Error, Given, Text, Configuration, Choice, Step, Sight, sight, fed, settled_at, more_calls, settle, after_choices, read_step, read, outcome, EndsIn}
+use Rattle.markdown_tokenizer.proofs.Prelude.{◌≡◌, ℕ, zero, suc, ◌+◌, List, [], ◌∷◌, ◌++◌, refl, sym, ◌∙◌, ap, Option, Some, None, arith, add_assoc, zero-add, suc-add, ◌↔◌, Name, State, Next, Retry, Ok, Nok, Given, Text, Configuration, Choice, Step, Sight, sight, fed, settled_at, more_calls, settle, after_choices, read_step, read, outcome, EndsIn}
 use Rattle.markdown_tokenizer.specs.Reading.{Reading}
 
 -- what one function reads the other reads, with the same result
@@ -25,9 +25,7 @@ module _ {R D : Type 0} (f g : Configuration R D → State → Option (Reading R
   settle-agrees : (c : Choice) (k : Configuration R D) (s : State) (n : ℕ) → Agrees (settle f c (record { configuration = k; answer = s; calls = n })) (settle g c (record { configuration = k; answer = s; calls = n }))
   settle-agrees c k Ok n = more-agrees n (f (settled_at c.kind c.saved Ok k) c.ok) (g (settled_at c.kind c.saved Ok k) c.ok) (grows (settled_at c.kind c.saved Ok k) c.ok)
   settle-agrees c k Nok n = more-agrees n (f (settled_at c.kind c.saved Nok k) c.nok) (g (settled_at c.kind c.saved Nok k) c.nok) (grows (settled_at c.kind c.saved Nok k) c.nok)
-  settle-agrees c k (Next m) n = λ r e. e
-  settle-agrees c k (Retry m) n = λ r e. e
-  settle-agrees c k (Error m) n = λ r e. e
+  settle-agrees c k s n = λ r e. e
 
   pub after-agrees : (cs : List Choice) (o p : Option (Reading R D)) → Agrees o p → Agrees (after_choices f cs o) (after_choices g cs p)
   after-agrees [] o p h = h
@@ -47,16 +45,13 @@ settle-more : {R D : Type 0} (f : Configuration R D → State → Option (Readin
     → settle f c (record { configuration = k; answer = s; calls = m + n }) ≡ more_calls m (settle f c (record { configuration = k; answer = s; calls = n }))
 settle-more f c m k Ok n = sym (more-more m n (f (settled_at c.kind c.saved Ok k) c.ok))
 settle-more f c m k Nok n = sym (more-more m n (f (settled_at c.kind c.saved Nok k) c.nok))
-settle-more f c m k (Next x) n = refl
-settle-more f c m k (Retry x) n = refl
-settle-more f c m k (Error x) n = refl
+settle-more f c m k s n = refl
 
 pub after-more : {R D : Type 0} (f : Configuration R D → State → Option (Reading R D)) (cs : List Choice) (m : ℕ) (o : Option (Reading R D))
     → after_choices f cs (more_calls m o) ≡ more_calls m (after_choices f cs o)
-after-more f [] m o = refl
-after-more f (c ∷ cs) m None = refl
 after-more f (c ∷ cs) m (Some q) =
     ap (after_choices f cs) (settle-more f c m q.configuration q.answer q.calls) ∙ after-more f cs m (settle f c q)
+after-more f cs m o = refl
 
 module _ {R D : Type 0} (given : Given) (step : Sight → Configuration R D → Name → Step R D) (text : Text) where
   step-agrees : (f g : Configuration R D → State → Option (Reading R D)) → Grows f g → (s : Step R D) → Agrees (read_step f s) (read_step g s)
@@ -65,22 +60,11 @@ module _ {R D : Type 0} (given : Given) (step : Sight → Configuration R D → 
       (after-agrees f g grows s.choices (f s.configuration s.answer) (g s.configuration s.answer) (grows s.configuration s.answer))
 
   pub read-grows : (b : ℕ) → Grows (read given step text b) (read given step text (suc b))
-  read-grows b k Ok r e = e
-  read-grows b k Nok r e = e
-  read-grows b k (Error m) r e = e
   read-grows zero k (Next n) r e = cc
   read-grows zero k (Retry n) r e = cc
   read-grows (suc b) k (Next n) r e = step-agrees (read given step text b) (read given step text (suc b)) (read-grows b) (step (sight given text (fed text k)) (fed text k) n) r e
   read-grows (suc b) k (Retry n) r e = step-agrees (read given step text b) (read given step text (suc b)) (read-grows b) (step (sight given text k) k n) r e
-
-  outcome-grows : (b : ℕ) (k : Configuration R D) (cs : List Choice) (s : State) → Agrees (outcome given step text b k cs s) (outcome given step text (suc b) k cs s)
-  outcome-grows b k cs s =
-      after-agrees (read given step text b) (read given step text (suc b)) (read-grows b) cs (read given step text b k s) (read given step text (suc b) k s) (read-grows b k s)
-
-  -- a state to be fed is that state once the byte, or the end, waits
-  fed-outcome : (b : ℕ) (k : Configuration R D) (cs : List Choice) (n : Name) → outcome given step text b k cs (Next n) ≡ outcome given step text b (fed text k) cs (Retry n)
-  fed-outcome zero k cs n = refl
-  fed-outcome (suc b) k cs n = refl
+  read-grows b k s r e = e
 
   -- what has the same outcome within each bound ends in the same
   ends-same : (calls : ℕ) (k l : Configuration R D) (cs ds : List Choice) (s u : State) (r : Reading R D) → ((b : ℕ) → outcome given step text b k cs s ≡ outcome given step text b l ds u)
@@ -88,9 +72,11 @@ module _ {R D : Type 0} (given : Given) (step : Sight → Configuration R D → 
   ends-same calls k l cs ds s u r e =
       ((λ h. record { bound = h.bound; is = ap (more_calls calls) (e h.bound) ∙ h.is }), (λ h. record { bound = h.bound; is = ap (more_calls calls) (sym (e h.bound)) ∙ h.is }))
 
+  -- so does a state to be fed, once the byte, or the end, waits
   pub fed-ends : (calls : ℕ) (k : Configuration R D) (cs : List Choice) (n : Name) (r : Reading R D)
       → EndsIn given step text calls (fed text k) cs (Retry n) r ↔ EndsIn given step text calls k cs (Next n) r
-  fed-ends calls k cs n r = ends-same calls k (fed text k) cs cs (Next n) (Retry n) r (λ b. fed-outcome b k cs n)
+  fed-ends calls k cs n r = ends-same calls k (fed text k) cs cs (Next n) (Retry n) r
+      (λ b. elim b as (λ (m : ℕ). outcome given step text m k cs (Next n) ≡ outcome given step text m (fed text k) cs (Retry n)) [ zero ↦ refl | suc m ↦ refl ])
 
   -- a choice that ends
   pub settled-ok-ends : (calls : ℕ) (k : Configuration R D) (c : Choice) (cs : List Choice) (r : Reading R D)
@@ -104,26 +90,16 @@ module _ {R D : Type 0} (given : Given) (step : Sight → Configuration R D → 
       ends-same calls k next (c ∷ cs) cs Nok c.nok r (λ b. ap (after_choices (read given step text b) cs) (more-zero (read given step text b next c.nok)))
 
   -- a call: what is read before it, at one more, is what is read after it, and one call more
-  step-outcome : (b : ℕ) (k : Configuration R D) (cs : List Choice) (n : Name)
-      → let s = step (sight given text k) k n in
-      outcome given step text (suc b) k cs (Retry n)
-      ≡ more_calls 1 (after_choices (read given step text (suc b)) cs (after_choices (read given step text b) s.choices (read given step text b s.configuration s.answer)))
-  step-outcome b k cs n =
-      let s = step (sight given text k) k n in
-      after-more (read given step text (suc b)) cs 1 (after_choices (read given step text b) s.choices (read given step text b s.configuration s.answer))
-
-  inner : (b c : ℕ) (cs : List Choice) → Step R D → Option (Reading R D)
+  abbrev inner : (b c : ℕ) (cs : List Choice) → Step R D → Option (Reading R D)
   inner b c cs s = after_choices (read given step text c) cs (after_choices (read given step text b) s.choices (read given step text b s.configuration s.answer))
 
   forth : (b : ℕ) (cs : List Choice) (s : Step R D) → Agrees (outcome given step text b s.configuration (s.choices ++ cs) s.answer) (inner b (suc b) cs s)
-  unfolding inner
   forth b cs s r e =
       let mid = after_choices (read given step text b) s.choices (read given step text b s.configuration s.answer) in
       after-agrees (read given step text b) (read given step text (suc b)) (read-grows b) cs mid mid (λ q h. h) r
       (sym (after-append (read given step text b) s.choices cs (read given step text b s.configuration s.answer)) ∙ e)
 
   back : (b : ℕ) (cs : List Choice) (s : Step R D) → Agrees (inner b (suc b) cs s) (outcome given step text (suc b) s.configuration (s.choices ++ cs) s.answer)
-  unfolding inner
   back b cs s r e =
       let small = after_choices (read given step text b) s.choices (read given step text b s.configuration s.answer) in
       let large = after_choices (read given step text (suc b)) s.choices (read given step text (suc b) s.configuration s.answer) in
@@ -132,28 +108,26 @@ module _ {R D : Type 0} (given : Given) (step : Sight → Configuration R D → 
       (after-agrees (read given step text b) (read given step text (suc b)) (read-grows b) s.choices (read given step text b s.configuration s.answer) (read given step text (suc b) s.configuration s.answer) (read-grows b s.configuration s.answer))
       r e
 
-  after-none : (f : Configuration R D → State → Option (Reading R D)) (cs : List Choice) → after_choices f cs None ≡ None
-  after-none f [] = refl
-  after-none f (c ∷ cs) = refl
-
   pub called-ends : (calls : ℕ) (k : Configuration R D) (cs : List Choice) (n : Name) (r : Reading R D)
       → let s = step (sight given text k) k n in
       EndsIn given step text (calls + 1) s.configuration (s.choices ++ cs) s.answer r ↔ EndsIn given step text calls k cs (Retry n) r
-  unfolding inner
   called-ends calls k cs n r =
-      let s = step (sight given text k) k n in (
+      let s = step (sight given text k) k n in
+      let stepped = λ (b : ℕ). after-more (read given step text (suc b)) cs 1 (after_choices (read given step text b) s.choices (read given step text b s.configuration s.answer)) in (
         (λ h. record {
           bound = suc h.bound;
-          is = ap (more_calls calls) (step-outcome h.bound k cs n)
+          is = ap (more_calls calls) (stepped h.bound)
               ∙ more-more calls 1 (inner h.bound (suc h.bound) cs s)
               ∙ more-agrees (calls + 1) (outcome given step text h.bound s.configuration (s.choices ++ cs) s.answer) (inner h.bound (suc h.bound) cs s) (forth h.bound cs s) r h.is;
         }),
         (λ h. elim h.bound as (λ b. more_calls calls (outcome given step text b k cs (Retry n)) ≡ Some r → EndsIn given step text (calls + 1) s.configuration (s.choices ++ cs) s.answer r) [
-          | zero ↦ λ e. let f : None ≡ Some r = ap (more_calls calls) (sym (after-none (read given step text zero) cs)) ∙ e in absurd cc
+          | zero ↦ λ e.
+              let none : after_choices (read given step text zero) cs None ≡ None = elim cs as (λ ds. after_choices (read given step text zero) ds None ≡ None) [ [] ↦ refl | d ∷ ds ↦ refl ] in
+              let f : None ≡ Some r = ap (more_calls calls) (sym none) ∙ e in absurd cc
           | suc b ↦ λ e. record {
             bound = suc b;
             is = more-agrees (calls + 1) (inner b (suc b) cs s) (outcome given step text (suc b) s.configuration (s.choices ++ cs) s.answer) (back b cs s) r
-                (sym (more-more calls 1 (inner b (suc b) cs s)) ∙ sym (ap (more_calls calls) (step-outcome b k cs n)) ∙ e);
+                (sym (more-more calls 1 (inner b (suc b) cs s)) ∙ sym (ap (more_calls calls) (stepped b)) ∙ e);
           }
         ] h.is),
       )
@@ -162,7 +136,10 @@ module _ {R D : Type 0} (given : Given) (step : Sight → Configuration R D → 
 module _ {R D : Type 0} (given : Given) (step : Sight → Configuration R D → Name → Step R D) (text : Text) where
   outcome-up : (n b : ℕ) (k : Configuration R D) (cs : List Choice) (s : State) → Agrees (outcome given step text b k cs s) (outcome given step text (n + b) k cs s)
   outcome-up zero b k cs s r e = rw (zero-add b) e
-  outcome-up (suc n) b k cs s r e = rw (suc-add n b) (outcome-grows given step text (n + b) k cs s r (outcome-up n b k cs s r e))
+  outcome-up (suc n) b k cs s r e =
+      let f = read given step text in
+      let grows = read-grows given step text (n + b) in
+      rw (suc-add n b) (after-agrees (f (n + b)) (f (suc (n + b))) grows cs (f (n + b) k s) (f (suc (n + b)) k s) (grows k s) r (outcome-up n b k cs s r e))
 
   pub one-end : (calls : ℕ) (k : Configuration R D) (cs : List Choice) (s : State) (q r : Reading R D) → EndsIn given step text calls k cs s q → EndsIn given step text calls k cs s r → q ≡ r
   one-end calls k cs s q r g h =

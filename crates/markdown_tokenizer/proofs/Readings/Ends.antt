@@ -22,33 +22,27 @@ module _ {R D : Type 0} (given : Given) (rules : Rules R D)
       let paid = pays.for_calls w k cs name is h in
       let sums = sum_by-append (rules.reserve w) s.choices cs in
       let e = below (b + 1) s.configuration (s.choices ++ cs) s.answer (keeps.by_calls w k cs name is h) (omega arith) in
-      let most = e.2 in
-      (e.0, (called-ends given rules.step w b k cs name e.0).0 e.1, omega arith)
+      (e.0, (called-ends given rules.step w b k cs name e.0).0 e.1, omega (arith, e.2))
 
   ends-within : (n : ℕ) → EndsBelow n → (cs : List Choice) (b : ℕ) (k : Configuration R D) (s : State) → rules.holds w k cs s → rules.cost w k s + sum_by (rules.reserve w) cs ≤ n → Ends b k cs s
   ends-within n below cs b k (Next name) h l =
-      let f = keeps.by_feeding w k cs name is h in
       let paid = pays.for_feeding w k cs name is h in
-      let e = called-end n below b (fed w k) cs name f (omega arith) in
-      let most = e.2 in
-      (e.0, (fed-ends given rules.step w b k cs name e.0).0 e.1, omega arith)
+      let e = called-end n below b (fed w k) cs name (keeps.by_feeding w k cs name is h) (omega arith) in
+      (e.0, (fed-ends given rules.step w b k cs name e.0).0 e.1, omega (arith, e.2))
   ends-within n below cs b k (Retry name) h l = called-end n below b k cs name h l
-  ends-within n below [] b k Ok h l = (record { configuration = k; answer = Ok; calls = b + 0 }, record { bound = zero; is = refl }, omega arith)
-  ends-within n below [] b k Nok h l = (record { configuration = k; answer = Nok; calls = b + 0 }, record { bound = zero; is = refl }, omega arith)
   ends-within n below (c ∷ cs) b k Ok h l =
       let paid = pays.for_ok w k c cs is h in
       let sums = sum_by-cons (rules.reserve w) c cs in
       let e = ends-within n below cs b (settled_at c.kind c.saved Ok k) c.ok (keeps.by_ok w k c cs is h) (omega arith) in
-      let most = e.2 in
-      (e.0, (settled-ok-ends given rules.step w b k c cs e.0).0 e.1, omega arith)
+      (e.0, (settled-ok-ends given rules.step w b k c cs e.0).0 e.1, omega (arith, e.2))
   ends-within n below (c ∷ cs) b k Nok h l =
       let paid = pays.for_nok w k c cs is h in
       let sums = sum_by-cons (rules.reserve w) c cs in
       let e = ends-within n below cs b (settled_at c.kind c.saved Nok k) c.nok (keeps.by_nok w k c cs is h) (omega arith) in
-      let most = e.2 in
-      (e.0, (settled-nok-ends given rules.step w b k c cs e.0).0 e.1, omega arith)
+      (e.0, (settled-nok-ends given rules.step w b k c cs e.0).0 e.1, omega (arith, e.2))
   ends-within n below cs b k (Error m) h l =
       (record { configuration = k; answer = Error m; calls = b + 0 }, record { bound = zero; is = ap (more_calls b) (error-stays (read given rules.step w zero) cs k m 0) }, omega arith)
+  ends-within n below [] b k s h l = (record { configuration = k; answer = s; calls = b + 0 }, record { bound = zero; is = refl }, omega arith)
 
   ends-by : (n : ℕ) → EndsBelow n
   ends-by zero b k cs s h l = absurd (omega arith)

@@ -1,5 +1,5 @@
 -- The laws of machines without resolvers and links, from the laws of their states.
-use Rattle.markdown_tokenizer.proofs.Prelude.{◌≡◌, ℕ, zero, suc, ◌+◌, ◌≤◌, List, [], ◌∷◌, ◌++◌, Bool, true, false, cond, Option, Some, None, length, refl, sym, ap, ◌∙◌, subst, arith, take, nat_lt, All, Event, State, Next, Retry, Ok, Nok, Error, IsBalanced, EndsBelow, relinked, Byte, End, AttemptKind, Attempt, Check, Given, Text, Configuration, Saved, sight, restored, settled_at, edited, Tagged, of_list, placed_end, placed_in, woven, next_of, previous_of, AreMutual, IsInShape, Rules, IsAsFar, ConsumesOnce, OnlyAdds, EndsWhenRead, KeepsInvariant, CostPays, ResolversKeep, IsLawful, HaveNoLinks, IsPlain, KeepsPlain, NothingResolves, plain}
+use Rattle.markdown_tokenizer.proofs.Prelude.{◌≡◌, ℕ, zero, suc, ◌+◌, List, [], ◌∷◌, ◌++◌, true, false, cond, Option, Some, None, length, refl, sym, ap, ◌∙◌, subst, arith, take, nat_lt, All, Event, State, Ok, Nok, IsBalanced, EndsBelow, relinked, Byte, End, AttemptKind, Attempt, Check, Given, Configuration, Saved, sight, restored, settled_at, edited, Tagged, of_list, placed_end, placed_in, woven, next_of, previous_of, IsInShape, Rules, IsAsFar, ConsumesOnce, OnlyAdds, EndsWhenRead, KeepsInvariant, CostPays, IsLawful, HaveNoLinks, IsPlain, KeepsPlain, NothingResolves, plain}
 
 -- more events without links
 pub no-links-append : (xs ys : List Event) → HaveNoLinks xs → HaveNoLinks ys → HaveNoLinks (xs ++ ys)
@@ -10,9 +10,8 @@ pub no-links-more : (xs : List Event) (e : Event) → e.link ≡ None → HaveNo
 no-links-more xs e f h = no-links-append xs (e ∷ []) h (f, tt)
 
 pub no-links-take : (n : ℕ) (xs : List Event) → HaveNoLinks xs → HaveNoLinks (take n xs)
-no-links-take zero xs h = tt
-no-links-take (suc n) [] h = tt
 no-links-take (suc n) (x ∷ xs) h = (h.0, no-links-take n xs h.1)
+no-links-take n xs h = tt
 
 below-first : (n : ℕ) (x : Event) (xs : List Event) → x.link ≡ None → All (EndsBelow n) xs → All (EndsBelow n) (x ∷ xs)
 below-first n x xs e more zero d l = rw e tt
@@ -34,33 +33,19 @@ woven-same ts i (x ∷ xs) h =
 pub edited-same : (xs : List Event) → HaveNoLinks xs → edited [] xs ≡ xs
 edited-same xs h = woven-same (woven [] 0 xs) 0 xs h
 
-no-next : (xs : List Event) → HaveNoLinks xs → (i : ℕ) → next_of xs i ≡ None
-no-next [] h i = refl
-no-next (x ∷ xs) h zero = let e = h.0 in rw e refl
-no-next (x ∷ xs) h (suc i) = no-next xs h.1 i
-
-no-previous : (xs : List Event) → HaveNoLinks xs → (i : ℕ) → previous_of xs i ≡ None
-no-previous [] h i = refl
-no-previous (x ∷ xs) h zero = let e = h.0 in rw e refl
-no-previous (x ∷ xs) h (suc i) = no-previous xs h.1 i
-
-no-links-mutual : (xs : List Event) → HaveNoLinks xs → AreMutual xs
-no-links-mutual xs h i j =
-    ((λ e. let f : None ≡ Some j = sym (no-next xs h i) ∙ e in absurd cc), (λ e. let f : None ≡ Some i = sym (no-previous xs h j) ∙ e in absurd cc))
-
-from-zero : (n : ℕ) → 0 ≤ n
-from-zero n = omega arith
+no-ends : (xs : List Event) → HaveNoLinks xs → (i : ℕ) → (next_of xs i ≡ None) × (previous_of xs i ≡ None)
+no-ends [] h i = (refl, refl)
+no-ends (x ∷ xs) h zero = let e = h.0 in rw e (refl, refl)
+no-ends (x ∷ xs) h (suc i) = no-ends xs h.1 i
 
 pub no-links-shape : (xs : List Event) → HaveNoLinks xs → IsBalanced xs → IsInShape xs
-no-links-shape xs h balanced = record { balanced = balanced; inside = no-links-below (length xs) xs h; chained = no-links-mutual xs h }
+no-links-shape xs h balanced = record {
+  balanced = balanced;
+  inside = no-links-below (length xs) xs h;
+  chained = λ i j. ((λ e. let f : None ≡ Some j = sym (no-ends xs h i).0 ∙ e in absurd cc), (λ e. let f : None ≡ Some i = sym (no-ends xs h j).1 ∙ e in absurd cc));
+}
 
 module _ {R D : Type 0} where
-  fed-plain : (text : Text) (k : Configuration R D) (b : Bool) → IsPlain k
-      → IsPlain (cond b (record { position = k.position; waiting = Byte; ended = k.ended; events = k.events; stack = k.stack; local = k.local })
-      (record { position = k.position; waiting = End; ended = true; events = k.events; stack = k.stack; local = k.local }))
-  fed-plain text k true h = h
-  fed-plain text k false h = h
-
   restored-plain : (saved : Option Saved) (k : Configuration R D) → IsPlain k → IsPlain (restored saved k)
   restored-plain None k h = h
   restored-plain (Some s) k h = (h.0, h.1, no-links-take s.events k.events h.2)
@@ -68,61 +53,42 @@ module _ {R D : Type 0} where
   settled-plain : (kind : AttemptKind) (saved : Option Saved) (answer : State) (k : Configuration R D) → IsPlain k → IsPlain (settled_at kind saved answer k)
   settled-plain Check saved answer k h = restored-plain saved k h
   settled-plain Attempt saved Nok k h = restored-plain saved k h
-  settled-plain Attempt saved Ok k h = h
-  settled-plain Attempt saved (Next n) k h = h
-  settled-plain Attempt saved (Retry n) k h = h
-  settled-plain Attempt saved (Error n) k h = h
+  settled-plain Attempt saved answer k h = h
 
-module _ {R D : Type 0} (g : Given) (rules : Rules R D) where
-  pub consumes_once : ConsumesOnce g rules → ConsumesOnce g (plain rules)
-  consumes_once law text k choices name is h = law text k choices name is h.1
-
-  pub only_adds : OnlyAdds g rules → OnlyAdds g (plain rules)
-  only_adds law = record {
-    events = λ text k choices name is h. law.events text k choices name is h.1;
-    stack = λ text k choices name is h. law.stack text k choices name is h.1;
-  }
-
-  pub ends_when_read : EndsWhenRead g rules → EndsWhenRead g (plain rules)
-  ends_when_read law = record { nok = λ text k is h. law.nok text k is h.1; ok = λ text k is h. law.ok text k is h.1 }
-
-  pub invariant_kept : KeepsPlain rules.step → KeepsInvariant g rules → KeepsInvariant g (plain rules)
-  invariant_kept keeps law = record {
-    at_starts = λ p flag name is among. ((refl, refl, tt), law.at_starts p flag name is among);
-    unfed = λ text k choices name is h. law.unfed text k choices name is h.1;
-    waits = λ text k choices name is h. law.waits text k choices name is h.1;
-    by_feeding = λ text k choices name is h. (fed-plain text k (nat_lt k.position (length text.seats)) h.0, law.by_feeding text k choices name is h.1);
-    by_calls = λ text k choices name is h. (keeps (sight g text k) k name h.0, law.by_calls text k choices name is h.1);
-    by_ok = λ text k choice choices is h. (settled-plain choice.kind choice.saved Ok k h.0, law.by_ok text k choice choices is h.1);
-    by_nok = λ text k choice choices is h. (settled-plain choice.kind choice.saved Nok k h.0, law.by_nok text k choice choices is h.1);
-    by_pieces = λ text piece k choices state is fits fresh h. (h.0, law.by_pieces text piece k choices state is fits fresh h.1);
-  }
-
-  pub cost_pays : CostPays g rules → CostPays g (plain rules)
-  cost_pays law = record {
-    for_calls = λ text k choices name is h. law.for_calls text k choices name is h.1;
-    for_feeding = λ text k choices name is h. law.for_feeding text k choices name is h.1;
-    for_ok = λ text k choice choices is h. law.for_ok text k choice choices is h.1;
-    for_nok = λ text k choice choices is h. law.for_nok text k choice choices is h.1;
-  }
-
-  pub resolvers_keep : ResolversKeep g (plain rules)
+-- such a machine is lawful if its states keep the laws of calls
+pub plain-lawful : {R D : Type 0} (g : Given) (rules : Rules R D) → KeepsPlain rules.step → ConsumesOnce g rules → OnlyAdds g rules → EndsWhenRead g rules → KeepsInvariant g rules → CostPays g rules → IsLawful g (plain rules)
+plain-lawful {R = R} {D = D} g rules keeps consumes adds ends kept pays = record {
+  consumes_once = λ text k choices name is h. consumes text k choices name is h.1;
+  only_adds = record {
+    events = λ text k choices name is h. adds.events text k choices name is h.1;
+    stack = λ text k choices name is h. adds.stack text k choices name is h.1;
+  };
+  ends_when_read = record { nok = λ text k is h. ends.nok text k is h.1; ok = λ text k is h. ends.ok text k is h.1 };
+  invariant_kept = record {
+    at_starts = λ p flag name is among. ((refl, refl, tt), kept.at_starts p flag name is among);
+    unfed = λ text k choices name is h. kept.unfed text k choices name is h.1;
+    waits = λ text k choices name is h. kept.waits text k choices name is h.1;
+    by_feeding = λ text k choices name is h. (
+      elim (nat_lt k.position (length text.seats)) as (λ b. IsPlain (cond b (record k { waiting = Byte }) (record k { waiting = End; ended = true }))) [ true ↦ h.0 | false ↦ h.0 ],
+      kept.by_feeding text k choices name is h.1,
+    );
+    by_calls = λ text k choices name is h. (keeps (sight g text k) k name h.0, kept.by_calls text k choices name is h.1);
+    by_ok = λ text k choice choices is h. (settled-plain choice.kind choice.saved Ok k h.0, kept.by_ok text k choice choices is h.1);
+    by_nok = λ text k choice choices is h. (settled-plain choice.kind choice.saved Nok k h.0, kept.by_nok text k choice choices is h.1);
+    by_pieces = λ text piece k choices state is fits fresh h. (h.0, kept.by_pieces text piece k choices state is fits fresh h.1);
+  };
+  cost_pays = record {
+    for_calls = λ text k choices name is h. pays.for_calls text k choices name is h.1;
+    for_feeding = λ text k choices name is h. pays.for_feeding text k choices name is h.1;
+    for_ok = λ text k choice choices is h. pays.for_ok text k choice choices is h.1;
+    for_nok = λ text k choice choices is h. pays.for_nok text k choice choices is h.1;
+  };
   resolvers_keep = record {
     at_end = λ text k is formed h. ((refl, h.0.1, h.0.2), formed.balanced);
     by_resolvers = λ text r rs k new more is h e.
         let same : k ≡ new = cc in
         subst (λ (q : Configuration R D). NothingResolves text rs q × IsAsFar q k × (q.stack ≡ k.stack)) same (h, (refl, refl, refl), refl);
     at_last = λ text k is h.
-        rw (h.0.1, edited-same k.events h.0.2) ((from-zero (length k.events), no-links-below (length k.events) k.events h.0.2), no-links-shape k.events h.0.2 h.1);
-  }
-
-  -- such a machine is lawful if its states keep the laws of calls
-  pub plain-lawful : KeepsPlain rules.step → ConsumesOnce g rules → OnlyAdds g rules → EndsWhenRead g rules → KeepsInvariant g rules → CostPays g rules → IsLawful g (plain rules)
-  plain-lawful keeps consumes adds ends kept pays = record {
-    consumes_once = consumes_once consumes;
-    only_adds = only_adds adds;
-    ends_when_read = ends_when_read ends;
-    invariant_kept = invariant_kept keeps kept;
-    cost_pays = cost_pays pays;
-    resolvers_keep = resolvers_keep;
-  }
+        rw (h.0.1, edited-same k.events h.0.2) (((omega arith), no-links-below (length k.events) k.events h.0.2), no-links-shape k.events h.0.2 h.1);
+  };
+}

@@ -14,9 +14,7 @@ returns-then-byte-ne13 c = λ t some. seat-other t c.args.bytes.now c.args.point
 pub returns-then-is_pair : goal.returns-then-is_pair
 returns-then-is_pair c = λ t some.
     let pair = pair-is c.args.bytes.now c.args.point.index (sym c.is_pair.ensures ∙ c.if-is_pair.true) in
-    let l = rw add-one at pair.0 in
-    let b = rw add-one at pair.2 in
-    rw add-one (seat-crlf t c.args.bytes.now c.args.point (omega arith) l c.if-byte-ne13.false b)
+    rw add-one (seat-crlf t c.args.bytes.now c.args.point (omega arith) (rw add-one at pair.0) c.if-byte-ne13.false (rw add-one at pair.2))
 
 pub returns : goal.returns
 returns c = λ t some.

@@ -1,36 +1,33 @@
-use Rattle.markdown_tokenizer.proofs.Prelude.{◌≡◌, ℕ, List, Option, Some, true, sym, ap, ◌∙◌, subst, unwrap_or, false≢true, Point, point_at, denotes_same, is_upto, IsRangeFrom, FollowOn, after_any}
+use Rattle.markdown_tokenizer.proofs.Prelude.{◌≡◌, ℕ, List, Some, true, sym, ◌∙◌, subst, false≢true, Point, point_at, denotes_same, is_upto, IsRangeFrom, FollowOn, after_any}
 use Rattle.markdown_tokenizer.proofs.Positions.Cursors.{same-back, same-same}
 use Rattle.markdown_tokenizer.proofs.ranges.+follow_on.Goals as goal
 
 -- the points of a range are the points of its places
 module _ (t : ℕ) (bytes : List ℕ) (p : Point) (from to : ℕ × ℕ) (first last : Point) (from_is : point_at t bytes from ≡ Some first) (to_is : point_at t bytes to ≡ Some last) (r : IsRangeFrom t bytes p from to) where
-  first-is : r.first ≡ first
-  first-is = ap (λ (o : Option Point). unwrap_or o first) (sym r.from_is ∙ from_is)
-
-  last-is : r.last ≡ last
-  last-is = ap (λ (o : Option Point). unwrap_or o last) (sym r.to_is ∙ to_is)
-
   begins-there : (start : Point) → denotes_same t bytes start p ≡ true → denotes_same t bytes first start ≡ true
-  begins-there start same = same-same t bytes first p start (subst (λ (q : Point). denotes_same t bytes q p ≡ true) first-is r.begins) (same-back t bytes start p same)
+  begins-there start same =
+      let e : r.first ≡ first = cc in
+      same-same t bytes first p start (subst (λ (q : Point). denotes_same t bytes q p ≡ true) e r.begins) (same-back t bytes start p same)
 
   runs-on : is_upto t bytes first last ≡ true
-  runs-on = subst (λ (q : Point). is_upto t bytes q last ≡ true) first-is (subst (λ (q : Point). is_upto t bytes r.first q ≡ true) last-is r.upto)
+  runs-on =
+      let e : r.first ≡ first = cc in
+      let f : r.last ≡ last = cc in
+      subst (λ (q : Point). is_upto t bytes q last ≡ true) e (subst (λ (q : Point). is_upto t bytes r.first q ≡ true) f r.upto)
 
 pub returns-then-not-denote_same : goal.returns-then-not-denote_same
 returns-then-not-denote_same t c =
     let bytes = c.args.bytes.now in let tab = c.args.tab_size in let range = c.in-Some.range.now in
     let p = after_any tab bytes c.args.end range.0 in
-    let are = c.in-Some.ensures.cases.0 in
     let not_same = sym c.denote_same.ensures ∙ c.if-not-denote_same.true in
-    rw are ((λ h. absurd (false≢true h)), λ h. sym not_same ∙ begins-there tab bytes p range.1 range.2 _ _ (sym c.point_at.ensures ∙ c.in-Some-point_at.is) (sym c.point_at-2.ensures ∙ c.in-Some-point_at-2.is) h.1 c.in-Some-start_after.start c.in-Some-start_after.ensures.start)
+    rw c.in-Some.ensures.cases.0 ((λ h. absurd (false≢true h)), λ h. sym not_same ∙ begins-there tab bytes p range.1 range.2 _ _ (sym c.point_at.ensures ∙ c.in-Some-point_at.is) (sym c.point_at-2.ensures ∙ c.in-Some-point_at-2.is) h.1 c.in-Some-start_after.start c.in-Some-start_after.ensures.start)
 
 pub returns-then-not-is_up_to : goal.returns-then-not-is_up_to
 returns-then-not-is_up_to t c =
     let bytes = c.args.bytes.now in let tab = c.args.tab_size in let range = c.in-Some.range.now in
     let p = after_any tab bytes c.args.end range.0 in
-    let are = c.in-Some.ensures.cases.0 in
     let not_upto = sym c.is_up_to.ensures ∙ c.if-not-is_up_to.true in
-    rw are ((λ h. absurd (false≢true h)), λ h. sym not_upto ∙ runs-on tab bytes p range.1 range.2 _ _ (sym c.point_at.ensures ∙ c.in-Some-point_at.is) (sym c.point_at-2.ensures ∙ c.in-Some-point_at-2.is) h.1)
+    rw c.in-Some.ensures.cases.0 ((λ h. absurd (false≢true h)), λ h. sym not_upto ∙ runs-on tab bytes p range.1 range.2 _ _ (sym c.point_at.ensures ∙ c.in-Some-point_at.is) (sym c.point_at-2.ensures ∙ c.in-Some-point_at-2.is) h.1)
 
 pub returns : goal.returns
 returns t c =
@@ -50,5 +47,5 @@ returns t c =
     } in
     rw c.in-Some.ensures.cases.0 (
       (λ h. (c.in-Some-start_after.ensures.leads, is_range, c.follow_on.ensures.0 h)),
-      λ h. c.follow_on.ensures.1 (subst (λ (q : Point). FollowOn tab bytes q c.in-Some.rest.now) (last-is tab bytes p range.1 range.2 from to from_is to_is h.1) h.2),
+      λ h. (let e : h.1.last ≡ to = cc (h.1.to_is) in c.follow_on.ensures.1 (subst (λ (q : Point). FollowOn tab bytes q c.in-Some.rest.now) e h.2)),
     )

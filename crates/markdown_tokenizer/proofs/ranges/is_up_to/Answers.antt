@@ -3,11 +3,6 @@ use Rattle.markdown_tokenizer.proofs.Positions.Order.{after-before}
 use Rattle.markdown_tokenizer.proofs.Positions.Cursors.{upto-order}
 use Rattle.markdown_tokenizer.proofs.ranges.is_up_to.Goals as goal
 
-and-true : (a b : Bool) → b ≡ true → (a && b) ≡ a
-and-true true true h = refl
-and-true false b h = refl
-and-true true false h = absurd (cc)
-
 pub returns-then-not-is_before : goal.returns-then-not-is_before
 returns-then-not-is_before c =
     ap not c.if-not-is_before.true
@@ -17,4 +12,4 @@ pub returns-else-not-is_before : goal.returns-else-not-is_before
 returns-else-not-is_before c =
     let t = c.args.tab in let bytes = c.args.bytes.now in let from = c.args.from in let to = c.args.to in
     let back = upto-order t bytes to from (after-before to.index to.vs from.index from.vs (sym c.is_before.ensures ∙ c.if-not-is_before.false)) in
-    c.denote_same.ensures ∙ and-true (is_upto t bytes from to) (is_upto t bytes to from) back
+    c.denote_same.ensures ∙ elim (is_upto t bytes from to) as (λ (a : Bool). (a && is_upto t bytes to from) ≡ a) [ true ↦ back | false ↦ refl ]
