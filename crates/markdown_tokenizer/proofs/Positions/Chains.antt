@@ -127,10 +127,12 @@ module _ (t : ℕ) (bytes : List ℕ) (d : 0 < t) where
   module _ (l c i b : ℕ) (bs : List ℕ) (next : Next (suc i) bs) (after : Next (suc (suc i)) (tail bs)) (inside : i < length bytes) (here : slice_index bytes i ≡ b) (there : drop (suc i) bytes ≡ bs)
       (whole : drop i bytes ≡ b ∷ bs) (shown : IsShown bytes (point l c i 0)) (bounds : Bounds t bytes (point l c i 0)) where
     -- an LF, or a CR alone
-    line-chain : virtual_from t l c i (b ∷ bs) ≡ line_feed l c i ∷ virtual_from t (suc l) 1 (suc i) bs → IsShown bytes (point (suc l) 1 (suc i) 0) → IsChain t bytes (point l c i 0) (line_feed l c i ∷ virtual_from t (suc l) 1 (suc i) bs)
+    line-chain : virtual_from t l c i (b ∷ bs) ≡ line_feed l c i ∷ virtual_from t (suc l) 1 (suc i) bs → IsShown bytes (point (suc l) 1 (suc i) 0)
+        → IsChain t bytes (point l c i 0) (line_feed l c i ∷ virtual_from t (suc l) 1 (suc i) bs)
     line-chain line shown_after =
         one-chain (point l c i 0) 10 (point (suc l) 1 (suc i) 0) (virtual_from t (suc l) 1 (suc i) bs) inside (below-before i 0 (suc i) 0 (omega arith)) refl
-        (record { is = rw whole line; shown = shown; bounds = bounds }) (next (suc l) 1 there inside shown_after (flat-bounds (suc l) 1 (suc i) inside (omega (arith, bounds.lines)) (omega arith) (omega arith)))
+        (record { is = rw whole line; shown = shown; bounds = bounds }) (next (suc l) 1 there inside shown_after
+        (flat-bounds (suc l) 1 (suc i) inside (omega (arith, bounds.lines)) (omega arith) (omega arith)))
 
     byte-chain : (x y z w : Bool) → (b == 10) ≡ x → (b == 13) ≡ y → (b == 9) ≡ z → begins_with_lf bs ≡ w → IsChain t bytes (point l c i 0) (virtual_from t l c i (b ∷ bs))
     byte-chain true y z w ex ey ez ew = rw ex (line-chain (rw ex refl) (shown-after bytes (suc l) 1 i 0 (λ k. let ten = eqb-true b 10 ex in absurd (omega arith))))
@@ -147,7 +149,8 @@ module _ (t : ℕ) (bytes : List ℕ) (d : 0 < t) where
         let e : virtual_from t l c (suc i) bs ≡ line_feed l c (suc i) ∷ rest = ap (virtual_from t l c (suc i)) bs_are in
         let more = after (suc l) 1 second.2 second.0 (shown-after bytes (suc l) 1 (suc i) 0 (λ k. let g : 10 ≡ 13 = sym lf ∙ k in absurd (omega arith)))
         (flat-bounds (suc l) 1 (suc (suc i)) second.0 (omega (arith, bounds.lines)) (omega arith) (omega arith)) in
-        rw (ex, ey, ew) (subst (IsChain t bytes (point l c i 0)) (sym e) (seat-chain (point l c i 0) (line_feed l c (suc i)) rest (rw (first, lf) (ap (λ (k : ℕ). point l c k 0) back)) (rw second_are refl)
+        rw (ex, ey, ew) (subst (IsChain t bytes (point l c i 0)) (sym e) (seat-chain (point l c i 0) (line_feed l c (suc i)) rest (rw (first, lf) (ap (λ (k : ℕ). point l c k 0) back))
+        (rw second_are refl)
         (flat-bounds l c (suc i) inside (omega (arith, bounds.lines)) bounds.first (omega (arith, bounds.columns))) (above-later (suc i) 0 i 0 (omega arith)) second.0
         (below-before (suc i) 0 (suc (suc i)) 0 (omega arith)) refl (record { is = rw both refl; shown = shown; bounds = bounds }) more))
     byte-chain false true z false ex ey ez ew =
@@ -156,7 +159,8 @@ module _ (t : ℕ) (bytes : List ℕ) (d : 0 < t) where
         let tab = eqb-true b 9 ez in
         let e : drop i bytes ≡ 9 ∷ bs = whole ∙ ap (λ (n : ℕ). n ∷ bs) tab in
         let column = c + tab_width t c in
-        rw (ex, ey, ez) (tab-chain 9 (tab_width t c) l c i 0 column bs there (here ∙ tab) inside refl (width-pos t c d) refl (omega arith) refl refl (record { is = rw e refl; shown = shown; bounds = bounds })
+        rw (ex, ey, ez) (tab-chain 9 (tab_width t c) l c i 0 column bs there (here ∙ tab) inside refl (width-pos t c d) refl (omega arith) refl refl
+        (record { is = rw e refl; shown = shown; bounds = bounds })
         (next l column there inside (shown-after bytes l column i 0 (λ k. let g : 9 ≡ 13 = sym tab ∙ sym here ∙ k in absurd (omega arith)))
         (flat-bounds l column (suc i) inside (omega (arith, bounds.lines)) (omega (arith, bounds.first)) (omega (arith, bounds.columns)))))
     byte-chain false false false w ex ey ez ew =
@@ -168,11 +172,13 @@ module _ (t : ℕ) (bytes : List ℕ) (d : 0 < t) where
   from-chain i [] l c e inside shown bounds = record { is = rw e refl; shown = shown; bounds = bounds }
   from-chain i (b ∷ []) l c e inside shown bounds =
       let f = drop-first i bytes b [] e in
-      byte-chain l c i b [] (from-chain (suc i) []) (λ l2 c2 g h k m. record { is = rw g refl; shown = k; bounds = m }) f.0 f.1 f.2 e shown bounds (b == 10) (b == 13) (b == 9) false refl refl refl refl
+      byte-chain l c i b [] (from-chain (suc i) []) (λ l2 c2 g h k m. record { is = rw g refl; shown = k; bounds = m }) f.0 f.1 f.2 e shown bounds
+      (b == 10) (b == 13) (b == 9) false refl refl refl refl
   from-chain i (b ∷ b2 ∷ bs) l c e inside shown bounds =
       let f = drop-first i bytes b (b2 ∷ bs) e in
       byte-chain l c i b (b2 ∷ bs) (from-chain (suc i) (b2 ∷ bs)) (from-chain (suc (suc i)) bs) f.0 f.1 f.2 e shown bounds (b == 10) (b == 13) (b == 9) (b2 == 10) refl refl refl refl
 
   -- the virtual bytes of a document
   pub whole-chain : IsChain t bytes (point 1 1 0 0) (virtual t bytes)
-  whole-chain = from-chain 0 bytes 1 1 refl (omega arith) (shown-after-at (point 1 1 0 0) (point 1 1 0 0) (slice_index bytes 0 == 10)) (flat-bounds 1 1 0 (omega arith) (omega arith) (omega arith) (omega arith))
+  whole-chain = from-chain 0 bytes 1 1 refl (omega arith) (shown-after-at (point 1 1 0 0) (point 1 1 0 0) (slice_index bytes 0 == 10))
+      (flat-bounds 1 1 0 (omega arith) (omega arith) (omega arith) (omega arith))

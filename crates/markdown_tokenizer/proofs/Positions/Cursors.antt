@@ -8,10 +8,6 @@ use Rattle.markdown_tokenizer.proofs.Positions.Order.{before-self, before-upto, 
 use Rattle.markdown_tokenizer.proofs.Positions.Seats.{rest-later}
 use Rattle.markdown_tokenizer.proofs.Positions.Standing.{seat-splits, next-begins, seat-rest, seat-passes}
 
-leads-or : (a b : Bool) → (a ≡ true → b ≡ true) → (not a || b) ≡ true
-leads-or true b h = h refl
-leads-or false b h = refl
-
 pub get-after : {A : Type 0} (xs ys : List A) → slice_get (xs ++ ys) (length xs) ≡ slice_get ys 0
 get-after [] ys = refl
 get-after (x ∷ xs) ys = get-after xs ys
@@ -25,14 +21,17 @@ module _ (t : ℕ) (bytes : List ℕ) where
   upto-leads p q h =
       let f = λ (s : Seat). not (stands_before s.point p) || stands_before s.point q in
       let there = λ (k : ℕ) (d : Seat). (get_or (virtual t bytes) k d).point in
-      recursion_from_All (Leads p q) (virtual t bytes) (λ k d l. or-leads (stands_before (there k d) p) (stands_before (there k d) q) (and_at (list_all f) f refl (λ x xs. refl) (virtual t bytes) k d l h))
+      recursion_from_All (Leads p q) (virtual t bytes) (λ k d l. or-leads (stands_before (there k d) p) (stands_before (there k d) q)
+      (and_at (list_all f) f refl (λ x xs. refl) (virtual t bytes) k d l h))
 
   pub leads-upto : (p q : Point) → AllByRecursion (Leads p q) (virtual t bytes) → is_upto t bytes p q ≡ true
   leads-upto p q h =
       let f = λ (s : Seat). not (stands_before s.point p) || stands_before s.point q in
       let d : Seat = record { byte = 0; point = p; end = p } in
       let there = λ (k : ℕ). (get_or (virtual t bytes) k d).point in
-      and_from_places (list_all f) f refl (λ x xs. refl) (virtual t bytes) d (λ k l. leads-or (stands_before (there k) p) (stands_before (there k) q) (All-from_recursion (Leads p q) (virtual t bytes) h k d l))
+      and_from_places (list_all f) f refl (λ x xs. refl) (virtual t bytes) d
+      (λ k l. (elim (stands_before (there k) p) as (λ a. (a ≡ true → stands_before (there k) q ≡ true) → (not a || stands_before (there k) q) ≡ true) [ true ↦ λ g. g refl | false ↦ λ g. refl ])
+      (All-from_recursion (Leads p q) (virtual t bytes) h k d l))
 
   -- what is not before a place is not before it in the virtual text
   pub upto-order : (p q : Point) → stands_before q p ≡ false → is_upto t bytes p q ≡ true
@@ -63,7 +62,8 @@ module _ (t : ℕ) (bytes : List ℕ) where
   pub same-before : (p q : Point) → denotes_same t bytes p q ≡ true → AllByRecursion (λ s. stands_before s.point p ≡ stands_before s.point q) (virtual t bytes)
   same-before p q h =
       let b = same-upto p q h in
-      every-both (Leads p q) (Leads q p) (λ s. stands_before s.point p ≡ stands_before s.point q) (λ s a c. same_from_decides {P = stands_before s.point q ≡ true} (stands_before s.point p) (stands_before s.point q) (a, c) ((λ e. e), λ e. e)) (virtual t bytes) (upto-leads p q b.0) (upto-leads q p b.1)
+      every-both (Leads p q) (Leads q p) (λ s. stands_before s.point p ≡ stands_before s.point q)
+      (λ s a c. same_from_decides {P = stands_before s.point q ≡ true} (stands_before s.point p) (stands_before s.point q) (a, c) ((λ e. e), λ e. e)) (virtual t bytes) (upto-leads p q b.0) (upto-leads q p b.1)
 
   -- a range depends on its ends only by what they denote
   pub range-same : (a b c d : Point) → denotes_same t bytes a c ≡ true → denotes_same t bytes b d ≡ true → filter (in_range a b) (virtual t bytes) ≡ filter (in_range c d) (virtual t bytes)
@@ -152,10 +152,9 @@ module _ (t : ℕ) (bytes : List ℕ) (p : Point) (seat : Seat) (place : IsPlace
     -- the place after it is no further than the end
     pub after-upto : (end : Point) → is_upto t bytes p end ≡ true → stands_before seat.point end ≡ true → is_upto t bytes seat.end end ≡ true
     after-upto end upto lt =
-        let whole = seat-splits t bytes d p seat place n in
         let ends = split-every t bytes (Leads p end) p place (upto-leads t bytes p end upto) in
         let past : AllByRecursion (λ s. stands_before s.point seat.end ≡ false) n.after = subst (AllByRecursion (λ s. stands_before s.point seat.end ≡ false)) (seat-rest t bytes d p seat place n) (rest-later t bytes seat.end) in
-        leads-upto t bytes seat.end end (subst (AllByRecursion (Leads seat.end end)) (sym whole) (every-append (Leads seat.end end) place.before (seat ∷ n.after)
+        leads-upto t bytes seat.end end (subst (AllByRecursion (Leads seat.end end)) (sym (seat-splits t bytes d p seat place n)) (every-append (Leads seat.end end) place.before (seat ∷ n.after)
         (every-both (λ s. stands_before s.point p ≡ true) (Leads p end) (Leads seat.end end) (λ s h k m. k h) place.before place.behind ends.0)
         ((λ m. lt), every-map (λ s. stands_before s.point seat.end ≡ false) (Leads seat.end end) (λ s h k. absurd (cc)) n.after past)))
 
@@ -165,8 +164,7 @@ module _ (t : ℕ) (bytes : List ℕ) (p : Point) (seat : Seat) (place : IsPlace
     -- it is the only one between the place and its end
     pub next-only : left_of t bytes p seat.end ≡ seat ∷ []
     next-only =
-        let begins = next-begins t bytes d p seat place n in
         let f = λ (s : Seat). stands_before s.point seat.end in
         let past : AllByRecursion (λ s. stands_before s.point seat.end ≡ false) n.after = subst (AllByRecursion (λ s. stands_before s.point seat.end ≡ false)) (seat-rest t bytes d p seat place n) (rest-later t bytes seat.end) in
-        let ends = begins.ends in
+        let ends = (next-begins t bytes d p seat place n).ends in
         ap (filter f) n.is ∙ (rw ends (ap (λ (ys : List Seat). seat ∷ ys) (filter-none f n.after past)))

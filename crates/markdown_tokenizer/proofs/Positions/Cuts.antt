@@ -14,10 +14,9 @@ module _ (t : ℕ) (bytes : List ℕ) (d : 0 < t) where
   cuts-follow n number p (s ∷ ss) points h order =
       let rest = filter (λ (x : ℕ × Seat). is_cut n x.0) (enumerate_from (number + 1) ss) in
       let cut = cuts-follow n (number + 1) s.point ss points.1 (every-map (Follows s) (λ r. stands_before r.point s.point ≡ false) (λ r k. after-before s.point.index s.point.vs r.point.index r.point.vs k.0) ss order.1) order.2 in
-      let uncut = cuts-follow n (number + 1) p ss points.1 h.1 order.2 in
       elim (is_cut n number) as (λ b. FollowInOrder t bytes p (map (λ (x : ℕ × Seat). place_of x.1) (cond b ((number, s) ∷ rest) rest))) [
         | true ↦ (s.point, point_at-point t bytes d s.point points.0, upto-order t bytes p s.point h.0, cut)
-        | false ↦ uncut
+        | false ↦ cuts-follow n (number + 1) p ss points.1 h.1 order.2
       ]
 
 -- the places of the virtual bytes number n, 2n, 3n, .. are cuts
@@ -25,5 +24,6 @@ pub cuts_every-are-cuts : (t : ℕ) → 0 < t → (bytes : List ℕ) (n : ℕ) �
 cuts_every-are-cuts t d bytes n =
     let seats = virtual t bytes in
     let seat = λ (k : ℕ) (e : Seat). get_or seats k e in
-    cuts-follow t bytes d n 0 (point 1 1 0 0) seats (recursion_from_All (λ s. IsPointOf t bytes s.point) seats (λ k e l. seat-is-point t bytes (seat k e) (get-among seats k (seat k e) (slice_get-get_or seats k e l))))
+    cuts-follow t bytes d n 0 (point 1 1 0 0) seats (recursion_from_All (λ s. IsPointOf t bytes s.point) seats
+    (λ k e l. seat-is-point t bytes (seat k e) (get-among seats k (seat k e) (slice_get-get_or seats k e l))))
     (every-all (λ s. stands_before s.point (point 1 1 0 0) ≡ false) (λ s. not-before s.point.index s.point.vs 0 0 (omega arith) refl) seats) (virtual-order t bytes d)

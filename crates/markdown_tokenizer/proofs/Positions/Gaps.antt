@@ -53,7 +53,8 @@ module _ (t : ℕ) (bytes : List ℕ) (d : 0 < t) where
   ]
 
   -- all that a gap from a place on passes is in the gap
-  jump-same : (skips : List Point) (after_previous : Point) (place : IsPlace t bytes after_previous) (start q : Point) → is_upto t bytes start after_previous ≡ true → IsPlace t bytes q → q.line ≡ after_previous.line
+  jump-same : (skips : List Point) (after_previous : Point) (place : IsPlace t bytes after_previous) (start q : Point) → is_upto t bytes start after_previous ≡ true → IsPlace t bytes q
+      → q.line ≡ after_previous.line
       → skip_of skips after_previous.line ≡ Some q → is_upto t bytes after_previous q ≡ true → kept_between t bytes skips start q ≡ kept_between t bytes skips start after_previous
   jump-same skips after_previous place start q from at line e later =
       let read = filter (in_range start after_previous) (virtual t bytes) in
@@ -86,7 +87,8 @@ module _ (t : ℕ) (bytes : List ℕ) (d : 0 < t) where
         kept-by skips seat after_previous.line (Some q) (seat-line p seat at n ∙ line) e
         ∙ ap not (later-later seat.point.index seat.point.vs p.index p.vs q.index q.vs n.later later)
 
-    resumed-by : (b : Bool) (o : Option Point) → (after_previous.column == 1) ≡ b → skip_of skips after_previous.line ≡ o → IsResumed t bytes skips start end after_previous (cond b (unwrap_or o after_previous) after_previous)
+    resumed-by : (b : Bool) (o : Option Point) → (after_previous.column == 1) ≡ b → skip_of skips after_previous.line ≡ o
+        → IsResumed t bytes skips start end after_previous (cond b (unwrap_or o after_previous) after_previous)
     resumed-by false None e f = stays (λ seat n. kept-by skips seat after_previous.line None (seat-line after_previous seat place n) f)
     resumed-by true None e f = stays (λ seat n. kept-by skips seat after_previous.line None (seat-line after_previous seat place n) f)
     resumed-by false (Some q) e f = elim (outside q f) [ inl h ↦ absurd (is-not after_previous.column 1 e h) | inr h ↦ stays (fresh-after after_previous q place refl f h) ]
@@ -94,7 +96,12 @@ module _ (t : ℕ) (bytes : List ℕ) (d : 0 < t) where
         let first = eqb-true after_previous.column 1 e in
         let found = skip-is (IsSkip t bytes end) skips after_previous.line q are f in
         let skip = found.1 in
-        let before = true_from_ne_false (stands_before after_previous q) (λ k. omega (arith, column-rises q after_previous skip.place place (upto-order t bytes q after_previous k) found.0, skip.inside)) in
+        let before = true_from_ne_false (stands_before after_previous q) (λ k. omega (
+          arith,
+          column-rises q after_previous skip.place place
+              (upto-order t bytes q after_previous k) found.0,
+          skip.inside,
+        )) in
         let later = upto-order t bytes after_previous q (after-before after_previous.index after_previous.vs q.index q.vs before) in
         record {
           place = skip.place;
@@ -171,21 +178,17 @@ resumed-at_first skips p e = let g : (p.column == 1) ≡ true = grind (arith, na
 module _ (t : ℕ) (bytes : List ℕ) (d : 0 < t) where
   -- places before the beginning of a line are in earlier lines
   module _ (e : Point) (at : IsPlace t bytes e) (first : e.column ≡ 1) where
-    behind-earlier : AllByRecursion (λ s. s.point.line < e.line) at.before
-    behind-earlier =
-        let p = point 1 1 0 0 in
-        every-map (LiesIn p (end_after p at.before)) (λ s. s.point.line < e.line)
-        (λ s h. elim (lies-later s.point e (lies-shown bytes s.point e ∙ ap (lies_before s.point) at.stands ∙ h.1)) [ inl l ↦ l | inr l ↦ absurd (omega (arith, l.1, h.2)) ])
-        at.before (chain-between t bytes p at.before (rest_at t bytes e) (subst (IsChain t bytes p) at.splits (whole-chain t bytes d)))
-
     -- a virtual byte before a place is in an earlier line
     abbrev Earlier : Point → Seat → Type 0
     Earlier after_previous s = stands_before s.point after_previous ≡ true → s.point.line < e.line
 
     read-earlier : (start after_previous : Point) → is_upto t bytes after_previous e ≡ true → AllByRecursion (λ s. s.point.line < e.line) (filter (in_range start after_previous) (virtual t bytes))
     read-earlier start after_previous upto =
+        let p = point 1 1 0 0 in
         let seats : AllByRecursion (Earlier e) (virtual t bytes) = subst (AllByRecursion (Earlier e)) (sym at.splits) (every-append (Earlier e) at.before (rest_at t bytes e)
-        (every-map (λ s. s.point.line < e.line) (Earlier e) (λ s h k. h) at.before behind-earlier)
+        (every-map (LiesIn p (end_after p at.before)) (Earlier e)
+        (λ s h k. elim (lies-later s.point e (lies-shown bytes s.point e ∙ ap (lies_before s.point) at.stands ∙ h.1)) [ inl l ↦ l | inr l ↦ absurd (omega (arith, l.1, h.2)) ])
+        at.before (chain-between t bytes p at.before (rest_at t bytes e) (subst (IsChain t bytes p) at.splits (whole-chain t bytes d))))
         (every-map (λ s. stands_before s.point e ≡ false) (Earlier e) (λ s h k. absurd (cc)) (rest_at t bytes e) (rest-later t bytes e))) in
         every-kept (Earlier after_previous) (λ s. s.point.line < e.line) (in_range start after_previous)
         (λ s h k. h ((and_parts (not (stands_before s.point start)) (stands_before s.point after_previous) k).1)) (virtual t bytes)

@@ -116,7 +116,8 @@ module _ (t : ℕ) (bytes : List ℕ) where
         cases (s ∷ ss) e =
             let c = subst (λ (xs : List Seat). IsChain t bytes (shown bytes a) (xs ++ rest_at t bytes b)) e way-chain in
             let ends : shown bytes b ≡ end_after s.end ss = way-ends ∙ ap (end_after (shown bytes a)) e in
-            inr (lies-later a b (lies-like a (shown bytes a) b (sym (shown-line bytes a)) (sym (shown-column bytes a)) ∙ lies-shown bytes (shown bytes a) b ∙ ap (lies_before (shown bytes a)) ends ∙ chain-passes (shown bytes a) s ss (rest_at t bytes b) c))
+            inr (lies-later a b (lies-like a (shown bytes a) b (sym (shown-line bytes a)) (sym (shown-column bytes a)) ∙ lies-shown bytes (shown bytes a) b
+            ∙ ap (lies_before (shown bytes a)) ends ∙ chain-passes (shown bytes a) s ss (rest_at t bytes b) c))
 
     -- the places between the two are in lines between theirs
     pub seats-between : AllByRecursion (StandsBetween a b) (left_of t bytes a b)

@@ -33,7 +33,8 @@ module _ (t : ℕ) (bytes : List ℕ) where
     -- the place after some of the virtual bytes is where the next is shown, or the document's end
     pub after-is-point : (xs ys : List Seat) → virtual t bytes ≡ xs ++ ys → IsPointOf t bytes (end_after (point 1 1 0 0) xs)
     after-is-point xs [] e = subst (IsPointOf t bytes) (ap (end_after (point 1 1 0 0)) (e ∙ append-nil xs)) end-is-point
-    after-is-point xs (s ∷ ys) e = subst (IsPointOf t bytes) (seat-begins t bytes d xs s ys e).shown_is (among-points s (record { front = xs; back = ys; splits = e }) (shown bytes s.point) (0, omega arith, refl))
+    after-is-point xs (s ∷ ys) e = subst (IsPointOf t bytes) (seat-begins t bytes d xs s ys e).shown_is
+        (among-points s (record { front = xs; back = ys; splits = e }) (shown bytes s.point) (0, omega arith, refl))
 
     -- so is the place after each virtual byte
     pub end-of-is-point : (s : Seat) → IsAmong s (virtual t bytes) → IsPointOf t bytes s.end

@@ -34,7 +34,8 @@ rest-later t bytes p =
     cond_both (p.vs == 0) here (spaces ++ more) (AllByRecursion P)
     (λ e. every-map (FromIndex p.index) P (λ s h. not-before s.point.index s.point.vs p.index p.vs h (eqb-true p.vs 0 e)) here (virtual-index t p.line p.column p.index (drop p.index bytes)))
     (λ e. every-append P spaces more
-    (every-map (λ s. (s.point.index ≡ p.index) × (p.vs ≤ s.point.vs)) P (λ s h. not-before-in s.point.index s.point.vs p.index p.vs h.0 h.1) spaces (tab-index 32 (tab_width t p.column) p.line p.column p.index p.vs))
+    (every-map (λ s. (s.point.index ≡ p.index) × (p.vs ≤ s.point.vs)) P (λ s h. not-before-in s.point.index s.point.vs p.index p.vs h.0 h.1) spaces
+    (tab-index 32 (tab_width t p.column) p.line p.column p.index p.vs))
     (every-map (FromIndex (suc p.index)) P (λ s h. above-later s.point.index s.point.vs p.index p.vs (omega (arith, h))) more
     (virtual-index t p.line (p.column + tab_width t p.column) (suc p.index) (drop (suc p.index) bytes))))
 
@@ -173,7 +174,8 @@ module _ (t : ℕ) (bytes : List ℕ) (p : Point) (seat : Seat) (d : 0 < t) (tab
       let flat = eqb-true p.vs 0 e in
       let byte = slice_index bytes p.index in
       let inside : p.index < length bytes = elim (cases_lt p.index (length bytes)) [ inl l ↦ l | inr past ↦ (let f = sym (seat-none t bytes p flat past) ∙ n.is in absurd cc) ] in
-      let s = same-seat (cond (byte == 13) 10 byte) p (seat-plain t bytes p byte d flat inside refl (λ cr. no-lf bytes (suc p.index) (λ l k. no-pair-is bytes p.index cr g (omega arith) (rw add-one k)))) in
+      let s = same-seat (cond (byte == 13) 10 byte) p (seat-plain t bytes p byte d flat inside refl
+      (λ cr. no-lf bytes (suc p.index) (λ l k. no-pair-is bytes p.index cr g (omega arith) (rw add-one k)))) in
       inl (s.1, λ _. g)
   there-at false w e g =
       let h : 0 < p.vs = grind (arith, nat_tests) in

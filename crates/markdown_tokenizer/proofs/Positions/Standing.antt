@@ -116,7 +116,8 @@ module _ (t : ℕ) (bytes : List ℕ) (d : 0 < t) where
   -- the point of a place of the document is one that its numbers describe
   pub place-of-point : (p : Point) → IsPointOf t bytes p → IsPlace t bytes p
   place-of-point p h = All-contains (IsPlace t bytes) (points t bytes) p (All-from_recursion (IsPlace t bytes) (points t bytes)
-      (every-append (IsPlace t bytes) (flat_map (λ s. shown bytes s.point ∷ s.point ∷ []) (virtual t bytes)) (document_end t bytes ∷ []) (seats-are-places [] (virtual t bytes) refl) (end-place, tt))) h
+      (every-append (IsPlace t bytes) (flat_map (λ s. shown bytes s.point ∷ s.point ∷ []) (virtual t bytes)) (document_end t bytes ∷ []) (seats-are-places [] (virtual t bytes) refl)
+      (end-place, tt))) h
 
 -- the next virtual byte from a place on
 module _ (t : ℕ) (bytes : List ℕ) (d : 0 < t) (p : Point) (seat : Seat) (place : IsPlace t bytes p) (n : IsSeatAt t bytes p seat) where
@@ -127,7 +128,8 @@ module _ (t : ℕ) (bytes : List ℕ) (d : 0 < t) (p : Point) (seat : Seat) (pla
   next-begins = seat-begins t bytes d place.before seat n.after seat-splits
 
   pub end-seat-place : IsPlace t bytes seat.end
-  end-seat-place = subst (IsPlace t bytes) (end-after-one (point 1 1 0 0) place.before seat) (place-after t bytes d (place.before ++ seat ∷ []) n.after (seat-splits ∙ sym (append_assoc place.before (seat ∷ []) n.after)))
+  end-seat-place = subst (IsPlace t bytes) (end-after-one (point 1 1 0 0) place.before seat)
+      (place-after t bytes d (place.before ++ seat ∷ []) n.after (seat-splits ∙ sym (append_assoc place.before (seat ∷ []) n.after)))
 
   pub seat-rest : rest_at t bytes seat.end ≡ n.after
   seat-rest = (chain-at t bytes seat.end n.after (from-here t bytes d place.before seat n.after seat-splits).2).is
@@ -154,7 +156,8 @@ module _ (t : ℕ) (bytes : List ℕ) (d : 0 < t) (p : Point) (seat : Seat) (pla
   pub end-of-line : (w : Bool) → seat.byte ≡ 10 → begins_pair bytes p.index ≡ w → point (p.line + 1) 1 (p.index + cond w 2 1) 0 ≡ seat.end
   end-of-line true b pair = elim there [
     | inl h ↦ absurd (let f = sym pair ∙ h.1 b in cc)
-    | inr h ↦ same-numbers (p.line + 1) 1 (p.index + 2) 0 (suc p.line) 1 (suc (suc p.index)) 0 (omega arith) refl (omega arith) refl ∙ (rw b at (ends-at (point p.line p.column (suc p.index) p.vs) h.2))
+    | inr h ↦ same-numbers (p.line + 1) 1 (p.index + 2) 0 (suc p.line) 1 (suc (suc p.index)) 0 (omega arith) refl (omega arith) refl
+        ∙ (rw b at (ends-at (point p.line p.column (suc p.index) p.vs) h.2))
   ]
   end-of-line false b single = elim there [
     | inl h ↦ same-numbers (p.line + 1) 1 (p.index + 1) 0 (suc p.line) 1 (suc p.index) 0 (omega arith) refl (omega arith) refl ∙ (rw b at (ends-at p h.0))
@@ -165,5 +168,6 @@ module _ (t : ℕ) (bytes : List ℕ) (d : 0 < t) (p : Point) (seat : Seat) (pla
   pub end-of-other : seat.byte ≢ 10 → (w : Bool) → goes_on t seat.byte p ≡ w → cond w (point p.line (p.column + 1) p.index (p.vs + 1)) (point p.line (p.column + 1) (p.index + 1) 0) ≡ seat.end
   end-of-other b w e =
       let f = not-number seat.byte 10 b in
-      let is : end_at t seat.byte p ≡ cond w (point p.line (p.column + 1) p.index (p.vs + 1)) (point p.line (p.column + 1) (p.index + 1) 0) = rw (f, e, add-one p.column, add-one p.index, add-one p.vs) refl in
+      let is : end_at t seat.byte p ≡ cond w (point p.line (p.column + 1) p.index (p.vs + 1)) (point p.line (p.column + 1) (p.index + 1) 0) =
+      rw (f, e, add-one p.column, add-one p.index, add-one p.vs) refl in
       sym is ∙ ends-at p (elim there [ inl h ↦ h.0 | inr h ↦ absurd (b h.1) ])

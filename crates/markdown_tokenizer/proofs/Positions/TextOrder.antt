@@ -64,7 +64,8 @@ module _ (g : Given) (d : 0 < g.tab) where
       let more = filter (in_range from to) (virtual g.tab g.bytes) in
       let rest = rest_at g.tab g.bytes to in
       let all = rest_at g.tab g.bytes text.end in
-      let range : more ≡ left_of g.tab g.bytes from to = text-splits g.tab g.bytes from from to a (upto-self g.tab g.bytes from) fits.3 ∙ ap (λ (xs : List Seat). xs ++ left_of g.tab g.bytes from to) (range-empty g.tab g.bytes from) in
+      let range : more ≡ left_of g.tab g.bytes from to = text-splits g.tab g.bytes from from to a (upto-self g.tab g.bytes from) fits.3
+      ∙ ap (λ (xs : List Seat). xs ++ left_of g.tab g.bytes from to) (range-empty g.tab g.bytes from) in
       let same : rest_at g.tab g.bytes from ≡ all = append_cancel_left a.before (rest_at g.tab g.bytes from) all
       (sym a.splits ∙ h.at.splits ∙ ap (λ (xs : List Seat). xs ++ all) (sym (same-behind g.tab g.bytes from text.end a h.at fits.2))) in
       let left : more ++ rest ≡ all = ap (λ (xs : List Seat). xs ++ rest) range ∙ sym (way-rest g.tab g.bytes d from to a b fits.3) ∙ same in

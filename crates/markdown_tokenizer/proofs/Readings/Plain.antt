@@ -56,7 +56,8 @@ module _ {R D : Type 0} where
   settled-plain Attempt saved answer k h = h
 
 -- such a machine is lawful if its states keep the laws of calls
-pub plain-lawful : {R D : Type 0} (g : Given) (rules : Rules R D) → KeepsPlain rules.step → ConsumesOnce g rules → OnlyAdds g rules → EndsWhenRead g rules → KeepsInvariant g rules → CostPays g rules → IsLawful g (plain rules)
+pub plain-lawful : {R D : Type 0} (g : Given) (rules : Rules R D) → KeepsPlain rules.step → ConsumesOnce g rules → OnlyAdds g rules → EndsWhenRead g rules → KeepsInvariant g rules
+    → CostPays g rules → IsLawful g (plain rules)
 plain-lawful {R = R} {D = D} g rules keeps consumes adds ends kept pays = record {
   consumes_once = λ text k choices name is h. consumes text k choices name is h.1;
   only_adds = record {

@@ -17,11 +17,13 @@ space-in-tab t bytes p seat some place n h e =
 
 pub returns-then-is_pair : goal.returns-then-is_pair
 returns-then-is_pair c = λ seat n.
-    end-of-line c.args.t.now c.args.bytes.now c.requires.some c.args.point.now seat c.requires.place n true (same-byte c.requires.next seat n ∙ c.if-byte-eq10.true) (sym c.is_pair.ensures ∙ c.if-is_pair.true)
+    end-of-line c.args.t.now c.args.bytes.now c.requires.some c.args.point.now seat c.requires.place n true (same-byte c.requires.next seat n ∙ c.if-byte-eq10.true)
+    (sym c.is_pair.ensures ∙ c.if-is_pair.true)
 
 pub returns-else-is_pair : goal.returns-else-is_pair
 returns-else-is_pair c = λ seat n.
-    end-of-line c.args.t.now c.args.bytes.now c.requires.some c.args.point.now seat c.requires.place n false (same-byte c.requires.next seat n ∙ c.if-byte-eq10.true) (sym c.is_pair.ensures ∙ c.if-is_pair.false)
+    end-of-line c.args.t.now c.args.bytes.now c.requires.some c.args.point.now seat c.requires.place n false (same-byte c.requires.next seat n ∙ c.if-byte-eq10.true)
+    (sym c.is_pair.ensures ∙ c.if-is_pair.false)
 
 pub returns-then-goes_on : goal.returns-then-goes_on
 returns-then-goes_on c = λ seat n.

@@ -88,7 +88,8 @@ loop-byte-preserved c =
 pub returns : goal.returns
 returns c =
     let tab = c.args.tab_size in let bytes = c.args.bytes.now in
-    let all = ap (λ (xs : List Seat). c.loop-byte.cuts.items ++ cuts_of c.args.n c.loop-byte.number xs) (sym (c.in_default.ensures c.get-t.result c.get-t.ensures.least)) ∙ c.loop-byte.invariant.made in
+    let all = ap (λ (xs : List Seat). c.loop-byte.cuts.items ++ cuts_of c.args.n c.loop-byte.number xs) (sym (c.in_default.ensures c.get-t.result c.get-t.ensures.least))
+    ∙ c.loop-byte.invariant.made in
     let places = sym (append-nil c.loop-byte.cuts.items) ∙ all ∙ ap (λ (t : ℕ). cuts_every t bytes c.args.n) c.get-t.ensures.columns in
     let some : 0 < tab = omega (arith, c.get-t.ensures.columns, c.get-t.ensures.least) in
     record { places = places; cuts = subst (AreCuts tab bytes) (sym places) (cuts_every-are-cuts tab some bytes c.args.n) }

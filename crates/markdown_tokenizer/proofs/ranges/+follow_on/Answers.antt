@@ -20,29 +20,35 @@ returns-then-not-denote_same t c =
     let bytes = c.args.bytes.now in let tab = c.args.tab_size in let range = c.in-Some.range.now in
     let p = after_any tab bytes c.args.end range.0 in
     let not_same = sym c.denote_same.ensures ∙ c.if-not-denote_same.true in
-    rw c.in-Some.ensures.cases.0 ((λ h. absurd (false≢true h)), λ h. sym not_same ∙ begins-there tab bytes p range.1 range.2 _ _ (sym c.point_at.ensures ∙ c.in-Some-point_at.is) (sym c.point_at-2.ensures ∙ c.in-Some-point_at-2.is) h.1 c.in-Some-start_after.start c.in-Some-start_after.ensures.start)
+    rw c.in-Some.ensures.cases.0 (
+      (λ h. absurd (false≢true h)),
+      λ h. sym not_same ∙ begins-there tab bytes p range.1 range.2 _ _ (sym c.point_at.ensures ∙ c.in-Some-point_at.is)
+          (sym c.point_at-2.ensures ∙ c.in-Some-point_at-2.is) h.1 c.in-Some-start_after.start c.in-Some-start_after.ensures.start,
+    )
 
 pub returns-then-not-is_up_to : goal.returns-then-not-is_up_to
 returns-then-not-is_up_to t c =
     let bytes = c.args.bytes.now in let tab = c.args.tab_size in let range = c.in-Some.range.now in
     let p = after_any tab bytes c.args.end range.0 in
     let not_upto = sym c.is_up_to.ensures ∙ c.if-not-is_up_to.true in
-    rw c.in-Some.ensures.cases.0 ((λ h. absurd (false≢true h)), λ h. sym not_upto ∙ runs-on tab bytes p range.1 range.2 _ _ (sym c.point_at.ensures ∙ c.in-Some-point_at.is) (sym c.point_at-2.ensures ∙ c.in-Some-point_at-2.is) h.1)
+    rw c.in-Some.ensures.cases.0 (
+      (λ h. absurd (false≢true h)),
+      λ h. sym not_upto ∙ runs-on tab bytes p range.1 range.2 _ _ (sym c.point_at.ensures ∙ c.in-Some-point_at.is)
+          (sym c.point_at-2.ensures ∙ c.in-Some-point_at-2.is) h.1,
+    )
 
 pub returns : goal.returns
 returns t c =
     let bytes = c.args.bytes.now in let tab = c.args.tab_size in let range = c.in-Some.range.now in
     let p = after_any tab bytes c.args.end range.0 in
     let start = c.in-Some-start_after.start in let from = c.in-Some-point_at.from in let to = c.in-Some-point_at-2.to in
-    let from_is = sym c.point_at.ensures ∙ c.in-Some-point_at.is in
     let to_is = sym c.point_at-2.ensures ∙ c.in-Some-point_at-2.is in
-    let same = sym c.denote_same.ensures ∙ c.if-not-denote_same.false in
     let is_range : IsRangeFrom tab bytes p range.1 range.2 = record {
       first = from;
       last = to;
-      from_is = from_is;
+      from_is = sym c.point_at.ensures ∙ c.in-Some-point_at.is;
       to_is = to_is;
-      begins = same-same tab bytes from start p same c.in-Some-start_after.ensures.start;
+      begins = same-same tab bytes from start p (sym c.denote_same.ensures ∙ c.if-not-denote_same.false) c.in-Some-start_after.ensures.start;
       upto = sym c.is_up_to.ensures ∙ c.if-not-is_up_to.false;
     } in
     rw c.in-Some.ensures.cases.0 (

@@ -1,4 +1,4 @@
-use Rattle.markdown_tokenizer.proofs.Prelude.{◌≡◌, ◌≢◌, ℕ, zero, suc, ◌<◌, ◌≤◌, ◌==◌, ltb, true, false, List, [], ◌∷◌, length, get_or, Option, refl, sym, ap, ◌∙◌, arith, rules, inl, inr, cases_lt, IsNonDecreasingBy, IsPartitionPoint, None, Some, ltb-true, ltb-false, IsPartitionPoint-from_clause, IsPartitionedBy-ltb, unwrap_or, Point, skip_of, AreSorted}
+use Rattle.markdown_tokenizer.proofs.Prelude.{◌≡◌, ◌≢◌, ℕ, zero, suc, ◌<◌, ◌≤◌, ◌==◌, ltb, true, false, List, ◌∷◌, length, get_or, Option, refl, sym, ap, ◌∙◌, arith, rules, inl, inr, cases_lt, IsNonDecreasingBy, IsPartitionPoint, None, Some, ltb-true, ltb-false, IsPartitionPoint-from_clause, IsPartitionedBy-ltb, unwrap_or, Point, skip_of, AreSorted}
 use Rattle.std.proofs.lemmas.List.Elements.{All-from_recursion}
 use Rattle.std.proofs.lemmas.List.Recursion.{found_at, found_nowhere}
 use Rattle.std.proofs.lemmas.Bool.{eq-eqb, ne_eqb}
@@ -45,7 +45,8 @@ returns-then-skip-line c =
     let inside : i < length xs = rw c.deref-2.ensures.value at c.in-Some.ensures.lookup.3.0 in
     let told : c.in-Some.skip.now ≡ get_or xs i c.in-Some.skip.now = rw c.deref-2.ensures.value at (c.in-Some.ensures.lookup.3.1 c.in-Some.skip.now) in
     sym (ap (λ ys. unwrap_or (skip_of ys line) c.args.place.now) (sym c.self.view_is)
-    ∙ ap (λ (o : Option Point). unwrap_or o c.args.place.now) (here xs line i c.self.invariant (rw c.deref.ensures.value at p) c.in-Some.skip.now inside (ap (λ (q : Point). q.line) (sym told) ∙ c.if-skip-line.true))
+    ∙ ap (λ (o : Option Point). unwrap_or o c.args.place.now) (here xs line i c.self.invariant (rw c.deref.ensures.value at p) c.in-Some.skip.now inside
+    (ap (λ (q : Point). q.line) (sym told) ∙ c.if-skip-line.true))
     ∙ sym told)
 
 pub returns-else-skip-line : goal.returns-else-skip-line
@@ -56,4 +57,5 @@ returns-else-skip-line c =
     let p = IsPartitionPoint-from_clause (λ (p : Point). ltb p.line line) c.deref.result.now i c.partition_point-at.ensures.partitioned (IsPartitionedBy-ltb (λ (p : Point). p.line) c.deref.result.now line (rw c.deref.ensures.value (IsNonDecreasingBy-lines xs c.self.invariant))) (λ a r q k. search rules) in
     let told : c.in-Some.skip.now ≡ get_or xs i c.in-Some.skip.now = rw c.deref-2.ensures.value at (c.in-Some.ensures.lookup.3.1 c.in-Some.skip.now) in
     sym (ap (λ ys. unwrap_or (skip_of ys line) c.args.place.now) (sym c.self.view_is)
-    ∙ ap (λ (o : Option Point). unwrap_or o c.args.place.now) (nowhere xs line i c.self.invariant (rw c.deref.ensures.value at p) c.in-Some.skip.now (λ inside e. c.if-skip-line.false (ap (λ (q : Point). q.line) told ∙ e))))
+    ∙ ap (λ (o : Option Point). unwrap_or o c.args.place.now) (nowhere xs line i c.self.invariant (rw c.deref.ensures.value at p) c.in-Some.skip.now
+    (λ inside e. c.if-skip-line.false (ap (λ (q : Point). q.line) told ∙ e))))
