@@ -1,5 +1,5 @@
 -- A run that takes its cuts by index: what each push and the flush require, and what a push leaves.
-use Rattle.markdown_tokenizer.proofs.Prelude.{◌≡◌, ◌+◌, ◌<◌, ℕ, List, length, get_or, drop, Contains, Name, State, Next, point, ParseState, Given, IsDocument, empty_text, TokenizerValue, start_seen, Rules, IsLawful, CanPush, HoldsOf, IsPushed, AreCuts, given_of}
+use Rattle.markdown_tokenizer.proofs.Prelude.{◌≡◌, ◌+◌, ◌<◌, ℕ, List, [], length, get_or, drop, Contains, Name, State, Next, point, ParseState, Given, IsDocument, empty_text, TokenizerValue, start_seen, Rules, IsLawful, CanPush, HoldsOf, IsPushed, AreCuts, given_of}
 use Rattle.markdown_tokenizer.proofs.Runs.Whole.{RunsBy, run-start, run-at, run-last, run-range, run-holds, run-pushed}
 
 -- The run has come to the cut of this index. The range up to that cut can be pushed, and so can the range up to the document's end.
@@ -32,7 +32,10 @@ module _ {M R D : Type 0} {rules : M → Given → Rules R D} {p : ParseState M}
     at-next more pushes =
         at-cut (n + 1) (get_or cuts n (0, 0)) u answer (run-pushed rules _ _ _ _ _ _ _ _ _ (run-at rules _ _ _ _ _ cuts n (0, 0) _ _ more at.run) u answer pushes)
 
-    -- a flush can follow the push up to the document's end
+    -- after the push up to the document's end no cut is to come
+    pub at-last : IsPushed (rules t.machine t.given) t from (length p.bytes.now, 0) state u answer → RunsBy rules p.bytes.now p.options.now p.machine.now start (length p.bytes.now, 0) [] u answer
+    at-last pushes = run-pushed rules _ _ _ _ _ _ _ _ _ (run-last rules _ _ _ _ _ _ _ _ at.run) u answer pushes
+
+    -- a flush can follow it
     pub at-end : IsPushed (rules t.machine t.given) t from (length p.bytes.now, 0) state u answer → HoldsOf (rules u.machine u.given) u answer
-    at-end pushes =
-        run-holds rules _ _ _ _ _ _ _ _ (run-pushed rules _ _ _ _ _ _ _ _ _ (run-last rules _ _ _ _ _ _ _ _ at.run) u answer pushes)
+    at-end pushes = run-holds rules _ _ _ _ _ _ _ _ (at-last pushes)

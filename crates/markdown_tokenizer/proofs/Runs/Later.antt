@@ -13,25 +13,15 @@ front-front (z ∷ l) (y ∷ m) (x ∷ s) h k =
     ap (λ w. w ∷ take (length s) l) first ∙ ap (λ r. x ∷ r) (front-front l m s above below)
 
 -- a front, by the events without their link ends
-bare-front : (longer shorter : List Event) → HasFrontUpToLinkEnds longer shorter → take (length (map unlinked shorter)) (map unlinked longer) ≡ map unlinked shorter
-bare-front longer shorter h = ap (λ n. take n (map unlinked longer)) (length-map shorter unlinked) ∙ take-map unlinked (length shorter) longer ∙ h
-
-front-bare : (longer shorter : List Event) → take (length (map unlinked shorter)) (map unlinked longer) ≡ map unlinked shorter → HasFrontUpToLinkEnds longer shorter
-front-bare longer shorter h = sym (take-map unlinked (length shorter) longer) ∙ ap (λ n. take n (map unlinked longer)) (sym (length-map shorter unlinked)) ∙ h
-
-front-kept : (l m s : List Event) → HasFrontUpToLinkEnds l m → HasFrontUpToLinkEnds m s → HasFrontUpToLinkEnds l s
-front-kept l m s h k = front-bare l s (front-front (map unlinked l) (map unlinked m) (map unlinked s) (bare-front l m h) (bare-front m s k))
-
-front-self : (l : List Event) → HasFrontUpToLinkEnds l l
-front-self l = ap (map unlinked) (take-length l)
-
--- events that are the same up to the ends of links have the same fronts
-front-of-same : (l m s : List Event) → map unlinked l ≡ map unlinked m → HasFrontUpToLinkEnds m s → HasFrontUpToLinkEnds l s
-front-of-same l m s e h = front-bare l s (ap (take (length (map unlinked s))) e ∙ bare-front m s h)
+bare-front : (longer shorter : List Event) → take (length (map unlinked shorter)) (map unlinked longer) ≡ map unlinked (take (length shorter) longer)
+bare-front longer shorter = ap (λ n. take n (map unlinked longer)) (length-map shorter unlinked) ∙ take-map unlinked (length shorter) longer
 
 module _ {R D : Type 0} where
   pub later-kept : {made now : Configuration R D} → Later made now → HasFrontUpToLinkEnds now.events made.events
-  later-kept (here {made = made}) = front-self made.events
-  later-kept (added {made = made} {k = k} {now = now} since more) = front-kept now.events k.events made.events more (later-kept since)
+  later-kept (here {made = made}) = ap (map unlinked) (take-length made.events)
+  later-kept (added {made = made} {k = k} {now = now} since more) =
+      sym (bare-front now.events made.events) ∙ front-front (map unlinked now.events) (map unlinked k.events) (map unlinked made.events)
+      (bare-front now.events k.events ∙ more) (bare-front k.events made.events ∙ later-kept since)
   later-kept (went_back {made = made} {chosen = chosen} {k = k} since choice) =
-      front-of-same (take (length chosen.events) k.events) chosen.events made.events (later-kept choice) (later-kept since)
+      sym (bare-front (take (length chosen.events) k.events) made.events) ∙ ap (take (length (map unlinked made.events))) (later-kept choice)
+      ∙ bare-front chosen.events made.events ∙ later-kept since

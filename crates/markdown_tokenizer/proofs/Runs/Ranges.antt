@@ -1,23 +1,15 @@
 -- An open tokenizer, from its start over ranges and gaps: what a caller must prove at each call, and what holds after it. `StandsAt` is for
 -- a caller that finds its ranges as it goes, `HasRanges` for one that has them in a list.
-use Rattle.markdown_tokenizer.proofs.Prelude.{◌≡◌, ◌+◌, ◌<◌, ◌⊎◌, inl, inr, ℕ, length, List, [], ◌∷◌, Option, Some, None, Bool, true, false, cond, drop, get_or, refl, sym, ap, ◌∙◌, subst, Contains, drop_more, ParseOptions, Point, Name, State, Next, point, point_at, denotes_same, stands_before, Given, Text, Piece, FitsAfter, CanFollow, IsDocument, passed, empty_text, followed_by, followed_by_all, TokenizerValue, start_seen, start_configuration, AfterGap, IsGapFrom, IsRangeFrom, FollowOn, after_gap, Rules, KeepsInvariant, CanPush, HoldsOf, IsPushed, given_by, extended}
+use Rattle.markdown_tokenizer.proofs.Prelude.{◌≡◌, ◌+◌, ◌<◌, ◌⊎◌, inl, inr, ℕ, length, List, [], ◌∷◌, Option, Some, None, true, false, cond, drop, get_or, refl, sym, ap, ◌∙◌, subst, Contains, drop_more, ParseOptions, Point, Name, State, Next, point, denotes_same, stands_before, Given, Text, Piece, FitsAfter, CanFollow, IsDocument, passed, empty_text, followed_by, followed_by_all, TokenizerValue, start_seen, start_configuration, AfterGap, IsGapFrom, IsRangeFrom, FollowOn, after_gap, Rules, KeepsInvariant, CanPush, HoldsOf, IsPushed, given_by, extended}
 use Rattle.markdown_tokenizer.proofs.Runs.Whole.{start-is-text, found-place}
 use Rattle.markdown_tokenizer.proofs.Runs.Working.{holds-on}
 
-end-by : (b : Bool) (text : Text) (w : Point) → (cond b text (record { start = text.start; seats = text.seats; end = w })).end ≡ cond b text.end w
-end-by true text w = refl
-end-by false text w = refl
-
 module _ {M R D : Type 0} (rules : M → Given → Rules R D) where
-  -- the invariant holds of a tokenizer and its state, whatever follows its text
-  abbrev Held : M → Given → TokenizerValue M R D → State → Type 0
-  Held m given t state = (rest : List Piece) → CanFollow given t.text rest → (rules m given).holds (followed_by_all given t.text rest) t.configuration t.choices state
-
-  -- an open tokenizer of this document, whose text ends at this place
+  -- an open tokenizer of this document, whose text ends at this place; the invariant holds, whatever follows its text
   pub record StandsAt (bytes : List ℕ) (options : ParseOptions) (place : Point) (t : TokenizerValue M R D) (state : State) : Type 0 where
     pub given : t.given ≡ given_by bytes options
     pub end : t.text.end ≡ place
-    pub held : Held t.machine t.given t state
+    pub held : (rest : List Piece) → CanFollow t.given t.text rest → (rules t.machine t.given).holds (followed_by_all t.given t.text rest) t.configuration t.choices state
 
   -- a new tokenizer is at the document's start
   pub stands-start : (bytes : List ℕ) (options : ParseOptions) (m : M) → IsDocument (given_by bytes options) → KeepsInvariant (given_by bytes options) (rules m (given_by bytes options))
@@ -46,11 +38,10 @@ module _ {M R D : Type 0} (rules : M → Given → Rules R D) where
     -- after `define_skip` the tokenizer is where the gap ends
     pub stands-passed : (w : Point) → IsGapFrom options.tab_size bytes p w → (u : TokenizerValue M R D) → u ≡ extended t (followed_by t.given t.text (passed w)) → StandsAt bytes options (after_gap options.tab_size bytes p w) u state
     stands-passed w gap u e =
-        let fits = stands-gap w gap in
-        let end = end-by (denotes_same t.given.tab t.given.bytes w t.text.end) t.text w
-        ∙ ap (λ (x : Given). cond (denotes_same x.tab x.bytes w t.text.end) t.text.end w) s.given
-        ∙ ap (λ (x : Point). cond (denotes_same options.tab_size bytes w x) x w) s.end in
-        rw e (record { given = s.given; end = end; held = λ rest can. s.held (passed w ∷ rest) (fits, can) })
+        let given = s.given in let at = s.end in
+        let end : (followed_by t.given t.text (passed w)).end ≡ after_gap options.tab_size bytes p w = rw (given, at)
+        (elim (denotes_same options.tab_size bytes w p) as (λ b. (cond b (record t.text { end = p }) (record t.text { end = w })).end ≡ cond b p w) [ true ↦ refl | false ↦ refl ]) in
+        rw e (record { given = s.given; end = end; held = λ rest can. s.held (passed w ∷ rest) (stands-gap w gap, can) })
 
     module _ (from to : ℕ × ℕ) (r : IsRangeFrom options.tab_size bytes p from to) where
       -- a range that begins at the place fits: what `push` requires of it
@@ -62,13 +53,11 @@ module _ {M R D : Type 0} (rules : M → Given → Rules R D) where
       -- after `push` the tokenizer is at the range's end
       pub stands-pushed : (u : TokenizerValue M R D) (answer : State) → IsPushed (rules t.machine t.given) t from to state u answer → StandsAt bytes options r.last u answer
       stands-pushed u answer h =
-          let first_here = subst (λ (x : Given). point_at x.tab x.bytes from ≡ Some r.first) (sym s.given) r.from_is in
-          let last_here = subst (λ (x : Given). point_at x.tab x.bytes to ≡ Some r.last) (sym s.given) r.to_is in
-          let by_given = subst (λ (x : Given). Held t.machine x u answer) (sym h.given) (λ rest can. (h.outcome rest can).kept) in
+          let given = s.given in let machine_here = h.machine in let given_here = h.given in
           record {
             given = h.given ∙ s.given;
-            end = ap (λ (x : Text). x.end) (h.text r.first r.last first_here last_here);
-            held = subst (λ (x : M). Held x u.given u answer) (sym h.machine) by_given;
+            end = ap (λ (x : Text). x.end) (h.text r.first r.last (rw given r.from_is) (rw given r.to_is));
+            held = rw (machine_here, given_here) (λ rest can. (h.outcome rest can).kept);
           }
 
   -- an open tokenizer of this document, with these ranges to come
@@ -100,29 +89,24 @@ module _ {M R D : Type 0} (rules : M → Given → Rules R D) where
   pub ranges-holds : (bytes : List ℕ) (options : ParseOptions) (ranges : List AfterGap) (t : TokenizerValue M R D) (state : State) → HasRanges bytes options ranges t state → HoldsOf (rules t.machine t.given) t state
   ranges-holds bytes options ranges t state r = stands-holds bytes options r.place t state r.stands
 
-  -- the gap in front of the next range, by what it is equal to
-  with-gap : (bytes : List ℕ) (options : ParseOptions) (x : AfterGap) (gap : Option Point) (ranges : List AfterGap) (t : TokenizerValue M R D) (state : State) → x.0 ≡ gap
-      → HasRanges bytes options (x ∷ ranges) t state → HasRanges bytes options ((gap, x.1, x.2) ∷ ranges) t state
-  with-gap bytes options (o, from, to) gap ranges t state e r = subst (λ (q : Option Point). HasRanges bytes options ((q, from, to) ∷ ranges) t state) e r
-
   -- the gap before the next range fits: what `define_skip` requires
   pub ranges-gap : (bytes : List ℕ) (options : ParseOptions) (x : AfterGap) (w : Point) (ranges : List AfterGap) (t : TokenizerValue M R D) (state : State) → x.0 ≡ Some w
       → HasRanges bytes options (x ∷ ranges) t state → FitsAfter t.given t.text (passed w)
-  ranges-gap bytes options x w ranges t state is r = let q = with-gap bytes options x (Some w) ranges t state is r in stands-gap bytes options q.place t state q.stands w q.follow.0
-
-  over-gap : (bytes : List ℕ) (options : ParseOptions) (w : Point) (from to : ℕ × ℕ) (ranges : List AfterGap) (t u : TokenizerValue M R D) (state : State) → HasRanges bytes options ((Some w, from, to) ∷ ranges) t state
-      → u ≡ extended t (followed_by t.given t.text (passed w)) → HasRanges bytes options ((None, from, to) ∷ ranges) u state
-  over-gap bytes options w from to ranges t u state r e = record {
-    place = after_gap options.tab_size bytes r.place w;
-    stands = stands-passed bytes options r.place t state r.stands w r.follow.0 u e;
-    follow = (tt, r.follow.1, r.follow.2);
-  }
+  ranges-gap bytes options x w ranges t state is r =
+      let q = subst (λ (o : Option Point). HasRanges bytes options ((o, x.1, x.2) ∷ ranges) t state) is r in
+      stands-gap bytes options q.place t state q.stands w q.follow.0
 
   -- after `define_skip`, or with no gap to pass, the next range has none before it
   pub ranges-passed : (bytes : List ℕ) (options : ParseOptions) (x : AfterGap) (ranges : List AfterGap) (t u : TokenizerValue M R D) (state : State) → HasRanges bytes options (x ∷ ranges) t state
       → ((w : Point) × (x.0 ≡ Some w) × (u ≡ extended t (followed_by t.given t.text (passed w)))) ⊎ ((x.0 ≡ None) × (u ≡ t)) → HasRanges bytes options ((None, x.1, x.2) ∷ ranges) u state
-  ranges-passed bytes options x ranges t u state r (inl (w, is, e)) = over-gap bytes options w x.1 x.2 ranges t u state (with-gap bytes options x (Some w) ranges t state is r) e
-  ranges-passed bytes options x ranges t u state r (inr (is, e)) = rw e (with-gap bytes options x None ranges t state is r)
+  ranges-passed bytes options x ranges t u state r (inl (w, is, e)) =
+      let q = subst (λ (o : Option Point). HasRanges bytes options ((o, x.1, x.2) ∷ ranges) t state) is r in
+      record {
+        place = after_gap options.tab_size bytes q.place w;
+        stands = stands-passed bytes options q.place t state q.stands w q.follow.0 u e;
+        follow = (tt, q.follow.1, q.follow.2);
+      }
+  ranges-passed bytes options x ranges t u state r (inr (is, e)) = rw e (subst (λ (o : Option Point). HasRanges bytes options ((o, x.1, x.2) ∷ ranges) t state) is r)
 
   module _ (bytes : List ℕ) (options : ParseOptions) (from to : ℕ × ℕ) (ranges : List AfterGap) (t : TokenizerValue M R D) (state : State) (r : HasRanges bytes options ((None, from, to) ∷ ranges) t state) where
     -- the next range fits: what `push` requires of it

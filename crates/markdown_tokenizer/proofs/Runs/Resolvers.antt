@@ -1,5 +1,5 @@
 -- Resolvers go over the events.
-use Rattle.markdown_tokenizer.proofs.Prelude.{◌≡◌, ℕ, ◌+◌, ◌<◌, List, [], ◌∷◌, ◌++◌, Bool, true, false, Option, Some, length, refl, sym, ap, ◌∙◌, subst, drop, get_or, reverse, Vec, IsEquivalence, AllByRecursion, list_any, or_parts, IsDistinct-cons, IsDistinct-push, Event, Message, none-mapped, Subresult, Inside, Phase, Reading, Resolving, Given, Text, IsText, Configuration, TokenizerValue, at_configuration, Sight, sight, sight_of, Rules, with_resolvers, Resolved, resolving, taken, found, refused, with_more, edits_made, resolved_by, CanBeEdited, IsInShape, ResolversKeep, resolved_in, GoneOver, KeptChoice, Progress, Edit, tab_of, seen, text_within, choice_of, position_from, AreNested, IsProgress, IsSound, drop_all, ◌≤◌, drop_more}
+use Rattle.markdown_tokenizer.proofs.Prelude.{◌≡◌, ℕ, ◌+◌, ◌<◌, List, [], ◌∷◌, Bool, true, false, Option, length, refl, sym, ap, ◌∙◌, subst, drop, get_or, reverse, Vec, IsEquivalence, AllByRecursion, list_any, or_parts, Event, Message, none-mapped, Subresult, Inside, Phase, Reading, Resolving, Given, Text, IsText, Configuration, TokenizerValue, at_configuration, Sight, sight_of, Rules, with_resolvers, Resolved, resolving, taken, found, refused, with_more, resolved_by, ResolversKeep, resolved_in, Edit, tab_of, seen, text_within, choice_of, position_from, IsProgress, IsSound, drop_all, ◌≤◌, drop_more}
 use Rattle.std.specs.List.{IsDistinct}
 use Rattle.markdown_tokenizer.specs.Resolving.{done}
 use Rattle.markdown_tokenizer.proofs.Inside.Fields.{placed-there, nested-map}
@@ -11,20 +11,13 @@ none-twice same = tt
 
 module _ {R : Type 0} (same : R → R → Bool) (laws : IsEquivalence same) where
   -- a resolver that equals none of a list is not in it
-  turned : (r : R) (rs : List R) → list_any (λ q. same q r) rs ≡ list_any (same r) rs
+  pub turned : (r : R) (rs : List R) → list_any (λ q. same q r) rs ≡ list_any (same r) rs
   turned r [] = refl
   turned r (q ∷ rs) = let e = laws.symm q r in let f = turned r rs in rw (e, f) refl
 
-  none-equal : (r : R) (rs : List R) → list_any (same r) rs ≡ false → AllByRecursion (λ q. same r q ≡ false) rs
+  pub none-equal : (r : R) (rs : List R) → list_any (same r) rs ≡ false → AllByRecursion (λ q. same r q ≡ false) rs
   none-equal r [] h = tt
   none-equal r (q ∷ rs) h = let parts = or_parts (same r q) (list_any (same r) rs) h in (parts.0, none-equal r rs parts.1)
-
-  -- one more resolver, which none of them is
-  pub once-behind : (r : R) (rs : List R) → IsDistinct same rs → list_any (λ q. same q r) rs ≡ false → IsDistinct same (rs ++ r ∷ [])
-  once-behind r rs h absent = IsDistinct-push laws rs r h (sym (turned r rs) ∙ absent)
-
-  pub once-before : (r : R) (rs : List R) → IsDistinct same rs → list_any (λ q. same q r) rs ≡ false → IsDistinct same (r ∷ rs)
-  once-before r rs h absent = IsDistinct-cons same r rs (none-equal r rs (sym (turned r rs) ∙ absent)) h
 
 -- another phase than reading begins
 pub phase-sound : {M R D : Type 0} {same : R → R → Bool} (t : Inside M R D) → IsSound same t → (phase : Phase) (resolvers : Vec R) → IsDistinct same resolvers.items → (phase ≡ Reading → ⊥) → t.closed ≡ true
@@ -39,18 +32,14 @@ phase-sound t sound phase resolvers once other closed =
       known = sound.known;
     }
 
-nested-none : (P : Progress → Type 0) (events stack : ℕ) (kept_choices : List KeptChoice) → kept_choices ≡ [] → AreNested P events stack kept_choices
-nested-none P events stack kept_choices e = rw e tt
-
 -- while resolvers go over the events, and no choice waits, the events and the edits may be any
 pub events-sound : {M R D : Type 0} {same : R → R → Bool} (t : Inside M R D) → IsSound same t → t.phase ≡ Resolving → (seen t).choices ≡ [] → (edits : List Edit) (events : Vec Event)
     → IsSound same (record t { map = edits; events = events })
 events-sound t sound resolves alone edits events =
-    let bytes = t.parse_state.now.bytes.now in record {
+    let none = none-mapped (choice_of (position_from (tab_of t.parse_state.now) t.parse_state.now.bytes.now t.skips t.start) t.stack.items) (reverse t.kept_choices.items) alone in record {
       placed = sound.placed;
       made = λ e. absurd (let f : Resolving ≡ Reading = sym resolves ∙ e in cc);
-      kept_choices = nested-none (IsProgress t.phase (tab_of t.parse_state.now) bytes t.skips (text_within t) events.items t.stack.items t.closed) (length events.items) (length t.stack.items) (reverse t.kept_choices.items)
-          (none-mapped (choice_of (position_from (tab_of t.parse_state.now) bytes t.skips t.start) t.stack.items) (reverse t.kept_choices.items) alone);
+      kept_choices = rw none tt;
       once = sound.once;
       known = sound.known;
     }
@@ -60,14 +49,6 @@ module _ {R D : Type 0} (resolver : Sight → Configuration R D → R → Resolv
   abbrev after : List R → Subresult → Resolved R D → Resolved R D
   after rs sub (done new more) = resolved_by resolver g text rs new (with_more sub more)
   after rs sub (refused message) = refused message
-
-  step-done : (r : R) (rs : List R) (k new : Configuration R D) (sub : Subresult) (more : Option Subresult) → resolver (sight g text k) k r ≡ done new more
-      → resolved_by resolver g text (r ∷ rs) k sub ≡ resolved_by resolver g text rs new (with_more sub more)
-  step-done r rs k new sub more e = ap (after rs sub) e
-
-  step-refused : (r : R) (rs : List R) (k : Configuration R D) (sub : Subresult) (m : Message) → resolver (sight g text k) k r ≡ refused m
-      → resolved_by resolver g text (r ∷ rs) k sub ≡ refused m
-  step-refused r rs k sub m e = ap (after rs sub) e
 
 module _ {M R D : Type 0} (rules : M → Given → Rules R D) where
   abbrev rules_of : TokenizerValue M R D → Rules R D
@@ -79,9 +60,6 @@ module _ {M R D : Type 0} (rules : M → Given → Rules R D) where
     pub holds : (rules_of start).resolves start.text after_previous now.configuration
     pub leads : resolved_in (rules_of start) start names start.configuration sub ≡ resolved_in (rules_of start) start after_previous now.configuration found
 
-  pub resolves-first : (start : TokenizerValue M R D) (names : List R) (sub : Subresult) → (rules_of start).resolves start.text names start.configuration → ResolvesOn start names names sub start sub
-  resolves-first start names sub h = record { same = refl; holds = h; leads = refl }
-
   module _ {start : TokenizerValue M R D} {names : List R} {sub : Subresult} {now : TokenizerValue M R D} {found : Subresult} where
     -- the first of those that are left
     pub resolves-one : (n : ℕ) (x : R) → n < length names → x ≡ get_or names n x → ResolvesOn start names (drop n names) sub now found → ResolvesOn start names (x ∷ drop (n + 1) names) sub now found
@@ -92,47 +70,23 @@ module _ {M R D : Type 0} (rules : M → Given → Rules R D) where
     resolves-last n h r = subst (λ (rest : List R). ResolvesOn start names rest sub now found) (drop_all n names h) r
 
     module _ {x : R} {rest : List R} (r : ResolvesOn start names (x ∷ rest) sub now found) where
-      pub resolves-holds : (rules_of now).resolves now.text (x ∷ rest) now.configuration
-      resolves-holds = subst (λ (s : TokenizerValue M R D). (rules_of s).resolves s.text (x ∷ rest) now.configuration) (sym r.same) r.holds
-
-      gives-here : (a : Resolved R D) → (rules_of now).resolver (sight_of now) now.configuration x ≡ a
-          → (rules_of start).resolver (sight start.given start.text now.configuration) now.configuration x ≡ a
-      gives-here a e = subst (λ (s : TokenizerValue M R D). (rules_of s).resolver (sight s.given s.text now.configuration) now.configuration x ≡ a) r.same e
-
       pub resolves-next : IsText start.given start.text → ResolversKeep start.given (rules_of start) → (new : TokenizerValue M R D) (all : Subresult) → new ≡ at_configuration now new.configuration → (more : Option Subresult)
           → (rules_of now).resolver (sight_of now) now.configuration x ≡ done new.configuration more → all ≡ with_more found more
           → ResolvesOn start names rest sub new all
       resolves-next is law new all same more e w =
-          let e' = gives-here (done new.configuration more) e in record {
+          let now_is = r.same in let e' = rw now_is at e in record {
             same = same ∙ ap (λ (s : TokenizerValue M R D). at_configuration s new.configuration) r.same;
             holds = (law.by_resolvers start.text x rest now.configuration new.configuration more is r.holds e').0;
-            leads = r.leads ∙ step-done (rules_of start).resolver start.given start.text x rest now.configuration new.configuration found more e'
+            leads = r.leads ∙ ap (after (rules_of start).resolver start.given start.text rest found) e'
                 ∙ ap (λ (s : Subresult). resolved_in (rules_of start) start rest new.configuration s) (sym w);
           }
 
       pub resolves-refused : (m : Message) → (rules_of now).resolver (sight_of now) now.configuration x ≡ refused m → resolved_in (rules_of start) start names start.configuration sub ≡ refused m
-      resolves-refused m e = r.leads ∙ step-refused (rules_of start).resolver start.given start.text x rest now.configuration found m (gives-here (refused m) e)
-
-    module _ (is : IsText start.given start.text) (law : ResolversKeep start.given (rules_of start)) (r : ResolvesOn start names [] sub now found) where
-      pub resolves-can : CanBeEdited now.configuration
-      resolves-can = (law.at_last start.text now.configuration is r.holds).0
-
-      pub resolves-done : (new : TokenizerValue M R D) → new ≡ at_configuration now (edits_made now.configuration) → GoneOver (rules_of start) start names start.configuration sub new found
-      resolves-done new e =
-          let k = ap (λ (s : TokenizerValue M R D). s.configuration) e in record {
-            is = r.leads ∙ ap (λ (c : Configuration R D). done c (Some found)) (sym k);
-            in_shape = subst (λ (c : Configuration R D). IsInShape c.events) (sym k) (law.at_last start.text now.configuration is r.holds).1;
-          }
+      resolves-refused m e = let now_is = r.same in r.leads ∙ ap (after (rules_of start).resolver start.given start.text rest found) (rw now_is at e)
 
   -- what resolvers make of what the work left, once the definitions were taken out
   pub resolving-is : (old u w : TokenizerValue M R D) (sub : Subresult) (a : Resolved R D) → u.given ≡ old.given → u.machine ≡ old.machine → u.text ≡ old.text
       → w ≡ at_configuration u (taken u.configuration) → sub ≡ found u.configuration
       → resolved_in (rules_of w) w w.configuration.local.resolvers (with_resolvers w.configuration []) sub ≡ a
       → resolving (rules_of old).resolver old.given old.text u.configuration ≡ a
-  resolving-is old u w sub a given machine text rest answer h =
-      let k = u.configuration in
-      let P : M → Given → Text → Subresult → Type 0 = λ m g x s. resolved_by (rules m g).resolver g x k.local.resolvers (with_resolvers (taken k) []) s ≡ a in
-      let one : P u.machine u.given u.text sub = subst (λ (s : TokenizerValue M R D). resolved_in (rules_of s) s s.configuration.local.resolvers (with_resolvers s.configuration []) sub ≡ a) rest h in
-      let two : P u.machine u.given u.text (found k) = subst (P u.machine u.given u.text) answer one in
-      subst (λ (x : Text). P old.machine old.given x (found k)) text
-      (subst (λ (x : Given). P old.machine x u.text (found k)) given (subst (λ (x : M). P x u.given u.text (found k)) machine two))
+  resolving-is old u w sub a given machine text rest answer h = rw (rest, answer, machine, given, text) at h

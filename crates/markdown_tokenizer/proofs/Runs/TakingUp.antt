@@ -1,75 +1,138 @@
 -- The work from the start to a turn: what holds at a call, and after it.
-use Rattle.markdown_tokenizer.proofs.Prelude.{◌≡◌, ◌≢◌, ◌-◌, ◌<◌, Bool, false, refl, sym, ap, subst, ◌∙◌, arith, Name, State, Retry, End, Given, IsText, followed_by_all, TokenizerValue, sight, Rules, DidStep, IsLawful, budget, HoldsAll, Stops, settled_all, settled_to, EndsClosed, TakesUp, IsInText}
+use Rattle.markdown_tokenizer.proofs.Prelude.{◌≡◌, ◌≢◌, ◌-◌, ◌<◌, List, [], Bool, false, inl, inr, refl, sym, ap, subst, ◌∙◌, arith, sum_by-append, Name, State, Next, Retry, Ok, Nok, Error, Nothing, Byte, End, IsSome, lt-ltb, length, Given, IsText, followed_by_all, Configuration, Choice, TokenizerValue, at_configuration, fed, Sight, sight, Rules, stepped, DidStep, IsLawful, LeadsOn, budget, HoldsAll, Stops, settled_all, settled_to, EndsClosed, TakesUp, IsInText, answer_in}
 use Rattle.std.specs.declared.result.Result.TheVariants as result
-use Rattle.markdown_tokenizer.proofs.Runs.Working.{KeptBy, leads-refl, leads-for-settled, settled-only, settled-message, settled-end, settled-ends, settled-closes, stops-there, kept-settled, kept-ended, kept-taken, kept-turn, kept-holds, kept-calls, text-worked, taken-calls, smaller}
+use Rattle.markdown_tokenizer.proofs.Readings.Bounds.{fed-ends, called-ends}
+use Rattle.markdown_tokenizer.proofs.Runs.Working.{Kept, fed-agrees, sight-agrees, leads-refl, leads-trans, leads-settled, settled-end, settled-ends, text-on, text-worked}
 
 module _ {M R D : Type 0} {rules : M → Given → Rules R D} (laws : (m : M) (given : Given) → IsLawful given (rules m given)) where
   -- what the work kept since its start
   abbrev KeptFrom : Bool → TokenizerValue M R D → State → TokenizerValue M R D → State → Type 0
-  KeptFrom flush t a u s = KeptBy rules t.machine t.given flush t a u s
+  KeptFrom flush t a u s = Kept t.given (rules t.machine t.given) flush t a u s
+
+  -- what a call of this state did
+  abbrev Called : TokenizerValue M R D → TokenizerValue M R D → Name → State → Type 0
+  Called u v n answer = DidStep u v ((rules u.machine u.given).step (sight u.given u.text u.configuration) u.configuration n) answer
 
   pub kept-first : (flush : Bool) (t : TokenizerValue M R D) (a : State) → (flush ≡ false → t.configuration.waiting ≢ End) → HoldsAll (rules t.machine t.given) flush t a → KeptFrom flush t a t a
   kept-first flush t a waits h = record {
     same = record { given = refl; machine = refl; text = refl; closed = refl; phase = refl; counted = omega arith };
     message = λ m e. (e, refl);
     waits = waits;
-    leads = λ rest can only.
-        leads-refl t.given (rules t.machine t.given) (followed_by_all t.given t.text rest) t a (h rest can only);
+    leads = λ rest can only. leads-refl t.given (rules t.machine t.given) (followed_by_all t.given t.text rest) t a (h rest can only);
   }
 
-  kept-mid : (flush : Bool) (t u : TokenizerValue M R D) (a s : State) → IsText t.given t.text → KeptFrom flush t a u s
-      → let e = settled_all u.configuration u.choices s in KeptFrom flush t a (settled_to u e) e.answer
-  kept-mid flush t u a s is k =
-      let e = settled_all u.configuration u.choices s in
-      kept-settled rules t.machine t.given flush t u (settled_to u e) a s e.answer
-      (text-worked t.given t u is k.same) (sym k.same.machine) (sym k.same.given) k (settled-only u e) (settled-end u.configuration u.choices s) (settled-message u s)
-      (leads-for-settled rules u.machine u.given (laws u.machine u.given) u s)
-
   -- a state is taken up
-  pub kept-next : {flush : Bool} {t u : TokenizerValue M R D} {a s : State} (v : TokenizerValue M R D) (n : Name) → IsText t.given t.text → KeptFrom flush t a u s
-      → (let e = settled_all u.configuration u.choices s in TakesUp flush (settled_to u e) v e.answer (result.Ok n)) → KeptFrom flush t a v (Retry n)
-  kept-next {flush} {t} {u} {a} {s} v n is k takes =
-      let e = settled_all u.configuration u.choices s in
-      let mid = settled_to u e in
-      let k1 = kept-mid flush t u a s is k in
-      kept-taken t.given (rules t.machine t.given) (laws t.machine t.given) flush t mid v a e.answer n
-      (text-worked t.given t mid is k1.same) takes k1
+  taken : (flush : Bool) (t u v : TokenizerValue M R D) (a s : State) (n : Name) → IsText t.given u.text → TakesUp flush u v s (result.Ok n) → KeptFrom flush t a u s → KeptFrom flush t a v (Retry n)
+  taken flush t u v a (Next m) n is h k = rw (h.1, h.0) (record {
+    same = record { given = k.same.given; machine = k.same.machine; text = k.same.text; closed = k.same.closed; phase = k.same.phase; counted = k.same.counted };
+    message = λ e is_error. let f : Next m ≡ Error e = (k.message e is_error).0 in absurd cc;
+    waits = λ f e. let lt = lt-ltb u.configuration.position (length u.text.seats) (h.2 f) in let e' : Byte ≡ End = rw lt at e in absurd cc;
+    leads = λ rest can only.
+        let law = laws t.machine t.given in let w = followed_by_all t.given u.text rest in
+        let first = k.leads rest can only in let on = text-on t.given u.text rest is can in
+        let pays = law.cost_pays.for_feeding w u.configuration u.choices m on first.kept in
+        leads-trans t.given (rules t.machine t.given) w t u (at_configuration u (fed u.text u.configuration)) a (Next m) (Retry m) first
+        (subst (λ (q : Configuration R D). LeadsOn t.given (rules t.machine t.given) w u (Next m) (at_configuration u q) (Retry m)) (fed-agrees t.given u.text rest flush u.configuration only h.2)
+        (record {
+          kept = law.invariant_kept.by_feeding w u.configuration u.choices m on first.kept;
+          same = λ r. fed-ends t.given (rules t.machine t.given).step w u.calls u.configuration u.choices m r;
+          paid = omega (arith, pays);
+        }));
+  })
+  taken flush t u v a (Retry m) n is h k = rw (h.1, h.0) k
+  taken flush t u v a s n is h k = absurd h
+
+  taken-calls : (flush : Bool) (u v : TokenizerValue M R D) (s : State) (n : Name) → TakesUp flush u v s (result.Ok n) → v.calls ≡ u.calls
+  taken-calls flush u v (Next m) n h = ap (λ w. w.calls) h.1
+  taken-calls flush u v (Retry m) n h = ap (λ w. w.calls) h.1
+  taken-calls flush u v s n h = absurd h
 
   -- the work ends
-  pub kept-last : {flush : Bool} {t u : TokenizerValue M R D} {a s : State} (v : TokenizerValue M R D) (answer : State) → IsText t.given t.text → KeptFrom flush t a u s
-      → (let e = settled_all u.configuration u.choices s in TakesUp flush (settled_to u e) v e.answer (result.Err answer)) → KeptFrom flush t a v answer
-  kept-last {flush} {t} {u} {a} {s} v answer is k takes =
-      let e = settled_all u.configuration u.choices s in
-      kept-ended rules t.machine t.given flush t (settled_to u e) v a e.answer answer takes (kept-mid flush t u a s is k)
-
-  -- a state is called, and returned this
-  pub kept-answer : {flush : Bool} {t u v : TokenizerValue M R D} {a s answer : State} {n : Name} → answer ≡ s → IsText t.given t.text → IsInText u
-      → DidStep u v ((rules u.machine u.given).step (sight u.given u.text u.configuration) u.configuration n) answer → KeptFrom flush t a u (Retry n) → KeptFrom flush t a v s
-  kept-answer {flush} {t} {u} {v} {a} {s} {answer} {n} e is within called k =
-      kept-turn rules t.machine t.given (laws t.machine t.given) flush t u v a s n (text-worked t.given t u is k.same) (sym k.same.machine) (sym k.same.given) within
-      (subst (λ (x : State). DidStep u v ((rules u.machine u.given).step (sight u.given u.text u.configuration) u.configuration n) x) e called) k
+  ended : (flush : Bool) (t u v : TokenizerValue M R D) (a s answer : State) → (IsSome (answer_in s) → u.choices ≡ []) → TakesUp flush u v s (result.Err answer) → KeptFrom flush t a u s
+      → KeptFrom flush t a v answer × Stops flush v answer
+  ended flush t u v a (Next n) answer none h k = rw (h.0, h.1) (k, (h.2, h.3))
+  ended flush t u v a (Retry n) answer none h k = absurd h
+  ended flush t u v a (Error n) answer none h k = rw (h.0, h.1) (k, tt)
+  ended flush t u v a s answer none h k = rw (h.0, h.1) (k, none refl)
 
   pub holds-there : {flush : Bool} {t u : TokenizerValue M R D} {a s : State} → KeptFrom flush t a u s → (rules u.machine u.given).holds u.text u.configuration u.choices s
-  holds-there {flush} {t} {u} {a} {s} k = kept-holds rules t.machine t.given flush t u a s (sym k.same.machine) (sym k.same.given) k
+  holds-there {flush} {t} {u} {a} {s} k = let machine = k.same.machine in let given = k.same.given in rw (machine, given) ((k.leads [] tt (λ _. refl)).kept)
 
-  pub closes-there : {flush : Bool} {t u : TokenizerValue M R D} {a s : State} → IsText t.given t.text → KeptFrom flush t a u s → EndsClosed (settled_all u.configuration u.choices s)
-  closes-there {flush} {t} {u} {a} {s} is k =
-      settled-closes rules u.machine u.given (laws u.machine u.given) u s
-      (subst (λ (q : Given). IsText q u.text) (sym k.same.given) (text-worked t.given t u is k.same)) (holds-there k)
+  -- a state is called, and returned this
+  pub kept-answer : {flush : Bool} {t u v : TokenizerValue M R D} {a s answer : State} {n : Name} → IsText t.given t.text → KeptFrom flush t a u (Retry n) → IsInText u
+      → Called u v n answer → answer ≡ s → KeptFrom flush t a v s
+  kept-answer {flush} {t} {u} {v} {a} {s} {answer} {n} is k sound called e =
+      let law = laws t.machine t.given in let is_here = text-worked t.given t u is k.same in
+      let st = (rules t.machine t.given).step (sight t.given u.text u.configuration) u.configuration n in
+      let did : DidStep u v st s = subst (λ (q : M). DidStep u v ((rules q t.given).step (sight t.given u.text u.configuration) u.configuration n) s) k.same.machine
+      (subst (λ (q : Given). DidStep u v ((rules u.machine q).step (sight q u.text u.configuration) u.configuration n) s) k.same.given (subst (λ (x : State). Called u v n x) e called)) in
+      let now = (k.leads [] tt (λ _. refl)).kept in rw (did.became, did.answered) (record {
+        same = record { given = k.same.given; machine = k.same.machine; text = k.same.text; closed = k.same.closed; phase = k.same.phase; counted = omega (arith, k.same.counted) };
+        message = λ m is_error. let f : Retry n ≡ Error m = (k.message m is_error).0 in absurd cc;
+        waits = λ f ends. k.waits f (elim (law.consumes_once u.text u.configuration u.choices n is_here now) [
+          | inl same ↦ sym same.0.1 ∙ ends
+          | inr consumed ↦ let g : Nothing ≡ End = sym consumed.1.1 ∙ ends in absurd cc
+        ]);
+        leads = λ rest can only.
+            let w = followed_by_all t.given u.text rest in
+            let first = k.leads rest can only in let on = text-on t.given u.text rest is_here can in
+            let pays = law.cost_pays.for_calls w u.configuration u.choices n on first.kept in
+            let there = (rules t.machine t.given).step (sight t.given w u.configuration) u.configuration n in
+            leads-trans t.given (rules t.machine t.given) w t u (stepped u st) a (Retry n) st.answer first
+            (subst (λ (q : Sight). let here = (rules t.machine t.given).step q u.configuration n in LeadsOn t.given (rules t.machine t.given) w u (Retry n) (stepped u here) here.answer)
+            (sight-agrees t.given u.text rest flush u.configuration.position u.configuration.waiting only sound.within sound.byte k.waits)
+            (record {
+              kept = law.invariant_kept.by_calls w u.configuration u.choices n on first.kept;
+              same = λ r. called-ends t.given (rules t.machine t.given).step w u.calls u.configuration u.choices n r;
+              paid = omega (arith, pays, sum_by-append ((rules t.machine t.given).reserve w) there.choices u.choices);
+            }));
+      })
 
-  -- a call, after which a state is taken up, leaves fewer
-  pub fewer-left : {flush : Bool} {t u v : TokenizerValue M R D} {a s answer : State} {n : Name} (w : TokenizerValue M R D) (next : Name) → IsText t.given t.text → KeptFrom flush t a v s
-      → DidStep u v ((rules u.machine u.given).step (sight u.given u.text u.configuration) u.configuration n) answer
-      → (let e = settled_all v.configuration v.choices s in TakesUp flush (settled_to v e) w e.answer (result.Ok next))
-      → let all = budget (rules t.machine t.given) t.text t a in all - w.calls < all - u.calls
-  fewer-left {flush} {t} {u} {v} {a} {s} {answer} {n} w next is k called takes =
-      let e = settled_all v.configuration v.choices s in
-      smaller (budget (rules t.machine t.given) t.text t a) u.calls w.calls
-      (kept-calls rules t.machine t.given flush t w a (Retry next) (kept-next w next is k takes))
-      (taken-calls flush (settled_to v e) w e.answer next takes ∙ ap (λ q. q.calls) called.became)
+  module _ {flush : Bool} {t u : TokenizerValue M R D} {a s : State} (is : IsText t.given t.text) (k : KeptFrom flush t a u s) where
+    is-text : IsText t.given u.text
+    is-text = text-worked t.given t u is k.same
 
--- the work ends
-pub stops-at : {M R D : Type 0} (flush : Bool) (u v : TokenizerValue M R D) (s answer : State)
-    → (let e = settled_all u.configuration u.choices s in TakesUp flush (settled_to u e) v e.answer (result.Err answer)) → Stops flush v answer
-stops-at flush u v s answer takes =
-    let e = settled_all u.configuration u.choices s in stops-there flush (settled_to u e) v e.answer answer (settled-ends u.configuration u.choices s) takes
+    -- choices end
+    settled : let e = settled_all u.configuration u.choices s in KeptFrom flush t a (settled_to u e) e.answer
+    settled =
+        let e = settled_all u.configuration u.choices s in record {
+          same = record { given = k.same.given; machine = k.same.machine; text = k.same.text; closed = k.same.closed; phase = k.same.phase; counted = k.same.counted };
+          message = λ m is_error. let now = k.message m is_error in let error = now.0 in rw error (refl, now.1);
+          waits = λ f ends. k.waits f (settled-end u.configuration u.choices s ends);
+          leads = λ rest can only.
+              let w = followed_by_all t.given u.text rest in let first = k.leads rest can only in
+              leads-trans t.given (rules t.machine t.given) w t u (settled_to u e) a s e.answer first
+              (leads-settled t.given (rules t.machine t.given) (laws t.machine t.given) w (text-on t.given u.text rest is-text can) u u.configuration u.choices s first.kept);
+        }
+
+    pub kept-next : (v : TokenizerValue M R D) (n : Name) → (let e = settled_all u.configuration u.choices s in TakesUp flush (settled_to u e) v e.answer (result.Ok n))
+        → KeptFrom flush t a v (Retry n)
+    kept-next v n takes = let e = settled_all u.configuration u.choices s in taken flush t (settled_to u e) v a e.answer n is-text takes settled
+
+    pub kept-last : (v : TokenizerValue M R D) (answer : State) → (let e = settled_all u.configuration u.choices s in TakesUp flush (settled_to u e) v e.answer (result.Err answer))
+        → KeptFrom flush t a v answer × Stops flush v answer
+    kept-last v answer takes =
+        let e = settled_all u.configuration u.choices s in ended flush t (settled_to u e) v a e.answer answer (settled-ends u.configuration u.choices s) takes settled
+
+    -- if the reading ends, no span is open
+    pub closes-there : EndsClosed (settled_all u.configuration u.choices s)
+    closes-there some =
+        let e = settled_all u.configuration u.choices s in
+        closed e.answer e.configuration some
+        (subst (λ (cs : List Choice). (rules t.machine t.given).holds u.text e.configuration cs e.answer) (settled-ends u.configuration u.choices s some) ((settled.leads [] tt (λ _. refl)).kept))
+      where
+        closed : (answer : State) (q : Configuration R D) → IsSome (answer_in answer) → (rules t.machine t.given).holds u.text q [] answer → q.stack ≡ []
+        closed Ok q some h = ((laws t.machine t.given).ends_when_read.ok u.text q is-text h).1
+        closed Nok q some h = absurd ((laws t.machine t.given).ends_when_read.nok u.text q is-text h)
+        closed answer q some h = absurd cc
+
+    -- a call, after which a state is taken up, leaves fewer
+    pub fewer-left : {before : TokenizerValue M R D} {answer : State} {n : Name} (w : TokenizerValue M R D) (next : Name) → Called before u n answer
+        → (let e = settled_all u.configuration u.choices s in TakesUp flush (settled_to u e) w e.answer (result.Ok next))
+        → let all = budget (rules t.machine t.given) t.text t a in all - w.calls < all - before.calls
+    fewer-left w next called takes =
+        let e = settled_all u.configuration u.choices s in
+        let last = kept-next w next takes in
+        let text = last.same.text in let paid = rw text at ((last.leads [] tt (λ _. refl)).paid) in
+        let calls = taken-calls flush (settled_to u e) w e.answer next takes ∙ ap (λ q. q.calls) called.became in
+        omega (arith, paid, calls)

@@ -1,13 +1,12 @@
-use Rattle.markdown_tokenizer.proofs.Prelude.{◌≡◌, ◌∙◌, ap, sym, subst, Point, Moves, Plain, Other, moved, IsReadyAt}
+use Rattle.markdown_tokenizer.proofs.Prelude.{◌≡◌, ◌∙◌, ap, sym, Moves, Plain, Other, moved}
 use Rattle.markdown_tokenizer.proofs.Inside.Known.{ready-plain}
 use Rattle.markdown_tokenizer.proofs.Inside.Steps.{byte-waits, consumed-sound, consumed-seen, told-fits, told-moved}
 use Rattle.markdown_tokenizer.proofs.tokenizer.Tokenizer.consume.Goals as goal
 
 pub pass_plain-requires-clause-column : goal.pass_plain-requires-clause-column
 pass_plain-requires-clause-column g c =
-    let t = c.self.inside in let sound = c.self.invariant in
     let e = rw (← c.self.view_is) at c.requires in
-    (told-fits t sound (byte-waits t sound e) e (λ k. let f : Plain ≡ Other = sym c.in-Plain.is ∙ k in cc)).column
+    (told-fits c.self.inside c.self.invariant (byte-waits c.self.inside c.self.invariant e) e (λ k. let f : Plain ≡ Other = sym c.in-Plain.is ∙ k in cc)).column
 
 pub invariant_of-self : goal.invariant_of-self
 invariant_of-self g c =
@@ -16,8 +15,7 @@ invariant_of-self g c =
     let w = byte-waits t sound e in
     let moves = ap (λ (m : Moves). moved m t.after_previous) (sym c.in-Plain.is) ∙ told-moved t sound w e (λ k. let f : Plain ≡ Other = sym c.in-Plain.is ∙ k in cc) in
     consumed-sound t sound w c.pass_plain.new.point (c.pass_plain.ensures ∙ moves) t.ready
-    (subst (λ (p : Point). IsReadyAt t.skips p t.end.0 t.ready) (sym c.pass_plain.ensures)
-    (ready-plain t.skips t.after_previous t.end.0 t.ready sound.known.ready_at.before sound.placed.read.place.bounds.first))
+    (rw c.pass_plain.ensures (ready-plain t.skips t.after_previous t.end.0 t.ready sound.known.ready_at.before sound.placed.read.place.bounds.first))
 
 pub returns-in-Plain : goal.returns-in-Plain
 returns-in-Plain g c =

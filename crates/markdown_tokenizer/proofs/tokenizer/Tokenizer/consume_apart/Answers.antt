@@ -4,9 +4,8 @@ use Rattle.markdown_tokenizer.proofs.tokenizer.Tokenizer.consume_apart.Goals as 
 
 pub step-requires : goal.step-requires
 step-requires g c =
-    let t = c.self.inside in let sound = c.self.invariant in
     let e = rw (← c.self.view_is) at c.requires in
-    record { fits = told-fits t sound (byte-waits t sound e) e }
+    record { fits = told-fits c.self.inside c.self.invariant (byte-waits c.self.inside c.self.invariant e) e }
 
 pub invariant_of-self : goal.invariant_of-self
 invariant_of-self g c =

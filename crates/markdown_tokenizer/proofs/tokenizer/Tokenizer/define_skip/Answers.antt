@@ -24,6 +24,5 @@ returns-in_ok-push-clause-ok g c =
 
 pub returns-else-is_after-clause-ok : goal.returns-else-is_after-clause-ok
 returns-else-is_after-clause-ok g c =
-    let t = c.self.inside in
-    let fits = rw (← c.self.view_is) at c.requires in
-    rw (← c.self.view_is) (passed-nothing t c.self.invariant c.args.point fits (ap (λ (p : Point). is_after_pair p t.end) (sym c.shown.ensures) ∙ sym c.is_after.ensures ∙ c.if-is_after.false))
+    rw (← c.self.view_is) (passed-nothing c.self.inside c.self.invariant c.args.point (rw (← c.self.view_is) at c.requires)
+    (ap (λ (p : Point). is_after_pair p c.self.inside.end) (sym c.shown.ensures) ∙ sym c.is_after.ensures ∙ c.if-is_after.false))

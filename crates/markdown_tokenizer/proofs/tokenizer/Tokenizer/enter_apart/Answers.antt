@@ -5,13 +5,11 @@ use Rattle.markdown_tokenizer.proofs.tokenizer.Tokenizer.enter_apart.Goals as go
 pub invariant_of-self-2 : goal.invariant_of-self-2
 invariant_of-self-2 g c =
     let here = entered-here c.self.inside _ _ _ refl c.standing-place.ensures c.shown-point.ensures in
-    let events = rw c.in_ok-make_room.ensures.items at c.put_enter.ensures.events in
-    let stack = rw c.in_ok-reserve.ensures.items at c.put_enter.ensures.stack in
-    entered-sound c.self.inside c.self.invariant c.args.name c.args.link c.shown-point.result here c.put_enter.new.events c.put_enter.new.stack events stack
+    entered-sound c.self.inside c.self.invariant c.args.name c.args.link c.shown-point.result here
+    c.put_enter.new.events c.put_enter.new.stack (rw c.in_ok-make_room.ensures.items at c.put_enter.ensures.events) (rw c.in_ok-reserve.ensures.items at c.put_enter.ensures.stack)
 
 pub returns-clause-ok : goal.returns-clause-ok
 returns-clause-ok g c =
     let here = entered-here c.self.inside _ _ _ refl c.standing-place.ensures c.shown-point.ensures in
-    let events = rw c.in_ok-make_room.ensures.items at c.put_enter.ensures.events in
-    let stack = rw c.in_ok-reserve.ensures.items at c.put_enter.ensures.stack in
-    rw (← c.self.view_is) (entered-seen c.self.inside c.self.invariant c.args.name c.args.link c.shown-point.result here c.put_enter.new.events c.put_enter.new.stack events stack)
+    rw (← c.self.view_is) (entered-seen c.self.inside c.self.invariant c.args.name c.args.link c.shown-point.result here
+    c.put_enter.new.events c.put_enter.new.stack (rw c.in_ok-make_room.ensures.items at c.put_enter.ensures.events) (rw c.in_ok-reserve.ensures.items at c.put_enter.ensures.stack))

@@ -3,12 +3,10 @@ use Rattle.markdown_tokenizer.proofs.tokenizer.Tokenizer.exit_apart.Goals as goa
 
 pub invariant_of-self-2 : goal.invariant_of-self-2
 invariant_of-self-2 g c =
-    let can = rw (← c.self.view_is) at c.requires in
-    let events = rw c.in_ok-make_room.ensures.items at c.put_exit.ensures.events in
-    exited-sound c.self.inside c.self.invariant c.args.name can c.shown-point.result c.shown-point.ensures c.put_exit.new.events c.put_exit.new.stack events c.put_exit.ensures.stack
+    exited-sound c.self.inside c.self.invariant c.args.name (rw (← c.self.view_is) at c.requires) c.shown-point.result c.shown-point.ensures
+    c.put_exit.new.events c.put_exit.new.stack (rw c.in_ok-make_room.ensures.items at c.put_exit.ensures.events) c.put_exit.ensures.stack
 
 pub returns-clause-ok : goal.returns-clause-ok
 returns-clause-ok g c =
-    let can = rw (← c.self.view_is) at c.requires in
-    let events = rw c.in_ok-make_room.ensures.items at c.put_exit.ensures.events in
-    rw (← c.self.view_is) (exited-seen c.self.inside c.self.invariant c.args.name can c.shown-point.result c.shown-point.ensures c.put_exit.new.events c.put_exit.new.stack events c.put_exit.ensures.stack)
+    rw (← c.self.view_is) (exited-seen c.self.inside c.self.invariant c.args.name (rw (← c.self.view_is) at c.requires) c.shown-point.result c.shown-point.ensures
+    c.put_exit.new.events c.put_exit.new.stack (rw c.in_ok-make_room.ensures.items at c.put_exit.ensures.events) c.put_exit.ensures.stack)

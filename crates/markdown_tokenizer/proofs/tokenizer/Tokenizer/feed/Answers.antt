@@ -1,18 +1,13 @@
-use Rattle.markdown_tokenizer.proofs.Prelude.{length, ◌≤◌, List, ℕ, sym, subst, Moves, Plain, IsQuick}
+use Rattle.markdown_tokenizer.proofs.Prelude.{Plain}
 use Rattle.markdown_tokenizer.proofs.Inside.Steps.{end-inside, quick-more, quick-seen, quick-sound}
 use Rattle.markdown_tokenizer.proofs.tokenizer.Tokenizer.feed.Goals as goal
 
 pub quick_byte-next-requires-clause-inside : goal.quick_byte-next-requires-clause-inside
 quick_byte-next-requires-clause-inside g c =
-    let t = c.self.inside in let sound = c.self.invariant in
-    subst (λ (own : List ℕ). t.end.0 ≤ length own) (sym sound.known.own_bytes) (end-inside t sound)
+    rw c.self.invariant.known.own_bytes (end-inside c.self.inside c.self.invariant)
 
 pub invariant_of-self : goal.invariant_of-self
-invariant_of-self g c =
-    let t = c.self.inside in
-    let quick : IsQuick t.tab_size t.bytes.now t.after_previous t.ready t.end.0 c.in-Some.byte Plain =
-    subst (λ (moves : Moves). IsQuick t.tab_size t.bytes.now t.after_previous t.ready t.end.0 c.in-Some.byte moves) c.in-Plain.is c.in-Some.ensures in
-    quick-sound t c.self.invariant c.in-Some.byte Plain quick
+invariant_of-self g c = quick-sound c.self.inside c.self.invariant c.in-Some.byte Plain (rw c.in-Plain.is at c.in-Some.ensures)
 
 pub invariant_of-self-in_default : goal.invariant_of-self-in_default
 invariant_of-self-in_default g c = quick-sound c.self.inside c.self.invariant c.in-Some.byte c.in-Some.moves c.in-Some.ensures

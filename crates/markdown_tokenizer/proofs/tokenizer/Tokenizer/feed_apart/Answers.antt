@@ -19,14 +19,8 @@ returns-in-None-clause-end g c =
     let t = c.self.inside in let sound = c.self.invariant in
     rw (← c.self.view_is) (fed-none t sound (byte-at t sound _ _ None refl c.resumed-place.ensures (c.in-None.ensures (tab_of t.parse_state.now) (wide_of t sound))))
 
-pub returns-in-Some-clause-fed : goal.returns-in-Some-clause-fed
-returns-in-Some-clause-fed g c =
+pub returns-in-Some : goal.returns-in-Some
+returns-in-Some g c =
     let t = c.self.inside in let sound = c.self.invariant in
     let n = byte-at t sound _ _ (Some c.in-Some.byte) refl c.resumed-place.ensures (c.in-Some.ensures (tab_of t.parse_state.now) (wide_of t sound)) in
-    rw (← c.self.view_is) (fed-seen t sound n.0 n.1 c.in-Some.byte n.2)
-
-pub returns-in-Some-clause-more : goal.returns-in-Some-clause-more
-returns-in-Some-clause-more g c =
-    let t = c.self.inside in let sound = c.self.invariant in
-    let n = byte-at t sound _ _ (Some c.in-Some.byte) refl c.resumed-place.ensures (c.in-Some.ensures (tab_of t.parse_state.now) (wide_of t sound)) in
-    rw (← c.self.view_is) (fed-more t sound n.0 n.1 n.2)
+    rw (← c.self.view_is) (record { fed = fed-seen t sound n.0 n.1 c.in-Some.byte n.2; more = fed-more t sound n.0 n.1 n.2; same = tt; end = tt })

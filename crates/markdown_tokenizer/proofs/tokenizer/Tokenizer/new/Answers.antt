@@ -33,13 +33,9 @@ invariant_of-result g c =
 
 pub returns-clause-start : goal.returns-clause-start
 returns-clause-start g c =
-    let bytes = c.args.parse_state.now.bytes.now in
-    let tab = c.args.parse_state.now.options.now.tab_size in
-    let apart = c.args.parse_state.now.tab_size in
-    let p = c.args.point in
-    let here = start-end tab apart.0 bytes p c.requires.place in
-    let none = start-empty tab apart.0 bytes p c.requires.place in
-    let skips = c.new-skips.ensures in
+    let s = c.args.parse_state.now in let skips = c.new-skips.ensures in
+    let here = start-end s.options.now.tab_size s.tab_size.0 s.bytes.now c.args.point c.requires.place in
+    let none = start-empty s.options.now.tab_size s.tab_size.0 s.bytes.now c.args.point c.requires.place in
     rw (skips, here, none, c.new-events.ensures.items, c.new-stack.ensures.items, c.new-resolvers.ensures.items, c.new-kept_choices.ensures.items, c.new-map.ensures, c.new-tokenize_state.ensures, c.new-calls.ensures) refl
 
 pub returns-clause-document : goal.returns-clause-document

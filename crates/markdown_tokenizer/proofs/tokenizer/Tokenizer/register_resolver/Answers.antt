@@ -1,5 +1,5 @@
-use Rattle.markdown_tokenizer.proofs.Runs.Resolvers.{once-behind}
-use Rattle.markdown_tokenizer.proofs.Prelude.{sym, refl, ◌∙◌}
+use Rattle.markdown_tokenizer.proofs.Runs.Resolvers.{turned}
+use Rattle.markdown_tokenizer.proofs.Prelude.{sym, refl, ◌∙◌, IsDistinct-push}
 use Rattle.markdown_tokenizer.proofs.tokenizer.Tokenizer.register_resolver.Goals as goal
 
 pub returns-then-contains-clause-ok : goal.returns-then-contains-clause-ok
@@ -12,12 +12,12 @@ returns-clause-ok g c =
 
 pub invariant_of-self-2 : goal.invariant_of-self-2
 invariant_of-self-2 g c =
-    let sound = c.self.invariant in
+    let sound = c.self.invariant in let items = c.self.inside.resolvers.items in let laws = g.met.M.Resolver.Eq.laws in
     let absent = rw c.deref.ensures.value at (sym c.contains.ensures.value ∙ c.if-contains.false) in
     record {
       placed = sound.placed;
       made = sound.made;
       kept_choices = sound.kept_choices;
-      once = rw c.in_ok-push.ensures.items (once-behind g.M.Resolver.PartialEq.eq g.met.M.Resolver.Eq.laws c.args.name c.self.inside.resolvers.items sound.once absent);
+      once = rw c.in_ok-push.ensures.items (IsDistinct-push laws items c.args.name sound.once (sym (turned g.M.Resolver.PartialEq.eq laws c.args.name items) ∙ absent));
       known = c.self.invariant.known;
     }

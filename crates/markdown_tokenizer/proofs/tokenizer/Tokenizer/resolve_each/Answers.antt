@@ -1,15 +1,14 @@
-use Rattle.markdown_tokenizer.proofs.Prelude.{◌+◌, drop}
-use Rattle.markdown_tokenizer.proofs.Runs.Resolvers.{resolves-first, resolves-one, resolves-last, resolves-holds, resolves-next, resolves-refused, resolves-can, resolves-done}
+use Rattle.markdown_tokenizer.proofs.Prelude.{◌+◌, drop, refl}
+use Rattle.markdown_tokenizer.proofs.Runs.Resolvers.{resolves-one, resolves-last, resolves-next, resolves-refused}
 use Rattle.markdown_tokenizer.proofs.tokenizer.Tokenizer.resolve_each.Goals as goal
 
 pub loop-name-init : goal.loop-name-init
-loop-name-init g c =
-    resolves-first g.M.Machine.rules c.args.self.now c.args.names.now c.args.sub c.requires.invariant
+loop-name-init g c = record { same = refl; holds = c.requires.invariant; leads = refl }
 
 pub resolve_next-requires-clause-invariant : goal.resolve_next-requires-clause-invariant
 resolve_next-requires-clause-invariant g c =
     let r = resolves-one g.M.Machine.rules c.loop-name.name-index c.name-item.result c.loop-name-test.true c.name-item.is c.loop-name.invariant in
-    (drop (c.loop-name.name-index + 1) c.args.names.now, resolves-holds g.M.Machine.rules r)
+    let same = r.same in (drop (c.loop-name.name-index + 1) c.args.names.now, rw same r.holds)
 
 pub returns-in_err-found-clause-message : goal.returns-in_err-found-clause-message
 returns-in_err-found-clause-message g c m is =
@@ -26,11 +25,11 @@ loop-name-preserved g c =
 
 pub make_edits-requires-clause-can : goal.make_edits-requires-clause-can
 make_edits-requires-clause-can g c =
-    let start = c.args.self.now in let law = (g.met.M.Machine.lawful start.machine start.given).resolvers_keep in
-    resolves-can g.M.Machine.rules c.requires.text law (resolves-last g.M.Machine.rules c.loop-name.name-index c.loop-name-test.false c.loop-name.invariant)
+    let start = c.args.self.now in let r = resolves-last g.M.Machine.rules c.loop-name.name-index c.loop-name-test.false c.loop-name.invariant in
+    ((g.met.M.Machine.lawful start.machine start.given).resolvers_keep.at_last start.text c.loop-name.self.configuration c.requires.text r.holds).0
 
 pub returns-clause-ok : goal.returns-clause-ok
 returns-clause-ok g c =
-    let start = c.args.self.now in let law = (g.met.M.Machine.lawful start.machine start.given).resolvers_keep in
-    let r = resolves-last g.M.Machine.rules c.loop-name.name-index c.loop-name-test.false c.loop-name.invariant in
-    resolves-done g.M.Machine.rules c.requires.text law r c.make_edits.new.self c.in_ok-make_edits.ensures.ok
+    let start = c.args.self.now in let r = resolves-last g.M.Machine.rules c.loop-name.name-index c.loop-name-test.false c.loop-name.invariant in
+    let last = (g.met.M.Machine.lawful start.machine start.given).resolvers_keep.at_last start.text c.loop-name.self.configuration c.requires.text r.holds in
+    let edits = c.in_ok-make_edits.ensures.ok in rw edits (record { is = r.leads; in_shape = last.1 })

@@ -1,10 +1,10 @@
 use Rattle.markdown_tokenizer.proofs.Prelude.{◌-◌, Retry, budget}
-use Rattle.markdown_tokenizer.proofs.Runs.Working.{KeptBy}
+use Rattle.markdown_tokenizer.proofs.Runs.Working.{Kept}
 use Rattle.markdown_tokenizer.proofs.tokenizer.Tokenizer.run_states.Given as goal
 
 abbrev pub invariant-loop-answer : goal.invariant-loop-answer
 invariant-loop-answer g l =
-    KeptBy g.M.Machine.rules l.fn.self.machine l.fn.self.given l.flush l.fn.self l.fn.state l.self (Retry l.name)
+    Kept l.fn.self.given (g.M.Machine.rules l.fn.self.machine l.fn.self.given) l.flush l.fn.self l.fn.state l.self (Retry l.name)
 
 abbrev pub decreases-loop-answer : goal.decreases-loop-answer
 decreases-loop-answer g l =

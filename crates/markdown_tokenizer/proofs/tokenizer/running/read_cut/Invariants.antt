@@ -1,7 +1,5 @@
-use Rattle.markdown_tokenizer.proofs.Prelude.{drop}
-use Rattle.markdown_tokenizer.proofs.Runs.Whole.{RunsBy}
+use Rattle.markdown_tokenizer.proofs.Runs.Cuts.{IsAtCut}
 use Rattle.markdown_tokenizer.proofs.tokenizer.running.read_cut.Given as goal
 
 abbrev pub invariant-loop-cut : goal.invariant-loop-cut
-invariant-loop-cut g l =
-    RunsBy g.M.Machine.rules l.fn.parse_state.bytes.now l.fn.parse_state.options.now l.fn.parse_state.machine.now l.fn.start l.from (drop l.cut-index l.cuts) l.tokenizer l.state
+invariant-loop-cut g l = IsAtCut g.M.Machine.rules l.fn.parse_state l.fn.start l.cuts l.cut-index l.from l.tokenizer l.state
