@@ -4,6 +4,3 @@ use Rattle.markdown_tokenizer.proofs.tokenizer.Tokenizer.close.Goals as goal
 
 pub invariant_of-self : goal.invariant_of-self
 invariant_of-self g c = closed-sound c.self.inside c.self.invariant
-
-pub returns : goal.returns
-returns g c = rw (← c.self.view_is) refl

@@ -69,7 +69,3 @@ returns-else-resolve-clause-ok g c =
     c.args.resolve c.take_definitions-sub.new.self (taken u.configuration) u.phase c.take_definitions-sub.ensures.rest c.take_definitions-sub.result c.in-Ok-answer.is e.0
     (rw plain (refl, c.take_definitions-sub.ensures.answer)) (rw plain e.1) e.2
     (λ _. record { balanced = e.2.balanced; void_tight = e.2.void_tight; in_order = e.2.in_order }) (λ f. absurd (let h : true ≡ false = sym f ∙ plain in cc))
-
-pub run_states-requires-clause-reading : goal.run_states-requires-clause-reading
-run_states-requires-clause-reading g c =
-    let close = c.close.ensures in rw close (c.shows_in_text.ensures.reads (sym c.is_closed.ensures ∙ c.if-is_closed.false))

@@ -12,9 +12,3 @@ invariant_of-self g c =
       once = sound.once;
       known = sound.known;
     }
-
-pub link_items-requires : goal.link_items-requires
-link_items-requires g c = record { can_link = rw (← c.self.view_is) at c.requires.can_link }
-
-pub returns : goal.returns
-returns g c = let events = c.link_items.ensures in rw (← c.self.view_is) (rw events refl)

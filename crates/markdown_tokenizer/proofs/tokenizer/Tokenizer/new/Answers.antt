@@ -37,7 +37,3 @@ returns-clause-start g c =
     let here = start-end s.options.now.tab_size s.tab_size.0 s.bytes.now c.args.point c.requires.place in
     let none = start-empty s.options.now.tab_size s.tab_size.0 s.bytes.now c.args.point c.requires.place in
     rw (skips, here, none, c.new-events.ensures.items, c.new-stack.ensures.items, c.new-resolvers.ensures.items, c.new-kept_choices.ensures.items, c.new-map.ensures, c.new-tokenize_state.ensures, c.new-calls.ensures) refl
-
-pub returns-clause-document : goal.returns-clause-document
-returns-clause-document g c =
-    record { bytes = c.bytes_are_below_256.ensures; tab = c.args.parse_state.now.tab_size; limit = c.args.parse_state.now.limit; one_size = refl }

@@ -42,6 +42,3 @@ returns-in-Ok-clause-ok g c =
       message = λ m e. let same = stays m e in (same.0, same.1 ∙ ap (λ (x : Text). extended old x) (sym only.text));
       answers = stops-answers old.given (g.M.Machine.rules old.machine old.given) law u s is now c.in-Ok.ensures.stops (λ e. absurd (false≢true (sym closed ∙ sound.ended e)));
     }
-
-pub extend-requires-clause-range : goal.extend-requires-clause-range
-extend-requires-clause-range g c = c.requires.range (sym c.is_closed.ensures ∙ c.if-is_closed.false)

@@ -2,14 +2,6 @@ use Rattle.markdown_tokenizer.proofs.Runs.Resolvers.{turned}
 use Rattle.markdown_tokenizer.proofs.Prelude.{sym, refl, ◌∙◌, IsDistinct-push}
 use Rattle.markdown_tokenizer.proofs.tokenizer.Tokenizer.register_resolver.Goals as goal
 
-pub returns-then-contains-clause-ok : goal.returns-then-contains-clause-ok
-returns-then-contains-clause-ok g c =
-    rw (← c.self.view_is) (rw (rw c.deref.ensures.value at (sym c.contains.ensures.value ∙ c.if-contains.true)) refl)
-
-pub returns-clause-ok : goal.returns-clause-ok
-returns-clause-ok g c =
-    rw (← c.self.view_is) (rw (c.in_ok-push.ensures.items, (rw c.deref.ensures.value at (sym c.contains.ensures.value ∙ c.if-contains.false))) refl)
-
 pub invariant_of-self-2 : goal.invariant_of-self-2
 invariant_of-self-2 g c =
     let sound = c.self.invariant in let items = c.self.inside.resolvers.items in let laws = g.met.M.Resolver.Eq.laws in

@@ -2,9 +2,6 @@ use Rattle.markdown_tokenizer.proofs.Prelude.{◌+◌, drop, refl}
 use Rattle.markdown_tokenizer.proofs.Runs.Resolvers.{resolves-one, resolves-last, resolves-next, resolves-refused}
 use Rattle.markdown_tokenizer.proofs.tokenizer.Tokenizer.resolve_each.Goals as goal
 
-pub loop-name-init : goal.loop-name-init
-loop-name-init g c = record { same = refl; holds = c.requires.invariant; leads = refl }
-
 pub resolve_next-requires-clause-invariant : goal.resolve_next-requires-clause-invariant
 resolve_next-requires-clause-invariant g c =
     let r = resolves-one g.M.Machine.rules c.loop-name.name-index c.name-item.result c.loop-name-test.true c.name-item.is c.loop-name.invariant in
