@@ -1,6 +1,5 @@
 -- Chains of a list of events.
 pub mod Following
 pub mod Forward
-pub mod OneChain
 pub mod Spaced
 pub mod Turns

@@ -1,6 +1,5 @@
 -- Children are read, chain by chain.
 pub mod ChainReads
-pub mod OneAnswer
 pub mod Pieces
 pub mod Reading
 pub mod SoFar

@@ -1,22 +1,24 @@
 -- What the proofs of this crate cite from below them: words of std, of the crates below and of specs.
-pub use Rattle.markdown_base.proofs.LineLemmas.{passing_more}
+pub use Rattle.markdown_base.proofs.LineLemmas.{passing_kept, passing_more, passing_pushed}
 pub use Rattle.markdown_tokenizer.proofs.Positions.Order.{every-all, every-back, every-both, every-cond, every-front}
 pub use Rattle.std.specs.Cmp.Derive.{both_true}
-pub use Rattle.std.proofs.lemmas.Slice.Zip.{AllZip-long}
-pub use Rattle.std.proofs.Common.{Bool, List, None, Option, Result, Some, [], add-one, ap, append-nil, append_assoc, arith, cond, drop, eqb, eqb-true, false, get_or, inl, inr, leb, length, length-append, length-drop, length-take, lit≤, ltb, map, refl, reverse, rules, slice_set, subst, suc, sym, take, take-append-drop, true, zero, ℕ, ⊎_elim, ◌*◌, ◌++◌, ◌+◌, ◌-◌, ◌/◌, ◌<◌, ◌^◌, ◌∙◌, ◌∷◌, ◌≡◌, ◌≢◌, ◌≤◌, ◌⊎◌}
+pub use Rattle.std.proofs.lemmas.Simd.{map-map}
+pub use Rattle.std.proofs.lemmas.Slice.Zip.{AllZip-long, all_zipped_more}
+pub use Rattle.std.proofs.Common.{Bool, List, None, Option, Result, Some, [], add-one, ap, append-nil, append_assoc, arith, cond, drop, eqb, eqb-true, false, get_or, inl, inr, leb, length, length-append, length-drop, length-take, lit≤, ltb, map, refl, reverse, rules, slice_set, subst, suc, sym, take, take-append-drop, true, zero, zero-add, add-zero, ℕ, ⊎_elim, ◌*◌, ◌++◌, ◌+◌, ◌-◌, ◌/◌, ◌<◌, ◌^◌, ◌∙◌, ◌∷◌, ◌≡◌, ◌≢◌, ◌≤◌, ◌⊎◌}
 pub use Rattle.std.proofs.Math.ListN.{drop_of_length-le, get_or-eq_default}
 pub use Rattle.std.proofs.Math.Nat.{mul-le-mul_left, mul-le-mul_right}
 pub use Rattle.std.proofs.Math.Seq.{drop-append_seam, take-append_seam, take-suc}
-pub use Rattle.std.proofs.lemmas.Bool.{and_parts, cases_eq, cases_lt, eq-eqb, false_from_ne_true, le-leb, le-ltb, leb-false, leb-true, lt-ltb, ltb-false, ltb-true, ne_eqb, not-true, not_from_false, or_cases, or_left, or_right}
+pub use Rattle.std.proofs.lemmas.Bool.{and_parts, both_ways, cases_eq, cases_lt, eq-eqb, false_from_ne_true, le-leb, le-ltb, leb-false, leb-true, lt-ltb, ltb-false, ltb-true, ne_eqb, not-true, not_from_false, or_cases, or_left, or_right}
+pub use Rattle.std.proofs.lemmas.Bool.Decides.{same_from_decides}
 pub use Rattle.std.proofs.lemmas.Grind.{flat_map-append}
 pub use Rattle.std.proofs.lemmas.List.{drop-drop, length-map, length-reverse, length-take-le, map-append}
-pub use Rattle.std.proofs.lemmas.List.Elements.{All-drop, All-from_recursion, All-head, All-tail, All-take, filter-append, filter_passes, recursion_from_All}
+pub use Rattle.std.proofs.lemmas.List.Elements.{All-drop, All-map, All-from_recursion, All-head, All-tail, All-take, filter_passes, recursion_from_All}
 pub use Rattle.std.proofs.lemmas.List.FromFn.{get_or-map-range_with_len, length-map-range_with_len, map-range_with_len_more}
 pub use Rattle.std.proofs.lemmas.List.Sorted.{IsPartitionPoint-from_clause, IsPartitionedBy-leb}
 pub use Rattle.std.proofs.lemmas.List.Sums.{take_while-cons}
 pub use Rattle.std.proofs.lemmas.Option.{none-some, option_and_then_some, same_Some, slice_get-get_or, slice_get-map, slice_get_past, slice_get_within}
-pub use Rattle.std.specs.List.{AllByRecursion, AllZip, between, range_with_len}
-pub use Rattle.std.specs.List.Sorted.{IsNonDecreasingBy, IsPartitionPoint}
+pub use Rattle.std.specs.List.{AllByRecursion, between, range_with_len}
+pub use Rattle.std.specs.List.Sorted.{IsNonDecreasingBy}
 pub use Rattle.std.specs.Option.{option_and_then, option_copied, option_map}
 pub use Rattle.std.specs.Prelude.{All, Contains, IfErr, IfOk, IfSome, filter, flat_map, is_none, nat_le, nat_lt, not, slice_get, slice_index, slice_index_or, unwrap_or, vec_capacity, vec_len, ◌&&◌, ◌==◌, ◌||◌, ◌↔◌}
 pub use Rattle.markdown_base.proofs.Common.{and-false-never, drop-at, every-append, every-filter, every-get, every-map, get-front}
@@ -59,7 +61,7 @@ pub use Rattle.markdown_tokenizer.proofs.Runs.Whole.{err-if, ok-if}
 pub use Rattle.markdown_tokenizer.proofs.Runs.Working.{holds-on, leads-refl, leads-trans}
 pub use Rattle.markdown_tokenizer.specs.Configuration.{Configuration, TokenizerValue, start_configuration, start_seen}
 pub use Rattle.markdown_tokenizer.specs.Engine.{CanPush, ForPoints, IsFlushed, IsPushed, IsRefused, IsWellFormed, KeepsOutcome, LeadsOn, budget, given_by}
-pub use Rattle.markdown_tokenizer.specs.Lawful.{IsLawful, KeepsInvariant}
+pub use Rattle.markdown_tokenizer.specs.Lawful.{IsLawful}
 pub use Rattle.markdown_tokenizer.specs.Reading.{EndsIn, Reading}
 pub use Rattle.markdown_tokenizer.specs.Resolving.{IsInShape, IsResolved, IsResolvingRefused, Resolved, done, refused, resolving, with_more}
 pub use Rattle.markdown_tokenizer.specs.Rules.{Rules}
@@ -71,9 +73,9 @@ pub use denote.Enum.Bare.{same_true, sameb, true_same}
 pub use Rattle.markdown_children.specs.ByteStarts.{byte_start, column_after, column_at, eighth_starts, is_of_byte, is_place, line_after, line_at, width_at}
 pub use Rattle.markdown_children.specs.Chains.{begins, chain_from, chain_of, content_at, fits, fitting_starts, lets_through, some_fits}
 pub use Rattle.markdown_children.specs.Children.{chain_changes, child_changes, first_chunk, part_changes, tagged_child, with_children}
-pub use Rattle.markdown_children.specs.Laws.{AreByChunk, AreSpaced, ChangesAreApart, ChildrenFit, EditsGiveChildren, EndsInVoidEnter, FollowOneAnother, HasEndsWithin, IsInChain, IsInOneChain, IsPlacedWell, IsTornNowhere, IsWholeFrom, LeadOnFrom, NoneTorn, StandSideBySide, chunk_numbers, part_numbers, passed_over}
+pub use Rattle.markdown_children.specs.Laws.{AreSpaced, ChangesAreApart, ChildrenFit, EditsGiveChildren, EndsInVoidEnter, FollowOneAnother, HasEndsWithin, IsInChain, IsInOneChain, IsTornNowhere, IsWholeFrom, LeadOnFrom, NoneTorn, StandSideBySide, chunk_numbers, part_numbers, passed_over}
 pub use Rattle.markdown_children.specs.Parts.{Divided, IsForward, StandBefore, all_edits, chain_edits, child_place, divided, divided_over, front_until, part_edits, parts, total}
-pub use Rattle.markdown_children.specs.Reads.{AreChildren, CanReadChain, Child, HasOneAnswer, IsAtFirstParagraph, IsChild, IsChildFault, IsChildRefused, IsRead, IsSubtokenizeFault, IsSubtokenized, StartAmong, lists, pieces_behind, pieces_of, start_at, text_from, text_of_chain}
+pub use Rattle.markdown_children.specs.Reads.{AreChildren, CanReadChain, Child, IsAtFirstParagraph, IsChild, IsChildFault, IsChildRefused, IsRead, IsSubtokenizeFault, StartAmong, lists, pieces_behind, pieces_of, start_at, text_from, text_of_chain}
 pub use Rattle.markdown_children.specs.Ready.{IsChunk, IsGap, IsReady, IsShownPlace, place_at}
 pub use Rattle.markdown_children.specs.ReadyTests.{AllBelow, FailsSomewhere, can_be_read, can_be_read_at, closes, has_no_link, is_chunk, is_closed, is_gap, is_gap_on, is_in_line, is_joined_back, is_joined_on, is_number, is_readable, is_same_point, is_sound, is_sound_at, is_void_span, leads_back_to, leads_on_to, link_at}
 pub use Rattle.markdown_children.specs.SoFar.{SoFar, starts_below, with_flag}

@@ -1,9 +1,8 @@
 -- The chains of a ready list that fit go forward, and the edits of one of them.
-use Rattle.markdown_children.proofs.Prelude.{◌≡◌, ℕ, ◌+◌, ◌<◌, ◌≤◌, ⊎_elim, true, List, [], ◌∷◌, ◌++◌, length, Option, Some, sym, ◌∙◌, ap, subst, arith, append-nil, All, slice_index_or, is_none, AllByRecursion, cases_eq, slice_get-get_or, Content, Event, EndsBelow, Edit, AreDisjoint, previous_of, chain_of, fits, begins, IsReady, LeadOnFrom, AreSpaced, divided, chain_edits, IsForward, and_parts, link_at}
-use Rattle.std.specs.Prelude.{option_and_then}
+use Rattle.markdown_children.proofs.Prelude.{◌≡◌, ℕ, ◌+◌, ◌<◌, ◌≤◌, true, List, [], ◌∷◌, ◌++◌, length, Option, Some, refl, sym, ◌∙◌, ap, subst, arith, append-nil, All, slice_index_or, is_none, option_and_then, AllByRecursion, slice_get-get_or, Content, Event, EndsBelow, Edit, AreDisjoint, previous_of, chain_of, fits, begins, IsReady, LeadOnFrom, AreSpaced, divided, chain_edits, IsForward, and_parts, link_at}
 use Rattle.markdown_children.proofs.ChainOrder.Following.{by_option, inside, apart, fits_next, whole-from}
 use Rattle.markdown_children.proofs.Parts.Edits.{all_edits-spaced}
-use Rattle.markdown_children.proofs.Ready.Tests.{next-at, previous-at, with-next, with-previous, inside-link}
+use Rattle.markdown_children.proofs.Ready.Tests.{link_next, read-at, link_previous, with-read, inside-link}
 
 module _ (tab : ℕ) (bytes : List ℕ) (wanted : Option Content) (events : List Event) (ready : IsReady tab bytes wanted events) where
   abbrev Fits : ℕ → Type 0
@@ -19,14 +18,8 @@ module _ (tab : ℕ) (bytes : List ℕ) (wanted : Option Content) (events : List
   is-forward k h = record {
     within = inside tab bytes wanted events ready k h;
     next = λ d e.
-        let l = ready.forward k d e in
-        let fit = fits_next tab bytes wanted events ready k d h e in (
-          ⊎_elim
-              (λ (s : d ≡ k + 1). absurd (apart tab bytes wanted events ready k h (ap (fits wanted events) (sym s) ∙ fit)))
-              (λ (s : d ≡ k + 1 → ⊥). omega arith)
-              (cases_eq d (k + 1)),
-          inside tab bytes wanted events ready d fit,
-        );
+        let fit = fits_next tab bytes wanted events ready k d h e in
+        (apart tab bytes wanted events ready k d h fit (ready.forward k d e), inside tab bytes wanted events ready d fit);
   }
 
   forward-all : (k : ℕ) (ks : List ℕ) → Fits k → LeadOnFrom events k ks → AllByRecursion (IsForward events) (k ∷ ks)
@@ -45,8 +38,12 @@ module _ (tab : ℕ) (bytes : List ℕ) (wanted : Option Content) (events : List
       by_option x.link (λ e. rw e tt) (λ m e.
       let here : link_at events k ≡ Some m = ap (option_and_then (λ (y : Event). y.link)) (slice_get-get_or events k d l) ∙ e in
       rw e (
-        by_option m.previous (λ f. rw f tt) (λ j f. rw f (let b = with-next events j k ((ready.joined j k).1 (previous-at events k m here ∙ f)) in inside-link events j b.0 b.1)),
-        by_option m.next (λ f. rw f tt) (λ j f. rw f (let b = with-previous events j k ((ready.joined k j).0 (next-at events k m here ∙ f)) in inside-link events j b.0 b.1)),
+        by_option m.previous (λ f. rw f tt) (λ j f.
+            let b = with-read link_next refl events j k ((ready.joined j k).1 (read-at link_previous refl events k m here ∙ f)) in
+            rw f (inside-link events j b.0 b.1)),
+        by_option m.next (λ f. rw f tt) (λ j f.
+            let b = with-read link_previous refl events j k ((ready.joined k j).0 (read-at link_next refl events k m here ∙ f)) in
+            rw f (inside-link events j b.0 b.1)),
       ))
 
   -- ---- one chain
@@ -61,6 +58,6 @@ module _ (tab : ℕ) (bytes : List ℕ) (wanted : Option Content) (events : List
       let w = whole-from tab bytes wanted events ready i (begins-fits i b) in
       let spaced : AreSpaced 0 (chain_of events i ++ []) (length events) =
       subst (λ ks. AreSpaced 0 ks (length events)) (sym (append-nil (chain_of events i) ∙ w.1))
-      (lead-spaced 0 i w.0 (omega arith) (subst (AllByRecursion (IsForward events)) w.1 (forward-chain i b)) w.2) in
+      (lead-spaced 0 i w.0 (omega arith) (forward-all i w.0 (begins-fits i b) w.2) w.2) in
       subst (λ (es : List Edit). AreDisjoint 0 es (length events)) (append-nil (chain_edits removed added (divided events i child)))
       (all_edits-spaced events (i ∷ []) (child ∷ []) removed added 0 (length events) spaced)

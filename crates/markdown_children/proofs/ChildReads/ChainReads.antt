@@ -1,5 +1,5 @@
 -- The reading of a chain: its pieces are read one after another, by pushes and gaps.
-use Rattle.markdown_children.proofs.Prelude.{◌≡◌, ◌<◌, ◌≤◌, ◌⊎◌, arith, List, [], ◌∷◌, Some, Bool, true, false, refl, sym, ap, ◌∙◌, subst, Contains, Point, Message, Name, State, Next, Ok, Error, point_at, Subresult, Given, Text, Piece, pushed, passed, empty_text, followed_by, followed_by_all, FitsAfter, CanFollow, IsText, TokenizerValue, start_seen, start_configuration, Rules, KeepsInvariant, LeadsOn, KeepsOutcome, CanPush, ForPoints, IsPushed, IsFlushed, IsRefused, budget, Reading, EndsIn, IsResolved, IsResolvingRefused, point_at-point, leads-trans, leads-refl, holds-on}
+use Rattle.markdown_children.proofs.Prelude.{◌≡◌, ◌<◌, ◌≤◌, ◌⊎◌, arith, List, [], ◌∷◌, Some, Bool, true, false, refl, sym, ap, ◌∙◌, subst, Point, Message, Name, State, Next, Ok, Error, point_at, Subresult, Given, Text, Piece, pushed, passed, empty_text, followed_by, followed_by_all, CanFollow, TokenizerValue, start_seen, start_configuration, Rules, LeadsOn, KeepsOutcome, CanPush, ForPoints, IsPushed, IsFlushed, IsRefused, budget, Reading, EndsIn, IsResolved, IsResolvingRefused, point_at-point, leads-trans}
 
 -- a tokenizer that has read nothing, with the flag of the first paragraph of a list item
 abbrev pub flagged : {M R D : Type 0} → Given → M → Point → Bool → TokenizerValue M R D
@@ -16,21 +16,6 @@ module _ {M R D : Type 0} (g : Given) (rules : M → Given → Rules R D) (m : M
     pub outcome : KeepsOutcome g (rules m g) (flagged g m p flag) (Next start) t state
 
 module _ {M R D : Type 0} {g : Given} {rules : M → Given → Rules R D} {m : M} {p : Point} {flag : Bool} {start : Name} {text : Text} where
-  -- it starts with all of them
-  pub reads-start : {left : List Piece} → CanFollow g (empty_text p) left → followed_by_all g (empty_text p) left ≡ text → IsText g (empty_text p) → KeepsInvariant g (rules m g) → Contains (rules m g).starts start
-      → {t : TokenizerValue M R D} → t ≡ flagged g m p flag → Reads g rules m p flag start text left t (Next start)
-  reads-start can whole is keeps among e =
-      rw e (record {
-        same_given = refl;
-        machine = refl;
-        open_still = refl;
-        follow = can;
-        whole = whole;
-        outcome = λ rest follows.
-            leads-refl g (rules m g) (followed_by_all g (empty_text p) rest) (flagged g m p flag) (Next start)
-            (holds-on g (rules m g) keeps (empty_text p) rest (start_configuration flag) [] (Next start) is follows refl (keeps.at_starts p flag start is among));
-      })
-
   module _ {t : TokenizerValue M R D} {state : State} where
     pub reads-holds : {left : List Piece} → Reads g rules m p flag start text left t state → (rules t.machine t.given).holds t.text t.configuration t.choices state
     reads-holds r = rw (r.machine, r.same_given) (r.outcome [] tt).kept
@@ -71,10 +56,6 @@ module _ {M R D : Type 0} {g : Given} {rules : M → Given → Rules R D} {m : M
           (λ rest can. subst (λ (x : Text). LeadsOn g (rules m g) (followed_by_all g x rest) t state u answer) is (outcome rest (rw is can)))
 
     module _ {a : Point} {left : List Piece} (r : Reads g rules m p flag start text (passed a ∷ left) t state) where
-      -- the next gap can be passed
-      pub reads-gap : FitsAfter t.given t.text (passed a)
-      reads-gap = rw r.same_given r.follow.0
-
       pub reads-passed : {u : TokenizerValue M R D} → u ≡ record t { text = followed_by t.given t.text (passed a) } → Reads g rules m p flag start text left u state
       reads-passed e =
           let next = record t { text = followed_by t.given t.text (passed a) } in

@@ -1,5 +1,5 @@
 -- The chunks of a chain that fits can be read one after another.
-use Rattle.markdown_children.proofs.Prelude.{◌≡◌, ℕ, ◌+◌, Bool, true, false, List, [], ◌∷◌, Option, Some, ◌⊎◌, refl, sym, ◌∙◌, ap, subst, inl, inr, ⊎_elim, is_none, ParseOptions, Content, Event, Point, stands_before, denotes_same, next_of, previous_of, Given, Text, pushed, passed, followed_by, empty_text, FitsAfter, CanFollow, upto-order, upto-same, same-self, fits, begins, IsReady, place_at, LeadOnFrom, pieces_behind, pieces_of, CanReadChain, and_parts}
+use Rattle.markdown_children.proofs.Prelude.{◌≡◌, ℕ, ◌+◌, true, List, [], ◌∷◌, Option, Some, ◌⊎◌, refl, sym, ◌∙◌, ap, subst, inl, inr, ⊎_elim, is_none, ParseOptions, Content, Event, Point, stands_before, denotes_same, next_of, previous_of, Given, Text, pushed, passed, followed_by, empty_text, FitsAfter, CanFollow, upto-order, upto-same, same-self, fits, begins, IsReady, place_at, LeadOnFrom, pieces_behind, pieces_of, CanReadChain, and_parts}
 use Rattle.markdown_children.proofs.ChainOrder.Following.{by_test, fits_next, whole-from}
 
 module _ (tab : ℕ) (bytes : List ℕ) (options : ParseOptions) (wanted : Option Content) (events : List Event) (ready : IsReady tab bytes wanted events) where
@@ -15,25 +15,19 @@ module _ (tab : ℕ) (bytes : List ℕ) (options : ParseOptions) (wanted : Optio
       let r = ready.readable k h in
       (r.from.0, r.to.0, same, upto-order tab bytes (place_at events k) (place_at events (k + 1)) r.forward)
 
-  -- if neither of two places is before the other, they denote the same
-  same-order : (p q : Point) → stands_before p q ≡ false → stands_before q p ≡ false → denotes_same tab bytes p q ≡ true
-  same-order p q a b = upto-same tab bytes p q (upto-order tab bytes p q b) (upto-order tab bytes q p a)
-
-  -- a gap within a line: there is none, or it ends later
-  later-fits : (p q : Point) (b : Bool) → stands_before q p ≡ b → stands_before p q ≡ false → q.column ≡ 1 → p.line ≡ q.line
-      → (denotes_same tab bytes p q ≡ true) ⊎ ((q.column ≡ 1) × (p.line ≡ q.line) × (stands_before q p ≡ true))
-  later-fits p q true e f column line = inr (column, line, e)
-  later-fits p q false e f column line = inl (same-order p q f e)
-
+  -- a gap is within a line: there is none, or it ends later
   gap-fits : (text : Text) (k d : ℕ) → Fits k → next_of events k ≡ Some d → text.end ≡ place_at events (k + 1) → FitsAfter g text (passed (place_at events d))
   gap-fits text k d h e at =
       let gap = ready.gaps k d h e in
       let p : Point = place_at events d in
+      let q : Point = place_at events (k + 1) in
       let r = ready.readable d (fits_next tab bytes wanted events ready k d h e) in (
         r.from.0,
         subst (λ (q : Point). (denotes_same tab bytes p q ≡ true) ⊎ ((q.column ≡ 1) × (p.line ≡ q.line) × (stands_before q p ≡ true))) (sym at) (⊎_elim
-            (λ (s : place_at events (k + 1) ≡ p). inl (ap (λ (q : Point). denotes_same tab bytes p q) s ∙ same-self tab bytes p))
-            (λ (s : ((place_at events (k + 1)).column ≡ 1) × (p.line ≡ (place_at events (k + 1)).line)). later-fits p (place_at events (k + 1)) (stands_before (place_at events (k + 1)) p) refl gap.forward s.0 s.1)
+            (λ (s : q ≡ p). inl (ap (denotes_same tab bytes p) s ∙ same-self tab bytes p))
+            (λ (s : (q.column ≡ 1) × (p.line ≡ q.line)). by_test (stands_before q p)
+            (λ e. inr (s.0, s.1, e))
+            (λ e. inl (upto-same tab bytes p q (upto-order tab bytes p q e) (upto-order tab bytes q p gap.forward))))
             gap.in_line),
       )
 

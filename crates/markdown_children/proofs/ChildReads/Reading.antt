@@ -1,10 +1,10 @@
 -- The reading of a chain of a ready list: from its first chunk on, along its links.
-use Rattle.markdown_children.proofs.Prelude.{◌≡◌, ◌≢◌, ◌+◌, ◌<◌, ℕ, length, List, [], ◌∷◌, Option, Some, None, Bool, true, refl, sym, ap, ◌∙◌, subst, ◌↔◌, none-some, ParseOptions, Content, Event, Point, Message, Name, State, Next, IsPointOf, Subresult, Fault, Memory, Failed, next_of, Given, pushed, passed, empty_text, followed_by, FitsAfter, CanFollow, IsDocument, TokenizerValue, Rules, given_by, CanPush, IsWellFormed, IsPushed, IsFlushed, IsRefused, fits, begins, IsReady, place_at, LeadOnFrom, IsAtFirstParagraph, start_at, pieces_behind, pieces_of, text_of_chain, IsChild, IsChildFault, IsLawful, text_from, StartAmong, with_flag, start_seen, Piece}
+use Rattle.markdown_children.proofs.Prelude.{◌≡◌, ◌≢◌, ◌+◌, ◌<◌, ℕ, length, List, [], ◌∷◌, Option, Some, None, Bool, true, refl, sym, ap, ◌∙◌, subst, ◌↔◌, none-some, ParseOptions, Content, Event, Point, Message, Name, State, Next, Subresult, Fault, Memory, Failed, next_of, Given, Text, pushed, passed, empty_text, followed_by, followed_by_all, CanFollow, IsDocument, IsText, start_configuration, leads-refl, holds-on, TokenizerValue, Rules, given_by, CanPush, IsWellFormed, IsPushed, IsFlushed, IsRefused, fits, begins, IsReady, place_at, LeadOnFrom, IsAtFirstParagraph, start_at, pieces_behind, pieces_of, text_of_chain, IsChild, IsChildFault, IsLawful, text_from, StartAmong, with_flag, start_seen, Piece}
 use Rattle.markdown_tokenizer.specs.declared.tokenizer.fault.Fault.TheVariants as fault
 use Rattle.markdown_children.proofs.ChainOrder.Following.{fits_next, whole-from, inside}
 use Rattle.markdown_children.proofs.ChildReads.Pieces.{chunks_can_be_read}
 use Rattle.markdown_children.proofs.ChainOrder.Forward.{begins-fits}
-use Rattle.markdown_children.proofs.ChildReads.ChainReads.{Reads, reads-start, reads-range, reads-pushed, reads-gap, reads-passed, reads-flushed, reads-refused}
+use Rattle.markdown_children.proofs.ChildReads.ChainReads.{flagged, Reads, reads-range, reads-pushed, reads-passed, reads-flushed, reads-refused}
 
 -- the place of a point
 abbrev pub place_of_point : Point → ℕ × ℕ
@@ -25,19 +25,20 @@ pub record ReadsAt {M R D : Type 0} (rules : M → Given → Rules R D) (m : M) 
 abbrev pub range_next : List Event → ℕ → List ℕ → List Piece
 range_next events d ks = pushed (place_at events d) (place_at events (d + 1)) ∷ pieces_behind events ks
 
--- the place at which the chain begins
-pub chain-place : (tab : ℕ) (bytes : List ℕ) (wanted : Option Content) (events : List Event) (c : ℕ) → IsReady tab bytes wanted events → begins wanted events c ≡ true → IsPointOf tab bytes (place_at events c)
-chain-place tab bytes wanted events c ready b = (ready.readable c (begins-fits tab bytes wanted events ready c b)).from.0
-
 -- at the first chunk
 pub chain-first : {M R D : Type 0} (rules : M → Given → Rules R D) (m : M) (bytes : List ℕ) (options : ParseOptions) {wanted : Option Content} {events : List Event} {c : ℕ} {start : Name} {flag : Bool} {t u : TokenizerValue M R D}
     → IsReady options.tab_size bytes wanted events → begins wanted events c ≡ true → IsDocument (given_by bytes options) → IsLawful (given_by bytes options) (rules m (given_by bytes options))
     → StartAmong (rules m (given_by bytes options)).starts wanted events → start_at events c ≡ Some start → (flag ≡ true) ↔ IsAtFirstParagraph events c options.constructs
     → t ≡ with_flag flag u → u ≡ start_seen (given_by bytes options) m (empty_text (place_at events c)) → ReadsAt rules m bytes options wanted events c start (range_next events c) c t (Next start)
-chain-first rules m bytes options {wanted} {events} {c} {start} {flag} ready b document lawful among starts paragraph e f =
+chain-first rules m bytes options {wanted} {events} {c} {start} {flag} {t} ready b document lawful among starts paragraph e f =
     let g : Given = given_by bytes options in
     let h = begins-fits options.tab_size bytes wanted events ready c b in
     let w = whole-from options.tab_size bytes wanted events ready c h in
+    let text : Text = empty_text (place_at events c) in
+    let can = subst (λ ks. CanFollow g text (pieces_of events ks)) w.1 (chunks_can_be_read options.tab_size bytes options wanted events ready c b) in
+    let is : IsText g text = record { document = document; starts = (ready.readable c h).from.0; pieces = []; follow = tt; is = refl } in
+    let keeps = lawful.invariant_kept in
+    let start_is : t ≡ flagged g m (place_at events c) flag = e ∙ ap (with_flag flag) f in
     record {
       wide = document.tab.0;
       flag = flag;
@@ -45,8 +46,16 @@ chain-first rules m bytes options {wanted} {events} {c} {start} {flag} ready b d
       behind = w.0;
       lead = w.2;
       fit = h;
-      reads = reads-start (subst (λ ks. CanFollow g (empty_text (place_at events c)) (pieces_of events ks)) w.1 (chunks_can_be_read options.tab_size bytes options wanted events ready c b)) (ap (text_of_chain g events) (sym w.1))
-          (record { document = document; starts = (ready.readable c h).from.0; pieces = []; follow = tt; is = refl }) lawful.invariant_kept (among c start b starts) (e ∙ ap (with_flag flag) f);
+      reads = rw start_is (record {
+        same_given = refl;
+        machine = refl;
+        open_still = refl;
+        follow = can;
+        whole = ap (text_of_chain g events) (sym w.1);
+        outcome = λ rest follows.
+            leads-refl g (rules m g) (followed_by_all g text rest) (flagged g m (place_at events c) flag) (Next start)
+            (holds-on g (rules m g) keeps text rest (start_configuration flag) [] (Next start) is follows refl (keeps.at_starts (place_at events c) flag start is (among c start b starts)));
+      });
     }
 
 module _ {M R D : Type 0} {rules : M → Given → Rules R D} {m : M} {bytes : List ℕ} {options : ParseOptions} {wanted : Option Content} {events : List Event} {c : ℕ} {start : Name} {t : TokenizerValue M R D} {state : State} where
@@ -66,9 +75,6 @@ module _ {M R D : Type 0} {rules : M → Given → Rules R D} {m : M} {bytes : L
     }
 
   module _ (ready : IsReady options.tab_size bytes wanted events) {at : ℕ} (r : ReadsAt rules m bytes options wanted events c start (pieces_behind events) at t state) where
-    pub chain-inside : at + 1 < length events
-    chain-inside = inside options.tab_size bytes wanted events ready at r.fit
-
     -- if a link leads on, the next chunk is further on, inside the list
     pub chain-rises : {d : ℕ} → next_of events at ≡ Some d → (at < d) × (d + 1 < length events)
     chain-rises {d} e = (ready.forward at d e, inside options.tab_size bytes wanted events ready d (fits_next options.tab_size bytes wanted events ready at d r.fit e))
@@ -91,9 +97,6 @@ module _ {M R D : Type 0} {rules : M → Given → Rules R D} {m : M} {bytes : L
               fit = fits_next options.tab_size bytes wanted events ready at k r.fit lead.0;
               reads = reads;
             })
-
-    pub chain-gap : {d : ℕ} {p : Point} → next_of events at ≡ Some d → p ≡ place_at events d → FitsAfter t.given t.text (passed p)
-    chain-gap e is = rw is (reads-gap (chain-next e).reads)
 
     pub chain-passed : {d : ℕ} {p : Point} {u : TokenizerValue M R D} → next_of events at ≡ Some d → p ≡ place_at events d → u ≡ record t { text = followed_by t.given t.text (passed p) }
         → ReadsAt rules m bytes options wanted events c start (range_next events d) d u state
@@ -141,7 +144,3 @@ module _ {M R D : Type 0} {rules : M → Given → Rules R D} {m : M} {bytes : L
         let h = told message refl in
         let q = reads-refused all-read h in
         record { result = h.result; read = record { flag = r.flag; flagged = r.paragraph; start = start; starts = starts; ends = q.0.ends; within = q.0.within }; message = q.1 }
-
--- a chain is not read if it runs out of memory
-pub memory-child-fault : {R D : Type 0} (g : Given) (rules : Given → Rules R D) (events : List Event) (c : ℕ) (f : Fault) → f ≡ Memory → IsChildFault g rules events c f
-memory-child-fault g rules events c f e = subst (IsChildFault g rules events c) (sym e) tt

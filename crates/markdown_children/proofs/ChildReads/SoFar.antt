@@ -1,46 +1,33 @@
 -- The loop of `subtokenize`: what is known before the event at an index is looked at.
-use Rattle.markdown_children.proofs.Prelude.{◌≡◌, ℕ, zero, suc, ◌+◌, ◌-◌, ◌*◌, ◌<◌, ◌↔◌, true, false, List, [], ◌∷◌, ◌++◌, length, Option, Some, refl, sym, ◌∙◌, ap, subst, arith, append_assoc, append-nil, flat_map, filter, AllByRecursion, AllZip, range_with_len, map-append, length-map, filter-append, flat_map-append, Content, Event, IsBalanced, IsVoidTight, relinked, Edit, AreDisjoint, removed_by, added_by, edited, AreDisjoint-le, Subresult, Fault, Memory, Failed, Given, Rules, IsInShape, with_more, AreMutual, chain_of, begins, fitting_starts, IsReady, AreSpaced, HasEndsWithin, Divided, divided, divided_over, child_place, part_edits, chain_edits, all_edits, total, StandBefore, with_children, Child, lists, IsChild, AreChildren, IsChildFault, IsSubtokenized, IsSubtokenizeFault, SoFar, starts_below, AllZip-long, passing_more, length-append}
+use Rattle.markdown_children.proofs.Prelude.{◌≡◌, ℕ, zero, suc, ◌+◌, ◌-◌, ◌*◌, ◌<◌, ◌↔◌, true, false, List, [], ◌∷◌, ◌++◌, length, Option, Some, refl, sym, ◌∙◌, ap, subst, arith, add-zero, append_assoc, append-nil, flat_map, filter, AllByRecursion, map-append, length-map, flat_map-append, Content, Event, relinked, Edit, AreDisjoint, removed_by, added_by, AreDisjoint-le, Subresult, Fault, Memory, Failed, Given, Rules, with_more, chain_of, begins, fitting_starts, IsReady, AreSpaced, Divided, divided, divided_over, child_place, part_edits, chain_edits, all_edits, total, StandBefore, Child, lists, IsChild, AreChildren, IsChildFault, IsSubtokenizeFault, SoFar, starts_below, AllZip-long, all_zipped_more, passing_kept, passing_more, passing_pushed, length-append}
 use Rattle.markdown_tokenizer.specs.declared.tokenizer.fault.Fault.TheVariants as fault
-use Rattle.markdown_children.proofs.ChainOrder.Following.{filter-yes, filter-no, whole-from, follow_one_another}
+use Rattle.markdown_children.proofs.ChainOrder.Following.{filter-yes, whole-from, follow_one_another}
 use Rattle.markdown_children.proofs.ChainOrder.Forward.{begins-fits, within}
 use Rattle.markdown_children.proofs.ChainOrder.Spaced.{HasParts, divided-parts, divided_over-parts}
-use Rattle.markdown_children.proofs.Parts.InShape.{children_fit}
-use Rattle.markdown_children.proofs.Parts.Edits.{all_edits-spaced, total-divided, edits_give_children}
+use Rattle.markdown_children.proofs.Parts.Edits.{all_edits-spaced, total-divided}
 
 -- ---- one chain more
 
-removed_by-append : (es fs : List Edit) → removed_by (es ++ fs) ≡ removed_by es + removed_by fs
-removed_by-append [] fs = omega arith
-removed_by-append (e ∷ es) fs = omega (arith, removed_by-append es fs)
+sums-append : (es fs : List Edit) → (removed_by (es ++ fs) ≡ removed_by es + removed_by fs) × (added_by (es ++ fs) ≡ added_by es + added_by fs)
+sums-append [] fs = (omega arith, omega arith)
+sums-append (e ∷ es) fs = let r = sums-append es fs in (omega (arith, r.0), omega (arith, r.1))
 
-added_by-append : (es fs : List Edit) → added_by (es ++ fs) ≡ added_by es + added_by fs
-added_by-append [] fs = omega arith
-added_by-append (e ∷ es) fs = omega (arith, added_by-append es fs)
-
-removed_by-parts : (f : ℕ → Option ℕ) (ks : List ℕ) (ps : List (List Event)) → length ks ≡ length ps → removed_by (part_edits f ks ps) ≡ 2 * length ks
-removed_by-parts f [] ps e = omega arith
-removed_by-parts f (k ∷ ks) [] e = absurd (omega arith)
-removed_by-parts f (k ∷ ks) (p ∷ ps) e = omega (arith, removed_by-parts f ks ps (omega arith))
-
-added_by-parts : (f : ℕ → Option ℕ) (ks : List ℕ) (ps : List (List Event)) → length ks ≡ length ps → added_by (part_edits f ks ps) ≡ total ps
-added_by-parts f [] [] e = refl
-added_by-parts f [] (p ∷ ps) e = absurd (omega arith)
-added_by-parts f (k ∷ ks) [] e = absurd (omega arith)
-added_by-parts f (k ∷ ks) (p ∷ ps) e = omega (arith, length-map p (relinked f), added_by-parts f ks ps (omega arith))
+sums-parts : (f : ℕ → Option ℕ) (ks : List ℕ) (ps : List (List Event)) → length ks ≡ length ps → (removed_by (part_edits f ks ps) ≡ 2 * length ks) × (added_by (part_edits f ks ps) ≡ total ps)
+sums-parts f [] [] e = (omega arith, refl)
+sums-parts f (k ∷ ks) (p ∷ ps) e = let r = sums-parts f ks ps (omega arith) in (omega (arith, r.0), omega (arith, length-map p (relinked f), r.1))
+sums-parts f ks ps e = absurd (omega arith)
 
 -- the edits of chains, and of one more behind them
 pub all_edits-push : (removed added : ℕ) (ds : List Divided) (d : Divided) → AllByRecursion HasParts ds
     → all_edits removed added (ds ++ d ∷ []) ≡ all_edits removed added ds ++ chain_edits (removed + removed_by (all_edits removed added ds)) (added + added_by (all_edits removed added ds)) d
 all_edits-push removed added [] d h =
-    let z : removed ≡ removed + 0 = omega arith in
-    let y : added ≡ added + 0 = omega arith in
-    append-nil (chain_edits removed added d) ∙ (λ j. chain_edits (z j) (y j) d)
+    append-nil (chain_edits removed added d) ∙ (λ j. chain_edits (sym (add-zero removed) j) (sym (add-zero added) j) d)
 all_edits-push removed added (c ∷ ds) d h =
     let f : ℕ → Option ℕ = child_place c.chunks c.parts removed added in
     let front : List Edit = chain_edits removed added c in
     let rest : List Edit = all_edits (removed + 2 * length c.chunks) (added + total c.parts) ds in
-    let z : removed + 2 * length c.chunks + removed_by rest ≡ removed + removed_by (front ++ rest) = omega (arith, removed_by-append front rest, removed_by-parts f c.chunks c.parts h.0) in
-    let y : added + total c.parts + added_by rest ≡ added + added_by (front ++ rest) = omega (arith, added_by-append front rest, added_by-parts f c.chunks c.parts h.0) in
+    let z : removed + 2 * length c.chunks + removed_by rest ≡ removed + removed_by (front ++ rest) = omega (arith, (sums-append front rest).0, (sums-parts f c.chunks c.parts h.0).0) in
+    let y : added + total c.parts + added_by rest ≡ added + added_by (front ++ rest) = omega (arith, (sums-append front rest).1, (sums-parts f c.chunks c.parts h.0).1) in
     ap (λ es. front ++ es) (all_edits-push (removed + 2 * length c.chunks) (added + total c.parts) ds d h.1)
     ∙ sym (append_assoc front rest (chain_edits (removed + 2 * length c.chunks + removed_by rest) (added + total c.parts + added_by rest) d))
     ∙ (λ j. (front ++ rest) ++ chain_edits (z j) (y j) d)
@@ -48,36 +35,19 @@ all_edits-push removed added (c ∷ ds) d h =
 divided_over-push : (events : List Event) (cs : List ℕ) (children : List (List Event)) (c : ℕ) (child : List Event) → length cs ≡ length children
     → divided_over events (cs ++ c ∷ []) (children ++ child ∷ []) ≡ divided_over events cs children ++ divided events c child ∷ []
 divided_over-push events [] [] c child e = refl
-divided_over-push events [] (x ∷ children) c child e = absurd (omega arith)
-divided_over-push events (b ∷ cs) [] c child e = absurd (omega arith)
 divided_over-push events (b ∷ cs) (x ∷ children) c child e = ap (λ ds. divided events b x ∷ ds) (divided_over-push events cs children c child (omega arith))
-
-all-zip-push : {A B : Type 0} (R : A → B → Type 0) (xs : List A) (ys : List B) (x : A) (y : B) → AllZip R xs ys → R x y → AllZip R (xs ++ x ∷ []) (ys ++ y ∷ [])
-all-zip-push R [] [] x y h r = (r, tt)
-all-zip-push R [] (b ∷ ys) x y h r = absurd h
-all-zip-push R (a ∷ xs) [] x y h r = absurd h
-all-zip-push R (a ∷ xs) (b ∷ ys) x y h r = (h.0, all-zip-push R xs ys x y h.1 r)
+divided_over-push events cs children c child e = absurd (omega arith)
 
 -- ---- the chains that begin below an index
 
-range-split : (a k m : ℕ) → range_with_len a (k + m) ≡ range_with_len a k ++ range_with_len (a + k) m
-range-split a zero m = let z : 0 + m ≡ m = omega arith in let y : a ≡ a + 0 = omega arith in (λ j. range_with_len (y j) (z j))
-range-split a (suc k) m =
-    let z : suc k + m ≡ suc (k + m) = omega arith in
-    let y : a + 1 + k ≡ a + suc k = omega arith in
-    ap (range_with_len a) z ∙ ap (λ ks. a ∷ ks) (range-split (a + 1) k m) ∙ ap (λ b. (a ∷ range_with_len (a + 1) k) ++ range_with_len b m) y
-
-starts-split : (wanted : Option Content) (events : List Event) (i : ℕ) → i < length events → begins wanted events i ≡ true → (behind : List ℕ) × (fitting_starts wanted events ≡ starts_below wanted events i ++ i ∷ behind)
-starts-split wanted events i l b =
-    let m : ℕ = length events - (i + 1) in
-    let z : length events ≡ i + suc m = omega arith in
-    let y : 0 + i ≡ i = omega arith in (
-      filter (begins wanted events) (range_with_len (i + 1) m),
-      ap (λ n. filter (begins wanted events) (range_with_len 0 n)) z
-          ∙ ap (filter (begins wanted events)) (range-split 0 i (suc m) ∙ ap (λ c. range_with_len 0 i ++ range_with_len c (suc m)) y)
-          ∙ filter-append (begins wanted events) (range_with_len 0 i) (range_with_len i (suc m))
-          ∙ ap (λ ks. starts_below wanted events i ++ ks) (filter-yes (begins wanted events) i (range_with_len (i + 1) m) b),
-    )
+starts-split : (wanted : Option Content) (events : List Event) (i m : ℕ) → begins wanted events i ≡ true → (behind : List ℕ) × (starts_below wanted events (i + 1 + m) ≡ starts_below wanted events i ++ i ∷ behind)
+starts-split wanted events i zero b =
+    ([], ap (starts_below wanted events) (add-zero (i + 1)) ∙ passing_more (begins wanted events) i ∙ ap (λ ks. starts_below wanted events i ++ ks) (filter-yes (begins wanted events) i [] b))
+starts-split wanted events i (suc m) b =
+    let r = starts-split wanted events i m b in
+    let z : i + 1 + suc m ≡ i + 1 + m + 1 = omega arith in
+    let last : List ℕ = filter (begins wanted events) ((i + 1 + m) ∷ []) in
+    (r.0 ++ last, ap (starts_below wanted events) z ∙ passing_more (begins wanted events) (i + 1 + m) ∙ ap (λ ks. ks ++ last) r.1 ∙ append_assoc (starts_below wanted events i) (i ∷ r.0) last)
 
 -- ---- what the calls require
 
@@ -86,9 +56,8 @@ spaced-front from n k [] ys h = h.0
 spaced-front from n k (x ∷ xs) ys h = (h.0, spaced-front (x + 2) n k xs ys h.1)
 
 two-parts : (f : ℕ → Option ℕ) (ks : List ℕ) (ps : List (List Event)) (es : List Edit) → AllByRecursion (λ (e : Edit). e.remove ≡ 2) es → AllByRecursion (λ (e : Edit). e.remove ≡ 2) (part_edits f ks ps ++ es)
-two-parts f [] ps es h = h
-two-parts f (k ∷ ks) [] es h = h
 two-parts f (k ∷ ks) (p ∷ ps) es h = (refl, two-parts f ks ps es h)
+two-parts f ks ps es h = h
 
 two-each : (removed added : ℕ) (ds : List Divided) → AllByRecursion (λ (e : Edit). e.remove ≡ 2) (all_edits removed added ds)
 two-each removed added [] = tt
@@ -106,10 +75,11 @@ module _ (tab : ℕ) (bytes : List ℕ) (wanted : Option Content) (events : List
       let f = follow_one_another tab bytes wanted events ready in
       let w = whole-from tab bytes wanted events ready i (begins-fits tab bytes wanted events ready i b) in
       let inside : i + 1 < length events = within tab bytes wanted events ready i b in
-      let s = starts-split wanted events i (omega arith) b in
+      let s = starts-split wanted events i (length events - (i + 1)) b in
+      let z : length events ≡ i + 1 + (length events - (i + 1)) = omega arith in
       let below : List ℕ = starts_below wanted events i in
       let is : flat_map (chain_of events) (fitting_starts wanted events) ≡ flat_map (chain_of events) below ++ i ∷ (w.0 ++ flat_map (chain_of events) s.0) =
-      ap (flat_map (chain_of events)) s.1 ∙ flat_map-append (chain_of events) below (i ∷ s.0)
+      ap (flat_map (chain_of events)) (ap (starts_below wanted events) z ∙ s.1) ∙ flat_map-append (chain_of events) below (i ∷ s.0)
       ∙ ap (λ ks. flat_map (chain_of events) below ++ (ks ++ flat_map (chain_of events) s.0)) w.1 in
       let spaced : AreSpaced 0 (flat_map (chain_of events) below ++ i ∷ (w.0 ++ flat_map (chain_of events) s.0)) (length events) =
       subst (λ (ks : List ℕ). AreSpaced 0 ks (length events)) (sym f.in_order ∙ is) f.spaced in
@@ -119,27 +89,18 @@ module _ (tab : ℕ) (bytes : List ℕ) (wanted : Option Content) (events : List
 -- ---- the invariant
 
 -- what holds of the events of each child holds of their lists
-lists-all : {R D : Type 0} (g : Given) (rules : Given → Rules R D) (events : List Event) (P : List Event → Type 0) → ((c : ℕ) (child : Child) → IsChild g rules events c child → P child.events)
+pub lists-all : {R D : Type 0} (g : Given) (rules : Given → Rules R D) (events : List Event) (P : List Event → Type 0) → ((c : ℕ) (child : Child) → IsChild g rules events c child → P child.events)
     → (cs : List ℕ) (children : List Child) → AreChildren g rules events cs children → AllByRecursion P (lists children)
 lists-all g rules events P f [] [] h = tt
-lists-all g rules events P f [] (child ∷ children) h = absurd h
-lists-all g rules events P f (c ∷ cs) [] h = absurd h
 lists-all g rules events P f (c ∷ cs) (child ∷ children) h = (f c child h.0, lists-all g rules events P f cs children h.1)
-
--- where memory runs out
-pub memory-fault : {R D : Type 0} (g : Given) (rules : Given → Rules R D) (wanted : Option Content) (events : List Event) (f : Fault) → f ≡ Memory → IsSubtokenizeFault g rules wanted events f
-memory-fault g rules wanted events f e = subst (IsSubtokenizeFault g rules wanted events) (sym e) tt
+lists-all g rules events P f cs children h = absurd h
 
 module _ {R D : Type 0} {g : Given} {rules : Given → Rules R D} {wanted : Option Content} {events : List Event} where
-  pub so_far-start : {es : List Edit} {sub : Subresult} → es ≡ [] → sub.done ≡ true → sub.definitions ≡ [] → sub.gfm_footnote_definitions ≡ [] → SoFar g rules wanted events 0 es (0, 0) sub
-  so_far-start e d f n = record { children = []; read = tt; edits = e; removed = ap removed_by (sym e); added = ap added_by (sym e); done = ((λ t. refl), (λ t. d)); definitions = f; footnotes = n }
-
   -- nothing begins there
   pub so_far-other : {i : ℕ} {es fs : List Edit} {sums more : ℕ × ℕ} {sub found : Subresult} → begins wanted events i ≡ false → fs ≡ es → more ≡ sums → found ≡ sub → SoFar g rules wanted events i es sums sub
       → SoFar g rules wanted events (i + 1) fs more found
   so_far-other {i} {sub = sub} b e d f s =
-      let same : starts_below wanted events i ≡ starts_below wanted events (i + 1) =
-      sym (passing_more (begins wanted events) i ∙ ap (λ ks. starts_below wanted events i ++ ks) (filter-no (begins wanted events) i [] b) ∙ append-nil (starts_below wanted events i)) in
+      let same : starts_below wanted events i ≡ starts_below wanted events (i + 1) = passing_kept (begins wanted events) i (starts_below wanted events i) refl b in
       rw (e, d, f) (record {
         children = s.children;
         read = subst (λ (ks : List ℕ). AreChildren g rules events ks s.children) same s.read;
@@ -160,7 +121,7 @@ module _ {R D : Type 0} {g : Given} {rules : Given → Rules R D} {wanted : Opti
       → SoFar g rules wanted events (i + 1) fs more found
   so_far-next {i} {es} {fs} {sums} {more} {sub} {found} {child} {tab} {bytes} ready b s is e r a f_is =
       let cs : List ℕ = starts_below wanted events i in
-      let next : cs ++ i ∷ [] ≡ starts_below wanted events (i + 1) = sym (passing_more (begins wanted events) i ∙ ap (λ ks. cs ++ ks) (filter-yes (begins wanted events) i [] b)) in
+      let next : cs ++ i ∷ [] ≡ starts_below wanted events (i + 1) = passing_pushed (begins wanted events) i cs (cs ++ i ∷ []) refl b refl in
       let long : length cs ≡ length (lists s.children) = sym (AllZip-long (IsChild g rules events) cs s.children s.read) ∙ sym (length-map s.children (λ (c : Child). c.events)) in
       let ds : List Divided = divided_over events cs (lists s.children) in
       let dv : Divided = divided events i child.events in
@@ -171,43 +132,17 @@ module _ {R D : Type 0} {g : Given} {rules : Given → Rules R D} {wanted : Opti
       let zero_a : sums.1 ≡ 0 + added_by old = s.added ∙ ap added_by s.edits ∙ (omega arith) in
       record {
         children = s.children ++ child ∷ [];
-        read = subst (λ (ks : List ℕ). AreChildren g rules events ks (s.children ++ child ∷ [])) next (all-zip-push (IsChild g rules events) cs s.children i child s.read is);
+        read = subst (λ (ks : List ℕ). AreChildren g rules events ks (s.children ++ child ∷ [])) next (all_zipped_more (IsChild g rules events) cs s.children i child s.read is);
         edits = e ∙ (λ j. s.edits j ++ chain_edits (zero_r j) (zero_a j) dv)
             ∙ sym (all_edits-push 0 0 ds dv (divided_over-parts events cs (lists s.children)))
             ∙ ap (all_edits 0 0) (sym (divided_over-push events cs (lists s.children) i child.events long))
             ∙ (λ j. all_edits 0 0 (divided_over events (next j) (sym (map-append (λ (c : Child). c.events) s.children (child ∷ [])) j)));
-        removed = r ∙ omega (arith, s.removed, ap removed_by e, removed_by-append es (chain_edits sums.0 sums.1 dv), removed_by-parts f dv.chunks dv.parts (divided-parts events i child.events));
-        added = a ∙ omega (arith, s.added, ap added_by e, added_by-append es (chain_edits sums.0 sums.1 dv), added_by-parts f dv.chunks dv.parts (divided-parts events i child.events), total-divided events i child.events w);
+        removed = r ∙ omega (arith, s.removed, ap removed_by e, (sums-append es (chain_edits sums.0 sums.1 dv)).0, (sums-parts f dv.chunks dv.parts (divided-parts events i child.events)).0);
+        added = a ∙ omega (arith, s.added, ap added_by e, (sums-append es (chain_edits sums.0 sums.1 dv)).1, (sums-parts f dv.chunks dv.parts (divided-parts events i child.events)).1, total-divided events i child.events w);
         done = ((λ t. absurd (let no : true ≡ false = sym t ∙ (ap (λ (x : Subresult). x.done) f_is) in cc)), (λ t. absurd (omega (arith, ap length (next ∙ t), length-append cs (i ∷ [])))));
         definitions = (ap (λ (x : Subresult). x.definitions) f_is) ∙ ap (λ xs. xs ++ child.found.definitions) s.definitions ∙ sym (flat_map-append (λ (c : Child). c.found.definitions) s.children (child ∷ []) ∙ ap (λ ys. flat_map (λ (c : Child). c.found.definitions) s.children ++ ys) (append-nil child.found.definitions));
         footnotes = (ap (λ (x : Subresult). x.gfm_footnote_definitions) f_is) ∙ ap (λ xs. xs ++ child.found.gfm_footnote_definitions) s.footnotes ∙ sym (flat_map-append (λ (c : Child). c.found.gfm_footnote_definitions) s.children (child ∷ []) ∙ ap (λ ys. flat_map (λ (c : Child). c.found.gfm_footnote_definitions) s.children ++ ys) (append-nil child.found.gfm_footnote_definitions));
       }
-
-  -- all was read, and the edits were made
-  pub so_far-end : {tab : ℕ} {bytes : List ℕ} {es : List Edit} {sums : ℕ × ℕ} {sub : Subresult} {new : List Event} → IsReady tab bytes wanted events → SoFar g rules wanted events (length events) es sums sub → new ≡ edited es events
-      → IsSubtokenized g rules wanted events new sub
-  so_far-end {tab} {bytes} {es} {sums} {sub} {new} ready s e =
-      let fit = children_fit tab bytes wanted events ready (lists s.children) in
-      let each = λ (P : List Event → Type 0) (f : (c : ℕ) (child : Child) → IsChild g rules events c child → P child.events). lists-all g rules events P f (starts_below wanted events (length events)) s.children s.read in
-      let is : new ≡ with_children wanted events (lists s.children) = e ∙ ap (λ fs. edited fs events) s.edits ∙ (edits_give_children tab bytes wanted events (lists s.children) ready).give (each HasEndsWithin (λ c child is. is.in_shape.inside)) in
-      record {
-        children = s.children;
-        read = s.read;
-        events = is;
-        in_shape = subst IsInShape (sym is) (record { balanced = fit.balanced (each IsBalanced (λ c child is. is.in_shape.balanced)); inside = fit.inside; chained = fit.chained (each AreMutual (λ c child is. is.in_shape.chained)) });
-        tight = λ old bs torn. subst IsVoidTight (sym is) (fit.tight old bs torn);
-        stays = fit.stays;
-        links = fit.links;
-        done = s.done;
-        definitions = s.definitions;
-        footnotes = s.footnotes;
-      }
-
-  pub so_far-disjoint : {tab : ℕ} {bytes : List ℕ} {es : List Edit} {sums : ℕ × ℕ} {sub : Subresult} → IsReady tab bytes wanted events → SoFar g rules wanted events (length events) es sums sub → AreDisjoint 0 es (length events)
-  so_far-disjoint {tab} {bytes} ready s = subst (λ (fs : List Edit). AreDisjoint 0 fs (length events)) (sym s.edits) (edits_give_children tab bytes wanted events (lists s.children) ready).disjoint
-
-  pub so_far-before : {tab : ℕ} {bytes : List ℕ} {i : ℕ} {es : List Edit} {sums : ℕ × ℕ} {sub : Subresult} → IsReady tab bytes wanted events → begins wanted events i ≡ true → SoFar g rules wanted events i es sums sub → StandBefore es i
-  so_far-before {tab} {bytes} {i} ready b s = subst (λ (fs : List Edit). StandBefore fs i) (sym s.edits) (stand-before tab bytes wanted events ready i (lists s.children) b)
 
   -- where a chain ended in a message or ran out of memory, `subtokenize` fails as the chain does
   pub so_far-fault : {i : ℕ} {es : List Edit} {sums : ℕ × ℕ} {sub : Subresult} (f : Fault) → i < length events → begins wanted events i ≡ true → SoFar g rules wanted events i es sums sub → IsChildFault g rules events i f
@@ -215,5 +150,6 @@ module _ {R D : Type 0} {g : Given} {rules : Given → Rules R D} {wanted : Opti
   so_far-fault Memory l b s r = tt
   so_far-fault Failed l b s r = absurd r
   so_far-fault {i} (fault.Message m) l b s r =
-      let split = starts-split wanted events i l b in
-      record { front = starts_below wanted events i; chain = i; behind = split.0; starts = split.1; children = s.children; read = s.read; refused = r }
+      let split = starts-split wanted events i (length events - (i + 1)) b in
+      let z : length events ≡ i + 1 + (length events - (i + 1)) = omega arith in
+      record { front = starts_below wanted events i; chain = i; behind = split.0; starts = ap (starts_below wanted events) z ∙ split.1; children = s.children; read = s.read; refused = r }

@@ -3,7 +3,7 @@ use Rattle.markdown_children.proofs.Prelude.{◌≡◌, ℕ, zero, suc, ◌+◌,
 use Rattle.markdown_children.proofs.ChainOrder.Following.{filter-yes, filter-no, by_test, follow_one_another}
 use Rattle.markdown_children.proofs.ChainOrder.Spaced.{AreSpaced-le, divided-parts, changes_are_apart}
 use Rattle.markdown_children.proofs.Parts.Kept.{joined, joined-parts}
-use Rattle.markdown_children.proofs.Parts.Placed.{HasEndsInside, AreChains, edited-children}
+use Rattle.markdown_children.proofs.Parts.Placed.{AreChains, edited-children}
 
 -- ---- disjoint
 
@@ -15,12 +15,11 @@ edits-spaced f from n (k ∷ ks) more (p ∷ ps) es e h rest = (h.0, edits-space
 
 pub all_edits-spaced : (events : List Event) (cs : List ℕ) (children : List (List Event)) (removed added from n : ℕ) → AreSpaced from (flat_map (chain_of events) cs) n
     → AreDisjoint from (all_edits removed added (divided_over events cs children)) n
-all_edits-spaced events [] children removed added from n h = h
-all_edits-spaced events (c ∷ cs) [] removed added from n h = AreSpaced-le from n (flat_map (chain_of events) (c ∷ cs)) h
 all_edits-spaced events (c ∷ cs) (child ∷ children) removed added from n h =
     let d : Divided = divided events c child in
     edits-spaced (child_place d.chunks d.parts removed added) from n d.chunks (flat_map (chain_of events) cs) d.parts (all_edits (removed + 2 * length d.chunks) (added + total d.parts) (divided_over events cs children))
     (divided-parts events c child) h (λ m r. all_edits-spaced events cs children (removed + 2 * length d.chunks) (added + total d.parts) m n r)
+all_edits-spaced events cs children removed added from n h = AreSpaced-le from n (flat_map (chain_of events) cs) h
 
 -- ---- the chains that fit begin at different chunks
 
@@ -40,10 +39,9 @@ rising test (suc f) i = by_test (test i)
 
 pub differ : (events : List Event) (c b : ℕ) (cs : List ℕ) (children : List (List Event)) → b ≡ c → AllByRecursion (λ (d : ℕ). c < d) cs → AllByRecursion (IsWholeFrom events) cs
     → AllByRecursion (λ (other : Divided). first_chunk other.chunks ≡ b → ⊥) (divided_over events cs children)
-differ events c b [] children e h w = tt
-differ events c b (d ∷ cs) [] e h w = tt
 differ events c b (d ∷ cs) (child ∷ children) e h w =
     ((λ s. let l : c < d = h.0 in let is : d ≡ c = sym (ap first_chunk w.0.1) ∙ s ∙ e in absurd (omega arith)), differ events c b cs children e h.1 w.1)
+differ events c b cs children e h w = tt
 
 -- ---- the parts' link ends lie inside the child
 
@@ -61,19 +59,16 @@ total-divided events c child w =
     ∙ total-joined (parts (place_at events (c + 1) ∷ map (λ k. place_at events (k + 1)) w.0) child)
     ∙ ap length (joined-parts (place_at events (c + 1)) (map (λ k. place_at events (k + 1)) w.0) child)
 
-ends-divided : (events : List Event) (c : ℕ) (child : List Event) → IsWholeFrom events c → HasEndsWithin child → HasEndsInside (divided events c child)
-ends-divided events c child w h =
-    let ends : List Point = map (λ k. place_at events (k + 1)) w.0 in
-    let ps : List (List Event) = parts (place_at events (c + 1) ∷ ends) child in
-    let inside : All (EndsBelow (length child)) (joined ps) = subst (All (EndsBelow (length child))) (sym (joined-parts (place_at events (c + 1)) ends child)) h in
-    subst (λ (n : ℕ). AllByRecursion (All (EndsBelow n)) (divided events c child).parts) (sym (total-divided events c child w))
-    (subst (AllByRecursion (All (EndsBelow (length child)))) (sym (ap (λ ks. parts (map (λ k. place_at events (k + 1)) ks) child) w.1)) (ends-parts (length child) ps (recursion_from_All (EndsBelow (length child)) (joined ps) inside)))
-
 pub are-chains : (events : List Event) (cs : List ℕ) (children : List (List Event)) → IsRising cs → AllByRecursion (IsWholeFrom events) cs → AllByRecursion HasEndsWithin children → AreChains (divided_over events cs children)
-are-chains events [] children r w h = tt
-are-chains events (c ∷ cs) [] r w h = tt
 are-chains events (c ∷ cs) (child ∷ children) r w h =
-    ((divided-parts events c child, ends-divided events c child w.0 h.0), differ events c (first_chunk (chain_of events c)) cs children (ap first_chunk w.0.1) r.0 w.1, are-chains events cs children r.1 w.1 h.1)
+    let ends : List Point = map (λ k. place_at events (k + 1)) w.0.0 in
+    let ps : List (List Event) = parts (place_at events (c + 1) ∷ ends) child in
+    let inside : All (EndsBelow (length child)) (joined ps) = subst (All (EndsBelow (length child))) (sym (joined-parts (place_at events (c + 1)) ends child)) h.0 in
+    let each : AllByRecursion (All (EndsBelow (total (divided events c child).parts))) (divided events c child).parts =
+    subst (λ (n : ℕ). AllByRecursion (All (EndsBelow n)) (divided events c child).parts) (sym (total-divided events c child w.0))
+    (subst (AllByRecursion (All (EndsBelow (length child)))) (sym (ap (λ ks. parts (map (λ k. place_at events (k + 1)) ks) child) w.0.1)) (ends-parts (length child) ps (recursion_from_All (EndsBelow (length child)) (joined ps) inside))) in
+    ((divided-parts events c child, each), differ events c (first_chunk (chain_of events c)) cs children (ap first_chunk w.0.1) r.0 w.1, are-chains events cs children r.1 w.1 h.1)
+are-chains events cs children r w h = tt
 
 pub edits_give_children : (tab : ℕ) (bytes : List ℕ) (wanted : Option Content) (events : List Event) (children : List (List Event)) → IsReady tab bytes wanted events → EditsGiveChildren wanted events children
 edits_give_children tab bytes wanted events children ready =

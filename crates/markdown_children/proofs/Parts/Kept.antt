@@ -2,7 +2,7 @@
 --
 -- Between two chunks of a chain is a balanced list, which leaves each stack of open names as it is. So the parts of a child act on the
 -- stack one directly after another, as the child itself would, and that is balanced.
-use Rattle.markdown_children.proofs.Prelude.{◌≡◌, ℕ, zero, suc, true, ◌+◌, ◌-◌, ◌≤◌, List, [], ◌∷◌, ◌++◌, length, map, drop, take, Option, Some, None, refl, sym, ◌∙◌, ap, subst, arith, append-nil, take-append-drop, flat_map, slice_get, AllByRecursion, between, range_with_len, map-append, drop-drop, Content, Event, Point, IsBalanced, drop-at, names_after, names_after_all, Tagged, Change, woven, placed_in, AreApart, olds, pass, woven-pass, names_after_all-append, names_after_balanced, balanced_from_open, IsBalanced-pair, names-none, chain_of, fits, fitting_starts, IsReady, place_at, LeadOnFrom, IsWholeFrom, AreSpaced, front_until, parts, divided_over, tagged_child, part_changes, chain_changes, child_changes, with_children}
+use Rattle.markdown_children.proofs.Prelude.{◌≡◌, ℕ, zero, suc, true, ◌+◌, ◌-◌, ◌≤◌, List, [], ◌∷◌, ◌++◌, length, map, drop, take, Option, Some, None, refl, sym, ◌∙◌, ap, subst, arith, append-nil, take-append-drop, flat_map, slice_get, AllByRecursion, between, range_with_len, map-append, drop-drop, Content, Event, Point, IsBalanced, drop-at, names_after, names_after_all, Tagged, Change, woven, placed_in, olds, pass, woven-pass, names_after_all-append, names_after_balanced, balanced_from_open, IsBalanced-pair, names-none, chain_of, fits, fitting_starts, IsReady, place_at, LeadOnFrom, IsWholeFrom, AreSpaced, front_until, parts, Divided, divided_over, first_chunk, tagged_child, part_changes, chain_changes, child_changes, with_children, every-all, zero-add}
 use Rattle.markdown_base.specs.declared.event.Name.{Name}
 use Rattle.markdown_children.proofs.ChainOrder.Following.{chunk, starts_fit, follow_one_another}
 use Rattle.markdown_children.proofs.ChainOrder.Spaced.{length-parts, length-map_ends, changes_are_apart}
@@ -10,8 +10,7 @@ use Rattle.markdown_children.proofs.ChainOrder.Spaced.{length-parts, length-map_
 -- ---- the parts together are the child
 
 abbrev pub joined : List (List Event) → List Event
-joined [] = []
-joined (p ∷ ps) = p ++ joined ps
+joined ps = flat_map (λ (p : List Event). p) ps
 
 take-drop_taken : (k : ℕ) (es : List Event) → take k es ++ drop (length (take k es)) es ≡ es
 take-drop_taken zero es = refl
@@ -69,10 +68,7 @@ module _ (tab : ℕ) (bytes : List ℕ) (wanted : Option Content) (events : List
   after-step w ws i l =
       let z : i + (w.index + w.remove - i) ≡ w.index + w.remove = omega arith in
       let rest : drop (w.index + w.remove - i) (drop i events) ≡ drop (w.index + w.remove) events = drop-drop (w.index + w.remove - i) i events ∙ ap (λ m. drop m events) z in
-      map-append (λ (t : Tagged). t.event) (olds i (between i w.index events)) (w.events ++ pass ws (w.index + w.remove) (drop (w.index + w.remove - i) (drop i events)))
-      ∙ ap (λ ys. ys ++ untagged (w.events ++ pass ws (w.index + w.remove) (drop (w.index + w.remove - i) (drop i events)))) (untagged-olds i (between i w.index events))
-      ∙ ap (λ ys. between i w.index events ++ ys) (map-append (λ (t : Tagged). t.event) w.events (pass ws (w.index + w.remove) (drop (w.index + w.remove - i) (drop i events)))
-      ∙ ap (λ xs. untagged w.events ++ untagged (pass ws (w.index + w.remove) xs)) rest)
+      simp (map-append, untagged-olds i (between i w.index events), rest)
 
   -- what the change of a chain's next chunk leaves
   pub part_after : (c j i d : ℕ) (ks : List ℕ) (p : List Event) (ps : List (List Event)) (ws : List Change) → i ≤ d
@@ -93,16 +89,14 @@ module _ (tab : ℕ) (bytes : List ℕ) (wanted : Option Content) (events : List
       ap (names_after_all o) is ∙ names_after_all-append o (c.enter ∷ c.exit ∷ []) (drop (k + 2) events)
       ∙ ap (λ p. names_after_all p (drop (k + 2) events)) (names-leave (IsBalanced-pair c.enter c.exit c.linked.enter c.ended.exits c.ended.same) o)
 
-  -- what comes behind the chains at hand is kept
-  abbrev IsKeptBehind : List ℕ → List Change → Type 0
-  IsKeptBehind more ws = (m : ℕ) → AreSpaced m more n → (o : Option (List Name)) → names_after_all o (after_changes ws m) ≡ names_after_all o (drop m events)
+  -- changes keep each stack from an index on
+  abbrev IsKept : List Change → ℕ → Type 0
+  IsKept ws i = (o : Option (List Name)) → names_after_all o (after_changes ws i) ≡ names_after_all o (drop i events)
 
   -- behind the chunk at k its chain's other parts act as if they were adjacent
-  through : (c j k : ℕ) (ks more : List ℕ) (ps : List (List Event)) (ws : List Change) → Fits k → LeadOnFrom events k ks → length ks ≡ length ps → AreSpaced (k + 2) (ks ++ more) n → IsKeptBehind more ws
+  through : (c j k : ℕ) (ks more : List ℕ) (ps : List (List Event)) (ws : List Change) → Fits k → LeadOnFrom events k ks → length ks ≡ length ps → AreSpaced (k + 2) (ks ++ more) n → ((m : ℕ) → AreSpaced m more n → IsKept ws m)
       → (o : Option (List Name)) → names_after_all o (after_changes (part_changes c j ks ps ++ ws) (k + 2)) ≡ names_after_all (names_after_all o (joined ps)) (drop (k + 2) events)
   through c j k [] more [] ws h lead e sp kept o = kept (k + 2) sp o ∙ ap (λ p. names_after_all p (drop (k + 2) events)) (sym (names-none o))
-  through c j k [] more (p ∷ ps) ws h lead e sp kept o = absurd (omega arith)
-  through c j k (d ∷ ks) more [] ws h lead e sp kept o = absurd (omega arith)
   through c j k (d ∷ ks) more (p ∷ ps) ws h lead e sp kept o =
       let rest : List Change = part_changes c (j + length p) ks ps ++ ws in
       let gap = names-leave (ready.gaps k d h lead.0).balanced in
@@ -115,12 +109,13 @@ module _ (tab : ℕ) (bytes : List ℕ) (wanted : Option Content) (events : List
       ∙ through c (j + length p) d ks more ps ws fit lead.2 (omega arith) sp.1 kept (names_after_all o p)
       ∙ ap (λ q. names_after_all q (drop (d + 2) events)) (sym (names_after_all-append o p (joined ps)))
       ∙ sym (old (names_after_all o (p ++ joined ps)))
+  through c j k ks more ps ws h lead e sp kept o = absurd (omega arith)
 
   -- a chain whose parts together are balanced
-  one_chain : (c i : ℕ) (ks more : List ℕ) (ps : List (List Event)) (ws : List Change) → Fits c → LeadOnFrom events c ks → suc (length ks) ≡ length ps → IsBalanced (joined ps) → AreSpaced i (c ∷ (ks ++ more)) n → IsKeptBehind more ws
-      → (o : Option (List Name)) → names_after_all o (after_changes (part_changes c 0 (c ∷ ks) ps ++ ws) i) ≡ names_after_all o (drop i events)
-  one_chain c i ks more [] ws h lead e b sp kept o = absurd (omega arith)
-  one_chain c i ks more (p ∷ ps) ws h lead e b sp kept o =
+  one_chain : (c i : ℕ) (ks more : List ℕ) (ps : List (List Event)) (ws : List Change) → Fits c → LeadOnFrom events c ks → length (c ∷ ks) ≡ length ps → IsBalanced (joined ps) → Unit {0}
+      → AreSpaced i (c ∷ (ks ++ more)) n → ((m : ℕ) → AreSpaced m more n → IsKept ws m) → IsKept (part_changes c 0 (c ∷ ks) ps ++ ws) i
+  one_chain c i ks more [] ws h lead e b t sp kept o = absurd (omega arith)
+  one_chain c i ks more (p ∷ ps) ws h lead e b t sp kept o =
       let q : Option (List Name) = names_after_all o (between i c events) in
       ap (names_after_all o) (part_after c 0 i c ks p ps ws sp.0)
       ∙ names-three o (between i c events) p (after_changes (part_changes c (0 + length p) ks ps ++ ws) (c + 2))
@@ -130,32 +125,41 @@ module _ (tab : ℕ) (bytes : List ℕ) (wanted : Option Content) (events : List
       ∙ sym (names_after_all-append o (between i c events) (drop c events))
       ∙ ap (names_after_all o) (sym (split-at events i c sp.0))
 
-  all_chains : (cs : List ℕ) (children : List (List Event)) (i : ℕ) → AllByRecursion Fits cs → AllByRecursion (IsWholeFrom events) cs → AllByRecursion IsBalanced children → AreSpaced i (flat_map (chain_of events) cs) n
-      → (o : Option (List Name)) → names_after_all o (after_changes (flat_map chain_changes (divided_over events cs children)) i) ≡ names_after_all o (drop i events)
-  all_chains [] children i fs wh bs sp o = ap (names_after_all o) (untagged-olds i (drop i events))
-  all_chains (c ∷ cs) [] i fs wh bs sp o = ap (names_after_all o) (untagged-olds i (drop i events))
-  all_chains (c ∷ cs) (child ∷ children) i fs wh bs sp o =
-      let ks = wh.0.0 in
-      let is : chain_of events c ≡ c ∷ ks = wh.0.1 in
-      let ends : List Point = map (λ k. place_at events (k + 1)) ks in
-      let ps : List (List Event) = parts (place_at events (c + 1) ∷ ends) child in
-      let ws : List Change = flat_map chain_changes (divided_over events cs children) in
-      let many : suc (length ks) ≡ length ps = sym (length-parts (place_at events (c + 1) ∷ ends) child ∙ ap suc (length-map_ends events ks)) in
-      let b : IsBalanced (joined ps) = subst IsBalanced (sym (joined-parts (place_at events (c + 1)) ends child)) bs.0 in
-      let changes : List ℕ → List Change = λ ys. chain_changes (record { chunks = ys; parts = parts (map (λ k. place_at events (k + 1)) ys) child }) in
-      ap (λ ys. names_after_all o (after_changes (changes ys ++ ws) i)) is
-      ∙ one_chain c i ks (flat_map (chain_of events) cs) ps ws fs.0 wh.0.2 many b (subst (λ (ys : List ℕ). AreSpaced i (ys ++ flat_map (chain_of events) cs) n) is sp)
-      (λ m r q. all_chains cs children m fs.1 wh.1 bs.1 r q) o
+  -- what holds behind the last chain, and is kept by each chain, holds of the list with children
+  module _ (Holds : List Change → ℕ → Type 0) (P : List Event → Type 0) (T : List ℕ → List (List Event) → Type 0) (last : (i : ℕ) → Holds [] i)
+      (chain : (c i : ℕ) (ks more : List ℕ) (ps : List (List Event)) (ws : List Change) → Fits c → LeadOnFrom events c ks → length (c ∷ ks) ≡ length ps → P (joined ps) → T (c ∷ ks) ps
+      → AreSpaced i (c ∷ (ks ++ more)) n → ((m : ℕ) → AreSpaced m more n → Holds ws m) → Holds (part_changes c 0 (c ∷ ks) ps ++ ws) i) where
+    all_chains : (cs : List ℕ) (children : List (List Event)) (i : ℕ) → AllByRecursion Fits cs → AllByRecursion (IsWholeFrom events) cs → AllByRecursion P children
+        → AllByRecursion (λ (d : Divided). T d.chunks d.parts) (divided_over events cs children) → AreSpaced i (flat_map (chain_of events) cs) n
+        → Holds (flat_map chain_changes (divided_over events cs children)) i
+    all_chains (c ∷ cs) (child ∷ children) i fs wh bs ts sp =
+        let ks = wh.0.0 in
+        let is : chain_of events c ≡ c ∷ ks = wh.0.1 in
+        let ends : List Point = map (λ k. place_at events (k + 1)) ks in
+        let ps : List (List Event) = parts (place_at events (c + 1) ∷ ends) child in
+        let ws : List Change = flat_map chain_changes (divided_over events cs children) in
+        let many : length (c ∷ ks) ≡ length ps = sym (length-parts (place_at events (c + 1) ∷ ends) child ∙ ap suc (length-map_ends events ks)) in
+        let all : P (joined ps) = subst P (sym (joined-parts (place_at events (c + 1)) ends child)) bs.0 in
+        let here : T (c ∷ ks) ps = subst (λ (ys : List ℕ). T ys (parts (map (λ k. place_at events (k + 1)) ys) child)) is ts.0 in
+        let spaced : AreSpaced i (c ∷ (ks ++ flat_map (chain_of events) cs)) n = subst (λ (ys : List ℕ). AreSpaced i (ys ++ flat_map (chain_of events) cs) n) is sp in
+        subst (λ (ys : List ℕ). Holds (part_changes (first_chunk ys) 0 ys (parts (map (λ k. place_at events (k + 1)) ys) child) ++ ws) i) (sym is)
+        (chain c i ks (flat_map (chain_of events) cs) ps ws fs.0 wh.0.2 many all here spaced (λ m r. all_chains cs children m fs.1 wh.1 bs.1 ts.1 r))
+    all_chains cs children i fs wh bs ts sp = last i
+
+    pub with_children_holds : (children : List (List Event)) → AllByRecursion P children
+        → AllByRecursion (λ (d : Divided). T d.chunks d.parts) (divided_over events (fitting_starts wanted events) children) → Holds (child_changes wanted events children) 0
+    with_children_holds children bs ts =
+        let f = follow_one_another tab bytes wanted events ready in
+        all_chains (fitting_starts wanted events) children 0 (starts_fit tab bytes wanted events ready (range_with_len 0 n)) f.whole bs ts
+        (subst (λ (ks : List ℕ). AreSpaced 0 ks n) (sym f.in_order) f.spaced)
 
   pub with_children_balanced : (children : List (List Event)) → AllByRecursion IsBalanced children → IsBalanced (with_children wanted events children)
   with_children_balanced children bs =
-      let f = follow_one_another tab bytes wanted events ready in
       let ws : List Change = child_changes wanted events children in
-      let z : n ≡ 0 + n = omega arith in
-      let apart : AreApart 0 ws (0 + n) = subst (AreApart 0 ws) z (changes_are_apart tab bytes wanted events children ready).apart in
-      let spaced : AreSpaced 0 (flat_map (chain_of events) (fitting_starts wanted events)) n = subst (λ (ks : List ℕ). AreSpaced 0 ks n) (sym f.in_order) f.spaced in
+      let kept : IsKept ws 0 =
+      with_children_holds IsKept IsBalanced (λ ks ps. Unit {0}) (λ i o. ap (names_after_all o) (untagged-olds i (drop i events))) one_chain children bs
+      (every-all (λ (d : Divided). Unit {0}) (λ d. tt) (divided_over events (fitting_starts wanted events) children)) in
       balanced_from_open (with_children wanted events children)
       (names-placed (Some []) (woven ws 0 events) (woven ws 0 events)
-      ∙ ap (λ ts. names_after_all (Some []) (untagged ts)) (woven-pass ws 0 events apart)
-      ∙ all_chains (fitting_starts wanted events) children 0 (starts_fit tab bytes wanted events ready (range_with_len 0 n)) f.whole bs spaced (Some [])
-      ∙ names_after_balanced ready.balanced [])
+      ∙ ap (λ ts. names_after_all (Some []) (untagged ts)) (woven-pass ws 0 events (rw zero-add (changes_are_apart tab bytes wanted events children ready).apart))
+      ∙ kept (Some []) ∙ names_after_balanced ready.balanced [])

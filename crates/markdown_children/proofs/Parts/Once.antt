@@ -1,9 +1,8 @@
 -- Each event is in the list with children once.
-use Rattle.markdown_children.proofs.Prelude.{◌≡◌, ℕ, zero, suc, ◌+◌, ◌-◌, ◌<◌, ◌≤◌, true, eqb, List, [], ◌∷◌, ◌++◌, length, take, drop, Some, None, refl, sym, ◌∙◌, ap, subst, arith, flat_map, slice_get, AllByRecursion, length-take-le, none-some, same_Some, Event, Identity, of_list, of_child, of_addition, Tagged, is_same, place_in, Change, olds, pass, AreApart, AreApart-le, HasNo, place_in-append, place_in-olds_below, place_in-pass_below, Divided, tagged_child, part_changes, first_chunk, chain_changes, every-map, and_parts}
-use Rattle.std.proofs.lemmas.Bool.{eqb-true}
+use Rattle.markdown_children.proofs.Prelude.{◌≡◌, ℕ, zero, suc, ◌+◌, ◌-◌, ◌<◌, ◌≤◌, true, eqb, List, [], ◌∷◌, ◌++◌, length, take, drop, Some, None, refl, sym, ◌∙◌, ap, subst, arith, flat_map, slice_get, AllByRecursion, length-take-le, eqb-true, none-some, same_Some, Event, Identity, of_list, of_child, Tagged, is_same, place_in, Change, olds, pass, AreApart, AreApart-le, HasNo, place_in-append, place_in-olds_below, place_in-pass_below, Divided, tagged_child, part_changes, first_chunk, chain_changes, every-map, and_parts}
 use Rattle.markdown_children.proofs.ChainOrder.Following.{by_test}
-use Rattle.markdown_children.proofs.Parts.ChildPlaces.{left-of, place_in-child_olds, place_in-child_none}
-use Rattle.markdown_children.proofs.Parts.Placed.{has_no-chain, has_no-append}
+use Rattle.markdown_children.proofs.Parts.Placed.{left-of, place_in-child_olds, place_in-child_none, place_in-other_child}
+use Rattle.markdown_children.proofs.ChainOrder.Spaced.{has_no-parts}
 
 -- no event is there again behind itself
 abbrev pub AreOnce : List Tagged → Type 0
@@ -20,11 +19,7 @@ once-append (t ∷ xs) ys h k l = (none-append t.identity xs ys h.0 k.0, once-ap
 pub is_same-true : (a b : Identity) → is_same a b ≡ true → a ≡ b
 is_same-true (of_list i) (of_list j) e = ap of_list (eqb-true i j e)
 is_same-true (of_child c i) (of_child d j) e = let t = and_parts (eqb c d) (eqb i j) e in λ k. of_child (eqb-true c d t.0 k) (eqb-true i j t.1 k)
-is_same-true (of_list i) (of_child d j) e = cc
-is_same-true (of_list i) of_addition e = cc
-is_same-true (of_child c i) (of_list j) e = cc
-is_same-true (of_child c i) of_addition e = cc
-is_same-true of_addition b e = cc
+is_same-true a b e = cc
 
 -- so an event that has a name is at the place of its name
 pub once-place : (ts : List Tagged) (p : ℕ) (u : Tagged) → AreOnce ts → is_same u.identity u.identity ≡ true → slice_get ts p ≡ Some u → place_in u.identity ts ≡ Some p
@@ -91,23 +86,22 @@ once-tagged c j [] = tt
 once-tagged c j (e ∷ es) = (place_in-child_none c j (j + 1) es (λ (m : j + 1 ≤ j). omega arith), once-tagged c (j + 1) es)
 
 has_no-later : (c n j : ℕ) (ks : List ℕ) (ps : List (List Event)) (ws : List Change) → n < j → HasNo (of_child c n) ws → HasNo (of_child c n) (part_changes c j ks ps ++ ws)
-has_no-later c n j [] ps ws l h = h
-has_no-later c n j (k ∷ ks) [] ws l h = h
 has_no-later c n j (k ∷ ks) (p ∷ ps) ws l h = (place_in-child_none c n j p (λ (m : j ≤ n). omega arith), has_no-later c n (j + length p) ks ps ws (omega arith) h)
+has_no-later c n j ks ps ws l h = h
 
 once-parts : (c j : ℕ) (ks : List ℕ) (ps : List (List Event)) (ws : List Change) → ((n : ℕ) → HasNo (of_child c n) ws) → ComeOnce ws → ComeOnce (part_changes c j ks ps ++ ws)
-once-parts c j [] ps ws h k = k
-once-parts c j (d ∷ ks) [] ws h k = k
 once-parts c j (d ∷ ks) (p ∷ ps) ws h k = (
   once-tagged c j p,
   all-tagged (λ b. IsNoOld b × HasNo b (part_changes c (j + length p) ks ps ++ ws)) c j p (λ n l m. (place_in-child_olds c n, has_no-later c n (j + length p) ks ps ws m (h n))),
   once-parts c (j + length p) ks ps ws h k,
 )
+once-parts c j ks ps ws h k = k
 
 has_no-chains : (c n : ℕ) (ds : List Divided) → AllByRecursion (λ (d : Divided). first_chunk d.chunks ≡ c → ⊥) ds → HasNo (of_child c n) (flat_map chain_changes ds)
 has_no-chains c n [] h = tt
 has_no-chains c n (d ∷ ds) h =
-    has_no-append (of_child c n) (chain_changes d) (flat_map chain_changes ds) (has_no-chain c (first_chunk d.chunks) n 0 d.chunks d.parts (λ e. h.0 (sym e))) (has_no-chains c n ds h.1)
+    has_no-parts (of_child c n) (first_chunk d.chunks) 0 d.chunks d.parts (flat_map chain_changes ds)
+    (λ j es. place_in-other_child c (first_chunk d.chunks) n j es (λ e. h.0 (sym e))) (has_no-chains c n ds h.1)
 
 -- no two chains begin at one chunk
 abbrev pub AreOthers : List Divided → Type 0

@@ -1,7 +1,111 @@
--- Edits that bring each part with its link ends at their final places give the list with children.
-use Rattle.markdown_children.proofs.Prelude.{◌≡◌, ℕ, suc, ◌+◌, ◌-◌, ◌*◌, ◌<◌, cond, List, [], ◌∷◌, ◌++◌, map, length, drop, Option, Some, refl, sym, ◌∙◌, ap, subst, arith, append_assoc, flat_map, All, option_map, AllByRecursion, map-append, All-head, All-tail, Event, relinked, EndsBelow, as_addition, as_change, edited, Identity, of_list, of_child, of_addition, Tagged, as_listed, place_in, is_same, Change, woven, placed, placed_in, placed_end, changed, AreApart, olds, pass, woven-pass, HasNo, relinked-same, relinked-agree, same_shift, Divided, child_place, part_edits, chain_edits, total, all_edits, tagged_child, part_changes, first_chunk, chain_changes, every-both, every-all}
+-- The places of children's events after disjoint changes. Edits that bring each part with its link ends there give the list with children.
+use Rattle.markdown_children.proofs.Prelude.{◌≡◌, ℕ, suc, ◌+◌, ◌-◌, ◌*◌, ◌<◌, ◌≤◌, true, false, eqb, ltb, List, [], ◌∷◌, ◌++◌, length, take, drop, Option, Some, None, refl, ◌∙◌, ap, subst, ⊎_elim, arith, length-drop, option_map, ne_eqb, eq-eqb, lt-ltb, le-ltb, cases_lt, cases_eq, length-take-le, Event, Identity, of_child, Tagged, place_in, Change, olds, pass, AreApart, AreApart-le, or_after, place_in-append, length-olds, child_place, total, tagged_child, part_changes, cond, map, sym, flat_map, All, AllByRecursion, map-append, All-head, All-tail, relinked, EndsBelow, as_addition, as_change, edited, of_list, of_addition, as_listed, is_same, woven, placed, placed_in, placed_end, changed, woven-pass, zero-add, relinked-same, relinked-agree, same_shift, Divided, part_edits, chain_edits, all_edits, first_chunk, chain_changes, every-both, every-all}
 use Rattle.markdown_children.proofs.ChainOrder.Spaced.{HasParts}
-use Rattle.markdown_children.proofs.Parts.ChildPlaces.{change_place, change_place-pass, change_place-chain, change_place-behind, place_in-other_child, length-tagged_child, removed_by, added_by}
+
+-- what a change leaves of the events
+pub left-of : (w : Change) (ws : List Change) (i : ℕ) (xs : List Event) → AreApart i (w ∷ ws) (i + length xs) → AreApart (w.index + w.remove) ws (w.index + w.remove + length (drop (w.index + w.remove - i) xs))
+left-of w ws i xs d =
+    let n : i + length xs ≡ w.index + w.remove + length (drop (w.index + w.remove - i) xs) = omega (arith, d.0, AreApart-le ws (w.index + w.remove) (i + length xs) d.1, length-drop (w.index + w.remove - i) xs) in
+    subst (AreApart (w.index + w.remove) ws) n d.1
+
+-- no old event is one of a child
+pub place_in-child_olds : (c n i : ℕ) (xs : List Event) → place_in (of_child c n) (olds i xs) ≡ None
+place_in-child_olds c n i [] = refl
+place_in-child_olds c n i (x ∷ xs) = rw (place_in-child_olds c n (i + 1) xs) refl
+
+abbrev pub or_else : Option ℕ → Option ℕ → Option ℕ
+or_else None o = o
+or_else (Some p) o = Some p
+
+-- the place of a child's event by prefix sums over the changes
+abbrev pub change_place : Identity → List Change → ℕ → ℕ → Option ℕ
+change_place b [] removed added = None
+change_place b (w ∷ ws) removed added = or_else (option_map (λ p. w.index - removed + added + p) (place_in b w.events)) (change_place b ws (removed + w.remove) (added + length w.events))
+
+pub change_place-pass : (ws : List Change) (c n i removed added : ℕ) (xs : List Event) → AreApart i ws (i + length xs) → removed ≤ i
+    → option_map (λ p. i - removed + added + p) (place_in (of_child c n) (pass ws i xs)) ≡ change_place (of_child c n) ws removed added
+change_place-pass [] c n i removed added xs d r = rw (place_in-child_olds c n i xs) refl
+change_place-pass (w ∷ ws) c n i removed added xs d r =
+    let a : i ≤ w.index = d.0 in
+    let b : w.index + w.remove ≤ i + length xs = AreApart-le ws (w.index + w.remove) (i + length xs) d.1 in
+    let front : length (take (w.index - i) xs) ≡ w.index - i = length-take-le (w.index - i) xs (omega arith) in
+    let rest : List Tagged = pass ws (w.index + w.remove) (drop (w.index + w.remove - i) xs) in
+    let more = change_place-pass ws c n (w.index + w.remove) (removed + w.remove) (added + length w.events) (drop (w.index + w.remove - i) xs) (left-of w ws i xs d) (omega arith) in
+    rw (
+      place_in-append (of_child c n) (olds i (take (w.index - i) xs)) (w.events ++ rest),
+      place_in-child_olds c n i (take (w.index - i) xs),
+      length-olds i (take (w.index - i) xs),
+      front,
+      place_in-append (of_child c n) w.events rest,
+      ← more,
+    )
+    (shifted i (w.index - i) w.index (length w.events) (w.index + w.remove) removed added (removed + w.remove) (place_in (of_child c n) w.events) (place_in (of_child c n) rest) (omega arith) (omega arith))
+  where
+    shifted : (i k at g j removed added removed' : ℕ) (o q : Option ℕ) → i - removed + added + k ≡ at - removed + added → i - removed + added + (k + g) ≡ j - removed' + (added + g)
+        → option_map (λ p. i - removed + added + p) (or_after k None (or_after g o q)) ≡ or_else (option_map (λ p. at - removed + added + p) o) (option_map (λ p. j - removed' + (added + g) + p) q)
+    shifted i k at g j removed added removed' (Some p) q e f = let z : i - removed + added + (k + p) ≡ at - removed + added + p = omega arith in ap Some z
+    shifted i k at g j removed added removed' None None e f = refl
+    shifted i k at g j removed added removed' None (Some p) e f = let z : i - removed + added + (k + (g + p)) ≡ j - removed' + (added + g) + p = omega arith in ap Some z
+
+-- ---- the events of one child
+
+pub length-tagged_child : (c j : ℕ) (es : List Event) → length (tagged_child c j es) ≡ length es
+length-tagged_child c j [] = refl
+length-tagged_child c j (e ∷ es) = ap suc (length-tagged_child c (j + 1) es)
+
+pub place_in-other_child : (c d n j : ℕ) (es : List Event) → (c ≡ d → ⊥) → place_in (of_child c n) (tagged_child d j es) ≡ None
+place_in-other_child c d n j [] ne = refl
+place_in-other_child c d n j (e ∷ es) ne = rw (ne_eqb c d ne, place_in-other_child c d n (j + 1) es ne) refl
+
+-- a child's events from the j-th on have no other number
+pub place_in-child_none : (c n j : ℕ) (es : List Event) → (j ≤ n → j + length es ≤ n) → place_in (of_child c n) (tagged_child c j es) ≡ None
+place_in-child_none c n j [] l = refl
+place_in-child_none c n j (e ∷ es) l =
+    let there : eqb n j ≡ false = ne_eqb n j (λ (q : n ≡ j). let m = l (omega arith) in omega arith) in
+    rw (eq-eqb c c refl, there, place_in-child_none c n (j + 1) es (λ (m : j + 1 ≤ n). let k = l (omega arith) in omega arith)) refl
+
+pub place_in-child_in : (c n j : ℕ) (es : List Event) → j ≤ n → n < j + length es → place_in (of_child c n) (tagged_child c j es) ≡ Some (n - j)
+place_in-child_in c n j [] l m = absurd (omega arith)
+place_in-child_in c n j (e ∷ es) l m =
+    let here : eqb c c ≡ true = eq-eqb c c refl in
+    ⊎_elim
+    (λ (q : n ≡ j). let at : eqb n j ≡ true = eq-eqb n j q in let z : 0 ≡ n - j = omega arith in rw (here, at) (ap Some z))
+    (λ (ne : n ≡ j → ⊥).
+    let more : place_in (of_child c n) (tagged_child c (j + 1) es) ≡ Some (n - (j + 1)) = place_in-child_in c n (j + 1) es (omega arith) (omega arith) in
+    let z : suc (n - (j + 1)) ≡ n - j = omega arith in
+    rw (here, ne_eqb n j ne, more) (ap Some z))
+    (cases_eq n j)
+
+-- the changes of one chain place its child's events
+pub change_place-chain : (c j : ℕ) (ks : List ℕ) (ps : List (List Event)) (ws : List Change) (n removed added : ℕ) → length ks ≡ length ps → n < total ps
+    → change_place (of_child c (j + n)) (part_changes c j ks ps ++ ws) removed added ≡ child_place ks ps removed added n
+change_place-chain c j [] [] ws n removed added e l = absurd (omega arith)
+change_place-chain c j (k ∷ ks) (p ∷ ps) ws n removed added e l = ⊎_elim
+    (λ (q : n < length p).
+    let t : ltb n (length p) ≡ true = lt-ltb n (length p) q in
+    let z : j + n - j ≡ n = omega arith in
+    rw (place_in-child_in c (j + n) j p (omega arith) (omega arith), t, z) refl)
+    (λ (q : length p ≤ n).
+    let z : j + n ≡ j + length p + (n - length p) = omega arith in
+    rw (place_in-child_none c (j + n) j p (λ (m : j ≤ j + n). omega arith), length-tagged_child c j p, le-ltb n (length p) q)
+    (ap (λ m. change_place (of_child c m) (part_changes c (j + length p) ks ps ++ ws) (removed + 2) (added + length p)) z
+    ∙ change_place-chain c (j + length p) ks ps ws (n - length p) (removed + 2) (added + length p) (omega arith) (omega arith)))
+    (cases_lt n (length p))
+change_place-chain c j ks ps ws n removed added e l = absurd (omega arith)
+
+-- the changes of another chain only shift
+pub change_place-behind : (c d n j : ℕ) (ks : List ℕ) (ps : List (List Event)) (ws : List Change) (removed added : ℕ) → (c ≡ d → ⊥) → length ks ≡ length ps
+    → change_place (of_child c n) (part_changes d j ks ps ++ ws) removed added ≡ change_place (of_child c n) ws (removed + 2 * length ks) (added + total ps)
+change_place-behind c d n j [] [] ws removed added ne e =
+    let z : removed ≡ removed + 2 * 0 = omega arith in
+    let y : added ≡ added + 0 = omega arith in
+    (λ i. change_place (of_child c n) ws (z i) (y i))
+change_place-behind c d n j (k ∷ ks) (p ∷ ps) ws removed added ne e =
+    let z : removed + 2 + 2 * length ks ≡ removed + 2 * length (k ∷ ks) = omega arith in
+    let y : added + length p + total ps ≡ added + (length p + total ps) = omega arith in
+    rw (place_in-other_child c d n j p ne, length-tagged_child d j p)
+    (change_place-behind c d n (j + length p) ks ps ws (removed + 2) (added + length p) ne (omega arith) ∙ (λ i. change_place (of_child c n) ws (z i) (y i)))
+change_place-behind c d n j ks ps ws removed added ne e = absurd (omega arith)
 
 -- ---- additions whose ends are final in place of a child's events
 
@@ -49,29 +153,16 @@ disjoint-finalized : (ts : List Tagged) (ws : List Change) (from n : ℕ) → Ar
 disjoint-finalized ts [] from n d = d
 disjoint-finalized ts (w ∷ ws) from n d = (d.0, disjoint-finalized ts ws (w.index + w.remove) n d.1)
 
--- changes may be made with final additions in place of events that are named
-pub changed-finalized : (ws : List Change) (xs : List Event) → AreApart 0 ws (length xs) → changed (map (finalized_change (woven ws 0 xs)) ws) xs ≡ changed ws xs
-changed-finalized ws xs d =
-    let z : length xs ≡ 0 + length xs = omega arith in
-    let d' : AreApart 0 ws (0 + length xs) = subst (λ m. AreApart 0 ws m) z d in
-    let ts : List Tagged = woven ws 0 xs in
-    ap placed (woven-pass (map (finalized_change ts) ws) 0 xs (disjoint-finalized ts ws 0 (0 + length xs) d') ∙ sym (pass-finalized ts ws 0 xs) ∙ ap (map (finalized ts)) (sym (woven-pass ws 0 xs d')))
-    ∙ placed_in-finalized ts ts
-
 -- ---- the edits of chains
 
 -- link ends of each part's events lie inside the child
 abbrev pub HasEndsInside : Divided → Type 0
 HasEndsInside d = AllByRecursion (All (EndsBelow (total d.parts))) d.parts
 
--- a part for each chunk, and link ends inside the child
-abbrev pub IsWhole : Divided → Type 0
-IsWhole d = HasParts d × HasEndsInside d
-
--- and no two chains begin at one chunk
+-- a part for each chunk, link ends inside the child, and no two chains begin at one chunk
 abbrev pub AreChains : List Divided → Type 0
 AreChains [] = Unit {0}
-AreChains (d ∷ ds) = IsWhole d × AllByRecursion (λ (other : Divided). first_chunk other.chunks ≡ first_chunk d.chunks → ⊥) ds × AreChains ds
+AreChains (d ∷ ds) = (HasParts d × HasEndsInside d) × AllByRecursion (λ (other : Divided). first_chunk other.chunks ≡ first_chunk d.chunks → ⊥) ds × AreChains ds
 
 finalized_part : (ts : List Tagged) (f : ℕ → Option ℕ) (c j n : ℕ) (p : List Event) → ((k : ℕ) → k < n → place_in (of_child c k) ts ≡ f k) → All (EndsBelow n) p → map (finalized ts) (tagged_child c j p) ≡ map as_addition (map (relinked f) p)
 finalized_part ts f c j n [] h b = refl
@@ -80,70 +171,39 @@ finalized_part ts f c j n (e ∷ p) h b = λ i.
 
 finalized_parts : (ts : List Tagged) (f : ℕ → Option ℕ) (c j n : ℕ) (ks : List ℕ) (ps : List (List Event)) → ((k : ℕ) → k < n → place_in (of_child c k) ts ≡ f k) → AllByRecursion (All (EndsBelow n)) ps
     → map (finalized_change ts) (part_changes c j ks ps) ≡ map as_change (part_edits f ks ps)
-finalized_parts ts f c j n [] ps h b = refl
-finalized_parts ts f c j n (k ∷ ks) [] h b = refl
 finalized_parts ts f c j n (k ∷ ks) (p ∷ ps) h b = λ i.
     (let w : Change = record { index = k; remove = 2; events = finalized_part ts f c j n p h b.0 i } in w) ∷ finalized_parts ts f c (j + length p) n ks ps h b.1 i
+finalized_parts ts f c j n ks ps h b = refl
 
-removed_by-chain : (c j : ℕ) (ks : List ℕ) (ps : List (List Event)) → length ks ≡ length ps → removed_by (part_changes c j ks ps) ≡ 2 * length ks
-removed_by-chain c j [] ps e = omega arith
-removed_by-chain c j (k ∷ ks) [] e = absurd (omega arith)
-removed_by-chain c j (k ∷ ks) (p ∷ ps) e = omega (arith, removed_by-chain c (j + length p) ks ps (omega arith))
+-- the events of a chain's child are where changes put them, behind others that remove and add as many events
+abbrev ArePlaced : List Tagged → List Change → (removed added : ℕ) → Divided → Type 0
+ArePlaced ts ws removed added d = (n : ℕ) → place_in (of_child (first_chunk d.chunks) n) ts ≡ change_place (of_child (first_chunk d.chunks) n) ws removed added
 
-added_by-chain : (c j : ℕ) (ks : List ℕ) (ps : List (List Event)) → length ks ≡ length ps → added_by (part_changes c j ks ps) ≡ total ps
-added_by-chain c j [] [] e = refl
-added_by-chain c j [] (p ∷ ps) e = absurd (omega arith)
-added_by-chain c j (k ∷ ks) [] e = absurd (omega arith)
-added_by-chain c j (k ∷ ks) (p ∷ ps) e = omega (arith, length-tagged_child c j p, added_by-chain c (j + length p) ks ps (omega arith))
-
-pub has_no-chain : (c d n j : ℕ) (ks : List ℕ) (ps : List (List Event)) → (c ≡ d → ⊥) → HasNo (of_child c n) (part_changes d j ks ps)
-has_no-chain c d n j [] ps ne = tt
-has_no-chain c d n j (k ∷ ks) [] ne = tt
-has_no-chain c d n j (k ∷ ks) (p ∷ ps) ne = (place_in-other_child c d n j p ne, has_no-chain c d n (j + length p) ks ps ne)
-
-pub has_no-append : (b : Identity) (us ws : List Change) → HasNo b us → HasNo b ws → HasNo b (us ++ ws)
-has_no-append b [] ws h k = k
-has_no-append b (u ∷ us) ws h k = (h.0, has_no-append b us ws h.1 k)
-
-removed_by-append : (us ws : List Change) → removed_by (us ++ ws) ≡ removed_by us + removed_by ws
-removed_by-append [] ws = omega arith
-removed_by-append (u ∷ us) ws = omega (arith, removed_by-append us ws)
-
-added_by-append : (us ws : List Change) → added_by (us ++ ws) ≡ added_by us + added_by ws
-added_by-append [] ws = omega arith
-added_by-append (u ∷ us) ws = omega (arith, added_by-append us ws)
-
--- the chains behind others, whose changes are us
-edits_of_rest : (ts : List Tagged) (ds : List Divided) (us : List Change)
-    → ((c n : ℕ) → place_in (of_child c n) ts ≡ change_place (of_child c n) (us ++ flat_map chain_changes ds) 0 0)
-    → AreChains ds → AllByRecursion (λ (d : Divided). (n : ℕ) → HasNo (of_child (first_chunk d.chunks) n) us) ds
-    → map (finalized_change ts) (flat_map chain_changes ds) ≡ map as_change (all_edits (removed_by us) (added_by us) ds)
-edits_of_rest ts [] us h w a = refl
-edits_of_rest ts (ch ∷ ds) us h w a =
+edits_of_rest : (ts : List Tagged) (ds : List Divided) (removed added : ℕ) → AreChains ds → AllByRecursion (ArePlaced ts (flat_map chain_changes ds) removed added) ds
+    → map (finalized_change ts) (flat_map chain_changes ds) ≡ map as_change (all_edits removed added ds)
+edits_of_rest ts [] removed added w h = refl
+edits_of_rest ts (ch ∷ ds) removed added w h =
     let c : ℕ = first_chunk ch.chunks in
     let rest : List Change = flat_map chain_changes ds in
-    let whole = w.0 in
-    let place : (k : ℕ) → k < total ch.parts → place_in (of_child c k) ts ≡ child_place ch.chunks ch.parts (removed_by us) (added_by us) k =
-    λ k l. h c k ∙ change_place-behind (of_child c k) us (chain_changes ch ++ rest) 0 0 (a.0 k)
-    ∙ (let z : 0 + removed_by us ≡ removed_by us = omega arith in let y : 0 + added_by us ≡ added_by us = omega arith in let x : k ≡ 0 + k = omega arith in λ j. change_place (of_child c (x j)) (chain_changes ch ++ rest) (z j) (y j))
-    ∙ change_place-chain c 0 ch.chunks ch.parts rest k (removed_by us) (added_by us) whole.0 l in
-    let removed : removed_by (us ++ chain_changes ch) ≡ removed_by us + 2 * length ch.chunks = removed_by-append us (chain_changes ch) ∙ ap (λ n. removed_by us + n) (removed_by-chain c 0 ch.chunks ch.parts whole.0) in
-    let added : added_by (us ++ chain_changes ch) ≡ added_by us + total ch.parts = added_by-append us (chain_changes ch) ∙ ap (λ n. added_by us + n) (added_by-chain c 0 ch.chunks ch.parts whole.0) in
-    let still = every-both (λ (d : Divided). first_chunk d.chunks ≡ c → ⊥) (λ (d : Divided). (n : ℕ) → HasNo (of_child (first_chunk d.chunks) n) us) (λ (d : Divided). (n : ℕ) → HasNo (of_child (first_chunk d.chunks) n) (us ++ chain_changes ch))
-    (λ d f g n. has_no-append (of_child (first_chunk d.chunks) n) us (chain_changes ch) (g n) (has_no-chain (first_chunk d.chunks) c n 0 ch.chunks ch.parts f)) ds w.1 a.1 in
-    let more = edits_of_rest ts ds (us ++ chain_changes ch) (λ d n. h d n ∙ ap (λ v. change_place (of_child d n) v 0 0) (sym (append_assoc us (chain_changes ch) rest))) w.2 still in
+    let place : (k : ℕ) → k < total ch.parts → place_in (of_child c k) ts ≡ child_place ch.chunks ch.parts removed added k =
+    λ k l. h.0 k ∙ (λ j. change_place (of_child c (sym (zero-add k) j)) (chain_changes ch ++ rest) removed added) ∙ change_place-chain c 0 ch.chunks ch.parts rest k removed added w.0.0 l in
+    let still = every-both (λ (d : Divided). first_chunk d.chunks ≡ c → ⊥) (ArePlaced ts (chain_changes ch ++ rest) removed added)
+    (ArePlaced ts rest (removed + 2 * length ch.chunks) (added + total ch.parts))
+    (λ d f g n. g n ∙ change_place-behind (first_chunk d.chunks) c n 0 ch.chunks ch.parts rest removed added f w.0.0) ds w.1 h.1 in
     map-append (finalized_change ts) (chain_changes ch) rest
-    ∙ ap (λ v. v ++ map (finalized_change ts) rest) (finalized_parts ts (child_place ch.chunks ch.parts (removed_by us) (added_by us)) c 0 (total ch.parts) ch.chunks ch.parts place whole.1)
-    ∙ ap (λ v. map as_change (chain_edits (removed_by us) (added_by us) ch) ++ v) (more ∙ ap (λ n. map as_change (all_edits n (added_by (us ++ chain_changes ch)) ds)) removed ∙ ap (λ n. map as_change (all_edits (removed_by us + 2 * length ch.chunks) n ds)) added)
-    ∙ sym (map-append as_change (chain_edits (removed_by us) (added_by us) ch) (all_edits (removed_by us + 2 * length ch.chunks) (added_by us + total ch.parts) ds))
+    ∙ ap (λ v. v ++ map (finalized_change ts) rest) (finalized_parts ts (child_place ch.chunks ch.parts removed added) c 0 (total ch.parts) ch.chunks ch.parts place w.0.1)
+    ∙ ap (λ v. map as_change (chain_edits removed added ch) ++ v) (edits_of_rest ts ds (removed + 2 * length ch.chunks) (added + total ch.parts) w.2 still)
+    ∙ sym (map-append as_change (chain_edits removed added ch) (all_edits (removed + 2 * length ch.chunks) (added + total ch.parts) ds))
 
 -- the edits of all chains, each with its ends placed by the sums before it, give the list with all children
 pub edited-children : (ds : List Divided) (xs : List Event) → AreApart 0 (flat_map chain_changes ds) (length xs) → AreChains ds → edited (all_edits 0 0 ds) xs ≡ changed (flat_map chain_changes ds) xs
 edited-children ds xs d w =
     let ws : List Change = flat_map chain_changes ds in
-    let z : length xs ≡ 0 + length xs = omega arith in
-    let d' : AreApart 0 ws (0 + length xs) = subst (λ m. AreApart 0 ws m) z d in
     let ts : List Tagged = woven ws 0 xs in
-    let place : (c n : ℕ) → place_in (of_child c n) ts ≡ change_place (of_child c n) ws 0 0 =
-    λ c n. sym (same_shift (place_in (of_child c n) ts)) ∙ ap (λ us. option_map (λ p. 0 - 0 + 0 + p) (place_in (of_child c n) us)) (woven-pass ws 0 xs d') ∙ change_place-pass ws c n 0 0 0 xs d' (omega arith) in
-    ap (λ v. changed v xs) (sym (edits_of_rest ts ds [] place w (every-all (λ (d : Divided). (n : ℕ) → HasNo (of_child (first_chunk d.chunks) n) []) (λ d n. tt) ds))) ∙ changed-finalized ws xs d
+    let d' : AreApart 0 ws (0 + length xs) = rw zero-add d in
+    let place : (e : Divided) → ArePlaced ts ws 0 0 e =
+    λ e n. let b = of_child (first_chunk e.chunks) n in
+    sym (same_shift (place_in b ts)) ∙ ap (λ us. option_map (λ p. 0 - 0 + 0 + p) (place_in b us)) (woven-pass ws 0 xs d') ∙ change_place-pass ws (first_chunk e.chunks) n 0 0 0 xs d' (omega arith) in
+    ap (λ v. changed v xs) (sym (edits_of_rest ts ds 0 0 w (every-all (ArePlaced ts ws 0 0) place ds)))
+    ∙ ap placed (woven-pass (map (finalized_change ts) ws) 0 xs (disjoint-finalized ts ws 0 _ d') ∙ sym (pass-finalized ts ws 0 xs) ∙ ap (map (finalized ts)) (sym (woven-pass ws 0 xs d')))
+    ∙ placed_in-finalized ts ts

@@ -3,10 +3,10 @@
 -- An event of the list is followed by the same event as before, or by a part in place of a chunk, whose enter follows no void enter. An
 -- event of a child is followed by the next one of its part. The last one of a part is followed by the next one of its child, if nothing is
 -- between.
-use Rattle.markdown_children.proofs.Prelude.{◌≡◌, ℕ, zero, suc, ◌+◌, ◌-◌, ◌≤◌, true, List, [], ◌∷◌, ◌++◌, length, map, drop, take, Option, Some, refl, sym, ◌∙◌, ap, subst, arith, flat_map, slice_get, AllByRecursion, between, range_with_len, none-some, same_Some, Content, Event, Enter, Exit, Point, is_void, relinked, IsVoidTight, drop-at, Tagged, Change, placed_end, placed_in, woven, AreApart, pass, woven-pass, chain_of, fits, fitting_starts, IsReady, place_at, LeadOnFrom, IsWholeFrom, AreSpaced, EndsInVoidEnter, StandSideBySide, IsTornNowhere, NoneTorn, Divided, parts, divided_over, part_changes, first_chunk, chain_changes, child_changes, with_children}
-use Rattle.markdown_children.proofs.ChainOrder.Following.{chunk, fits_next, starts_fit, follow_one_another}
-use Rattle.markdown_children.proofs.ChainOrder.Spaced.{length-parts, length-map_ends, changes_are_apart}
-use Rattle.markdown_children.proofs.Parts.Kept.{joined, joined-parts, untagged, untagged-olds, after_changes, part_after, split-at}
+use Rattle.markdown_children.proofs.Prelude.{◌≡◌, ℕ, zero, suc, ◌+◌, ◌-◌, ◌≤◌, true, List, [], ◌∷◌, ◌++◌, length, drop, take, Option, Some, refl, sym, ◌∙◌, ap, subst, arith, zero-add, slice_get, AllByRecursion, every-map, between, none-some, same_Some, Content, Event, Enter, Exit, is_void, relinked, IsVoidTight, drop-at, Tagged, Change, placed_end, placed_in, woven, pass, woven-pass, fits, IsReady, LeadOnFrom, AreSpaced, EndsInVoidEnter, StandSideBySide, IsTornNowhere, NoneTorn, part_changes, child_changes, with_children}
+use Rattle.markdown_children.proofs.ChainOrder.Following.{chunk, fits_next}
+use Rattle.markdown_children.proofs.ChainOrder.Spaced.{changes_are_apart}
+use Rattle.markdown_children.proofs.Parts.Kept.{joined, untagged, untagged-olds, after_changes, part_after, split-at, with_children_holds}
 
 -- ---- tight lists
 
@@ -51,17 +51,6 @@ last-exits [] ys h v = absurd v
 last-exits (e ∷ []) ys h v = (e, h.0 v.0 v.1)
 last-exits (e ∷ f ∷ xs) ys h v = last-exits (f ∷ xs) ys h.1 v
 
--- no void enter is directly before an enter
-before-enter : (xs ys zs : List Event) (f : Event) → slice_get ys 0 ≡ Some f → f.kind ≡ Enter → IsTightBefore xs ys → IsTightBefore xs zs
-before-enter xs ys zs f at enter h = tight-moved xs ys zs h (λ v.
-    let l = last-exits xs ys h v in
-    let no : Exit ≡ Enter = sym l.1.2 ∙ ap (λ (x : Event). x.kind) (same_Some l.1.0 f (sym l.1.1 ∙ at)) ∙ enter in
-    absurd (cc))
-
--- no void enter is at the end
-at-end : (xs zs : List Event) → IsTightBefore xs [] → IsTightBefore xs zs
-at-end xs zs h = tight-moved xs [] zs h (λ v. let l = last-exits xs [] h v in absurd (none-some l.1.0 l.1.1))
-
 pub tight-from : (xs : List Event) → IsVoidTight xs → IsTight xs
 tight-from [] h = tt
 tight-from (e ∷ xs) h = (
@@ -101,12 +90,16 @@ module _ (tab : ℕ) (bytes : List ℕ) (wanted : Option Content) (events : List
   abbrev after : List Change → ℕ → List Event
   after ws i = after_changes tab bytes wanted events ready ws i
 
-  -- anything may follow the events before a chunk
+  -- anything may follow the events before a chunk, as no void enter is directly before an enter
   before-chunk : (i k : ℕ) (zs : List Event) → i ≤ k → Fits k → IsTightBefore (between i k events) zs
   before-chunk i k zs l h =
       let c = chunk tab bytes wanted events ready k h in
       let split = tight-split (between i k events) (drop k events) (subst IsTight (split-at events i k l) (tight-drop i events tight)) in
-      before-enter (between i k events) (drop k events) zs c.enter (ap (λ ys. slice_get ys 0) (drop-at events k c.enter c.enter_at)) c.linked.enter split.0
+      tight-moved (between i k events) (drop k events) zs split.0 (λ v.
+      let l = last-exits (between i k events) (drop k events) split.0 v in
+      let is = same_Some l.1.0 c.enter (sym l.1.1 ∙ ap (λ ys. slice_get ys 0) (drop-at events k c.enter c.enter_at)) in
+      let no : Exit ≡ Enter = sym l.1.2 ∙ ap (λ (x : Event). x.kind) is ∙ c.linked.enter in
+      absurd (cc))
 
   between-none : (i d : ℕ) → d ≡ i → between i d events ≡ []
   between-none i d e = let z : d - i ≡ 0 = omega arith in ap (λ m. take m (drop i events)) z
@@ -115,8 +108,6 @@ module _ (tab : ℕ) (bytes : List ℕ) (wanted : Option Content) (events : List
   goes-on : (c j k : ℕ) (ks : List ℕ) (ps : List (List Event)) (ws : List Change) (f : Event) → slice_get (joined ps) 0 ≡ Some f → length ks ≡ length ps → StandSideBySide k ks ps
       → slice_get (joined ps) 0 ≡ slice_get (after (part_changes c j ks ps ++ ws) (k + 2)) 0
   goes-on c j k [] [] ws f at e s = absurd (none-some f at)
-  goes-on c j k [] (p ∷ ps) ws f at e s = absurd (omega arith)
-  goes-on c j k (d ∷ ks) [] ws f at e s = absurd (omega arith)
   goes-on c j k (d ∷ ks) ([] ∷ ps) ws f at e s =
       let more = goes-on c (j + 0) d ks ps ws f at (omega arith) s.1 in
       let is : after (part_changes c j (d ∷ ks) ([] ∷ ps) ++ ws) (k + 2) ≡ after (part_changes c (j + 0) ks ps ++ ws) (d + 2) =
@@ -127,15 +118,15 @@ module _ (tab : ℕ) (bytes : List ℕ) (wanted : Option Content) (events : List
       let is : after (part_changes c j (d ∷ ks) ((x ∷ p) ∷ ps) ++ ws) (k + 2) ≡ (x ∷ p) ++ rest =
       part_after tab bytes wanted events ready c j (k + 2) d ks (x ∷ p) ps ws (omega (arith, s)) ∙ ap (λ ys. ys ++ ((x ∷ p) ++ rest)) (between-none (k + 2) d s) in
       ap (λ ys. slice_get ys 0) (sym is)
+  goes-on c j k ks ps ws f at e s = absurd (omega arith)
 
   -- a part, and all events behind the chunk at k
   parts-tight : (c j k : ℕ) (p : List Event) (ks more : List ℕ) (ps : List (List Event)) (ws : List Change) → Fits k → LeadOnFrom events k ks → length ks ≡ length ps → AreSpaced (k + 2) (ks ++ more) n
       → ((m : ℕ) → AreSpaced m more n → IsTight (after ws m)) → IsTight (p ++ joined ps) → IsTornNowhere (k ∷ ks) (p ∷ ps)
       → IsTight (p ++ after (part_changes c j ks ps ++ ws) (k + 2))
   parts-tight c j k p [] more [] ws h lead e sp rest t torn =
-      tight-join p (after ws (k + 2)) (at-end p (after ws (k + 2)) (tight-split p [] t).0) (rest (k + 2) sp)
-  parts-tight c j k p [] more (q ∷ ps) ws h lead e sp rest t torn = absurd (omega arith)
-  parts-tight c j k p (d ∷ ks) more [] ws h lead e sp rest t torn = absurd (omega arith)
+      let alone = (tight-split p [] t).0 in
+      tight-join p (after ws (k + 2)) (tight-moved p [] (after ws (k + 2)) alone (λ v. let l = last-exits p [] alone v in absurd (none-some l.1.0 l.1.1))) (rest (k + 2) sp)
   parts-tight c j k p (d ∷ ks) more (q ∷ ps) ws h lead e sp rest t torn =
       let fit : Fits d = fits_next tab bytes wanted events ready k d h lead.0 in
       let both = tight-split p (q ++ joined ps) t in
@@ -147,43 +138,25 @@ module _ (tab : ℕ) (bytes : List ℕ) (wanted : Option Content) (events : List
       (tight-moved p (q ++ joined ps) (after (part_changes c j (d ∷ ks) (q ∷ ps) ++ ws) (k + 2)) both.0
       (λ v. let l = last-exits p (q ++ joined ps) both.0 v in goes-on c j k (d ∷ ks) (q ∷ ps) ws l.1.0 l.1.1 e (torn.0 v)))
       (subst IsTight (sym is) all)
+  parts-tight c j k p ks more ps ws h lead e sp rest t torn = absurd (omega arith)
 
-  chains-tight : (cs : List ℕ) (children : List (List Event)) (i : ℕ) → AllByRecursion Fits cs → AllByRecursion (IsWholeFrom events) cs → AllByRecursion IsVoidTight children
-      → AllByRecursion (λ (d : Divided). IsTornNowhere d.chunks d.parts) (divided_over events cs children) → AreSpaced i (flat_map (chain_of events) cs) n
-      → IsTight (after (flat_map chain_changes (divided_over events cs children)) i)
-  chains-tight [] children i fs wh bs torn sp = subst IsTight (sym (untagged-olds i (drop i events))) (tight-drop i events tight)
-  chains-tight (c ∷ cs) [] i fs wh bs torn sp = subst IsTight (sym (untagged-olds i (drop i events))) (tight-drop i events tight)
-  chains-tight (c ∷ cs) (child ∷ children) i fs wh bs torn sp =
-      let ks = wh.0.0 in
-      let is : chain_of events c ≡ c ∷ ks = wh.0.1 in
-      let ends : List Point = map (λ k. place_at events (k + 1)) ks in
-      let ws : List Change = flat_map chain_changes (divided_over events cs children) in
-      let rest : (m : ℕ) → AreSpaced m (flat_map (chain_of events) cs) n → IsTight (after ws m) = λ m r. chains-tight cs children m fs.1 wh.1 bs.1 torn.1 r in
-      let here : IsTornNowhere (c ∷ ks) (parts (place_at events (c + 1) ∷ ends) child) = subst (λ (ys : List ℕ). IsTornNowhere ys (parts (map (λ k. place_at events (k + 1)) ys) child)) is torn.0 in
-      let spaced : AreSpaced i (c ∷ (ks ++ flat_map (chain_of events) cs)) n = subst (λ (ys : List ℕ). AreSpaced i (ys ++ flat_map (chain_of events) cs) n) is sp in
-      let many : length (c ∷ ks) ≡ length (parts (place_at events (c + 1) ∷ ends) child) = sym (length-parts (place_at events (c + 1) ∷ ends) child ∙ ap suc (length-map_ends events ks)) in
-      let t : IsTight (joined (parts (place_at events (c + 1) ∷ ends) child)) = subst IsTight (sym (joined-parts (place_at events (c + 1)) ends child)) (tight-from child bs.0) in
-      subst (λ (ys : List ℕ). IsTight (after (part_changes (first_chunk ys) 0 ys (parts (map (λ k. place_at events (k + 1)) ys) child) ++ ws) i)) (sym is)
-      (one_chain c i ks (flat_map (chain_of events) cs) (parts (place_at events (c + 1) ∷ ends) child) ws fs.0 wh.0.2 many spaced rest t here)
-    where
-      one_chain : (c i : ℕ) (ks more : List ℕ) (ps : List (List Event)) (ws : List Change) → Fits c → LeadOnFrom events c ks → length (c ∷ ks) ≡ length ps → AreSpaced i (c ∷ (ks ++ more)) n
-          → ((m : ℕ) → AreSpaced m more n → IsTight (after ws m)) → IsTight (joined ps) → IsTornNowhere (c ∷ ks) ps → IsTight (after (part_changes c 0 (c ∷ ks) ps ++ ws) i)
-      one_chain c i ks more [] ws h lead e sp rest t torn = absurd (omega arith)
-      one_chain c i ks more (p ∷ ps) ws h lead e sp rest t torn =
-          let behind : List Event = p ++ after (part_changes c (0 + length p) ks ps ++ ws) (c + 2) in
-          subst IsTight (sym (part_after tab bytes wanted events ready c 0 i c ks p ps ws sp.0))
-          (tight-join (between i c events) behind (before-chunk i c behind sp.0 h) (parts-tight c (0 + length p) c p ks more ps ws h lead (omega arith) sp.1 rest t torn))
+  one_chain : (c i : ℕ) (ks more : List ℕ) (ps : List (List Event)) (ws : List Change) → Fits c → LeadOnFrom events c ks → length (c ∷ ks) ≡ length ps → IsTight (joined ps) → IsTornNowhere (c ∷ ks) ps
+      → AreSpaced i (c ∷ (ks ++ more)) n → ((m : ℕ) → AreSpaced m more n → IsTight (after ws m)) → IsTight (after (part_changes c 0 (c ∷ ks) ps ++ ws) i)
+  one_chain c i ks more [] ws h lead e t torn sp rest = absurd (omega arith)
+  one_chain c i ks more (p ∷ ps) ws h lead e t torn sp rest =
+      let behind : List Event = p ++ after (part_changes c (0 + length p) ks ps ++ ws) (c + 2) in
+      subst IsTight (sym (part_after tab bytes wanted events ready c 0 i c ks p ps ws sp.0))
+      (tight-join (between i c events) behind (before-chunk i c behind sp.0 h) (parts-tight c (0 + length p) c p ks more ps ws h lead (omega arith) sp.1 rest t torn))
 
 pub with_children_tight : (tab : ℕ) (bytes : List ℕ) (wanted : Option Content) (events : List Event) (children : List (List Event)) → IsReady tab bytes wanted events → IsVoidTight events → AllByRecursion IsVoidTight children
     → NoneTorn wanted events children → IsVoidTight (with_children wanted events children)
 with_children_tight tab bytes wanted events children ready tight bs torn =
-    let n : ℕ = length events in
-    let f = follow_one_another tab bytes wanted events ready in
     let ws : List Change = child_changes wanted events children in
-    let z : n ≡ 0 + n = omega arith in
-    let apart : AreApart 0 ws (0 + n) = subst (AreApart 0 ws) z (changes_are_apart tab bytes wanted events children ready).apart in
-    let spaced : AreSpaced 0 (flat_map (chain_of events) (fitting_starts wanted events)) n = subst (λ (ks : List ℕ). AreSpaced 0 ks n) (sym f.in_order) f.spaced in
-    let t : IsTight (untagged (pass ws 0 events)) =
-    chains-tight tab bytes wanted events ready (tight-from events tight) (fitting_starts wanted events) children 0 (starts_fit tab bytes wanted events ready (range_with_len 0 n)) f.whole bs torn spaced in
+    let old = tight-from events tight in
+    let new : IsTight (untagged (pass ws 0 events)) =
+    with_children_holds tab bytes wanted events ready (λ vs i. IsTight (after_changes tab bytes wanted events ready vs i)) IsTight IsTornNowhere
+    (λ i. subst IsTight (sym (untagged-olds i (drop i events))) (tight-drop i events old))
+    (one_chain tab bytes wanted events ready old) children (every-map IsVoidTight IsTight tight-from children bs) torn in
     tight-to (with_children wanted events children)
-    (tight-placed (woven ws 0 events) (woven ws 0 events) (subst (λ (ts : List Tagged). IsTight (untagged ts)) (sym (woven-pass ws 0 events apart)) t))
+    (tight-placed (woven ws 0 events) (woven ws 0 events)
+    (subst (λ (ts : List Tagged). IsTight (untagged ts)) (sym (woven-pass ws 0 events (rw zero-add (changes_are_apart tab bytes wanted events children ready).apart))) new))

@@ -1,6 +1,5 @@
 -- Where the bytes of a document begin, and its places.
-use Rattle.markdown_children.proofs.Prelude.{◌≡◌, ◌≢◌, ℕ, zero, suc, ◌+◌, ◌-◌, ◌*◌, ◌<◌, ◌≤◌, ◌⊎◌, inl, inr, Bool, true, false, cond, List, [], ◌∷◌, ◌++◌, length, drop, get_or, Option, Some, refl, sym, ◌∙◌, ap, subst, arith, eqb-true, append_assoc, unwrap_or, ◌==◌, ◌&&◌, nat_le, nat_lt, slice_index, leb-true, ltb-true, le-leb, lt-ltb, eq-eqb, and_parts, get_or-map-range_with_len, length-map-range_with_len, map-range_with_len_more, Point, Seat, point, tab_width, in_tab, begins_with_lf, virtual_from, shown, follows_cr, IsPointOf, IsShown, point_at, IsReached, IsSeatPlace, IsReturnPlace, tab_width-least, reached_start, reached-line_feed, reached-return, reached-crlf, reached-tab, reached-plain, place-of, byte_here, point-of_reached, is_lf, ends_line, and-false-never, point_at-point, point_at-is, IsAmong, seat-is-point, IsShownPlace, width_at, line_after, column_after, line_at, column_at, byte_start, eighth_starts, is_of_byte, is_place, ByteStart, get_or-eq_default, cases_lt, ⊎_elim}
-use Rattle.std.proofs.Common.{ne_eqb}
+use Rattle.markdown_children.proofs.Prelude.{◌≡◌, ℕ, zero, suc, ◌+◌, ◌-◌, ◌<◌, ◌≤◌, ◌⊎◌, inl, inr, Bool, true, false, cond, List, [], ◌∷◌, ◌++◌, length, drop, get_or, Some, refl, sym, ◌∙◌, ap, subst, arith, eqb-true, append_assoc, ◌==◌, ◌&&◌, nat_le, nat_lt, slice_index, leb-true, ltb-true, le-leb, lt-ltb, eq-eqb, ne_eqb, false_from_ne_true, same_Some, and_parts, Point, Seat, point, tab_width, in_tab, begins_with_lf, virtual_from, shown, follows_cr, IsPointOf, IsShown, point_at, IsReached, IsSeatPlace, IsReturnPlace, tab_width-least, reached_start, reached-line_feed, reached-return, reached-crlf, reached-tab, reached-plain, place-of, byte_here, point-of_reached, is_lf, ends_line, and-false-never, point_at-point, point_at-is, IsAmong, seat-is-point, IsShownPlace, width_at, line_after, column_after, line_at, column_at, byte_start, is_of_byte, is_place, ByteStart, get_or-eq_default, cases_lt, ⊎_elim}
 use Rattle.markdown_children.proofs.ChainOrder.Following.{by_test}
 use Rattle.markdown_children.proofs.Ready.Tests.{four-parts}
 
@@ -8,9 +7,8 @@ use Rattle.markdown_children.proofs.Ready.Tests.{four-parts}
 
 lf-next : (bytes : List ℕ) (i : ℕ) → begins_with_lf (drop i bytes) ≡ is_lf bytes i
 lf-next [] zero = refl
-lf-next [] (suc i) = refl
-lf-next (b ∷ bytes) zero = refl
 lf-next (b ∷ bytes) (suc i) = lf-next bytes i
+lf-next bytes i = refl
 
 module _ (t : ℕ) (some : 0 < t) (bytes : List ℕ) where
   -- one byte on, by what it is: an LF, a CR, an LF behind it, a tab
@@ -49,15 +47,6 @@ in_tab-among byte (suc n) line column index vs (suc k) h =
     let s : Seat = record { byte = byte; point = point line column index vs; end = Rattle.markdown_base.specs.Virtual.end_in_tab n line column index vs } in
     (r.0, record { front = s ∷ r.1.front; back = r.1.back; splits = ap (λ ss. s ∷ ss) r.1.splits }, r.2 ∙ (λ j. point line (a j) index (b j)))
 
-among-front : (s : Seat) (xs ys : List Seat) → IsAmong s xs → IsAmong s (xs ++ ys)
-among-front s xs ys a = record { front = a.front; back = a.back ++ ys; splits = ap (λ zs. zs ++ ys) a.splits ∙ append_assoc a.front (s ∷ a.back) ys }
-
-among-behind : (s : Seat) (xs ys : List Seat) → IsAmong s ys → IsAmong s (xs ++ ys)
-among-behind s xs ys a = record { front = xs ++ a.front; back = a.back; splits = ap (λ zs. xs ++ zs) a.splits ∙ sym (append_assoc xs a.front (s ∷ a.back)) }
-
-no-byte : (b n m : ℕ) → b ≡ n → n ≢ m → (b == m) ≡ false
-no-byte b n m e h = ne_eqb b m (λ f. h (sym e ∙ f))
-
 module _ (t : ℕ) (some : 0 < t) (bytes : List ℕ) where
   tab-place : (line column i k : ℕ) → IsReached t bytes line column i → i < length bytes → get_or bytes i 0 ≡ 9 → k < tab_width t column → IsPointOf t bytes (point line (column + k) i k)
   tab-place line column i k r within is h =
@@ -67,12 +56,13 @@ module _ (t : ℕ) (some : 0 < t) (bytes : List ℕ) where
       let among = in_tab-among 9 w line column i 0 k h in
       let s = among.0 in
       let here : virtual_from t line column i (drop i bytes) ≡ in_tab 9 w line column i 0 ++ rest =
-      rw (byte_here t bytes line column i r within, no-byte (get_or bytes i 0) 9 10 is (λ e. omega arith), no-byte (get_or bytes i 0) 9 13 is (λ e. omega arith), eq-eqb (get_or bytes i 0) 9 is) refl in
-      let a = subst (IsAmong s) (sym r.whole) (among-behind s r.front (virtual_from t line column i (drop i bytes)) (subst (IsAmong s) (sym here) (among-front s (in_tab 9 w line column i 0) rest among.1))) in
-      subst (IsPointOf t bytes) (among.2 ∙ (λ j. point line (column + k) i (z j))) (seat-is-point t bytes s a)
-
-  shown-if : (p : Point) → (is_lf bytes p.index && follows_cr bytes p.index) ≡ false → IsShown bytes p
-  shown-if p e = rw e refl
+      rw (byte_here t bytes line column i r within, ne_eqb (get_or bytes i 0) 10 (λ e. omega arith), ne_eqb (get_or bytes i 0) 13 (λ e. omega arith), eq-eqb (get_or bytes i 0) 9 is) refl in
+      subst (IsPointOf t bytes) (among.2 ∙ (λ j. point line (column + k) i (z j))) (seat-is-point t bytes s (record {
+        front = r.front ++ among.1.front;
+        back = among.1.back ++ rest;
+        splits = r.whole ∙ ap (λ zs. r.front ++ zs) (here ∙ ap (λ zs. zs ++ rest) among.1.splits ∙ append_assoc among.1.front (s ∷ among.1.back) rest)
+            ∙ sym (append_assoc r.front among.1.front (s ∷ (among.1.back ++ rest)));
+      }))
 
   -- a point that is one of the places of a byte
   of-byte : (p : Point) (line column : ℕ) (y z : Bool) → IsReached t bytes line column p.index → (slice_index bytes p.index == 9) ≡ y → (is_lf bytes p.index && follows_cr bytes p.index) ≡ z
@@ -82,7 +72,7 @@ module _ (t : ℕ) (some : 0 < t) (bytes : List ℕ) where
       let w : width_at t bytes column p.index ≡ tab_width t column = rw e refl in
       let within : p.index < length bytes = ⊎_elim (λ (l : p.index < length bytes). l) (λ (l : length bytes ≤ p.index). absurd (omega (arith, get_or-eq_default bytes 0 l))) (cases_lt p.index (length bytes)) in
       let same : column + p.vs ≡ p.column = omega (arith, b, c) in
-      (subst (IsPointOf t bytes) (λ j. point (a j) (same j) p.index p.vs) (tab-place line column p.index p.vs r within is (omega (arith, d, w))), shown-if p (rw (no-byte (get_or bytes p.index 0) 9 10 is (λ g. omega arith)) refl))
+      (subst (IsPointOf t bytes) (λ j. point (a j) (same j) p.index p.vs) (tab-place line column p.index p.vs r within is (omega (arith, d, w))), rw (ne_eqb (get_or bytes p.index 0) 10 (λ g. omega arith)) refl)
   of-byte p line column false true r e f a b c d =
       let w : width_at t bytes column p.index ≡ 0 = rw (e, f) refl in
       absurd (omega (arith, d, w))
@@ -90,7 +80,7 @@ module _ (t : ℕ) (some : 0 < t) (bytes : List ℕ) where
       let w : width_at t bytes column p.index ≡ 1 = rw (e, f) refl in
       let v : 0 ≡ p.vs = omega (arith, d, w) in
       let same : column ≡ p.column = omega (arith, b, c, v) in
-      (subst (IsPointOf t bytes) (λ j. point (a j) (same j) p.index (v j)) (point_at-is t bytes (p.index, 0) (point line column p.index 0) (point-of_reached t some bytes line column p.index r)).is_point, shown-if p f)
+      (subst (IsPointOf t bytes) (λ j. point (a j) (same j) p.index (v j)) (point_at-is t bytes (p.index, 0) (point line column p.index 0) (point-of_reached t some bytes line column p.index r)).is_point, rw f refl)
 
   -- a point that passes the test is a place that is shown
   pub place-sound : (p : Point) → is_place t bytes p ≡ true → IsShownPlace t bytes p
@@ -103,76 +93,43 @@ module _ (t : ℕ) (some : 0 < t) (bytes : List ℕ) where
       (eqb-true start.line p.line four.0) (leb-true start.column p.column four.1) (eqb-true (p.column - start.column) p.vs four.2) (ltb-true p.vs width four.3)
 
   -- a place of a byte passes the test
-  is-of-byte : (p : Point) (start : ByteStart) → start.line ≡ p.line → start.column + p.vs ≡ p.column → p.vs < width_at t bytes start.column p.index → is_of_byte t bytes p start ≡ true
-  is-of-byte p start a b c =
+  is-place : (p : Point) (start : ByteStart) → p.index ≤ length bytes → start.line ≡ p.line → start.column + p.vs ≡ p.column → p.vs < width_at t bytes start.column p.index
+      → (nat_le p.index (length bytes) && is_of_byte t bytes p start) ≡ true
+  is-place p start inside a b c =
       let le : start.column ≤ p.column = omega (arith, b) in
       let vs : p.column - start.column ≡ p.vs = omega (arith, b) in
-      rw (eq-eqb start.line p.line a, le-leb start.column p.column le, eq-eqb (p.column - start.column) p.vs vs, lt-ltb p.vs (width_at t bytes start.column p.index) c) refl
+      rw (le-leb p.index (length bytes) inside, eq-eqb start.line p.line a, le-leb start.column p.column le, eq-eqb (p.column - start.column) p.vs vs, lt-ltb p.vs _ c) refl
 
   not-pair : (p : Point) → IsShown bytes p → (is_lf bytes p.index && follows_cr bytes p.index) ≡ false
-  not-pair p e = go p.index refl (is_lf bytes p.index && follows_cr bytes p.index) refl
-    where
-      go : (i : ℕ) → p.index ≡ i → (b : Bool) → (is_lf bytes p.index && follows_cr bytes p.index) ≡ b → (is_lf bytes p.index && follows_cr bytes p.index) ≡ false
-      go i is false h = h
-      go zero is true h = let f : (is_lf bytes 0 && false) ≡ true = ap (λ n. is_lf bytes n && follows_cr bytes n) (sym is) ∙ h in absurd (and-false-never (is_lf bytes 0) f)
-      go (suc i) is true h =
-          let cr : shown bytes p ≡ point p.line p.column (p.index - 1) p.vs = rw h refl in
-          absurd (omega (arith, is, ap (λ (q : Point). q.index) (sym cr ∙ e)))
+  not-pair p e = false_from_ne_true (is_lf bytes p.index && follows_cr bytes p.index) (λ pair.
+      let cr : shown bytes p ≡ point p.line p.column (p.index - 1) p.vs = rw pair refl in
+      let first : p.index ≡ 0 = omega (arith, ap (λ (q : Point). q.index) (sym cr ∙ e)) in
+      and-false-never (is_lf bytes 0) (ap (λ n. is_lf bytes n && follows_cr bytes n) (sym first) ∙ pair))
 
-  some-width : (column i : ℕ) → (is_lf bytes i && follows_cr bytes i) ≡ false → 0 < width_at t bytes column i
-  some-width column i f = by_test (slice_index bytes i == 9) (λ e. rw e (tab_width-least t column some)) (λ e. rw (e, f) (omega arith))
-
-  one-begin : (line column line' column' i : ℕ) → IsReached t bytes line column i → IsReached t bytes line' column' i → (line ≡ line') × (column ≡ column')
-  one-begin line column line' column' i r s =
-      let e : Some (point line column i 0) ≡ Some (point line' column' i 0) = sym (point-of_reached t some bytes line column i r) ∙ point-of_reached t some bytes line' column' i s in
-      let f = ap (λ (o : Option Point). unwrap_or o (point 0 0 0 0)) e in
-      (ap (λ (q : Point). q.line) f, ap (λ (q : Point). q.column) f)
-
-  place-of-byte : (p : Point) → IsPointOf t bytes p → IsShown bytes p → (v : ℕ) → p.vs ≡ v → IsSeatPlace t bytes p ⊎ IsReturnPlace bytes p
-      → (p.index ≤ length bytes) × (is_of_byte t bytes p (byte_start t bytes p.index) ≡ true)
+  place-of-byte : (p : Point) → IsPointOf t bytes p → IsShown bytes p → (v : ℕ) → p.vs ≡ v → IsSeatPlace t bytes p ⊎ IsReturnPlace bytes p → is_place t bytes p ≡ true
   place-of-byte p is shown zero v o =
-      let inside = upto o in
-      let r = reached-at t some bytes p.index inside in
+      let inside : p.index ≤ length bytes = ⊎_elim (λ (s : IsSeatPlace t bytes p). s.reached.inside) (λ (s : IsReturnPlace bytes p). omega (arith, s.1)) o in
       let start = byte_start t bytes p.index in
-      let e : Some p ≡ Some (point start.line start.column p.index 0) = sym (point_at-point t bytes some p is) ∙ (λ j. point_at t bytes (p.index, v j)) ∙ point-of_reached t some bytes start.line start.column p.index r in
-      let f = ap (λ (o : Option Point). unwrap_or o (point 0 0 0 0)) e in
-      let l : p.line ≡ start.line = ap (λ (q : Point). q.line) f in
+      let e : Some p ≡ Some (point start.line start.column p.index 0) =
+      sym (point_at-point t bytes some p is) ∙ (λ j. point_at t bytes (p.index, v j)) ∙ point-of_reached t some bytes start.line start.column p.index (reached-at t some bytes p.index inside) in
+      let f = same_Some p (point start.line start.column p.index 0) e in
       let c : p.column ≡ start.column = ap (λ (q : Point). q.column) f in
-      (inside, is-of-byte p start (sym l) (omega (arith, c, v)) (omega (arith, v, some-width start.column p.index (not-pair p shown))))
-    where
-      upto : IsSeatPlace t bytes p ⊎ IsReturnPlace bytes p → p.index ≤ length bytes
-      upto (inl s) = s.reached.inside
-      upto (inr s) = omega (arith, s.1)
+      let pair = not-pair p shown in
+      let width : 0 < width_at t bytes start.column p.index = by_test (slice_index bytes p.index == 9) (λ d. rw d (tab_width-least t start.column some)) (λ d. rw (d, pair) (omega arith)) in
+      is-place p start inside (sym (ap (λ (q : Point). q.line) f)) (omega (arith, c, v)) (omega (arith, v, width))
   place-of-byte p is shown (suc n) v (inl s) =
       let tab = s.in_tab (omega (arith, v)) in
       let inside : p.index ≤ length bytes = omega (arith, tab.0) in
       let start = byte_start t bytes p.index in
-      let same = one-begin p.line s.column start.line start.column p.index s.reached (reached-at t some bytes p.index inside) in
+      let f = same_Some (point p.line s.column p.index 0) (point start.line start.column p.index 0)
+      (sym (point-of_reached t some bytes p.line s.column p.index s.reached) ∙ point-of_reached t some bytes start.line start.column p.index (reached-at t some bytes p.index inside)) in
+      let c : s.column ≡ start.column = ap (λ (q : Point). q.column) f in
       let w : width_at t bytes start.column p.index ≡ tab_width t start.column = rw (eq-eqb (get_or bytes p.index 0) 9 tab.1) refl in
-      (inside, is-of-byte p start (sym same.0) (omega (arith, same.1, s.across)) (omega (arith, w, ap (tab_width t) same.1, tab.2)))
+      is-place p start inside (sym (ap (λ (q : Point). q.line) f)) (omega (arith, c, s.across)) (omega (arith, w, ap (tab_width t) c, tab.2))
   place-of-byte p is shown (suc n) v (inr s) = absurd (omega (arith, v, s.0))
 
   pub place-complete : (p : Point) → IsShownPlace t bytes p → is_place t bytes p ≡ true
-  place-complete p h =
-      let r = place-of-byte p h.0 h.1 p.vs refl (place-of t some bytes p h.0) in
-      rw (le-leb p.index (length bytes) r.0) r.1
-
--- ---- where the bytes begin, one after another
-
--- one start more
-pub starts-more : (t : ℕ) (bytes : List ℕ) (rs : List ByteStart) (start : ByteStart) (n : ℕ) → rs ≡ eighth_starts t bytes n → start ≡ byte_start t bytes (8 * n) → rs ++ start ∷ [] ≡ eighth_starts t bytes (n + 1)
-starts-more t bytes rs start n e b =
-    let s : 0 + n ≡ n = omega arith in
-    (λ j. e j ++ b j ∷ []) ∙ sym (map-range_with_len_more (λ k. byte_start t bytes (8 * k)) 0 n n s)
-
--- the start that is kept of an eighth byte
-pub start-kept : (t : ℕ) (bytes : List ℕ) (rs : List ByteStart) (n k : ℕ) (d : ByteStart) → rs ≡ eighth_starts t bytes n → k < n → get_or rs k d ≡ byte_start t bytes (8 * k)
-start-kept t bytes rs n k d e l =
-    let s : 0 + k ≡ k = omega arith in
-    ap (λ xs. get_or xs k d) e ∙ get_or-map-range_with_len (λ i. byte_start t bytes (8 * i)) 0 n k k d l s
-
-pub length-kept : (t : ℕ) (bytes : List ℕ) (rs : List ByteStart) (n : ℕ) → rs ≡ eighth_starts t bytes n → length rs ≡ n
-length-kept t bytes rs n e = ap length e ∙ length-map-range_with_len (λ k. byte_start t bytes (8 * k)) 0 n
+  place-complete p h = place-of-byte p h.0 h.1 p.vs refl (place-of t some bytes p h.0)
 
 -- line and column after a byte
 pub line-on : (bytes : List ℕ) (line i : ℕ) (b : Bool) → line ≡ line_at bytes i → ends_line bytes i ≡ b → cond b (line + 1) line ≡ line_at bytes (i + 1)

@@ -1,7 +1,6 @@
 -- The tests of a list that is ready, one by one.
-use Rattle.markdown_children.proofs.Prelude.{◌≡◌, ℕ, zero, suc, ◌+◌, ◌-◌, ◌<◌, ◌≤◌, inl, inr, ⊎_elim, Bool, true, List, [], ◌∷◌, length, take, drop, Option, Some, None, refl, sym, ◌∙◌, ap, arith, eqb-true, eqb, reverse, ◌&&◌, ◌||◌, ◌==◌, not, is_none, nat_lt, nat_le, slice_get, between, ltb-true, le-leb, eq-eqb, not-true, not_from_false, and_parts, or_cases, or_left, or_right, length-reverse, none-some, slice_get_within, slice_get_past, drop_of_length-le, sameb, same_true, true_same, Content, Event, Enter, Exit, Link, Point, IsBalanced, is_void, same_name, stands_before, next_of, previous_of, AreMutual, names_after_all, balanced_from_open, names_after_balanced, same_name-true, same-numbers, content_at, place_at, IsChunk, IsGap, is_closed, closes, link_at, is_number, is_void_span, is_chunk, leads_back_to, is_joined_on, leads_on_to, is_joined_back, is_sound, is_sound_at, is_same_point, is_in_line, has_no_link, is_gap, AllBelow, both_true}
-use Rattle.std.proofs.Common.{ne_eqb}
-use Rattle.std.specs.Prelude.{option_map, option_and_then}
+use Rattle.markdown_children.proofs.Prelude.{◌≡◌, ℕ, zero, suc, ◌+◌, ◌-◌, ◌<◌, ◌≤◌, inl, inr, ⊎_elim, Bool, true, List, [], ◌∷◌, length, length-take, take, drop, Option, Some, None, refl, sym, ◌∙◌, ap, arith, eqb-true, ◌&&◌, ◌||◌, ◌==◌, not, is_none, nat_lt, nat_le, option_map, option_and_then, option_and_then_some, slice_get, between, ltb-true, le-leb, eq-eqb, not-true, not_from_false, and_parts, or_cases, or_left, or_right, none-some, slice_get_within, slice_get_past, sameb, same_true, true_same, Content, Event, Enter, Exit, Link, IsBalanced, is_void, same_name, stands_before, next_of, names_after_all, balanced_from_open, names_after_balanced, same_name-true, same-numbers, place_at, IsChunk, IsGap, is_closed, closes, link_at, is_number, is_void_span, is_chunk, leads_back_to, is_joined_on, leads_on_to, is_joined_back, is_sound, is_sound_at, is_same_point, is_in_line, has_no_link, is_gap, AllBelow, both_true}
+use Rattle.markdown_children.proofs.ChainOrder.Following.{by_option}
 use Rattle.markdown_base.specs.contracts.event.Name.{the_type as names}
 use Rattle.markdown_base.specs.contracts.event.Kind.{the_type as kinds}
 use Rattle.markdown_base.specs.contracts.event.Content.{the_type as contents}
@@ -45,46 +44,28 @@ with-link : {A : Type 0} (f : Option Link → Option A) → f None ≡ None → 
 with-link f n None a e = absurd (none-some a (sym n ∙ e))
 with-link f n (Some l) a e = (l, refl, e)
 
-abbrev content : Option Link → Option Content
-content o = option_map (λ (l : Link). l.content) o
+abbrev pub link_content : Option Link → Option Content
+link_content o = option_map (λ (l : Link). l.content) o
 
-abbrev next : Option Link → Option ℕ
-next o = option_and_then (λ (l : Link). l.next) o
+abbrev pub link_next : Option Link → Option ℕ
+link_next o = option_and_then (λ (l : Link). l.next) o
 
-abbrev previous : Option Link → Option ℕ
-previous o = option_and_then (λ (l : Link). l.previous) o
+abbrev pub link_previous : Option Link → Option ℕ
+link_previous o = option_and_then (λ (l : Link). l.previous) o
 
-event-with : (o : Option Event) (l : Link) → option_and_then (λ (e : Event). e.link) o ≡ Some l → (e : Event) × (o ≡ Some e) × (e.link ≡ Some l)
-event-with None l e = absurd (none-some l e)
-event-with (Some x) l e = (x, refl, e)
+module _ {A : Type 0} (f : Option Link → Option A) (none : f None ≡ None) (events : List Event) (k : ℕ) where
+  pub read-at : (l : Link) → link_at events k ≡ Some l → option_and_then (λ (e : Event). f e.link) (slice_get events k) ≡ f (Some l)
+  read-at l e = of-link f none (slice_get events k) ∙ ap f e
 
-module _ (events : List Event) where
-  pub content-at : (k : ℕ) (l : Link) → link_at events k ≡ Some l → content_at events k ≡ Some l.content
-  content-at k l e = of-link content refl (slice_get events k) ∙ ap content e
+  pub with-read : (a : A) → option_and_then (λ (e : Event). f e.link) (slice_get events k) ≡ Some a → (l : Link) × (link_at events k ≡ Some l) × (f (Some l) ≡ Some a)
+  with-read a e = with-link f none (link_at events k) a (sym (of-link f none (slice_get events k)) ∙ e)
 
-  pub next-at : (k : ℕ) (l : Link) → link_at events k ≡ Some l → next_of events k ≡ l.next
-  next-at k l e = of-link next refl (slice_get events k) ∙ ap next e
-
-  pub previous-at : (k : ℕ) (l : Link) → link_at events k ≡ Some l → previous_of events k ≡ l.previous
-  previous-at k l e = of-link previous refl (slice_get events k) ∙ ap previous e
-
-  pub with-content : (k : ℕ) (c : Content) → content_at events k ≡ Some c → (l : Link) × (link_at events k ≡ Some l) × (Some l.content ≡ Some c)
-  with-content k c e = with-link content refl (link_at events k) c (sym (of-link content refl (slice_get events k)) ∙ e)
-
-  pub with-next : (k d : ℕ) → next_of events k ≡ Some d → (l : Link) × (link_at events k ≡ Some l) × (l.next ≡ Some d)
-  with-next k d e = with-link next refl (link_at events k) d (sym (of-link next refl (slice_get events k)) ∙ e)
-
-  pub with-previous : (k d : ℕ) → previous_of events k ≡ Some d → (l : Link) × (link_at events k ≡ Some l) × (l.previous ≡ Some d)
-  with-previous k d e = with-link previous refl (link_at events k) d (sym (of-link previous refl (slice_get events k)) ∙ e)
-
-  pub inside-link : (k : ℕ) (l : Link) → link_at events k ≡ Some l → k < length events
-  inside-link k l e = let x = event-with (slice_get events k) l e in slice_get_within events k x.0 x.1
+pub inside-link : (events : List Event) (k : ℕ) (l : Link) → link_at events k ≡ Some l → k < length events
+inside-link events k l e = option_and_then_some (λ (x : Event). x.link) (slice_get events k) l e (λ x s h. slice_get_within events k x s)
 
 -- ---- chunks
 
-chunk-of : (events : List Event) (k : ℕ) (l : Link) (o p : Option Event) → is_void_span o p ≡ true → slice_get events k ≡ o → slice_get events (k + 1) ≡ p → option_and_then (λ (e : Event). e.link) o ≡ Some l → IsChunk events k
-chunk-of events k l None p e at behind linked = absurd (cc)
-chunk-of events k l (Some x) None e at behind linked = absurd (cc)
+pub chunk-of : (events : List Event) (k : ℕ) (l : Link) (o p : Option Event) → is_void_span o p ≡ true → slice_get events k ≡ o → slice_get events (k + 1) ≡ p → option_and_then (λ (e : Event). e.link) o ≡ Some l → IsChunk events k
 chunk-of events k l (Some x) (Some y) e at behind linked =
     let t = four-parts (sameb kinds x.kind Enter) (is_void x.name) (sameb kinds y.kind Exit) (same_name y.name x.name) e in
     record {
@@ -95,6 +76,7 @@ chunk-of events k l (Some x) (Some y) e at behind linked =
       linked = record { enter = same_true kinds tt x.kind Enter t.0; void = t.1; linked = rw linked refl };
       ended = record { exits = same_true kinds tt y.kind Exit t.2; same = same_name-true y.name x.name t.3 };
     }
+chunk-of events k l o p e at behind linked = absurd (cc)
 
 pub of-chunk : (events : List Event) (k : ℕ) → IsChunk events k → is_chunk events k ≡ true
 of-chunk events k c =
@@ -107,61 +89,34 @@ leads-back : (k : ℕ) (c : Content) (o : Option Link) → leads_back_to k c o �
 leads-back k c None e = absurd (cc)
 leads-back k c (Some m) e = let two = and_parts (is_number m.previous k) (sameb contents m.content c) e in (m, refl, number-is m.previous k two.0, same_true contents tt m.content c two.1)
 
-leads-on : (k : ℕ) (o : Option Link) → leads_on_to k o ≡ true → (l : Link) × (o ≡ Some l) × (l.next ≡ Some k)
+pub leads-on : (k : ℕ) (o : Option Link) → leads_on_to k o ≡ true → (l : Link) × (o ≡ Some l) × (l.next ≡ Some k)
 leads-on k None e = absurd (cc)
 leads-on k (Some l) e = (l, refl, number-is l.next k e)
 
 -- what is required of a linked event
-parts-of : (events : List Event) (k : ℕ) (l : Link) → is_sound_at events k ≡ true → link_at events k ≡ Some l → (is_chunk events k ≡ true) × (is_joined_on events k l.content l.next ≡ true) × (is_joined_back events k l.previous ≡ true)
+pub parts-of : (events : List Event) (k : ℕ) (l : Link) → is_sound_at events k ≡ true → link_at events k ≡ Some l → (is_chunk events k ≡ true) × (is_joined_on events k l.content l.next ≡ true) × (is_joined_back events k l.previous ≡ true)
 parts-of events k l h e =
     let a = and_parts (is_chunk events k) (is_joined_on events k l.content l.next && is_joined_back events k l.previous) (ap (is_sound events k) (sym e) ∙ h) in
     let b = and_parts (is_joined_on events k l.content l.next) (is_joined_back events k l.previous) a.1 in
     (a.0, b.0, b.1)
 
 -- the event that a link leads on to
-on-to : (events : List Event) (k d : ℕ) (l : Link) → is_sound_at events k ≡ true → link_at events k ≡ Some l → l.next ≡ Some d
+pub on-to : (events : List Event) (k d : ℕ) (l : Link) → is_sound_at events k ≡ true → link_at events k ≡ Some l → l.next ≡ Some d
     → (k < d) × (m : Link) × (link_at events d ≡ Some m) × (m.previous ≡ Some k) × (m.content ≡ l.content)
 on-to events k d l h e f =
     let two = and_parts (nat_lt k d) (leads_back_to k l.content (link_at events d)) (ap (is_joined_on events k l.content) (sym f) ∙ (parts-of events k l h e).1) in
     let m = leads-back k l.content (link_at events d) two.1 in
     (ltb-true k d two.0, m.0, m.1, m.2, m.3)
 
--- a link's next event is inside the list
-pub next-inside : (events : List Event) (k d : ℕ) (l : Link) → is_sound_at events k ≡ true → link_at events k ≡ Some l → l.next ≡ Some d → d < length events
-next-inside events k d l h e f = let m = on-to events k d l h e f in inside-link events d m.1 m.2
-
-module _ (events : List Event) (sound : AllBelow (length events) (is_sound_at events)) where
-  pub sound-chunk : (k : ℕ) (l : Link) → link_at events k ≡ Some l → IsChunk events k
-  sound-chunk k l e = chunk-of events k l (slice_get events k) (slice_get events (k + 1)) (parts-of events k l (sound k (inside-link events k l e)) e).0 refl refl e
-
-  on : (k d : ℕ) → next_of events k ≡ Some d
-      → (l : Link) × (link_at events k ≡ Some l) × (k < d) × (m : Link) × (link_at events d ≡ Some m) × (m.previous ≡ Some k) × (m.content ≡ l.content)
-  on k d e = let x = with-next events k d e in let m = on-to events k d x.0 (sound k (inside-link events k x.0 x.1)) x.1 x.2 in (x.0, x.1, m.0, m.1, m.2, m.3, m.4)
-
-  pub sound-joined : AreMutual events
-  sound-joined k d = (
-    (λ e. let x = on k d e in previous-at events d x.3 x.4 ∙ x.5),
-    (λ e.
-        let y = with-previous events d k e in
-        let l = leads-on d (link_at events k) (ap (is_joined_back events d) (sym y.2) ∙ (parts-of events d y.0 (sound d (inside-link events d y.0 y.1)) y.1).2) in
-        next-at events k l.0 l.1 ∙ l.2),
-  )
-
-  pub sound-forward : (k d : ℕ) → next_of events k ≡ Some d → k < d
-  sound-forward k d e = (on k d e).2
-
-  pub sound-content : (k d : ℕ) → next_of events k ≡ Some d → content_at events k ≡ content_at events d
-  sound-content k d e = let x = on k d e in content-at events k x.0 x.1 ∙ ap (λ c. Some c) (sym x.6) ∙ sym (content-at events d x.3 x.4)
+pub on : (events : List Event) → AllBelow (length events) (is_sound_at events) → (k d : ℕ) → next_of events k ≡ Some d
+    → (l : Link) × (link_at events k ≡ Some l) × (k < d) × (m : Link) × (link_at events d ≡ Some m) × (m.previous ≡ Some k) × (m.content ≡ l.content)
+on events sound k d e = let x = with-read link_next refl events k d e in let m = on-to events k d x.0 (sound k (inside-link events k x.0 x.1)) x.1 x.2 in (x.0, x.1, m.0, m.1, m.2, m.3, m.4)
 
 -- ---- gaps
 
 not-link : (o : Option Link) → is_none o ≡ true → o ≡ None
 not-link None e = refl
 not-link (Some l) e = absurd (cc)
-
-content-no-link : (o : Option Link) → option_map (λ (l : Link). l.content) o ≡ None → o ≡ None
-content-no-link None e = refl
-content-no-link (Some l) e = absurd (none-some l.content (sym e))
 
 -- no event between two indices has a link, by index
 has_no_link-all : (es : List Event) → has_no_link es ≡ true → (m : ℕ) → link_at es m ≡ None
@@ -185,21 +140,8 @@ slice-take (suc n) m [] h = refl
 slice-take (suc n) zero (x ∷ es) h = refl
 slice-take (suc n) (suc m) (x ∷ es) h = slice-take n m es (omega arith)
 
-take-le : (n : ℕ) (es : List Event) → length (take n es) ≤ n
-take-le zero es = omega arith
-take-le (suc n) [] = omega arith
-take-le (suc n) (x ∷ es) = let h = take-le n es in omega (arith, h)
-
 get-between : (a b m : ℕ) (es : List Event) → a + m < b → slice_get (between a b es) m ≡ slice_get es (a + m)
 get-between a b m es h = let l : m < b - a = omega arith in slice-take (b - a) m (drop a es) l ∙ slice-drop a m es
-
-same-point : (p q : Point) → is_same_point p q ≡ true → p ≡ q
-same-point p q e =
-    let t = four-parts (p.line == q.line) (p.column == q.column) (p.index == q.index) (p.vs == q.vs) e in
-    same-numbers p.line p.column p.index p.vs q.line q.column q.index q.vs (eqb-true p.line q.line t.0) (eqb-true p.column q.column t.1) (eqb-true p.index q.index t.2) (eqb-true p.vs q.vs t.3)
-
-point-same : (p q : Point) → p ≡ q → is_same_point p q ≡ true
-point-same p q e = ap (is_same_point p) (sym e) ∙ rw (eq-eqb p.line p.line refl, eq-eqb p.column p.column refl, eq-eqb p.index p.index refl, eq-eqb p.vs p.vs refl) refl
 
 module _ (events : List Event) where
   -- what passes the test is a gap
@@ -213,15 +155,17 @@ module _ (events : List Event) where
       record {
         forward = not-true (stands_before q p) l.0;
         in_line = ⊎_elim
-            (λ s. inl (same-point p q s))
+            (λ s.
+            let u = four-parts (p.line == q.line) (p.column == q.column) (p.index == q.index) (p.vs == q.vs) s in
+            inl (same-numbers p.line p.column p.index p.vs q.line q.column q.index q.vs (eqb-true p.line q.line u.0) (eqb-true p.column q.column u.1) (eqb-true p.index q.index u.2) (eqb-true p.vs q.vs u.3)))
             (λ s. let c = and_parts (p.column == 1) (q.line == p.line) s in inr (eqb-true p.column 1 c.0, eqb-true q.line p.line c.1))
             (or_cases (is_same_point p q) ((p.column == 1) && (q.line == p.line)) l.1);
         balanced = balanced-closes inside t.3;
         no_link = λ m u v.
             let at : (k + 2) + (m - (k + 2)) ≡ m = omega arith in
-            of-link content refl (slice_get events m)
-            ∙ ap (λ (o : Option Event). content (option_and_then (λ (x : Event). x.link) o)) (sym (get-between (k + 2) d (m - (k + 2)) events (omega arith) ∙ ap (slice_get events) at))
-            ∙ ap content (has_no_link-all inside t.2 (m - (k + 2)));
+            of-link link_content refl (slice_get events m)
+            ∙ ap (λ (o : Option Event). link_content (option_and_then (λ (x : Event). x.link) o)) (sym (get-between (k + 2) d (m - (k + 2)) events (omega arith) ∙ ap (slice_get events) at))
+            ∙ ap link_content (has_no_link-all inside t.2 (m - (k + 2)));
       }
 
   pub of-gap : (k d : ℕ) → k + 2 ≤ d → IsGap events k d → is_gap events k d ≡ true
@@ -233,25 +177,13 @@ module _ (events : List Event) where
       (both_true (le-leb (k + 2) d h)
       (both_true (not_from_false (stands_before q p) g.forward)
       (⊎_elim
-      (λ s. or_left (is_same_point p q) ((p.column == 1) && (q.line == p.line)) (point-same p q s))
+      (λ s. or_left (is_same_point p q) ((p.column == 1) && (q.line == p.line))
+      (ap (is_same_point p) (sym s) ∙ rw (eq-eqb p.line p.line refl, eq-eqb p.column p.column refl, eq-eqb p.index p.index refl, eq-eqb p.vs p.vs refl) refl))
       (λ s. or_right (is_same_point p q) ((p.column == 1) && (q.line == p.line)) (both_true (eq-eqb p.column 1 s.0) (eq-eqb q.line p.line s.1)))
       g.in_line)))
       (both_true
       (all-has_no_link inside (λ m l.
-      let within : (k + 2) + m < d = omega (arith, l, take-le (d - (k + 2)) (drop (k + 2) events)) in
+      let within : (k + 2) + m < d = omega (arith, l, length-take (d - (k + 2)) (drop (k + 2) events)) in
       ap (option_and_then (λ (x : Event). x.link)) (get-between (k + 2) d m events within)
-      ∙ content-no-link (link_at events (k + 2 + m)) (sym (of-link content refl (slice_get events (k + 2 + m))) ∙ g.no_link (k + 2 + m) (omega arith) within)))
+      ∙ by_option (link_at events (k + 2 + m)) (λ n. n) (λ x n. absurd (none-some x.content (sym (g.no_link (k + 2 + m) (omega arith) within) ∙ read-at link_content refl events (k + 2 + m) x n)))))
       (closes-balanced inside g.balanced))
-
--- ---- what the code's tests mean
-
-closed-length : (st : List Name) → is_closed (Some st) ≡ eqb (length st) 0
-closed-length [] = refl
-closed-length (n ∷ st) = sym (ne_eqb (length (n ∷ st)) 0 (λ e. omega arith))
-
--- after all events the list closes where no name is open
-pub closes-done : (open_names : List Name) (len i : ℕ) (events : List Event) (b : Bool) → names_after_all (Some (reverse open_names)) (drop i events) ≡ names_after_all (Some []) events → length events ≤ i
-    → len ≡ length open_names → b ≡ eqb len 0 → b ≡ closes events
-closes-done open_names len i events b inv past l e =
-    e ∙ ap (λ n. eqb n 0) (l ∙ sym (length-reverse open_names)) ∙ sym (closed-length (reverse open_names))
-    ∙ ap is_closed (sym (ap (names_after_all (Some (reverse open_names))) (drop_of_length-le events past)) ∙ inv)

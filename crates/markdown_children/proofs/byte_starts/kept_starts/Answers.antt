@@ -1,5 +1,4 @@
-use Rattle.markdown_children.proofs.Prelude.{◌≡◌, ◌+◌, ◌/◌, ◌++◌, ◌∷◌, [], ℕ, length, refl, ap, ◌∙◌, arith, eighth_starts, ByteStart}
-use Rattle.markdown_children.proofs.Ready.Reached.{starts-more}
+use Rattle.markdown_children.proofs.Prelude.{◌≡◌, ◌+◌, ◌/◌, ◌++◌, ◌*◌, ◌∷◌, [], ℕ, length, refl, sym, ap, ◌∙◌, arith, zero-add, map-range_with_len_more, byte_start, eighth_starts, ByteStart}
 use Rattle.markdown_children.proofs.byte_starts.kept_starts.Goals as goal
 
 pub loop-k-init : goal.loop-k-init
@@ -16,7 +15,8 @@ pub loop-k-preserved : goal.loop-k-preserved
 loop-k-preserved c =
     let i = c.loop-k.invariant in
     record {
-      starts = c.push_reserved-in-loop-k.ensures.items ∙ starts-more c.args.t c.args.bytes.now c.loop-k.starts.items c.walked-start.result (c.loop-k.k + 1) i.starts c.walked-start.ensures;
+      starts = c.push_reserved-in-loop-k.ensures.items ∙ (λ j. i.starts j ++ c.walked-start.ensures j ∷ [])
+          ∙ sym (map-range_with_len_more (λ k. byte_start c.args.t c.args.bytes.now (8 * k)) 0 (c.loop-k.k + 1) (c.loop-k.k + 1) (zero-add (c.loop-k.k + 1)));
       start = c.walked-start.ensures;
       so_far = omega (arith, c.push_reserved-in-loop-k.ensures.len, i.so_far);
       room = omega (arith, c.push_reserved-in-loop-k.ensures.capacity, i.room);

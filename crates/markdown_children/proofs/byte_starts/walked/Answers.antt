@@ -1,22 +1,10 @@
-use Rattle.markdown_children.proofs.Prelude.{◌≡◌, ◌≤◌, ◌<◌, ℕ, suc, ◌+◌, true, false, List, length, refl, sym, ap, ◌∙◌, arith, lit≤, ◌==◌, slice_index, mul-le-mul_left, mul-le-mul_right, ends_line, column_after, line_at, column_at, ByteStart}
-use Rattle.std.proofs.Common.{ne_eqb}
+use Rattle.markdown_children.proofs.Prelude.{◌≡◌, ◌≤◌, ◌<◌, ℕ, suc, ◌+◌, true, false, List, length, refl, sym, ap, ◌∙◌, arith, lit≤, ◌==◌, slice_index, ne_eqb, mul-le-mul_left, mul-le-mul_right, column_after, line_at, column_at, ByteStart}
 use Rattle.markdown_children.proofs.Ready.Reached.{reached-at, line_at-le, line-on, column-on}
 use Rattle.markdown_children.proofs.byte_starts.walked.Goals as goal
 
 -- a byte above a CR is no tab and no line ending
-module _ (t : ℕ) (bytes : List ℕ) (i column : ℕ) (above : 13 < slice_index bytes i) where
-  apart : (n : ℕ) → n ≤ 13 → (slice_index bytes i == n) ≡ false
-  apart n small = ne_eqb (slice_index bytes i) n (λ same. omega (arith, above, small, same))
-
-  plain-ends : ends_line bytes i ≡ false
-  plain-ends = rw (apart 13 (lit≤ tt), apart 10 (lit≤ tt)) refl
-
-  plain-column : column + 1 ≡ column_after t bytes column i
-  plain-column = rw (apart 13 (lit≤ tt), apart 10 (lit≤ tt), apart 9 (lit≤ tt)) (omega arith)
-
--- a line that begins, begins at column 1
-first-column : (t : ℕ) (bytes : List ℕ) (i column : ℕ) → ends_line bytes i ≡ true → 1 ≡ column_after t bytes column i
-first-column t bytes i column e = rw e refl
+apart : (bytes : List ℕ) (i : ℕ) → 13 < slice_index bytes i → (n : ℕ) → n ≤ 13 → (slice_index bytes i == n) ≡ false
+apart bytes i above n small = ne_eqb (slice_index bytes i) n (λ same. omega (arith, above, small, same))
 
 pub loop-index-init : goal.loop-index-init
 loop-index-init c = record { line = ap (λ (s : ByteStart). s.line) c.requires.start; column = ap (λ (s : ByteStart). s.column) c.requires.start }
@@ -30,10 +18,11 @@ overflow_add-column c =
 pub loop-index-preserved-then-bytes-index-gt13 : goal.loop-index-preserved-then-bytes-index-gt13
 loop-index-preserved-then-bytes-index-gt13 c =
     let i = c.loop-index.invariant in
-    let above = c.if-bytes-index-gt13.true in
+    let no = apart c.args.bytes.now c.loop-index.index c.if-bytes-index-gt13.true in
+    let plain : c.loop-index.column + 1 ≡ column_after c.args.t c.args.bytes.now c.loop-index.column c.loop-index.index = rw (no 13 (lit≤ tt), no 10 (lit≤ tt), no 9 (lit≤ tt)) (omega arith) in
     record {
-      line = line-on c.args.bytes.now c.loop-index.line c.loop-index.index false i.line (plain-ends c.args.t c.args.bytes.now c.loop-index.index c.loop-index.column above);
-      column = plain-column c.args.t c.args.bytes.now c.loop-index.index c.loop-index.column above ∙ column-on c.args.t c.args.bytes.now c.loop-index.column c.loop-index.index i.column;
+      line = line-on c.args.bytes.now c.loop-index.line c.loop-index.index false i.line (rw (no 13 (lit≤ tt), no 10 (lit≤ tt)) refl);
+      column = plain ∙ column-on c.args.t c.args.bytes.now c.loop-index.column c.loop-index.index i.column;
     }
 
 pub overflow_add-line : goal.overflow_add-line
@@ -44,21 +33,22 @@ pub loop-index-preserved-then-ends_line : goal.loop-index-preserved-then-ends_li
 loop-index-preserved-then-ends_line c =
     let i = c.loop-index.invariant in
     let ends = sym c.ends_line.ensures.end ∙ c.if-ends_line.true in
+    let first : 1 ≡ column_after c.args.t c.args.bytes.now c.loop-index.column c.loop-index.index = rw ends refl in
     record {
       line = line-on c.args.bytes.now c.loop-index.line c.loop-index.index true i.line ends;
-      column = first-column c.args.t c.args.bytes.now c.loop-index.index c.loop-index.column ends ∙ column-on c.args.t c.args.bytes.now c.loop-index.column c.loop-index.index i.column;
+      column = first ∙ column-on c.args.t c.args.bytes.now c.loop-index.column c.loop-index.index i.column;
     }
 
-pub column_after-column-requires-clause-first : goal.column_after-column-requires-clause-first
-column_after-column-requires-clause-first c =
-    let r = reached-at c.args.t c.requires.some c.args.bytes.now c.loop-index.index (omega arith) in
-    omega (arith, r.first, c.loop-index.invariant.column)
-
-pub column_after-column-requires-clause-limit : goal.column_after-column-requires-clause-limit
-column_after-column-requires-clause-limit c =
+pub column_after-column-requires : goal.column_after-column-requires
+column_after-column-requires c =
     let r = reached-at c.args.t c.requires.some c.args.bytes.now c.loop-index.index (omega arith) in
     let inside : suc c.loop-index.index ≤ length c.args.bytes.now = omega arith in
-    omega (arith, r.bound, mul-le-mul_left c.args.t inside, c.loop-index.invariant.column, c.requires.limit)
+    record {
+      some = c.requires.some;
+      inside = omega arith;
+      first = omega (arith, r.first, c.loop-index.invariant.column);
+      limit = omega (arith, r.bound, mul-le-mul_left c.args.t inside, c.loop-index.invariant.column, c.requires.limit);
+    }
 
 pub loop-index-preserved : goal.loop-index-preserved
 loop-index-preserved c =

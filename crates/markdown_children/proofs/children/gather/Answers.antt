@@ -1,11 +1,13 @@
-use Rattle.markdown_children.proofs.Prelude.{ℕ, false, refl, sym, ap, ◌∙◌, subst, Subresult, given_by, err-if, IsChildFault}
-use Rattle.markdown_children.proofs.ChildReads.SoFar.{so_far-start, so_far-other, so_far-next, so_far-before, so_far-fault}
+use Rattle.markdown_children.proofs.Prelude.{ℕ, List, [], false, refl, sym, ap, ◌∙◌, subst, Edit, StandBefore, Subresult, given_by, err-if, lists, IsChildFault}
+use Rattle.markdown_children.proofs.ChildReads.SoFar.{stand-before, so_far-other, so_far-next, so_far-fault}
 use Rattle.markdown_children.proofs.ChainOrder.Forward.{forward-chain, within}
 use Rattle.markdown_children.proofs.children.gather.Goals as goal
 use Rattle.markdown_children.proofs.children.gather.Goals.{then-begins_at+in_ok-child+in_ok-acc+in_ok-found, else-begins_at}
 
 pub loop-index-init : goal.loop-index-init
-loop-index-init g c = so_far-start c.requires.empty refl c.new-2.ensures c.new.ensures
+loop-index-init g c =
+    let e = c.requires.empty in
+    record { children = []; read = tt; edits = e; removed = rw e; added = rw e; done = ((λ t. refl), (λ t. refl)); definitions = c.new-2.ensures; footnotes = c.new.ensures }
 
 pub divide-requires-clause-chain : goal.divide-requires-clause-chain
 divide-requires-clause-chain g c = forward-chain c.args.parse_state.now.options.now.tab_size c.args.parse_state.now.bytes.now c.args.filter c.args.events.now c.requires.ready c.loop-index.index (sym c.begins_at.ensures ∙ c.if-begins_at.true)
@@ -14,7 +16,11 @@ pub divide-requires-clause-within : goal.divide-requires-clause-within
 divide-requires-clause-within g c = within c.args.parse_state.now.options.now.tab_size c.args.parse_state.now.bytes.now c.args.filter c.args.events.now c.requires.ready c.loop-index.index (sym c.begins_at.ensures ∙ c.if-begins_at.true)
 
 pub divide-requires-clause-before : goal.divide-requires-clause-before
-divide-requires-clause-before g c = so_far-before c.requires.ready (sym c.begins_at.ensures ∙ c.if-begins_at.true) c.loop-index.invariant
+divide-requires-clause-before g c =
+    let p = c.args.parse_state.now in
+    let s = c.loop-index.invariant in
+    subst (λ (es : List Edit). StandBefore es c.loop-index.index) (sym s.edits)
+    (stand-before p.options.now.tab_size p.bytes.now c.args.filter c.args.events.now c.requires.ready c.loop-index.index (lists s.children) (sym c.begins_at.ensures ∙ c.if-begins_at.true))
 
 pub loop-index-preserved : goal.loop-index-preserved
 loop-index-preserved g c =

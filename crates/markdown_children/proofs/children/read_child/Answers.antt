@@ -1,14 +1,12 @@
 use Rattle.markdown_children.proofs.Prelude.{sym, ap, subst, ◌∙◌, Point, IsPointOf, empty_text, start_seen, given_by}
-use Rattle.markdown_children.proofs.ChildReads.Reading.{chain-place}
+use Rattle.markdown_children.proofs.ChainOrder.Forward.{begins-fits}
 use Rattle.markdown_children.proofs.children.read_child.Goals as goal
 
 pub new-tokenizer-requires : goal.new-tokenizer-requires
 new-tokenizer-requires g c =
     let p = c.args.parse_state.now in
-    record {
-      place = subst (IsPointOf p.options.now.tab_size p.bytes.now) (sym c.place_at-place.ensures)
-          (chain-place p.options.now.tab_size p.bytes.now c.args.filter c.args.events.now c.args.index c.requires.ready c.requires.begins);
-    }
+    let fit = begins-fits p.options.now.tab_size p.bytes.now c.args.filter c.args.events.now c.requires.ready c.args.index c.requires.begins in
+    record { place = subst (IsPointOf p.options.now.tab_size p.bytes.now) (sym c.place_at-place.ensures) (c.requires.ready.readable c.args.index fit).from.0 }
 
 pub read_chunks-read-requires-clause-new : goal.read_chunks-read-requires-clause-new
 read_chunks-read-requires-clause-new g c =

@@ -1,64 +1,197 @@
-use Rattle.markdown_children.proofs.Prelude.{◌≡◌, ℕ, ◌+◌, ◌^◌, ◌<◌, ◌≤◌, List, ◌++◌, length, map, sym, ap, subst, ◌∙◌, arith, All, IfSome, IsNonDecreasingBy, Event, EachEnd, Edit, AreBehind, rest_table, table_place, AreAbove, AreRising, chunk_edit, Chunk}
-use Rattle.markdown_children.proofs.Parts.Tabled.{length-chunks, chunks-above, chunks-rising, chunks-ends, chunks-within, chunks-room, chunks-fit, chunks-behind, table-edits, sums-le}
+use Rattle.markdown_children.proofs.Prelude.{◌≡◌, ℕ, zero, suc, ◌+◌, ◌-◌, ◌*◌, ◌^◌, ◌<◌, ◌≤◌, true, false, ltb, List, [], ◌∷◌, ◌++◌, map, length, take, drop, get_or, Option, Some, None, refl, sym, ◌∙◌, ap, ⊎_elim, arith, zero-add, add-zero, All, All-map, IfSome, between, AllByRecursion, IsNonDecreasingBy, cases_lt, lt-ltb, le-ltb, drop-drop, All-from_recursion, recursion_from_All, drop-append_seam, take-append_seam, Event, Link, relinked, EachEnd, Edit, AreDisjoint, AreBehind, removed_by, next_of, chain_from, chain_of, place_at, HasEndsWithin, parts, divided, child_place, part_edits, chain_edits, total, IsForward, StandBefore, table, rest_table, table_place, AreAbove, AreRising, chunk_edit, Chunk, every-map, Point}
+use Rattle.markdown_children.proofs.ChainOrder.Following.{by_option}
+use Rattle.markdown_children.proofs.ChainOrder.Spaced.{length-parts, length-map_ends}
+use Rattle.markdown_children.proofs.Parts.Kept.{joined, joined-parts}
+use Rattle.markdown_children.proofs.Parts.Edits.{total-joined}
 use Rattle.markdown_children.proofs.division.divide_events.Goals as goal
 
--- equal lists of chunks and events have the same edits
-same-edits : (removed added : ℕ) (cs ds : List Chunk) (xs ys : List Event) → cs ≡ ds → xs ≡ ys → map (chunk_edit (table_place cs removed added) xs) cs ≡ map (chunk_edit (table_place ds removed added) ys) ds
-same-edits removed added cs ds xs ys e f = λ j. map (chunk_edit (table_place (e j) removed added) (f j)) (e j)
+-- ---- places
 
-abbrev Fit : ℕ → List Chunk → List Event → Type 0
-Fit added cs xs = All (λ (e : Event). IfSome e.link (EachEnd (λ n. All (λ (c : Chunk). c.index + 2 + added + n < 2 ^ 64) cs))) xs
+table_place-child_place : (ks : List ℕ) (ps : List (List Event)) (j n removed added : ℕ) → table_place (table ks ps j) removed added (j + n) ≡ child_place ks ps removed (added + j) n
+table_place-child_place (k ∷ ks) (p ∷ ps) j n removed added = ⊎_elim
+    (λ (l : n < length p).
+    let a : ltb n (length p) ≡ true = lt-ltb n (length p) l in
+    let b : ltb (j + n) (j + length p) ≡ true = lt-ltb (j + n) (j + length p) (omega arith) in
+    let z : k - removed + added + (j + n) ≡ k - removed + (added + j) + n = omega arith in
+    rw (a, b) (ap Some z))
+    (λ (l : length p ≤ n).
+    let b : ltb (j + n) (j + length p) ≡ false = le-ltb (j + n) (j + length p) (omega arith) in
+    let z : j + n ≡ j + length p + (n - length p) = omega arith in
+    let y : added + (j + length p) ≡ added + j + length p = omega arith in
+    rw (le-ltb n (length p) l, b) (ap (λ m. table_place (table ks ps (j + length p)) (removed + 2) added m) z ∙ (table_place-child_place ks ps (j + length p) (n - length p) (removed + 2) added) ∙ ap (λ m. child_place ks ps (removed + 2) m (n - length p)) y))
+    (cases_lt n (length p))
+table_place-child_place ks ps j n removed added = refl
 
-same-fit : (added : ℕ) (cs ds : List Chunk) (xs ys : List Event) → cs ≡ ds → xs ≡ ys → Fit added ds ys → Fit added cs xs
-same-fit added cs ds xs ys e f h = subst (λ (zs : List Chunk). Fit added zs xs) (sym e) (subst (Fit added ds) (sym f) h)
+edits_by_table : (f : ℕ → Option ℕ) (child : List Event) (ks : List ℕ) (ps : List (List Event)) (j : ℕ) → length ks ≡ length ps → drop j child ≡ joined ps → map (chunk_edit f child) (table ks ps j) ≡ part_edits f ks ps
+edits_by_table f child (k ∷ ks) (p ∷ ps) j e d =
+    let z : j + length p - j ≡ length p = omega arith in
+    let here : between j (j + length p) child ≡ p = ap (λ m. take m (drop j child)) z ∙ ap (take (length p)) d ∙ take-append_seam p (joined ps) in
+    let rest : drop (j + length p) child ≡ joined ps = sym (drop-drop (length p) j child) ∙ ap (drop (length p)) d ∙ drop-append_seam p (joined ps) in
+    let one : List Event → Edit = λ xs. record { index = k; remove = 2; additions = map (relinked f) xs } in
+    (λ i. one (here i) ∷ edits_by_table f child ks ps (j + length p) (omega arith) rest i)
+edits_by_table f child ks ps j e d = refl
 
-table-at : (events xs ys : List Event) (i : ℕ) (cs ds : List Chunk) → cs ≡ ds → ds ≡ rest_table events xs (length events) i 0 → xs ≡ ys → cs ≡ rest_table events ys (length events) i 0
-table-at events xs ys i cs ds d e f = d ∙ e ∙ ap (λ (zs : List Event). rest_table events zs (length events) i 0) f
+length-table : (ks : List ℕ) (ps : List (List Event)) (j : ℕ) → length ks ≡ length ps → length (table ks ps j) ≡ length ks
+length-table [] ps j e = refl
+length-table (k ∷ ks) [] j e = absurd (omega arith)
+length-table (k ∷ ks) (p ∷ ps) j e = ap suc (length-table ks ps (j + length p) (omega arith))
 
-pub edits_of-requires-clause-apart : goal.edits_of-requires-clause-apart
-edits_of-requires-clause-apart c =
+-- ---- the chunks of a forward chain
+
+-- no chunk ends before its table begins
+ends-from : (ks : List ℕ) (ps : List (List Event)) (j k : ℕ) (d : Chunk) → k < length (table ks ps j) → j ≤ (get_or (table ks ps j) k d).end
+ends-from (i ∷ ks) (p ∷ ps) j zero d l = omega arith
+ends-from (i ∷ ks) (p ∷ ps) j (suc k) d l = omega (arith, ends-from ks ps (j + length p) k d (omega arith))
+ends-from ks ps j k d l = absurd (omega arith)
+
+table-ends : (ks : List ℕ) (ps : List (List Event)) (j : ℕ) → IsNonDecreasingBy (λ (c : Chunk). c.end) (table ks ps j)
+table-ends (i ∷ ks) (p ∷ ps) j zero zero d l m = omega arith
+table-ends (i ∷ ks) (p ∷ ps) j zero (suc b) d l m = ends-from ks ps (j + length p) b d (omega arith)
+table-ends (i ∷ ks) (p ∷ ps) j (suc a) (suc b) d l m = table-ends ks ps (j + length p) a b d (omega arith) (omega arith)
+table-ends ks ps j a b d l m = absurd (omega arith)
+
+module _ (events : List Event) where
+  -- each chunk is inside the list, and at or behind each index that the first one is at or behind
+  along : (m f i j : ℕ) (ps : List (List Event)) → AllByRecursion (IsForward events) (chain_from f events i) → m ≤ i
+      → AllByRecursion (λ (c : Chunk). (m ≤ c.index) × (c.index + 1 < length events)) (table (chain_from f events i) ps j)
+  along m (suc f) i j (q ∷ ps) h l =
+      ((l, h.0.within), by_option (next_of events i) (λ e. rw e tt) (λ d e. rw e (along m f d (j + length q) ps (rw e at h.1) (omega (arith, (h.0.next d e).0)))))
+  along m f i j ps h l = tt
+
+  above-all : (m f i j : ℕ) (ps : List (List Event)) → AllByRecursion (IsForward events) (chain_from f events i) → m ≤ i → AllByRecursion (λ (c : Chunk). m ≤ c.index) (table (chain_from f events i) ps j)
+  above-all m f i j ps h l =
+      every-map (λ (c : Chunk). (m ≤ c.index) × (c.index + 1 < length events)) (λ (c : Chunk). m ≤ c.index) (λ c w. w.0) (table (chain_from f events i) ps j) (along m f i j ps h l)
+
+  are-above : (f i j removed : ℕ) (ps : List (List Event)) → AllByRecursion (IsForward events) (chain_from f events i) → removed ≤ i → AreAbove removed (table (chain_from f events i) ps j)
+  are-above (suc f) i j removed (q ∷ ps) h l = (l, by_option (next_of events i) (λ e. rw e tt) (λ d e. rw e (are-above f d (j + length q) (removed + 2) ps (rw e at h.1) (omega (arith, (h.0.next d e).0)))))
+  are-above f i j removed ps h l = tt
+
+  are-rising : (f i j : ℕ) (ps : List (List Event)) → AllByRecursion (IsForward events) (chain_from f events i) → AreRising (table (chain_from f events i) ps j)
+  are-rising (suc f) i j (q ∷ ps) h = by_option (next_of events i) (λ e. rw e (tt, tt)) (λ d e.
+      let a = (h.0.next d e).0 in
+      let ahead = rw e at h.1 in
+      rw e (above-all (suc i) f d (j + length q) ps ahead (omega arith), are-rising f d (j + length q) ps ahead))
+  are-rising f i j ps h = tt
+
+-- ---- bounds
+
+within-table : (m : ℕ) (ks : List ℕ) (ps : List (List Event)) (j : ℕ) → j + total ps ≤ m → AllByRecursion (λ (c : Chunk). (c.start ≤ c.end) × (c.end ≤ m)) (table ks ps j)
+within-table m (k ∷ ks) (p ∷ ps) j l = ((omega arith, omega arith), within-table m ks ps (j + length p) (omega arith))
+within-table m ks ps j l = tt
+
+total-parts : (ends : List Point) (es : List Event) → total (parts ends es) ≤ length es
+total-parts [] es = omega arith
+total-parts (end ∷ ends) es = omega (arith, total-joined (parts (end ∷ ends) es), ap length (joined-parts end ends es))
+
+room : (n removed : ℕ) (cs : List Chunk) → AreAbove removed cs → AllByRecursion (λ (c : Chunk). c.index + 1 < n) cs → removed ≤ n → removed + 2 * length cs ≤ n
+room n removed [] h w l = omega arith
+room n removed (c ∷ cs) h w l = let a : removed ≤ c.index = h.0 in let b : c.index + 1 < n = w.0 in omega (arith, room n (removed + 2) cs h.1 w.1 (omega arith))
+
+removed-le : (es : List Edit) (from n : ℕ) → AreDisjoint from es n → from + removed_by es ≤ n
+removed-le [] from n d = let l : from ≤ n = d in omega arith
+removed-le (e ∷ es) from n d = let a : from ≤ e.index = d.0 in omega (arith, removed-le es (e.index + e.remove) n d.1)
+
+-- ---- the chain of `divide_events`
+
+module _ (events child : List Event) (i : ℕ) (forward : AllByRecursion (IsForward events) (chain_of events i)) where
+  abbrev ks : List ℕ
+  ks = chain_of events i
+
+  abbrev ps : List (List Event)
+  ps = parts (map (λ k. place_at events (k + 1)) ks) child
+
+  abbrev cs : List Chunk
+  cs = rest_table events child (length events) i 0
+
+  long : length ks ≡ length ps
+  long = sym (length-parts (map (λ k. place_at events (k + 1)) ks) child ∙ length-map_ends events ks)
+
+  chunks-above : (removed : ℕ) → removed ≤ i → AreAbove removed cs
+  chunks-above removed l = are-above events (length events) i 0 removed ps forward l
+
+  inside : AllByRecursion (λ (c : Chunk). c.index + 1 < length events) cs
+  inside = every-map (λ (c : Chunk). (0 ≤ c.index) × (c.index + 1 < length events)) (λ (c : Chunk). c.index + 1 < length events) (λ c w. w.1) cs
+      (along events 0 (length events) i 0 ps forward (omega arith))
+
+  chunks-fit : (added : ℕ) → HasEndsWithin child → length events + added + length child < 2 ^ 64
+      → All (λ (e : Event). IfSome e.link (EachEnd (λ n. All (λ (c : Chunk). c.index + 2 + added + n < 2 ^ 64) cs))) child
+  chunks-fit added ends l k d m = on_link _ (ends k d m)
+    where
+      each : (n : ℕ) → n < length child → All (λ (c : Chunk). c.index + 2 + added + n < 2 ^ 64) cs
+      each n b = All-from_recursion (λ (c : Chunk). c.index + 2 + added + n < 2 ^ 64) cs
+          (every-map (λ (c : Chunk). c.index + 1 < length events) (λ (c : Chunk). c.index + 2 + added + n < 2 ^ 64) (λ c a. omega arith) cs inside)
+
+      on_end : (o : Option ℕ) → IfSome o (λ n. n < length child) → IfSome o (λ n. All (λ (c : Chunk). c.index + 2 + added + n < 2 ^ 64) cs)
+      on_end None b = tt
+      on_end (Some n) b = each n b
+
+      on_link : (o : Option Link) → IfSome o (EachEnd (λ n. n < length child)) → IfSome o (EachEnd (λ n. All (λ (c : Chunk). c.index + 2 + added + n < 2 ^ 64) cs))
+      on_link None b = tt
+      on_link (Some x) b = (on_end x.previous b.0, on_end x.next b.1)
+
+  -- the chain has a chunk, so the parts together are the child
+  joined-is : (n : ℕ) → 0 < n → child ≡ joined (parts (map (λ k. place_at events (k + 1)) (chain_from n events i)) child)
+  joined-is zero l = absurd (omega arith)
+  joined-is (suc n) l = sym (joined-parts (place_at events (i + 1)) _ child)
+
+  -- the edits by the table are the chain's
+  table-edits : (removed added : ℕ) → i < length events → map (chunk_edit (table_place cs removed added) child) cs ≡ chain_edits removed added (divided events i child)
+  table-edits removed added l =
+      let same : (n : ℕ) → table_place cs removed added n ≡ child_place ks ps removed added n =
+      λ n. ap (table_place cs removed added) (sym (zero-add n)) ∙ table_place-child_place ks ps 0 n removed added ∙ ap (λ m. child_place ks ps removed m n) (add-zero added) in
+      edits_by_table (table_place cs removed added) child ks ps 0 long (joined-is (length events) (omega arith)) ∙ (λ j. part_edits (λ n. same n j) ks ps)
+
+  chunks-behind : (es : List Edit) (f : ℕ → Option ℕ) → StandBefore es i → AreBehind es (map (chunk_edit f child) cs)
+  chunks-behind es f b = (
+    i,
+    b.below,
+    recursion_from_All (λ (e : Edit). i ≤ e.index) (map (chunk_edit f child) cs)
+        (All-map (λ (e : Edit). i ≤ e.index) (chunk_edit f child) cs (All-from_recursion (λ (c : Chunk). i ≤ c.index) cs (above-all events i (length events) i 0 ps forward (omega arith)))),
+  )
+
+  sums-le : (es : List Edit) (removed : ℕ) → StandBefore es i → removed ≡ removed_by es → removed ≤ i
+  sums-le es removed b e = omega (arith, removed-le es 0 i b.disjoint)
+
+-- ---- the answers
+
+table-at : (events xs ys : List Event) (i : ℕ) (bs ds : List Chunk) → bs ≡ ds → ds ≡ rest_table events xs (length events) i 0 → xs ≡ ys → bs ≡ rest_table events ys (length events) i 0
+table-at events xs ys i bs ds d e f = d ∙ e ∙ ap (λ (zs : List Event). rest_table events zs (length events) i 0) f
+
+pub edits_of-requires : goal.edits_of-requires
+edits_of-requires c =
     let a = c.args in
-    subst (AreAbove a.acc_before.0) (sym (table-at a.events.now _ a.child_events.now.items a.link_index _ _ c.deref.ensures.value c.in_ok-chunks.ensures c.as_slice.ensures.value))
-    (chunks-above a.events.now a.child_events.now.items a.link_index c.requires.chain a.acc_before.0 (sums-le a.events.now a.child_events.now.items a.link_index c.requires.chain a.map.now a.acc_before.0 c.requires.before c.requires.sums.0))
-
-pub edits_of-requires-clause-rising : goal.edits_of-requires-clause-rising
-edits_of-requires-clause-rising c =
-    let a = c.args in
-    subst AreRising (sym (table-at a.events.now _ a.child_events.now.items a.link_index _ _ c.deref.ensures.value c.in_ok-chunks.ensures c.as_slice.ensures.value))
-    (chunks-rising a.events.now a.child_events.now.items a.link_index c.requires.chain)
-
-pub edits_of-requires-clause-ends : goal.edits_of-requires-clause-ends
-edits_of-requires-clause-ends c =
-    let a = c.args in
-    subst (IsNonDecreasingBy (λ (d : Chunk). d.end)) (sym (table-at a.events.now _ a.child_events.now.items a.link_index _ _ c.deref.ensures.value c.in_ok-chunks.ensures c.as_slice.ensures.value))
-    (chunks-ends a.events.now a.child_events.now.items a.link_index c.requires.chain)
-
-pub edits_of-requires-clause-fits : goal.edits_of-requires-clause-fits
-edits_of-requires-clause-fits c =
-    let a = c.args in
-    same-fit a.acc_before.1 _ _ _ _ (table-at a.events.now _ a.child_events.now.items a.link_index _ _ c.deref.ensures.value c.in_ok-chunks.ensures c.as_slice.ensures.value) c.as_slice-2.ensures.value
-    (chunks-fit a.events.now a.child_events.now.items a.link_index c.requires.chain a.acc_before.1 c.requires.ends c.requires.fits)
-
-pub edits_of-requires-clause-within : goal.edits_of-requires-clause-within
-edits_of-requires-clause-within c =
-    let a = c.args in
-    subst (λ (xs : List Event). All (λ (d : Chunk). (d.start ≤ d.end) × (d.end ≤ length xs)) c.deref.result.now) (sym c.as_slice-2.ensures.value)
-    (subst (All (λ (d : Chunk). (d.start ≤ d.end) × (d.end ≤ length a.child_events.now.items))) (sym (table-at a.events.now _ a.child_events.now.items a.link_index _ _ c.deref.ensures.value c.in_ok-chunks.ensures c.as_slice.ensures.value))
-    (chunks-within a.events.now a.child_events.now.items a.link_index c.requires.chain))
+    let t = table-at a.events.now _ a.child_events.now.items a.link_index _ _ c.deref.ensures.value c.in_ok-chunks.ensures c.as_slice.ensures.value in
+    let events = a.events.now in
+    let child = a.child_events.now.items in
+    let i = a.link_index in
+    let forward = c.requires.chain in
+    let m = sums-le events child i forward a.map.now a.acc_before.0 c.requires.before c.requires.sums.0 in
+    record {
+      apart = rw t (chunks-above events child i forward a.acc_before.0 m);
+      ends = rw t (table-ends (ks events child i forward) (ps events child i forward) 0);
+      rising = rw t (are-rising events (length events) i 0 (ps events child i forward) forward);
+      fits = rw (t, c.as_slice-2.ensures.value) (chunks-fit events child i forward a.acc_before.1 c.requires.ends c.requires.fits);
+      within = rw (t, c.as_slice-2.ensures.value) (All-from_recursion (λ (d : Chunk). (d.start ≤ d.end) × (d.end ≤ length child)) (cs events child i forward)
+          (within-table (length child) (ks events child i forward) (ps events child i forward) 0 (omega (arith, total-parts (map (λ k. place_at events (k + 1)) (chain_of events i)) child))));
+    }
 
 pub append-requires : goal.append-requires
 append-requires c =
     let a = c.args in
     let t = table-at a.events.now _ a.child_events.now.items a.link_index _ _ c.deref.ensures.value c.in_ok-chunks.ensures c.as_slice.ensures.value in
-    subst (AreBehind a.map.now) (sym (c.in_ok-edits.ensures ∙ same-edits a.acc_before.0 a.acc_before.1 _ _ _ _ t c.as_slice-2.ensures.value))
-    (chunks-behind a.events.now a.child_events.now.items a.link_index c.requires.chain a.map.now _ c.requires.before)
+    rw (c.in_ok-edits.ensures, t, c.as_slice-2.ensures.value) (chunks-behind a.events.now a.child_events.now.items a.link_index c.requires.chain a.map.now _ c.requires.before)
 
 pub overflow_add-sums : goal.overflow_add-sums
 overflow_add-sums c =
     let a = c.args in
-    let t = ap length (table-at a.events.now _ a.child_events.now.items a.link_index _ _ c.deref.ensures.value c.in_ok-chunks.ensures c.as_slice.ensures.value) in
-    let r = chunks-room a.events.now a.child_events.now.items a.link_index c.requires.chain a.acc_before.0
-    (sums-le a.events.now a.child_events.now.items a.link_index c.requires.chain a.map.now a.acc_before.0 c.requires.before c.requires.sums.0) c.requires.within in
+    let events = a.events.now in
+    let child = a.child_events.now.items in
+    let i = a.link_index in
+    let forward = c.requires.chain in
+    let t = ap length (table-at events _ child i _ _ c.deref.ensures.value c.in_ok-chunks.ensures c.as_slice.ensures.value) in
+    let m = sums-le events child i forward a.map.now a.acc_before.0 c.requires.before c.requires.sums.0 in
+    let w = c.requires.within in
+    let r = room (length events) a.acc_before.0 (cs events child i forward) (chunks-above events child i forward a.acc_before.0 m) (inside events child i forward) (omega arith) in
     omega (arith, t, ap length c.deref.ensures.value, r, c.requires.fits, c.len.ensures)
 
 pub returns-clause-ok : goal.returns-clause-ok
@@ -67,11 +200,13 @@ returns-clause-ok c =
     let t = table-at a.events.now _ a.child_events.now.items a.link_index _ _ c.deref.ensures.value c.in_ok-chunks.ensures c.as_slice.ensures.value in
     let w = c.requires.within in
     c.in_ok-append.ensures.ok.0 ∙ ap (λ (es : List Edit). a.map.now ++ es)
-    (c.in_ok-edits.ensures ∙ same-edits a.acc_before.0 a.acc_before.1 _ _ _ _ t c.as_slice-2.ensures.value
+    (c.in_ok-edits.ensures ∙ (λ j. map (chunk_edit (table_place (t j) a.acc_before.0 a.acc_before.1) (c.as_slice-2.ensures.value j)) (t j))
     ∙ table-edits a.events.now a.child_events.now.items a.link_index c.requires.chain a.acc_before.0 a.acc_before.1 (omega arith))
 
 pub returns-clause-sums : goal.returns-clause-sums
 returns-clause-sums c =
     let a = c.args in
     let t = ap length (table-at a.events.now _ a.child_events.now.items a.link_index _ _ c.deref.ensures.value c.in_ok-chunks.ensures c.as_slice.ensures.value) in
-    (omega (arith, t, ap length c.deref.ensures.value, length-chunks a.events.now a.child_events.now.items a.link_index c.requires.chain, c.len.ensures), omega (arith, c.len-2.ensures))
+    let many = length-table (ks a.events.now a.child_events.now.items a.link_index c.requires.chain) (ps a.events.now a.child_events.now.items a.link_index c.requires.chain) 0
+    (long a.events.now a.child_events.now.items a.link_index c.requires.chain) in
+    (omega (arith, t, ap length c.deref.ensures.value, many, c.len.ensures), omega (arith, c.len-2.ensures))

@@ -1,5 +1,7 @@
-use Rattle.markdown_children.proofs.Prelude.{◌≡◌, List, Option, length, sym, subst, option_copied, Content, Event, given_by, err-if, StartAmong, SoFar}
-use Rattle.markdown_children.proofs.ChildReads.SoFar.{so_far-disjoint, so_far-end, memory-fault}
+use Rattle.markdown_children.proofs.Prelude.{◌≡◌, ℕ, List, Option, length, sym, ◌∙◌, ap, subst, option_copied, Content, Event, IsBalanced, IsVoidTight, AreMutual, Edit, AreDisjoint, edited, given_by, err-if, IsInShape, HasEndsWithin, Child, lists, IsChild, StartAmong, SoFar, starts_below}
+use Rattle.markdown_children.proofs.ChildReads.SoFar.{lists-all}
+use Rattle.markdown_children.proofs.Parts.Edits.{edits_give_children}
+use Rattle.markdown_children.proofs.Parts.InShape.{children_fit}
 use Rattle.markdown_children.proofs.ChainOrder.Forward.{ends-inside}
 use Rattle.markdown_children.proofs.subtokenize.subtokenize.Goals as goal
 
@@ -13,25 +15,43 @@ gather-requires-clause-starts g c =
     let starts = (g.M.Machine.rules c.args.parse_state.now.machine.now given).starts in
     moved (StartAmong starts) (option_copied c.args.filter) c.copied.result c.args.events.now.items c.deref.result.now (sym c.copied.ensures) (sym c.deref.ensures.value) c.requires.starts
 
-pub consume-requires-clause-disjoint : goal.consume-requires-clause-disjoint
-consume-requires-clause-disjoint g c =
+pub consume-requires : goal.consume-requires
+consume-requires g c =
     let p = c.args.parse_state.now in
+    let events = c.args.events.now.items in
     let r = c.in_ok-found.ensures.ok in
-    so_far-disjoint c.requires.ready
-    (moved (λ (w : Option Content) (xs : List Event). SoFar (given_by p.bytes.now p.options.now) (g.M.Machine.rules p.machine.now) w xs (length xs) c.gather.new.map r.0 c.in_ok-found.found) _ _ _ _ c.copied.ensures c.deref.ensures.value r.1)
-
-pub consume-requires-clause-links : goal.consume-requires-clause-links
-consume-requires-clause-links g c = ends-inside c.args.parse_state.now.options.now.tab_size c.args.parse_state.now.bytes.now (option_copied c.args.filter) c.args.events.now.items c.requires.ready
+    let s = moved (λ (w : Option Content) (xs : List Event). SoFar (given_by p.bytes.now p.options.now) (g.M.Machine.rules p.machine.now) w xs (length xs) c.gather.new.map r.0 c.in_ok-found.found) _ _ _ _ c.copied.ensures c.deref.ensures.value r.1 in
+    record {
+      disjoint = subst (λ (es : List Edit). AreDisjoint 0 es (length events)) (sym s.edits)
+          (edits_give_children p.options.now.tab_size p.bytes.now (option_copied c.args.filter) events (lists s.children) c.requires.ready).disjoint;
+      links = ends-inside p.options.now.tab_size p.bytes.now (option_copied c.args.filter) events c.requires.ready;
+    }
 
 pub returns-clause-ok : goal.returns-clause-ok
 returns-clause-ok g c =
     let p = c.args.parse_state.now in
+    let given = given_by p.bytes.now p.options.now in
+    let rules = g.M.Machine.rules p.machine.now in
+    let wanted = option_copied c.args.filter in
+    let events = c.args.events.now.items in
     let r = c.in_ok-found.ensures.ok in
-    so_far-end c.requires.ready
-    (moved (λ (w : Option Content) (xs : List Event). SoFar (given_by p.bytes.now p.options.now) (g.M.Machine.rules p.machine.now) w xs (length xs) c.gather.new.map r.0 c.in_ok-found.found) _ _ _ _ c.copied.ensures c.deref.ensures.value r.1)
-    c.in_ok-consume.ensures.ok
+    let s = moved (λ (w : Option Content) (xs : List Event). SoFar given rules w xs (length xs) c.gather.new.map r.0 c.in_ok-found.found) _ _ _ _ c.copied.ensures c.deref.ensures.value r.1 in
+    let fit = children_fit p.options.now.tab_size p.bytes.now wanted events c.requires.ready (lists s.children) in
+    let each = λ (P : List Event → Type 0) (f : (c : ℕ) (child : Child) → IsChild given rules events c child → P child.events). lists-all given rules events P f (starts_below wanted events (length events)) s.children s.read in
+    let is = c.in_ok-consume.ensures.ok ∙ ap (λ (es : List Edit). edited es events) s.edits
+    ∙ (edits_give_children p.options.now.tab_size p.bytes.now wanted events (lists s.children) c.requires.ready).give (each HasEndsWithin (λ c child is. is.in_shape.inside)) in
+    record {
+      children = s.children;
+      read = s.read;
+      events = is;
+      in_shape = subst IsInShape (sym is) (record { balanced = fit.balanced (each IsBalanced (λ c child is. is.in_shape.balanced)); inside = fit.inside; chained = fit.chained (each AreMutual (λ c child is. is.in_shape.chained)) });
+      tight = λ old bs torn. subst IsVoidTight (sym is) (fit.tight old bs torn);
+      stays = fit.stays;
+      links = fit.links;
+      done = s.done;
+      definitions = s.definitions;
+      footnotes = s.footnotes;
+    }
 
 pub returns-in_err-consume-clause-err : goal.returns-in_err-consume-clause-err
-returns-in_err-consume-clause-err g c =
-    let p = c.args.parse_state.now in
-    err-if c.from_residual-in_err-consume.result _ _ (memory-fault (given_by p.bytes.now p.options.now) (g.M.Machine.rules p.machine.now) (option_copied c.args.filter) c.args.events.now.items) c.from_residual-in_err-consume.ensures.1
+returns-in_err-consume-clause-err g c = err-if c.from_residual-in_err-consume.result _ _ (λ f is. rw is tt) c.from_residual-in_err-consume.ensures.1
