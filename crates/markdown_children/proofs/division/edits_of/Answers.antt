@@ -1,4 +1,4 @@
-use Rattle.markdown_children.proofs.Prelude.{◌≡◌, ℕ, zero, suc, ◌+◌, ◌<◌, List, [], ◌∷◌, ◌++◌, length, map, take, get_or, Option, refl, sym, ◌∙◌, ap, arith, add-one, AllByRecursion, take-suc, ne_eqb, map-append, Event, Edit, put_after, removal_at, put-last, table_place, AreRising, chunk_edit, Chunk, All-from_recursion}
+use Rattle.markdown_children.proofs.Prelude.{◌≡◌, ℕ, zero, suc, ◌<◌, List, [], ◌∷◌, ◌++◌, length, map, take, get_or, Option, refl, sym, ◌∙◌, ap, arith, add-one, AllByRecursion, take-suc, ne_eqb, map-append, Event, Edit, put_after, removal_at, put-last, table_place, AreRising, chunk_edit, Chunk, All-from_recursion}
 use Rattle.markdown_children.proofs.division.edits_of.Goals as goal
 
 removal-none : (es : List Edit) (i : ℕ) → AllByRecursion (λ (e : Edit). e.index < i) es → removal_at es i ≡ 0
