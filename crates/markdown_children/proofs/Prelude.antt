@@ -9,7 +9,7 @@ pub use Rattle.std.proofs.Math.ListN.{drop_of_length-le, get_or-eq_default}
 pub use Rattle.std.proofs.Math.Nat.{mul-le-mul_left, mul-le-mul_right}
 pub use Rattle.std.proofs.Math.Seq.{drop-append_seam, take-append_seam, take-suc}
 pub use Rattle.std.proofs.lemmas.Bool.{and_parts, both_ways, cases_eq, cases_lt, eq-eqb, false_from_ne_true, le-leb, le-ltb, leb-false, leb-true, lt-ltb, ltb-false, ltb-true, ne_eqb, not-true, not_from_false, or_cases, or_left, or_right}
-pub use Rattle.std.proofs.lemmas.Bool.Decides.{same_from_decides}
+pub use Rattle.std.proofs.lemmas.Bool.Decides.{nat_tests, same_from_decides}
 pub use Rattle.std.proofs.lemmas.Grind.{flat_map-append}
 pub use Rattle.std.proofs.lemmas.List.{drop-drop, length-map, length-reverse, length-take-le, map-append}
 pub use Rattle.std.proofs.lemmas.List.Elements.{All-drop, All-map, All-from_recursion, All-head, All-tail, All-take, filter_passes, recursion_from_All}

@@ -60,4 +60,4 @@ module _ (tab : ℕ) (bytes : List ℕ) (wanted : Option Content) (events : List
       subst (λ ks. AreSpaced 0 ks (length events)) (sym (append-nil (chain_of events i) ∙ w.1))
       (lead-spaced 0 i w.0 (omega arith) (forward-all i w.0 (begins-fits i b) w.2) w.2) in
       subst (λ (es : List Edit). AreDisjoint 0 es (length events)) (append-nil (chain_edits removed added (divided events i child)))
-      (all_edits-spaced events (i ∷ []) (child ∷ []) removed added 0 (length events) spaced)
+      (all_edits-spaced events (i ∷ []) (child ∷ []) removed added 0 (length events) spaced).0

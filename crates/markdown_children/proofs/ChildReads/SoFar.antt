@@ -1,5 +1,5 @@
 -- The loop of `subtokenize`: what is known before the event at an index is looked at.
-use Rattle.markdown_children.proofs.Prelude.{◌≡◌, ℕ, zero, suc, ◌+◌, ◌-◌, ◌*◌, ◌<◌, ◌↔◌, true, false, List, [], ◌∷◌, ◌++◌, length, Option, Some, refl, sym, ◌∙◌, ap, subst, arith, add-zero, append_assoc, append-nil, flat_map, filter, AllByRecursion, map-append, length-map, flat_map-append, Content, Event, relinked, Edit, AreDisjoint, removed_by, added_by, AreDisjoint-le, Subresult, Fault, Memory, Failed, Given, Rules, with_more, chain_of, begins, fitting_starts, IsReady, AreSpaced, Divided, divided, divided_over, child_place, part_edits, chain_edits, all_edits, total, StandBefore, Child, lists, IsChild, AreChildren, IsChildFault, IsSubtokenizeFault, SoFar, starts_below, AllZip-long, all_zipped_more, passing_kept, passing_more, passing_pushed, length-append}
+use Rattle.markdown_children.proofs.Prelude.{◌≡◌, ℕ, zero, suc, ◌+◌, ◌-◌, ◌*◌, ◌<◌, ◌↔◌, true, false, List, [], ◌∷◌, ◌++◌, length, Option, Some, refl, sym, ◌∙◌, ap, subst, arith, add-zero, append_assoc, append-nil, flat_map, filter, AllByRecursion, map-append, length-map, flat_map-append, Content, Event, relinked, Edit, removed_by, added_by, Subresult, Fault, Memory, Failed, Given, Rules, with_more, chain_of, begins, fitting_starts, IsReady, AreSpaced, Divided, divided, divided_over, child_place, part_edits, chain_edits, all_edits, total, StandBefore, Child, lists, IsChild, AreChildren, IsChildFault, IsSubtokenizeFault, SoFar, starts_below, AllZip-long, all_zipped_more, passing_kept, passing_more, passing_pushed, length-append}
 use Rattle.markdown_tokenizer.specs.declared.tokenizer.fault.Fault.TheVariants as fault
 use Rattle.markdown_children.proofs.ChainOrder.Following.{filter-yes, whole-from, follow_one_another}
 use Rattle.markdown_children.proofs.ChainOrder.Forward.{begins-fits, within}
@@ -55,19 +55,6 @@ spaced-front : (from n k : ℕ) (xs ys : List ℕ) → AreSpaced from (xs ++ k �
 spaced-front from n k [] ys h = h.0
 spaced-front from n k (x ∷ xs) ys h = (h.0, spaced-front (x + 2) n k xs ys h.1)
 
-two-parts : (f : ℕ → Option ℕ) (ks : List ℕ) (ps : List (List Event)) (es : List Edit) → AllByRecursion (λ (e : Edit). e.remove ≡ 2) es → AllByRecursion (λ (e : Edit). e.remove ≡ 2) (part_edits f ks ps ++ es)
-two-parts f (k ∷ ks) (p ∷ ps) es h = (refl, two-parts f ks ps es h)
-two-parts f ks ps es h = h
-
-two-each : (removed added : ℕ) (ds : List Divided) → AllByRecursion (λ (e : Edit). e.remove ≡ 2) (all_edits removed added ds)
-two-each removed added [] = tt
-two-each removed added (d ∷ ds) =
-    two-parts (child_place d.chunks d.parts removed added) d.chunks d.parts (all_edits (removed + 2 * length d.chunks) (added + total d.parts) ds) (two-each (removed + 2 * length d.chunks) (added + total d.parts) ds)
-
-below-all : (es : List Edit) (from n : ℕ) → AreDisjoint from es n → AllByRecursion (λ (e : Edit). e.remove ≡ 2) es → AllByRecursion (λ (e : Edit). e.index < n) es
-below-all [] from n d h = tt
-below-all (e ∷ es) from n d h = (let two : e.remove ≡ 2 = h.0 in omega (arith, AreDisjoint-le es (e.index + e.remove) n d.1), below-all es (e.index + e.remove) n d.1 h.1)
-
 module _ (tab : ℕ) (bytes : List ℕ) (wanted : Option Content) (events : List Event) (ready : IsReady tab bytes wanted events) where
   -- the edits of the chains that begin below a chain's first chunk are before it
   pub stand-before : (i : ℕ) (children : List (List Event)) → begins wanted events i ≡ true → StandBefore (all_edits 0 0 (divided_over events (starts_below wanted events i) children)) i
@@ -84,7 +71,7 @@ module _ (tab : ℕ) (bytes : List ℕ) (wanted : Option Content) (events : List
       let spaced : AreSpaced 0 (flat_map (chain_of events) below ++ i ∷ (w.0 ++ flat_map (chain_of events) s.0)) (length events) =
       subst (λ (ks : List ℕ). AreSpaced 0 ks (length events)) (sym f.in_order ∙ is) f.spaced in
       let d = all_edits-spaced events below children 0 0 0 i (spaced-front 0 (length events) i (flat_map (chain_of events) below) (w.0 ++ flat_map (chain_of events) s.0) spaced) in
-      record { disjoint = d; below = below-all (all_edits 0 0 (divided_over events below children)) 0 i d (two-each 0 0 (divided_over events below children)) }
+      record { disjoint = d.0; below = d.1 }
 
 -- ---- the invariant
 

@@ -1,5 +1,5 @@
 -- The edits of the chains that fit.
-use Rattle.markdown_children.proofs.Prelude.{◌≡◌, ℕ, zero, suc, ◌+◌, ◌*◌, ◌<◌, Bool, List, [], ◌∷◌, ◌++◌, length, map, Option, refl, sym, ◌∙◌, ap, subst, arith, length-append, flat_map, filter, All, AllByRecursion, range_with_len, All-from_recursion, Content, Event, Point, EndsBelow, Edit, AreDisjoint, chain_of, begins, fitting_starts, IsReady, place_at, IsWholeFrom, AreSpaced, HasEndsWithin, EditsGiveChildren, parts, Divided, divided, divided_over, child_place, part_edits, total, all_edits, first_chunk, every-filter, every-front, every-back, recursion_from_All}
+use Rattle.markdown_children.proofs.Prelude.{◌≡◌, ℕ, zero, suc, ◌+◌, ◌*◌, ◌<◌, Bool, List, [], ◌∷◌, ◌++◌, length, map, Option, refl, sym, ◌∙◌, ap, subst, arith, length-append, flat_map, filter, All, AllByRecursion, range_with_len, All-from_recursion, Content, Event, Point, EndsBelow, Edit, AreDisjoint, AreDisjoint-le, chain_of, begins, fitting_starts, IsReady, place_at, IsWholeFrom, AreSpaced, HasEndsWithin, EditsGiveChildren, parts, Divided, divided, divided_over, child_place, part_edits, total, all_edits, first_chunk, every-filter, every-front, every-back, recursion_from_All}
 use Rattle.markdown_children.proofs.ChainOrder.Following.{filter-yes, filter-no, by_test, follow_one_another}
 use Rattle.markdown_children.proofs.ChainOrder.Spaced.{AreSpaced-le, divided-parts, changes_are_apart}
 use Rattle.markdown_children.proofs.Parts.Kept.{joined, joined-parts}
@@ -7,19 +7,25 @@ use Rattle.markdown_children.proofs.Parts.Placed.{AreChains, edited-children}
 
 -- ---- disjoint
 
+-- edits are disjoint from an index on, and each of them is before another index
+abbrev pub AreWithin : ℕ → List Edit → ℕ → Type 0
+AreWithin from es n = AreDisjoint from es n × AllByRecursion (λ (e : Edit). e.index < n) es
+
 edits-spaced : (f : ℕ → Option ℕ) (from n : ℕ) (ks more : List ℕ) (ps : List (List Event)) (es : List Edit) → length ks ≡ length ps → AreSpaced from (ks ++ more) n
-    → ((m : ℕ) → AreSpaced m more n → AreDisjoint m es n) → AreDisjoint from (part_edits f ks ps ++ es) n
+    → ((m : ℕ) → AreSpaced m more n → AreWithin m es n) → AreWithin from (part_edits f ks ps ++ es) n
 edits-spaced f from n [] more ps es e h rest = rest from h
 edits-spaced f from n (k ∷ ks) more [] es e h rest = absurd (omega arith)
-edits-spaced f from n (k ∷ ks) more (p ∷ ps) es e h rest = (h.0, edits-spaced f (k + 2) n ks more ps es (omega arith) h.1 rest)
+edits-spaced f from n (k ∷ ks) more (p ∷ ps) es e h rest =
+    let r = edits-spaced f (k + 2) n ks more ps es (omega arith) h.1 rest in
+    ((h.0, r.0), (omega (arith, AreDisjoint-le (part_edits f ks ps ++ es) (k + 2) n r.0), r.1))
 
 pub all_edits-spaced : (events : List Event) (cs : List ℕ) (children : List (List Event)) (removed added from n : ℕ) → AreSpaced from (flat_map (chain_of events) cs) n
-    → AreDisjoint from (all_edits removed added (divided_over events cs children)) n
+    → AreWithin from (all_edits removed added (divided_over events cs children)) n
 all_edits-spaced events (c ∷ cs) (child ∷ children) removed added from n h =
     let d : Divided = divided events c child in
     edits-spaced (child_place d.chunks d.parts removed added) from n d.chunks (flat_map (chain_of events) cs) d.parts (all_edits (removed + 2 * length d.chunks) (added + total d.parts) (divided_over events cs children))
     (divided-parts events c child) h (λ m r. all_edits-spaced events cs children (removed + 2 * length d.chunks) (added + total d.parts) m n r)
-all_edits-spaced events cs children removed added from n h = AreSpaced-le from n (flat_map (chain_of events) cs) h
+all_edits-spaced events cs children removed added from n h = (AreSpaced-le from n (flat_map (chain_of events) cs) h, tt)
 
 -- ---- the chains that fit begin at different chunks
 
@@ -75,7 +81,7 @@ edits_give_children tab bytes wanted events children ready =
     let f = follow_one_another tab bytes wanted events ready in
     let cs : List ℕ = fitting_starts wanted events in
     record {
-      disjoint = all_edits-spaced events cs children 0 0 0 (length events) (subst (λ (ks : List ℕ). AreSpaced 0 ks (length events)) (sym f.in_order) f.spaced);
+      disjoint = (all_edits-spaced events cs children 0 0 0 (length events) (subst (λ (ks : List ℕ). AreSpaced 0 ks (length events)) (sym f.in_order) f.spaced)).0;
       give = λ h. edited-children (divided_over events cs children) events (changes_are_apart tab bytes wanted events children ready).apart
           (are-chains events cs children (rising (begins wanted events) (length events) 0) f.whole h);
     }

@@ -103,12 +103,9 @@ module _ (tab : ℕ) (bytes : List ℕ) (wanted : Option Content) (events : List
       let fit = Rattle.markdown_children.proofs.ChainOrder.Following.fits_next tab bytes wanted events ready k d h lead.0 in
       let old : (q : Option (List Name)) → names_after_all q (drop (k + 2) events) ≡ names_after_all q (drop (d + 2) events) =
       λ q. ap (names_after_all q) (split-at events (k + 2) d sp.0) ∙ names_after_all-append q (between (k + 2) d events) (drop d events) ∙ ap (λ r. names_after_all r (drop d events)) (gap q) ∙ names-chunk d fit q in
-      ap (names_after_all o) (part_after c j (k + 2) d ks p ps ws sp.0)
-      ∙ names-three o (between (k + 2) d events) p (after_changes rest (d + 2))
-      ∙ ap (λ q. names_after_all (names_after_all q p) (after_changes rest (d + 2))) (gap o)
-      ∙ through c (j + length p) d ks more ps ws fit lead.2 (omega arith) sp.1 kept (names_after_all o p)
-      ∙ ap (λ q. names_after_all q (drop (d + 2) events)) (sym (names_after_all-append o p (joined ps)))
-      ∙ sym (old (names_after_all o (p ++ joined ps)))
+      rw (part_after c j (k + 2) d ks p ps ws sp.0, names-three o (between (k + 2) d events) p (after_changes rest (d + 2)), gap o)
+      (through c (j + length p) d ks more ps ws fit lead.2 (omega arith) sp.1 kept (names_after_all o p)
+      ∙ ap (λ q. names_after_all q (drop (d + 2) events)) (sym (names_after_all-append o p (joined ps))) ∙ sym (old (names_after_all o (p ++ joined ps))))
   through c j k ks more ps ws h lead e sp kept o = absurd (omega arith)
 
   -- a chain whose parts together are balanced
@@ -117,13 +114,10 @@ module _ (tab : ℕ) (bytes : List ℕ) (wanted : Option Content) (events : List
   one_chain c i ks more [] ws h lead e b t sp kept o = absurd (omega arith)
   one_chain c i ks more (p ∷ ps) ws h lead e b t sp kept o =
       let q : Option (List Name) = names_after_all o (between i c events) in
-      ap (names_after_all o) (part_after c 0 i c ks p ps ws sp.0)
-      ∙ names-three o (between i c events) p (after_changes (part_changes c (0 + length p) ks ps ++ ws) (c + 2))
-      ∙ through c (0 + length p) c ks more ps ws h lead (omega arith) sp.1 kept (names_after_all q p)
+      rw (part_after c 0 i c ks p ps ws sp.0, names-three o (between i c events) p (after_changes (part_changes c (0 + length p) ks ps ++ ws) (c + 2)))
+      (through c (0 + length p) c ks more ps ws h lead (omega arith) sp.1 kept (names_after_all q p)
       ∙ ap (λ r. names_after_all r (drop (c + 2) events)) (sym (names_after_all-append q p (joined ps)) ∙ names-leave b q)
-      ∙ sym (names-chunk c h q)
-      ∙ sym (names_after_all-append o (between i c events) (drop c events))
-      ∙ ap (names_after_all o) (sym (split-at events i c sp.0))
+      ∙ sym (names-chunk c h q) ∙ sym (ap (names_after_all o) (split-at events i c sp.0) ∙ names_after_all-append o (between i c events) (drop c events)))
 
   -- what holds behind the last chain, and is kept by each chain, holds of the list with children
   module _ (Holds : List Change → ℕ → Type 0) (P : List Event → Type 0) (T : List ℕ → List (List Event) → Type 0) (last : (i : ℕ) → Holds [] i)

@@ -1,5 +1,5 @@
 -- The places of children's events after disjoint changes. Edits that bring each part with its link ends there give the list with children.
-use Rattle.markdown_children.proofs.Prelude.{◌≡◌, ℕ, suc, ◌+◌, ◌-◌, ◌*◌, ◌<◌, ◌≤◌, true, false, eqb, ltb, List, [], ◌∷◌, ◌++◌, length, take, drop, Option, Some, None, refl, ◌∙◌, ap, subst, ⊎_elim, arith, length-drop, option_map, ne_eqb, eq-eqb, lt-ltb, le-ltb, cases_lt, cases_eq, length-take-le, Event, Identity, of_child, Tagged, place_in, Change, olds, pass, AreApart, AreApart-le, or_after, place_in-append, length-olds, child_place, total, tagged_child, part_changes, cond, map, sym, flat_map, All, AllByRecursion, map-append, All-head, All-tail, relinked, EndsBelow, as_addition, as_change, edited, of_list, of_addition, as_listed, is_same, woven, placed, placed_in, placed_end, changed, woven-pass, zero-add, relinked-same, relinked-agree, same_shift, Divided, part_edits, chain_edits, all_edits, first_chunk, chain_changes, every-both, every-all}
+use Rattle.markdown_children.proofs.Prelude.{◌≡◌, ℕ, suc, ◌+◌, ◌-◌, ◌*◌, ◌<◌, ◌≤◌, true, ltb, List, [], ◌∷◌, ◌++◌, length, take, drop, Option, Some, None, refl, ◌∙◌, ap, subst, ⊎_elim, arith, length-drop, option_map, ne_eqb, lt-ltb, le-ltb, cases_lt, length-take-le, Event, Identity, of_child, Tagged, place_in, Change, olds, pass, AreApart, AreApart-le, or_after, place_in-append, length-olds, child_place, total, tagged_child, part_changes, cond, map, sym, flat_map, All, AllByRecursion, map-append, All-head, All-tail, relinked, EndsBelow, as_addition, as_change, edited, of_list, of_addition, as_listed, is_same, woven, placed, placed_in, placed_end, changed, woven-pass, zero-add, relinked-same, relinked-agree, same_shift, Divided, part_edits, chain_edits, all_edits, first_chunk, chain_changes, every-both, every-all, nat_tests}
 use Rattle.markdown_children.proofs.ChainOrder.Spaced.{HasParts}
 
 -- what a change leaves of the events
@@ -28,17 +28,11 @@ change_place-pass [] c n i removed added xs d r = rw (place_in-child_olds c n i 
 change_place-pass (w ∷ ws) c n i removed added xs d r =
     let a : i ≤ w.index = d.0 in
     let b : w.index + w.remove ≤ i + length xs = AreApart-le ws (w.index + w.remove) (i + length xs) d.1 in
-    let front : length (take (w.index - i) xs) ≡ w.index - i = length-take-le (w.index - i) xs (omega arith) in
+    let first : List Event = take (w.index - i) xs in
+    let front : length first ≡ w.index - i = length-take-le (w.index - i) xs (omega arith) in
     let rest : List Tagged = pass ws (w.index + w.remove) (drop (w.index + w.remove - i) xs) in
     let more = change_place-pass ws c n (w.index + w.remove) (removed + w.remove) (added + length w.events) (drop (w.index + w.remove - i) xs) (left-of w ws i xs d) (omega arith) in
-    rw (
-      place_in-append (of_child c n) (olds i (take (w.index - i) xs)) (w.events ++ rest),
-      place_in-child_olds c n i (take (w.index - i) xs),
-      length-olds i (take (w.index - i) xs),
-      front,
-      place_in-append (of_child c n) w.events rest,
-      ← more,
-    )
+    rw (place_in-append (of_child c n) (olds i first) (w.events ++ rest), place_in-child_olds c n i first, length-olds i first, front, place_in-append (of_child c n) w.events rest, ← more)
     (shifted i (w.index - i) w.index (length w.events) (w.index + w.remove) removed added (removed + w.remove) (place_in (of_child c n) w.events) (place_in (of_child c n) rest) (omega arith) (omega arith))
   where
     shifted : (i k at g j removed added removed' : ℕ) (o q : Option ℕ) → i - removed + added + k ≡ at - removed + added → i - removed + added + (k + g) ≡ j - removed' + (added + g)
@@ -61,20 +55,14 @@ place_in-other_child c d n j (e ∷ es) ne = rw (ne_eqb c d ne, place_in-other_c
 pub place_in-child_none : (c n j : ℕ) (es : List Event) → (j ≤ n → j + length es ≤ n) → place_in (of_child c n) (tagged_child c j es) ≡ None
 place_in-child_none c n j [] l = refl
 place_in-child_none c n j (e ∷ es) l =
-    let there : eqb n j ≡ false = ne_eqb n j (λ (q : n ≡ j). let m = l (omega arith) in omega arith) in
-    rw (eq-eqb c c refl, there, place_in-child_none c n (j + 1) es (λ (m : j + 1 ≤ n). let k = l (omega arith) in omega arith)) refl
+    let more = place_in-child_none c n (j + 1) es (λ (m : j + 1 ≤ n). let k = l (omega arith) in omega arith) in
+    grind (arith, nat_tests)
 
 pub place_in-child_in : (c n j : ℕ) (es : List Event) → j ≤ n → n < j + length es → place_in (of_child c n) (tagged_child c j es) ≡ Some (n - j)
 place_in-child_in c n j [] l m = absurd (omega arith)
 place_in-child_in c n j (e ∷ es) l m =
-    let here : eqb c c ≡ true = eq-eqb c c refl in
-    ⊎_elim
-    (λ (q : n ≡ j). let at : eqb n j ≡ true = eq-eqb n j q in let z : 0 ≡ n - j = omega arith in rw (here, at) (ap Some z))
-    (λ (ne : n ≡ j → ⊥).
-    let more : place_in (of_child c n) (tagged_child c (j + 1) es) ≡ Some (n - (j + 1)) = place_in-child_in c n (j + 1) es (omega arith) (omega arith) in
-    let z : suc (n - (j + 1)) ≡ n - j = omega arith in
-    rw (here, ne_eqb n j ne, more) (ap Some z))
-    (cases_eq n j)
+    let more : j + 1 ≤ n → place_in (of_child c n) (tagged_child c (j + 1) es) ≡ Some (n - (j + 1)) = λ k. place_in-child_in c n (j + 1) es k (omega arith) in
+    grind (arith, nat_tests)
 
 -- the changes of one chain place its child's events
 pub change_place-chain : (c j : ℕ) (ks : List ℕ) (ps : List (List Event)) (ws : List Change) (n removed added : ℕ) → length ks ≡ length ps → n < total ps
