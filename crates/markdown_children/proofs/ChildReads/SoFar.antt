@@ -40,7 +40,8 @@ divided_over-push events cs children c child e = absurd (omega arith)
 
 -- ---- the chains that begin below an index
 
-starts-split : (wanted : Option Content) (events : List Event) (i m : ℕ) → begins wanted events i ≡ true → (behind : List ℕ) × (starts_below wanted events (i + 1 + m) ≡ starts_below wanted events i ++ i ∷ behind)
+starts-split : (wanted : Option Content) (events : List Event) (i m : ℕ) → begins wanted events i ≡ true
+    → (behind : List ℕ) × (starts_below wanted events (i + 1 + m) ≡ starts_below wanted events i ++ i ∷ behind)
 starts-split wanted events i zero b =
     ([], ap (starts_below wanted events) (add-zero (i + 1)) ∙ passing_more (begins wanted events) i ∙ ap (λ ks. starts_below wanted events i ++ ks) (filter-yes (begins wanted events) i [] b))
 starts-split wanted events i (suc m) b =

@@ -72,7 +72,8 @@ are-chains events (c ∷ cs) (child ∷ children) r w h =
     let inside : All (EndsBelow (length child)) (joined ps) = subst (All (EndsBelow (length child))) (sym (joined-parts (place_at events (c + 1)) ends child)) h.0 in
     let each : AllByRecursion (All (EndsBelow (total (divided events c child).parts))) (divided events c child).parts =
     subst (λ (n : ℕ). AllByRecursion (All (EndsBelow n)) (divided events c child).parts) (sym (total-divided events c child w.0))
-    (subst (AllByRecursion (All (EndsBelow (length child)))) (sym (ap (λ ks. parts (map (λ k. place_at events (k + 1)) ks) child) w.0.1)) (ends-parts (length child) ps (recursion_from_All (EndsBelow (length child)) (joined ps) inside))) in
+    (subst (AllByRecursion (All (EndsBelow (length child)))) (sym (ap (λ ks. parts (map (λ k. place_at events (k + 1)) ks) child) w.0.1))
+    (ends-parts (length child) ps (recursion_from_All (EndsBelow (length child)) (joined ps) inside))) in
     ((divided-parts events c child, each), differ events c (first_chunk (chain_of events c)) cs children (ap first_chunk w.0.1) r.0 w.1, are-chains events cs children r.1 w.1 h.1)
 are-chains events cs children r w h = tt
 

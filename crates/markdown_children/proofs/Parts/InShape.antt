@@ -34,7 +34,8 @@ module _ (child : ℕ → List Event) (xs : List Event) where
   sourced-at [] i h = tt
   sourced-at (w ∷ ws) i h = every-append IsSourced (cond (eqb w.index i) w.events []) (events_at ws i) (every-cond IsSourced (eqb w.index i) w.events [] h.0 tt) (sourced-at ws i h.1)
 
-  sourced-woven : (ws : List Change) (i : ℕ) (ys : List Event) → AllByRecursion (λ (w : Change). AreSourced w.events) ws → ((k : ℕ) → slice_get xs (i + k) ≡ slice_get ys k) → AreSourced (woven ws i ys)
+  sourced-woven : (ws : List Change) (i : ℕ) (ys : List Event) → AllByRecursion (λ (w : Change). AreSourced w.events) ws → ((k : ℕ) → slice_get xs (i + k) ≡ slice_get ys k)
+      → AreSourced (woven ws i ys)
   sourced-woven ws i [] h f = sourced-at ws i h
   sourced-woven ws i (y ∷ ys) h f =
       let here : slice_get xs i ≡ Some y = let z : i ≡ i + 0 = omega arith in ap (slice_get xs) z ∙ f 0 in
@@ -186,7 +187,8 @@ module _ (tab : ℕ) (bytes : List ℕ) (wanted : Option Content) (events : List
       sourced-woven (child_at cs children) events ws 0 events (sourced-chains (child_at cs children) cs children (names-child_at cs children rises) whole) (λ k. ap (slice_get events) (zero-add k)) in
       let apart : AreApart 0 ws (0 + length events) = rw zero-add a.apart in
       let once : AreOnce ts = subst AreOnce (sym (woven-pass ws 0 events apart))
-      (once-pass ws 0 events (λ n. recursion_from_All (λ w. place_in (of_list n) w.events ≡ None) ws (a.fresh n)) (once-chains (divided_over events cs children) (others cs children rises whole)) apart) in
+      (once-pass ws 0 events (λ n. recursion_from_All (λ w. place_in (of_list n) w.events ≡ None) ws (a.fresh n))
+      (once-chains (divided_over events cs children) (others cs children rises whole)) apart) in
       record {
         balanced = with_children_balanced tab bytes wanted events ready children;
         inside = subst (λ (n : ℕ). All (EndsBelow n) (placed ts)) (sym (length-map ts (λ (u : Tagged). relinked (placed_end ts u.identity) u.event)))

@@ -94,7 +94,8 @@ module _ (tab : ℕ) (bytes : List ℕ) (wanted : Option Content) (events : List
   IsKept ws i = (o : Option (List Name)) → names_after_all o (after_changes ws i) ≡ names_after_all o (drop i events)
 
   -- behind the chunk at k its chain's other parts act as if they were adjacent
-  through : (c j k : ℕ) (ks more : List ℕ) (ps : List (List Event)) (ws : List Change) → Fits k → LeadOnFrom events k ks → length ks ≡ length ps → AreSpaced (k + 2) (ks ++ more) n → ((m : ℕ) → AreSpaced m more n → IsKept ws m)
+  through : (c j k : ℕ) (ks more : List ℕ) (ps : List (List Event)) (ws : List Change) → Fits k → LeadOnFrom events k ks → length ks ≡ length ps → AreSpaced (k + 2) (ks ++ more) n
+      → ((m : ℕ) → AreSpaced m more n → IsKept ws m)
       → (o : Option (List Name)) → names_after_all o (after_changes (part_changes c j ks ps ++ ws) (k + 2)) ≡ names_after_all (names_after_all o (joined ps)) (drop (k + 2) events)
   through c j k [] more [] ws h lead e sp kept o = kept (k + 2) sp o ∙ ap (λ p. names_after_all p (drop (k + 2) events)) (sym (names-none o))
   through c j k (d ∷ ks) more (p ∷ ps) ws h lead e sp kept o =

@@ -33,7 +33,8 @@ change_place-pass (w ∷ ws) c n i removed added xs d r =
     let rest : List Tagged = pass ws (w.index + w.remove) (drop (w.index + w.remove - i) xs) in
     let more = change_place-pass ws c n (w.index + w.remove) (removed + w.remove) (added + length w.events) (drop (w.index + w.remove - i) xs) (left-of w ws i xs d) (omega arith) in
     rw (place_in-append (of_child c n) (olds i first) (w.events ++ rest), place_in-child_olds c n i first, length-olds i first, front, place_in-append (of_child c n) w.events rest, ← more)
-    (shifted i (w.index - i) w.index (length w.events) (w.index + w.remove) removed added (removed + w.remove) (place_in (of_child c n) w.events) (place_in (of_child c n) rest) (omega arith) (omega arith))
+    (shifted i (w.index - i) w.index (length w.events) (w.index + w.remove) removed added (removed + w.remove)
+    (place_in (of_child c n) w.events) (place_in (of_child c n) rest) (omega arith) (omega arith))
   where
     shifted : (i k at g j removed added removed' : ℕ) (o q : Option ℕ) → i - removed + added + k ≡ at - removed + added → i - removed + added + (k + g) ≡ j - removed' + (added + g)
         → option_map (λ p. i - removed + added + p) (or_after k None (or_after g o q)) ≡ or_else (option_map (λ p. at - removed + added + p) o) (option_map (λ p. j - removed' + (added + g) + p) q)

@@ -65,7 +65,8 @@ inside-link events k l e = option_and_then_some (λ (x : Event). x.link) (slice_
 
 -- ---- chunks
 
-pub chunk-of : (events : List Event) (k : ℕ) (l : Link) (o p : Option Event) → is_void_span o p ≡ true → slice_get events k ≡ o → slice_get events (k + 1) ≡ p → option_and_then (λ (e : Event). e.link) o ≡ Some l → IsChunk events k
+pub chunk-of : (events : List Event) (k : ℕ) (l : Link) (o p : Option Event) → is_void_span o p ≡ true → slice_get events k ≡ o → slice_get events (k + 1) ≡ p
+    → option_and_then (λ (e : Event). e.link) o ≡ Some l → IsChunk events k
 chunk-of events k l (Some x) (Some y) e at behind linked =
     let t = four-parts (sameb kinds x.kind Enter) (is_void x.name) (sameb kinds y.kind Exit) (same_name y.name x.name) e in
     record {
@@ -94,7 +95,8 @@ leads-on k None e = absurd (cc)
 leads-on k (Some l) e = (l, refl, number-is l.next k e)
 
 -- what is required of a linked event
-pub parts-of : (events : List Event) (k : ℕ) (l : Link) → is_sound_at events k ≡ true → link_at events k ≡ Some l → (is_chunk events k ≡ true) × (is_joined_on events k l.content l.next ≡ true) × (is_joined_back events k l.previous ≡ true)
+pub parts-of : (events : List Event) (k : ℕ) (l : Link) → is_sound_at events k ≡ true → link_at events k ≡ Some l
+    → (is_chunk events k ≡ true) × (is_joined_on events k l.content l.next ≡ true) × (is_joined_back events k l.previous ≡ true)
 parts-of events k l h e =
     let a = and_parts (is_chunk events k) (is_joined_on events k l.content l.next && is_joined_back events k l.previous) (ap (is_sound events k) (sym e) ∙ h) in
     let b = and_parts (is_joined_on events k l.content l.next) (is_joined_back events k l.previous) a.1 in
@@ -157,7 +159,8 @@ module _ (events : List Event) where
         in_line = ⊎_elim
             (λ s.
             let u = four-parts (p.line == q.line) (p.column == q.column) (p.index == q.index) (p.vs == q.vs) s in
-            inl (same-numbers p.line p.column p.index p.vs q.line q.column q.index q.vs (eqb-true p.line q.line u.0) (eqb-true p.column q.column u.1) (eqb-true p.index q.index u.2) (eqb-true p.vs q.vs u.3)))
+            inl (same-numbers p.line p.column p.index p.vs q.line q.column q.index q.vs
+            (eqb-true p.line q.line u.0) (eqb-true p.column q.column u.1) (eqb-true p.index q.index u.2) (eqb-true p.vs q.vs u.3)))
             (λ s. let c = and_parts (p.column == 1) (q.line == p.line) s in inr (eqb-true p.column 1 c.0, eqb-true q.line p.line c.1))
             (or_cases (is_same_point p q) ((p.column == 1) && (q.line == p.line)) l.1);
         balanced = balanced-closes inside t.3;

@@ -5,7 +5,8 @@ removal-none : (es : List Edit) (i : ℕ) → AllByRecursion (λ (e : Edit). e.i
 removal-none [] i h = refl
 removal-none (e ∷ es) i h = let l : e.index < i = h.0 in let ne = ne_eqb e.index i (omega arith) in rw (ne, removal-none es i h.1) refl
 
-edits-below : (f : ℕ → Option ℕ) (child : List Event) (cs : List Chunk) (i : ℕ) (d : Chunk) → AreRising cs → i < length cs → AllByRecursion (λ (e : Edit). e.index < (get_or cs i d).index) (map (chunk_edit f child) (take i cs))
+edits-below : (f : ℕ → Option ℕ) (child : List Event) (cs : List Chunk) (i : ℕ) (d : Chunk) → AreRising cs → i < length cs
+    → AllByRecursion (λ (e : Edit). e.index < (get_or cs i d).index) (map (chunk_edit f child) (take i cs))
 edits-below f child [] i d h l = absurd (omega arith)
 edits-below f child (c ∷ cs) zero d h l = tt
 edits-below f child (c ∷ cs) (suc i) d h l = (All-from_recursion (λ (e : Chunk). c.index < e.index) cs h.0 i d (omega arith), edits-below f child cs i d h.1 (omega arith))

@@ -1,4 +1,4 @@
-use Rattle.markdown_children.proofs.Prelude.{◌≡◌, ℕ, zero, suc, ◌+◌, ◌-◌, ◌*◌, ◌<◌, ◌≤◌, leb, List, [], ◌∷◌, length, get_or, Some, None, refl, ap, ◌∙◌, arith, rules, lt-ltb, le-ltb, leb-true, leb-false, IsPartitionPoint-from_clause, IsPartitionedBy-leb, table_place, AreAbove, Chunk}
+use Rattle.markdown_children.proofs.Prelude.{◌≡◌, ℕ, zero, suc, ◌+◌, ◌-◌, ◌*◌, ◌<◌, ◌≤◌, leb, List, [], ◌∷◌, length, get_or, Some, None, refl, ap, ◌∙◌, arith, rules, le-ltb, nat_tests, leb-true, leb-false, IsPartitionPoint-from_clause, IsPartitionedBy-leb, table_place, AreAbove, Chunk}
 use Rattle.markdown_children.proofs.division.place_in.Goals as goal
 
 -- before the chunk at i, two events are removed for each earlier chunk
@@ -11,9 +11,7 @@ above-at (c ∷ cs) (suc i) removed d l h = omega (arith, above-at cs i (removed
 place-first : (cs : List Chunk) (i removed added n : ℕ) (d : Chunk) → i < length cs → ((k : ℕ) (e : Chunk) → k < i → (get_or cs k e).end ≤ n) → n < (get_or cs i d).end
     → Some ((get_or cs i d).index - (removed + 2 * i) + added + n) ≡ table_place cs removed added n
 place-first [] i removed added n d l front is = absurd (omega arith)
-place-first (c ∷ cs) zero removed added n d l front is =
-    let z : c.index - (removed + 2 * 0) + added + n ≡ c.index - removed + added + n = omega arith in
-    rw (lt-ltb n c.end is) (ap Some z)
+place-first (c ∷ cs) zero removed added n d l front is = grind (arith, nat_tests)
 place-first (c ∷ cs) (suc i) removed added n d l front is =
     let passed : c.end ≤ n = front 0 d (omega arith) in
     let z : (get_or cs i d).index - (removed + 2 * suc i) + added + n ≡ (get_or cs i d).index - (removed + 2 + 2 * i) + added + n = omega arith in

@@ -20,7 +20,8 @@ consume-requires g c =
     let p = c.args.parse_state.now in
     let events = c.args.events.now.items in
     let r = c.in_ok-found.ensures.ok in
-    let s = moved (λ (w : Option Content) (xs : List Event). SoFar (given_by p.bytes.now p.options.now) (g.M.Machine.rules p.machine.now) w xs (length xs) c.gather.new.map r.0 c.in_ok-found.found) _ _ _ _ c.copied.ensures c.deref.ensures.value r.1 in
+    let s = moved (λ (w : Option Content) (xs : List Event). SoFar (given_by p.bytes.now p.options.now) (g.M.Machine.rules p.machine.now) w xs (length xs) c.gather.new.map r.0 c.in_ok-found.found)
+    _ _ _ _ c.copied.ensures c.deref.ensures.value r.1 in
     record {
       disjoint = subst (λ (es : List Edit). AreDisjoint 0 es (length events)) (sym s.edits)
           (edits_give_children p.options.now.tab_size p.bytes.now (option_copied c.args.filter) events (lists s.children) c.requires.ready).disjoint;
@@ -37,7 +38,8 @@ returns-clause-ok g c =
     let r = c.in_ok-found.ensures.ok in
     let s = moved (λ (w : Option Content) (xs : List Event). SoFar given rules w xs (length xs) c.gather.new.map r.0 c.in_ok-found.found) _ _ _ _ c.copied.ensures c.deref.ensures.value r.1 in
     let fit = children_fit p.options.now.tab_size p.bytes.now wanted events c.requires.ready (lists s.children) in
-    let each = λ (P : List Event → Type 0) (f : (c : ℕ) (child : Child) → IsChild given rules events c child → P child.events). lists-all given rules events P f (starts_below wanted events (length events)) s.children s.read in
+    let each = λ (P : List Event → Type 0) (f : (c : ℕ) (child : Child) → IsChild given rules events c child → P child.events).
+    lists-all given rules events P f (starts_below wanted events (length events)) s.children s.read in
     let is = c.in_ok-consume.ensures.ok ∙ ap (λ (es : List Edit). edited es events) s.edits
     ∙ (edits_give_children p.options.now.tab_size p.bytes.now wanted events (lists s.children) c.requires.ready).give (each HasEndsWithin (λ c child is. is.in_shape.inside)) in
     record {
