@@ -33,10 +33,8 @@ module _ {R D : Type 0} (g : Given) (step : Sight → Configuration R D → Name
   -- a choice that ends, and then those below it
   of-settled : (f : Configuration R D → State → Option (Reading R D)) → Keeps f → (c : Choice) (cs : List Choice) (k : Configuration R D) (s : State) (n : ℕ) (r : Reading R D) → HoldsIn (c ∷ cs) k s
       → settle f c (record { configuration = k; answer = s; calls = n }) ≡ Some r → HoldsOf cs r
-  of-settled f keeps c cs k Ok n r h e =
-      let at = settled_at c.kind c.saved Ok k in of-more n cs (f at c.ok) r (λ q i. keeps at c.ok cs q (kept.by_ok k c cs h) i) e
-  of-settled f keeps c cs k Nok n r h e =
-      let at = settled_at c.kind c.saved Nok k in of-more n cs (f at c.nok) r (λ q i. keeps at c.nok cs q (kept.by_nok k c cs h) i) e
+  of-settled f keeps c cs k Ok n r h e = of-more n cs (f (settled_at c.kind c.saved Ok k) c.ok) r (λ q i. keeps (settled_at c.kind c.saved Ok k) c.ok cs q (kept.by_ok k c cs h) i) e
+  of-settled f keeps c cs k Nok n r h e = of-more n cs (f (settled_at c.kind c.saved Nok k) c.nok) r (λ q i. keeps (settled_at c.kind c.saved Nok k) c.nok cs q (kept.by_nok k c cs h) i) e
   of-settled f keeps c cs k s n r h e = of-some cs (record { configuration = k; answer = s; calls = n }) r h e
 
   of-choices : (f : Configuration R D → State → Option (Reading R D)) → Keeps f → (xs cs : List Choice) (o : Option (Reading R D)) (r : Reading R D)

@@ -1,19 +1,10 @@
 -- A byte that waits can be a span of its own.
-use Rattle.mdconstructs_tables.proofs.Prelude.{◌≡◌, ℕ, ◌<◌, ◌≤◌, List, [], ◌∷◌, ◌++◌, true, Some, None, length, refl, sym, ap, ◌∙◌, subst, arith, length-append, All, IfSome, last_or, All-weaker, Event, Enter, open_events, stands_before, Nothing, Byte, Choice, TokenizerValue, at_configuration, sight_of, CanExit, consumed, entered, StateRows, IsBelow, IsAtState, IsMarkable, IfSome_then, EventName}
+use Rattle.mdconstructs_tables.proofs.Prelude.{◌≡◌, ◌<◌, ◌≤◌, List, [], ◌∷◌, ◌++◌, true, Some, None, length, refl, sym, ap, ◌∙◌, subst, arith, length-append, All, IfSome, last_or, All-weaker, Event, Enter, open_events, stands_before, Nothing, Choice, TokenizerValue, at_configuration, sight_of, CanExit, consumed, entered, IsBelow, IsMarkable, IfSome_then, EventName}
 use Rattle.mdconstructs_tables.proofs.GrowingTexts.{open-more, last-more, next-left}
 
 -- choices that are below some spans saved no more of the stack than there is
 pub stack-below : (base more stack : List EventName) (cs : List Choice) → stack ≡ base ++ more → All (IsBelow base) cs → All (IsBelow stack) cs
 stack-below base more stack cs same h = All-weaker (IsBelow base) (IsBelow stack) (λ c k. IfSome_then c.saved k (λ s r. omega (arith, r, ap length same, length-append base more))) cs h
-
--- a state is called and a byte waits
-pub markable : {M W R D : Type 0} (class : ℕ → W) (state : StateRows W R D) (t : TokenizerValue M R D) → IsAtState class state t → t.configuration.waiting ≡ Byte → IsMarkable t
-markable class state t can waits = record {
-  waits = waits;
-  inside = rw waits at can.fed;
-  in_order = can.in_order.begins waits;
-  below = stack-below can.base state.spans t.configuration.stack t.choices can.spans.stack can.spans.below;
-}
 
 module _ {M R D : Type 0} (name : EventName) (t : TokenizerValue M R D) (can : IsMarkable t) where
   abbrev read : TokenizerValue M R D

@@ -1,6 +1,5 @@
 -- What the proofs of this crate cite from below them: words of std, of the crates below and of specs.
-pub use Rattle.std.proofs.Common.{Bool, List, None, Option, Some, [], add-one, ap, append_assoc, arith, cond, drop, false, inl, inr, length, length-append, map, not, refl, subst, suc, sum_by, sym, take, true, zero, ℕ, ⊎_elim, ◌&&◌, ◌++◌, ◌+◌, ◌-◌, ◌<◌, ◌==◌, ◌||◌, ◌∙◌, ◌∷◌, ◌≡◌, ◌≢◌, ◌≤◌, ◌⊎◌}
-pub use Rattle.std.proofs.Math.Nat.{mul-le-mul_left, mul-le-mul_right}
+pub use Rattle.std.proofs.Common.{Bool, List, None, Option, Some, [], add-one, ap, append_assoc, arith, cond, drop, false, get_or, inl, inr, length, length-append, map, mul-le-mul_left, mul-le-mul_right, not, refl, subst, suc, sum_by, sym, take, true, zero, ℕ, ⊎_elim, ◌&&◌, ◌++◌, ◌+◌, ◌-◌, ◌<◌, ◌==◌, ◌||◌, ◌∙◌, ◌∷◌, ◌≡◌, ◌≢◌, ◌≤◌, ◌⊎◌}
 pub use Rattle.std.proofs.Math.Seq.{take-append_seam}
 pub use Rattle.std.proofs.lemmas.Bool.{and_from, and_parts, cases_eq, cond-false, cond_both, false_from_ne_true, leb-true, ltb-false, ltb-true, not-false, not-true, or_parts}
 pub use Rattle.std.proofs.lemmas.Bool.Decides.{nat_tests}
@@ -37,7 +36,7 @@ pub use Rattle.markdown_tokenizer.proofs.Runs.Working.{holds-on}
 pub use Rattle.markdown_tokenizer.specs.Calls.{CanExit, consumed, entered, saved_at, with_local, with_resolvers}
 pub use Rattle.markdown_tokenizer.specs.Configuration.{Choice, Configuration, Local, Saved, Step, TokenizerValue, at_configuration, start_configuration}
 pub use Rattle.markdown_tokenizer.specs.Engine.{IsRunRefused, whole_text}
-pub use Rattle.markdown_tokenizer.specs.Lawful.{ConsumesOnce, CostPays, EndsWhenRead, ForEachCall, IsAsFar, IsLawful, KeepsInvariant, OnlyAdds, ResolversKeep}
+pub use Rattle.markdown_tokenizer.specs.Lawful.{ConsumesOnce, CostPays, EndsWhenRead, ForEachCall, IsAsFar, IsLawful, KeepsInvariant, OnlyAdds}
 pub use Rattle.markdown_tokenizer.specs.Plain.{IsPlain, KeepsPlain, plain}
 pub use Rattle.markdown_tokenizer.specs.Reading.{EndsIn, Reading, after_choices, fed, more_calls, read, restored, settle, settled_at, unfed}
 pub use Rattle.markdown_tokenizer.specs.Resolving.{IsResolvingRefused, Resolved, found, refused, resolved_by, taken, with_more}
@@ -52,13 +51,13 @@ pub use Rattle.markdown_tokenizer.specs.declared.waiting.Waits.TheVariants.{Byte
 pub use Rattle.mdconstructs_tables.specs.Fitting.{AllFall, Falls, IsFit, IsFitBy, every}
 pub use Rattle.mdconstructs_tables.specs.Joined.{AreApart, has_state, joined_cost, joined_rules}
 pub use Rattle.mdconstructs_tables.specs.Knowledge.{AllKeepKnowing, EachRow, IsKnown, KeepsKnowing, KnownAfter, LeavesShape, knowing_rules}
-pub use Rattle.mdconstructs_tables.specs.Late.{AreFallingBehind, CanGoBack, IsLate, are_late, falls_on, fits_late, is_at_last, is_early, is_early_end, is_late_row, is_late_state, late_holds, late_rules}
+pub use Rattle.mdconstructs_tables.specs.Late.{AreFallingBehind, CanGoBack, IsLate, are_late, falls_on, fits_late, is_at_last, is_early, is_early_end, is_late_row, is_late_state, late_rules}
 pub use Rattle.mdconstructs_tables.specs.LinkShapes.{AreInShape, next_end, previous_end}
 pub use Rattle.mdconstructs_tables.specs.Markers.{IsMarkable, marked}
 pub use Rattle.mdconstructs_tables.specs.Misfits.{Reason, act, acts_fit, answer, choice, choices_fit, misfit, misfits, named_misfit, named_start, spans, spans_fit, start, unless, unpaid, with_reason}
-pub use Rattle.mdconstructs_tables.specs.PlainTables.{IsPlainTable, are_plain_acts, are_plain_rows, are_plain_states, is_plain_act}
+pub use Rattle.mdconstructs_tables.specs.PlainTables.{IsPlainTable, are_plain_acts, are_plain_rows, are_plain_states}
 pub use Rattle.mdconstructs_tables.specs.PlainWrites.{RowsWritePlain, StatesWritePlain, WritePlain, WritesPlain}
 pub use Rattle.mdconstructs_tables.specs.Refusals.{RulesRefuseNothing, act_refuses, is_message, refusing, rows_refuse}
 pub use Rattle.mdconstructs_tables.specs.RowInvariant.{AnyWait, ArePaid, AreWaiting, AreWithin, Began, CanEnd, EndsWithEnter, HoldsAt, IsAtState, IsBelow, IsCallable, IsFed, IsOpen, IsSaved, IsSavedIn, IsStateAt, PaysRows, SightIsInOrder, Stands, answer_price, at_most, began_at, begun, behind, choice_price, chosen_price, class_at, class_in, events_saved, exit_place_at, is_read, next_price, once_read, outline, position_of, price_by, reserve_of, retry_price, row_price, since, state_price, table_cost, table_holds, table_rules, upto}
 pub use Rattle.mdconstructs_tables.specs.RowTest.{Frame, Shape, Stage, after, after_all, all_rows, allows, allows_all, answer_calls, at_stage, byte_read, byte_waits, calls_at, calls_le, calls_or, choice_calls, chosen_calls, counts_answer, counts_choice, counts_choices, end_waits, fed_calls, feeds, first_stage, fits_answer, fits_calls, fits_choice, fits_choices, fits_row, frame_of, fresh_at, fresh_fed, is_at, is_bare, is_byte_waiting, is_called, is_called_at, is_counted, is_end, is_fresh, is_fresh_fed, is_last, is_some, is_void_last, larger, may_go_on, may_start, needs_choice, next_calls, pays_row, plus, same_names, saves, start_shape, waits_in}
-pub use Rattle.mdconstructs_tables.specs.Rows.{Act, Begun, Called, Calls, Needs, Row, Rows, StateRows, Table, a_choice, a_choice_once_read, anywhere, at_a_byte, at_byte, at_bytes, before, choice_made_at, choose, chooses, class_of, consume, does, done, enter, enters, exit, here, links, named, nothing, past, picked, row, row_at, seen_after, step_at, step_of, table_step, when, with_choice_of, write}
+pub use Rattle.mdconstructs_tables.specs.Rows.{Act, Begun, Called, Calls, Needs, Row, Rows, StateRows, Table, anywhere, at_a_byte, at_byte, at_bytes, before, choice_made_at, choose, chooses, class_of, consume, does, done, enter, enters, exit, here, links, named, nothing, past, picked, row, row_at, seen_after, step_at, step_of, table_step, when, with_choice_of, write}

@@ -7,7 +7,6 @@ pub mod Late
 pub mod Laws
 pub mod Lawful
 pub mod Plain
-pub mod PlainWrites
 pub mod Refusals
 pub mod Tests
 pub mod Waiting

@@ -1,8 +1,8 @@
 -- What the code of a state may do where it is called, from the test of its acts.
-use Rattle.mdconstructs_tables.proofs.Prelude.{◌≡◌, ◌≢◌, ◌==◌, ℕ, ◌<◌, ◌≤◌, ◌&&◌, ◌||◌, not, List, [], ◌∷◌, ◌++◌, Bool, true, false, Option, Some, None, length, map, refl, sym, ap, ◌∙◌, subst, arith, append_assoc, length-append, All, IfSome, reverse, last_or, nat_tests, All-head, All-tail, All-weaker, and_parts, slice_get_past, Event, Enter, Name, Retry, open_events, is_void, unlinked, stands_before, or-leads, Waits, Nothing, Byte, End, Text, Configuration, Local, Choice, TokenizerValue, sight, sight_of, byte_of, CanExit, IsAsFar, Act, enters, exit, consume, done, with_choice_of, StateRows, Called, Table, class_of, does, chooses, named, Stage, byte_read, Shape, is_last, allows_all, after_all, start_shape, is_called_at, is_some, EndsWithEnter, since, IsFed, class_in, begun, IsBelow, table_holds, IsAtState, once_read, CanEnd, IsCallable, IsMarkable, cond-false, IfSome_then, EventName}
-use Rattle.mdconstructs_tables.proofs.Rows.Laws.{Waited, reached, sight_at, HasShape, below_all, is-last, last-above, last-long, to-before, open-unlinked, left-at, here-at, has-after-all, does-then, chooses-then, allows-then, allows-front}
+use Rattle.mdconstructs_tables.proofs.Prelude.{◌≡◌, ◌≢◌, ◌==◌, ℕ, ◌<◌, ◌&&◌, ◌||◌, not, List, [], ◌∷◌, ◌++◌, Bool, true, false, Option, Some, None, length, map, refl, sym, ap, ◌∙◌, subst, arith, append_assoc, length-append, All, IfSome, reverse, last_or, nat_tests, All-head, All-tail, All-weaker, and_parts, slice_get_past, Event, Enter, Name, Retry, open_events, open_events_from-unlinked, option_map, is_void, unlinked, stands_before, or-leads, Waits, Nothing, Byte, End, Text, Configuration, Local, TokenizerValue, sight, sight_of, byte_of, CanExit, IsAsFar, Act, enters, exit, consume, done, with_choice_of, StateRows, Called, Table, class_of, does, chooses, named, Stage, byte_read, Shape, is_last, allows_all, after_all, start_shape, is_called_at, is_some, since, IsFed, class_in, begun, IsBelow, table_holds, IsAtState, once_read, CanEnd, IsCallable, IsMarkable, cond-false, IfSome_then, EventName}
+use Rattle.mdconstructs_tables.proofs.Rows.Laws.{Waited, reached, sight_at, HasShape, below_all, is-last, last-above, last-long, to-before, left-at, here-at, has-after-all, does-then, chooses-then, allows-parts}
 use Rattle.mdconstructs_tables.proofs.GrowingTexts.{next-left}
-use Rattle.mdconstructs_tables.proofs.Markers.{markable, stack-below}
+use Rattle.mdconstructs_tables.proofs.Markers.{stack-below}
 use Rattle.mdconstructs_tables.proofs.Tables.Holding.{met-at, read-before, ahead-at, start-sight, begins}
 
 -- what holds of the last of the events without their links holds of the last
@@ -12,17 +12,10 @@ last-unlinked P o (x ∷ es) e before h is =
     last-unlinked P (Some x) es e (λ y same. let same : x ≡ y = cc in subst (λ y. P (unlinked y)) same (All-head P (unlinked x) (map unlinked es) h)) (All-tail P (unlinked x) (map unlinked es) h) is
 
 -- the last event is an enter, also with its link
-last-linked : (x : Event) (es : List Event) (e : Event) → last_or (Some (unlinked x)) (map unlinked es) ≡ Some e → e.kind ≡ Enter → (d : Event) × (last_or (Some x) es ≡ Some d) × (d.kind ≡ Enter)
-last-linked x [] e is kind = let same : unlinked x ≡ e = cc in (x, refl, ap (λ e. e.kind) same ∙ kind)
-last-linked x (y ∷ es) e is kind = last-linked y es e is kind
-
-ends-linked : (es : List Event) → EndsWithEnter (map unlinked es) → EndsWithEnter es
-ends-linked [] h = absurd (let none = h.1 in cc)
-ends-linked (x ∷ es) h = last-linked x es h.0 h.1 h.2
-
--- choices that are below some spans began with fewer than those and more
-above-all : (base spans stack : List EventName) (cs : List Choice) → stack ≡ base ++ spans → 1 ≤ length spans → All (IsBelow base) cs → All (λ c. IfSome c.saved (λ s. length s.stack < length stack)) cs
-above-all base spans stack cs same some h = All-weaker (IsBelow base) (λ c. IfSome c.saved (λ s. length s.stack < length stack)) (λ c k. IfSome_then c.saved k (λ s r. omega (arith, r, ap length same, length-append base spans, some))) cs h
+last-linked : (o : Option Event) (es : List Event) (e : Event) → last_or (option_map unlinked o) (map unlinked es) ≡ Some e → e.kind ≡ Enter → (d : Event) × (last_or o es ≡ Some d) × (d.kind ≡ Enter)
+last-linked None [] e is kind = absurd (cc)
+last-linked (Some x) [] e is kind = let same : unlinked x ≡ e = cc in (x, refl, ap (λ e. e.kind) same ∙ kind)
+last-linked o (y ∷ es) e is kind = last-linked (Some y) es e is kind
 
 -- if a byte still waits, nothing was read
 still-waiting : {R D : Type 0} (stage : Stage) (k k' : Configuration R D) → IsAsFar k' (reached stage k) → k'.waiting ≡ Byte → (k'.position ≡ k.position) × (k'.waiting ≡ k.waiting)
@@ -64,21 +57,22 @@ module _ {M W R D : Type 0} (class : ℕ → W) (state : StateRows W R D) (b w :
         let p = after_all acts (start_shape b w state) in
         let base = below_all acts (start_shape b w state) can.base in
         let s = sight_at p.stage (sight_of t) in
-        let (before, exits) = allows-then acts (exit name) (start_shape b w state) allowed in
-        let (top, rest) = and_parts (is_last name (last_or None p.spans)) (not p.fresh && (not (is_void name) || p.bare)) exits in
+        let (before, behind) = allows-parts acts (exit name ∷ []) (start_shape b w state) allowed in
+        let (top, rest) = and_parts (is_last name (last_or None p.spans)) (not p.fresh && (not (is_void name) || p.bare)) (and_parts _ _ behind).0 in
         let (old, void) = and_parts (not p.fresh) (not (is_void name) || p.bare) rest in
         let last = is-last name (last_or None p.spans) top in
         let h = shaped acts before in
-        let left = left-at t.given t.text k p.stage k' h.far h.waited in
+        let left = left-at t.given t.text k p.stage k' h.reads.0 h.reads.1 in
         let P : Event → Type 0 = λ e. since p.fresh p.stage s e.point ≡ true in
-        let opened : All P (map unlinked (open_events k'.events)) = subst (All P) (open-unlinked k'.events) h.began in
+        let opened : All P (map unlinked (open_events k'.events)) = subst (All P) (open_events_from-unlinked [] k'.events) h.began in
         let began : (e : Event) → last_or None (open_events k'.events) ≡ Some e → stands_before e.point s.exit_place ≡ true =
         λ e is. to-before p.fresh p.stage s e.point old (last-unlinked P None (open_events k'.events) e (λ x none. absurd (cc)) opened is) in
         subst (CanExit name) (sym is) (record {
           top = ap (last_or None) h.stack ∙ last-above None base p.spans name last;
           read = λ e last. subst (λ q. stands_before e.point q ≡ true) (sym left) (began e last);
-          void = λ v. ends-linked k'.events (h.bare (or-leads (is_void name) p.bare void v));
-          above = above-all base p.spans k'.stack (acted acts).choices h.stack (last-long p.spans name last) h.below;
+          void = λ v. let bare = h.bare (or-leads (is_void name) p.bare void v) in last-linked None k'.events bare.0 bare.1 bare.2;
+          above = All-weaker (IsBelow base) (λ c. IfSome c.saved (λ s. length s.stack < length k'.stack))
+              (λ c b. IfSome_then c.saved b (λ s r. omega (arith, r, ap length h.stack, length-append base p.spans, last-long p.spans name last))) (acted acts).choices h.waits.0;
         })
 
     done-at : (act : Act R D) (p : Shape) (k' : Configuration R D) → IsAsFar k' (reached p.stage t.configuration) → Waited p.stage t.text t.configuration
@@ -90,10 +84,10 @@ module _ {M W R D : Type 0} (class : ℕ → W) (state : StateRows W R D) (b w :
     -- one more act
     pub then : (acts : List (Act R D)) (act : Act R D) (t' t'' : TokenizerValue M R D) → are_allowed (acts ++ act ∷ []) ≡ true → t' ≡ acted acts → t'' ≡ acted_once act t' → t'' ≡ acted (acts ++ act ∷ [])
     then acts act t' t'' allowed one two =
-        let (before, last) = allows-then acts act (start_shape b w state) allowed in
+        let before = (allows-parts acts (act ∷ []) (start_shape b w state) allowed).0 in
         let h = shaped acts before in
         let k'' : done act (sight_of (acted acts)) (acted acts).configuration ≡ (acted (acts ++ act ∷ [])).configuration =
-        done-at act (after_all acts (start_shape b w state)) (acted acts).configuration h.far h.waited
+        done-at act (after_all acts (start_shape b w state)) (acted acts).configuration h.reads.0 h.reads.1
         ∙ sym (does-then acts act (start_shape b w state) (sight_of t) (sight_of t) t.configuration before (start-sight classes t.given w (sight_of t))) in
         two ∙ ap (acted_once act) one
         ∙ ap (λ k. record t { configuration = k; choices = with_choice_of act (acted acts).configuration (acted acts).choices }) k''
@@ -105,7 +99,7 @@ module _ {M W R D : Type 0} (class : ℕ → W) (state : StateRows W R D) (b w :
     can-end acts [] t' allowed is = tt
     can-end acts (name ∷ names) t' allowed is =
         let whole : are_allowed ((acts ++ exit name ∷ []) ++ map exit names) ≡ true = ap are_allowed (append_assoc acts (exit name ∷ []) (map exit names)) ∙ allowed in
-        let one = allows-front (acts ++ exit name ∷ []) (map exit names) (start_shape b w state) whole in
+        let one = (allows-parts (acts ++ exit name ∷ []) (map exit names) (start_shape b w state) whole).0 in
         (can-exit acts name t' one is, can-end (acts ++ exit name ∷ []) names (acted_once (exit name) t') whole (then acts (exit name) t' (acted_once (exit name) t') one is refl))
 
     -- behind allowed acts a byte that still waits can be a span of its own
@@ -115,13 +109,13 @@ module _ {M W R D : Type 0} (class : ℕ → W) (state : StateRows W R D) (b w :
         let p = after_all acts (start_shape b w state) in
         let base = below_all acts (start_shape b w state) can.base in
         let h = shaped acts allowed in
-        let same = still-waiting p.stage k (acted acts).configuration h.far (ap (λ t. t.configuration.waiting) (sym is) ∙ waits) in
+        let same = still-waiting p.stage k (acted acts).configuration h.reads.0 (ap (λ t. t.configuration.waiting) (sym is) ∙ waits) in
         let byte : k.waiting ≡ Byte = sym same.1 ∙ ap (λ t. t.configuration.waiting) (sym is) ∙ waits in
         subst IsMarkable (sym is) (record {
           waits = same.1 ∙ byte;
           inside = rw same.0 (rw byte at can.fed);
           in_order = rw (same.0, same.1) (can.in_order.begins byte);
-          below = stack-below base p.spans (acted acts).configuration.stack (acted acts).choices h.stack h.below;
+          below = stack-below base p.spans (acted acts).configuration.stack (acted acts).choices h.stack h.waits.0;
         })
 
 -- if a state is called that is never called at the end, a byte waits
@@ -133,11 +127,6 @@ never-at-end class called End p ended text h never at =
     let past = subst (λ o. is_called_at called (class_of class (byte_of o)) ≡ true) (slice_get_past text.seats p h.1) at in
     absurd (let e : true ≡ false = sym past ∙ never in cc)
 
--- once a byte is consumed, the place of an exit is its end
-stands-past : {M R D : Type 0} (t : TokenizerValue M R D) → IsFed t.configuration.waiting t.configuration.position t.configuration.ended t.text → t.configuration.waiting ≡ Byte
-    → (sight_of (once_read t)).exit_place ≡ (sight_of t).next
-stands-past t fed waits = let inside = rw waits at fed in rw waits (sym (next-left t.given t.text t.configuration.position Nothing inside))
-
 -- what the code of a state may do follows where it is called
 allowed : {M W R D : Type 0} (class : ℕ → W) (state : StateRows W R D) (t : TokenizerValue M R D) → IsAtState class state t → IsCallable class state t
 allowed class state t can =
@@ -148,8 +137,13 @@ allowed class state t can =
     record {
       called = can;
       byte = λ never. never-at-end class state.called k.waiting k.position k.ended t.text can.fed never can.spans.called;
-      stands = stands-past t can.fed;
-      marks = markable class state t can;
+      stands = λ waits. let inside = rw waits at can.fed in rw waits (sym (next-left t.given t.text t.configuration.position Nothing inside));
+      marks = λ waits. record {
+        waits = waits;
+        inside = rw waits at can.fed;
+        in_order = can.in_order.begins waits;
+        below = stack-below can.base state.spans t.configuration.stack t.choices can.spans.stack can.spans.below;
+      };
       ends = λ fit. can-end class state before waits t can refl refl [] names t fit refl;
       ends_read = λ fit. can-end class state before waits t can refl refl (consume ∷ []) names (once_read t) fit refl;
     }

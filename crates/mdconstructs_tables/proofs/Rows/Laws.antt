@@ -1,6 +1,6 @@
 -- What a row keeps: lemmas for the laws of tables.
 use Rattle.mdconstructs_tables.proofs.Markers.{stack-below}
-use Rattle.mdconstructs_tables.proofs.Prelude.{◌≡◌, suc, ◌+◌, ◌-◌, ◌<◌, ◌≤◌, not, List, [], ◌∷◌, ◌++◌, Bool, true, false, Option, Some, None, length, map, refl, sym, ap, ◌∙◌, subst, arith, take, append_assoc, length-append, All, last_or, and_from, and_parts, append-nil, map-append, All-push, All-take, All-weaker, All-cons, Event, Enter, Exit, Point, State, Nok, open_events, unlinked, stands_before, open_events_from-unlinked, stands-self, Nothing, Byte, AttemptKind, Attempt, Given, Text, Configuration, Choice, Sight, sight, consumed, linked-unlinked, IsAsFar, same_name-true, before-upto, Act, enters, exit, consume, links, write, choose, past, done, seen_after, choice_made_at, with_choice_of, does, chooses, Stage, end_waits, byte_waits, byte_read, Shape, is_byte_waiting, is_end, is_last, allows, after, allows_all, after_all, same_names, outline, EndsWithEnter, Began, upto, since, AnyWait, IsBelow, EventName}
+use Rattle.mdconstructs_tables.proofs.Prelude.{◌≡◌, suc, ◌+◌, ◌-◌, ◌<◌, ◌≤◌, not, List, [], ◌∷◌, ◌++◌, Bool, true, false, Option, Some, None, length, map, refl, sym, ap, ◌∙◌, subst, arith, take, append_assoc, length-append, All, last_or, and_from, and_parts, append-nil, map-append, All-push, All-take, All-weaker, All-cons, Event, Enter, Exit, Point, State, Nok, open_events, unlinked, stands_before, stands-self, Nothing, Byte, AttemptKind, Attempt, Given, Text, Configuration, Choice, Sight, sight, consumed, linked-unlinked, IsAsFar, same_name-true, before-upto, Act, enters, exit, consume, links, write, choose, past, done, seen_after, choice_made_at, with_choice_of, does, chooses, Stage, end_waits, byte_waits, byte_read, Shape, is_byte_waiting, is_end, is_last, allows, after, allows_all, after_all, same_names, outline, EndsWithEnter, Began, upto, since, AnyWait, IsBelow, EventName}
 use Rattle.mdconstructs_tables.proofs.GrowingTexts.{open-more, last-more, next-left}
 
 -- What the tests of equality say
@@ -36,10 +36,6 @@ take-above (x ∷ base) spans h =
     let n : length (x ∷ base ++ spans) - 1 ≡ suc (length (base ++ spans) - 1) = omega (arith, length-append base spans) in
     rw n (ap (λ xs. x ∷ xs) (take-above base spans h))
 
--- Events without their links
-pub open-unlinked : (es : List Event) → open_events (map unlinked es) ≡ map unlinked (open_events es)
-open-unlinked es = open_events_from-unlinked [] es
-
 -- the byte that waits can be read
 abbrev pub CanRead : {R D : Type 0} → Text → Configuration R D → Type 0
 CanRead text k = (k.waiting ≡ Byte) × (k.position < length text.seats)
@@ -70,10 +66,8 @@ pub record HasShape {R D : Type 0} (p : Shape) (base : List EventName) (s : Sigh
   pub stack : k.stack ≡ base ++ p.spans
   pub began : Began (since p.fresh p.stage s) (outline k)
   pub bare : p.bare ≡ true → EndsWithEnter (outline k)
-  pub far : IsAsFar k (reached p.stage old)
-  pub waited : Waited p.stage text old
-  pub below : All (IsBelow base) choices
-  pub within : p.within ≡ true → AnyWait choices
+  pub reads : IsAsFar k (reached p.stage old) × Waited p.stage text old
+  pub waits : All (IsBelow base) choices × (p.within ≡ true → AnyWait choices)
 
 pub waiting-stage : (stage : Stage) → is_byte_waiting stage ≡ true → stage ≡ byte_waits
 waiting-stage byte_waits h = refl
@@ -113,10 +107,6 @@ module _ {R D : Type 0} where
   below_all [] p base = base
   below_all (act ∷ acts) p base = below_all acts (after act p) (below_after act p base)
 
-past-stage : (stage : Stage) (s : Sight) (q : Point) → stage ≡ byte_waits → since true stage s q ≡ true → stands_before q s.next ≡ true
-past-stage byte_waits s q e h = h
-past-stage stage s q e h = absurd (cc)
-
 still-before : (fresh : Bool) (stage : Stage) (s : Sight) (q : Point) → not fresh ≡ true → since fresh stage s q ≡ true → since false stage s q ≡ true
 still-before true stage s q fit h = absurd (cc)
 still-before false stage s q fit h = h
@@ -131,14 +121,6 @@ module _ {R D : Type 0} (g : Given) (text : Text) (old : Configuration R D) wher
   pub here-at : (stage : Stage) (k : Configuration R D) → IsAsFar k (reached stage old) → Waited stage text old → (sight g text k).enter_place ≡ (sight_at stage (sight g text old)).enter_place
   here-at byte_read k far waited = let byte = waited.0 in rw (far.0, far.1, byte) (sym (next-left g text old.position Nothing waited.1))
   here-at stage k far waited = rw (far.0, far.1) refl
-
-  read-far : (stage : Stage) (k : Configuration R D) → stage ≡ byte_waits → IsAsFar k (reached stage old) → IsAsFar (consumed k) (consumed old)
-  read-far byte_waits k e h = (ap (λ n. n + 1) h.0, refl, refl)
-  read-far stage k e h = absurd (cc)
-
-  waited-read : (stage : Stage) → stage ≡ byte_waits → Waited stage text old → CanRead text old
-  waited-read end_waits e h = absurd (cc)
-  waited-read stage e h = h
 
   chosen-below : (kind : AttemptKind) (ok nok : State) (stack : List EventName) (k : Configuration R D) → k.stack ≡ stack → IsBelow stack (choice_made_at kind ok nok k)
   chosen-below Attempt ok Nok stack k h = tt
@@ -156,10 +138,8 @@ module _ {R D : Type 0} (g : Given) (text : Text) (old : Configuration R D) wher
         stack = ap (λ names. names ++ name ∷ []) h.stack ∙ append_assoc base p.spans (name ∷ []);
         began = subst (Began (since true p.stage s)) (sym grown) (subst (All P) (sym (open-more [] (outline k) (unlinked e))) (All-push P (open_events (outline k)) (unlinked e) earlier (sees.begins (not-end p.stage can))));
         bare = λ _. subst EndsWithEnter (sym grown) (unlinked e, last-more None (outline k) (unlinked e), refl);
-        far = h.far;
-        waited = h.waited;
-        below = h.below;
-        within = h.within;
+        reads = h.reads;
+        waits = h.waits;
       }
   has-after (exit name) p base s k choices can sees h =
       let e : Event = record { kind = Exit; name = name; point = s.exit_place; link = None } in
@@ -170,21 +150,18 @@ module _ {R D : Type 0} (g : Given) (text : Text) (old : Configuration R D) wher
         stack = ap (λ names. take (length names - 1) names) h.stack ∙ take-above base p.spans (last-long p.spans name top);
         began = subst (Began (since p.fresh p.stage s)) (sym grown) (subst (All P) (sym (open-more [] (outline k) (unlinked e))) (All-take P (length (open_events (outline k)) - 1) (open_events (outline k)) h.began));
         bare = λ is. absurd (cc);
-        far = h.far;
-        waited = h.waited;
-        below = h.below;
-        within = h.within;
+        reads = h.reads;
+        waits = h.waits;
       }
   has-after consume p base s k choices can sees h =
-      let waits = waiting-stage p.stage can in
+      let byte = waiting-stage p.stage can in
+      let far = rw byte at h.reads.0 in
       record {
         stack = h.stack;
-        began = began-on (since p.fresh p.stage s) (since false byte_read (past s)) (outline k) (λ q b. past-stage p.stage s q waits (to-fresh p.fresh p.stage s q sees b)) h.began;
+        began = began-on (since p.fresh p.stage s) (since false byte_read (past s)) (outline k) (λ q b. rw byte at (to-fresh p.fresh p.stage s q sees b)) h.began;
         bare = h.bare;
-        far = read-far p.stage k waits h.far;
-        waited = waited-read p.stage waits h.waited;
-        below = h.below;
-        within = h.within;
+        reads = ((ap (λ n. n + 1) far.0, refl, refl), rw byte at h.reads.1);
+        waits = h.waits;
       }
   has-after (links previous next) p base s k choices can sees h =
       let same = sym (linked-unlinked (previous k) (next k) k.events) in
@@ -192,21 +169,21 @@ module _ {R D : Type 0} (g : Given) (text : Text) (old : Configuration R D) wher
         stack = h.stack;
         began = subst (Began (since p.fresh p.stage s)) same h.began;
         bare = λ is. subst EndsWithEnter same (h.bare is);
-        far = h.far;
-        waited = h.waited;
-        below = h.below;
-        within = h.within;
+        reads = h.reads;
+        waits = h.waits;
       }
   has-after (write f) p base s k choices can sees h =
-      record { stack = h.stack; began = h.began; bare = h.bare; far = h.far; waited = h.waited; below = h.below; within = h.within }
+      record { stack = h.stack; began = h.began; bare = h.bare; reads = h.reads; waits = h.waits }
   has-after (choose kind ok nok) p base s k choices can sees h = record {
     stack = h.stack ∙ sym (append-nil (base ++ p.spans));
     began = began-on (since p.fresh p.stage s) (since false p.stage s) (outline k) (λ q. still-before p.fresh p.stage s q (and_parts _ _ can).0) h.began;
     bare = λ is. absurd (cc);
-    far = h.far;
-    waited = h.waited;
-    below = All-cons (IsBelow (base ++ p.spans)) (choice_made_at kind ok nok k) choices (chosen-below kind ok nok (base ++ p.spans) k h.stack) (stack-below base p.spans (base ++ p.spans) choices refl h.below);
-    within = λ _. tt;
+    reads = h.reads;
+    waits = (
+      All-cons (IsBelow (base ++ p.spans)) (choice_made_at kind ok nok k) choices (chosen-below kind ok nok (base ++ p.spans) k h.stack)
+          (stack-below base p.spans (base ++ p.spans) choices refl h.waits.0),
+      λ _. tt,
+    );
   }
 
 module _ {R D : Type 0} where
@@ -240,18 +217,13 @@ module _ {R D : Type 0} where
   chooses-then [] act s k choices = refl
   chooses-then (a ∷ acts) act s k choices = chooses-then acts act (seen_after a s) (done a s k) (with_choice_of a k choices)
 
-  pub allows-then : (acts : List (Act R D)) (act : Act R D) (p : Shape) → allows_all (acts ++ act ∷ []) p ≡ true → (allows_all acts p ≡ true) × (allows act (after_all acts p) ≡ true)
-  allows-then [] act p can = (refl, (and_parts _ _ can).0)
-  allows-then (a ∷ acts) act p can =
-      let (one, rest) = and_parts (allows a p) (allows_all (acts ++ act ∷ []) (after a p)) can in
-      let (some, last) = allows-then acts act (after a p) rest in
+  -- of acts that are allowed the first are, and the others are behind them
+  pub allows-parts : (acts more : List (Act R D)) (p : Shape) → allows_all (acts ++ more) p ≡ true → (allows_all acts p ≡ true) × (allows_all more (after_all acts p) ≡ true)
+  allows-parts [] more p can = (refl, can)
+  allows-parts (a ∷ acts) more p can =
+      let (one, rest) = and_parts (allows a p) (allows_all (acts ++ more) (after a p)) can in
+      let (some, last) = allows-parts acts more (after a p) rest in
       (and_from (allows a p) (allows_all acts (after a p)) one some, last)
-
-  -- of acts that are allowed the first are allowed
-  pub allows-front : (acts more : List (Act R D)) (p : Shape) → allows_all (acts ++ more) p ≡ true → allows_all acts p ≡ true
-  allows-front [] more p can = refl
-  allows-front (a ∷ acts) more p can =
-      let (one, rest) = and_parts (allows a p) (allows_all (acts ++ more) (after a p)) can in and_from (allows a p) (allows_all acts (after a p)) one (allows-front acts more (after a p) rest)
 
   -- the choices that a row makes wait above the old ones
   chosen-append : (act : Act R D) (k : Configuration R D) (xs ys : List Choice) → with_choice_of act k xs ++ ys ≡ with_choice_of act k (xs ++ ys)

@@ -1,5 +1,5 @@
 -- What the test of a table says of each state if it names none.
-use Rattle.mdconstructs_tables.proofs.Prelude.{◌≡◌, ◌==◌, List, [], ◌∷◌, ◌++◌, Bool, true, false, cond, Option, Some, refl, subst, arith, nat_tests, All, filter, None, flat_map, All-nil, All-cons, Name, StateRows, named, all_rows, fits_row, fits_calls, is_called, may_start, Reason, act, spans, choice, answer, unpaid, start, unless, with_reason, acts_fit, spans_fit, choices_fit, misfit, named_misfit, named_start, cond_both}
+use Rattle.mdconstructs_tables.proofs.Prelude.{◌≡◌, ◌==◌, List, [], ◌∷◌, ◌++◌, Bool, true, false, cond, Option, Some, refl, subst, arith, nat_tests, All, filter, None, flat_map, All-nil, All-cons, Name, StateRows, named, Reason, act, spans, choice, answer, unpaid, start, unless, with_reason, cond_both}
 
 pub none-left : {A : Type 0} (xs ys : List A) → xs ++ ys ≡ [] → (xs ≡ []) × (ys ≡ [])
 none-left [] ys h = (refl, h)
@@ -34,32 +34,16 @@ module _ {A : Type 0} where
   none-made f [] h = All-nil (λ x. f x ≡ [])
   none-made f (x ∷ xs) h = let (one, rest) = none-left (f x) (flat_map f xs) h in All-cons (λ x. f x ≡ []) x xs one (none-made f xs rest)
 
-  pub named-none : {W R D : Type 0} (f : StateRows W R D → List A) (states : List (StateRows W R D)) (name : Name) (state : StateRows W R D) → flat_map f states ≡ [] → named states name ≡ Some state → f state ≡ []
-  named-none f states name state h is = (named-in (λ l. flat_map f l ≡ []) (λ x. f x ≡ []) (λ x xs. none-left (f x) (flat_map f xs)) states name state h is).0
-
 -- no reason is given only where each test is passed
-all-passed : (acts_pass spans_pass choices_pass rows_pass calls_pass : Bool)
+pub all-passed : (acts_pass spans_pass choices_pass rows_pass calls_pass : Bool)
     → unless acts_pass act (unless spans_pass spans (unless choices_pass choice (unless rows_pass answer (unless calls_pass unpaid None)))) ≡ None → (rows_pass ≡ true) × (calls_pass ≡ true)
 all-passed true true true true true h = (refl, refl)
 all-passed acts_pass spans_pass choices_pass rows_pass calls_pass h = absurd (cc)
 
-called-none : (b : Bool) (name : Name) (o : Option Reason) → b ≡ true → with_reason name (cond b o None) ≡ [] → o ≡ None
+pub called-none : (b : Bool) (name : Name) (o : Option Reason) → b ≡ true → with_reason name (cond b o None) ≡ [] → o ≡ None
 called-none true name None called h = refl
 called-none b name o called h = absurd (cc)
 
-starts-none : (b : Bool) (name : Name) → cond {A = List (Name × Reason)} b [] ((name, start) ∷ []) ≡ [] → b ≡ true
+pub starts-none : (b : Bool) (name : Name) → cond {A = List (Name × Reason)} b [] ((name, start) ∷ []) ≡ [] → b ≡ true
 starts-none true name h = refl
 starts-none false name h = absurd (cc)
-
-module _ {W R D : Type 0} (states : List (StateRows W R D)) where
-  -- the rows and the calls of a state fit, if it is called and no reason is named
-  pub fits-unnamed : (b w : Option W) (state : StateRows W R D) → is_called states w state ≡ true → named_misfit states b w state ≡ []
-      → (all_rows (fits_row states b w state) (state.rows b w) ≡ true) × (fits_calls states b w state state.calls ≡ true)
-  fits-unnamed b w state called h =
-      let none = called-none (is_called states w state) state.name (misfit states b w state) called h in
-      all-passed (acts_fit states b w state) (spans_fit states b w state) (choices_fit states b w state) (all_rows (fits_row states b w state) (state.rows b w))
-      (fits_calls states b w state state.calls) none
-
-  -- and a start may be one
-  pub starts-unnamed : (name : Name) → named_start states name ≡ [] → may_start states (named states name) ≡ true
-  starts-unnamed name h = starts-none (may_start states (named states name)) name h

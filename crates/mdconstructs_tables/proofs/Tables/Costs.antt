@@ -1,9 +1,10 @@
 -- The calls of a machine whose table passes the test are paid for.
-use Rattle.mdconstructs_tables.proofs.Prelude.{◌≡◌, ℕ, ◌+◌, ◌-◌, ◌<◌, ◌≤◌, ◌&&◌, List, [], ◌∷◌, Bool, true, false, Option, Some, None, length, refl, sym, subst, arith, sum_by, nat_lt, max, not, IfSome, last_or, mul-le-mul_left, mul-le-mul_right, leb-true, ltb-true, ltb-false, and_parts, slice_get_past, sum_by-cons, Event, Name, State, Next, Retry, Ok, Nok, AttemptKind, Attempt, Check, Given, Text, IsText, Configuration, Choice, Saved, Sight, sight, byte_of, consumed, with_local, fed, unfed, restored, settled_at, IsAsFar, CostPays, Act, consume, choose, Rows, row, when, Row, Calls, StateRows, Table, past, class_of, choice_made_at, done, chooses, picked, named, table_step, is_void_last, saves, Stage, end_waits, byte_waits, byte_read, Shape, Frame, may_go_on, fits_choice, fits_answer, fits_calls, is_some, first_stage, plus, larger, at_stage, calls_le, calls_or, fed_calls, next_calls, choice_calls, chosen_calls, answer_calls, calls_at, is_counted, counts_answer, counts_choice, counts_choices, pays_row, feeds, all_rows, is_called_at, is_called, outline, IsSaved, price_by, at_most, IsStateAt, next_price, retry_price, state_price, choice_price, chosen_price, answer_price, row_price, AreWithin, Stands, is_read, behind, class_at, PaysRows, ArePaid, table_holds, table_cost, reserve_of, table_rules, upto, exit_place_at, fresh_fed, falls_on, CanGoBack, Falls, AllFall, IsFitBy, IsFit, every, cond_both, EventName}
+use Rattle.mdconstructs_tables.proofs.Prelude.{◌≡◌, ℕ, ◌+◌, ◌-◌, ◌≤◌, ◌&&◌, List, [], ◌∷◌, Bool, true, false, Option, Some, None, length, refl, sym, subst, arith, sum_by, nat_lt, max, not, IfSome, last_or, mul-le-mul_left, mul-le-mul_right, leb-true, ltb-true, ltb-false, and_parts, slice_get_past, sum_by-cons, Name, State, Next, Retry, Ok, Nok, AttemptKind, Attempt, Check, Given, Text, IsText, Configuration, Choice, Saved, Sight, sight, byte_of, consumed, with_local, fed, unfed, restored, settled_at, IsAsFar, CostPays, Act, consume, choose, Rows, row, when, Calls, StateRows, Table, past, class_of, choice_made_at, done, chooses, picked, named, table_step, is_void_last, saves, Stage, end_waits, byte_waits, byte_read, Shape, Frame, may_go_on, fits_choice, fits_answer, fits_calls, is_some, first_stage, plus, larger, at_stage, calls_le, calls_or, fed_calls, next_calls, choice_calls, chosen_calls, answer_calls, calls_at, is_counted, counts_answer, counts_choice, counts_choices, pays_row, feeds, all_rows, is_called_at, is_called, outline, IsSaved, price_by, at_most, IsStateAt, next_price, retry_price, state_price, choice_price, chosen_price, answer_price, row_price, AreWithin, Stands, is_read, behind, class_at, PaysRows, ArePaid, table_holds, table_cost, reserve_of, table_rules, upto, exit_place_at, fresh_fed, falls_on, CanGoBack, Falls, AllFall, IsFitBy, IsFit, every, cond_both, EventName}
 use Rattle.mdconstructs_tables.proofs.Rows.Misfits.{named-same, named-in}
 use Rattle.mdconstructs_tables.proofs.Rows.Laws.{Waited, reached}
 use Rattle.mdconstructs_tables.proofs.GrowingTexts.{seat-at}
 use Rattle.mdconstructs_tables.proofs.Tables.Holding.{read-before, waits-at, of_class, before_class, row_of, left_by}
+use Rattle.mdconstructs_tables.proofs.Tables.Waiting.{if-saved}
 use Rattle.mdconstructs_tables.proofs.Tables.Laws.{picked-passes, each-call, state-fits}
 
 -- Calls
@@ -19,20 +20,11 @@ more-most c m n h = omega (arith, mul-le-mul_left c.per_byte h)
 plus-most : (c d : Calls) (n : ℕ) → at_most (plus c d) n ≡ at_most c n + at_most d n
 plus-most c d n = omega arith
 
-left-most : (c d : Calls) (n : ℕ) → at_most c n ≤ at_most (larger c d) n
-left-most c d n =
-    let per_byte : c.per_byte ≤ (larger c d).per_byte = omega arith in
-    let more : c.more ≤ (larger c d).more = omega arith in
-    omega (arith, mul-le-mul_right n per_byte, more)
-
-right-most : (c d : Calls) (n : ℕ) → at_most d n ≤ at_most (larger c d) n
-right-most c d n =
-    let per_byte : d.per_byte ≤ (larger c d).per_byte = omega arith in
-    let more : d.more ≤ (larger c d).more = omega arith in
-    omega (arith, mul-le-mul_right n per_byte, more)
-
 max-most : (x y : ℕ) (c d : Calls) (n : ℕ) → x ≤ at_most c n → y ≤ at_most d n → max x y ≤ at_most (larger c d) n
-max-most x y c d n h k = omega (arith, h, k, left-most c d n, right-most c d n)
+max-most x y c d n h k =
+    let first : c.per_byte ≤ (larger c d).per_byte = omega arith in
+    let second : d.per_byte ≤ (larger c d).per_byte = omega arith in
+    omega (arith, h, k, mul-le-mul_right n first, mul-le-mul_right n second)
 
 -- how many bytes are left at a stage, if this many are left once what waits was read
 abbrev bound : Stage → ℕ → ℕ
@@ -52,23 +44,18 @@ read-left st n total p left = omega arith
 
 module _ {W R D : Type 0} (table : Table W R D) (g : Given) (late : Bool) where
   -- if a state says how many calls are left, that is its cost
+  counted : (c : Option Calls) (own : ℕ) (f : Calls → ℕ) → is_some c ≡ true → price_by c own f ≤ f (calls_or table.states c)
+  counted None own f e = absurd (cc)
+  counted (Some c) own f e = omega arith
+
   counted-next : (o : Option (StateRows W R D)) (text : Text) (p : ℕ) → is_counted table.states o ≡ true → next_price table text p o ≤ at_most (fed_calls table.states o) (length text.seats - p)
   counted-next None text p h = omega arith
-  counted-next (Some state) text p h =
-      elim state.calls as (λ c. is_some c ≡ true → price_by c (state.own text p) (λ c. at_most c (length text.seats - p)) ≤ at_most (calls_or table.states c) (length text.seats - p)) [
-        | None ↦ λ e. absurd (cc)
-        | Some c ↦ λ e. omega arith
-      ] h
+  counted-next (Some state) text p h = counted state.calls (state.own text p) (λ c. at_most c (length text.seats - p)) h
 
   counted-retry : (b w : Option W) (o : Option (StateRows W R D)) (text : Text) (p : ℕ) → is_counted table.states o ≡ true
       → retry_price table b w text p o ≤ at_most (calls_at table.states table.states b w o) (length text.seats - p - 1)
   counted-retry b w None text p h = omega arith
-  counted-retry b w (Some state) text p h =
-      elim state.calls as (λ c. is_some c ≡ true
-      → price_by c (state.own text p) (λ c. at_most (calls_at table.states table.states b w (Some state)) (length text.seats - p - 1)) ≤ at_most (calls_at table.states table.states b w (Some state)) (length text.seats - p - 1)) [
-        | None ↦ λ e. absurd (cc)
-        | Some c ↦ λ e. omega arith
-      ] h
+  counted-retry b w (Some state) text p h = counted state.calls (state.own text p) (λ c. at_most (calls_at table.states table.states b w (Some state)) (length text.seats - p - 1)) h
 
   counted-state : (a : State) (text : Text) (p : ℕ) → counts_answer table.states a ≡ true → state_price table text p a ≤ at_most (next_calls table.states a) (length text.seats - p)
   counted-state (Next name) text p h = counted-next (named table.states name) text p h
@@ -125,25 +112,6 @@ module _ {W R D : Type 0} (table : Table W R D) (g : Given) (late : Bool) where
   first-left None text p h = omega (arith, h)
   first-left (Some w) text p h = omega arith
 
-  -- a row that pays is within the calls of its state
-  counted-row : (b w : Option W) (state : StateRows W R D) (r : Row R D) (text : Text) (p : ℕ) → Stands w text p → pays_row table.states b w state r ≡ true
-      → row_price table late b w text p r ≤ at_most (calls_at table.states table.states b w (Some state)) (length text.seats - p - 1)
-  counted-row b w state r text p at h =
-      let n = length text.seats - p - 1 in
-      let (answers, rest) = and_parts (counts_answer table.states r.answer) _ h in
-      let (chosen, paid) = and_parts (counts_choices table.states r.acts) _ rest in
-      let a = answer_calls table.states (λ name. calls_at table.states table.states b w (named table.states name)) r.answer in
-      let c = chosen_calls table.states (first_stage w) r.acts in
-      let one : Calls = record { per_byte = 0; more = 1 } in
-      omega (
-        arith,
-        counted-answer b w r.answer text p answers,
-        counted-chosen r.acts (first_stage w) n text p (first-left w text p at) chosen,
-        le-most (plus one (plus a c)) (calls_at table.states table.states b w (Some state)) n paid,
-        plus-most one (plus a c) n,
-        plus-most a c n,
-      )
-
   -- the row that is picked is within what all are
   picked-within : (b w : Option W) (text : Text) (p price : ℕ) (rows : Rows R D) (s : Sight) (k : Configuration R D) → AreWithin table late b w text p price rows → row_price table late b w text p (picked rows g s k) ≤ price
   picked-within b w text p price (row acts answer) s k h = h
@@ -158,8 +126,22 @@ module _ {W R D : Type 0} (table : Table W R D) (g : Given) (late : Bool) where
       → row_price table late b w text p (picked (state.rows b w) g s k) ≤ price_by c (state.own text p) (λ c. at_most (calls_at table.states table.states b w (Some state)) (length text.seats - p - 1))) [
         | None ↦ λ own fit. picked-within b w text p (state.own text p) (state.rows b w) s k (own b w text p read at seen called)
         | Some c ↦ λ own fit.
-            counted-row b w state (picked (state.rows b w) g s k) text p at
-            (picked-passes (pays_row table.states b w state) (state.rows b w) g s k (and_parts (all_rows (pays_row table.states b w state) (state.rows b w)) (feeds table.states b w state c) fit).0)
+            let r = picked (state.rows b w) g s k in
+            let n = length text.seats - p - 1 in
+            let pays = picked-passes (pays_row table.states b w state) (state.rows b w) g s k (and_parts _ (feeds table.states b w state c) fit).0 in
+            let (answers, rest) = and_parts (counts_answer table.states r.answer) _ pays in
+            let (chosen, paid) = and_parts (counts_choices table.states r.acts) _ rest in
+            let a = answer_calls table.states (λ name. calls_at table.states table.states b w (named table.states name)) r.answer in
+            let made = chosen_calls table.states (first_stage w) r.acts in
+            let one : Calls = record { per_byte = 0; more = 1 } in
+            omega (
+              arith,
+              counted-answer b w r.answer text p answers,
+              counted-chosen r.acts (first_stage w) n text p (first-left w text p at) chosen,
+              le-most (plus one (plus a made)) (calls_at table.states table.states b w (Some state)) n paid,
+              plus-most one (plus a made) n,
+              plus-most a made n,
+            )
       ] own fit
 
   -- the state that a call returns costs what was counted for it
@@ -242,14 +224,12 @@ module _ {W R D : Type 0} (table : Table W R D) (g : Given) (late : Bool) where
       unsaved-costs Nok is = omega arith
       unsaved-costs a is = absurd (cc)
 
-      attempt-goes : fits_choice table.states f Attempt c.ok c.nok ≡ true → may_go_on table.states f f.waits c.nok ≡ true
-      attempt-goes fit =
-          let rest = (and_parts (may_go_on table.states f None c.ok) (not (is_void_last (last_or None f.spans)) && may_go_on table.states f f.waits c.nok) fit).1 in
-          (and_parts (not (is_void_last (last_or None f.spans))) (may_go_on table.states f f.waits c.nok) rest).1
-
       badly-costs : (kind : AttemptKind) (b : Bool) (saved : Option Saved) → saves kind c.nok ≡ b → fits_choice table.states f kind c.ok c.nok ≡ true → IsSaved table.class g text k.position (outline k) stack f b saved
           → table_cost table g text (settled_at kind saved Nok k) c.nok ≤ reserve_of table late text c saved
-      badly-costs Attempt true (Some saved) is fit h = let cost = go-costs f f.waits c.nok text (restored (Some saved) k) (attempt-goes fit) in omega (arith, cost)
+      badly-costs Attempt true (Some saved) is fit h =
+          let rest = (and_parts (may_go_on table.states f None c.ok) (not (is_void_last (last_or None f.spans)) && may_go_on table.states f f.waits c.nok) fit).1 in
+          let cost = go-costs f f.waits c.nok text (restored (Some saved) k) (and_parts (not (is_void_last (last_or None f.spans))) (may_go_on table.states f f.waits c.nok) rest).1 in
+          omega (arith, cost)
       badly-costs Attempt false None is fit h = let cost = unsaved-costs c.nok is in omega (arith, cost)
       badly-costs Check true (Some saved) is fit h =
           let cost = go-costs f f.waits c.nok text (restored (Some saved) k) (and_parts (may_go_on table.states f f.waits c.ok) (may_go_on table.states f f.waits c.nok) fit).1 in
@@ -258,30 +238,25 @@ module _ {W R D : Type 0} (table : Table W R D) (g : Given) (late : Bool) where
       badly-costs kind b saved is fit h = absurd h
 
     -- feeding costs nothing
-    fed-byte-costs : (b : Option W) (w : W) (state : StateRows W R D) (text : Text) (p : ℕ) → p < length text.seats → fits_calls table.states b (Some w) state state.calls ≡ true
-        → retry_price table b (Some w) text p (Some state) ≤ next_price table text p (Some state)
-    fed-byte-costs b w state text p inside h =
-        elim state.calls as (λ c. fits_calls table.states b (Some w) state c ≡ true
-        → price_by c (state.own text p) (λ c. at_most (calls_at table.states table.states b (Some w) (Some state)) (length text.seats - p - 1)) ≤ price_by c (state.own text p) (λ c. at_most c (length text.seats - p))) [
-          | None ↦ λ h. omega arith
-          | Some c ↦ λ h.
-              let n = length text.seats - p - 1 in
-              let fed = (and_parts (all_rows (pays_row table.states b (Some w) state) (state.rows b (Some w))) (feeds table.states b (Some w) state c) h).1 in
-              let left : length text.seats - p ≡ n + 1 = omega (arith, inside) in
-              let x = calls_at table.states table.states b (Some w) (Some state) in
-              subst (λ m. at_most x n ≤ at_most c m) (sym left) (fed-most x c n fed)
-        ] h
+    feeds-most : (b w : Option W) (state : StateRows W R D) (c : Calls) (text : Text) (p : ℕ) → Stands w text p → feeds table.states b w state c ≡ true
+        → at_most (calls_at table.states table.states b w (Some state)) (length text.seats - p - 1) ≤ at_most c (length text.seats - p)
+    feeds-most b None state c text p past fed =
+        let none : length text.seats - p ≡ 0 = omega (arith, past) in
+        rw none (omega (arith, leb-true (calls_at table.states table.states b None (Some state)).more c.more fed))
+    feeds-most b (Some w) state c text p inside fed =
+        let n = length text.seats - p - 1 in
+        let left : length text.seats - p ≡ n + 1 = omega (arith, inside) in
+        let x = calls_at table.states table.states b (Some w) (Some state) in
+        subst (λ m. at_most x n ≤ at_most c m) (sym left) (fed-most x c n fed)
 
-    fed-end-costs : (b : Option W) (state : StateRows W R D) (text : Text) (p : ℕ) → length text.seats ≤ p → fits_calls table.states b None state state.calls ≡ true
-        → retry_price table b None text p (Some state) ≤ next_price table text p (Some state)
-    fed-end-costs b state text p past h =
-        elim state.calls as (λ c. fits_calls table.states b None state c ≡ true
-        → price_by c (state.own text p) (λ c. at_most (calls_at table.states table.states b None (Some state)) (length text.seats - p - 1)) ≤ price_by c (state.own text p) (λ c. at_most c (length text.seats - p))) [
+    fed-costs : (b w : Option W) (state : StateRows W R D) (text : Text) (p : ℕ) → Stands w text p → fits_calls table.states b w state state.calls ≡ true
+        → retry_price table b w text p (Some state) ≤ next_price table text p (Some state)
+    fed-costs b w state text p at h =
+        elim state.calls as (λ c. fits_calls table.states b w state c ≡ true
+        → price_by c (state.own text p) (λ c. at_most (calls_at table.states table.states b w (Some state)) (length text.seats - p - 1))
+        ≤ price_by c (state.own text p) (λ c. at_most c (length text.seats - p))) [
           | None ↦ λ h. omega arith
-          | Some c ↦ λ h.
-              let fed = (and_parts (all_rows (pays_row table.states b None state) (state.rows b None)) (feeds table.states b None state c) h).1 in
-              let none : length text.seats - p ≡ 0 = omega (arith, past) in
-              rw none (omega (arith, leb-true (calls_at table.states table.states b None (Some state)).more c.more fed))
+          | Some c ↦ λ h. feeds-most b w state c text p at (and_parts (all_rows (pays_row table.states b w state) (state.rows b w)) (feeds table.states b w state c) h).1
         ] h
 
     feeding : (o : Option (StateRows W R D)) (test : Bool) (text : Text) (k : Configuration R D) (choices : List Choice) (name : Name) → named table.states name ≡ o → nat_lt k.position (length text.seats) ≡ test
@@ -293,13 +268,14 @@ module _ {W R D : Type 0} (table : Table W R D) (g : Given) (late : Bool) where
         let (s, seat) = seat-at text k.position inside in
         let b = before_class table g text k in
         let w = table.class s.byte in
-        rw (e, seat, is) (fed-byte-costs b w state text k.position inside (state-fits table g fit b (Some w) name state is (subst (λ o. is_called_at state.called (class_of table.class (byte_of o)) ≡ true) seat h.spans.called)).1)
+        let called = subst (λ o. is_called_at state.called (class_of table.class (byte_of o)) ≡ true) seat h.spans.called in
+        rw (e, seat, is) (fed-costs b (Some w) state text k.position inside (state-fits table g fit b (Some w) name state is called).1)
     feeding (Some state) false text k choices name is e h =
         let past = ltb-false k.position (length text.seats) e in
         let b = before_class table g text k in
         let none : Option W = None in
         let called : is_called table.states none state ≡ true = subst (λ o. is_called_at state.called (class_of table.class (byte_of o)) ≡ true) (slice_get_past text.seats k.position past) h.spans.called in
-        rw (e, is) (fed-end-costs b state text k.position past (state-fits table g fit b None name state is called).1)
+        rw (e, is) (fed-costs b None state text k.position past (state-fits table g fit b None name state is called).1)
 
     -- Calls, feeding and choices are paid for
     pub calls-pay : (text : Text) (k : Configuration R D) (choices : List Choice) (name : Name) → IsText g text → table_holds table g text k choices (Retry name)
@@ -312,7 +288,7 @@ module _ {W R D : Type 0} (table : Table W R D) (g : Given) (late : Bool) where
         let s = sight g text k in
         let k1 = with_local k (table.first k.local) in
         let r = row_of table g text k c.state in
-        let answer = answer-costs _ b w _ r.answer text k (left_by table g text k c.state) c.fits_it c.shape.far in
+        let answer = answer-costs _ b w _ r.answer text k (left_by table g text k c.state) c.fits_it c.shape.reads.0 in
         let made = choices-cost r.acts text s k1 [] in
         let seen = waits-at table g k.waiting text k.position k.ended h.1.0 in
         let paid = (named-in (ArePaid table late) (λ y. PaysRows table late y y.calls) (λ x xs h. h) table.states name c.state fit.paid c.is).0 in
@@ -340,19 +316,14 @@ every-falls : (a : State) → falls_on every a ≡ true
 every-falls (Next name) = refl
 every-falls a = refl
 
--- what was saved is not after the current position
-is-behind : {W : Type 0} (class : ℕ → W) (g : Given) (text : Text) (p : ℕ) (events : List Event) (stack : List EventName) (f : Frame W) (b : Bool) (saved : Option Saved) → IsSaved class g text p events stack f b saved
-    → IfSome saved (λ saved. behind false saved.position ≤ p)
-is-behind class g text p events stack f true (Some saved) h = h.behind
-is-behind class g text p events stack f false None h = tt
-is-behind class g text p events stack f b saved h = absurd h
-
 pub table-cost_pays : {W R D : Type 0} (table : Table W R D) (g : Given) → IsFit table → CostPays g (table_rules table g)
 table-cost_pays table g fit = record {
   for_calls = λ text k choices name is h. calls-pay table g false fit text k choices name is h;
   for_feeding = λ text k choices name is h. feeding-pays table g false fit text k choices name h;
   for_ok = λ text k choice choices is h.
       let w = h.1.waiting.0 in
-      ok-pays table g false fit text k choice choices h (every-falls choice.ok) (is-behind table.class g text k.position (outline k) h.1.base w.frame (saves choice.kind choice.nok) choice.saved w.saved) (goes-back choice.kind);
+      let behind_it = if-saved table.class table.states g text (λ saved. behind false saved.position ≤ k.position) h.1.base w.frame k.position (outline k) (λ s h. h.behind)
+      (saves choice.kind choice.nok) choice.saved w.saved in
+      ok-pays table g false fit text k choice choices h (every-falls choice.ok) behind_it (goes-back choice.kind);
   for_nok = λ text k choice choices is h. nok-pays table g false fit text k choice choices h;
 }

@@ -1,6 +1,6 @@
 -- The invariant of a table: if it holds before a call, it holds at the state returned, once that is fed, when a choice ends, and when the
 -- text goes on.
-use Rattle.mdconstructs_tables.proofs.Prelude.{◌≡◌, ◌≢◌, ℕ, zero, suc, ◌≤◌, ◌&&◌, ◌||◌, not, List, [], ◌∷◌, ◌++◌, Bool, true, false, Option, Some, None, length, map, refl, sym, ap, ◌∙◌, subst, arith, ◌⊎◌, inl, inr, take, drop, All, IfSome, nat_lt, last_or, ltb-true, ltb-false, and_parts, not-true, append-nil, take-append-drop, take-map, slice_get_past, All-nil, All-cons, All-head, All-tail, Point, Name, State, Next, Retry, Ok, Nok, Error, unlinked, stands_before, or-leads, Waits, Nothing, Byte, End, AttemptKind, Attempt, Check, Given, Text, IsText, empty_text, Configuration, Local, Choice, Saved, start_configuration, Sight, sight, sight_in, current_of, seat_before, byte_of, consumed, with_local, fed, unfed, restored, settled_at, IsAsFar, begins-before_end, began-before_next, ends-before_next, upto-before, Row, Begun, before, at_byte, here, Called, anywhere, at_a_byte, at_bytes, Needs, nothing, StateRows, Table, class_of, does, chooses, row_at, named, is_void_last, saves, Stage, end_waits, byte_waits, byte_read, Shape, Frame, after_all, is_at, is_end, is_fresh, is_fresh_fed, fresh_at, fresh_fed, needs_choice, is_called_at, is_some, may_go_on, fits_choice, fits_answer, fits_calls, start_shape, first_stage, is_bare, may_start, outline, EndsWithEnter, Began, upto, since, IsOpen, SightIsInOrder, IsFed, exit_place_at, class_in, is_read, AnyWait, IsSavedIn, IsSaved, position_of, events_saved, IsBelow, AreWaiting, began_at, IsStateAt, HoldsAt, EventName}
+use Rattle.mdconstructs_tables.proofs.Prelude.{◌≡◌, ◌≢◌, ℕ, zero, suc, ◌≤◌, ◌&&◌, ◌||◌, not, List, [], ◌∷◌, ◌++◌, Bool, true, false, Option, Some, None, length, get_or, map, refl, sym, ap, ◌∙◌, subst, arith, ◌⊎◌, inl, inr, take, drop, All, IfSome, nat_lt, last_or, ltb-true, ltb-false, and_parts, not-true, append-nil, take-append-drop, take-map, slice_get_past, All-nil, All-tail, Point, Name, State, Next, Retry, Ok, Nok, Error, unlinked, stands_before, or-leads, Waits, Nothing, Byte, End, AttemptKind, Attempt, Check, Given, Text, IsText, empty_text, Configuration, Local, Choice, Saved, start_configuration, Sight, sight, sight_in, current_of, seat_before, byte_of, consumed, with_local, fed, unfed, restored, settled_at, IsAsFar, begins-before_end, began-before_next, ends-before_next, upto-before, Row, Begun, before, at_byte, here, Called, anywhere, at_a_byte, at_bytes, Needs, nothing, StateRows, Table, class_of, does, chooses, row_at, named, is_void_last, saves, Stage, end_waits, byte_waits, byte_read, Shape, Frame, after_all, is_at, is_end, is_fresh, is_fresh_fed, fresh_at, fresh_fed, needs_choice, is_called_at, is_some, may_go_on, fits_choice, fits_answer, fits_calls, start_shape, first_stage, is_bare, may_start, outline, EndsWithEnter, Began, upto, since, IsOpen, SightIsInOrder, IsFed, exit_place_at, class_in, is_read, AnyWait, IsSavedIn, IsSaved, position_of, events_saved, IsBelow, AreWaiting, began_at, IsStateAt, HoldsAt, EventName}
 use Rattle.mdconstructs_tables.proofs.Rows.Laws.{same_names-true, Waited, reached, IsSeenAhead, sight_at, HasShape, to-before, before-is-upto, began-on, left-at}
 use Rattle.mdconstructs_tables.proofs.GrowingTexts.{seat-at, Extends, waits-longer}
 use Rattle.mdconstructs_tables.proofs.Tables.Waiting.{more-waiting, all-below, place-kept, class-kept, waiting-longer}
@@ -46,9 +46,9 @@ module _ {W R D : Type 0} (table : Table W R D) (g : Given) where
   pub begins : (b w : Option W) (text : Text) (k : Configuration R D) (local : Local R D) (base : List EventName) (choices : List Choice) (state : StateRows W R D) → is_some b ≡ is_read k.position
       → Waited (first_stage w) text k → IsOpen table.class state base (began_at w state (sight g text k)) text k choices → HasShape (start_shape b w state) base (sight g text k) g text k (with_local k local) choices
   begins b None text k local base choices state read met o =
-      record { stack = o.stack; began = o.began; bare = o.void; far = (refl, refl, refl); waited = met; below = o.below; within = λ is. o.needs (ap (needs_choice state.needs) (sym read) ∙ is) }
+      record { stack = o.stack; began = o.began; bare = o.void; reads = ((refl, refl, refl), met); waits = (o.below, λ is. o.needs (ap (needs_choice state.needs) (sym read) ∙ is)) }
   begins b (Some w) text k local base choices state read met o =
-      record { stack = o.stack; began = o.began; bare = o.void; far = (refl, refl, refl); waited = met; below = o.below; within = λ is. o.needs (ap (needs_choice state.needs) (sym read) ∙ is) }
+      record { stack = o.stack; began = o.began; bare = o.void; reads = ((refl, refl, refl), met); waits = (o.below, λ is. o.needs (ap (needs_choice state.needs) (sym read) ∙ is)) }
 
   pub ahead-at : (w : Option W) (text : Text) (k : Configuration R D) → Waited (first_stage w) text k → SightIsInOrder k.waiting (sight g text k) → IsSeenAhead (first_stage w) (sight g text k)
   ahead-at None text k met order = record { begins = λ e. absurd (cc); later = λ q h. before-is-upto (sight g text k).exit_place q h }
@@ -61,15 +61,6 @@ module _ {W R D : Type 0} (table : Table W R D) (g : Given) where
   -- if as much was read and the same waits, the same is seen
   pub stays : (text : Text) (k k' : Configuration R D) → IsAsFar k' k → sight g text k' ≡ sight g text k
   stays text k k' far = rw (far.0, far.1) refl
-
-  stays-in-order : (text : Text) (k k' : Configuration R D) → IsAsFar k' k → SightIsInOrder k.waiting (sight g text k) → SightIsInOrder k'.waiting (sight g text k')
-  stays-in-order text k k' far order = rw (far.0, far.1) order
-
-  stays-open : (o : Option (StateRows W R D)) (w : Option W) (text : Text) (k k' : Configuration R D) (choices : List Choice) → IsAsFar k' k → of_class text k ≡ w
-      → IsStateAt table g text o (λ state. began_at w state (sight g text k)) k' choices → IsStateAt table g text o (λ state. began_at (of_class text k') state (sight g text k')) k' choices
-  stays-open o w text k k' choices far class h =
-      subst (λ s. IsStateAt table g text o (λ state. began_at (class_of table.class s.current) state s) k' choices) (sym (stays text k k' far))
-      (subst (λ v. IsStateAt table g text o (λ state. began_at v state (sight g text k)) k' choices) (sym class) h)
 
   -- what is known of what waits is next in the text
   abbrev IsNext : Text → ℕ → Option W → Type 0
@@ -175,10 +166,11 @@ module _ {W R D : Type 0} (table : Table W R D) (g : Given) where
       let f : (not p.fresh || fresh_at state.begun w) ≡ true = subst (λ o. (not p.fresh || is_fresh table.states w o) ≡ true) e fresh in
       began-on (since p.fresh (first_stage w) s) (began_at w state s) (outline k') (λ q. since-fits p.fresh (fresh_at state.begun w) (first_stage w) s q (ahead.later q) f) began in (
         rw (far.0, far.1, far.2) waits,
-        stays-in-order text k k' far order,
-        stays-open o w text k k' choices far class
-            (at-state p.spans p.within w (is_some b) o (λ state. began_at w state s) text k' above choices shaped h.stack there (λ v. h.bare (or-leads (is_void_last (last_or None p.spans)) p.bare bare v)) waiting h.within
-            (λ n e. ap (needs_choice n) (read ∙ ap is_read (sym far.0)) ∙ e) next),
+        rw (far.0, far.1) order,
+        subst (λ s. IsStateAt table g text o (λ state. began_at (class_of table.class s.current) state s) k' choices) (sym (stays text k k' far))
+            (subst (λ v. IsStateAt table g text o (λ state. began_at v state s) k' choices) (sym class)
+            (at-state p.spans p.within w (is_some b) o (λ state. began_at w state s) text k' above choices shaped h.stack there
+            (λ v. h.bare (or-leads (is_void_last (last_or None p.spans)) p.bare bare v)) waiting h.waits.1 (λ n e. ap (needs_choice n) (read ∙ ap is_read (sym far.0)) ∙ e) next)),
       )
 
   -- the invariant holds for the state returned
@@ -190,20 +182,20 @@ module _ {W R D : Type 0} (table : Table W R D) (g : Given) where
       let (names, rest) = and_parts _ _ fit in
       let (old, ends) = and_parts (not p.fresh) (p.within || is_end st) rest in
       let none = same_names-true p.spans [] names in
-      let left = left-at g text k p.stage k' h.far h.waited in
+      let left = left-at g text k p.stage k' h.reads.0 h.reads.1 in
       let s = sight_at p.stage (sight g text k) in
       record {
         base = above;
         stack = h.stack ∙ ap (λ xs. above ++ xs) none ∙ append-nil above;
         began = began-on (since p.fresh p.stage s) (upto false (sight g text k').exit_place) (outline k') (λ q b. subst (λ x. stands_before q x ≡ true) (sym left) (to-before p.fresh p.stage s q old b)) h.began;
         waiting = waiting;
-        ended = any-or-ended p.within (is_end st) choices k'.ended ends h.within (ended-at st text k k' (rw at at h.far) (rw at at h.waited));
+        ended = any-or-ended p.within (is_end st) choices k'.ended ends h.waits.1 (ended-at st text k k' (rw at at h.reads.0) (rw at at h.reads.1));
       }
-  answered st b w p above Nok text k k' choices read waits order class met fit at h waiting = record { base = above; waiting = waiting; any = h.within fit }
+  answered st b w p above Nok text k k' choices read waits order class met fit at h waiting = record { base = above; waiting = waiting; any = h.waits.1 fit }
   answered st b w p above (Error message) text k k' choices read waits order class met fit at h waiting = tt
   answered byte_read b w p above (Next name) text k k' choices read waits order class met fit at h waiting =
-      let far = rw at at h.far in
-      let can = rw at at h.waited in
+      let far = rw at at h.reads.0 in
+      let can = rw at at h.reads.1 in
       let s = sight g text k in
       let o = named table.states name in
       let (bare, rest) = and_parts (is_bare p) _ fit in
@@ -213,12 +205,12 @@ module _ {W R D : Type 0} (table : Table W R D) (g : Given) where
       let f : (not p.fresh || fresh_fed state.begun) ≡ true = subst (λ o. (not p.fresh || is_fresh_fed table.states o) ≡ true) e fresh in
       began-on (upto p.fresh s.next) (upto (fresh_fed state.begun) (sight g text k').exit_place) (outline k') (λ q b. subst (λ x. upto (fresh_fed state.begun) x q ≡ true) (sym left) (upto-fits p.fresh (fresh_fed state.begun) s.next q f b)) (rw at at h.began) in
       let read_on : (n : Needs) → needs_choice n (is_read k'.position) ≡ true → needs_choice n true ≡ true = λ n. needs-more n (is_read k'.position) in
-      (far.1, at-state p.spans p.within None true o (λ state. upto (fresh_fed state.begun) (exit_place_at g text k'.position)) text k' above choices shaped h.stack began (λ v. h.bare (or-leads (is_void_last (last_or None p.spans)) p.bare bare v)) waiting h.within read_on (λ v e. absurd (cc)))
+      (far.1, at-state p.spans p.within None true o (λ state. upto (fresh_fed state.begun) (exit_place_at g text k'.position)) text k' above choices shaped h.stack began (λ v. h.bare (or-leads (is_void_last (last_or None p.spans)) p.bare bare v)) waiting h.waits.1 read_on (λ v e. absurd (cc)))
   answered byte_waits b (Some w) p above (Retry name) text k k' choices read waits order class met fit at h waiting =
-      retried b (Some w) p above name text k k' choices read waits order class (ahead-at (Some w) text k met order) (rw at at h.far) fit (rw at at h.began) h waiting
-      (λ v e. ap (class_in table.class text) (rw at at h.far).0 ∙ subst (λ x. class_of table.class (current_of text k.position x) ≡ Some w) met.0 class ∙ e)
+      retried b (Some w) p above name text k k' choices read waits order class (ahead-at (Some w) text k met order) (rw at at h.reads.0) fit (rw at at h.began) h waiting
+      (λ v e. ap (class_in table.class text) (rw at at h.reads.0).0 ∙ subst (λ x. class_of table.class (current_of text k.position x) ≡ Some w) met.0 class ∙ e)
   answered end_waits b None p above (Retry name) text k k' choices read waits order class met fit at h waiting =
-      retried b None p above name text k k' choices read waits order class (ahead-at None text k met order) (rw at at h.far) fit (rw at at h.began) h waiting (λ v e. absurd (cc))
+      retried b None p above name text k k' choices read waits order class (ahead-at None text k met order) (rw at at h.reads.0) fit (rw at at h.began) h waiting (λ v e. absurd (cc))
   answered st b w p above a text k k' choices read waits order class met fit at h waiting = absurd (cc)
 
   -- if the text goes on, the invariant at a state returned still holds
@@ -415,8 +407,4 @@ module _ {W R D : Type 0} (table : Table W R D) (g : Given) where
   pub keeps-all : (old new : List EventName) (made cs : List Choice) → All (λ c. IfSome c.saved (λ s. take (length s.stack) new ≡ s.stack)) (made ++ cs)
       → All (λ c. IfSome c.saved (λ s. take (length s.stack) old ≡ s.stack)) cs → All (KeepsStack old new) cs
   keeps-all old new (c ∷ made) cs a b = keeps-all old new made cs (All-tail (λ c. IfSome c.saved (λ s. take (length s.stack) new ≡ s.stack)) c (made ++ cs) a) b
-  keeps-all old new [] [] a b = All-nil (KeepsStack old new)
-  keeps-all old new [] (c ∷ cs) a b =
-      let P = λ (c : Choice). IfSome c.saved (λ s. take (length s.stack) new ≡ s.stack) in
-      let Q = λ (c : Choice). IfSome c.saved (λ s. take (length s.stack) old ≡ s.stack) in
-      All-cons (KeepsStack old new) c cs (keeps-one old new c.saved (All-head P c cs a) (All-head Q c cs b)) (keeps-all old new [] cs (All-tail P c cs a) (All-tail Q c cs b))
+  keeps-all old new [] cs a b = λ i d l. keeps-one old new (get_or cs i d).saved (a i d l) (b i d l)

@@ -1,6 +1,6 @@
 -- The laws of two machines in one, from the laws of each.
 use Rattle.mdconstructs_tables.proofs.Rows.Misfits.{none-left}
-use Rattle.mdconstructs_tables.proofs.Prelude.{◌≡◌, ◌+◌, ◌≤◌, inl, inr, List, [], ◌∷◌, ◌++◌, Bool, true, false, cond, Option, Some, None, refl, sym, ap, ◌∙◌, subst, arith, ◌==◌, sum_by, nat_tests, Contains-append_cases, false_from_ne_true, Point, Name, State, Next, Retry, Ok, Nok, Given, Text, IsText, Configuration, Choice, Step, sight, Rules, ForEachCall, ConsumesOnce, OnlyAdds, EndsWhenRead, KeepsInvariant, CostPays, ResolversKeep, StateRows, Table, named, is_some, IsStateAt, table_holds, AreApart, has_state, joined_cost, joined_rules, cond_both, map, length, All, IfSome, take, unlinked}
+use Rattle.mdconstructs_tables.proofs.Prelude.{◌≡◌, ◌≢◌, ◌⊎◌, ◌+◌, ◌≤◌, inl, inr, List, [], ◌∷◌, ◌++◌, Bool, true, false, cond, Option, Some, None, refl, sym, ap, ◌∙◌, subst, arith, ◌==◌, sum_by, nat_tests, Contains-append_cases, false_from_ne_true, Point, Name, State, Next, Retry, Ok, Nok, Given, Text, IsText, Configuration, Choice, Step, sight, Rules, ForEachCall, IsLawful, IsAsFar, consumed, Byte, StateRows, Table, named, is_some, IsStateAt, table_holds, AreApart, has_state, joined_cost, joined_rules, cond_both, map, length, All, IfSome, take, unlinked}
 
 module _ {R D : Type 0} (is_first : Name → Bool) (g : Given) (first second : Rules R D) (apart : AreApart is_first first second) where
   abbrev both : Rules R D
@@ -25,41 +25,6 @@ module _ {R D : Type 0} (is_first : Name → Bool) (g : Given) (first second : R
   each-call P one other text k choices name is (inr h) =
       subst (λ b. P text k choices name (cond b (first.step (sight g text k) k name) (second.step (sight g text k) k name))) (sym (apart.second_called text k choices name h)) (other text k choices name is h)
 
-  pub joined-consumes_once : ConsumesOnce g first → ConsumesOnce g second → ConsumesOnce g both
-  joined-consumes_once one other text k choices name is (inl h) = let e = apart.first_called text k choices name h in rw e (one text k choices name is h)
-  joined-consumes_once one other text k choices name is (inr h) = let e = apart.second_called text k choices name h in rw e (other text k choices name is h)
-
-  pub joined-only_adds : OnlyAdds g first → OnlyAdds g second → OnlyAdds g both
-  joined-only_adds one other = record {
-    events = each-call (λ text k choices name s. map unlinked (take (length k.events) s.configuration.events) ≡ map unlinked k.events) one.events other.events;
-    stack = each-call (λ text k choices name s. All (λ c. IfSome c.saved (λ v. take (length v.stack) s.configuration.stack ≡ take (length v.stack) k.stack)) choices) one.stack other.stack;
-  }
-
-  pub joined-ends_when_read : EndsWhenRead g first → EndsWhenRead g second → EndsWhenRead g both
-  joined-ends_when_read one other = record {
-    nok = λ text k is h. elim h [ inl h ↦ one.nok text k is h | inr h ↦ other.nok text k is h ];
-    ok = λ text k is h. elim h [ inl h ↦ one.ok text k is h | inr h ↦ other.ok text k is h ];
-  }
-
-  pub joined-invariant_kept : KeepsInvariant g first → KeepsInvariant g second → KeepsInvariant g both
-  joined-invariant_kept one other = record {
-    at_starts = λ p flag name is start. elim (Contains-append_cases first.starts second.starts name start) [
-      | inl start ↦ inl (one.at_starts p flag name is start)
-      | inr start ↦ inr (other.at_starts p flag name is start)
-    ];
-    unfed = λ text k choices name is h. elim h [ inl h ↦ one.unfed text k choices name is h | inr h ↦ other.unfed text k choices name is h ];
-    waits = λ text k choices name is h. elim h [ inl h ↦ one.waits text k choices name is h | inr h ↦ other.waits text k choices name is h ];
-    by_feeding = λ text k choices name is h. elim h [ inl h ↦ inl (one.by_feeding text k choices name is h) | inr h ↦ inr (other.by_feeding text k choices name is h) ];
-    by_calls = each-call (λ text k choices name s. both.holds text s.configuration (s.choices ++ choices) s.answer)
-        (λ text k choices name is h. inl (one.by_calls text k choices name is h)) (λ text k choices name is h. inr (other.by_calls text k choices name is h));
-    by_ok = λ text k choice choices is h. elim h [ inl h ↦ inl (one.by_ok text k choice choices is h) | inr h ↦ inr (other.by_ok text k choice choices is h) ];
-    by_nok = λ text k choice choices is h. elim h [ inl h ↦ inl (one.by_nok text k choice choices is h) | inr h ↦ inr (other.by_nok text k choice choices is h) ];
-    by_pieces = λ text piece k choices state is fits fresh h. elim h [
-      | inl h ↦ inl (one.by_pieces text piece k choices state is fits fresh h)
-      | inr h ↦ inr (other.by_pieces text piece k choices state is fits fresh h)
-    ];
-  }
-
   -- what goes on costs no more than in its own machine
   first-costs : (text : Text) (k : Configuration R D) (choices : List Choice) (state : State) → first.holds text k choices state → joined_cost is_first first second text k state ≤ first.cost text k state
   first-costs text k choices (Next name) h = let e = apart.first_fed text k choices name h in rw e (omega arith)
@@ -71,49 +36,73 @@ module _ {R D : Type 0} (is_first : Name → Bool) (g : Given) (first second : R
   second-costs text k choices (Retry name) h = let e = apart.second_called text k choices name h in rw e (omega arith)
   second-costs text k choices state h = omega arith
 
-  first-price : (text : Text) (k : Configuration R D) (choices : List Choice) (name : Name) → first.holds text k choices (Retry name) → first.cost text k (Retry name) ≡ joined_cost is_first first second text k (Retry name)
-  first-price text k choices name h = ap (λ b. cond b (first.cost text k (Retry name)) (second.cost text k (Retry name))) (sym (apart.first_called text k choices name h))
-
-  second-price : (text : Text) (k : Configuration R D) (choices : List Choice) (name : Name) → second.holds text k choices (Retry name) → second.cost text k (Retry name) ≡ joined_cost is_first first second text k (Retry name)
-  second-price text k choices name h = ap (λ b. cond b (first.cost text k (Retry name)) (second.cost text k (Retry name))) (sym (apart.second_called text k choices name h))
-
-  module _ (one : KeepsInvariant g first) (other : KeepsInvariant g second) where
-    pub joined-cost_pays : CostPays g first → CostPays g second → CostPays g both
-    joined-cost_pays pays others = record {
+  pub joined-lawful : IsLawful g first → IsLawful g second → IsLawful g both
+  joined-lawful one other = record {
+    consumes_once = each-call
+        (λ text k choices name s. (IsAsFar s.configuration k × ((n : Name) → s.answer ≢ Next n)) ⊎ ((k.waiting ≡ Byte) × IsAsFar s.configuration (consumed k) × ((n : Name) → s.answer ≢ Retry n)))
+        one.consumes_once other.consumes_once;
+    only_adds = record {
+      events = each-call (λ text k choices name s. map unlinked (take (length k.events) s.configuration.events) ≡ map unlinked k.events) one.only_adds.events other.only_adds.events;
+      stack = each-call (λ text k choices name s. All (λ c. IfSome c.saved (λ v. take (length v.stack) s.configuration.stack ≡ take (length v.stack) k.stack)) choices)
+          one.only_adds.stack other.only_adds.stack;
+    };
+    ends_when_read = record {
+      nok = λ text k is h. elim h [ inl h ↦ one.ends_when_read.nok text k is h | inr h ↦ other.ends_when_read.nok text k is h ];
+      ok = λ text k is h. elim h [ inl h ↦ one.ends_when_read.ok text k is h | inr h ↦ other.ends_when_read.ok text k is h ];
+    };
+    invariant_kept =
+        let kept = one.invariant_kept in
+        let keeps = other.invariant_kept in record {
+          at_starts = λ p flag name is start. elim (Contains-append_cases first.starts second.starts name start) [
+            | inl start ↦ inl (kept.at_starts p flag name is start)
+            | inr start ↦ inr (keeps.at_starts p flag name is start)
+          ];
+          unfed = λ text k choices name is h. elim h [ inl h ↦ kept.unfed text k choices name is h | inr h ↦ keeps.unfed text k choices name is h ];
+          waits = λ text k choices name is h. elim h [ inl h ↦ kept.waits text k choices name is h | inr h ↦ keeps.waits text k choices name is h ];
+          by_feeding = λ text k choices name is h. elim h [ inl h ↦ inl (kept.by_feeding text k choices name is h) | inr h ↦ inr (keeps.by_feeding text k choices name is h) ];
+          by_calls = each-call (λ text k choices name s. both.holds text s.configuration (s.choices ++ choices) s.answer)
+              (λ text k choices name is h. inl (kept.by_calls text k choices name is h)) (λ text k choices name is h. inr (keeps.by_calls text k choices name is h));
+          by_ok = λ text k choice choices is h. elim h [ inl h ↦ inl (kept.by_ok text k choice choices is h) | inr h ↦ inr (keeps.by_ok text k choice choices is h) ];
+          by_nok = λ text k choice choices is h. elim h [ inl h ↦ inl (kept.by_nok text k choice choices is h) | inr h ↦ inr (keeps.by_nok text k choice choices is h) ];
+          by_pieces = λ text piece k choices state is fits fresh h. elim h [
+            | inl h ↦ inl (kept.by_pieces text piece k choices state is fits fresh h)
+            | inr h ↦ inr (keeps.by_pieces text piece k choices state is fits fresh h)
+          ];
+        };
+    cost_pays = record {
       for_calls = each-call (λ text k choices name s. 1 + (both.cost text s.configuration s.answer + sum_by (both.reserve text) s.choices) ≤ both.cost text k (Retry name))
           (λ text k choices name is h.
           let s = first.step (sight g text k) k name in
-          let after = one.by_calls text k choices name is h in
+          let after = one.invariant_kept.by_calls text k choices name is h in
           let none = (none-left s.choices choices (apart.no_choice text s.configuration (s.choices ++ choices) s.answer after)).0 in
-          omega (arith, pays.for_calls text k choices name is h, first-costs text s.configuration (s.choices ++ choices) s.answer after, first-price text k choices name h, ap (sum_by (second.reserve text)) none))
+          let e = apart.first_called text k choices name h in
+          rw e (omega (arith, one.cost_pays.for_calls text k choices name is h, first-costs text s.configuration (s.choices ++ choices) s.answer after, ap (sum_by (second.reserve text)) none)))
           (λ text k choices name is h.
           let s = second.step (sight g text k) k name in
-          let after = other.by_calls text k choices name is h in
-          omega (arith, others.for_calls text k choices name is h, second-costs text s.configuration (s.choices ++ choices) s.answer after, second-price text k choices name h));
+          let after = other.invariant_kept.by_calls text k choices name is h in
+          let e = apart.second_called text k choices name h in
+          rw e (omega (arith, other.cost_pays.for_calls text k choices name is h, second-costs text s.configuration (s.choices ++ choices) s.answer after)));
       for_feeding = λ text k choices name is h. elim h [
-        | inl h ↦ let e = apart.first_fed text k choices name h in rw e (pays.for_feeding text k choices name is h)
-        | inr h ↦ let e = apart.second_fed text k choices name h in rw e (others.for_feeding text k choices name is h)
+        | inl h ↦ let e = apart.first_fed text k choices name h in rw e (one.cost_pays.for_feeding text k choices name is h)
+        | inr h ↦ let e = apart.second_fed text k choices name h in rw e (other.cost_pays.for_feeding text k choices name is h)
       ];
       for_ok = λ text k choice choices is h. elim h [
         | inl h ↦ let none = apart.no_choice text k (choice ∷ choices) Ok h in absurd (cc)
-        | inr h ↦ omega (arith, others.for_ok text k choice choices is h, second-costs text _ choices choice.ok (other.by_ok text k choice choices is h))
+        | inr h ↦ omega (arith, other.cost_pays.for_ok text k choice choices is h, second-costs text _ choices choice.ok (other.invariant_kept.by_ok text k choice choices is h))
       ];
       for_nok = λ text k choice choices is h. elim h [
         | inl h ↦ let none = apart.no_choice text k (choice ∷ choices) Nok h in absurd (cc)
-        | inr h ↦ omega (arith, others.for_nok text k choice choices is h, second-costs text _ choices choice.nok (other.by_nok text k choice choices is h))
+        | inr h ↦ omega (arith, other.cost_pays.for_nok text k choice choices is h, second-costs text _ choices choice.nok (other.invariant_kept.by_nok text k choice choices is h))
       ];
-    }
-
-  pub joined-resolvers_keep : ResolversKeep g first → ResolversKeep g second → ResolversKeep g both
-  joined-resolvers_keep one other = record {
-    at_end = λ text k is formed h. elim h [ inl h ↦ inl (one.at_end text k is formed h) | inr h ↦ inr (other.at_end text k is formed h) ];
-    by_resolvers = λ text r rs k new more is h e. elim h [
-      | inl h ↦ let kept = one.by_resolvers text r rs k new more is h e in (inl kept.0, kept.1, kept.2)
-      | inr h ↦
-          let kept = other.by_resolvers text r rs k new more is h (ap (λ f. f (sight g text k) k r) apart.one_resolver ∙ e) in
-          (inr kept.0, kept.1, kept.2)
-    ];
-    at_last = λ text k is h. elim h [ inl h ↦ one.at_last text k is h | inr h ↦ other.at_last text k is h ];
+    };
+    resolvers_keep = record {
+      at_end = λ text k is formed h. elim h [ inl h ↦ inl (one.resolvers_keep.at_end text k is formed h) | inr h ↦ inr (other.resolvers_keep.at_end text k is formed h) ];
+      by_resolvers = λ text r rs k new more is h e. elim h [
+        | inl h ↦ let kept = one.resolvers_keep.by_resolvers text r rs k new more is h e in (inl kept.0, kept.1, kept.2)
+        | inr h ↦ let kept = other.resolvers_keep.by_resolvers text r rs k new more is h (ap (λ f. f (sight g text k) k r) apart.one_resolver ∙ e) in (inr kept.0, kept.1, kept.2)
+      ];
+      at_last = λ text k is h. elim h [ inl h ↦ one.resolvers_keep.at_last text k is h | inr h ↦ other.resolvers_keep.at_last text k is h ];
+    };
   }
 
 -- No state of the first list has a name of the second's

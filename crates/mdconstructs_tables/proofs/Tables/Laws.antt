@@ -1,6 +1,6 @@
 -- The laws of a machine whose table passes the test.
-use Rattle.mdconstructs_tables.proofs.Prelude.{◌≡◌, ◌≢◌, ◌≤◌, List, [], ◌++◌, Bool, true, Option, Some, None, length, map, refl, sym, ap, ◌∙◌, subst, arith, ◌⊎◌, inl, inr, take, length-append, All, IfSome, Contains, nat_lt, flat_map, take-append_seam, and_parts, take-map, length-map, All-contains, Event, Name, Next, Retry, Ok, Nok, unlinked, Byte, Given, Text, IsText, followed_by, Configuration, Choice, Step, Sight, sight, consumed, with_local, IsAsFar, ConsumesOnce, OnlyAdds, EndsWhenRead, KeepsInvariant, Rows, row, when, Row, StateRows, Table, with_choice_of, chooses, picked, step_of, row_at, named, step_at, table_step, IsFitBy, named_misfit, named_start, saves, allows_all, is_called_at, is_called, fits_choices, fits_row, fits_calls, start_shape, all_rows, may_start, outline, SightIsInOrder, IsFed, class_in, began_at, IsStateAt, HoldsAt, table_holds, table_rules, cond_both, EventName}
-use Rattle.mdconstructs_tables.proofs.Rows.Misfits.{none-left, none-made, named-none, fits-unnamed, starts-unnamed}
+use Rattle.mdconstructs_tables.proofs.Prelude.{◌≡◌, ◌≢◌, ◌≤◌, List, [], ◌++◌, Bool, true, Option, Some, None, length, map, refl, sym, ap, ◌∙◌, subst, arith, ◌⊎◌, inl, inr, take, length-append, All, IfSome, nat_lt, flat_map, take-append_seam, and_parts, take-map, length-map, All-contains, Name, Next, Retry, Ok, Nok, unlinked, Byte, Given, Text, IsText, followed_by, Configuration, Choice, Step, Sight, sight, consumed, with_local, IsAsFar, ConsumesOnce, OnlyAdds, EndsWhenRead, KeepsInvariant, Rows, row, when, Row, StateRows, Table, with_choice_of, chooses, picked, step_of, row_at, named, step_at, table_step, IsFitBy, misfit, named_misfit, named_start, acts_fit, spans_fit, choices_fit, saves, allows_all, is_called_at, is_called, fits_choices, fits_row, fits_calls, start_shape, all_rows, may_start, outline, SightIsInOrder, IsFed, began_at, IsStateAt, HoldsAt, table_holds, table_rules, cond_both, EventName}
+use Rattle.mdconstructs_tables.proofs.Rows.Misfits.{none-left, none-made, named-in, all-passed, called-none, starts-none}
 use Rattle.mdconstructs_tables.proofs.Rows.Laws.{below_all, has-after-all, chooses-append, adds-all}
 use Rattle.mdconstructs_tables.proofs.GrowingTexts.{fed-position, extends}
 use Rattle.mdconstructs_tables.proofs.Tables.Waiting.{all-front, waits-after-all}
@@ -18,13 +18,11 @@ module _ {W R D : Type 0} (table : Table W R D) (g : Given) {late : Bool} {falli
   pub state-fits : (b w : Option W) (name : Name) (state : StateRows W R D) → named table.states name ≡ Some state → is_called table.states w state ≡ true
       → (all_rows (fits_row table.states b w state) (state.rows b w) ≡ true) × (fits_calls table.states b w state state.calls ≡ true)
   state-fits b w name state is called =
-      let none = none-left (flat_map (named_misfit table.states b w) table.states) (flat_map (named_start table.states) table.starts) (fit.fits b w) in
-      fits-unnamed table.states b w state called (named-none (named_misfit table.states b w) table.states name state none.0 is)
-
-  -- a state is called where what waits is what it is called at
-  called-at : (text : Text) (k : Configuration R D) (state : StateRows W R D) → IsFed k.waiting k.position k.ended text → is_called_at state.called (class_in table.class text k.position) ≡ true
-      → is_called table.states (of_class table g text k) state ≡ true
-  called-at text k state fed called = subst (λ w. is_called_at state.called w ≡ true) (waits-at table g k.waiting text k.position k.ended fed) called
+      let f = named_misfit table.states b w in
+      let none = none-left (flat_map f table.states) (flat_map (named_start table.states) table.starts) (fit.fits b w) in
+      let its_none = (named-in (λ l. flat_map f l ≡ []) (λ x. f x ≡ []) (λ x xs. none-left (f x) (flat_map f xs)) table.states name state none.0 is).0 in
+      all-passed (acts_fit table.states b w state) (spans_fit table.states b w state) (choices_fit table.states b w state) (all_rows (fits_row table.states b w state) (state.rows b w))
+      (fits_calls table.states b w state state.calls) (called-none (is_called table.states w state) state.name (misfit table.states b w state) called its_none)
 
   module _ (text : Text) (k : Configuration R D) (choices : List Choice) (name : Name) (inside : k.position ≤ length text.seats) (waits : IsFed k.waiting k.position k.ended text)
       (order : SightIsInOrder k.waiting (sight g text k)) where
@@ -38,7 +36,7 @@ module _ {W R D : Type 0} (table : Table W R D) (g : Given) {late : Bool} {falli
         let r = row_at table.class state g s k1 in
         let met = met-at table g text k k.waiting refl waits in
         let read = read-before table g text k.position inside in
-        let at_it = called-at text k state waits h.spans.called in
+        let at_it = subst (λ w. is_called_at state.called w ≡ true) (waits-at table g k.waiting text k.position k.ended waits) h.spans.called in
         let (rows_fit, paid) = state-fits b w name state is at_it in
         let (allowed, more) = and_parts (allows_all r.acts (start_shape b w state)) _ (picked-passes (fits_row table.states b w state) (state.rows b w) g s k1 rows_fit) in
         let (with_choice_of, answers) = and_parts (fits_choices table.states w r.acts (start_shape b w state)) _ more in
@@ -75,31 +73,29 @@ module _ {W R D : Type 0} (table : Table W R D) (g : Given) {late : Bool} {falli
       each-call
       (λ q. (IsAsFar q.configuration k × ((n : Name) → q.answer ≢ Next n)) ⊎ ((k.waiting ≡ Byte) × IsAsFar q.configuration (consumed k) × ((n : Name) → q.answer ≢ Retry n)))
       text k choices name is h
-      (λ c. once table g _ (before_class table g text k) (of_class table g text k) _ (row_of table g text k c.state).answer text k (left_by table g text k c.state) c.fits_it c.shape.far c.shape.waited)
-
-  front-kept : (old new : Configuration R D) (more : List Event) → outline new ≡ outline old ++ more → map unlinked (take (length old.events) new.events) ≡ map unlinked old.events
-  front-kept old new more grown =
-      sym (take-map unlinked (length old.events) new.events) ∙ ap (take (length old.events)) grown
-      ∙ ap (λ n. take n (outline old ++ more)) (sym (length-map old.events unlinked)) ∙ take-append_seam (outline old) more
-
-  stack-kept : (text : Text) (k : Configuration R D) (choices : List Choice) (name : Name) (c : IsCall table g text k choices name) → All (KeepsStack table g k.stack (left_by table g text k c.state).stack) choices
-  stack-kept text k choices name c =
-      let new = left_by table g text k c.state in
-      let s = sight g text k in
-      let made = chooses (row_of table g text k c.state).acts s (with_local k (table.first k.local)) [] in
-      let wait : made ++ choices ≡ chosen_by table g text k choices c.state = chooses-append (row_of table g text k c.state).acts s (with_local k (table.first k.local)) [] choices in
-      let P = λ (stack : List EventName) (c : Choice). IfSome c.saved (λ s. take (length s.stack) stack ≡ s.stack) in
-      let p = shape_of table g text k c.state in
-      let after_it = subst (λ stack. All (P stack) (chosen_by table g text k choices c.state)) (sym c.shape.stack) (all-front table.class table.states g text (chosen_by table g text k choices c.state) c.above p.spans new.position (outline new) c.wait_on) in
-      let before_it = subst (λ stack. All (P stack) choices) (sym c.stack) (all-front table.class table.states g text choices c.base c.state.spans k.position (outline k) c.waiting) in
-      keeps-all table g k.stack new.stack made choices (subst (All (P new.stack)) (sym wait) after_it) before_it
+      (λ c. once table g _ (before_class table g text k) (of_class table g text k) _ (row_of table g text k c.state).answer text k (left_by table g text k c.state) c.fits_it
+      c.shape.reads.0 c.shape.reads.1)
 
   pub table-only_adds : OnlyAdds g (table_rules table g)
   table-only_adds = record {
     events = λ text k choices name is h.
         each-call (λ q. map unlinked (take (length k.events) q.configuration.events) ≡ map unlinked k.events) text k choices name is h
-        (λ c. let (more, grown) = adds-all (row_of table g text k c.state).acts (sight g text k) (with_local k (table.first k.local)) in front-kept k (left_by table g text k c.state) more grown);
-    stack = λ text k choices name is h. each-call (λ q. All (KeepsStack table g k.stack q.configuration.stack) choices) text k choices name is h (stack-kept text k choices name);
+        (λ c.
+        let (more, grown) = adds-all (row_of table g text k c.state).acts (sight g text k) (with_local k (table.first k.local)) in
+        sym (take-map unlinked (length k.events) (left_by table g text k c.state).events) ∙ ap (take (length k.events)) grown
+        ∙ ap (λ n. take n (outline k ++ more)) (sym (length-map k.events unlinked)) ∙ take-append_seam (outline k) more);
+    stack = λ text k choices name is h.
+        each-call (λ q. All (KeepsStack table g k.stack q.configuration.stack) choices) text k choices name is h
+        (λ c.
+        let new = left_by table g text k c.state in
+        let chosen = chosen_by table g text k choices c.state in
+        let made = chooses (row_of table g text k c.state).acts (sight g text k) (with_local k (table.first k.local)) [] in
+        let wait : made ++ choices ≡ chosen = chooses-append (row_of table g text k c.state).acts (sight g text k) (with_local k (table.first k.local)) [] choices in
+        let P = λ (stack : List EventName) (c : Choice). IfSome c.saved (λ s. take (length s.stack) stack ≡ s.stack) in
+        let after_it = subst (λ stack. All (P stack) chosen) (sym c.shape.stack)
+        (all-front table.class table.states g text chosen c.above (shape_of table g text k c.state).spans new.position (outline new) c.wait_on) in
+        let before_it = subst (λ stack. All (P stack) choices) (sym c.stack) (all-front table.class table.states g text choices c.base c.state.spans k.position (outline k) c.waiting) in
+        keeps-all table g k.stack new.stack made choices (subst (All (P new.stack)) (sym wait) after_it) before_it);
   }
 
   pub table-ends_when_read : EndsWhenRead g (table_rules table g)
@@ -108,14 +104,12 @@ module _ {W R D : Type 0} (table : Table W R D) (g : Given) {late : Bool} {falli
     ok = λ text k is h. (elim h.1.ended [ inl any ↦ absurd any | inr ended ↦ ended ], h.1.stack ∙ h.1.waiting);
   }
 
-  may-start-at : (name : Name) → Contains table.starts name → may_start table.states (named table.states name) ≡ true
-  may-start-at name is =
-      let none = none-left (flat_map (named_misfit table.states None None) table.states) (flat_map (named_start table.states) table.starts) (fit.fits None None) in
-      starts-unnamed table.states name (All-contains (λ n. named_start table.states n ≡ []) table.starts name (none-made (named_start table.states) table.starts none.1) is)
-
   pub table-invariant_kept : KeepsInvariant g (table_rules table g)
   table-invariant_kept = record {
-    at_starts = λ p flag name is start. (omega arith, (refl, starts-at table g (named table.states name) p _ flag (may-start-at name start)));
+    at_starts = λ p flag name is start.
+        let none = none-left (flat_map (named_misfit table.states None None) table.states) (flat_map (named_start table.states) table.starts) (fit.fits None None) in
+        let its_none = All-contains (λ n. named_start table.states n ≡ []) table.starts name (none-made (named_start table.states) table.starts none.1) start in
+        (omega arith, (refl, starts-at table g (named table.states name) p _ flag (starts-none (may_start table.states (named table.states name)) name its_none)));
     unfed = λ text k choices name is h. h.1.0;
     waits = λ text k choices name is h. λ e. rw e at h.1.0;
     by_feeding = λ text k choices name is h. (omega (arith, fed-position text k, h.0), fed-at table g (nat_lt k.position (length text.seats)) text k choices name is refl h.1);
@@ -125,7 +119,7 @@ module _ {W R D : Type 0} (table : Table W R D) (g : Given) {late : Bool} {falli
         let w = of_class table g text k in
         let b = before_class table g text k in
         let r = row_of table g text k c.state in
-        let inside = inside-at table g _ text k (left_by table g text k c.state) c.shape.far c.shape.waited h.0 in
+        let inside = inside-at table g _ text k (left_by table g text k c.state) c.shape.reads.0 c.shape.reads.1 h.0 in
         let holds = answered table g _ b w _ c.above r.answer text k (left_by table g text k c.state) (chosen_by table g text k choices c.state) (read-before table g text k.position h.0) h.1.0 h.1.1 refl c.met c.fits_it refl c.shape c.wait_on in
         (inside, subst (λ cs. HoldsAt table g text (left_by table g text k c.state) cs r.answer) (sym (chooses-append r.acts (sight g text k) (with_local k (table.first k.local)) [] choices)) holds));
     by_ok = λ text k choice choices is h.

@@ -1,8 +1,8 @@
 -- A machine whose table refuses nothing refuses no document.
-use Rattle.mdconstructs_tables.proofs.Prelude.{◌≡◌, ◌≢◌, ℕ, List, [], ◌∷◌, ◌++◌, Bool, true, false, cond, Option, Some, None, ◌⊎◌, ⊎_elim, refl, filter, list_any, or_parts, Message, Name, State, Next, Ok, Error, none-mapped, Subresult, Attempt, Check, Given, Text, Configuration, Choice, Step, start_configuration, with_local, with_resolvers, whole_text, IsRunRefused, Reading, EndsIn, Resolved, refused, resolved_by, with_more, taken, found, IsResolvingRefused, Rules, Sight, sight, Act, choose, Rows, row, when, StateRows, Table, class_of, seen_after, with_choice_of, chooses, picked, named, step_of, step_at, table_step, is_message, act_refuses, rows_refuse, refusing, RulesRefuseNothing, cond_both}
+use Rattle.mdconstructs_tables.proofs.Prelude.{◌≡◌, ◌≢◌, ℕ, List, [], ◌∷◌, ◌++◌, Bool, true, false, cond, Option, Some, None, ◌⊎◌, ⊎_elim, refl, filter, list_any, or_parts, Message, Name, Next, Ok, Error, none-mapped, Subresult, Attempt, Check, Given, Text, Configuration, Choice, Step, start_configuration, with_local, with_resolvers, whole_text, IsRunRefused, Reading, EndsIn, Resolved, refused, resolved_by, with_more, taken, found, IsResolvingRefused, Rules, Sight, sight, Act, choose, Rows, row, when, StateRows, Table, class_of, seen_after, with_choice_of, chooses, picked, named, step_of, step_at, table_step, is_message, act_refuses, rows_refuse, refusing, RulesRefuseNothing, cond_both}
 use Rattle.markdown_tokenizer.specs.Resolving.{done}
 use Rattle.mdconstructs_tables.specs.Rows.{done as act_done}
-use Rattle.mdconstructs_tables.proofs.KeptByReading.{IsKept, kept-refused}
+use Rattle.mdconstructs_tables.proofs.KeptByReading.{kept-refused}
 use Rattle.mdconstructs_tables.proofs.Rows.Misfits.{named-out}
 
 -- no choice goes on with a message
@@ -18,24 +18,6 @@ pub record StepRefusesNothing {R D : Type 0} (s : Step R D) : Type 0 where
 taken-append : (cs ds : List Choice) → AreTaken cs → AreTaken ds → AreTaken (cs ++ ds)
 taken-append [] ds h k = k
 taken-append (c ∷ cs) ds h k = (h.0, h.1, taken-append cs ds h.2 k)
-
--- if no step refuses, no reading ends in a message
-module _ {R D : Type 0} (g : Given) (step : Sight → Configuration R D → Name → Step R D) (text : Text) (steps : (s : Sight) (k : Configuration R D) (name : Name) → StepRefusesNothing (step s k name)) where
-  abbrev Taken : Configuration R D → List Choice → State → Type 0
-  Taken k cs s = (is_message s ≡ false) × AreTaken cs
-
-  taken-kept : IsKept g step text Taken
-  taken-kept = record {
-    by_feeding = λ k cs name h. (refl, h.1);
-    by_calls = λ k cs name h. let s = steps (sight g text k) k name in (s.answer, taken-append _ cs s.choices h.1);
-    by_ok = λ k c cs h. (h.1.0, h.1.2);
-    by_nok = λ k c cs h. (h.1.1, h.1.2);
-  }
-
-  pub never-ends-in-a-message : (calls : ℕ) (k : Configuration R D) (name : Name) (r : Reading R D) (m : Message) → EndsIn g step text calls k [] (Next name) r → r.answer ≢ Error m
-  never-ends-in-a-message calls k name r m ends is =
-      let there = kept-refused g step text Taken taken-kept calls k (Next name) r (refl, tt) ends m is in
-      let e : true ≡ false = there.1.0 in absurd (cc)
 
 module _ {R D : Type 0} where
   chosen-taken : (act : Act R D) (k : Configuration R D) (cs : List Choice) → act_refuses act ≡ false → AreTaken cs → AreTaken (with_choice_of act k cs)
@@ -88,12 +70,19 @@ module _ {R D : Type 0} (rules : Given → Rules R D) (nothing : RulesRefuseNoth
       ⊎_elim (λ e. nothing.readings g text calls k name r m ends e)
       (λ e. resolvers-refuse-nothing r.configuration.local.resolvers (with_resolvers (taken r.configuration) []) (found r.configuration) m e.1) h
 
--- rules whose steps and resolvers refuse nothing
 module _ {R D : Type 0} where
+  -- rules refuse nothing if their steps and resolvers do not: no reading ends in a message
   pub refuse-nothing : (rules : Given → Rules R D) → ((g : Given) (s : Sight) (k : Configuration R D) (name : Name) → StepRefusesNothing ((rules g).step s k name))
       → ((g : Given) (s : Sight) (k : Configuration R D) (r : R) (m : Message) → (rules g).resolver s k r ≢ refused m) → RulesRefuseNothing rules
   refuse-nothing rules steps resolvers = record {
-    readings = λ g text calls k name r m ends. never-ends-in-a-message g (rules g).step text (steps g) calls k name r m ends;
+    readings = λ g text calls k name r m ends is.
+        let there = kept-refused g (rules g).step text (λ k cs s. (is_message s ≡ false) × AreTaken cs) (record {
+          by_feeding = λ k cs name h. (refl, h.1);
+          by_calls = λ k cs name h. let s = steps g (sight g text k) k name in (s.answer, taken-append _ cs s.choices h.1);
+          by_ok = λ k c cs h. (h.1.0, h.1.2);
+          by_nok = λ k c cs h. (h.1.1, h.1.2);
+        }) calls k (Next name) r (refl, tt) ends m is in
+        let e : true ≡ false = there.1.0 in absurd (cc);
     resolvers = resolvers;
   }
 

@@ -33,26 +33,23 @@ module _ {W R D : Type 0} (class : ℕ → W) (states : List (StateRows W R D)) 
       let (saved, rest) = saved-on base w.frame (saves c.kind c.nok) c.saved cs w.below p p' events events' more further longer (more-waiting cs w.below p p' events events' more further longer) w.saved h.1 in
       (record { frame = w.frame; below = w.below; stack_is = w.stack_is; fits = w.fits; saved = saved; within = w.within }, rest)
 
-  -- what choices saved of the stack is no longer than the spans below
-  saved-below : (stack : List EventName) (f : Frame W) (b : Bool) (saved : Option Saved) (p : ℕ) (events : List Event) → IsSaved class g text p events stack f b saved → IfSome saved (λ s. length s.stack ≤ length stack)
-  saved-below stack f true (Some saved) p events h = omega (arith, ap length h.stack_is)
-  saved-below stack f false None p events h = tt
-  saved-below stack f b saved p events h = absurd h
+  -- what holds of each that a choice saved
+  pub if-saved : (P : Saved → Type 0) (stack : List EventName) (f : Frame W) (p : ℕ) (events : List Event) → ((s : Saved) → IsSavedIn class g text p events stack f s → P s)
+      → (b : Bool) (saved : Option Saved) → IsSaved class g text p events stack f b saved → IfSome saved P
+  if-saved P stack f p events each true (Some saved) h = each saved h
+  if-saved P stack f p events each false None h = tt
+  if-saved P stack f p events each b saved h = absurd h
 
+  -- what choices saved of the stack is no longer than the spans below
   pub all-below : (cs : List Choice) (base : List EventName) (p : ℕ) (events : List Event) → AreWaiting class states g text p events base cs → All (IsBelow base) cs
   all-below [] base p events h = All-nil (IsBelow base)
   all-below (c ∷ cs) base p events h =
       let w = h.0 in
       let rest = all-below cs w.below (position_of c.saved p) (events_saved c.saved events) h.1 in
-      All-cons (IsBelow base) c cs (saved-below base w.frame (saves c.kind c.nok) c.saved p events w.saved) (stack-below w.below w.frame.spans base cs w.stack_is rest)
+      All-cons (IsBelow base) c cs (if-saved (λ s. length s.stack ≤ length base) base w.frame p events (λ s h. omega (arith, ap length h.stack_is)) (saves c.kind c.nok) c.saved w.saved)
+      (stack-below w.below w.frame.spans base cs w.stack_is rest)
 
   -- and it is a front of each stack above them
-  saved-front : (stack more : List EventName) (f : Frame W) (b : Bool) (saved : Option Saved) (p : ℕ) (events : List Event) → IsSaved class g text p events stack f b saved
-      → IfSome saved (λ s. take (length s.stack) (stack ++ more) ≡ s.stack)
-  saved-front stack more f true (Some saved) p events h = rw h.stack_is (take-append_seam stack more)
-  saved-front stack more f false None p events h = tt
-  saved-front stack more f b saved p events h = absurd h
-
   abbrev pub IsFront : List EventName → Choice → Type 0
   IsFront stack c = IfSome c.saved (λ s. take (length s.stack) stack ≡ s.stack)
 
@@ -62,7 +59,8 @@ module _ {W R D : Type 0} (class : ℕ → W) (states : List (StateRows W R D)) 
       let w = h.0 in
       let rest = all-front cs w.below (w.frame.spans ++ more) (position_of c.saved p) (events_saved c.saved events) h.1 in
       let same : w.below ++ (w.frame.spans ++ more) ≡ base ++ more = sym (append_assoc w.below w.frame.spans more) ∙ ap (λ b. b ++ more) (sym w.stack_is) in
-      All-cons (IsFront (base ++ more)) c cs (saved-front base more w.frame (saves c.kind c.nok) c.saved p events w.saved) (subst (λ b. All (IsFront b) cs) same rest)
+      let one = if-saved (λ s. take (length s.stack) (base ++ more) ≡ s.stack) base w.frame p events (λ s h. rw h.stack_is (take-append_seam base more)) (saves c.kind c.nok) c.saved w.saved in
+      All-cons (IsFront (base ++ more)) c cs one (subst (λ b. All (IsFront b) cs) same rest)
 
   -- a choice that is made waits
   module _ (old : Configuration R D) (w : Option W) (here : class_of class (sight g text old).current ≡ w) (p : Shape) (base : List EventName) (s : Sight) (k : Configuration R D) (choices : List Choice)
@@ -76,7 +74,7 @@ module _ {W R D : Type 0} (class : ℕ → W) (states : List (StateRows W R D)) 
 
     is-saved : not p.fresh ≡ true → (not (is_void_last (last_or None p.spans)) || p.bare) ≡ true → IsSavedIn class g text k.position (outline k) (base ++ p.spans) (frame_of w p) (saved_at k)
     is-saved old_spans void =
-        let left : s.exit_place ≡ (sight g text k).exit_place = ap (λ s. s.exit_place) seen ∙ sym (left-at g text old p.stage k h.far h.waited) in
+        let left : s.exit_place ≡ (sight g text k).exit_place = ap (λ s. s.exit_place) seen ∙ sym (left-at g text old p.stage k h.reads.0 h.reads.1) in
         let began = began-on (since p.fresh p.stage s) (upto false (sight g text k).exit_place) (outline k) (λ q b. subst (λ x. stands_before q x ≡ true) left (to-before p.fresh p.stage s q old_spans b)) h.began in
         record {
           stack_is = h.stack;
@@ -84,13 +82,13 @@ module _ {W R D : Type 0} (class : ℕ → W) (states : List (StateRows W R D)) 
           within = omega (arith, length-map k.events unlinked);
           began = subst (Began (upto false (exit_place_at g text k.position))) (sym whole) began;
           void = λ v. subst EndsWithEnter (sym whole) (h.bare (or-leads (is_void_last (last_or None p.spans)) p.bare void v));
-          waits = byte-left p.stage h.far h.waited;
+          waits = byte-left p.stage h.reads.0 h.reads.1;
         }
 
     made : (kind : AttemptKind) (ok nok : State) → fits_choice states (frame_of w p) kind ok nok ≡ true → IsSavedIn class g text k.position (outline k) (base ++ p.spans) (frame_of w p) (saved_at k)
         → AreWaiting class states g text k.position (outline k) (base ++ p.spans) (choice_made_at kind ok nok k ∷ choices)
-    made Attempt ok Nok fit saved = (record { frame = frame_of w p; below = base; stack_is = refl; fits = fit; saved = tt; within = h.within }, waiting)
-    made kind ok nok fit saved = (record { frame = frame_of w p; below = base; stack_is = refl; fits = fit; saved = saved; within = h.within }, subst (λ es. AreWaiting class states g text k.position es base choices) (sym whole) waiting)
+    made Attempt ok Nok fit saved = (record { frame = frame_of w p; below = base; stack_is = refl; fits = fit; saved = tt; within = h.waits.1 }, waiting)
+    made kind ok nok fit saved = (record { frame = frame_of w p; below = base; stack_is = refl; fits = fit; saved = saved; within = h.waits.1 }, subst (λ es. AreWaiting class states g text k.position es base choices) (sym whole) waiting)
 
   -- choices wait after an act
   waits-after : (act : Act R D) (acts : List (Act R D)) (old : Configuration R D) (w : Option W) → class_of class (sight g text old).current ≡ w → (p : Shape) (base : List EventName) (s : Sight) (k : Configuration R D) (choices : List Choice) → allows act p ≡ true
@@ -140,8 +138,7 @@ module _ {W R D : Type 0} (class : ℕ → W) (states : List (StateRows W R D)) 
     omega (arith, h.behind),
   )
   saved-longer stack f false None p events inside h = (h, inside)
-  saved-longer stack f true None p events inside h = absurd h
-  saved-longer stack f false (Some saved) p events inside h = absurd h
+  saved-longer stack f b saved p events inside h = absurd h
 
   pub waiting-longer : (cs : List Choice) (base : List EventName) (p : ℕ) (events : List Event) → p ≤ length text.seats → AreWaiting class states g text p events base cs → AreWaiting class states g more p events base cs
   waiting-longer [] base p events inside h = h
