@@ -1,5 +1,5 @@
 -- Events that account for virtual bytes, with more events in front.
-use Rattle.mdconstructs_machines.proofs.Prelude.{◌≡◌, ℕ, ◌∷◌, ◌++◌, [], List, cond, refl, ◌∙◌, ap, Event, Kind, Enter, Exit, Point, is_enter, shown, Seat, end_after, innermost_spans, ended_next, span_over, AccountFor, leaf, EventName}
+use Rattle.mdconstructs_machines.proofs.Prelude.{◌≡◌, ℕ, ◌∷◌, ◌++◌, [], List, refl, ap, Event, Enter, Exit, shown, Seat, end_after, span_over, AccountFor, leaf, EventName}
 
 module _ (bytes : List ℕ) where
   -- an exit that ends a span around others
@@ -7,7 +7,7 @@ module _ (bytes : List ℕ) where
   exit-more e events seats exits h = record {
     stretches = h.stretches;
     are_all = h.are_all;
-    are_innermost = ap (λ (k : Kind). cond (is_enter k) (ended_next e events) [] ++ innermost_spans events) exits ∙ h.are_innermost;
+    are_innermost = rw exits h.are_innermost;
   }
 
   -- an enter that begins a span around others
@@ -15,10 +15,7 @@ module _ (bytes : List ℕ) where
   enter-more e f events seats enters inner h = record {
     stretches = h.stretches;
     are_all = h.are_all;
-    are_innermost =
-        ap (λ (k : Kind). cond (is_enter k) (ended_next e (f ∷ events)) [] ++ innermost_spans (f ∷ events)) enters
-        ∙ ap (λ (k : Kind). cond (is_enter k) [] ((e.point, f.point) ∷ []) ++ innermost_spans (f ∷ events)) inner
-        ∙ h.are_innermost;
+    are_innermost = rw (enters, inner) (rw inner at h.are_innermost);
   }
 
   -- a span over virtual bytes that holds no other
@@ -27,13 +24,7 @@ module _ (bytes : List ℕ) where
   span-more e f events s ss seats enters exits from to h = record {
     stretches = (s, ss) ∷ h.stretches;
     are_all = ap (λ l. s ∷ (ss ++ l)) h.are_all;
-    are_innermost =
-        ap (λ (k : Kind). cond (is_enter k) (ended_next e (f ∷ events)) [] ++ innermost_spans (f ∷ events)) enters
-        ∙ ap (λ (k : Kind). cond (is_enter k) [] ((e.point, f.point) ∷ []) ++ innermost_spans (f ∷ events)) exits
-        ∙ ap (λ (k : Kind). (e.point, f.point) ∷ (cond (is_enter k) (ended_next f events) [] ++ innermost_spans events)) exits
-        ∙ ap (λ (q : Point). (q, f.point) ∷ innermost_spans events) from
-        ∙ ap (λ (q : Point). (shown bytes s.point, q) ∷ innermost_spans events) to
-        ∙ ap (λ l. span_over bytes (s, ss) ∷ l) h.are_innermost;
+    are_innermost = rw (enters, exits, from, to) (ap (λ l. span_over bytes (s, ss) ∷ l) h.are_innermost);
   }
 
   -- one of a name, if there are virtual bytes

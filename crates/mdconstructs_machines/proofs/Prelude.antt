@@ -1,17 +1,15 @@
 -- What the proofs of this crate cite from below them: words of std, of the crates below and of specs.
-pub use Rattle.std.proofs.Common.{Bool, List, None, Option, Some, [], ap, arith, cond, drop, false, get_or, inl, inr, length, length-append, not, refl, rules, slice_get, slice_set, subst, suc, sym, take, true, zero, ℕ, ◌*◌, ◌++◌, ◌+◌, ◌-◌, ◌/◌, ◌<◌, ◌==◌, ◌∙◌, ◌∷◌, ◌≡◌, ◌≤◌, ◌⊎◌}
-pub use Rattle.std.proofs.lemmas.Bool.{le-ltb, lt-ltb}
+pub use Rattle.std.proofs.Common.{Bool, List, None, Option, Some, [], ap, arith, cond, drop, false, get_or, inl, inr, le-ltb, length, length-append, lt-ltb, not, refl, rules, slice_get, slice_set, subst, suc, sym, take, true, zero, ℕ, ◌*◌, ◌++◌, ◌+◌, ◌-◌, ◌/◌, ◌<◌, ◌==◌, ◌∙◌, ◌∷◌, ◌≡◌, ◌≤◌, ◌⊎◌}
 pub use Rattle.std.proofs.lemmas.Bool.Decides.{nat_tests}
+pub use Rattle.std.proofs.lemmas.Iterator.Adapters.{position_from-zero}
 pub use Rattle.std.proofs.lemmas.List.{append-nil, append_assoc, length-drop, length-map, map-append}
 pub use Rattle.std.proofs.lemmas.Option.{slice_get_within}
-pub use Rattle.std.specs.List.{AllByRecursion, flat_map, position_or_len}
-pub use Rattle.std.specs.Prelude.{codes, map, nat_lt, position, ◌&&◌}
+pub use Rattle.std.specs.List.{AllByRecursion, flat_map, position_from}
+pub use Rattle.std.specs.Prelude.{codes, map, position}
 pub use Rattle.markdown_base.proofs.Common.{drop-next, every-append, every-map}
-pub use Rattle.markdown_base.specs.Events.{is_enter}
 pub use Rattle.markdown_base.specs.Places.{shown}
 pub use Rattle.markdown_base.specs.Virtual.{Seat, end_after, point, virtual}
 pub use Rattle.markdown_base.specs.declared.event.Event.{Event}
-pub use Rattle.markdown_base.specs.declared.event.Kind.{Kind}
 pub use Rattle.markdown_base.specs.declared.event.Kind.TheVariants.{Enter, Exit}
 pub use Rattle.markdown_base.specs.declared.event.Name.TheVariants.{BlankLineEnding, BlockQuoteMarker, Data, LineEnding, Paragraph}
 pub use Rattle.markdown_base.specs.declared.event.Name.{Name as EventName}
@@ -36,7 +34,7 @@ pub use Rattle.markdown_tokenizer.specs.declared.waiting.AttemptKind.{AttemptKin
 pub use Rattle.markdown_tokenizer.specs.declared.waiting.AttemptKind.TheVariants.{Attempt, Check}
 pub use Rattle.markdown_tokenizer.specs.declared.waiting.Waits.{Waits}
 pub use Rattle.markdown_tokenizer.specs.declared.waiting.Waits.TheVariants.{Byte, End, Nothing}
-pub use Rattle.mdconstructs_tables.proofs.Rows.Calls.{callable, never-called}
+pub use Rattle.mdconstructs_tables.proofs.Rows.Calls.{callable}
 pub use Rattle.mdconstructs_tables.proofs.Tables.Refusals.{nothing-found, refuse-nothing, table-steps}
 pub use Rattle.mdconstructs_tables.specs.Fitting.{IsFit}
 pub use Rattle.mdconstructs_tables.specs.Misfits.{misfits}
@@ -45,10 +43,10 @@ pub use Rattle.mdconstructs_tables.specs.PlainWrites.{WritesPlain}
 pub use Rattle.mdconstructs_tables.specs.Refusals.{RulesRefuseNothing, refusing}
 pub use Rattle.mdconstructs_tables.specs.RowInvariant.{DoesAll, begun, step_in}
 pub use Rattle.mdconstructs_tables.specs.Rows.{Rows, StateRows, class_of, consume, enter, enter_link, exit, links, named, picked, row, step_at, step_of, write}
-pub use Rattle.mdconstructs_machines.specs.Back.{back, back_rules, data_at_break, data_at_break_rows, data_inside_rows, data_start_rows, string_before, string_before_rows, string_start, string_start_rows, text_before, text_before_rows, text_start, text_start_rows}
+pub use Rattle.mdconstructs_machines.specs.Back.{back, back_rules, data_at_break_rows, data_inside_rows, data_start_rows, string_before_rows, string_start, string_start_rows, text_before_rows, text_start_rows}
 pub use Rattle.mdconstructs_machines.specs.Deep.{deep, deep_rules, triangle}
 pub use Rattle.mdconstructs_machines.specs.Fail.{as_it_was, fail}
-pub use Rattle.mdconstructs_machines.specs.Innermost.{AccountFor, AccountsForDocuments, ended_next, innermost_spans, span_over}
+pub use Rattle.mdconstructs_machines.specs.Innermost.{AccountFor, AccountsForDocuments, span_over}
 pub use Rattle.mdconstructs_machines.specs.Laws.Back.{back-none}
 pub use Rattle.mdconstructs_machines.specs.Laws.Deep.{deep-none, triangle-is}
 pub use Rattle.mdconstructs_machines.specs.Laws.Lines.{lines-none}
@@ -58,14 +56,12 @@ pub use Rattle.mdconstructs_machines.specs.Laws.Save.{save-none}
 pub use Rattle.mdconstructs_machines.specs.LineEvents.{all_of, back_events, data_events, data_line, ending_of, is_line_ending, joined, line_events, line_text, lines_in, paragraph_line, save_events}
 pub use Rattle.mdconstructs_machines.specs.Lines.{flow_start, lines, lines_rules, paragraph_inside, paragraph_inside_rows}
 pub use Rattle.mdconstructs_machines.specs.ParagraphEvents.{Block, Chunk, Marked, as_linked, begins, blank, block_marks, blocks_marks, blocks_of, chunk_at, chunk_of, continued, is_blank, is_quoted, line_marks, lines_marks, mark_of, marked_span, paragraph, paragraph_events, with_links}
-pub use Rattle.mdconstructs_machines.specs.Paragraphs.{CanLinkChunk, chunk_before, connected, flow_start_rows, is_quote_mark, last_event, paragraph_line_start, paragraph_line_start_rows, paragraph_start, paragraph_start_rows, paragraphs, paragraphs_rules, text_link}
+pub use Rattle.mdconstructs_machines.specs.Paragraphs.{CanLinkChunk, chunk_before, connected, flow_start_rows, is_quote_mark, last_event, paragraph_line_start_rows, paragraph_start_rows, paragraphs, paragraphs_rules, text_link}
 pub use Rattle.mdconstructs_machines.specs.Peek.{peek, peek_rules}
 pub use Rattle.mdconstructs_machines.specs.ReadAs.{IsReadAs}
-pub use Rattle.mdconstructs_machines.specs.Reading.{data_inside, data_start}
 pub use Rattle.mdconstructs_machines.specs.Save.{save, save_rules}
 pub use Rattle.mdconstructs_machines.specs.Spans.{event, leaf, span}
 pub use Rattle.mdconstructs_machines.specs.Tables.{LineByte, counts, line_byte, line_ending, other}
 pub use Rattle.mdconstructs_machines.specs.Unfit.{editing, uncounted_lines}
-pub use Rattle.mdconstructs_machines.specs.Words.{blanks, tag, word, word_start, words}
+pub use Rattle.mdconstructs_machines.specs.Words.{words}
 pub use Rattle.mdconstructs_machines.specs.Wrap.{renamed, wrap}
-pub use Rattle.std.proofs.lemmas.List.Folds.{position_or_len_push}

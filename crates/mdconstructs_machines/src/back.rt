@@ -34,6 +34,7 @@ impl Machine for Back {
     ghost rules = { λ _. back_rules };
 
     /// Counts the call, and runs the state of this name.
+    #[tactic(auto, using(crate::proofs::RowSteps::back_called))]
     fn call<'a>(
         &self,
         alloc: Global,

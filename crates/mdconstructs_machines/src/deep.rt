@@ -33,6 +33,7 @@ impl Machine for Deep {
     ghost rules = { λ _. deep_rules };
 
     /// Counts the call, and runs the state of this name.
+    #[tactic(auto, using(crate::proofs::RowSteps::deep_called))]
     fn call<'a>(
         &self,
         alloc: Global,

@@ -33,6 +33,7 @@ impl Machine for Lines {
     ghost rules = { λ _. lines_rules };
 
     /// Counts the call, and runs the state of this name.
+    #[tactic(auto, using(crate::proofs::RowSteps::lines_called))]
     fn call<'a>(
         &self,
         alloc: Global,

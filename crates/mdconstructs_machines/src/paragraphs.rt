@@ -47,6 +47,7 @@ impl Machine for Paragraphs {
     ghost rules = { λ _. paragraphs_rules };
 
     /// Counts the call, and runs the state of this name.
+    #[tactic(auto, using(crate::proofs::RowSteps::paragraphs_called))]
     fn call<'a>(
         &self,
         alloc: Global,

@@ -32,6 +32,7 @@ impl Machine for Peek {
     ghost rules = { λ _. peek_rules };
 
     /// Counts the call, and runs the state of this name.
+    #[tactic(auto, using(crate::proofs::RowSteps::peek_called))]
     fn call<'a>(
         &self,
         alloc: Global,

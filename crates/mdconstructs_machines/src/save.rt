@@ -34,6 +34,7 @@ impl Machine for Save {
     ghost rules = { λ _. save_rules };
 
     /// Counts the call, and runs the state of this name.
+    #[tactic(auto, using(crate::proofs::RowSteps::save_called))]
     fn call<'a>(
         &self,
         alloc: Global,

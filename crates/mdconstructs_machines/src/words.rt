@@ -45,6 +45,7 @@ impl Machine for Words {
     ghost rules = { λ _. words_rules };
 
     /// Counts the call, and runs the state of this name.
+    #[tactic(auto, using(crate::proofs::RowSteps::words_called))]
     fn call<'a>(
         &self,
         alloc: Global,

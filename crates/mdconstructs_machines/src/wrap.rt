@@ -54,6 +54,7 @@ impl Machine for Wrap {
     ghost rules = { λ m. wrap_rules m.refuse };
 
     /// Counts the call, and runs the state of this name.
+    #[tactic(auto, using(crate::proofs::RowSteps::wrap_called))]
     fn call<'a>(
         &self,
         alloc: Global,

@@ -47,13 +47,9 @@ module _ (bytes : List ℕ) (all : List Marked) where
   linked marks = map (as_linked all) marks
 
   -- a link changes neither kind nor place
-  as-enter : (e : Event) (o : Option Chunk) → (as_linked all (e, o)).kind ≡ e.kind
-  as-enter e None = refl
-  as-enter e (Some (b, n)) = refl
-
-  as-placed : (e : Event) (o : Option Chunk) → (as_linked all (e, o)).point ≡ e.point
-  as-placed e None = refl
-  as-placed e (Some (b, n)) = refl
+  as-is : (e : Event) (o : Option Chunk) → ((as_linked all (e, o)).kind ≡ e.kind) × ((as_linked all (e, o)).point ≡ e.point)
+  as-is e None = (refl, refl)
+  as-is e (Some (b, n)) = (refl, refl)
 
   -- they account for virtual bytes, with more behind
   abbrev Accounts : List Marked → List Seat → Type 0
@@ -67,18 +63,16 @@ module _ (bytes : List ℕ) (all : List Marked) where
   -- a span that holds no other
   leaf-accounts : (o : Option Chunk) (name : EventName) (l : List Seat) → Accounts (marked_span bytes o name l []) l
   leaf-accounts o name [] events more h = h
-  leaf-accounts o name (s ∷ ss) events more h = span-more bytes _ _ events s ss more (as-enter (event bytes Enter name s.point) o) refl (as-placed (event bytes Enter name s.point) o) refl h
-
-  line-accounts : (c : Chunk) (line : List Seat) → Accounts (line_marks bytes c line) line
-  line-accounts c line =
-      subst (Accounts (line_marks bytes c line)) (line-is line)
-      (both (marked_span bytes None BlockQuoteMarker (mark_of line) []) (marked_span bytes (Some c) Data (chunk_of line) []) (mark_of line) (chunk_of line)
-      (leaf-accounts None BlockQuoteMarker (mark_of line)) (leaf-accounts (Some c) Data (chunk_of line)))
+  leaf-accounts o name (s ∷ ss) events more h = let (enters, placed) = as-is (event bytes Enter name s.point) o in span-more bytes _ _ events s ss more enters refl placed refl h
 
   lines-account : (block n : ℕ) (lines : List (List Seat)) → Accounts (lines_marks bytes block n lines) (all_of lines)
   lines-account block n [] = λ events more h. h
   lines-account block n (line ∷ lines) =
-      both (line_marks bytes (block, n) line) (lines_marks bytes block (suc n) lines) line (all_of lines) (line-accounts (block, n) line) (lines-account block (suc n) lines)
+      let c : Chunk = (block, n) in
+      let one = subst (Accounts (line_marks bytes c line)) (line-is line)
+      (both (marked_span bytes None BlockQuoteMarker (mark_of line) []) (marked_span bytes (Some c) Data (chunk_of line) []) (mark_of line) (chunk_of line)
+      (leaf-accounts None BlockQuoteMarker (mark_of line)) (leaf-accounts (Some c) Data (chunk_of line))) in
+      both (line_marks bytes c line) (lines_marks bytes block (suc n) lines) line (all_of lines) one (lines-account block (suc n) lines)
 
   -- The first of marked events is an enter
   record Enters (marks : List Marked) : Type 0 where
@@ -88,17 +82,15 @@ module _ (bytes : List ℕ) (all : List Marked) where
     pub are : marks ≡ (first, chunk) ∷ rest
     pub enters : first.kind ≡ Enter
 
-  line-enters : (c : Chunk) (s : Seat) (ss : List Seat) (behind : List Marked) → Enters (line_marks bytes c (s ∷ ss) ++ behind)
-  line-enters c s ss behind =
-      elim (s.byte == 62) as (λ b. Enters ((marked_span bytes None BlockQuoteMarker (cond b (s ∷ []) []) [] ++ marked_span bytes (Some c) Data (cond b ss (s ∷ ss)) []) ++ behind)) [
-        | true ↦ record { first = _; chunk = _; rest = _; are = refl; enters = refl }
-        | false ↦ record { first = _; chunk = _; rest = _; are = refl; enters = refl }
-      ]
-
   lines-enter : (block n : ℕ) (lines : List (List Seat)) (s : Seat) (ss : List Seat) → all_of lines ≡ s ∷ ss → Enters (lines_marks bytes block n lines)
   lines-enter block n [] s ss is = absurd (cc)
   lines-enter block n ([] ∷ lines) s ss is = lines-enter block (suc n) lines s ss is
-  lines-enter block n ((r ∷ rs) ∷ lines) s ss is = line-enters (block, n) r rs (lines_marks bytes block (suc n) lines)
+  lines-enter block n ((r ∷ rs) ∷ lines) s ss is =
+      let behind = lines_marks bytes block (suc n) lines in
+      elim (r.byte == 62) as (λ b. Enters ((marked_span bytes None BlockQuoteMarker (cond b (r ∷ []) []) [] ++ marked_span bytes (Some (block, n)) Data (cond b rs (r ∷ rs)) []) ++ behind)) [
+        | true ↦ record { first = _; chunk = _; rest = _; are = refl; enters = refl }
+        | false ↦ record { first = _; chunk = _; rest = _; are = refl; enters = refl }
+      ]
 
   -- a span around marks the first of which is an enter
   around : (e exit : Event) (marks : List Marked) (seats : List Seat) → e.kind ≡ Enter → exit.kind ≡ Exit → Enters marks → Accounts marks seats → Accounts ((e, None) ∷ (marks ++ (exit, None) ∷ [])) seats
@@ -107,7 +99,7 @@ module _ (bytes : List ℕ) (all : List Marked) where
       let closed = h (exit ∷ events) more (exit-more bytes exit events more exits rest) in
       let others = linked first.rest ++ exit ∷ events in
       let inside : linked marks ++ exit ∷ events ≡ f ∷ others = ap (λ l. linked l ++ exit ∷ events) first.are in
-      let is_enter : f.kind ≡ Enter = as-enter first.first first.chunk ∙ first.enters in
+      let is_enter : f.kind ≡ Enter = (as-is first.first first.chunk).0 ∙ first.enters in
       let spanned = enter-more bytes e f others (seats ++ more) enters is_enter (subst (λ es. AccountFor es bytes (seats ++ more)) inside closed) in
       let same : linked (marks ++ (exit, None) ∷ []) ++ events ≡ f ∷ others =
       ap (λ l. l ++ events) (map-append (as_linked all) marks ((exit, None) ∷ [])) ∙ append_assoc (linked marks) (exit ∷ []) events ∙ inside in

@@ -1,5 +1,5 @@
 -- The lines of a text, one by one, and the blocks that they are in.
-use Rattle.mdconstructs_machines.proofs.Prelude.{◌≡◌, suc, ◌≤◌, ◌∷◌, [], List, true, false, cond, refl, sym, ◌∙◌, ap, arith, length, Seat, is_line_ending, joined, lines_in, blank, paragraph, is_blank, continued, blocks_of}
+use Rattle.mdconstructs_machines.proofs.Prelude.{◌≡◌, suc, ◌≤◌, ◌∷◌, [], List, true, false, cond, refl, ◌∙◌, ap, arith, length, Seat, is_line_ending, joined, lines_in, blank, paragraph, is_blank, continued, blocks_of}
 
 -- the line at the front
 abbrev pub first_line : List Seat → List Seat
@@ -16,18 +16,11 @@ pub line-on : (s : Seat) (ss : List Seat) → is_line_ending s ≡ false → fir
 line-on s ss other = ap (λ b. cond b (s ∷ []) (s ∷ first_line ss)) other
 
 -- what is behind a line is shorter
-pub after-shorter : (l : List Seat) → length (after_line l) ≤ length l
-after-shorter [] = omega arith
-after-shorter (s ∷ ss) = let then : length (after_line ss) ≤ length ss = after-shorter ss in elim (is_line_ending s) as (λ b. length (cond b ss (after_line ss)) ≤ suc (length ss)) [
-  | true ↦ omega arith
-  | false ↦ omega (arith, then)
-]
-
 pub after-less : (s : Seat) (ss : List Seat) → length (after_line (s ∷ ss)) ≤ length ss
-after-less s ss = let then : length (after_line ss) ≤ length ss = after-shorter ss in elim (is_line_ending s) as (λ b. length (cond b ss (after_line ss)) ≤ length ss) [
-  | true ↦ omega arith
-  | false ↦ then
-]
+after-less s [] = elim (is_line_ending s) as (λ b. length (cond {A = List Seat} b [] []) ≤ 0) [ true ↦ omega arith | false ↦ omega arith ]
+after-less s (r ∷ rs) =
+    let then = after-less r rs in
+    elim (is_line_ending s) as (λ b. length (cond b (r ∷ rs) (after_line (r ∷ rs))) ≤ suc (length rs)) [ true ↦ omega arith | false ↦ omega (arith, then) ]
 
 -- the lines are the first, and those behind it
 pub lines-are : (s : Seat) (ss : List Seat) → lines_in (s ∷ ss) ≡ first_line (s ∷ ss) ∷ lines_in (after_line (s ∷ ss))
@@ -40,9 +33,7 @@ lines-are s (r ∷ rs) =
 
 -- a line ending that begins a line is a blank line
 pub blank-block : (s : Seat) (ss : List Seat) → is_line_ending s ≡ true → blocks_of (lines_in (s ∷ ss)) ≡ blank (s ∷ []) ∷ blocks_of (lines_in ss)
-blank-block s ss is =
-    ap (λ b. blocks_of (cond b ((s ∷ []) ∷ lines_in ss) (joined s (lines_in ss)))) is
-    ∙ ap (λ b. cond b (blank (s ∷ []) ∷ blocks_of (lines_in ss)) (continued (s ∷ []) (blocks_of (lines_in ss)))) is
+blank-block s ss is = rw (is, is)
 
 -- another line goes on with what is behind it
 pub other-block : (s : Seat) (ss : List Seat) → is_line_ending s ≡ false → blocks_of (lines_in (s ∷ ss)) ≡ continued (first_line (s ∷ ss)) (blocks_of (lines_in (after_line (s ∷ ss))))
@@ -64,27 +55,3 @@ pub record Run (l : List Seat) : Type 0 where
   pub goes_on : (line : List Seat) → continued line (blocks_of (lines_in l)) ≡ paragraph (line ∷ lines) ∷ blocks_of (lines_in rest)
   pub stops : Stops rest
   pub shorter : length rest ≤ length l
-
-abbrev pub run_end : Run []
-run_end = record { lines = []; rest = []; goes_on = λ line. refl; stops = tt; shorter = omega arith }
-
-abbrev pub run_blank : (s : Seat) (ss : List Seat) → is_line_ending s ≡ true → Run (s ∷ ss)
-run_blank s ss is = record {
-  lines = [];
-  rest = s ∷ ss;
-  goes_on = λ line. ap (continued line) (blank-block s ss is) ∙ ap (λ bs. paragraph (line ∷ []) ∷ bs) (sym (blank-block s ss is));
-  stops = is;
-  shorter = omega arith;
-}
-
-abbrev pub run_on : (s : Seat) (ss : List Seat) → is_line_ending s ≡ false → Run (after_line (s ∷ ss)) → Run (s ∷ ss)
-run_on s ss other run =
-    let line = first_line (s ∷ ss) in
-    let less = after-less s ss in
-    let then = run.shorter in record {
-      lines = line ∷ run.lines;
-      rest = run.rest;
-      goes_on = λ before. ap (continued before) (other-block s ss other ∙ run.goes_on line);
-      stops = run.stops;
-      shorter = omega (arith, less, then);
-    }

@@ -1,5 +1,5 @@
 -- Marked events, one more at a time: how their links change.
-use Rattle.mdconstructs_machines.proofs.Prelude.{AllByRecursion, ◌≡◌, ℕ, zero, suc, ◌+◌, ◌<◌, ◌≤◌, ◌==◌, ◌∷◌, ◌++◌, [], List, Bool, true, false, cond, Option, Some, None, ◌⊎◌, inl, inr, refl, sym, ◌∙◌, ap, subst, arith, length, length-append, map, position, nat_lt, not, position_or_len, lt-ltb, le-ltb, nat_tests, append_assoc, map-append, length-map, every-map, every-append, Event, updated_at, with_next, with_previous, linked_to, text_link, Marked, begins, chunk_at, as_linked, with_links, position_or_len_push}
+use Rattle.mdconstructs_machines.proofs.Prelude.{AllByRecursion, ◌≡◌, ℕ, zero, suc, ◌+◌, ◌<◌, ◌≤◌, ◌∷◌, ◌++◌, [], List, Bool, true, false, cond, Option, Some, None, ◌⊎◌, inl, inr, refl, sym, ◌∙◌, ap, subst, arith, length, length-append, map, position, position_from, position_from-zero, nat_tests, append_assoc, map-append, length-map, every-map, every-append, Event, updated_at, with_next, with_previous, linked_to, text_link, Marked, begins, chunk_at, as_linked, with_links}
 use Rattle.markdown_base.specs.declared.event.Content.TheVariants.{Text}
 use Rattle.mdconstructs_machines.specs.ParagraphEvents.{chunk_before}
 
@@ -27,57 +27,37 @@ away b n (e, Some (c, m)) h k l = elim h [
 all-away : (b n : ℕ) (xs : List Marked) → AllByRecursion (IsBefore b n) xs → (k : ℕ) → n ≤ k → AllByRecursion (λ x. begins (b, k) x ≡ false) xs
 all-away b n xs h k l = every-map (IsBefore b n) (λ x. begins (b, k) x ≡ false) (λ x before. away b n x before k l) xs h
 
-plain-away : (b k : ℕ) (x : Marked) → IsPlain x → begins (b, k) x ≡ false
-plain-away b k (e, None) h = refl
-plain-away b k (e, Some c) h = absurd h
-
--- an index within a length, or past it and then past the next one too
-same-first : (n l : ℕ) → cond (nat_lt (cond (n == l) (l + 1) n) (l + 1)) (Some (cond (n == l) (l + 1) n)) None ≡ cond (nat_lt n l) (Some n) None
-same-first n l = grind (arith, nat_tests)
+-- what holds of each event that begins none
+plain-only : (P : Marked → Type 0) → ((e : Event) → P (e, None)) → (x : Marked) → IsPlain x → P x
+plain-only P each (e, None) h = each e
+plain-only P each (e, Some c) h = absurd h
 
 -- Positions in lists
 module _ (p : Marked → Bool) where
   abbrev Fails : Marked → Type 0
   Fails x = p x ≡ false
 
-  len-none : (xs : List Marked) → AllByRecursion Fails xs → position_or_len p xs ≡ length xs
-  len-none [] h = refl
-  len-none (x ∷ xs) h =
-      let then : position_or_len p xs ≡ length xs = len-none xs h.1 in
-      let one : 1 + position_or_len p xs ≡ suc (length xs) = omega (arith, then) in
-      ap (λ t. cond (not t) (1 + position_or_len p xs) 0) h.0 ∙ one
+  from-none : (xs : List Marked) (i : ℕ) → AllByRecursion Fails xs → position_from p i xs ≡ None
+  from-none [] i h = refl
+  from-none (x ∷ xs) i h = ap (λ t. cond t (Some i) (position_from p (i + 1) xs)) h.0 ∙ from-none xs (i + 1) h.1
 
-  len-first : (front : List Marked) (x : Marked) (tail : List Marked) → AllByRecursion Fails front → p x ≡ true → position_or_len p (front ++ x ∷ tail) ≡ length front
-  len-first [] x tail h is = ap (λ t. cond (not t) (1 + position_or_len p tail) 0) is
-  len-first (y ∷ front) x tail h is =
-      let then : position_or_len p (front ++ x ∷ tail) ≡ length front = len-first front x tail h.1 is in
-      let one : 1 + position_or_len p (front ++ x ∷ tail) ≡ suc (length front) = omega (arith, then) in
-      ap (λ t. cond (not t) (1 + position_or_len p (front ++ x ∷ tail)) 0) h.0 ∙ one
+  from-first : (front : List Marked) (x : Marked) (tail : List Marked) (i n : ℕ) → AllByRecursion Fails front → p x ≡ true → n ≡ i + length front → position_from p i (front ++ x ∷ tail) ≡ Some n
+  from-first [] x tail i n h is e = let same : i ≡ n = omega (arith, e) in ap (λ t. cond t (Some i) (position_from p (i + 1) tail)) is ∙ ap (λ m. Some m) same
+  from-first (y ∷ front) x tail i n h is e = ap (λ t. cond t (Some i) (position_from p (i + 1) (front ++ x ∷ tail))) h.0 ∙ from-first front x tail (i + 1) n h.1 is (omega (arith, e))
 
-  -- among events of which none passes, and at the first that does
+  from-more : (xs : List Marked) (y : Marked) (i : ℕ) → p y ≡ false → position_from p i (xs ++ y ∷ []) ≡ position_from p i xs
+  from-more [] y i fails = ap (λ t. cond t (Some i) None) fails
+  from-more (x ∷ xs) y i fails = ap (λ o. cond (p x) (Some i) o) (from-more xs y (i + 1) fails)
+
+  -- among events of which none passes, at the first that does, and with an event more that does not
   at-none : (xs : List Marked) → AllByRecursion Fails xs → position p xs ≡ None
-  at-none xs h =
-      let n = position_or_len p xs in
-      let is : n ≡ length xs = len-none xs h in
-      let no : nat_lt n (length xs) ≡ false = le-ltb n (length xs) (omega (arith, is)) in
-      ap (λ t. cond t (Some n) None) no
+  at-none xs h = position_from-zero p xs ∙ from-none xs 0 h
 
   at-first : (front : List Marked) (x : Marked) (tail : List Marked) → AllByRecursion Fails front → p x ≡ true → position p (front ++ x ∷ tail) ≡ Some (length front)
-  at-first front x tail h is =
-      let n = position_or_len p (front ++ x ∷ tail) in
-      let first : n ≡ length front = len-first front x tail h is in
-      let long : length (front ++ x ∷ tail) ≡ length front + suc (length tail) = length-append front (x ∷ tail) in
-      let yes : nat_lt n (length (front ++ x ∷ tail)) ≡ true = lt-ltb n (length (front ++ x ∷ tail)) (omega (arith, first, long)) in
-      ap (λ t. cond t (Some n) None) yes ∙ ap (λ m. Some m) first
+  at-first front x tail h is = position_from-zero p (front ++ x ∷ tail) ∙ from-first front x tail 0 (length front) h is (omega arith)
 
-  -- an event more that does not pass changes nothing
   at-more : (xs : List Marked) (y : Marked) → p y ≡ false → position p (xs ++ y ∷ []) ≡ position p xs
-  at-more xs y fails =
-      let n = position_or_len p xs in
-      let now : position_or_len p (xs ++ y ∷ []) ≡ cond (n == length xs) (length xs + 1) n = position_or_len_push p xs y ∙ ap (λ t. cond (n == length xs) (length xs + cond t 0 1) n) fails in
-      let long : length (xs ++ y ∷ []) ≡ length xs + 1 = length-append xs (y ∷ []) in
-      ap (λ i. cond (nat_lt i (length (xs ++ y ∷ []))) (Some i) None) now ∙ ap (λ l. cond (nat_lt (cond (n == length xs) (length xs + 1) n) l) (Some (cond (n == length xs) (length xs + 1) n)) None) long
-      ∙ same-first n (length xs)
+  at-more xs y fails = position_from-zero p (xs ++ y ∷ []) ∙ from-more xs y 0 fails ∙ sym (position_from-zero p xs)
 
 -- the event, linked to these
 abbrev link_of : Event → (previous next : Option ℕ) → Event
@@ -118,23 +98,12 @@ every : (P : Marked → Type 0) (xs : List Marked) → ((x : Marked) → P x) �
 every P [] h = tt
 every P (x ∷ xs) h = (h x, every P xs h)
 
-no-first : (e : Event) (b : ℕ) (x : Marked) → IsBefore b 0 x → NoNeighbour (e, Some (b, 0)) x
-no-first e b (f, None) h = tt
-no-first e b (f, Some (c, m)) h = elim h [
+no-next : (e : Event) (b n m : ℕ) → ((k : ℕ) → k < n → suc k < m) → (x : Marked) → IsBefore b n x → NoNeighbour (e, Some (b, m)) x
+no-next e b n m apart (f, None) h = tt
+no-next e b n m apart (f, Some (c, k)) h = elim h [
   | inl less ↦ (grind (arith, nat_tests), λ j is. grind (arith, nat_tests))
-  | inr same ↦ absurd (omega (arith, same.1))
+  | inr same ↦ let less = apart k same.1 in (grind (arith, nat_tests), λ j is. grind (arith, nat_tests))
 ]
-
-no-next : (e : Event) (b n : ℕ) (x : Marked) → IsBefore b n x → NoNeighbour (e, Some (b, suc n)) x
-no-next e b n (f, None) h = tt
-no-next e b n (f, Some (c, m)) h = elim h [
-  | inl less ↦ (grind (arith, nat_tests), λ j is. grind (arith, nat_tests))
-  | inr same ↦ let less = same.1 in (grind (arith, nat_tests), λ j is. grind (arith, nat_tests))
-]
-
-plain-no : (y x : Marked) → IsPlain x → NoNeighbour y x
-plain-no y (e, None) h = tt
-plain-no y (e, Some c) h = absurd h
 
 -- An event that begins no chunk: nothing else changes
 pub links-plain : (ms : List Marked) (e : Event) → with_links (ms ++ (e, None) ∷ []) ≡ with_links ms ++ e ∷ []
@@ -152,7 +121,7 @@ links-first ms e b before =
     let y : Marked = (e, Some (b, 0)) in
     let none : chunk_at (ms ++ y ∷ []) (b, 1) ≡ None = at-none (begins (b, 1)) (ms ++ y ∷ []) (every-append (λ x. begins (b, 1) x ≡ false) ms (y ∷ []) (all-away b 0 ms before 1 (omega arith)) (grind (arith, nat_tests), tt)) in
     map-append (as_linked (ms ++ y ∷ [])) ms (y ∷ [])
-    ∙ ap (λ l. l ++ as_linked (ms ++ y ∷ []) y ∷ []) (same-links ms y ms (every-map (IsBefore b 0) (NoNeighbour y) (no-first e b) ms before))
+    ∙ ap (λ l. l ++ as_linked (ms ++ y ∷ []) y ∷ []) (same-links ms y ms (every-map (IsBefore b 0) (NoNeighbour y) (no-next e b 0 0 (λ k less. omega arith)) ms before))
     ∙ ap (λ o. with_links ms ++ link_of e None o ∷ []) none
 
 -- The chunk of this line of this block is the last that begins among these, at this index
@@ -189,34 +158,7 @@ module _ (e : Event) (b n : ℕ) (front : List Marked) (f : Event) (tail : List 
   elsewhere : (k : ℕ) → n < k → AllByRecursion (λ x. begins (b, k) x ≡ false) olds
   elsewhere k h =
       every-append (λ x. begins (b, k) x ≡ false) front (last ∷ tail) (all-away b n front before k (omega (arith, h)))
-      (grind (arith, nat_tests), every-map IsPlain (λ x. begins (b, k) x ≡ false) (plain-away b k) tail plain)
-
-  new-at : chunk_at more (b, suc n) ≡ Some (length olds)
-  new-at = at-first (begins (b, suc n)) olds new [] (elsewhere (suc n) (omega arith)) (self b (suc n) e)
-
-  last-at : chunk_at more (b, n) ≡ Some (length front)
-  last-at =
-      ap (position (begins (b, n))) (append_assoc front (last ∷ tail) (new ∷ []))
-      ∙ at-first (begins (b, n)) front last (tail ++ new ∷ []) (all-away b n front before n (omega arith)) (self b n f)
-
-  none-at : chunk_at more (b, suc (suc n)) ≡ None
-  none-at =
-      at-none (begins (b, suc (suc n))) more
-      (every-append (λ x. begins (b, suc (suc n)) x ≡ false) olds (new ∷ []) (elsewhere (suc (suc n)) (omega arith)) (grind (arith, nat_tests), tt))
-
-  last-next : as_linked more last ≡ with_next (length olds) (as_linked olds last)
-  last-next =
-      let line : (j : ℕ) → suc j ≡ n → begins (b, j) new ≡ false = λ j is. grind (arith, nat_tests) in
-      link-same f (chunk_before more (b, n)) (chunk_before olds (b, n)) (chunk_at more (b, suc n)) (Some (length olds)) (same-before olds new b n line) new-at
-
-  new-previous : as_linked more new ≡ with_previous (length front) (alone e)
-  new-previous = link-same e (chunk_at more (b, n)) (Some (length front)) (chunk_at more (b, suc (suc n))) None last-at none-at
-
-  front-same : map (as_linked more) front ≡ map (as_linked olds) front
-  front-same = same-links olds new front (every-map (IsBefore b n) (NoNeighbour new) (no-next e b n) front before)
-
-  tail-same : map (as_linked more) tail ≡ map (as_linked olds) tail
-  tail-same = same-links olds new tail (every-map IsPlain (NoNeighbour new) (plain-no new) tail plain)
+      (grind (arith, nat_tests), every-map IsPlain (λ x. begins (b, k) x ≡ false) (plain-only (λ x. begins (b, k) x ≡ false) (λ e. refl)) tail plain)
 
   abbrev old_front : List Event
   old_front = map (as_linked olds) front
@@ -226,9 +168,21 @@ module _ (e : Event) (b n : ℕ) (front : List Marked) (f : Event) (tail : List 
 
   split : with_links more ≡ (old_front ++ with_next (length olds) (as_linked olds last) ∷ old_tail) ++ with_previous (length front) (alone e) ∷ []
   split =
+      let after_new : chunk_at more (b, suc (suc n)) ≡ None =
+      at-none (begins (b, suc (suc n))) more (every-append (λ x. begins (b, suc (suc n)) x ≡ false) olds (new ∷ []) (elsewhere (suc (suc n)) (omega arith)) (grind (arith, nat_tests), tt)) in
+      let line : (j : ℕ) → suc j ≡ n → begins (b, j) new ≡ false = λ j is. grind (arith, nat_tests) in
+      let at_new : chunk_at more (b, suc n) ≡ Some (length olds) = at-first (begins (b, suc n)) olds new [] (elsewhere (suc n) (omega arith)) (self b (suc n) e) in
+      let at_last : chunk_at more (b, n) ≡ Some (length front) =
+      ap (position (begins (b, n))) (append_assoc front (last ∷ tail) (new ∷ [])) ∙ at-first (begins (b, n)) front last (tail ++ new ∷ []) (all-away b n front before n (omega arith)) (self b n f) in
+      let last_next : as_linked more last ≡ with_next (length olds) (as_linked olds last) =
+      link-same f (chunk_before more (b, n)) (chunk_before olds (b, n)) (chunk_at more (b, suc n)) (Some (length olds)) (same-before olds new b n line) at_new in
+      let new_previous : as_linked more new ≡ with_previous (length front) (alone e) =
+      link-same e (chunk_at more (b, n)) (Some (length front)) (chunk_at more (b, suc (suc n))) None at_last after_new in
+      let front_same = same-links olds new front (every-map (IsBefore b n) (NoNeighbour new) (no-next e b n (suc n) (λ k less. omega arith)) front before) in
+      let tail_same = same-links olds new tail (every-map IsPlain (NoNeighbour new) (plain-only (NoNeighbour new) (λ e. tt)) tail plain) in
       map-append (as_linked more) olds (new ∷ [])
       ∙ ap (λ l. l ++ as_linked more new ∷ []) (map-append (as_linked more) front (last ∷ tail))
-      ∙ (λ i. (front-same i ++ last-next i ∷ tail-same i) ++ new-previous i ∷ [])
+      ∙ (λ i. (front_same i ++ last_next i ∷ tail_same i) ++ new_previous i ∷ [])
 
   old-split : with_links olds ≡ old_front ++ as_linked olds last ∷ old_tail
   old-split = map-append (as_linked olds) front (last ∷ tail)
@@ -270,20 +224,13 @@ next-block : (b n : ℕ) (x : Marked) → IsBefore b n x → IsBefore (suc b) 0 
 next-block b n (e, None) h = tt
 next-block b n (e, Some (c, m)) h = elim h [ inl less ↦ inl (omega (arith, less)) | inr same ↦ (let is = same.0 in inl (omega (arith, is))) ]
 
-plain-before : (b n : ℕ) (x : Marked) → IsPlain x → IsBefore b n x
-plain-before b n (e, None) h = tt
-plain-before b n (e, Some c) h = absurd h
-
-ended-before : (b n : ℕ) (ms : List Marked) (index : ℕ) → EndsIn b n ms index → AllByRecursion (IsBefore b (suc n)) ms
-ended-before b n ms index h =
-    subst (AllByRecursion (IsBefore b (suc n))) (sym h.are)
-    (every-append (IsBefore b (suc n)) h.front ((h.event, Some (b, n)) ∷ h.tail)
-    (every-map (IsBefore b n) (IsBefore b (suc n)) (later b n) h.front h.before)
-    (inr (refl, omega arith), every-map IsPlain (IsBefore b (suc n)) (plain-before b (suc n)) h.tail h.plain))
-
 pub known-before : (b n : ℕ) (ms : List Marked) (connect : Bool) (index : ℕ) → KnowsLast b n ms connect index → AllByRecursion (IsBefore b n) ms
 known-before b zero ms connect index h = h.1
-known-before b (suc n) ms connect index h = ended-before b n ms index h.1
+known-before b (suc n) ms connect index h =
+    let k = h.1 in
+    subst (AllByRecursion (IsBefore b (suc n))) (sym k.are)
+    (every-append (IsBefore b (suc n)) k.front ((k.event, Some (b, n)) ∷ k.tail) (every-map (IsBefore b n) (IsBefore b (suc n)) (later b n) k.front k.before)
+    (inr (refl, omega arith), every-map IsPlain (IsBefore b (suc n)) (plain-only (IsBefore b (suc n)) (λ e. tt)) k.tail k.plain))
 
 -- so it is with plain events more
 pub known-plain : (b n : ℕ) (ms : List Marked) (connect : Bool) (index : ℕ) (e : Event) → KnowsLast b n ms connect index → KnowsLast b n (ms ++ (e, None) ∷ []) connect index
@@ -301,10 +248,6 @@ known-plain b (suc n) ms connect index e h =
         at = k.at;
       },
     )
-
--- and with the chunk of the line
-pub known-chunk : (b n : ℕ) (ms : List Marked) (connect : Bool) (index : ℕ) (e : Event) → KnowsLast b n ms connect index → EndsIn b n (ms ++ (e, Some (b, n)) ∷ []) (length ms)
-known-chunk b n ms connect index e h = record { front = ms; event = e; tail = []; are = refl; before = known-before b n ms connect index h; plain = tt; at = refl }
 
 -- all of it is before the next block
 pub before-next : (b n : ℕ) (ms : List Marked) → AllByRecursion (IsBefore b n) ms → AllByRecursion (IsBefore (suc b) 0) ms

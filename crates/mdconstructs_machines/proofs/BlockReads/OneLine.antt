@@ -1,32 +1,15 @@
 -- One line of a paragraph is read: its quote mark, and its chunk.
-use Rattle.mdconstructs_machines.proofs.Prelude.{AllByRecursion, ◌≡◌, ℕ, suc, ◌+◌, ◌==◌, ◌∷◌, ◌++◌, [], List, Bool, true, false, cond, ◌⊎◌, inl, inr, refl, sym, ◌∙◌, ap, subst, Option, Some, None, take, drop, slice_get, append_assoc, append-nil, Event, Enter, Exit, Paragraph, Data, BlockQuoteMarker, Point, Name, Next, Retry, FlowStart, ParagraphLineStart, ParagraphStart, Seat, end_after, Nothing, Byte, End, Given, Text, Configuration, Local, Step, Sight, sight, byte_of, end_or, point_or, Rows, row, enter, exit, consume, picked, step_of, is_line_ending, event, line_ending, other, counts, paragraph_line_start_rows, is_quote_mark, Chunk, Marked, is_quoted, marked_span, line_marks, with_links}
+use Rattle.mdconstructs_machines.proofs.Prelude.{AllByRecursion, ◌≡◌, ℕ, suc, ◌+◌, ◌==◌, ◌∷◌, ◌++◌, [], List, Bool, true, false, cond, length, ◌⊎◌, inl, inr, refl, sym, ◌∙◌, ap, subst, Option, Some, None, take, drop, slice_get, append_assoc, append-nil, Event, Enter, Exit, Paragraph, Data, BlockQuoteMarker, Point, Name, Next, Retry, FlowStart, ParagraphLineStart, ParagraphStart, Seat, end_after, Nothing, Byte, End, Given, Text, Configuration, Local, Step, Sight, sight, byte_of, end_or, point_or, Rows, row, enter, exit, consume, picked, step_of, is_line_ending, event, line_ending, other, counts, paragraph_line_start_rows, paragraph_start_rows, is_quote_mark, Chunk, Marked, is_quoted, marked_span, line_marks, with_links}
 use Rattle.mdconstructs_machines.proofs.BlockReads.Lines.{first_line, after_line, line-on, Stops}
-use Rattle.mdconstructs_machines.proofs.BlockReads.Links.{IsBefore, EndsIn, KnowsLast, links-plain, known-before, known-plain, known-chunk, before-next}
-use Rattle.mdconstructs_machines.proofs.BlockReads.Reads.{in_paragraph, connects, begins_at, Stands, stands-next, ReadsBlocks, reads-rest, start-end, begins-chunk}
+use Rattle.mdconstructs_machines.proofs.BlockReads.Links.{IsBefore, EndsIn, KnowsLast, links-plain, known-before, known-plain, before-next}
+use Rattle.mdconstructs_machines.proofs.BlockReads.Reads.{in_paragraph, connects, begins_at, Stands, stands-next, ReadsBlocks, Goes, reads-rest, begins-chunk}
 use Rattle.mdconstructs_machines.proofs.LineReads.Rows.{is-class, leads-row}
 use Rattle.mdconstructs_machines.proofs.LineReads.Steps.{EndsWith, Leads, held, shows, goes-next, at-front}
-
--- the rows of a line that begins with a quote mark, and of another
-abbrev quoted_row : Rows Unit Unit
-quoted_row = row (enter BlockQuoteMarker ∷ consume ∷ exit BlockQuoteMarker ∷ []) (Next ParagraphStart)
-
-abbrev plain_row : Rows Unit Unit
-plain_row = row [] (Retry ParagraphStart)
 
 -- The marks of a line, by whether it is quoted
 module _ (bytes : List ℕ) (c : Chunk) where
   abbrev marks_by : Bool → List Seat → List Marked
   marks_by q line = marked_span bytes None BlockQuoteMarker (cond q (take 1 line) []) [] ++ marked_span bytes (Some c) Data (cond q (drop 1 line) line) []
-
-  plain-marks : (s : Seat) (ss : List Seat) → is_line_ending s ≡ false → (s.byte == 62) ≡ false → line_marks bytes c (first_line (s ∷ ss)) ≡ marked_span bytes (Some c) Data (first_line (s ∷ ss)) []
-  plain-marks s ss no_end plain =
-      let line = first_line (s ∷ ss) in
-      let is : is_quoted line ≡ false = ap is_quoted (line-on s ss no_end) ∙ plain in ap (λ q. marks_by q line) is
-
-  quoted-marks : (s : Seat) (ss : List Seat) → is_line_ending s ≡ false → (s.byte == 62) ≡ true
-      → line_marks bytes c (first_line (s ∷ ss))
-      ≡ (event bytes Enter BlockQuoteMarker s.point, None) ∷ (event bytes Exit BlockQuoteMarker s.end, None) ∷ marked_span bytes (Some c) Data (first_line ss) []
-  quoted-marks s ss no_end quoted = ap (line_marks bytes c) (line-on s ss no_end) ∙ ap (λ q. marks_by q (s ∷ first_line ss)) quoted
 
   -- the marks of a chunk over the line at the front, where one comes from this place
   abbrev chunk_marks : (s : Seat) (ss : List Seat) → Point → List Marked
@@ -42,9 +25,6 @@ pub three : (xs : List Marked) (a b : Marked) (rest : List Marked) → ((xs ++ a
 three xs a b rest = simp append_assoc
 
 module _ (g : Given) (text : Text) (step : Sight → Configuration Unit Unit → Name → Step Unit Unit) (reads : ReadsBlocks g text step) where
-  abbrev Goes : Configuration Unit Unit → Name → Configuration Unit Unit → Name → Type 0
-  Goes k name k' name' = Leads g text step k [] (Retry name) k' [] (Retry name')
-
   -- From here on a line is read up to the next, which is at this place: what is before the next block, and what is known if anything is left
   pub record ReadsLine (k : Configuration Unit Unit) (name : Name) (rest : List Seat) (place : Point) (block n : ℕ) (marks : List Marked) : Type 0 where
     pub to : ℕ
@@ -53,10 +33,10 @@ module _ (g : Given) (text : Text) (step : Sight → Configuration Unit Unit →
     pub stands : Stands text to rest place
     pub before : AllByRecursion (IsBefore (suc block) 0) marks
     pub known : (rest ≡ []) ⊎ KnowsLast block (suc n) marks (connects after) (begins_at after)
-    pub goes : Goes k name (shows rest in_paragraph to ended (with_links marks) after) ParagraphLineStart
+    pub goes : Goes g text step reads k name (shows rest in_paragraph to ended (with_links marks) after) ParagraphLineStart
 
   -- and so it is from what leads there
-  reads-before : (k k' : Configuration Unit Unit) (name name' : Name) (rest : List Seat) (place : Point) (block n : ℕ) (marks : List Marked) → Goes k name k' name'
+  reads-before : (k k' : Configuration Unit Unit) (name name' : Name) (rest : List Seat) (place : Point) (block n : ℕ) (marks : List Marked) → Goes g text step reads k name k' name'
       → ReadsLine k' name' rest place block n marks → ReadsLine k name rest place block n marks
   reads-before k k' name name' rest place block n marks leads r =
       record { to = r.to; ended = r.ended; after = r.after; stands = r.stands; before = r.before; known = r.known; goes = λ es h. leads es (r.goes es h) }
@@ -71,7 +51,9 @@ module _ (g : Given) (text : Text) (step : Sight → Configuration Unit Unit →
       let two = one ++ (e, None) ∷ [] in
       let begins = begins-chunk g text step reads s p b block n ms local (at-front text.seats p s ss here.0) known in
       let rest = reads-rest g text step reads (s ∷ ss) p b place (with_links one) begins.after here in
-      let ends : EndsIn block n one (begins_at rest.after) = subst (EndsIn block n one) (sym (rest.index ∙ begins.index)) (known-chunk block n ms (connects local) (begins_at local) (event g.bytes Enter Data s.point) known) in
+      let before = known-before block n ms (connects local) (begins_at local) known in
+      let begun : EndsIn block n one (length ms) = record { front = ms; event = event g.bytes Enter Data s.point; tail = []; are = refl; before = before; plain = tt; at = refl } in
+      let ends = subst (EndsIn block n one) (sym (rest.index ∙ begins.index)) begun in
       let knows : KnowsLast block (suc n) two (connects rest.after) (begins_at rest.after) = known-plain block (suc n) one (connects rest.after) (begins_at rest.after) e (rest.connect ∙ begins.connect, ends) in
       subst (ReadsLine (held in_paragraph p Byte b (with_links ms) local) ParagraphStart (after_line (s ∷ ss)) (end_after place (first_line (s ∷ ss))) block n) (append_assoc ms (first ∷ []) ((e, None) ∷ [])) (record {
         to = rest.to;
@@ -89,7 +71,9 @@ module _ (g : Given) (text : Text) (step : Sight → Configuration Unit Unit →
   abbrev line_step : Configuration Unit Unit → Configuration Unit Unit → Bool → Step Unit Unit
   line_step k k1 c =
       let s = sight g text k in
-      step_of (cond c (picked quoted_row g s k1) (picked plain_row g s k1)) s k1
+      let quoted : Rows Unit Unit = row (enter BlockQuoteMarker ∷ consume ∷ exit BlockQuoteMarker ∷ []) (Next ParagraphStart) in
+      let plain : Rows Unit Unit = row [] (Retry ParagraphStart) in
+      step_of (cond c (picked quoted g s k1) (picked plain g s k1)) s k1
 
   line-starts : (p : ℕ) (b : Bool) (events : List Event) (local : Local Unit Unit) (s : Seat) → slice_get text.seats p ≡ Some s → is_line_ending s ≡ false → (c : Bool) → (s.byte == 62) ≡ c
       → let k = held in_paragraph p Byte b events local in
@@ -105,12 +89,6 @@ module _ (g : Given) (text : Text) (step : Sight → Configuration Unit Unit →
   abbrev marked_line : List Event → Option Seat → List Event
   marked_line events o = (events ++ event g.bytes Enter BlockQuoteMarker (point_or text.end o) ∷ []) ++ event g.bytes Exit BlockQuoteMarker (end_or text.end o) ∷ []
 
-  starts-quoted : (p : ℕ) (b : Bool) (events : List Event) (local : Local Unit Unit) (s : Seat) → slice_get text.seats p ≡ Some s → is_line_ending s ≡ false → (s.byte == 62) ≡ true
-      → Leads g text step (held in_paragraph p Byte b events local) [] (Retry ParagraphLineStart) (held in_paragraph (p + 1) Nothing false (marked_line events (Some s)) (counts local)) [] (Next ParagraphStart)
-  starts-quoted p b events local s at no_end quoted es h =
-      line-starts p b events local s at no_end true quoted es
-      (subst (λ o. EndsWith g text step (held in_paragraph (p + 1) Nothing false (marked_line events o) (counts local)) [] (Next ParagraphStart) es) (sym at) h)
-
   -- Behind a quote mark: the chunk, if anything is left
   reads-behind : (ss : List Seat) (p : ℕ) (place : Point) (block n : ℕ) (ms : List Marked) (local : Local Unit Unit) → Stands text p ss place → KnowsLast block n ms (connects local) (begins_at local)
       → ReadsLine (shows ss in_paragraph p false (with_links ms) local) ParagraphStart (after_line ss) (end_after place (first_line ss)) block n (ms ++ marked_span g.bytes (Some (block, n)) Data (first_line ss) [])
@@ -122,71 +100,54 @@ module _ (g : Given) (text : Text) (step : Sight → Configuration Unit Unit →
         stands = here;
         before = before-next block n ms (known-before block n ms (connects local) (begins_at local) known);
         known = inl refl;
-        goes = start-end g text step reads p (with_links ms) local;
+        goes = leads-row g text step ParagraphStart paragraph_start_rows reads.start (held in_paragraph p End true (with_links ms) local) [] None refl;
       })
   reads-behind (r ∷ rs) p place block n ms local here known =
       subst (λ marks. ReadsLine (held in_paragraph p Byte false (with_links ms) local) ParagraphStart (after_line (r ∷ rs)) (end_after place (first_line (r ∷ rs))) block n (ms ++ marks))
       (sym (chunk-marks g.bytes (block, n) r rs place)) (reads-chunk r rs p false place block n ms local here known)
 
-  module _ (s : Seat) (ss : List Seat) (p : ℕ) (b : Bool) (place : Point) (block n : ℕ) (ms : List Marked) (local : Local Unit Unit) (here : Stands text p (s ∷ ss) place)
-      (known : KnowsLast block n ms (connects local) (begins_at local)) (no_end : is_line_ending s ≡ false) where
-    at : slice_get text.seats p ≡ Some s
-    at = at-front text.seats p s ss here.0
-
-    -- the marks of the line
-    abbrev its_marks : List Marked
-    its_marks = line_marks g.bytes (block, n) (first_line (s ∷ ss))
-
-    -- and where the line begins
-    abbrev begins : Configuration Unit Unit
-    begins = held in_paragraph p Byte b (with_links ms) local
-
-    from-plain : (s.byte == 62) ≡ false → ReadsLine begins ParagraphLineStart (after_line (s ∷ ss)) (end_after place (first_line (s ∷ ss))) block n (ms ++ its_marks)
-    from-plain plain =
-        subst (λ marks. ReadsLine begins ParagraphLineStart (after_line (s ∷ ss)) (end_after place (first_line (s ∷ ss))) block n (ms ++ marks))
-        (sym (plain-marks g.bytes (block, n) s ss no_end plain ∙ chunk-marks g.bytes (block, n) s ss place))
-        (reads-before begins _ ParagraphLineStart ParagraphStart _ _ block n _ (line-starts p b (with_links ms) local s at no_end false plain) (reads-chunk s ss p b place block n ms (counts local) here known))
-
-    -- the quote mark, as it is entered and exited
-    abbrev mark_begins : Event
-    mark_begins = event g.bytes Enter BlockQuoteMarker s.point
-
-    abbrev mark_ends : Event
-    mark_ends = event g.bytes Exit BlockQuoteMarker s.end
-
-    abbrev with_mark : List Marked
-    with_mark = (ms ++ (mark_begins, None) ∷ []) ++ (mark_ends, None) ∷ []
-
-    mark-linked : with_links with_mark ≡ marked_line (with_links ms) (Some s)
-    mark-linked = links-plain (ms ++ (mark_begins, None) ∷ []) mark_ends ∙ ap (λ l. l ++ mark_ends ∷ []) (links-plain ms mark_begins)
-
-    mark-known : KnowsLast block n with_mark (connects local) (begins_at local)
-    mark-known =
-        known-plain block n (ms ++ (mark_begins, None) ∷ []) (connects local) (begins_at local) mark_ends
-        (known-plain block n ms (connects local) (begins_at local) mark_begins known)
-
-    from-quoted : (s.byte == 62) ≡ true → ReadsLine begins ParagraphLineStart (after_line (s ∷ ss)) (end_after place (first_line (s ∷ ss))) block n (ms ++ its_marks)
-    from-quoted quoted =
-        let next = stands-next text p s ss place here in
-        let marks = marked_span g.bytes (Some (block, n)) Data (first_line ss) [] in
-        let same : with_mark ++ marks ≡ ms ++ its_marks = three ms (mark_begins, None) (mark_ends, None) marks ∙ ap (λ l. ms ++ l) (sym (quoted-marks g.bytes (block, n) s ss no_end quoted)) in
-        let leads : Goes begins ParagraphLineStart (shows ss in_paragraph (p + 1) false (with_links with_mark) (counts local)) ParagraphStart = λ es h.
-        starts-quoted p b (with_links ms) local s at no_end quoted es
-        (goes-next g text step ss in_paragraph (p + 1) false (marked_line (with_links ms) (Some s)) (counts local) [] ParagraphStart next.0 es
-        (subst (λ l. EndsWith g text step (shows ss in_paragraph (p + 1) false l (counts local)) [] (Retry ParagraphStart) es) mark-linked h)) in
-        subst (λ t. ReadsLine begins ParagraphLineStart (cond t ss (after_line ss)) (end_after place (cond t (s ∷ []) (s ∷ first_line ss))) block n (ms ++ its_marks)) (sym no_end)
-        (subst (ReadsLine begins ParagraphLineStart (after_line ss) (end_after s.end (first_line ss)) block n) same
-        (reads-before begins _ ParagraphLineStart ParagraphStart _ _ block n _ leads (reads-behind ss (p + 1) s.end block n with_mark (counts local) next mark-known)))
-
-    pub reads-line : ReadsLine begins ParagraphLineStart (after_line (s ∷ ss)) (end_after place (first_line (s ∷ ss))) block n (ms ++ its_marks)
-    reads-line = elim (s.byte == 62) as (λ c. (s.byte == 62) ≡ c → ReadsLine begins ParagraphLineStart (after_line (s ∷ ss)) (end_after place (first_line (s ∷ ss))) block n (ms ++ its_marks)) [
-      | true ↦ from-quoted
-      | false ↦ from-plain
-    ] refl
+  pub reads-line : (s : Seat) (ss : List Seat) (p : ℕ) (b : Bool) (place : Point) (block n : ℕ) (ms : List Marked) (local : Local Unit Unit) → Stands text p (s ∷ ss) place
+      → KnowsLast block n ms (connects local) (begins_at local) → is_line_ending s ≡ false
+      → let line = first_line (s ∷ ss) in
+      ReadsLine (held in_paragraph p Byte b (with_links ms) local) ParagraphLineStart (after_line (s ∷ ss)) (end_after place line) block n (ms ++ line_marks g.bytes (block, n) line)
+  reads-line s ss p b place block n ms local here known no_end =
+      let at = at-front text.seats p s ss here.0 in
+      let line = first_line (s ∷ ss) in
+      let c : Chunk = (block, n) in
+      let begins = held in_paragraph p Byte b (with_links ms) local in
+      let Reads : List Marked → Type 0 = λ marks. ReadsLine begins ParagraphLineStart (after_line (s ∷ ss)) (end_after place line) block n (ms ++ marks) in
+      elim (s.byte == 62) as (λ q. (s.byte == 62) ≡ q → Reads (line_marks g.bytes c line)) [
+        | true ↦ λ quoted.
+            let enters = event g.bytes Enter BlockQuoteMarker s.point in
+            let exits = event g.bytes Exit BlockQuoteMarker s.end in
+            let one = ms ++ (enters, None) ∷ [] in
+            let two = one ++ (exits, None) ∷ [] in
+            let next = stands-next text p s ss place here in
+            let marks = marked_span g.bytes (Some c) Data (first_line ss) [] in
+            let line_is : (enters, None) ∷ (exits, None) ∷ marks ≡ line_marks g.bytes c line =
+            sym (ap (line_marks g.bytes c) (line-on s ss no_end) ∙ ap (λ q. marks_by g.bytes c q (s ∷ first_line ss)) quoted) in
+            let same : two ++ marks ≡ ms ++ line_marks g.bytes c line = three ms (enters, None) (exits, None) marks ∙ ap (λ l. ms ++ l) line_is in
+            let linked : with_links two ≡ marked_line (with_links ms) (Some s) = links-plain one exits ∙ ap (λ l. l ++ exits ∷ []) (links-plain ms enters) in
+            let knows = known-plain block n one (connects local) (begins_at local) exits (known-plain block n ms (connects local) (begins_at local) enters known) in
+            let leads : Goes g text step reads begins ParagraphLineStart (shows ss in_paragraph (p + 1) false (with_links two) (counts local)) ParagraphStart = λ es h.
+            line-starts p b (with_links ms) local s at no_end true quoted es
+            (subst (λ o. EndsWith g text step (held in_paragraph (p + 1) Nothing false (marked_line (with_links ms) o) (counts local)) [] (Next ParagraphStart) es) (sym at)
+            (goes-next g text step ss in_paragraph (p + 1) false (marked_line (with_links ms) (Some s)) (counts local) [] ParagraphStart next.0 es
+            (subst (λ l. EndsWith g text step (shows ss in_paragraph (p + 1) false l (counts local)) [] (Retry ParagraphStart) es) linked h))) in
+            subst (λ t. ReadsLine begins ParagraphLineStart (cond t ss (after_line ss)) (end_after place (cond t (s ∷ []) (s ∷ first_line ss))) block n (ms ++ line_marks g.bytes c line)) (sym no_end)
+            (subst (ReadsLine begins ParagraphLineStart (after_line ss) (end_after s.end (first_line ss)) block n) same
+            (reads-before begins _ ParagraphLineStart ParagraphStart _ _ block n _ leads (reads-behind ss (p + 1) s.end block n two (counts local) next knows)))
+        | false ↦ λ plain.
+            let is : is_quoted line ≡ false = ap is_quoted (line-on s ss no_end) ∙ plain in
+            let line_is : line_marks g.bytes c line ≡ marked_span g.bytes (Some c) Data line [] = ap (λ q. marks_by g.bytes c q line) is in
+            subst Reads (sym (line_is ∙ chunk-marks g.bytes c s ss place))
+            (reads-before begins _ ParagraphLineStart ParagraphStart _ _ block n _ (line-starts p b (with_links ms) local s at no_end false plain)
+            (reads-chunk s ss p b place block n ms (counts local) here known))
+      ] refl
 
   -- Where no line of a paragraph begins, it ends
   pub paragraph-ends : (l : List Seat) (p : ℕ) (b : Bool) (place : Point) (events : List Event) (local : Local Unit Unit) → Stands text p l place → Stops l
-      → Goes (shows l in_paragraph p b events local) ParagraphLineStart (shows l [] p b (events ++ event g.bytes Exit Paragraph place ∷ []) (counts local)) FlowStart
+      → Goes g text step reads (shows l in_paragraph p b events local) ParagraphLineStart (shows l [] p b (events ++ event g.bytes Exit Paragraph place ∷ []) (counts local)) FlowStart
   paragraph-ends [] p b place events local here stops es h =
       leads-row g text step ParagraphLineStart paragraph_line_start_rows reads.line_start (held in_paragraph p End true events local) [] None refl es
       (subst (λ q. EndsWith g text step (held [] p End true (events ++ event g.bytes Exit Paragraph q ∷ []) (counts local)) [] (Retry FlowStart) es) (sym here.1) h)

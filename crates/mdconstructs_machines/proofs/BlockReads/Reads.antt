@@ -29,13 +29,6 @@ stands-next text p s ss place h =
     let one : p + 1 ≡ suc p = omega arith in
     (drop-next text.seats p s ss h.0, ap (end_place text) one ∙ ap (end_or text.start) (at-front text.seats p s ss h.0))
 
--- the rows of a chunk that is linked to the one before, and of the first
-abbrev linked_chunk : Rows Unit Unit
-linked_chunk = row (enter_link Data text_link ∷ links chunk_before last_event ∷ write connected ∷ []) (Retry ParagraphInside)
-
-abbrev first_chunk : Rows Unit Unit
-first_chunk = row (enter_link Data text_link ∷ write connected ∷ []) (Retry ParagraphInside)
-
 module _ (g : Given) (text : Text) (step : Sight → Configuration Unit Unit → Name → Step Unit Unit) where
   -- The machine has the states of paragraphs
   pub record ReadsBlocks : Type 0 where
@@ -45,25 +38,8 @@ module _ (g : Given) (text : Text) (step : Sight → Configuration Unit Unit →
     pub inside : HasRows g text step ParagraphInside paragraph_inside_rows
 
 module _ (g : Given) (text : Text) (step : Sight → Configuration Unit Unit → Name → Step Unit Unit) (reads : ReadsBlocks g text step) where
-  abbrev Goes : Configuration Unit Unit → Name → Configuration Unit Unit → Name → Type 0
+  abbrev pub Goes : Configuration Unit Unit → Name → Configuration Unit Unit → Name → Type 0
   Goes k name k' name' = Leads g text step k [] (Retry name) k' [] (Retry name')
-
-  -- In a chunk: the end, its line ending, and another byte
-  inside-end : (p : ℕ) (events : List Event) (local : Local Unit Unit)
-      → Goes (held in_chunk p End true events local) ParagraphInside (held in_paragraph p End true (events ++ event g.bytes Exit Data (end_place text p) ∷ []) (counts local)) ParagraphLineStart
-  inside-end p events local es h = leads-row g text step ParagraphInside paragraph_inside_rows reads.inside (held in_chunk p End true events local) [] None refl es h
-
-  inside-ending : (p : ℕ) (b : Bool) (events : List Event) (local : Local Unit Unit) (s : Seat) → slice_get text.seats p ≡ Some s → is_line_ending s ≡ true
-      → Leads g text step (held in_chunk p Byte b events local) [] (Retry ParagraphInside)
-      (held in_paragraph (p + 1) Nothing false (events ++ event g.bytes Exit Data s.end ∷ []) (counts local)) [] (Next ParagraphLineStart)
-  inside-ending p b events local s at is es h =
-      leads-row g text step ParagraphInside paragraph_inside_rows reads.inside (held in_chunk p Byte b events local) [] (Some line_ending) (is-class g text p s true at is) es
-      (subst (λ o. EndsWith g text step (held in_paragraph (p + 1) Nothing false (events ++ event g.bytes Exit Data (end_or text.end o) ∷ []) (counts local)) [] (Next ParagraphLineStart) es) (sym at) h)
-
-  inside-other : (p : ℕ) (b : Bool) (events : List Event) (local : Local Unit Unit) (s : Seat) → slice_get text.seats p ≡ Some s → is_line_ending s ≡ false
-      → Leads g text step (held in_chunk p Byte b events local) [] (Retry ParagraphInside) (held in_chunk (p + 1) Nothing false events (counts local)) [] (Next ParagraphInside)
-  inside-other p b events local s at no_end es h =
-      leads-row g text step ParagraphInside paragraph_inside_rows reads.inside (held in_chunk p Byte b events local) [] (Some other) (is-class g text p s false at no_end) es h
 
   -- All of a chunk was read, up to the next line; of chunks it is known what was known
   pub record ReadsRest (k : Configuration Unit Unit) (rest : List Seat) (place : Point) (events : List Event) (local : Local Unit Unit) : Type 0 where
@@ -75,54 +51,43 @@ module _ (g : Given) (text : Text) (step : Sight → Configuration Unit Unit →
     pub stands : Stands text to rest place
     pub goes : Goes k ParagraphInside (shows rest in_paragraph to ended (events ++ event g.bytes Exit Data place ∷ []) after) ParagraphLineStart
 
-  -- by what its first byte is
-  rest-ending : (s : Seat) (ss : List Seat) (p : ℕ) (b : Bool) (place : Point) (events : List Event) (local : Local Unit Unit) → Stands text p (s ∷ ss) place → is_line_ending s ≡ true
-      → ReadsRest (held in_chunk p Byte b events local) (after_line (s ∷ ss)) (end_after place (first_line (s ∷ ss))) events local
-  rest-ending s ss p b place events local here is =
-      let next = stands-next text p s ss place here in
-      subst (λ t. ReadsRest (held in_chunk p Byte b events local) (cond t ss (after_line ss)) (end_after place (cond t (s ∷ []) (s ∷ first_line ss))) events local) (sym is) (record {
-        to = p + 1;
-        ended = false;
-        after = counts local;
-        connect = refl;
-        index = refl;
-        stands = next;
-        goes = λ es h.
-            inside-ending p b events local s (at-front text.seats p s ss here.0) is es
-            (goes-next g text step ss in_paragraph (p + 1) false (events ++ event g.bytes Exit Data s.end ∷ []) (counts local) [] ParagraphLineStart next.0 es h);
-      })
-
-  rest-other : (s : Seat) (ss : List Seat) (p : ℕ) (b : Bool) (place : Point) (events : List Event) (local : Local Unit Unit) → Stands text p (s ∷ ss) place → is_line_ending s ≡ false
-      → ReadsRest (shows ss in_chunk (p + 1) false events (counts local)) (after_line ss) (end_after s.end (first_line ss)) events (counts local)
-      → ReadsRest (held in_chunk p Byte b events local) (after_line (s ∷ ss)) (end_after place (first_line (s ∷ ss))) events local
-  rest-other s ss p b place events local here no_end then =
-      let next = stands-next text p s ss place here in
-      subst (λ t. ReadsRest (held in_chunk p Byte b events local) (cond t ss (after_line ss)) (end_after place (cond t (s ∷ []) (s ∷ first_line ss))) events local) (sym no_end) (record {
-        to = then.to;
-        ended = then.ended;
-        after = then.after;
-        connect = then.connect;
-        index = then.index;
-        stands = then.stands;
-        goes = λ es h.
-            inside-other p b events local s (at-front text.seats p s ss here.0) no_end es
-            (goes-next g text step ss in_chunk (p + 1) false events (counts local) [] ParagraphInside next.0 es (then.goes es h));
-      })
-
   pub reads-rest : (l : List Seat) (p : ℕ) (b : Bool) (place : Point) (events : List Event) (local : Local Unit Unit) → Stands text p l place
       → ReadsRest (shows l in_chunk p b events local) (after_line l) (end_after place (first_line l)) events local
   reads-rest [] p b place events local here =
-      subst (λ q. ReadsRest (held in_chunk p End true events local) [] q events local) here.1 (record { to = p; ended = true; after = counts local; connect = refl; index = refl; stands = (here.0, refl); goes = inside-end p events local })
+      let goes = leads-row g text step ParagraphInside paragraph_inside_rows reads.inside (held in_chunk p End true events local) [] None refl in
+      subst (λ q. ReadsRest (held in_chunk p End true events local) [] q events local) here.1
+      (record { to = p; ended = true; after = counts local; connect = refl; index = refl; stands = (here.0, refl); goes = goes })
   reads-rest (s ∷ ss) p b place events local here =
-      let then = reads-rest ss (p + 1) false s.end events (counts local) (stands-next text p s ss place here) in
-      elim (is_line_ending s) as (λ t. is_line_ending s ≡ t → ReadsRest (held in_chunk p Byte b events local) (after_line (s ∷ ss)) (end_after place (first_line (s ∷ ss))) events local) [
-        | true ↦ rest-ending s ss p b place events local here
-        | false ↦ λ no_end. rest-other s ss p b place events local here no_end then
+      let k = held in_chunk p Byte b events local in
+      let next = stands-next text p s ss place here in
+      let at = at-front text.seats p s ss here.0 in
+      let then = reads-rest ss (p + 1) false s.end events (counts local) next in
+      let exited = λ (o : Option Seat). events ++ event g.bytes Exit Data (end_or text.end o) ∷ [] in
+      elim (is_line_ending s) as (λ t. is_line_ending s ≡ t → ReadsRest k (cond t ss (after_line ss)) (end_after place (cond t (s ∷ []) (s ∷ first_line ss))) events local) [
+        | true ↦ λ is. record {
+          to = p + 1;
+          ended = false;
+          after = counts local;
+          connect = refl;
+          index = refl;
+          stands = next;
+          goes = λ es h.
+              leads-row g text step ParagraphInside paragraph_inside_rows reads.inside k [] (Some line_ending) (is-class g text p s true at is) es
+              (subst (λ o. EndsWith g text step (held in_paragraph (p + 1) Nothing false (exited o) (counts local)) [] (Next ParagraphLineStart) es) (sym at)
+              (goes-next g text step ss in_paragraph (p + 1) false (exited (Some s)) (counts local) [] ParagraphLineStart next.0 es h));
+        }
+        | false ↦ λ is. record {
+          to = then.to;
+          ended = then.ended;
+          after = then.after;
+          connect = then.connect;
+          index = then.index;
+          stands = then.stands;
+          goes = λ es h.
+              leads-row g text step ParagraphInside paragraph_inside_rows reads.inside k [] (Some other) (is-class g text p s false at is) es
+              (goes-next g text step ss in_chunk (p + 1) false events (counts local) [] ParagraphInside next.0 es (then.goes es h));
+        }
       ] refl
-
-  -- Where a chunk may begin there is no byte
-  pub start-end : (p : ℕ) (events : List Event) (local : Local Unit Unit) → Goes (held in_paragraph p End true events local) ParagraphStart (held in_paragraph p End true events (counts local)) ParagraphLineStart
-  start-end p events local es h = leads-row g text step ParagraphStart paragraph_start_rows reads.start (held in_paragraph p End true events local) [] None refl es h
 
   -- A chunk begins: as it is entered, and with what is known of the chunk before
   abbrev entered_chunk : List Event → Option Seat → List Event
@@ -134,14 +99,13 @@ module _ (g : Given) (text : Text) (step : Sight → Configuration Unit Unit →
   abbrev joined_chunk : List Event → Local Unit Unit → Option Seat → List Event
   joined_chunk events local o = linked_to (begins_at local) (length (entered_chunk events o) - 1) (entered_chunk events o)
 
-  abbrev StartsChunk : (p : ℕ) (b : Bool) (events : List Event) (local : Local Unit Unit) → List Event → Type 0
-  StartsChunk p b events local after = Goes (held in_paragraph p Byte b events local) ParagraphStart (held in_chunk p Byte b after (begun after (counts local))) ParagraphInside
-
   -- the step, by whether a chunk came before
   abbrev start_step : Configuration Unit Unit → Configuration Unit Unit → Bool → Step Unit Unit
   start_step k k1 c =
       let s = sight g text k in
-      step_of (cond c (picked linked_chunk g s k1) (picked first_chunk g s k1)) s k1
+      let linked : Rows Unit Unit = row (enter_link Data text_link ∷ links chunk_before last_event ∷ write connected ∷ []) (Retry ParagraphInside) in
+      let first : Rows Unit Unit = row (enter_link Data text_link ∷ write connected ∷ []) (Retry ParagraphInside) in
+      step_of (cond c (picked linked g s k1) (picked first g s k1)) s k1
 
   starts : (p : ℕ) (b : Bool) (events : List Event) (local : Local Unit Unit) (s : Seat) → slice_get text.seats p ≡ Some s → (c : Bool) → connects local ≡ c
       → let k = held in_paragraph p Byte b events local in
@@ -152,18 +116,6 @@ module _ (g : Given) (text : Text) (step : Sight → Configuration Unit Unit →
       let k1 = held in_paragraph p Byte b events (counts local) in
       leads-row g text step ParagraphStart paragraph_start_rows reads.start k [] (Some (cond (is_line_ending s) line_ending other)) (is-class g text p s (is_line_ending s) at refl) es
       (subst (λ c. EndsWith g text step (start_step k k1 c).configuration ((start_step k k1 c).choices ++ []) (start_step k k1 c).answer es) (sym is) h)
-
-  starts-first : (p : ℕ) (b : Bool) (events : List Event) (local : Local Unit Unit) (s : Seat) → slice_get text.seats p ≡ Some s → connects local ≡ false
-      → StartsChunk p b events local (entered_chunk events (Some s))
-  starts-first p b events local s at first es h =
-      starts p b events local s at false first es
-      (subst (λ o. EndsWith g text step (held in_chunk p Byte b (entered_chunk events o) (begun (entered_chunk events o) (counts local))) [] (Retry ParagraphInside) es) (sym at) h)
-
-  starts-next : (p : ℕ) (b : Bool) (events : List Event) (local : Local Unit Unit) (s : Seat) → slice_get text.seats p ≡ Some s → connects local ≡ true
-      → StartsChunk p b events local (joined_chunk events local (Some s))
-  starts-next p b events local s at next es h =
-      starts p b events local s at true next es
-      (subst (λ o. EndsWith g text step (held in_chunk p Byte b (joined_chunk events local o) (begun (joined_chunk events local o) (counts local))) [] (Retry ParagraphInside) es) (sym at) h)
 
   -- so it begins where marked events have one more
   pub record BeginsChunk (s : Seat) (p : ℕ) (b : Bool) (block n : ℕ) (ms : List Marked) (local : Local Unit Unit) : Type 0 where
@@ -178,9 +130,6 @@ module _ (g : Given) (text : Text) (step : Sight → Configuration Unit Unit →
       let long : length (with_links ms ++ e ∷ []) ≡ length (with_links ms) + 1 = length-append (with_links ms) (e ∷ []) in
       let same : length (with_links ms) ≡ length ms = length-map ms (as_linked ms) in omega (arith, long, same)
 
-  length-linked : (i m : ℕ) (es : List Event) → length (linked_to i m es) ≡ length es
-  length-linked i m es = updated-length m (with_previous i) (updated_at i (with_next m) es) ∙ updated-length i (with_next m) es
-
   pub begins-chunk : (s : Seat) (p : ℕ) (b : Bool) (block n : ℕ) (ms : List Marked) (local : Local Unit Unit) → slice_get text.seats p ≡ Some s → KnowsLast block n ms (connects local) (begins_at local)
       → BeginsChunk s p b block n ms local
   begins-chunk s p b block zero ms local at known =
@@ -191,8 +140,9 @@ module _ (g : Given) (text : Text) (step : Sight → Configuration Unit Unit →
         connect = refl;
         index = last-of ms (alone e);
         goes = λ es h.
-            starts-first p b (with_links ms) local s at known.0 es
-            (subst (λ l. EndsWith g text step (held in_chunk p Byte b l (begun new (counts local))) [] (Retry ParagraphInside) es) is h);
+            starts p b (with_links ms) local s at false known.0 es
+            (subst (λ o. let after = entered_chunk (with_links ms) o in EndsWith g text step (held in_chunk p Byte b after (begun after (counts local))) [] (Retry ParagraphInside) es) (sym at)
+            (subst (λ l. EndsWith g text step (held in_chunk p Byte b l (begun new (counts local))) [] (Retry ParagraphInside) es) is h));
       }
   begins-chunk s p b block (suc n) ms local at known =
       let e = event g.bytes Enter Data s.point in
@@ -203,8 +153,9 @@ module _ (g : Given) (text : Text) (step : Sight → Configuration Unit Unit →
       let is : with_links (ms ++ (e, Some (block, suc n)) ∷ []) ≡ new = links-next ms e block n i known.1 ∙ ap (λ m. linked_to i m one) (sym last) in record {
         after = begun new (counts local);
         connect = refl;
-        index = ap (λ m. m - 1) (length-linked i (length one - 1) one) ∙ last;
+        index = ap (λ m. m - 1) (updated-length (length one - 1) (with_previous i) (updated_at i (with_next (length one - 1)) one) ∙ updated-length i (with_next (length one - 1)) one) ∙ last;
         goes = λ es h.
-            starts-next p b (with_links ms) local s at known.0 es
-            (subst (λ l. EndsWith g text step (held in_chunk p Byte b l (begun new (counts local))) [] (Retry ParagraphInside) es) is h);
+            starts p b (with_links ms) local s at true known.0 es
+            (subst (λ o. let after = joined_chunk (with_links ms) local o in EndsWith g text step (held in_chunk p Byte b after (begun after (counts local))) [] (Retry ParagraphInside) es) (sym at)
+            (subst (λ l. EndsWith g text step (held in_chunk p Byte b l (begun new (counts local))) [] (Retry ParagraphInside) es) is h));
       }

@@ -1,11 +1,11 @@
 -- Whole documents are read block by block.
-use Rattle.mdconstructs_machines.proofs.Prelude.{AllByRecursion, ◌≡◌, ℕ, zero, suc, ◌+◌, ◌≤◌, ◌∷◌, ◌++◌, [], List, Bool, true, false, ◌⊎◌, inl, inr, refl, sym, ◌∙◌, ap, subst, Option, Some, None, arith, length, slice_get, append_assoc, append-nil, every-append, Event, Enter, Exit, Paragraph, BlankLineEnding, Point, Name, Next, Retry, FlowStart, ParagraphLineStart, Seat, end_after, Nothing, Byte, End, Given, Text, Configuration, Local, Step, start_configuration, whole_text, Rules, Sight, point_or, end_or, is_line_ending, lines_in, all_of, IsReadAs, event, line_ending, other, counts, flow_start_rows, Block, Marked, paragraph, marked_span, line_marks, lines_marks, blocks_marks, blocks_of, with_links, paragraph_events}
-use Rattle.mdconstructs_machines.proofs.BlockReads.Lines.{first_line, after_line, line-on, after-less, blank-block, other-block, Run, run_end, run_blank, run_on}
+use Rattle.mdconstructs_machines.proofs.Prelude.{AllByRecursion, ◌≡◌, ℕ, zero, suc, ◌+◌, ◌≤◌, ◌∷◌, ◌++◌, [], List, Bool, true, false, ◌⊎◌, inl, inr, refl, sym, ◌∙◌, ap, subst, Option, Some, None, arith, length, append_assoc, append-nil, every-append, Event, Enter, Exit, Paragraph, BlankLineEnding, Point, Name, Next, Retry, FlowStart, ParagraphLineStart, Seat, end_after, Nothing, Byte, End, Given, Text, Configuration, Local, Step, start_configuration, whole_text, Rules, Sight, point_or, end_or, is_line_ending, lines_in, all_of, IsReadAs, event, line_ending, other, counts, flow_start_rows, Block, Marked, continued, paragraph, marked_span, line_marks, lines_marks, blocks_marks, blocks_of, with_links, paragraph_events}
+use Rattle.mdconstructs_machines.proofs.BlockReads.Lines.{first_line, after_line, line-on, after-less, blank-block, other-block, Run}
 use Rattle.mdconstructs_machines.proofs.BlockReads.Links.{IsBefore, KnowsLast, links-plain, before-next}
 use Rattle.mdconstructs_machines.proofs.BlockReads.OneLine.{three, reads-line, paragraph-ends}
-use Rattle.mdconstructs_machines.proofs.BlockReads.Reads.{in_paragraph, connects, begins_at, Stands, stands-next, ReadsBlocks}
+use Rattle.mdconstructs_machines.proofs.BlockReads.Reads.{in_paragraph, connects, begins_at, Stands, stands-next, ReadsBlocks, Goes}
 use Rattle.mdconstructs_machines.proofs.LineReads.Rows.{is-class, leads-row}
-use Rattle.mdconstructs_machines.proofs.LineReads.Steps.{EndsWith, Leads, ended, held, shows, goes-next, at-front, reads-as}
+use Rattle.mdconstructs_machines.proofs.LineReads.Steps.{EndsWith, ended, held, shows, goes-next, at-front, reads-as}
 
 -- the place after two stretches is that after the second, from that after the first
 end-append : (p : Point) (xs ys : List Seat) → end_after p (xs ++ ys) ≡ end_after (end_after p xs) ys
@@ -17,17 +17,6 @@ nest : (ms : List Marked) (x : Marked) (one more : List Marked) (y : Marked) (re
     → ((((ms ++ x ∷ []) ++ one) ++ more) ++ y ∷ []) ++ rest ≡ ms ++ ((x ∷ ((one ++ more) ++ y ∷ [])) ++ rest)
 nest ms x one more y rest = simp append_assoc
 
--- The marks of a paragraph over these lines, the first of which begins with this byte
-module _ (bytes : List ℕ) (s : Seat) (ss : List Seat) (lines : List (List Seat)) (place : Point) (inside : List Marked) where
-  abbrev spanned : List Seat → List Marked
-  spanned line = (event bytes Enter Paragraph s.point, None) ∷ (inside ++ (event bytes Exit Paragraph (end_after (end_after place line) (all_of lines)), None) ∷ [])
-
-  span-of : (rest : List Seat) → marked_span bytes None Paragraph ((s ∷ rest) ++ all_of lines) inside ≡ spanned (s ∷ rest)
-  span-of rest = ap (λ q. (event bytes Enter Paragraph s.point, None) ∷ (inside ++ (event bytes Exit Paragraph q, None) ∷ [])) (end-append s.end rest (all_of lines))
-
-  paragraph-span : is_line_ending s ≡ false → marked_span bytes None Paragraph (first_line (s ∷ ss) ++ all_of lines) inside ≡ spanned (first_line (s ∷ ss))
-  paragraph-span no_end = subst (λ line. marked_span bytes None Paragraph (line ++ all_of lines) inside ≡ spanned line) (sym (line-on s ss no_end)) (span-of (first_line ss))
-
 -- what is added for a paragraph of these lines, and for the blocks behind it
 paragraph-marked : (bytes : List ℕ) (s : Seat) (ss : List Seat) (lines : List (List Seat)) (place : Point) (block : ℕ) (ms : List Marked) (others : List Block) → is_line_ending s ≡ false
     → let first = first_line (s ∷ ss) in
@@ -36,15 +25,16 @@ paragraph-marked : (bytes : List ℕ) (s : Seat) (ss : List Seat) (lines : List 
     ≡ ms ++ blocks_marks bytes block (paragraph (first ∷ lines) ∷ others)
 paragraph-marked bytes s ss lines place block ms others no_end =
     let first = first_line (s ∷ ss) in
-    let rest = blocks_marks bytes (suc block) others in
     let inside = line_marks bytes (block, 0) first ++ lines_marks bytes block 1 lines in
-    nest ms (event bytes Enter Paragraph s.point, None) (line_marks bytes (block, 0) first) (lines_marks bytes block 1 lines) (event bytes Exit Paragraph (end_after (end_after place first) (all_of lines)), None) rest
-    ∙ ap (λ l. ms ++ (l ++ rest)) (sym (paragraph-span bytes s ss lines place inside no_end))
+    let spanned : Point → List Marked = λ q. (event bytes Enter Paragraph s.point, None) ∷ (inside ++ (event bytes Exit Paragraph q, None) ∷ []) in
+    let span : marked_span bytes None Paragraph (first ++ all_of lines) inside ≡ spanned (end_after (end_after place first) (all_of lines)) =
+    subst (λ line. marked_span bytes None Paragraph (line ++ all_of lines) inside ≡ spanned (end_after (end_after place line) (all_of lines))) (sym (line-on s ss no_end))
+    (ap spanned (end-append s.end (first_line ss) (all_of lines))) in
+    nest ms (event bytes Enter Paragraph s.point, None) (line_marks bytes (block, 0) first) (lines_marks bytes block 1 lines)
+    (event bytes Exit Paragraph (end_after (end_after place first) (all_of lines)), None) (blocks_marks bytes (suc block) others)
+    ∙ ap (λ l. ms ++ (l ++ blocks_marks bytes (suc block) others)) (sym span)
 
 module _ (g : Given) (text : Text) (step : Sight → Configuration Unit Unit → Name → Step Unit Unit) (reads : ReadsBlocks g text step) where
-  abbrev Goes : Configuration Unit Unit → Name → Configuration Unit Unit → Name → Type 0
-  Goes k name k' name' = Leads g text step k [] (Retry name) k' [] (Retry name')
-
   -- The lines that go on a paragraph were read, up to this place
   record ReadsRun (k : Configuration Unit Unit) (rest : List Seat) (place : Point) (block : ℕ) (marks : List Marked) : Type 0 where
     pub to : ℕ
@@ -52,7 +42,7 @@ module _ (g : Given) (text : Text) (step : Sight → Configuration Unit Unit →
     pub after : Local Unit Unit
     pub stands : Stands text to rest place
     pub before : AllByRecursion (IsBefore (suc block) 0) marks
-    pub goes : Goes k ParagraphLineStart (shows rest in_paragraph to ended (with_links marks) after) ParagraphLineStart
+    pub goes : Goes g text step reads k ParagraphLineStart (shows rest in_paragraph to ended (with_links marks) after) ParagraphLineStart
 
   -- which they are, and that they were
   abbrev RunRead : (l : List Seat) → Configuration Unit Unit → Point → (block n : ℕ) → List Marked → Type 0
@@ -66,11 +56,16 @@ module _ (g : Given) (text : Text) (step : Sight → Configuration Unit Unit →
 
   reads-run : (m : ℕ) (l : List Seat) → length l ≤ m → (p : ℕ) (b : Bool) (place : Point) (block n : ℕ) (ms : List Marked) (local : Local Unit Unit) → Stands text p l place
       → AllByRecursion (IsBefore (suc block) 0) ms → (l ≡ []) ⊎ KnowsLast block n ms (connects local) (begins_at local) → RunRead l (shows l in_paragraph p b (with_links ms) local) place block n ms
-  reads-run m [] few p b place block n ms local here before known = (run_end, stops-there [] p b place block ms local here before)
+  reads-run m [] few p b place block n ms local here before known =
+      (record { lines = []; rest = []; goes_on = λ line. refl; stops = tt; shorter = omega arith }, stops-there [] p b place block ms local here before)
   reads-run zero (s ∷ ss) few p b place block n ms local here before known = absurd (omega (arith, few))
   reads-run (suc m) (s ∷ ss) few p b place block n ms local here before known =
       elim (is_line_ending s) as (λ t. is_line_ending s ≡ t → RunRead (s ∷ ss) (held in_paragraph p Byte b (with_links ms) local) place block n ms) [
-        | true ↦ λ is. (run_blank s ss is, stops-there (s ∷ ss) p b place block ms local here before)
+        | true ↦ λ is.
+            let same = blank-block s ss is in (
+              record { lines = []; rest = s ∷ ss; goes_on = λ line. ap (continued line) same ∙ ap (λ bs. paragraph (line ∷ []) ∷ bs) (sym same); stops = is; shorter = omega arith },
+              stops-there (s ∷ ss) p b place block ms local here before,
+            )
         | false ↦ λ no_end. elim known [
           | inl none ↦ absurd (cc)
           | inr knows ↦
@@ -80,8 +75,15 @@ module _ (g : Given) (text : Text) (step : Sight → Configuration Unit Unit →
               let less = after-less s ss in
               let then = reads-run m (after_line (s ∷ ss)) (omega (arith, less, few)) line.to line.ended (end_after place first) block (suc n) (ms ++ marks) line.after line.stands line.before line.known in
               let run = then.0 in
-              let r = then.1 in (
-                run_on s ss no_end run,
+              let r = then.1 in
+              let shorter = run.shorter in (
+                record {
+                  lines = first ∷ run.lines;
+                  rest = run.rest;
+                  goes_on = λ before. ap (continued before) (other-block s ss no_end ∙ run.goes_on first);
+                  stops = run.stops;
+                  shorter = omega (arith, less, shorter);
+                },
                 subst (λ q. ReadsRun (held in_paragraph p Byte b (with_links ms) local) run.rest q block (ms ++ (marks ++ lines_marks g.bytes block (suc n) run.lines))) (sym (end-append place first (all_of run.lines)))
                     (subst (ReadsRun (held in_paragraph p Byte b (with_links ms) local) run.rest (end_after (end_after place first) (all_of run.lines)) block) (append_assoc ms marks (lines_marks g.bytes block (suc n) run.lines))
                     (record { to = r.to; ended = r.ended; after = r.after; stands = r.stands; before = r.before; goes = λ es h. line.goes es (r.goes es h) })),
@@ -93,28 +95,8 @@ module _ (g : Given) (text : Text) (step : Sight → Configuration Unit Unit →
   abbrev at_flow : List Seat → ℕ → Bool → List Event → Local Unit Unit → List Event → Type 0
   at_flow l p b events local es = EndsWith g text step (shows l [] p b events local) [] (Retry FlowStart) es
 
-  flow-end : (p : ℕ) (b : Bool) (events : List Event) (local : Local Unit Unit) → at_flow [] p b events local events
-  flow-end p b events local =
-      leads-row g text step FlowStart flow_start_rows reads.flow_start (held [] p End true events local) [] None refl events (ended g text step (held [] p End true events (counts local)))
-
   abbrev blank_line : List Event → Option Seat → List Event
   blank_line events o = (events ++ event g.bytes Enter BlankLineEnding (point_or text.end o) ∷ []) ++ event g.bytes Exit BlankLineEnding (end_or text.end o) ∷ []
-
-  flow-blank : (p : ℕ) (b : Bool) (events : List Event) (local : Local Unit Unit) (s : Seat) → slice_get text.seats p ≡ Some s → is_line_ending s ≡ true
-      → Leads g text step (held [] p Byte b events local) [] (Retry FlowStart) (held [] (p + 1) Nothing false (blank_line events (Some s)) (counts local)) [] (Next FlowStart)
-  flow-blank p b events local s at is es h =
-      leads-row g text step FlowStart flow_start_rows reads.flow_start (held [] p Byte b events local) [] (Some line_ending) (is-class g text p s true at is) es
-      (subst (λ o. EndsWith g text step (held [] (p + 1) Nothing false (blank_line events o) (counts local)) [] (Next FlowStart) es) (sym at) h)
-
-  -- no chunk came before
-  abbrev no_chunk : Local Unit Unit → Local Unit Unit
-  no_chunk local = record local { tokenize_state = record local.tokenize_state { connect = false } }
-
-  flow-other : (p : ℕ) (b : Bool) (events : List Event) (local : Local Unit Unit) (s : Seat) → slice_get text.seats p ≡ Some s → is_line_ending s ≡ false
-      → Goes (held [] p Byte b events local) FlowStart (held in_paragraph p Byte b (events ++ event g.bytes Enter Paragraph s.point ∷ []) (no_chunk (counts local))) ParagraphLineStart
-  flow-other p b events local s at no_end es h =
-      leads-row g text step FlowStart flow_start_rows reads.flow_start (held [] p Byte b events local) [] (Some other) (is-class g text p s false at no_end) es
-      (subst (λ o. EndsWith g text step (held in_paragraph p Byte b (events ++ event g.bytes Enter Paragraph (point_or text.end o) ∷ []) (no_chunk (counts local))) [] (Retry ParagraphLineStart) es) (sym at) h)
 
   -- From before a block on, with what is marked so far, all blocks that are left are read
   abbrev pub FromFlow : (l : List Seat) → Type 0
@@ -124,6 +106,7 @@ module _ (g : Given) (text : Text) (step : Sight → Configuration Unit Unit →
   from-blank : (s : Seat) (ss : List Seat) → is_line_ending s ≡ true → FromFlow ss → FromFlow (s ∷ ss)
   from-blank s ss is then p b place block ms local here before =
       let next = stands-next text p s ss place here in
+      let at = at-front text.seats p s ss here.0 in
       let enters = event g.bytes Enter BlankLineEnding s.point in
       let exits = event g.bytes Exit BlankLineEnding s.end in
       let one = ms ++ (enters, None) ∷ [] in
@@ -135,15 +118,18 @@ module _ (g : Given) (text : Text) (step : Sight → Configuration Unit Unit →
       let all : AllByRecursion (IsBefore (suc block) 0) two =
       every-append (IsBefore (suc block) 0) one ((exits, None) ∷ []) (every-append (IsBefore (suc block) 0) ms ((enters, None) ∷ []) (before-next block 0 ms before) (tt, tt)) (tt, tt) in
       subst (λ l. at_flow (s ∷ ss) p b (with_links ms) local (with_links l)) same
-      (flow-blank p b (with_links ms) local s (at-front text.seats p s ss here.0) is (with_links (two ++ rest))
+      (leads-row g text step FlowStart flow_start_rows reads.flow_start (held [] p Byte b (with_links ms) local) [] (Some line_ending) (is-class g text p s true at is) (with_links (two ++ rest))
+      (subst (λ o. EndsWith g text step (held [] (p + 1) Nothing false (blank_line (with_links ms) o) (counts local)) [] (Next FlowStart) (with_links (two ++ rest))) (sym at)
       (goes-next g text step ss [] (p + 1) false (blank_line (with_links ms) (Some s)) (counts local) [] FlowStart next.0 (with_links (two ++ rest))
-      (subst (λ l. at_flow ss (p + 1) false l (counts local) (with_links (two ++ rest))) linked (then (p + 1) false s.end (suc block) two (counts local) next all))))
+      (subst (λ l. at_flow ss (p + 1) false l (counts local) (with_links (two ++ rest))) linked (then (p + 1) false s.end (suc block) two (counts local) next all)))))
 
   from-paragraph : (m : ℕ) (s : Seat) (ss : List Seat) → length ss ≤ m → is_line_ending s ≡ false → ((l : List Seat) → length l ≤ m → FromFlow l) → FromFlow (s ∷ ss)
   from-paragraph m s ss few no_end then p b place block ms local here before =
+      let at = at-front text.seats p s ss here.0 in
       let enters = event g.bytes Enter Paragraph s.point in
       let one = ms ++ (enters, None) ∷ [] in
-      let begun = no_chunk (counts local) in
+      let counted = counts local in
+      let begun = record counted { tokenize_state = record counted.tokenize_state { connect = false } } in
       let known : KnowsLast block 0 one (connects begun) (begins_at begun) = (refl, every-append (IsBefore block 0) ms ((enters, None) ∷ []) before (tt, tt)) in
       let line = reads-line g text step reads s ss p b place block 0 one begun here known no_end in
       let first = first_line (s ∷ ss) in
@@ -166,16 +152,20 @@ module _ (g : Given) (text : Text) (step : Sight → Configuration Unit Unit →
       subst (λ bs. closed ++ others ≡ ms ++ blocks_marks g.bytes block bs) (sym blocks) (paragraph-marked g.bytes s ss lines place block ms (blocks_of (lines_in rest)) no_end) in
       let end = with_links (closed ++ others) in
       subst (λ l. at_flow (s ∷ ss) p b (with_links ms) local (with_links l)) same
-      (flow-other p b (with_links ms) local s (at-front text.seats p s ss here.0) no_end end
+      (leads-row g text step FlowStart flow_start_rows reads.flow_start (held [] p Byte b (with_links ms) local) [] (Some other) (is-class g text p s false at no_end) end
+      (subst (λ o. EndsWith g text step (held in_paragraph p Byte b (with_links ms ++ event g.bytes Enter Paragraph (point_or text.end o) ∷ []) begun) [] (Retry ParagraphLineStart) end) (sym at)
       (subst (λ l. EndsWith g text step (held in_paragraph p Byte b l begun) [] (Retry ParagraphLineStart) end) (links-plain ms enters)
       (line.goes end
       (r.goes end
       (paragraph-ends g text step reads rest r.to r.ended last (with_links all) r.after r.stands found.0.stops end
       (subst (λ l. at_flow rest r.to r.ended l (counts r.after) end) (links-plain all exits)
-      (then rest (omega (arith, less, few, shorter)) r.to r.ended last (suc block) closed (counts r.after) r.stands after)))))))
+      (then rest (omega (arith, less, few, shorter)) r.to r.ended last (suc block) closed (counts r.after) r.stands after))))))))
 
   reads-blocks : (m : ℕ) (l : List Seat) → length l ≤ m → FromFlow l
-  reads-blocks m [] few = λ p b place block ms local here before. subst (at_flow [] p b (with_links ms) local) (ap with_links (sym (append-nil ms))) (flow-end p b (with_links ms) local)
+  reads-blocks m [] few = λ p b place block ms local here before.
+      let events = with_links ms in
+      subst (at_flow [] p b events local) (ap with_links (sym (append-nil ms)))
+      (leads-row g text step FlowStart flow_start_rows reads.flow_start (held [] p End true events local) [] None refl events (ended g text step (held [] p End true events (counts local))))
   reads-blocks zero (s ∷ ss) few = absurd (omega (arith, few))
   reads-blocks (suc m) (s ∷ ss) few =
       let fewer : length ss ≤ m = omega (arith, few) in

@@ -22,30 +22,6 @@ module _ (bytes : List ℕ) where
   abbrev in_first : Point → List Seat → List Event
   in_first place l = event bytes Exit Data (end_after place (first_line l)) ∷ leaf bytes Data (other_lines l)
 
-  first-ends : (place : Point) (s : Seat) (ss : List Seat) → is_line_ending s ≡ true → in_first place (s ∷ ss) ≡ event bytes Exit Data s.end ∷ leaf bytes Data ss
-  first-ends place s ss e =
-      ap (λ b. let lines = cond b ((s ∷ []) ∷ lines_in ss) (joined s (lines_in ss)) in event bytes Exit Data (end_after place (all_of (take 1 lines))) ∷ leaf bytes Data (all_of (drop 1 lines))) e
-      ∙ ap (λ l. event bytes Exit Data s.end ∷ leaf bytes Data l) (lines-are-all ss)
-
-  first-goes-on : (place : Point) (s : Seat) (ss : List Seat) → is_line_ending s ≡ false → in_first place (s ∷ ss) ≡ in_first s.end ss
-  first-goes-on place s ss e =
-      ap (λ b. let lines = cond b ((s ∷ []) ∷ lines_in ss) (joined s (lines_in ss)) in event bytes Exit Data (end_after place (all_of (take 1 lines))) ∷ leaf bytes Data (all_of (drop 1 lines))) e
-      ∙ ap (λ l. event bytes Exit Data (end_after place l) ∷ leaf bytes Data (all_of (drop 1 (joined s (lines_in ss))))) (first-joined s (lines_in ss))
-      ∙ ap (λ l. event bytes Exit Data (end_after s.end (first_line ss)) ∷ leaf bytes Data l) (ap all_of (joined-first s (lines_in ss)))
-
-  -- from the first byte on
-  begins-first : (place : Point) (s : Seat) (ss : List Seat) → event bytes Enter Data s.point ∷ in_first place (s ∷ ss) ≡ back_events bytes (s ∷ ss)
-  begins-first place s ss =
-      elim (is_line_ending s) as (λ t. let lines = cond t ((s ∷ []) ∷ lines_in ss) (joined s (lines_in ss)) in
-      event bytes Enter Data s.point ∷ event bytes Exit Data (end_after place (all_of (take 1 lines))) ∷ leaf bytes Data (all_of (drop 1 lines))
-      ≡ leaf bytes Data (all_of (take 1 lines)) ++ leaf bytes Data (all_of (drop 1 lines))) [
-        | true ↦ refl
-        | false ↦
-            let others = leaf bytes Data (all_of (drop 1 (joined s (lines_in ss)))) in
-            ap (λ l. event bytes Enter Data s.point ∷ event bytes Exit Data (end_after place l) ∷ others) (first-joined s (lines_in ss))
-            ∙ ap (λ l. leaf bytes Data l ++ others) (sym (first-joined s (lines_in ss)))
-      ]
-
 module _ (g : Given) (text : Text) where
   abbrev step : Sight → Configuration Unit Unit → Name → Step Unit Unit
   step = (back_rules g).step
@@ -79,12 +55,6 @@ module _ (g : Given) (text : Text) where
       (goes-next g text step ss in_data (p + 1) false events (counts local) [] StringBefore next es (in-rest ss (p + 1) false events (counts local) next)))
 
   -- the look fails, wherever it ends
-  looked : (l : List Seat) (p : ℕ) (b : Bool) (events : List Event) (local : Local Unit Unit) (cs : List Choice) (all : List Event) → FailsTo g text step cs events all
-      → EndsWith g text step (shows l in_data p b events local) cs (Retry StringStart) all
-  looked l p b events local cs all back =
-      let k = shows l in_data p b events local in
-      leads-row g text step StringStart string_start_rows (λ k. refl) k cs (waits_class g text k) refl all (back (with_local k (counts k.local)) (shows-events l in_data p b events local))
-
   looks : (l : List Seat) (p : ℕ) (b : Bool) (events : List Event) (local : Local Unit Unit) (cs : List Choice) (all : List Event) → drop p text.seats ≡ l → FailsTo g text step cs events all
       → EndsWith g text step (shows l in_data p b events local) cs (Retry DataInside) all
   looks [] p b events local cs all here back =
@@ -92,10 +62,13 @@ module _ (g : Given) (text : Text) where
   looks (s ∷ ss) p b events local cs all here back =
       let at = at-front text.seats p s ss here in
       let next = drop-next text.seats p s ss here in
+      let then = shows ss in_data (p + 1) false events (counts local) in
       elim (is_line_ending s) as (λ t. is_line_ending s ≡ t → EndsWith g text step (at_byte p b events local) cs (Retry DataInside) all) [
         | true ↦ λ e.
             leads-row g text step DataInside data_inside_rows (λ k. refl) (at_byte p b events local) cs (Some line_ending) (is-class g text p s true at e) all
-            (goes-next g text step ss in_data (p + 1) false events (counts local) cs StringStart next all (looked ss (p + 1) false events (counts local) cs all back))
+            (goes-next g text step ss in_data (p + 1) false events (counts local) cs StringStart next all
+            (leads-row g text step StringStart string_start_rows (λ k. refl) then cs (waits_class g text then) refl all
+            (back (with_local then (counts then.local)) (shows-events ss in_data (p + 1) false events (counts local)))))
         | false ↦ λ e.
             leads-row g text step DataInside data_inside_rows (λ k. refl) (at_byte p b events local) cs (Some other) (is-class g text p s false at e) all
             (goes-next g text step ss in_data (p + 1) false events (counts local) cs DataInside next all (looks ss (p + 1) false events (counts local) cs all next back))
@@ -137,15 +110,15 @@ module _ (g : Given) (text : Text) where
       elim (is_line_ending s) as (λ t. is_line_ending s ≡ t → EndsWith g text step k [] (Retry TextBefore) (begun ∷ in_first g.bytes place (s ∷ ss))) [
         | true ↦ λ e.
             let all = begun ∷ event g.bytes Exit Data behind ∷ leaf g.bytes Data ss in
-            let same : all ≡ begun ∷ in_first g.bytes place (s ∷ ss) =
-            ap (λ q. begun ∷ event g.bytes Exit Data q ∷ leaf g.bytes Data ss) (place-behind text p s at) ∙ ap (λ l. begun ∷ l) (sym (first-ends g.bytes place s ss e)) in
+            let ends : in_first g.bytes place (s ∷ ss) ≡ event g.bytes Exit Data s.end ∷ leaf g.bytes Data ss = rw (e, lines-are-all ss) in
+            let same : all ≡ begun ∷ in_first g.bytes place (s ∷ ss) = ap (λ q. begun ∷ event g.bytes Exit Data q ∷ leaf g.bytes Data ss) (place-behind text p s at) ∙ ap (λ l. begun ∷ l) (sym ends) in
             subst (EndsWith g text step k [] (Retry TextBefore)) same
             (leads-row g text step TextBefore text_before_rows (λ k. refl) k [] (Some line_ending) (is-class g text p s true at e) all
             (goes-next g text step ss in_data (p + 1) false (begun ∷ []) (counts local) [] DataStart next all (before-next ss (p + 1) false begun (counts local) next)))
         | false ↦ λ e.
             let all = begun ∷ in_first g.bytes behind ss in
-            let same : all ≡ begun ∷ in_first g.bytes place (s ∷ ss) =
-            ap (λ q. begun ∷ in_first g.bytes q ss) (place-behind text p s at) ∙ ap (λ l. begun ∷ l) (sym (first-goes-on g.bytes place s ss e)) in
+            let goes_on : in_first g.bytes place (s ∷ ss) ≡ in_first g.bytes s.end ss = rw (e, first-joined s (lines_in ss), joined-first s (lines_in ss)) in
+            let same : all ≡ begun ∷ in_first g.bytes place (s ∷ ss) = ap (λ q. begun ∷ in_first g.bytes q ss) (place-behind text p s at) ∙ ap (λ l. begun ∷ l) (sym goes_on) in
             subst (EndsWith g text step k [] (Retry TextBefore)) same
             (leads-row g text step TextBefore text_before_rows (λ k. refl) k [] (Some other) (is-class g text p s false at e) all
             (goes-next g text step ss in_data (p + 1) false (begun ∷ []) (counts local) [] TextBefore next all (in-first ss (p + 1) false begun (counts local) next)))
@@ -159,7 +132,11 @@ module _ (g : Given) (text : Text) where
       let at = at-front text.seats 0 s ss here in
       let k = held [] 0 Byte false [] local in
       let all = event g.bytes Enter Data s.point ∷ in_first g.bytes (end_place text 0) (s ∷ ss) in
-      subst (EndsWith g text step k [] (Retry TextStart)) (begins-first g.bytes (end_place text 0) s ss)
+      let same : all ≡ back_events g.bytes (s ∷ ss) =
+      elim (is_line_ending s) as (λ t. let lines = cond t ((s ∷ []) ∷ lines_in ss) (joined s (lines_in ss)) in
+      event g.bytes Enter Data s.point ∷ event g.bytes Exit Data (end_after (end_place text 0) (all_of (take 1 lines))) ∷ leaf g.bytes Data (all_of (drop 1 lines))
+      ≡ leaf g.bytes Data (all_of (take 1 lines)) ++ leaf g.bytes Data (all_of (drop 1 lines))) [ true ↦ refl | false ↦ rw (first-joined s (lines_in ss)) ] in
+      subst (EndsWith g text step k [] (Retry TextStart)) same
       (leads-row g text step TextStart text_start_rows (λ k. refl) k [] (Some (line_byte s.byte)) (byte-class g text 0 s at) all
       (subst (λ o. EndsWith g text step (at_byte 0 false (event g.bytes Enter Data (point_or text.end o) ∷ []) (counts local)) [] (Retry TextBefore) all) (sym at)
       (in-first (s ∷ ss) 0 false (event g.bytes Enter Data s.point) (counts local) here)))

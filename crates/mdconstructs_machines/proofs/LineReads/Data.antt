@@ -1,8 +1,7 @@
 -- Data reading: the states of data read each line as data, in every machine that ends in them.
-use Rattle.mdconstructs_machines.proofs.Prelude.{◌≡◌, ℕ, ◌+◌, ◌∷◌, ◌++◌, [], List, Bool, true, false, refl, sym, subst, Some, None, drop, Event, Enter, Exit, Data, LineEnding, Point, Name, Next, Retry, DataStart, DataInside, Seat, Nothing, Byte, End, Given, Text, Configuration, Local, Step, Sight, point_or, data_events, event, leaf, line_ending, other, counts}
+use Rattle.mdconstructs_machines.proofs.Prelude.{◌≡◌, ℕ, ◌+◌, ◌∷◌, ◌++◌, [], List, Bool, true, false, refl, sym, subst, Some, None, drop, Event, Enter, Exit, Data, Point, Name, Next, Retry, DataStart, DataInside, Seat, Nothing, Byte, End, Given, Text, Configuration, Local, Step, Sight, point_or, data_events, event, leaf, line_ending, other, counts}
 use Rattle.mdconstructs_machines.specs.Reading.{data_start_rows, data_inside_rows}
-use Rattle.mdconstructs_machines.proofs.LineReads.Events.{IsWritten}
-use Rattle.mdconstructs_machines.proofs.LineReads.Reads.{ReadsLines, from-start}
+use Rattle.mdconstructs_machines.proofs.LineReads.Reads.{ReadsLines, from-both}
 use Rattle.mdconstructs_machines.proofs.LineReads.Rows.{HasRows, leads-row, is-class, line-ending-read}
 use Rattle.mdconstructs_machines.proofs.LineReads.Steps.{EndsWith, held, goes-next}
 
@@ -18,9 +17,6 @@ module _ (g : Given) (text : Text) (step : Sight → Configuration Unit Unit →
 
   abbrev closing : Point → List Event
   closing place = event g.bytes Exit Data place ∷ []
-
-  written : IsWritten (leaf g.bytes Data) (leaf g.bytes LineEnding) opening closing
-  written = record { none = refl; none_ends = refl; some = λ s ss. refl }
 
   module _ (reads : ReadsData) where
     reads-lines : ReadsLines g text step DataStart DataInside (Data ∷ []) opening closing
@@ -44,4 +40,5 @@ module _ (g : Given) (text : Text) (step : Sight → Configuration Unit Unit →
         → EndsWith g text step (held [] p Nothing b events local) [] (Next DataStart) (events ++ data_events g.bytes l)
     data-read l p b events local here =
         goes-next g text step l [] p b events local [] DataStart here (events ++ data_events g.bytes l)
-        (from-start g text step DataStart DataInside (Data ∷ []) opening closing reads-lines (leaf g.bytes Data) written l p b events local here)
+        ((from-both g text step DataStart DataInside (Data ∷ []) opening closing reads-lines (leaf g.bytes Data)
+        (record { none = refl; none_ends = refl; some = λ s ss. refl }) l).0 p b events local here)

@@ -1,5 +1,5 @@
 -- The events of lines, from one virtual byte to the next.
-use Rattle.mdconstructs_machines.proofs.Prelude.{◌≡◌, ◌∷◌, ◌++◌, [], List, true, false, cond, refl, sym, ◌∙◌, ap, not, flat_map, append_assoc, append-nil, Event, Point, Seat, end_after, is_line_ending, joined, lines_in, line_text, ending_of, drop}
+use Rattle.mdconstructs_machines.proofs.Prelude.{◌≡◌, ◌∷◌, ◌++◌, [], List, true, false, refl, ◌∙◌, flat_map, append_assoc, append-nil, Event, Point, Seat, end_after, is_line_ending, joined, lines_in, line_text, ending_of, drop}
 
 -- one more byte changes only the first line
 pub joined-first : (s : Seat) (lines : List (List Seat)) → drop 1 (joined s lines) ≡ drop 1 lines
@@ -32,20 +32,13 @@ module _ (over ending : List Seat → List Event) (opening closing : Point → L
   abbrev rest : Point → List (List Seat) → List Event
   rest place lines = rest_of over ending opening closing place lines
 
-  -- a line that is only its ending
-  ending-alone : (s : Seat) → is_line_ending s ≡ true → of_line over ending opening closing (s ∷ []) ≡ ending (s ∷ [])
-  ending-alone s e = ap (λ b. over (cond (not b) (s ∷ []) []) ++ ending (cond b (s ∷ []) [])) e ∙ ap (λ es. es ++ ending (s ∷ [])) is.none
-
   -- at a line ending
   pub at-ending : (s : Seat) (ss : List Seat) → is_line_ending s ≡ true → all (lines_in (s ∷ ss)) ≡ ending (s ∷ []) ++ all (lines_in ss)
-  at-ending s ss e = ap (λ b. all (cond b ((s ∷ []) ∷ lines_in ss) (joined s (lines_in ss)))) e ∙ ap (λ es. es ++ all (lines_in ss)) (ending-alone s e)
+  at-ending s ss e = rw (e, e, is.none)
 
   -- after the last byte of a line
   pub rest-ending : (place : Point) (s : Seat) (ss : List Seat) → is_line_ending s ≡ true → rest place (lines_in (s ∷ ss)) ≡ closing place ++ all (lines_in (s ∷ ss))
-  rest-ending place s ss e =
-      ap (λ b. rest place (cond b ((s ∷ []) ∷ lines_in ss) (joined s (lines_in ss)))) e
-      ∙ ap (λ b. closing (end_after place (cond (not b) (s ∷ []) [])) ++ (ending (cond b (s ∷ []) []) ++ all (lines_in ss))) e
-      ∙ ap (λ es. closing place ++ es) (sym (at-ending s ss e))
+  rest-ending place s ss e = rw (e, e, is.none)
 
   -- at the first other byte of a line
   begun : (s : Seat) (lines : List (List Seat)) → is_line_ending s ≡ false → all (joined s lines) ≡ opening s.point ++ rest s.end lines

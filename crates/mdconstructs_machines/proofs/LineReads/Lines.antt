@@ -1,8 +1,7 @@
 -- The machine of lines reads each line as a paragraph of data.
-use Rattle.mdconstructs_machines.proofs.Prelude.{◌≡◌, ℕ, ◌+◌, ◌∷◌, ◌++◌, [], List, true, false, refl, sym, ◌∙◌, ap, subst, Some, None, slice_get, Event, Enter, Exit, Paragraph, Data, LineEnding, Point, Name, Next, Retry, Ok, FlowStart, ParagraphInside, Seat, Nothing, Byte, End, Given, Text, Configuration, Step, Sight, point_or, whole_text, line_events, lines_rules, paragraph_inside_rows, IsReadAs, event, span, leaf, line_ending, other, counts, EventName}
+use Rattle.mdconstructs_machines.proofs.Prelude.{◌≡◌, ℕ, ◌+◌, ◌∷◌, ◌++◌, [], List, true, false, refl, sym, ◌∙◌, ap, subst, Some, None, slice_get, Event, Enter, Exit, Paragraph, Data, Point, Name, Next, Retry, Ok, FlowStart, ParagraphInside, Seat, Nothing, Byte, End, Given, Text, Configuration, Step, Sight, point_or, whole_text, line_events, lines_rules, paragraph_inside_rows, IsReadAs, event, span, leaf, line_ending, other, counts, EventName}
 use Rattle.mdconstructs_machines.specs.Lines.{flow_start_rows}
-use Rattle.mdconstructs_machines.proofs.LineReads.Events.{IsWritten}
-use Rattle.mdconstructs_machines.proofs.LineReads.Reads.{ReadsLines, from-start}
+use Rattle.mdconstructs_machines.proofs.LineReads.Reads.{ReadsLines, from-both}
 use Rattle.mdconstructs_machines.proofs.LineReads.Rows.{leads-row, is-class, line-ending-read, two}
 use Rattle.mdconstructs_machines.proofs.LineReads.Steps.{EndsWith, held, reads-from}
 
@@ -23,9 +22,6 @@ module _ (g : Given) (text : Text) where
 
   abbrev over : List Seat → List Event
   over seats = span g.bytes Paragraph seats (leaf g.bytes Data seats)
-
-  written : IsWritten over (leaf g.bytes LineEnding) opening closing
-  written = record { none = refl; none_ends = refl; some = λ s ss. refl }
 
   opened : (p : ℕ) (s : Seat) (events : List Event) → slice_get text.seats p ≡ Some s
       → events ++ opening s.point
@@ -54,4 +50,5 @@ module _ (g : Given) (text : Text) where
 pub lines-read : IsReadAs lines_rules FlowStart line_events
 lines-read = reads-from lines_rules FlowStart line_events (λ g local.
     let text = whole_text g in
-    from-start g text (lines_rules g).step FlowStart ParagraphInside (in_line g text) (opening g text) (closing g text) (reads-lines g text) (over g text) (written g text) text.seats 0 false [] local refl)
+    (from-both g text (lines_rules g).step FlowStart ParagraphInside (in_line g text) (opening g text) (closing g text) (reads-lines g text) (over g text)
+    (record { none = refl; none_ends = refl; some = λ s ss. refl }) text.seats).0 0 false [] local refl)

@@ -32,55 +32,12 @@ module _ (g : Given) (text : Text) (step : Sight → Configuration Unit Unit →
     FromStart l = (p : ℕ) (b : Bool) (events : List Event) (local : Local Unit Unit) → drop p text.seats ≡ l
         → EndsWith g text step (shows l [] p b events local) [] (Retry start) (events ++ all l)
 
-    abbrev FromInside : List Seat → Type 0
+    abbrev pub FromInside : List Seat → Type 0
     FromInside l = (p : ℕ) (b : Bool) (events : List Event) (local : Local Unit Unit) → drop p text.seats ≡ l
         → EndsWith g text step (shows l stack p b events local) [] (Retry inside) (events ++ rest (end_place text p) l)
 
-    module _ (s : Seat) (ss : List Seat) (from_start : FromStart ss) (from_inside : FromInside ss) where
-      -- at a line ending
-      start-ending : is_line_ending s ≡ true → FromStart (s ∷ ss)
-      start-ending e p b events local here =
-          let next = drop-next text.seats p s ss here in
-          let es = events ++ leaf g.bytes LineEnding (s ∷ []) in
-          let same : es ++ all ss ≡ events ++ all (s ∷ ss) = append_assoc events _ _ ∙ ap (λ l. events ++ l) (sym (at-ending over (leaf g.bytes LineEnding) opening closing is s ss e)) in
-          subst (EndsWith g text step (held [] p Byte b events local) [] (Retry start)) same
-          (reads.at_ending p b events local s (at-front text.seats p s ss here) e (es ++ all ss)
-          (goes-next g text step ss [] (p + 1) false es (counts local) [] start next (es ++ all ss) (from_start (p + 1) false es (counts local) next)))
-
-      inside-ending : is_line_ending s ≡ true → FromInside (s ∷ ss)
-      inside-ending e p b events local here =
-          let place = end_place text p in
-          let es = events ++ closing place in
-          let same : es ++ all (s ∷ ss) ≡ events ++ rest place (s ∷ ss) =
-          append_assoc events _ _ ∙ ap (λ l. events ++ l) (sym (rest-ending over (leaf g.bytes LineEnding) opening closing is place s ss e)) in
-          subst (EndsWith g text step (held stack p Byte b events local) [] (Retry inside)) same
-          (reads.ends_at_ending p b events local s (at-front text.seats p s ss here) e (es ++ all (s ∷ ss)) (start-ending e p b es (counts local) here))
-
-      -- at another byte
-      inside-other : is_line_ending s ≡ false → FromInside (s ∷ ss)
-      inside-other e p b events local here =
-          let at = at-front text.seats p s ss here in
-          let next = drop-next text.seats p s ss here in
-          let place = end_place text p in
-          let same : rest (end_place text (p + 1)) ss ≡ rest place (s ∷ ss) =
-          ap (λ q. rest q ss) (place-behind text p s at) ∙ sym (rest-other over (leaf g.bytes LineEnding) opening closing is place s ss e) in
-          subst (λ l. EndsWith g text step (held stack p Byte b events local) [] (Retry inside) (events ++ l)) same
-          (reads.goes_on p b events local s at e (events ++ rest (end_place text (p + 1)) ss)
-          (goes-next g text step ss stack (p + 1) false events (counts local) [] inside next (events ++ rest (end_place text (p + 1)) ss) (from_inside (p + 1) false events (counts local) next)))
-
-      start-other : is_line_ending s ≡ false → FromStart (s ∷ ss)
-      start-other e p b events local here =
-          let place = end_place text p in
-          let es = events ++ opening s.point in
-          let same : es ++ rest place (s ∷ ss) ≡ events ++ all (s ∷ ss) =
-          append_assoc events _ _
-          ∙ ap (λ l. events ++ (opening s.point ++ l)) (rest-other over (leaf g.bytes LineEnding) opening closing is place s ss e)
-          ∙ ap (λ l. events ++ l) (sym (at-other over (leaf g.bytes LineEnding) opening closing is s ss e)) in
-          subst (EndsWith g text step (held [] p Byte b events local) [] (Retry start)) same
-          (reads.begins p b events local s (at-front text.seats p s ss here) e (es ++ rest place (s ∷ ss)) (inside-other e p b es (counts local) here))
-
     -- from both states, whatever is left
-    from-both : (l : List Seat) → FromStart l × FromInside l
+    pub from-both : (l : List Seat) → FromStart l × FromInside l
     from-both [] = (
       λ p b events local here.
           let same : events ≡ events ++ [] = sym (append-nil events) in
@@ -91,11 +48,45 @@ module _ (g : Given) (text : Text) (step : Sight → Configuration Unit Unit →
           reads.ends_at_end p events local es (ended g text step (held [] p End true es (counts local))),
     )
     from-both (s ∷ ss) =
-        let then = from-both ss in
+        let (from_start, from_inside) = from-both ss in
         elim (is_line_ending s) as (λ t. is_line_ending s ≡ t → FromStart (s ∷ ss) × FromInside (s ∷ ss)) [
-          | true ↦ λ e. (start-ending s ss then.0 then.1 e, inside-ending s ss then.0 then.1 e)
-          | false ↦ λ e. (start-other s ss then.0 then.1 e, inside-other s ss then.0 then.1 e)
+          | true ↦ λ e.
+              let start_ending : FromStart (s ∷ ss) = λ p b events local here.
+              let next = drop-next text.seats p s ss here in
+              let es = events ++ leaf g.bytes LineEnding (s ∷ []) in
+              let same : es ++ all ss ≡ events ++ all (s ∷ ss) = append_assoc events _ _ ∙ ap (λ l. events ++ l) (sym (at-ending over (leaf g.bytes LineEnding) opening closing is s ss e)) in
+              subst (EndsWith g text step (held [] p Byte b events local) [] (Retry start)) same
+              (reads.at_ending p b events local s (at-front text.seats p s ss here) e (es ++ all ss)
+              (goes-next g text step ss [] (p + 1) false es (counts local) [] start next (es ++ all ss) (from_start (p + 1) false es (counts local) next))) in (
+                start_ending,
+                λ p b events local here.
+                    let place = end_place text p in
+                    let es = events ++ closing place in
+                    let same : es ++ all (s ∷ ss) ≡ events ++ rest place (s ∷ ss) =
+                    append_assoc events _ _ ∙ ap (λ l. events ++ l) (sym (rest-ending over (leaf g.bytes LineEnding) opening closing is place s ss e)) in
+                    subst (EndsWith g text step (held stack p Byte b events local) [] (Retry inside)) same
+                    (reads.ends_at_ending p b events local s (at-front text.seats p s ss here) e (es ++ all (s ∷ ss)) (start_ending p b es (counts local) here)),
+              )
+          | false ↦ λ e.
+              let inside_other : FromInside (s ∷ ss) = λ p b events local here.
+              let at = at-front text.seats p s ss here in
+              let next = drop-next text.seats p s ss here in
+              let place = end_place text p in
+              let same : rest (end_place text (p + 1)) ss ≡ rest place (s ∷ ss) =
+              ap (λ q. rest q ss) (place-behind text p s at) ∙ sym (rest-other over (leaf g.bytes LineEnding) opening closing is place s ss e) in
+              subst (λ l. EndsWith g text step (held stack p Byte b events local) [] (Retry inside) (events ++ l)) same
+              (reads.goes_on p b events local s at e (events ++ rest (end_place text (p + 1)) ss)
+              (goes-next g text step ss stack (p + 1) false events (counts local) [] inside next (events ++ rest (end_place text (p + 1)) ss)
+              (from_inside (p + 1) false events (counts local) next))) in (
+                λ p b events local here.
+                    let place = end_place text p in
+                    let es = events ++ opening s.point in
+                    let same : es ++ rest place (s ∷ ss) ≡ events ++ all (s ∷ ss) =
+                    append_assoc events _ _
+                    ∙ ap (λ l. events ++ (opening s.point ++ l)) (rest-other over (leaf g.bytes LineEnding) opening closing is place s ss e)
+                    ∙ ap (λ l. events ++ l) (sym (at-other over (leaf g.bytes LineEnding) opening closing is s ss e)) in
+                    subst (EndsWith g text step (held [] p Byte b events local) [] (Retry start)) same
+                    (reads.begins p b events local s (at-front text.seats p s ss here) e (es ++ rest place (s ∷ ss)) (inside_other p b es (counts local) here)),
+                inside_other,
+              )
         ] refl
-
-    pub from-start : (l : List Seat) → FromStart l
-    from-start l = (from-both l).0

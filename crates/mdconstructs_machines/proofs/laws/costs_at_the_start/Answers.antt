@@ -11,35 +11,16 @@ doubled (suc n) = let less : suc n - 1 ≡ n = omega arith in rw less (omega (ar
 triangle-half : (n : ℕ) → triangle n + 4 * n + 1 ≡ n * (n - 1) / 2 + 4 * n + 1
 triangle-half n = let h = half (n * (n - 1)) (triangle n) (doubled n) in omega (arith, h)
 
-pub returns-clause-lines : goal.returns-clause-lines
-returns-clause-lines c = record { starts = λ g. refl; cost = λ g text flag. omega arith }
-
-pub returns-clause-paragraphs : goal.returns-clause-paragraphs
-returns-clause-paragraphs c = record { starts = λ g. refl; among = search rules; cost = λ g text flag. omega arith }
-
-pub returns-clause-paragraphs_as_text : goal.returns-clause-paragraphs_as_text
-returns-clause-paragraphs_as_text c = record { starts = λ g. refl; among = search rules; cost = λ g text flag. omega arith }
-
-pub returns-clause-peek : goal.returns-clause-peek
-returns-clause-peek c = record { starts = λ g. refl; cost = λ g text flag. omega arith }
-
-pub returns-clause-deep : goal.returns-clause-deep
-returns-clause-deep c = record {
-  starts = λ g. refl;
-  cost = λ g text flag. let all : length text.seats - 0 ≡ length text.seats = omega arith in rw all (triangle-half (length text.seats));
+pub returns : goal.returns
+returns c = record {
+  lines = record { starts = λ g. refl; cost = λ g text flag. omega arith };
+  paragraphs = record { starts = λ g. refl; among = search rules; cost = λ g text flag. omega arith };
+  paragraphs_as_text = record { starts = λ g. refl; among = search rules; cost = λ g text flag. omega arith };
+  peek = record { starts = λ g. refl; cost = λ g text flag. omega arith };
+  deep = record { starts = λ g. refl; cost = λ g text flag. let all : length text.seats - 0 ≡ length text.seats = omega arith in rw all (triangle-half (length text.seats)) };
+  back = record { starts = λ g. refl; cost = λ g text flag. omega arith };
+  save = record { starts = λ g. refl; cost = λ g text flag. omega arith };
+  words = record { starts = λ g. refl; cost = λ g text flag. omega arith };
+  fail = λ at. record { starts = λ g. refl; cost = λ g text flag. omega arith };
+  wrap = λ refuse. record { starts = λ g. refl; cost = λ g text flag. omega arith };
 }
-
-pub returns-clause-back : goal.returns-clause-back
-returns-clause-back c = record { starts = λ g. refl; cost = λ g text flag. omega arith }
-
-pub returns-clause-save : goal.returns-clause-save
-returns-clause-save c = record { starts = λ g. refl; cost = λ g text flag. omega arith }
-
-pub returns-clause-words : goal.returns-clause-words
-returns-clause-words c = record { starts = λ g. refl; cost = λ g text flag. omega arith }
-
-pub returns-clause-fail : goal.returns-clause-fail
-returns-clause-fail c = λ at. record { starts = λ g. refl; cost = λ g text flag. omega arith }
-
-pub returns-clause-wrap : goal.returns-clause-wrap
-returns-clause-wrap c = λ refuse. record { starts = λ g. refl; cost = λ g text flag. omega arith }
