@@ -3,7 +3,7 @@ pub mod Blocks
 pub mod ChainEvents
 pub mod ChunkPairs
 pub mod ChunksReady
+pub mod DataEvents
 pub mod Formed
 pub mod Ready
 pub mod Steps
-pub mod DataEvents

@@ -2,35 +2,39 @@
 --
 -- Between two chunks of a chain is nothing, or a mark at the beginning of a line. Each innermost span of the child is within one line. So a
 -- mark never comes between the enter and the exit of one. So a list that accounts for a document does so with the children of its chains.
-use Rattle.mdconstructs_text.proofs.Prelude.{◌≡◌, ℕ, suc, ◌+◌, ◌<◌, ◌≤◌, ◌∷◌, ◌++◌, [], List, true, false, Some, inl, inr, sym, ◌∙◌, ap, subst, arith, drop, length, map, between, flat_map, AllByRecursion, flat_map-append, append-nil, append_cancel_left, every-map, every-append, end-after-append, Event, Point, stands_before, Seat, virtual, end_after, next_of, Change, Given, IsChain, later-later, every-back, fits, part_changes, tagged_child, AreSpaced, LeadOnFrom, front_until, parts, IsReady, place_at, fits_next, length-parts, length-map_ends, after_changes, after-step, untagged-child, AccountFor, cond, refl, range_with_len, is_enter, Tagged, woven, placed_in, AreApart, woven-pass, chain_of, fitting_starts, chain_changes, child_changes, IsWholeFrom, divided_over, text_of_chain, starts_fit, follow_one_another, changes_are_apart, untagged, untagged-olds, innermost_spans, chain_text, with_read}
+use Rattle.mdconstructs_text.proofs.Prelude.{◌≡◌, ℕ, ◌+◌, ◌<◌, ◌∷◌, ◌++◌, [], List, Bool, true, false, not, Some, inl, inr, sym, ◌∙◌, ap, subst, arith, drop, length, map, between, flat_map, AllByRecursion, flat_map-append, append-nil, append_cancel_left, take_while-cons, every-map, every-front, every-append, end-after-append, Event, Enter, Point, stands_before, shown, Seat, virtual, end_after, next_of, Change, Given, IsChain, later-later, every-back, fits, part_changes, AreSpaced, LeadOnFrom, front_until, parts, joined-parts, IsReady, place_at, fits_next, after_changes, AccountFor, cond, refl, range_with_len, is_enter, Tagged, woven, placed_in, AreApart, woven-pass, chain_of, fitting_starts, chain_changes, child_changes, IsWholeFrom, divided_over, text_of_chain, starts_fit, follow_one_another, changes_are_apart, untagged, untagged-olds, innermost_spans, chain_text, with_read}
 use Rattle.std.proofs.Common.{append_assoc}
 use Rattle.markdown_base.specs.declared.event.Content.TheVariants.{Text as TextContent}
-use Rattle.mdconstructs_text.proofs.DeepSpans.Atoms.{Atom, seats_of, atom_events, events_of, InOneLine, EndsLine, EntersAt, IsCut, atoms-more, atoms-enter, cut-atoms}
-use Rattle.mdconstructs_text.proofs.DeepSpans.ChainText.{chunk_seats, chain-seats}
-use Rattle.mdconstructs_text.proofs.DeepSpans.Chunks.{Stands, HasChunk, has-chunk, place_behind}
-use Rattle.mdconstructs_text.proofs.DeepSpans.Fronts.{Upto, front-over, front-none, front-upto, front-and-rest}
-use Rattle.mdconstructs_text.proofs.DeepSpans.Places.{origin, atoms-upto, place-before, chain-ends-line, chain-from}
-use Rattle.mdconstructs_text.proofs.DeepSpans.Spans.{Enters, span-in, both-account, none-account}
+use Rattle.markdown_children.proofs.Parts.Kept.{part_after}
+use Rattle.mdconstructs_machines.specs.Spans.{event}
+use Rattle.mdconstructs_text.proofs.Autolinks.Places.{EndsInLine, chain-in-line}
+use Rattle.mdconstructs_text.proofs.DeepSpans.Atoms.{Atom, seats_of, atom_events, events_of, InOneLine, EntersAt, IsCut, span-in, both-account, none-account, atoms-more, open-atoms, cut-atoms}
+use Rattle.mdconstructs_text.proofs.DeepSpans.Chunks.{chunk_seats, chain-seats, Stands, HasChunk, has-chunk, place_behind}
+use Rattle.mdconstructs_text.proofs.DeepSpans.Places.{Upto, origin, atoms-upto, place-before, ends-line, chain-from}
 use Rattle.mdconstructs_text.proofs.Paragraphs.ChunkPairs.{FollowsChunk, IsMark}
 use Rattle.mdconstructs_text.proofs.Paragraphs.ChunksReady.{between-none, between-two}
 
--- atoms over some virtual bytes begin with an enter
-open-atoms : (bytes : List ℕ) (atoms : List Atom) (s : Seat) (ss : List Seat) → seats_of atoms ≡ s ∷ ss → EntersAt bytes s.point (events_of bytes atoms)
-open-atoms bytes [] s ss is = absurd (cc)
-open-atoms bytes (a ∷ atoms) s ss is =
-    let same : a.first ≡ s = cc in
-    subst (λ (r : Seat). EntersAt bytes r.point (events_of bytes (a ∷ atoms))) same (atoms-enter bytes a atoms)
+-- ---- the leading events up to a place
+module _ (end : Point) where
+  front-at : (b : Bool) (e : Event) (es : List Event) → stands_before end e.point ≡ b → front_until end (e ∷ es) ≡ cond (not b) (e ∷ front_until end es) []
+  front-at b e es is = take_while-cons (λ (x : Event). not (stands_before end x.point)) e es ∙ ap (λ b. cond (not b) (e ∷ front_until end es) []) is
 
--- and so does what has them in front
-before-all : (bytes : List ℕ) (p : Point) (xs ys : List Event) → EntersAt bytes p xs → Enters (xs ++ ys)
-before-all bytes p xs ys h = record { first = h.first; rest = h.rest ++ ys; are = ap (λ l. l ++ ys) h.are; enters = h.enters }
+  -- what is up to the place is in front
+  front-over : (xs ys : List Event) → AllByRecursion (Upto end) xs → front_until end (xs ++ ys) ≡ xs ++ front_until end ys
+  front-over [] ys h = refl
+  front-over (x ∷ xs) ys h = front-at false x (xs ++ ys) h.0 ∙ ap (λ l. x ∷ l) (front-over xs ys h.1)
 
--- a mark accounts for some virtual bytes
-mark-some : (bytes : List ℕ) (es : List Event) (i j : ℕ) (m : IsMark es i) (seats : List Seat) → j ≡ i + 2 → AccountFor (between i j es) bytes seats → (s : Seat) × (ss : List Seat) × (seats ≡ s ∷ ss)
-mark-some bytes es i j m seats at h =
-    let two = between-two es i j m.enter m.exit at m.enter_at m.exit_at in
-    let s = span-in bytes [] m.enter m.exit [] seats m.enters m.exits (subst (λ l. AccountFor l bytes seats) two h) in
-    (s.first, s.others ++ s.behind, s.are ∙ ap (λ l. l ++ ((s.first ∷ s.others) ++ s.behind)) (none-account bytes s.before s.front))
+  -- what is in front is up to the place
+  front-upto : (es : List Event) → AllByRecursion (Upto end) (front_until end es)
+  front-upto [] = tt
+  front-upto (e ∷ es) = elim (stands_before end e.point) as (λ b. stands_before end e.point ≡ b → AllByRecursion (Upto end) (front_until end (e ∷ es))) [
+    | true ↦ λ h. subst (AllByRecursion (Upto end)) (sym (front-at true e es h)) tt
+    | false ↦ λ h. subst (AllByRecursion (Upto end)) (sym (front-at false e es h)) (h, front-upto es)
+  ] refl
+
+  -- and the rest is behind it
+  front-and-rest : (es : List Event) → front_until end es ++ drop (length (front_until end es)) es ≡ es
+  front-and-rest es = ap (λ l. front_until end es ++ l) (sym (append-nil (drop (length (front_until end es)) es))) ∙ joined-parts end (end ∷ []) es
 
 -- link ends do not matter
 spans-placed : (ts us : List Tagged) → innermost_spans (placed_in ts us) ≡ innermost_spans (untagged us)
@@ -41,242 +45,174 @@ spans-placed ts (u ∷ v ∷ us) =
 
 module _ (g : Given) (some : 0 < g.tab) (events : List Event) (ready : IsReady g.tab g.bytes (Some TextContent) events)
     (pairs : (k d : ℕ) → next_of events k ≡ Some d → FollowsChunk events k d) where
-  abbrev n : ℕ
-  n = length events
-
-  abbrev Fits : ℕ → Type 0
-  Fits k = fits (Some TextContent) events k ≡ true
-
-  abbrev behind_of : List Seat → Point
-  behind_of pre = place_behind g some events pre
-
   -- the events from i on, after changes
   abbrev after : List Change → ℕ → List Event
   after ws i = after_changes g.tab g.bytes (Some TextContent) events ready ws i
 
-  -- they account for virtual bytes, and begin with an enter
-  abbrev Good : List Event → List Seat → Type 0
-  Good es seats = AccountFor es g.bytes seats × Enters es
+  -- they account for virtual bytes, and begin with an enter at the first
+  abbrev Good : Seat → List Event → List Seat → Type 0
+  Good s es seats = AccountFor es g.bytes seats × EntersAt g.bytes s.point es
 
-  -- what comes behind the chains at hand accounts for its virtual bytes
-  abbrev IsGoodBehind : List ℕ → List Change → Type 0
-  IsGoodBehind more ws = (m : ℕ) → AreSpaced m more n → (pre rest : List Seat) → Stands g some events m pre rest → AccountFor (after ws m) g.bytes rest
+  -- so it is with atoms before events that account for what is behind their virtual bytes
+  over-atoms : (atoms : List Atom) (s : Seat) (ss behind : List Seat) (read left es : List Event) → read ++ left ≡ events_of g.bytes atoms → seats_of atoms ≡ s ∷ ss → AccountFor es g.bytes behind
+      → Good s (read ++ (left ++ es)) ((s ∷ ss) ++ behind)
+  over-atoms atoms s ss behind read left es are is h =
+      subst (λ l. Good s l ((s ∷ ss) ++ behind)) (ap (λ l. l ++ es) (sym are) ∙ append_assoc read left es)
+      (subst (λ l. AccountFor (events_of g.bytes atoms ++ es) g.bytes (l ++ behind)) is (atoms-more g.bytes atoms es behind h), open-atoms g.bytes atoms s ss es is)
 
-  -- where chunks end
-  abbrev ends_of : List ℕ → List Point
-  ends_of ks = map (λ k. place_at events (k + 1)) ks
+  -- from a chunk on, the parts of a child's events, and what is between the chunks and behind them
+  abbrev from_chunk : ℕ → List ℕ → List Event → List Change → List Event
+  from_chunk k [] es ws = es ++ after ws (k + 2)
+  from_chunk k (d ∷ ks) es ws =
+      let front = front_until (place_at events (k + 1)) es in
+      front ++ (between (k + 2) d events ++ from_chunk d ks (drop (length front) es) ws)
 
-  -- from a chunk on: its part, and what follows it
-  abbrev from_chunk : (c j k : ℕ) → List ℕ → List (List Event) → List Change → List Event
-  from_chunk c j k ks [] ws = []
-  from_chunk c j k ks (p ∷ ps) ws = p ++ after (part_changes c (j + length p) ks ps ++ ws) (k + 2)
-
-  up-to-chunk : (c j i k : ℕ) (ks : List ℕ) (ps : List (List Event)) (ws : List Change) → i ≤ k → suc (length ks) ≡ length ps
-      → after (part_changes c j (k ∷ ks) ps ++ ws) i ≡ between i k events ++ from_chunk c j k ks ps ws
-  up-to-chunk c j i k ks [] ws l many = absurd (omega (arith, many))
-  up-to-chunk c j i k ks (p ∷ ps) ws l many =
-      let w : Change = record { index = k; remove = 2; events = tagged_child c j p } in
-      let rest : List Change = part_changes c (j + length p) ks ps ++ ws in
-      after-step g.tab g.bytes (Some TextContent) events ready w rest i l
-      ∙ ap (λ es. between i k events ++ (es ++ after rest (k + 2))) (untagged-child c j p)
-
-  enough : (k : ℕ) (ks : List ℕ) (es : List Event) → suc (length ks) ≡ length (parts (place_at events (k + 1) ∷ ends_of ks) es)
-  enough k ks es = sym (length-parts (place_at events (k + 1) ∷ ends_of ks) es ∙ ap suc (length-map_ends events ks))
+  up-to-chunk : (c j i k : ℕ) (ks more : List ℕ) (es : List Event) (ws : List Change) → AreSpaced i (k ∷ (ks ++ more)) (length events)
+      → after (part_changes c j (k ∷ ks) (parts (map (λ k. place_at events (k + 1)) (k ∷ ks)) es) ++ ws) i ≡ between i k events ++ from_chunk k ks es ws
+  up-to-chunk c j i k [] more es ws spaced = part_after g.tab g.bytes (Some TextContent) events ready c j i k [] es [] ws spaced.0
+  up-to-chunk c j i k (d ∷ ks) more es ws spaced =
+      let front = front_until (place_at events (k + 1)) es in
+      let left = drop (length front) es in
+      part_after g.tab g.bytes (Some TextContent) events ready c j i k (d ∷ ks) front (parts (map (λ k. place_at events (k + 1)) (d ∷ ks)) left) ws spaced.0
+      ∙ ap (λ l. between i k events ++ (front ++ l)) (up-to-chunk c (j + length front) (k + 2) d ks more left ws spaced.1)
 
   -- What is known of a child before a chunk takes its part: the virtual bytes of the chunk and of the chunks directly before it, the events
   -- that these chunks took, and the atoms of the child from these virtual bytes on
   record Comes (k : ℕ) (ks : List ℕ) (read left : List Event) (pre : List Seat) (s : Seat) (ss behind : List Seat) : Type 0 where
     stands : Stands g some events (k + 2) (pre ++ (s ∷ ss)) behind
-    ends_at : place_at events (k + 1) ≡ behind_of (pre ++ (s ∷ ss))
+    ends_at : place_at events (k + 1) ≡ place_behind g some events (pre ++ (s ∷ ss))
     atoms : List Atom
     are : read ++ left ≡ events_of g.bytes atoms
     seats_are : seats_of atoms ≡ (s ∷ ss) ++ flat_map (chunk_seats g events) ks
     lines : AllByRecursion InOneLine atoms
     upto : AllByRecursion (Upto (place_at events (k + 1))) read
 
-  -- the last chunk takes all that is left
-  last-chunk : (c j k : ℕ) (more : List ℕ) (ws : List Change) (read left : List Event) (pre : List Seat) (s : Seat) (ss behind : List Seat) → AreSpaced (k + 2) more n → IsGoodBehind more ws
-      → Comes k [] read left pre s ss behind → Good (read ++ (left ++ after ws (k + 2))) ((s ∷ ss) ++ behind)
-  last-chunk c j k more ws read left pre s ss behind spaced good h =
-      let all = after ws (k + 2) in
-      let same : read ++ (left ++ all) ≡ events_of g.bytes h.atoms ++ all = sym (append_assoc read left all) ∙ ap (λ l. l ++ all) h.are in
-      let whole : seats_of h.atoms ≡ s ∷ ss = h.seats_are ∙ append-nil (s ∷ ss) in
-      let account = atoms-more g.bytes h.atoms all behind (good (k + 2) spaced (pre ++ (s ∷ ss)) behind h.stands) in
-      subst (λ es. Good es ((s ∷ ss) ++ behind)) (sym same)
-      (subst (λ l. AccountFor (events_of g.bytes h.atoms ++ all) g.bytes (l ++ behind)) whole account, before-all g.bytes s.point (events_of g.bytes h.atoms) all (open-atoms g.bytes h.atoms s ss whole))
-
-  -- a chunk that comes directly behind
-  comes-directly : (k d : ℕ) (ks : List ℕ) (read left : List Event) (pre : List Seat) (s : Seat) (ss behind : List Seat) → Fits d → d ≡ k + 2 → place_at events d ≡ place_at events (k + 1)
-      → Comes k (d ∷ ks) read left pre s ss behind → (h : HasChunk g some events (k + 2) d (pre ++ (s ∷ ss)) behind) → (h.before ≡ [])
-      → let front = front_until (place_at events (k + 1)) left in
-      Comes d ks (read ++ front) (drop (length front) left) pre s (ss ++ (h.first ∷ h.others)) h.behind
-  comes-directly k d ks read left pre s ss behind fit at joins c h none =
+  -- behind a mark the child is cut between two lines: at atoms over the virtual bytes so far
+  cut-at-mark : (k d : ℕ) (ks : List ℕ) (read left : List Event) (pre : List Seat) (s : Seat) (ss behind : List Seat) → d ≡ k + 4 → IsMark events (k + 2) → (place_at events (k + 1)).column ≡ 1
+      → Comes k (d ∷ ks) read left pre s ss behind → (h : HasChunk g some events (k + 2) d (pre ++ (s ∷ ss)) behind) → let front = front_until (place_at events (k + 1)) left in
+      (atoms : List Atom) × (seats_of atoms ≡ s ∷ ss) × (read ++ front ≡ events_of g.bytes atoms) × Comes d ks [] (drop (length front) left) ((pre ++ (s ∷ ss)) ++ h.before) h.first h.others h.behind
+  cut-at-mark k d ks read left pre s ss behind at m column c h =
       let end = place_at events (k + 1) in
-      let front = front_until end left in
-      let t = h.first ∷ h.others in
-      let same : ((pre ++ (s ∷ ss)) ++ h.before) ++ t ≡ pre ++ (s ∷ (ss ++ t)) =
-      ap (λ b. ((pre ++ (s ∷ ss)) ++ b) ++ t) none ∙ ap (λ b. b ++ t) (append-nil (pre ++ (s ∷ ss))) ∙ append_assoc pre (s ∷ ss) t in
-      let forward : stands_before (place_at events (d + 1)) end ≡ false = subst (λ p. stands_before (place_at events (d + 1)) p ≡ false) joins (ready.readable d fit).forward in
-      let q = place_at events (d + 1) in
-      record {
-        stands = subst (λ l. Stands g some events (d + 2) l h.behind) same h.next;
-        ends_at = h.to ∙ ap behind_of same;
-        atoms = c.atoms;
-        are = append_assoc read front (drop (length front) left) ∙ ap (λ l. read ++ l) (front-and-rest end left) ∙ c.are;
-        seats_are = c.seats_are ∙ ap (λ l. (s ∷ ss) ++ (l ++ flat_map (chunk_seats g events) ks)) h.text ∙ sym (append_assoc (s ∷ ss) t (flat_map (chunk_seats g events) ks));
-        lines = c.lines;
-        upto = every-map (Upto end) (Upto q) (λ (e : Event) u. later-later q.index q.vs end.index end.vs e.point.index e.point.vs forward u) (read ++ front) (every-append (Upto end) read front c.upto (front-upto end left));
-      }
-
-  -- Behind a mark the child is cut between two lines
-  record CutAtMark (k d : ℕ) (ks : List ℕ) (read left : List Event) (s : Seat) (ss : List Seat) : Type 0 where
-    front : List Atom
-    back : List Atom
-    front_is : seats_of front ≡ s ∷ ss
-    back_is : seats_of back ≡ flat_map (chunk_seats g events) (d ∷ ks)
-    lines : AllByRecursion InOneLine back
-    taken : read ++ front_until (place_at events (k + 1)) left ≡ events_of g.bytes front
-    left_is : drop (length (front_until (place_at events (k + 1)) left)) left ≡ events_of g.bytes back
-
-  cut-at-mark : (k d : ℕ) (ks : List ℕ) (read left : List Event) (pre : List Seat) (s : Seat) (ss behind : List Seat) → (place_at events (k + 1)).column ≡ 1
-      → Comes k (d ∷ ks) read left pre s ss behind → (h : HasChunk g some events (k + 2) d (pre ++ (s ∷ ss)) behind) → (r : Seat) (rs : List Seat) → h.before ≡ r ∷ rs
-      → CutAtMark k d ks read left s ss
-  cut-at-mark k d ks read left pre s ss behind column c h r rs before =
-      let end = place_at events (k + 1) in
-      let next = flat_map (chunk_seats g events) (d ∷ ks) in
-      let p = behind_of pre in
-      let whole : virtual g.tab g.bytes ≡ pre ++ ((s ∷ ss) ++ behind) = c.stands.whole ∙ append_assoc pre (s ∷ ss) behind in
-      let chain : IsChain g.tab g.bytes p ((s ∷ ss) ++ behind) = chain-from g.tab g.bytes some pre ((s ∷ ss) ++ behind) whole in
+      let p = place_behind g some events pre in
+      let q = place_behind g some events (pre ++ (s ∷ ss)) in
+      let more = (h.first ∷ h.others) ++ h.behind in
+      let two = between-two events (k + 2) d m.enter m.exit (omega (arith, at)) m.enter_at m.exit_at in
+      let mark = span-in g.bytes [] m.enter m.exit [] h.before m.are.enters m.are.exits (subst (λ l. AccountFor l g.bytes h.before) two h.gap) in
+      let r = mark.first in
+      let rs = mark.others ++ mark.behind in
+      let before : h.before ≡ r ∷ rs = mark.are ∙ ap (λ l. l ++ (r ∷ rs)) (none-account g.bytes mark.before mark.front) in
+      let chain : IsChain g.tab g.bytes p ((s ∷ ss) ++ behind) = chain-from g.tab g.bytes some pre ((s ∷ ss) ++ behind) (c.stands.whole ∙ append_assoc pre (s ∷ ss) behind) in
       let end_is : end ≡ end_after s.end ss = c.ends_at ∙ end-after-append (origin g.tab g.bytes some) pre (s ∷ ss) in
-      let line : EndsLine (s ∷ ss) = chain-ends-line g.tab g.bytes p s ss behind chain (ap (λ (q : Point). q.column) (sym end_is) ∙ column) in
-      let a = cut-atoms c.atoms (s ∷ ss) next c.lines line c.seats_are in
+      let in_line = every-front EndsInLine (s ∷ ss) behind (chain-in-line g.tab g.bytes p ((s ∷ ss) ++ behind) chain) in
+      let line = ends-line s ss in_line (ap (λ (q : Point). q.column) (sym end_is) ∙ column) in
+      let a = cut-atoms s [] c.atoms (s ∷ ss) (flat_map (chunk_seats g events) (d ∷ ks)) tt c.lines line c.seats_are in
       let fronts = events_of g.bytes a.front in
       let backs = events_of g.bytes a.back in
       let both : read ++ left ≡ fronts ++ backs = c.are ∙ ap (events_of g.bytes) a.are ∙ flat_map-append (atom_events g.bytes) a.front a.back in
-      let upto : AllByRecursion (Upto end) fronts =
-      subst (λ q. AllByRecursion (Upto q) fronts) (ap (end_after p) a.front_is ∙ sym end_is)
-      (atoms-upto g.tab g.bytes p a.front behind (subst (λ l. IsChain g.tab g.bytes p (l ++ behind)) (sym a.front_is) chain)) in
-      let back_seats : seats_of a.back ≡ h.first ∷ (h.others ++ flat_map (chunk_seats g events) ks) = a.back_is ∙ ap (λ l. l ++ flat_map (chunk_seats g events) ks) h.text in
-      let opens = open-atoms g.bytes a.back h.first (h.others ++ flat_map (chunk_seats g events) ks) back_seats in
-      let further : IsChain g.tab g.bytes (behind_of (pre ++ (s ∷ ss))) ((r ∷ rs) ++ ((h.first ∷ h.others) ++ h.behind)) =
-      subst (IsChain g.tab g.bytes (behind_of (pre ++ (s ∷ ss)))) (h.are ∙ ap (λ l. l ++ ((h.first ∷ h.others) ++ h.behind)) before)
-      (chain-from g.tab g.bytes some (pre ++ (s ∷ ss)) behind c.stands.whole) in
-      let later : stands_before (behind_of (pre ++ (s ∷ ss))) (end_after r.end rs) ≡ true = place-before g.tab g.bytes (behind_of (pre ++ (s ∷ ss))) r rs ((h.first ∷ h.others) ++ h.behind) further in
-      let first_at : opens.first.point ≡ end_after r.end rs =
-      opens.at ∙ h.first_shown ∙ h.from ∙ end-after-append (origin g.tab g.bytes some) (pre ++ (s ∷ ss)) h.before ∙ ap (end_after (behind_of (pre ++ (s ∷ ss)))) before in
-      let passed : stands_before end opens.first.point ≡ true =
-      subst (λ q. stands_before q opens.first.point ≡ true) (sym c.ends_at) (subst (λ q. stands_before (behind_of (pre ++ (s ∷ ss))) q ≡ true) (sym first_at) later) in
-      let none : front_until end backs ≡ [] = ap (front_until end) opens.are ∙ front-none end opens.first opens.rest passed in
+      let front_chain = subst (λ l. IsChain g.tab g.bytes p (l ++ behind)) (sym a.front_is) chain in
+      let upto = atoms-upto g.tab g.bytes end p a.front behind front_chain (ap (end_after p) a.front_is ∙ sym end_is) in
+      let back_is : seats_of a.back ≡ h.first ∷ (h.others ++ flat_map (chunk_seats g events) ks) = a.back_is ∙ ap (λ l. l ++ flat_map (chunk_seats g events) ks) h.text in
+      let opens = open-atoms g.bytes a.back h.first (h.others ++ flat_map (chunk_seats g events) ks) [] back_is in
+      let further = subst (IsChain g.tab g.bytes q) (h.are ∙ ap (λ l. l ++ more) before) (chain-from g.tab g.bytes some (pre ++ (s ∷ ss)) behind c.stands.whole) in
+      let first_at : shown g.bytes h.first.point ≡ end_after r.end rs = h.first_shown ∙ h.from ∙ end-after-append (origin g.tab g.bytes some) (pre ++ (s ∷ ss)) h.before ∙ ap (end_after q) before in
+      let passed : stands_before end (shown g.bytes h.first.point) ≡ true = (λ i. stands_before (c.ends_at i) (first_at i)) ∙ place-before g.tab g.bytes q r rs more further in
+      let none : front_until end backs ≡ [] = ap (front_until end) (sym (append-nil backs) ∙ opens.are) ∙ front-at end true (event g.bytes Enter opens.name h.first.point) opens.rest passed in
       let front = front_until end left in
-      let taken : read ++ front ≡ fronts =
-      sym (front-over end read left c.upto) ∙ ap (front_until end) both ∙ front-over end fronts backs upto ∙ ap (λ l. fronts ++ l) none ∙ append-nil fronts in
       let rest = drop (length front) left in
-      let again : fronts ++ rest ≡ fronts ++ backs =
-      ap (λ l. l ++ rest) (sym taken) ∙ append_assoc read front rest ∙ ap (λ l. read ++ l) (front-and-rest end left) ∙ both in
-      record {
-        front = a.front;
-        back = a.back;
-        front_is = a.front_is;
-        back_is = a.back_is;
-        lines = every-back InOneLine a.front a.back (subst (AllByRecursion InOneLine) a.are c.lines);
-        taken = taken;
-        left_is = append_cancel_left fronts rest backs again;
-      }
+      let taken : read ++ front ≡ fronts = sym (front-over end read left c.upto) ∙ ap (front_until end) both ∙ front-over end fronts backs upto ∙ ap (λ l. fronts ++ l) none ∙ append-nil fronts in
+      let again : fronts ++ rest ≡ fronts ++ backs = ap (λ l. l ++ rest) (sym taken) ∙ append_assoc read front rest ∙ ap (λ l. read ++ l) (front-and-rest end left) ∙ both in (
+        a.front,
+        a.front_is,
+        taken,
+        record {
+          stands = h.next;
+          ends_at = h.to;
+          atoms = a.back;
+          are = append_cancel_left fronts rest backs again;
+          seats_are = back_is;
+          lines = every-back InOneLine a.front a.back (subst (AllByRecursion InOneLine) a.are c.lines);
+          upto = tt;
+        },
+      )
 
-  -- from a chunk on, the parts of the child account for what the chunks and the events between them do
-  through : (c j k : ℕ) (ks more : List ℕ) (ws : List Change) (read left : List Event) (pre : List Seat) (s : Seat) (ss behind : List Seat) → Fits k → LeadOnFrom events k ks → AreSpaced (k + 2) (ks ++ more) n
-      → IsGoodBehind more ws → Comes k ks read left pre s ss behind
-      → Good (read ++ from_chunk c j k ks (parts (place_at events (k + 1) ∷ ends_of ks) left) ws) ((s ∷ ss) ++ behind)
-  through c j k [] more ws read left pre s ss behind fit lead spaced good h = last-chunk c j k more ws read left pre s ss behind spaced good h
-  through c j k (d ∷ ks) more ws read left pre s ss behind fit lead spaced good h =
+  -- from a chunk on, the parts of the child account for what the chunks and the events between them do, if so does what is behind the chain
+  through : (k : ℕ) (ks more : List ℕ) (ws : List Change) (read left : List Event) (pre : List Seat) (s : Seat) (ss behind : List Seat) → fits (Some TextContent) events k ≡ true
+      → LeadOnFrom events k ks → AreSpaced (k + 2) (ks ++ more) (length events)
+      → ((m : ℕ) → AreSpaced m more (length events) → (pre rest : List Seat) → Stands g some events m pre rest → AccountFor (after ws m) g.bytes rest)
+      → Comes k ks read left pre s ss behind → Good s (read ++ from_chunk k ks left ws) ((s ∷ ss) ++ behind)
+  through k [] more ws read left pre s ss behind fit lead spaced good h =
+      over-atoms h.atoms s ss behind read left (after ws (k + 2)) h.are (h.seats_are ∙ append-nil (s ∷ ss)) (good (k + 2) spaced (pre ++ (s ∷ ss)) behind h.stands)
+  through k (d ∷ ks) more ws read left pre s ss behind fit lead spaced good h =
       let end = place_at events (k + 1) in
       let front = front_until end left in
       let rest = drop (length front) left in
-      let ps = parts (place_at events (d + 1) ∷ ends_of ks) rest in
-      let then = from_chunk c (j + length front) d ks ps ws in
+      let then = from_chunk d ks rest ws in
       let gap = between (k + 2) d events in
       let fit_next = fits_next g.tab g.bytes (Some TextContent) events ready k d fit lead.0 in
       let chunk = has-chunk g some events ready (k + 2) d (pre ++ (s ∷ ss)) behind fit_next spaced.0 h.stands in
       let t = chunk.first ∷ chunk.others in
-      let steps : front ++ after (part_changes c (j + length front) (d ∷ ks) ps ++ ws) (k + 2) ≡ front ++ (gap ++ then) =
-      ap (λ l. front ++ l) (up-to-chunk c (j + length front) (k + 2) d ks ps ws spaced.0 (enough d ks rest)) in
-      subst (λ l. Good (read ++ l) ((s ∷ ss) ++ behind)) (sym steps)
-      (elim (pairs k d lead.0) [
+      elim (pairs k d lead.0) [
         | inl directly ↦
             let empty : gap ≡ [] = between-none events (k + 2) d directly.0 in
             let none : chunk.before ≡ [] = none-account g.bytes chunk.before (subst (λ l. AccountFor l g.bytes chunk.before) empty chunk.gap) in
-            let comes = comes-directly k d ks read left pre s ss behind fit_next directly.0 directly.1 h chunk none in
-            let more_good = through c (j + length front) d ks more ws (read ++ front) rest pre s (ss ++ t) chunk.behind fit_next lead.2 spaced.1 good comes in
+            let same : ((pre ++ (s ∷ ss)) ++ chunk.before) ++ t ≡ pre ++ (s ∷ (ss ++ t)) =
+            (λ x. ((pre ++ (s ∷ ss)) ++ none x) ++ t) ∙ ap (λ b. b ++ t) (append-nil (pre ++ (s ∷ ss))) ∙ append_assoc pre (s ∷ ss) t in
+            let q = place_at events (d + 1) in
+            let forward : stands_before q end ≡ false = subst (λ p. stands_before q p ≡ false) directly.1 (ready.readable d fit_next).forward in
+            let later = λ (e : Event) (u : Upto end e). later-later q.index q.vs end.index end.vs e.point.index e.point.vs forward u in
+            let more_good = through d ks more ws (read ++ front) rest pre s (ss ++ t) chunk.behind fit_next lead.2 spaced.1 good (record {
+              stands = subst (λ l. Stands g some events (d + 2) l chunk.behind) same chunk.next;
+              ends_at = chunk.to ∙ ap (place_behind g some events) same;
+              atoms = h.atoms;
+              are = append_assoc read front rest ∙ ap (λ l. read ++ l) (front-and-rest end left) ∙ h.are;
+              seats_are = h.seats_are ∙ ap (λ l. (s ∷ ss) ++ (l ++ flat_map (chunk_seats g events) ks)) chunk.text ∙ sym (append_assoc (s ∷ ss) t (flat_map (chunk_seats g events) ks));
+              lines = h.lines;
+              upto = every-map (Upto end) (Upto q) later (read ++ front) (every-append (Upto end) read front h.upto (front-upto end left));
+            }) in
             let list : (read ++ front) ++ then ≡ read ++ (front ++ (gap ++ then)) = append_assoc read front then ∙ ap (λ l. read ++ (front ++ (l ++ then))) (sym empty) in
-            let bytes_are : (s ∷ (ss ++ t)) ++ chunk.behind ≡ (s ∷ ss) ++ behind =
-            append_assoc (s ∷ ss) t chunk.behind ∙ ap (λ l. (s ∷ ss) ++ l) (sym (chunk.are ∙ ap (λ b. b ++ (t ++ chunk.behind)) none)) in
-            subst (λ es. Good es ((s ∷ ss) ++ behind)) list (subst (Good ((read ++ front) ++ then)) bytes_are more_good)
+            let bytes_are = append_assoc (s ∷ ss) t chunk.behind ∙ ap (λ l. (s ∷ ss) ++ l) (sym (chunk.are ∙ ap (λ b. b ++ (t ++ chunk.behind)) none)) in
+            subst (λ es. Good s es ((s ∷ ss) ++ behind)) list (subst (Good s ((read ++ front) ++ then)) bytes_are more_good)
         | inr marked ↦
-            let at = marked.0 in
-            let mark = mark-some g.bytes events (k + 2) d marked.1 chunk.before (omega (arith, at)) chunk.gap in
-            let cut = cut-at-mark k d ks read left pre s ss behind marked.2 h chunk mark.0 mark.1 mark.2 in
-            let comes : Comes d ks [] rest ((pre ++ (s ∷ ss)) ++ chunk.before) chunk.first chunk.others chunk.behind = record {
-              stands = chunk.next;
-              ends_at = chunk.to;
-              atoms = cut.back;
-              are = cut.left_is;
-              seats_are = cut.back_is ∙ ap (λ l. l ++ flat_map (chunk_seats g events) ks) chunk.text;
-              lines = cut.lines;
-              upto = tt;
-            } in
-            let more_good = through c (j + length front) d ks more ws [] rest ((pre ++ (s ∷ ss)) ++ chunk.before) chunk.first chunk.others chunk.behind fit_next lead.2 spaced.1 good comes in
-            let gap_good : AccountFor (gap ++ then) g.bytes behind =
-            subst (AccountFor (gap ++ then) g.bytes) (sym chunk.are) (both-account g.bytes gap then chunk.before (t ++ chunk.behind) chunk.gap more_good.0 more_good.1) in
-            let fronts = events_of g.bytes cut.front in
-            let account : AccountFor (fronts ++ (gap ++ then)) g.bytes ((s ∷ ss) ++ behind) =
-            subst (λ l. AccountFor (fronts ++ (gap ++ then)) g.bytes (l ++ behind)) cut.front_is (atoms-more g.bytes cut.front (gap ++ then) behind gap_good) in
-            let list : fronts ++ (gap ++ then) ≡ read ++ (front ++ (gap ++ then)) = ap (λ l. l ++ (gap ++ then)) (sym cut.taken) ∙ append_assoc read front (gap ++ then) in
-            subst (λ es. Good es ((s ∷ ss) ++ behind)) list (account, before-all g.bytes s.point fronts (gap ++ then) (open-atoms g.bytes cut.front s ss cut.front_is))
-      ])
-
-  -- a whole chain, from events before it on
-  one-chain : (c i : ℕ) (ks more : List ℕ) (child : List Event) (ws : List Change) → Fits c → LeadOnFrom events c ks → AreSpaced i (c ∷ (ks ++ more)) n → IsGoodBehind more ws
-      → IsCut g.bytes child (flat_map (chunk_seats g events) (c ∷ ks)) → (pre rest : List Seat) → Stands g some events i pre rest
-      → AccountFor (after (part_changes c 0 (c ∷ ks) (parts (place_at events (c + 1) ∷ ends_of ks) child) ++ ws) i) g.bytes rest
-  one-chain c i ks more child ws fit lead spaced good cut pre rest stands =
-      let chunk = has-chunk g some events ready i c pre rest fit spaced.0 stands in
-      let t = chunk.first ∷ chunk.others in
-      let ps = parts (place_at events (c + 1) ∷ ends_of ks) child in
-      let gap = between i c events in
-      let then = from_chunk c 0 c ks ps ws in
-      let comes : Comes c ks [] child (pre ++ chunk.before) chunk.first chunk.others chunk.behind = record {
-        stands = chunk.next;
-        ends_at = chunk.to;
-        atoms = cut.atoms;
-        are = cut.are;
-        seats_are = sym cut.all ∙ ap (λ l. l ++ flat_map (chunk_seats g events) ks) chunk.text;
-        lines = cut.lines;
-        upto = tt;
-      } in
-      let more_good = through c 0 c ks more ws [] child (pre ++ chunk.before) chunk.first chunk.others chunk.behind fit lead spaced.1 good comes in
-      subst (λ es. AccountFor es g.bytes rest) (sym (up-to-chunk c 0 i c ks ps ws spaced.0 (enough c ks child)))
-      (subst (AccountFor (gap ++ then) g.bytes) (sym chunk.are) (both-account g.bytes gap then chunk.before (t ++ chunk.behind) chunk.gap more_good.0 more_good.1))
+            let cut = cut-at-mark k d ks read left pre s ss behind marked.0 marked.1 marked.2 h chunk in
+            let more_good = through d ks more ws [] rest ((pre ++ (s ∷ ss)) ++ chunk.before) chunk.first chunk.others chunk.behind fit_next lead.2 spaced.1 good cut.3 in
+            over-atoms cut.0 s ss behind read front (gap ++ then) cut.2 cut.1
+            (subst (AccountFor (gap ++ then) g.bytes) (sym chunk.are) (both-account g.bytes gap then chunk.before (t ++ chunk.behind) chunk.gap more_good.0 more_good.1))
+      ]
 
   module _ (of_chain : ℕ → List Event) (cuts : (c : ℕ) → IsCut g.bytes (of_chain c) (chain_text g events c).seats) where
     -- chain by chain
-    all-chains : (cs : List ℕ) (i : ℕ) → AllByRecursion Fits cs → AllByRecursion (IsWholeFrom events) cs → AreSpaced i (flat_map (chain_of events) cs) n → (pre rest : List Seat) → Stands g some events i pre rest
-        → AccountFor (after (flat_map chain_changes (divided_over events cs (map of_chain cs))) i) g.bytes rest
+    all-chains : (cs : List ℕ) (i : ℕ) → AllByRecursion (λ c. fits (Some TextContent) events c ≡ true) cs → AllByRecursion (IsWholeFrom events) cs
+        → AreSpaced i (flat_map (chain_of events) cs) (length events) → (pre rest : List Seat)
+        → Stands g some events i pre rest → AccountFor (after (flat_map chain_changes (divided_over events cs (map of_chain cs))) i) g.bytes rest
     all-chains [] i fit whole spaced pre rest stands = subst (λ es. AccountFor es g.bytes rest) (sym (untagged-olds i (drop i events))) stands.account
     all-chains (c ∷ cs) i fit whole spaced pre rest stands =
         let ks = whole.0.0 in
         let is : chain_of events c ≡ c ∷ ks = whole.0.1 in
         let more = flat_map (chain_of events) cs in
+        let child = of_chain c in
         let ws : List Change = flat_map chain_changes (divided_over events cs (map of_chain cs)) in
-        let changes : List ℕ → List Change = λ ys. chain_changes (record { chunks = ys; parts = parts (map (λ k. place_at events (k + 1)) ys) (of_chain c) }) in
-        let seats : (chain_text g events c).seats ≡ flat_map (chunk_seats g events) (c ∷ ks) = ap (λ l. (text_of_chain g events l).seats) is ∙ chain-seats g events c ks in
-        let cut = subst (IsCut g.bytes (of_chain c)) seats (cuts c) in
+        let changes : List ℕ → List Change = λ ys. chain_changes (record { chunks = ys; parts = parts (map (λ k. place_at events (k + 1)) ys) child }) in
+        let apart : AreSpaced i (c ∷ (ks ++ more)) (length events) = subst (λ (ys : List ℕ). AreSpaced i (ys ++ more) (length events)) is spaced in
+        let cut = subst (IsCut g.bytes child) (ap (λ l. (text_of_chain g events l).seats) is ∙ chain-seats g events c ks) (cuts c) in
+        let chunk = has-chunk g some events ready i c pre rest fit.0 apart.0 stands in
+        let further = λ (m : ℕ) (spaced : AreSpaced m more (length events)) (p r : List Seat) (there : Stands g some events m p r). all-chains cs m fit.1 whole.1 spaced p r there in
+        let good = through c ks more ws [] child (pre ++ chunk.before) chunk.first chunk.others chunk.behind fit.0 whole.0.2 apart.1 further (record {
+          stands = chunk.next;
+          ends_at = chunk.to;
+          atoms = cut.atoms;
+          are = cut.are;
+          seats_are = sym cut.all ∙ ap (λ l. l ++ flat_map (chunk_seats g events) ks) chunk.text;
+          lines = cut.lines;
+          upto = tt;
+        }) in
+        let all = both-account g.bytes (between i c events) (from_chunk c ks child ws) chunk.before ((chunk.first ∷ chunk.others) ++ chunk.behind) chunk.gap good.0 good.1 in
         subst (λ ys. AccountFor (after (changes ys ++ ws) i) g.bytes rest) (sym is)
-        (one-chain c i ks more (of_chain c) ws fit.0 whole.0.2 (subst (λ (ys : List ℕ). AreSpaced i (ys ++ more) n) is spaced)
-        (λ m between p r there. all-chains cs m fit.1 whole.1 between p r there) cut pre rest stands)
+        (subst (λ es. AccountFor es g.bytes rest) (sym (up-to-chunk c 0 i c ks more child ws apart)) (subst (AccountFor (between i c events ++ from_chunk c ks child ws) g.bytes) (sym chunk.are) all))
 
     pub with-read-accounts : AccountFor events g.bytes (virtual g.tab g.bytes) → AccountFor (with_read g events of_chain) g.bytes (virtual g.tab g.bytes)
     with-read-accounts h =
         let wanted = Some TextContent in
+        let n = length events in
         let starts = fitting_starts wanted events in
         let f = follow_one_another g.tab g.bytes wanted events ready in
         let ws : List Change = child_changes wanted events (map of_chain starts) in

@@ -1,25 +1,21 @@
 -- Events in which chunks of text are linked one after another can be read chain by chain.
-use Rattle.mdconstructs_text.proofs.Prelude.{between, ◌≡◌, ℕ, suc, ◌+◌, ◌-◌, ◌<◌, ◌≤◌, List, [], ◌∷◌, true, false, Option, Some, None, take, drop, inl, inr, ⊎_elim, refl, sym, ap, ◌∙◌, subst, arith, All, AllPairs, slice_get, option_and_then, option_map, cases_lt, slice_get_within, get_or_from_slice_get, drop-at, every-get, Content, Flow, Event, Link, Point, IsBalanced, empty, span, IsVoidTight, IsInOrder, stands_before, IsShown, content_of, next_of, AreMutual, content_at, fits, place_at, IsChunk, IsShownPlace, IsReadable, IsGap, IsReady}
+use Rattle.mdconstructs_text.proofs.Prelude.{between, ◌≡◌, ℕ, suc, ◌+◌, ◌-◌, ◌<◌, ◌≤◌, List, [], ◌∷◌, false, Option, Some, None, take, drop, inl, inr, ⊎_elim, refl, sym, ap, ◌∙◌, subst, arith, slice_get, option_and_then, option_map, cases_lt, slice_get_within, get_or_from_slice_get, drop-at, every-get, Content, Flow, Event, Link, IsBalanced, empty, span, IsVoidTight, IsInOrder, stands_before, IsShown, content_of, next_of, AreMutual, content_at, place_at, IsChunk, IsShownPlace, IsReady}
+use Rattle.std.proofs.Common.{get_or}
 use Rattle.markdown_base.specs.declared.event.Content.TheVariants.{Text}
 use Rattle.mdconstructs_text.proofs.Paragraphs.ChainEvents.{is-text-content}
-use Rattle.mdconstructs_text.proofs.Paragraphs.ChunkPairs.{place-at-event, IsChunkStart, IsMark, IsPlaced, AreChunks}
-
--- what holds of each event holds of the one at an index
-all-get : (P : Event → Type 0) (es : List Event) (k : ℕ) (e : Event) → All P es → slice_get es k ≡ Some e → P e
-all-get P es k e h is = subst P (get_or_from_slice_get es k e e is) (h k e (slice_get_within es k e is))
-
-pairs-get : (R : Event → Event → Type 0) (es : List Event) (i j : ℕ) (e f : Event) → AllPairs R es → i < j → slice_get es i ≡ Some e → slice_get es j ≡ Some f → R e f
-pairs-get R es i j e f h less at then =
-    subst (λ x. R x f) (get_or_from_slice_get es i e e at) (subst (R _) (get_or_from_slice_get es j f e then) (h i j e less (slice_get_within es j f then)))
+use Rattle.mdconstructs_text.proofs.Paragraphs.ChunkPairs.{place-at-event, IsChunkStart, IsPlaced, AreChunks}
 
 pub between-none : (es : List Event) (i j : ℕ) → j ≡ i → between i j es ≡ []
 between-none es i j same = let none : j - i ≡ 0 = omega (arith, same) in ap (λ n. take n (drop i es)) none
 
-pub between-two : (es : List Event) (i j : ℕ) (e f : Event) → j ≡ i + 2 → slice_get es i ≡ Some e → slice_get es (i + 1) ≡ Some f → between i j es ≡ e ∷ f ∷ []
-between-two es i j e f two at then =
-    let some : j - i ≡ 2 = omega (arith, two) in
+pub drop-two : (es : List Event) (i : ℕ) (e f : Event) → slice_get es i ≡ Some e → slice_get es (i + 1) ≡ Some f → drop i es ≡ e ∷ f ∷ drop (i + 2) es
+drop-two es i e f at then =
     let one : suc i ≡ i + 1 = omega arith in
-    ap (λ n. take n (drop i es)) some ∙ ap (take 2) (drop-at es i e at ∙ ap (λ n. e ∷ drop n es) one ∙ ap (λ (ys : List Event). e ∷ ys) (drop-at es (i + 1) f then))
+    let two : suc (i + 1) ≡ i + 2 = omega arith in
+    drop-at es i e at ∙ ap (λ n. e ∷ drop n es) one ∙ ap (λ (ys : List Event). e ∷ ys) (drop-at es (i + 1) f then ∙ ap (λ n. f ∷ drop n es) two)
+
+pub between-two : (es : List Event) (i j : ℕ) (e f : Event) → j ≡ i + 2 → slice_get es i ≡ Some e → slice_get es (i + 1) ≡ Some f → between i j es ≡ e ∷ f ∷ []
+between-two es i j e f two at then = let some : j - i ≡ 2 = omega (arith, two) in ap (λ n. take n (drop i es)) some ∙ ap (take 2) (drop-two es i e f at then)
 
 module _ (t : ℕ) (bytes : List ℕ) (es : List Event) (chunks : AreChunks t bytes es) (balanced : IsBalanced es) (tight : IsVoidTight es) (order : IsInOrder bytes es) (joined : AreMutual es) where
   -- An event of a chain begins a chunk of text
@@ -29,27 +25,21 @@ module _ (t : ℕ) (bytes : List ℕ) (es : List Event) (chunks : AreChunks t by
     pub start : IsChunkStart event
     pub content : content_at es k ≡ Some Text
 
-  of-event : (k : ℕ) (e : Event) → slice_get es k ≡ Some e → (content_of e ≡ None → ⊥) → StartsAt k
-  of-event k e at some =
+  of-content : (k : ℕ) (o : Option Event) (c : Content) → slice_get es k ≡ o → option_and_then content_of o ≡ Some c → StartsAt k
+  of-content k None c at is = absurd (cc)
+  of-content k (Some e) c at is =
       ⊎_elim
-      (λ (alone : e.link ≡ None). absurd (some (rw alone refl)))
+      (λ (alone : e.link ≡ None). let none : content_of e ≡ None = rw alone refl in let no : Some c ≡ None = sym is ∙ none in absurd (cc))
       (λ (start : IsChunkStart e). record { event = e; at = at; start = start; content = ap (option_and_then content_of) at ∙ start.text })
       (every-get (IsPlaced t bytes) es k e chunks.each at).0
 
-  of-content : (k : ℕ) (o : Option Event) (c : Content) → slice_get es k ≡ o → option_and_then content_of o ≡ Some c → StartsAt k
-  of-content k None c at is = absurd (cc)
-  of-content k (Some e) c at is = of-event k e at (λ none. let no : Some c ≡ None = sym is ∙ none in absurd (cc))
-
-  no-content : (e : Event) (f : Link → Option ℕ) (d : ℕ) → option_and_then f e.link ≡ Some d → content_of e ≡ None → ⊥
-  no-content e f d is none = by e.link refl
-    where
-      by : (o : Option Link) → e.link ≡ o → ⊥
-      by None h = let no : None ≡ Some d = sym (ap (option_and_then f) h) ∙ is in absurd (cc)
-      by (Some l) h = let no : Some l.content ≡ None = sym (ap (λ (o : Option Link). option_map (λ (l : Link). l.content) o) h) ∙ none in absurd (cc)
-
   of-link : (f : Link → Option ℕ) (k d : ℕ) (o : Option Event) → slice_get es k ≡ o → option_and_then (λ (e : Event). option_and_then f e.link) o ≡ Some d → StartsAt k
   of-link f k d None at is = absurd (cc)
-  of-link f k d (Some e) at is = of-event k e at (no-content e f d is)
+  of-link f k d (Some e) at is = by e.link refl
+    where
+      by : (o : Option Link) → e.link ≡ o → StartsAt k
+      by None h = let no : None ≡ Some d = sym (ap (option_and_then f) h) ∙ is in absurd (cc)
+      by (Some l) h = of-content k (Some e) l.content at (ap (option_map (λ (l : Link). l.content)) h)
 
   leads : (k d : ℕ) → next_of es k ≡ Some d → StartsAt k
   leads k d is = of-link (λ (l : Link). l.next) k d (slice_get es k) refl is
@@ -65,72 +55,58 @@ module _ (t : ℕ) (bytes : List ℕ) (es : List Event) (chunks : AreChunks t by
 
   stands-shown : (k : ℕ) (e : Event) → slice_get es k ≡ Some e → IsShownPlace t bytes (place_at es k)
   stands-shown k e at =
-      subst (IsShownPlace t bytes) (sym (place-at-event es k e at))
-      ((every-get (IsPlaced t bytes) es k e chunks.each at).1, all-get (λ (e : Event). IsShown bytes e.point) es k e order.1 at)
+      let is_shown = subst (λ (x : Event). IsShown bytes x.point) (get_or_from_slice_get es k e e at) (order.1 k e (slice_get_within es k e at)) in
+      subst (IsShownPlace t bytes) (sym (place-at-event es k e at)) ((every-get (IsPlaced t bytes) es k e chunks.each at).1, is_shown)
 
   stand-in-order : (i j : ℕ) (e f : Event) → i < j → slice_get es i ≡ Some e → slice_get es j ≡ Some f → stands_before (place_at es j) (place_at es i) ≡ false
   stand-in-order i j e f less at then =
-      subst (λ (p : Point). stands_before (place_at es j) p ≡ false) (sym (place-at-event es i e at))
-      (subst (λ (p : Point). stands_before p e.point ≡ false) (sym (place-at-event es j f then))
-      (pairs-get (λ (e f : Event). stands_before f.point e.point ≡ false) es i j e f order.0 less at then))
+      let first : place_at es i ≡ (get_or es i e).point = place-at-event es i e at ∙ ap (λ (x : Event). x.point) (sym (get_or_from_slice_get es i e e at)) in
+      let second : place_at es j ≡ (get_or es j e).point = place-at-event es j f then ∙ ap (λ (x : Event). x.point) (sym (get_or_from_slice_get es j f e then)) in
+      (λ x. stands_before (second x) (first x)) ∙ order.0 i j e less (slice_get_within es j f then)
 
-  readable-at : (k : ℕ) → StartsAt k → IsReadable t bytes es k
-  readable-at k h =
-      let c = chunk-at k h in
-      record {
-        content = λ flow. let no : Some Text ≡ Some Flow = sym h.content ∙ flow in absurd (cc);
-        from = stands-shown k c.enter c.enter_at;
-        to = stands-shown (k + 1) c.exit c.exit_at;
-        forward = stand-in-order k (k + 1) c.enter c.exit (omega arith) c.enter_at c.exit_at;
-      }
-
-  -- the events between two that are linked
-  mark-alone : (i : ℕ) (e : Event) → slice_get es i ≡ Some e → e.link ≡ None → content_at es i ≡ None
-  mark-alone i e at alone = ap (option_and_then content_of) at ∙ rw alone refl
-
-  of-two : (i m : ℕ) → IsMark es i → i ≤ m → m < i + 2 → content_at es m ≡ None
-  of-two i m mark least most =
-      ⊎_elim
-      (λ (first : m < i + 1). let same : i ≡ m = omega (arith, first, least) in subst (λ n. content_at es n ≡ None) same (mark-alone i mark.enter mark.enter_at mark.enter_alone))
-      (λ (second : i + 1 ≤ m). let same : i + 1 ≡ m = omega (arith, second, most) in subst (λ n. content_at es n ≡ None) same (mark-alone (i + 1) mark.exit mark.exit_at mark.exit_alone))
-      (cases_lt m (i + 1))
-
-  gap-at : (k d : ℕ) → next_of es k ≡ Some d → IsGap es k d
-  gap-at k d is =
-      let pair = chunks.pairs k d is in
-      let c = chunk-at k (leads k d is) in
-      let next = chunk-at d (is-led k d is) in
-      elim pair.follows [
-        | inl directly ↦
-            let at = directly.0 in record {
-              forward = stand-in-order (k + 1) d c.exit next.enter (omega (arith, at)) c.exit_at next.enter_at;
-              in_line = inl (sym directly.1);
-              balanced = subst IsBalanced (sym (between-none es (k + 2) d at)) empty;
-              no_link = λ m least most. absurd (omega (arith, at, least, most));
-            }
-        | inr marked ↦
-            let at = marked.0 in
-            let mark = marked.1 in record {
-              forward = stand-in-order (k + 1) d c.exit next.enter (omega (arith, at)) c.exit_at next.enter_at;
-              in_line = inr (marked.2, marked.3);
-              balanced = subst IsBalanced (sym (between-two es (k + 2) d mark.enter mark.exit (omega (arith, at)) mark.enter_at mark.exit_at)) (span mark.enter mark.exit [] [] refl mark.enters mark.exits mark.same empty empty);
-              no_link = λ m least most. of-two (k + 2) m mark least (omega (arith, at, most));
-            }
-      ]
-
-  leads-forward : (k d : ℕ) → next_of es k ≡ Some d → k < d
-  leads-forward k d is = elim (chunks.pairs k d is).follows [ inl directly ↦ (let at = directly.0 in omega (arith, at)) | inr marked ↦ (let at = marked.0 in omega (arith, at)) ]
-
-  fits-at : (k : ℕ) → fits (Some Text) es k ≡ true → StartsAt k
-  fits-at k h = of-content k (slice_get es k) Text refl (is-text-content (content_at es k) h)
+  -- an event that is in no chain has no content
+  alone-at : (i m : ℕ) (e : Event) → slice_get es i ≡ Some e → e.link ≡ None → i ≡ m → content_at es m ≡ None
+  alone-at i m e at alone same = ap (content_at es) (sym same) ∙ ap (option_and_then content_of) at ∙ rw alone refl
 
   pub chunks-are-ready : IsReady t bytes (Some Text) es
   chunks-are-ready = record {
     balanced = balanced;
     chunks = λ k c is. chunk-at k (of-content k (slice_get es k) c refl is);
     joined = joined;
-    forward = leads-forward;
+    forward = λ k d is. elim (chunks.pairs k d is).follows [ inl directly ↦ (let at = directly.0 in omega (arith, at)) | inr marked ↦ (let at = marked.0 in omega (arith, at)) ];
     one_content = λ k d is. (leads k d is).content ∙ sym (is-led k d is).content;
-    readable = λ k h. readable-at k (fits-at k h);
-    gaps = λ k d h is. gap-at k d is;
+    readable = λ k h.
+        let s = of-content k (slice_get es k) Text refl (is-text-content (content_at es k) h) in
+        let c = chunk-at k s in
+        record {
+          content = λ flow. let no : Some Text ≡ Some Flow = sym s.content ∙ flow in absurd (cc);
+          from = stands-shown k c.enter c.enter_at;
+          to = stands-shown (k + 1) c.exit c.exit_at;
+          forward = stand-in-order k (k + 1) c.enter c.exit (omega arith) c.enter_at c.exit_at;
+        };
+    gaps = λ k d h is.
+        let c = chunk-at k (leads k d is) in
+        let next = chunk-at d (is-led k d is) in
+        elim (chunks.pairs k d is).follows [
+          | inl directly ↦
+              let at = directly.0 in record {
+                forward = stand-in-order (k + 1) d c.exit next.enter (omega (arith, at)) c.exit_at next.enter_at;
+                in_line = inl (sym directly.1);
+                balanced = subst IsBalanced (sym (between-none es (k + 2) d at)) empty;
+                no_link = λ m least most. absurd (omega (arith, at, least, most));
+              }
+          | inr marked ↦
+              let at = marked.0 in
+              let mark = marked.1 in
+              let two = between-two es (k + 2) d mark.enter mark.exit (omega (arith, at)) mark.enter_at mark.exit_at in record {
+                forward = stand-in-order (k + 1) d c.exit next.enter (omega (arith, at)) c.exit_at next.enter_at;
+                in_line = inr (marked.2, marked.3);
+                balanced = subst IsBalanced (sym two) (span mark.enter mark.exit [] [] refl mark.are.enters mark.are.exits mark.are.same empty empty);
+                no_link = λ m least most.
+                    ⊎_elim
+                    (λ (first : m < k + 2 + 1). alone-at (k + 2) m mark.enter mark.enter_at mark.are.enter_alone (omega (arith, first, least)))
+                    (λ (second : k + 2 + 1 ≤ m). alone-at (k + 2 + 1) m mark.exit mark.exit_at mark.are.exit_alone (omega (arith, second, most, at)))
+                    (cases_lt m (k + 2 + 1));
+              }
+        ];
   }

@@ -8,9 +8,7 @@ use Rattle.mdconstructs_text.proofs.DeepSpans.Places.{place-shown}
 
 -- ---- void-tight lists
 void-cons : (e : Event) (es : List Event) → (e.kind ≡ Enter → is_void e.name ≡ true → (f : Event) × (slice_get es 0 ≡ Some f) × (f.kind ≡ Exit) × (f.name ≡ e.name)) → IsVoidTight es → IsVoidTight (e ∷ es)
-void-cons e es first h zero f at =
-    let same : e ≡ f = cc in
-    subst (λ (x : Event). x.kind ≡ Enter → is_void x.name ≡ true → (y : Event) × (slice_get (e ∷ es) (0 + 1) ≡ Some y) × (y.kind ≡ Exit) × (y.name ≡ x.name)) same first
+void-cons e es first h zero f at = let same : f ≡ e = cc in rw same first
 void-cons e es first h (suc k) f at = λ enter void.
     let r = h k f at enter void in
     let z : suc k + 1 ≡ suc (k + 1) = omega arith in
@@ -54,16 +52,8 @@ record Formed (bytes : List ℕ) (p : Point) (es : List Event) (q : Point) : Typ
   shown_all : AllByRecursion (λ (e : Event). IsShown bytes e.point) es
 
 module _ (t : ℕ) (bytes : List ℕ) (all : List Marked) where
-  formed-append : (p : Point) (xs : List Event) (m : Point) (ys : List Event) (q : Point) → Formed bytes p xs m → Formed bytes m ys q → Formed bytes p (xs ++ ys) q
-  formed-append p xs m ys q h k = record {
-    balanced = IsBalanced-append xs ys h.balanced k.balanced;
-    tight = void-append xs ys h.tight k.tight;
-    order = order-append p xs m ys q h.order k.order;
-    shown_all = every-append (λ (e : Event). IsShown bytes e.point) xs ys h.shown_all k.shown_all;
-  }
-
-  formed-none : (p : Point) → Formed bytes p [] p
-  formed-none p = record { balanced = empty; tight = λ k e at. absurd (cc); order = before-self p.index p.vs; shown_all = tt }
+  none-formed : (p q : Point) → stands_before q p ≡ false → Formed bytes p [] q
+  none-formed p q h = record { balanced = empty; tight = λ k e at. absurd (cc); order = h; shown_all = tt }
 
   -- marks over virtual bytes, wherever these are
   abbrev Forms : List Marked → List Seat → Type 0
@@ -73,68 +63,55 @@ module _ (t : ℕ) (bytes : List ℕ) (all : List Marked) where
   both xs ys seats others h k p rest c =
       let whole = subst (IsChain t bytes p) (append_assoc seats others rest) c in
       let m = end_after p seats in
-      let one = formed-append p (linked bytes all xs) m (linked bytes all ys) (end_after m others) (h p (others ++ rest) whole) (k m rest (chain-split t bytes p seats (others ++ rest) whole)) in
+      let one = h p (others ++ rest) whole in
+      let two = k m rest (chain-split t bytes p seats (others ++ rest) whole) in
       subst (λ es. Formed bytes p es (end_after p (seats ++ others))) (sym (map-append (as_linked all) xs ys))
-      (subst (Formed bytes p (linked bytes all xs ++ linked bytes all ys)) (sym (end-after-append p seats others)) one)
+      (subst (Formed bytes p (linked bytes all xs ++ linked bytes all ys)) (sym (end-after-append p seats others)) (record {
+        balanced = IsBalanced-append (linked bytes all xs) (linked bytes all ys) one.balanced two.balanced;
+        tight = void-append (linked bytes all xs) (linked bytes all ys) one.tight two.tight;
+        order = order-append p (linked bytes all xs) m (linked bytes all ys) (end_after m others) one.order two.order;
+        shown_all = every-append (λ (e : Event). IsShown bytes e.point) (linked bytes all xs) (linked bytes all ys) one.shown_all two.shown_all;
+      }))
 
   -- an enter and an exit at the ends of virtual bytes
   module _ (s : Seat) (ss : List Seat) (p : Point) (rest : List Seat) (c : IsChain t bytes p ((s ∷ ss) ++ rest)) where
     abbrev end : Point
     end = end_after s.end ss
 
-    end-shown : shown bytes end ≡ end
-    end-shown = place-shown t bytes p (s ∷ ss) rest c
-
-    not-before : stands_before end (shown bytes s.point) ≡ false
-    not-before = subst (λ q. stands_before end q ≡ false) (sym c.1.shown_is) (chain-upto t bytes p (s ∷ ss) rest c)
-
-    exit-after : stands_before (shown bytes end) end ≡ false
-    exit-after = subst (λ q. stands_before q end ≡ false) (sym end-shown) (before-self end.index end.vs)
-
-    end-after-exit : stands_before end (shown bytes end) ≡ false
-    end-after-exit = subst (λ q. stands_before end q ≡ false) (sym end-shown) (before-self end.index end.vs)
+    around-formed : (e : Event) (name : Name) (es : List Event) → e.kind ≡ Enter → e.name ≡ name → e.point ≡ shown bytes s.point → let f = event bytes Exit name end in
+        (e.kind ≡ Enter → is_void e.name ≡ true → (x : Event) × (slice_get (es ++ f ∷ []) 0 ≡ Some x) × (x.kind ≡ Exit) × (x.name ≡ e.name)) → Formed bytes p es end
+        → Formed bytes p (e ∷ (es ++ f ∷ [])) end
+    around-formed e name es enters named at first h =
+        let f = event bytes Exit name end in
+        let end_shown : shown bytes end ≡ end = place-shown t bytes p (s ∷ ss) rest c in
+        let here : stands_before p e.point ≡ false = subst (λ q. stands_before p q ≡ false) (sym (at ∙ c.1.shown_is)) (before-self p.index p.vs) in
+        let self = before-self end.index end.vs in
+        let close : InOrder end (f ∷ []) end = subst (λ q. (stands_before q end ≡ false) × (stands_before end q ≡ false)) (sym end_shown) (self, self) in
+        let last : IsVoidTight (f ∷ []) = void-cons f [] (λ enter void. absurd (cc)) (λ k x is. absurd (cc)) in
+        record {
+          balanced = span e f es [] refl enters refl (sym named) h.balanced empty;
+          tight = void-cons e (es ++ f ∷ []) first (void-append es (f ∷ []) h.tight last);
+          order = (subst (λ q. stands_before q p ≡ false) (sym at) c.1.shown_later, order-append e.point es end (f ∷ []) end (order-from e.point p es end here h.order) close);
+          shown_all = (subst (IsShown bytes) (sym at) (shown-shown t bytes s.point), every-append (λ (x : Event). IsShown bytes x.point) es (f ∷ []) h.shown_all (shown-shown t bytes end, tt));
+        }
 
     pair-formed : (e : Event) (name : Name) → e.kind ≡ Enter → e.name ≡ name → e.point ≡ shown bytes s.point → Formed bytes p (e ∷ event bytes Exit name end ∷ []) end
     pair-formed e name enters named at =
-        let f = event bytes Exit name end in record {
-          balanced = span e f [] [] refl enters refl (sym named) empty empty;
-          tight = void-cons e (f ∷ []) (λ enter void. (f, refl, refl, sym named)) (void-cons f [] (λ enter void. absurd (cc)) (λ k x is. absurd (cc)));
-          order = (
-            subst (λ q. stands_before q p ≡ false) (sym at) c.1.shown_later,
-            (subst (λ q. stands_before (shown bytes end) q ≡ false) (sym at) (subst (λ q. stands_before q (shown bytes s.point) ≡ false) (sym end-shown) not-before), end-after-exit),
-          );
-          shown_all = (subst (IsShown bytes) (sym at) (shown-shown t bytes s.point), (shown-shown t bytes end, tt));
-        }
-
-    around-formed : (es : List Event) → Formed bytes p es end → let e = event bytes Enter Paragraph s.point in Formed bytes p (e ∷ (es ++ event bytes Exit Paragraph end ∷ [])) end
-    around-formed es h =
-        let e = event bytes Enter Paragraph s.point in
-        let f = event bytes Exit Paragraph end in
-        let here : stands_before p (shown bytes s.point) ≡ false = subst (λ q. stands_before p q ≡ false) (sym c.1.shown_is) (before-self p.index p.vs) in
-        let last : IsVoidTight (f ∷ []) = void-cons f [] (λ enter void. absurd (cc)) (λ k x is. absurd (cc)) in
-        let close : InOrder end (f ∷ []) end = (exit-after, end-after-exit) in
-        record {
-          balanced = span e f es [] refl refl refl refl h.balanced empty;
-          tight = void-cons e (es ++ f ∷ []) (λ enter void. absurd (cc)) (void-append es (f ∷ []) h.tight last);
-          order = (c.1.shown_later, order-append e.point es end (f ∷ []) end (order-from e.point p es end here h.order) close);
-          shown_all = (shown-shown t bytes s.point, every-append (λ (x : Event). IsShown bytes x.point) es (f ∷ []) h.shown_all (shown-shown t bytes end, tt));
-        }
+        around-formed e name [] enters named at (λ enter void. (event bytes Exit name end, refl, refl, sym named)) (none-formed p end (chain-upto t bytes p (s ∷ ss) rest c))
 
   leaf-forms : (o : Option Chunk) (name : Name) (l : List Seat) → Forms (marked_span bytes o name l []) l
-  leaf-forms o name [] p rest c = formed-none p
+  leaf-forms o name [] p rest c = none-formed p p (before-self p.index p.vs)
   leaf-forms None name (s ∷ ss) p rest c = pair-formed s ss p rest c (event bytes Enter name s.point) name refl refl refl
   leaf-forms (Some (b, n)) name (s ∷ ss) p rest c = pair-formed s ss p rest c (as_linked all (event bytes Enter name s.point, Some (b, n))) name refl refl refl
 
-  line-forms : (chunk : Chunk) (line : List Seat) → Forms (line_marks bytes chunk line) line
-  line-forms chunk line =
-      subst (Forms (line_marks bytes chunk line)) (line-is line)
-      (both (marked_span bytes None BlockQuoteMarker (mark_of line) []) (marked_span bytes (Some chunk) Data (chunk_of line) []) (mark_of line) (chunk_of line)
-      (leaf-forms None BlockQuoteMarker (mark_of line)) (leaf-forms (Some chunk) Data (chunk_of line)))
-
   lines-form : (block n : ℕ) (lines : List (List Seat)) → Forms (lines_marks bytes block n lines) (all_of lines)
-  lines-form block n [] = λ p rest c. formed-none p
+  lines-form block n [] = λ p rest c. none-formed p p (before-self p.index p.vs)
   lines-form block n (line ∷ lines) =
-      both (line_marks bytes (block, n) line) (lines_marks bytes block (suc n) lines) line (all_of lines) (line-forms (block, n) line) (lines-form block (suc n) lines)
+      let one =
+      both (marked_span bytes None BlockQuoteMarker (mark_of line) []) (marked_span bytes (Some (block, n)) Data (chunk_of line) []) (mark_of line) (chunk_of line)
+      (leaf-forms None BlockQuoteMarker (mark_of line)) (leaf-forms (Some (block, n)) Data (chunk_of line)) in
+      let marks = line_marks bytes (block, n) line in
+      both marks (lines_marks bytes block (suc n) lines) line (all_of lines) (subst (Forms marks) (line-is line) one) (lines-form block (suc n) lines)
 
   paragraph-forms : (block : ℕ) (lines : List (List Seat)) (l : List Seat) → all_of lines ≡ l → Forms (marked_span bytes None Paragraph l (lines_marks bytes block 0 lines)) l
   paragraph-forms block lines [] is p rest c = subst (Forms (lines_marks bytes block 0 lines)) is (lines-form block 0 lines) p rest c
@@ -142,14 +119,15 @@ module _ (t : ℕ) (bytes : List ℕ) (all : List Marked) where
       let inside = lines_marks bytes block 0 lines in
       let exit = event bytes Exit Paragraph (end_after s.end ss) in
       let formed = subst (Forms inside) is (lines-form block 0 lines) p rest c in
-      subst (λ es. Formed bytes p (event bytes Enter Paragraph s.point ∷ es) (end_after s.end ss)) (sym (map-append (as_linked all) inside ((exit, None) ∷ []))) (around-formed s ss p rest c (linked bytes all inside) formed)
+      subst (λ es. Formed bytes p (event bytes Enter Paragraph s.point ∷ es) (end_after s.end ss)) (sym (map-append (as_linked all) inside ((exit, None) ∷ [])))
+      (around-formed s ss p rest c (event bytes Enter Paragraph s.point) Paragraph (linked bytes all inside) refl refl refl (λ enter void. absurd (cc)) formed)
 
   block-forms : (b : ℕ) (block : Block) → Forms (block_marks bytes b block) (block_bytes block)
   block-forms b (blank line) = leaf-forms None BlankLineEnding line
   block-forms b (paragraph lines) = paragraph-forms b lines (all_of lines) refl
 
   blocks-form : (b : ℕ) (blocks : List Block) → Forms (blocks_marks bytes b blocks) (flat_map block_bytes blocks)
-  blocks-form b [] = λ p rest c. formed-none p
+  blocks-form b [] = λ p rest c. none-formed p p (before-self p.index p.vs)
   blocks-form b (block ∷ blocks) =
       both (block_marks bytes b block) (blocks_marks bytes (suc b) blocks) (block_bytes block) (flat_map block_bytes blocks) (block-forms b block) (blocks-form (suc b) blocks)
 

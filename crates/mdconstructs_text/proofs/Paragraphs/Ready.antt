@@ -1,47 +1,43 @@
 -- What the machines of paragraphs and of texts read of a document, from the start of paragraphs, has chains of text that can be read.
-use Rattle.mdconstructs_text.proofs.Prelude.{◌≡◌, ◌<◌, [], Some, false, inl, inr, refl, sym, ap, ◌∙◌, subst, arith, Contains, IsBalanced, IsVoidTight, IsInOrder, Next, Ok, FlowStart, virtual, Configuration, start_configuration, IsWellFormed, whole_text, KeepsInvariant, Reading, EndsIn, Rules, Given, Text, IsDocument, AreMutual, no-links-shape, IsReady, kept-well, lawful-kept, holds-at-start, knowing-lawful, paragraphs, knows_chunk, paragraphs_rules, paragraph_events, paragraphs-fit, paragraphs-known, reads-whole, HasReadableChains, text_rules, text-lawful}
+use Rattle.mdconstructs_text.proofs.Prelude.{◌≡◌, ◌<◌, [], Some, false, inl, inr, refl, sym, ap, ◌∙◌, subst, arith, Contains, IsBalanced, IsVoidTight, IsInOrder, Next, Ok, FlowStart, virtual, Configuration, start_configuration, IsWellFormed, whole_text, KeepsInvariant, Reading, EndsIn, Rules, Given, Text, IsDocument, AreMutual, no-links-shape, IsReady, kept-well, knowing-lawful, paragraphs, knows_chunk, paragraphs_rules, paragraph_events, paragraphs-fit, paragraphs-known, reads-whole, HasReadableChains, text_rules, text-lawful}
 use Rattle.markdown_base.specs.declared.event.Content.TheVariants.{Text as TextContent}
-use Rattle.mdconstructs_text.proofs.Paragraphs.ChunkPairs.{AreChunks, no-chunks}
+use Rattle.mdconstructs_machines.proofs.BlockReads.Reads.{ReadsBlocks}
+use Rattle.mdconstructs_text.proofs.Paragraphs.ChunkPairs.{AreChunks}
 use Rattle.mdconstructs_text.proofs.Paragraphs.ChunksReady.{chunks-are-ready}
 use Rattle.mdconstructs_text.proofs.Paragraphs.Formed.{paragraphs-formed}
-use Rattle.mdconstructs_text.proofs.Paragraphs.Steps.{Known, ReadsFlow, flow-kept}
-use Rattle.mdconstructs_text.proofs.Texts.WholeTexts.{whole-is-text}
+use Rattle.mdconstructs_text.proofs.Paragraphs.Steps.{Known, flow-kept}
+use Rattle.mdconstructs_text.proofs.Texts.Ends.{holds-at-end}
+use Rattle.mdconstructs_text.proofs.Texts.WholePlaces.{whole-is-text}
 
 module _ (rules : Given → Rules Unit Unit) where
-  -- Its chains are mutual where all was read
-  abbrev LinksBothWays : Type 0
-  LinksBothWays = (g : Given) (text : Text) (k : Configuration Unit Unit) → (rules g).holds text k [] Ok → IsBalanced k.events → AreMutual k.events
-
-  -- What is known of a machine that reads paragraphs
-  record Reads : Type 0 where
+  -- What is known of a machine that reads paragraphs. Its chains are mutual where all was read
+  record ReadsParagraphs : Type 0 where
     law : (g : Given) → KeepsInvariant g (rules g)
-    flow : (g : Given) (document : IsDocument g) → ReadsFlow g document (rules g).step
+    flow : (g : Given) → ReadsBlocks g (whole_text g) (rules g).step
     starts : (g : Given) → Contains (rules g).starts FlowStart
-    both : LinksBothWays
+    both : (g : Given) (text : Text) (k : Configuration Unit Unit) → (rules g).holds text k [] Ok → IsBalanced k.events → AreMutual k.events
 
   -- the chunks of a reading of a whole document follow one another, and can be read
-  reading-readable : Reads → (g : Given) → IsDocument g → (r : Reading Unit Unit) → EndsIn g (rules g).step (whole_text g) 0 (start_configuration false) [] (Next FlowStart) r → r.answer ≡ Ok
+  reading-readable : ReadsParagraphs → (g : Given) → IsDocument g → (r : Reading Unit Unit) → EndsIn g (rules g).step (whole_text g) 0 (start_configuration false) [] (Next FlowStart) r → r.answer ≡ Ok
       → IsWellFormed g.bytes r.configuration → AreChunks g.tab g.bytes r.configuration.events × IsReady g.tab g.bytes (Some TextContent) r.configuration.events
   reading-readable reads g document r ends well formed =
       let text = whole_text g in
-      let is = whole-is-text g document in
-      let start : Configuration Unit Unit = start_configuration false in
       let k = r.configuration in
-      let chunks = kept-well g (rules g).step text (Known g document) (flow-kept g document (rules g).step (reads.flow g document)) 0 start (Next FlowStart) r (no-chunks g.tab g.bytes, inl refl) ends well in
-      let holds = kept-well g (rules g).step text (λ k cs s. (rules g).holds text k cs s) (lawful-kept g (rules g) (reads.law g) text is) 0 start (Next FlowStart) r
-      (holds-at-start g (rules g) (reads.law g) text is false FlowStart (reads.starts g)) ends well in
+      let none : AreChunks g.tab g.bytes [] = record { each = tt; pairs = λ k d is. absurd (cc) } in
+      let kept = flow-kept g document (rules g).step (reads.flow g) in
+      let chunks = kept-well g (rules g).step text (Known g document) kept 0 (start_configuration false) (Next FlowStart) r (none, inl refl) ends well in
+      let holds = holds-at-end g rules (reads.law g) FlowStart (reads.starts g) text (whole-is-text g document) false r ends well in
       (chunks, chunks-are-ready g.tab g.bytes k.events chunks formed.balanced formed.void_tight formed.in_order (reads.both g text k holds formed.balanced))
 
-  readable : Reads → HasReadableChains rules FlowStart
+  readable : ReadsParagraphs → HasReadableChains rules FlowStart
   readable reads g events sub document run =
-      let k = run.result.configuration in
-      let same : k.events ≡ events = sym (run.events ∙ ap (λ (q : Configuration Unit Unit). q.events) run.resolved.0) in
+      let same : run.result.configuration.events ≡ events = sym (run.events ∙ ap (λ (q : Configuration Unit Unit). q.events) run.resolved.0) in
       subst (IsReady g.tab g.bytes (Some TextContent)) same (reading-readable reads g document run.result run.ends run.well run.well_formed).1
 
-paragraphs-reads : Reads paragraphs_rules
+paragraphs-reads : ReadsParagraphs paragraphs_rules
 paragraphs-reads = record {
   law = λ g. (knowing-lawful paragraphs knows_chunk g paragraphs-fit paragraphs-known).invariant_kept;
-  flow = λ g document. record { flow_start = λ k. refl; line_start = λ k. refl; start = λ k. refl; inside = λ k. refl };
+  flow = λ g. record { flow_start = λ k. refl; line_start = λ k. refl; start = λ k. refl; inside = λ k. refl };
   starts = λ g. (0, omega arith, (cc));
   both = λ g text k h balanced i j. let shape = h.known.shape in (shape.on i j, shape.back i j);
 }
@@ -50,24 +46,18 @@ pub paragraphs-readable : HasReadableChains paragraphs_rules FlowStart
 paragraphs-readable = readable paragraphs_rules paragraphs-reads
 
 pub text-readable : HasReadableChains text_rules FlowStart
-text-readable =
-    readable text_rules
-    (record {
-      law = λ g. (text-lawful g).invariant_kept;
-      flow = λ g document. record { flow_start = λ k. refl; line_start = λ k. refl; start = λ k. refl; inside = λ k. refl };
-      starts = λ g. (0, omega arith, (cc));
-      both = λ g text k h balanced. elim h [
-        | inl h ↦ (let shape = h.known.shape in λ i j. (shape.on i j, shape.back i j))
-        | inr h ↦ (no-links-shape k.events h.0.2 balanced).chained
-      ];
-    })
+text-readable = readable text_rules (record {
+  law = λ g. (text-lawful g).invariant_kept;
+  flow = λ g. record { flow_start = λ k. refl; line_start = λ k. refl; start = λ k. refl; inside = λ k. refl };
+  starts = λ g. (0, omega arith, (cc));
+  both = λ g text k h balanced. elim h [ inl h ↦ (let shape = h.known.shape in λ i j. (shape.on i j, shape.back i j)) | inr h ↦ (no-links-shape k.events h.0.2 balanced).chained ];
+})
 
 -- The events of the blocks of a document: its chunks follow one another, and its chains can be read
 pub document-readable : (g : Given) → IsDocument g → let es = paragraph_events g.bytes (virtual g.tab g.bytes) in AreChunks g.tab g.bytes es × IsReady g.tab g.bytes (Some TextContent) es
 document-readable g document =
     let some : 0 < g.tab = (let tab = document.tab.0 in omega (arith, tab)) in
-    let it = reads-whole g (whole_text g) (paragraphs_rules g).step (record { flow_start = λ k. refl; line_start = λ k. refl; start = λ k. refl; inside = λ k. refl }) false 0 in
-    let es = paragraph_events g.bytes (virtual g.tab g.bytes) in
+    let it = reads-whole g (whole_text g) (paragraphs_rules g).step (paragraphs-reads.flow g) false 0 in
     let formed = paragraphs-formed g.tab g.bytes some in
     let well : IsWellFormed g.bytes it.0.configuration = record {
       balanced = subst IsBalanced (sym it.1.2) formed.0;

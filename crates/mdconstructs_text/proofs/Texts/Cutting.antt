@@ -1,5 +1,5 @@
 -- Cutting a text into items: the bound of the cut does not matter.
-use Rattle.mdconstructs_text.proofs.Prelude.{◌≡◌, ℕ, zero, suc, ◌<◌, ◌≤◌, ◌∷◌, [], List, refl, ap, arith, length, take, drop, Seat, bytes_of, cut, length-drop}
+use Rattle.mdconstructs_text.proofs.Prelude.{◌≡◌, ℕ, zero, suc, ◌<◌, ◌≤◌, ◌∷◌, List, refl, ap, arith, length, take, drop, Seat, bytes_of, cut, length-drop}
 
 -- each part is at least a byte
 abbrev IsPositive : {A : Type 0} → (List ℕ → A) → (A → ℕ) → Type 0
@@ -12,13 +12,10 @@ drop-less n x xs h = let left = length-drop n (x ∷ xs) in omega (arith, left, 
 -- a larger bound cuts alike
 pub cut-enough : {A : Type 0} (front : List ℕ → A) (size : A → ℕ) → IsPositive front size → (b c : ℕ) (seats : List Seat) → length seats ≤ b → length seats ≤ c
     → cut front size b seats ≡ cut front size c seats
-cut-enough front size positive zero zero seats h i = refl
-cut-enough front size positive zero (suc c) [] h i = refl
 cut-enough front size positive zero (suc c) (s ∷ ss) h i = absurd (omega (arith, h))
-cut-enough front size positive (suc b) zero [] h i = refl
 cut-enough front size positive (suc b) zero (s ∷ ss) h i = absurd (omega (arith, i))
-cut-enough front size positive (suc b) (suc c) [] h i = refl
 cut-enough front size positive (suc b) (suc c) (s ∷ ss) h i =
     let n = size (front (bytes_of (s ∷ ss))) in
     let less : length (drop n (s ∷ ss)) ≤ length ss = drop-less n s ss (positive s.byte (bytes_of ss)) in
     ap (λ l. (front (bytes_of (s ∷ ss)), take n (s ∷ ss)) ∷ l) (cut-enough front size positive b c (drop n (s ∷ ss)) (omega (arith, less, h)) (omega (arith, less, i)))
+cut-enough front size positive b c seats h i = refl

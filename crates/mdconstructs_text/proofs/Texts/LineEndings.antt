@@ -1,14 +1,11 @@
 -- Line endings, as the machine of texts reads them between items.
-use Rattle.mdconstructs_text.proofs.Prelude.{at-front, ◌≡◌, ℕ, ◌+◌, ◌∷◌, ◌++◌, [], List, Bool, true, false, refl, sym, ◌∙◌, ap, subst, Some, None, take, drop, Constructs, Event, Next, TextBefore, Seat, Nothing, Byte, Given, Text, Local, byte_of, counts, Item, line_ending, part, item_length, item_at, if_on, or_else, bytes_of, item_events, text_byte, text_before_rows, line-ending-read}
+use Rattle.mdconstructs_text.proofs.Prelude.{at-front, ◌≡◌, ℕ, ◌+◌, ◌∷◌, ◌++◌, [], List, Bool, true, false, refl, sym, ◌∙◌, ap, subst, Some, None, take, drop, Event, Next, TextBefore, Seat, Nothing, Byte, Given, Text, Local, byte_of, counts, Item, line_ending, part, item_length, item_at, if_on, or_else, bytes_of, item_events, text_byte, text_before_rows, line-ending-read}
 use Rattle.mdconstructs_text.proofs.Texts.Steps.{EndsWith, Leads, between_items, leads-byte, leads-seen, before_class}
 
 -- a construct that is nowhere
 pub nowhere : (on : Bool) (x : Item) → or_else (if_on on None) x ≡ x
 nowhere true x = refl
 nowhere false x = refl
-
-line-ending-at : (on : Constructs) (bytes : List ℕ) → item_at on (10 ∷ bytes) ≡ part line_ending
-line-ending-at on bytes = nowhere on.code_text _ ∙ nowhere on.autolink _ ∙ nowhere on.character_escape _
 
 module _ (g : Given) (text : Text) where
   -- the item at a position was read, with its events
@@ -23,8 +20,8 @@ module _ (g : Given) (text : Text) where
       → Adds p ended events local (s ∷ ss) (item_at g.options.constructs (bytes_of (s ∷ ss)))
   adds-line-ending p ended events local s ss here is =
       let at = at-front text.seats p s ss here in
-      let item : item_at g.options.constructs (bytes_of (s ∷ ss)) ≡ part line_ending =
-      ap (λ b. item_at g.options.constructs (b ∷ bytes_of ss)) is ∙ line-ending-at g.options.constructs (bytes_of ss) in
+      let on = g.options.constructs in
+      let item : item_at on (bytes_of (s ∷ ss)) ≡ part line_ending = ap (λ b. item_at on (b ∷ bytes_of ss)) is ∙ nowhere on.code_text _ ∙ nowhere on.autolink _ ∙ nowhere on.character_escape _ in
       subst (Adds p ended events local (s ∷ ss)) (sym item) (
         false,
         counts local,

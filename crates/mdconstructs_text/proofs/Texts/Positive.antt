@@ -1,6 +1,6 @@
 -- Each item is at least a byte.
-use Rattle.mdconstructs_text.proofs.Prelude.{ℕ, ◌+◌, ◌<◌, ◌∷◌, List, Bool, true, false, cond, ◌&&◌, ◌==◌, Option, Some, None, arith, max, drop, option_map, slice_get, prefix_len, position_or_len, is_ascii_punctuation, Constructs, line_ending, plain_run, Item, code_span, autolink, escape, part_length, item_length, has_byte_at, passes, is_special, is_backtick, backticks, before_backtick_string, uri, autolink_to, code_span_at, autolink_at, escape_at, if_on, or_else, is_backslash, is_greater_than, is_less_than, is_line_feed}
-use Rattle.mdconstructs_text.proofs.Texts.Whole.{ItemsArePositive}
+use Rattle.mdconstructs_text.proofs.Prelude.{ℕ, ◌+◌, ◌<◌, ◌∷◌, List, Bool, true, false, cond, ◌==◌, Option, Some, None, arith, drop, option_map, prefix_len, Constructs, Item, code_span, autolink, escape, part, part_at, item_length, item_at, has_byte_at, is_special, is_backtick, backticks, before_backtick_string, uri, autolink_to, code_span_at, autolink_at, escape_at, if_on, or_else, is_greater_than, is_less_than}
+use Rattle.mdconstructs_text.proofs.CodeSpans.FoundParts.{piece-positive}
 
 -- what holds of the item that is there
 abbrev pub OfOption : (Item → Type 0) → Option Item → Type 0
@@ -11,9 +11,16 @@ pub when-there : (P : Item → Type 0) (b : Bool) (o : Option Item) → OfOption
 when-there P true o h = h
 when-there P false o h = tt
 
-pub else-there : (P : Item → Type 0) (o : Option Item) (x : Item) → OfOption P o → P x → P (or_else o x)
-else-there P None x h i = i
-else-there P (Some y) x h i = h
+or-there : (P : Item → Type 0) (on : Bool) (o : Option Item) (x : Item) → OfOption P o → P x → P (or_else (if_on on o) x)
+or-there P true None x h i = i
+or-there P true (Some y) x h i = h
+or-there P false o x h i = i
+
+-- the item at the front of a text is a construct that is there, or a part
+pub at-item : (P : Item → Type 0) (on : Constructs) (text : List ℕ) → OfOption P (code_span_at text) → OfOption P (autolink_at text) → OfOption P (escape_at text) → P (part (part_at is_special text))
+    → P (item_at on text)
+at-item P on text code link escaped plain =
+    or-there P on.code_text (code_span_at text) _ code (or-there P on.autolink (autolink_at text) _ link (or-there P on.character_escape (escape_at text) _ escaped plain))
 
 abbrev IsSome : Item → Type 0
 IsSome item = 0 < item_length item
@@ -27,20 +34,8 @@ link-positive : (text : List ℕ) (o : Option ℕ) → OfOption IsSome (autolink
 link-positive text None = tt
 link-positive text (Some n) = when-there IsSome (has_byte_at text (n + 1) is_greater_than) (Some (autolink n)) (omega arith)
 
-at-least-one : (r : ℕ) → 0 < max 1 r
-at-least-one r = grind (arith)
-
-piece-positive : (t : Bool) (n m : ℕ) → 0 < n → 0 < part_length (cond t line_ending (plain_run (n + m)))
-piece-positive true n m h = omega arith
-piece-positive false n m h = omega (arith, h)
-
-pub items-positive : (on : Constructs) → ItemsArePositive on
+pub items-positive : (on : Constructs) (b : ℕ) (bs : List ℕ) → 0 < item_length (item_at on (b ∷ bs))
 items-positive on b bs =
     let text = b ∷ bs in
-    else-there IsSome (if_on on.code_text (code_span_at text)) _
-    (when-there IsSome on.code_text (code_span_at text) (code-positive (b == 96) (prefix_len is_backtick bs) (before_backtick_string (backticks text) (drop (backticks text) text))))
-    (else-there IsSome (if_on on.autolink (autolink_at text)) _
-    (when-there IsSome on.autolink (autolink_at text) (when-there IsSome (has_byte_at text 0 is_less_than) (autolink_to text (uri bs)) (link-positive text (uri bs))))
-    (else-there IsSome (if_on on.character_escape (escape_at text)) _
-    (when-there IsSome on.character_escape (escape_at text) (when-there IsSome (has_byte_at text 0 is_backslash && passes is_ascii_punctuation (slice_get text 1)) (Some escape) (omega arith)))
-    (piece-positive (has_byte_at text 0 is_line_feed) (max 1 (backticks text)) (position_or_len is_special (drop (max 1 (backticks text)) text)) (at-least-one (backticks text)))))
+    at-item IsSome on text (code-positive (b == 96) (prefix_len is_backtick bs) (before_backtick_string (backticks text) (drop (backticks text) text)))
+    (when-there IsSome (has_byte_at text 0 is_less_than) (autolink_to text (uri bs)) (link-positive text (uri bs))) (when-there IsSome _ (Some escape) (omega arith)) (piece-positive is_special b bs)

@@ -72,13 +72,8 @@ module _ (g : Given) (text : Text) where
   -- and by a test, if there are two rows
   tested : (test : Given → Sight → Configuration Unit Unit → Bool) (a b : Rows Unit Unit) (k : Configuration Unit Unit) (t : Bool) → test g (sight g text k) (with_local k (counts k.local)) ≡ t
       → row_step g text k (when test a b) ≡ row_step g text k (cond t a b)
-  tested test a b k t e =
-      let s = sight g text k in
-      let k1 = with_local k (counts k.local) in
-      elim t as (λ t. test g s k1 ≡ t → row_step g text k (when test a b) ≡ row_step g text k (cond t a b)) [
-        | true ↦ λ e. ap (λ c. step_of (cond c (picked a g s k1) (picked b g s k1)) s k1) e
-        | false ↦ λ e. ap (λ c. step_of (cond c (picked a g s k1) (picked b g s k1)) s k1) e
-      ] e
+  tested test a b k true e = let s = sight g text k in let k1 = with_local k (counts k.local) in ap (λ c. step_of (cond c (picked a g s k1) (picked b g s k1)) s k1) e
+  tested test a b k false e = let s = sight g text k in let k1 = with_local k (counts k.local) in ap (λ c. step_of (cond c (picked a g s k1) (picked b g s k1)) s k1) e
 
   pub leads-tested : {o : Option ℕ} {a b : Rows Unit Unit} {t : Bool} (test : Given → Sight → Configuration Unit Unit → Bool) (table : (previous current : Option TextByte) → Rows Unit Unit) (k : Configuration Unit Unit) (cs : List Choice) (n : Name) (es : List Event)
       → (sight g text k).current ≡ o → table (class_of text_byte (sight g text k).previous) (class_of text_byte o) ≡ when test a b → test g (sight g text k) (with_local k (counts k.local)) ≡ t

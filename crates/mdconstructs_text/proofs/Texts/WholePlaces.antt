@@ -1,32 +1,38 @@
--- The places of a whole document, one after another: the place after the previous byte is where the next byte is shown.
-use Rattle.mdconstructs_text.proofs.Prelude.{◌≡◌, ℕ, zero, suc, ◌+◌, ◌<◌, ◌==◌, List, [], ◌∷◌, Bool, true, false, Option, Some, None, refl, sym, ap, ◌∙◌, subst, arith, slice_get, append-nil, Point, Seat, point, virtual, document_end, shown, IsShown, IsPointOf, Waits, Nothing, Byte, End, goes_on, end_at, whole_text, seat_before, byte_of, end_or, end_place, point_or, point_of, current_of, next_place, Given, Text, IsDocument, IsChain, whole-chain, get-among, end-is-point, end-of-is-point, chain-at, chain-split, after-shown, shown-line}
-use Rattle.mdconstructs_text.proofs.Texts.WholeTexts.{whole-is-text}
+-- The whole text of a document is a text. Its places, one after another: the place after the previous byte is where the next byte is shown.
+use Rattle.mdconstructs_text.proofs.Prelude.{◌≡◌, ℕ, zero, suc, ◌+◌, ◌<◌, ◌≤◌, ◌==◌, List, [], ◌∷◌, ◌++◌, Bool, true, false, cond, Option, Some, None, length, take, drop, refl, sym, ap, ◌∙◌, subst, arith, slice_get, slice_get_within, append-nil, drop-at, take-append-drop, Point, Seat, point, virtual, document_end, end_after, shown, IsShown, IsPointOf, Waits, Nothing, Byte, End, goes_on, end_at, whole_text, byte_of, end_or, end_place, point_or, point_of, current_of, next_place, Given, Text, IsDocument, IsText, pushed, IsChain, whole-chain, get-among, start-is-point, start-upto, same-self, end-is-point, end-of-is-point, chain-at, chain-split, after-shown, shown-line, class_of, LineByte, line_byte}
+use Rattle.markdown_tokenizer.proofs.Positions.Chains.{Begins}
+use Rattle.markdown_tokenizer.proofs.Positions.Standing.{seat-begins}
+use Rattle.mdconstructs_machines.specs.Tables.{line_ending, other}
+use Rattle.mdconstructs_text.proofs.DeepSpans.Places.{range-of}
+use Rattle.mdconstructs_text.proofs.Plain.Stretches.{end-behind}
 
-some-before : (xs : List Seat) (k : ℕ) (s : Seat) → slice_get xs (suc k) ≡ Some s → (r : Seat) × (slice_get xs k ≡ Some r)
-some-before [] k s e = absurd (cc)
-some-before (x ∷ xs) zero s e = (x, refl)
-some-before (x ∷ xs) (suc k) s e = some-before xs k s e
+-- one range, from the document's start to its end
+pub whole-is-text : (g : Given) → IsDocument g → IsText g (whole_text g)
+whole-is-text g document =
+    let some : 0 < g.tab = (let tab = document.tab.0 in omega (arith, tab)) in
+    let seats = virtual g.tab g.bytes in
+    let p = point 1 1 0 0 in
+    let e = document_end g.tab g.bytes in record {
+      document = document;
+      starts = start-is-point g some;
+      pieces = pushed p e ∷ [];
+      follow = ((start-is-point g some, end-is-point g.tab g.bytes, same-self g.tab g.bytes p, start-upto g.tab some g.bytes e), tt);
+      is = ap (λ (seats : List Seat). record { start = p; seats = seats; end = e }) (sym (range-of g.tab g.bytes some [] seats [] (sym (append-nil seats))));
+    }
 
--- these virtual bytes, from a place on
-abbrev from_place : Point → List Seat → Text
-from_place p xs = record { start = p; seats = xs; end = p }
-
--- one that has another before it begins where that one ends
-later-begins : (p : Point) (x : Seat) (xs : List Seat) (i : ℕ) (s : Seat) → slice_get xs i ≡ Some s → end_or x.end (seat_before (from_place x.end xs) i) ≡ end_or p (slice_get (x ∷ xs) i)
-later-begins p x xs zero s e = refl
-later-begins p x xs (suc k) s e = let (r, is) = some-before xs k s e in rw is refl
+-- the place before a byte is the end of those before it
+place-is : (text : Text) (p : ℕ) (l : List Seat) → text.seats ≡ l → p ≤ length l → end_place text p ≡ end_after text.start (take p l)
+place-is text zero l is h = refl
+place-is text (suc m) [] is h = absurd (omega (arith, h))
+place-is text (suc m) (x ∷ xs) is h = let one : suc m ≡ 0 + suc m = omega arith in ap (end_place text) one ∙ end-behind text m 0 x xs is (omega (arith, h))
 
 module _ (t : ℕ) (bytes : List ℕ) where
-  -- each begins where the one before it ends, and ends where its byte says
-  at-index : (p : Point) (xs : List Seat) → IsChain t bytes p xs → (i : ℕ) (s : Seat) → slice_get xs i ≡ Some s → (shown bytes s.point ≡ end_place (from_place p xs) i) × (end_at t s.byte s.point ≡ s.end)
-  at-index p [] c i s e = absurd (cc)
-  at-index p (x ∷ xs) c zero s e =
-      let same : x ≡ s = cc in
-      subst (λ (y : Seat). (shown bytes y.point ≡ p) × (end_at t y.byte y.point ≡ y.end)) same (c.1.shown_is, c.1.end_is)
-  at-index p (x ∷ xs) c (suc i) s e = let there = at-index x.end xs c.2 i s e in (there.0 ∙ later-begins p x xs i s e, there.1)
+  -- the next place begins a line after a line ending, and is in the same line after another byte
+  new-line : (byte : ℕ) (p : Point) (b : Bool) → (byte == 10) ≡ b → cond b line_ending other ≡ line_ending → (end_at t byte p).column ≡ 1
+  new-line byte p true e h = rw e refl
+  new-line byte p false e h = absurd (cc)
 
-  -- the line after a byte that is no line ending is the same
-  same-line : (byte : ℕ) (p : Point) (b c : Bool) → (byte == 10) ≡ b → goes_on t byte p ≡ c → b ≡ false → (end_at t byte p).line ≡ p.line
+  same-line : (byte : ℕ) (p : Point) (b c : Bool) → (byte == 10) ≡ b → goes_on t byte p ≡ c → cond b line_ending other ≡ other → (end_at t byte p).line ≡ p.line
   same-line byte p true c e f h = absurd (cc)
   same-line byte p false true e f h = rw (e, f) refl
   same-line byte p false false e f h = rw (e, f) refl
@@ -42,86 +48,80 @@ module _ (g : Given) (document : IsDocument g) where
   abbrev pub place : ℕ → Point
   place p = end_place (whole_text g) p
 
-  first-shown : IsShown g.bytes (point 1 1 0 0)
-  first-shown = (chain-at g.tab g.bytes (point 1 1 0 0) seats (whole-chain g.tab g.bytes some)).shown
+  -- a place of the document, which is shown at itself
+  abbrev Stands : Point → Type 0
+  Stands q = IsPointOf g.tab g.bytes q × IsShown g.bytes q
 
-  -- it is a place of the document, and shown
-  of-seat : (o : Option Seat) (q : ℕ) → slice_get seats q ≡ o → IsPointOf g.tab g.bytes (end_or (point 1 1 0 0) o) × IsShown g.bytes (end_or (point 1 1 0 0) o)
-  of-seat None q e = ((whole-is-text g document).starts, first-shown)
-  of-seat (Some s) q e = let among = get-among seats q s e in (end-of-is-point g.tab g.bytes some s among, after-shown g.tab g.bytes some among.front s among.back among.splits)
+  still : (q : Point) → Stands q → IsPointOf g.tab g.bytes (shown g.bytes q)
+  still q h = subst (IsPointOf g.tab g.bytes) (sym h.1) h.0
 
-  place-stands : (p : ℕ) → IsPointOf g.tab g.bytes (place p) × IsShown g.bytes (place p)
-  place-stands zero = ((whole-is-text g document).starts, first-shown)
-  place-stands (suc q) = of-seat (slice_get seats q) q refl
+  end-stands : Stands (document_end g.tab g.bytes)
+  end-stands = (
+    end-is-point g.tab g.bytes,
+    (chain-split g.tab g.bytes (point 1 1 0 0) seats [] (subst (IsChain g.tab g.bytes (point 1 1 0 0)) (sym (append-nil seats)) (whole-chain g.tab g.bytes some))).shown,
+  )
 
-  end-shown : IsShown g.bytes (document_end g.tab g.bytes)
-  end-shown = (chain-split g.tab g.bytes (point 1 1 0 0) seats [] (subst (IsChain g.tab g.bytes (point 1 1 0 0)) (sym (append-nil seats)) (whole-chain g.tab g.bytes some))).shown
+  -- so does the end of a byte, or the place if none is there
+  seat-stands : (q : Point) → Stands q → (o : Option Seat) (p : ℕ) → slice_get seats p ≡ o → Stands (end_or q o)
+  seat-stands q h None p e = h
+  seat-stands q h (Some s) p e = let among = get-among seats p s e in (end-of-is-point g.tab g.bytes some s among, after-shown g.tab g.bytes some among.front s among.back among.splits)
 
-  -- a byte that waits is shown there
-  module _ (p : ℕ) (s : Seat) (at : slice_get seats p ≡ Some s) where
-    pub seat-shown : shown g.bytes s.point ≡ place p
-    seat-shown = (at-index g.tab g.bytes (point 1 1 0 0) seats (whole-chain g.tab g.bytes some) p s at).0
+  start-stands : Stands (point 1 1 0 0)
+  start-stands = ((whole-is-text g document).starts, (chain-at g.tab g.bytes (point 1 1 0 0) seats (whole-chain g.tab g.bytes some)).shown)
 
-    seat-end : end_at g.tab s.byte s.point ≡ s.end
-    seat-end = (at-index g.tab g.bytes (point 1 1 0 0) seats (whole-chain g.tab g.bytes some) p s at).1
+  place-stands : (p : ℕ) → Stands (place p)
+  place-stands zero = start-stands
+  place-stands (suc q) = seat-stands (point 1 1 0 0) start-stands (slice_get seats q) q refl
 
-    -- and the next place is its end
-    pub next-place : place (suc p) ≡ s.end
-    next-place = ap (end_or (point 1 1 0 0)) at
-
-    -- which begins a line after a line ending, and is in the same line after another byte
-    pub line-begins : s.byte ≡ 10 → (place (suc p)).column ≡ 1
-    line-begins b = let is : (end_at g.tab s.byte s.point).column ≡ 1 = rw b refl in ap (λ (q : Point). q.column) (next-place ∙ sym seat-end) ∙ is
-
-    pub line-goes-on : (s.byte == 10) ≡ false → (place (suc p)).line ≡ (place p).line
-    line-goes-on b =
-        ap (λ (q : Point). q.line) (next-place ∙ sym seat-end) ∙ same-line g.tab g.bytes s.byte s.point (s.byte == 10) (goes_on g.tab s.byte s.point) refl refl b ∙ sym (shown-line g.bytes s.point)
-        ∙ ap (λ (q : Point). q.line) seat-shown
+  -- a byte that waits begins there
+  begins-there : (p : ℕ) (s : Seat) → slice_get seats p ≡ Some s → Begins g.tab g.bytes (place p) s (drop (suc p) seats)
+  begins-there p s at =
+      let is : seats ≡ take p seats ++ s ∷ drop (suc p) seats = sym (take-append-drop p seats) ∙ ap (λ l. take p seats ++ l) (drop-at seats p s at) in
+      let within = slice_get_within seats p s at in
+      let there = place-is (whole_text g) p seats refl (omega (arith, within)) in
+      subst (λ q. Begins g.tab g.bytes q s (drop (suc p) seats)) (sym there) (seat-begins g.tab g.bytes some (take p seats) s (drop (suc p) seats) is)
 
   -- the place of an enter, whatever waits, is a place of the document
   here-of : (p : ℕ) (o : Option Seat) → slice_get seats p ≡ o → IsPointOf g.tab g.bytes (shown g.bytes (point_or (document_end g.tab g.bytes) o))
-  here-of p None e = subst (IsPointOf g.tab g.bytes) (sym end-shown) (end-is-point g.tab g.bytes)
-  here-of p (Some s) e = subst (IsPointOf g.tab g.bytes) (sym (seat-shown p s e)) (place-stands p).0
+  here-of p None e = still (document_end g.tab g.bytes) end-stands
+  here-of p (Some s) e = subst (IsPointOf g.tab g.bytes) (sym (begins-there p s e).shown_is) (place-stands p).0
 
   pub here-is-point : (p : ℕ) (w : Waits) → IsPointOf g.tab g.bytes (shown g.bytes (point_of (whole_text g) p w))
-  here-is-point p Nothing = subst (IsPointOf g.tab g.bytes) (sym (place-stands p).1) (place-stands p).0
+  here-is-point p Nothing = still (place p) (place-stands p)
   here-is-point p Byte = here-of p (slice_get seats p) refl
-  here-is-point p End = subst (IsPointOf g.tab g.bytes) (sym end-shown) (end-is-point g.tab g.bytes)
+  here-is-point p End = still (document_end g.tab g.bytes) end-stands
 
   pub behind-is-point : (p : ℕ) → IsPointOf g.tab g.bytes (shown g.bytes (place p))
-  behind-is-point p = subst (IsPointOf g.tab g.bytes) (sym (place-stands p).1) (place-stands p).0
-
-  next-of-seat : (p : ℕ) (o : Option Seat) → slice_get seats p ≡ o → IsPointOf g.tab g.bytes (shown g.bytes (end_or (document_end g.tab g.bytes) o))
-  next-of-seat p None e = subst (IsPointOf g.tab g.bytes) (sym end-shown) (end-is-point g.tab g.bytes)
-  next-of-seat p (Some s) e =
-      let is : shown g.bytes s.end ≡ place (suc p) = ap (shown g.bytes) (sym (next-place p s e)) ∙ (place-stands (suc p)).1 ∙ refl in
-      subst (IsPointOf g.tab g.bytes) (sym is) (place-stands (suc p)).0
+  behind-is-point p = still (place p) (place-stands p)
 
   pub next-is-point : (p : ℕ) (w : Waits) → IsPointOf g.tab g.bytes (shown g.bytes (next_place (whole_text g) p w))
-  next-is-point p Nothing = behind-is-point p
-  next-is-point p Byte = next-of-seat p (slice_get seats p) refl
-  next-is-point p End = behind-is-point p
+  next-is-point p Byte = still (end_or (document_end g.tab g.bytes) (slice_get seats p)) (seat-stands (document_end g.tab g.bytes) end-stands (slice_get seats p) p refl)
+  next-is-point p w = behind-is-point p
 
-  -- A byte waits at a position: which byte it is, and the places before and after it
-  pub record HasByte (p : ℕ) (w : Waits) (b : ℕ) : Type 0 where
+  -- A byte of a class waits at a position: the places before and after it
+  pub record HasByte (p : ℕ) (w : Waits) (class : LineByte) : Type 0 where
     pub here : shown g.bytes (point_of (whole_text g) p w) ≡ place p
     pub next : shown g.bytes (next_place (whole_text g) p w) ≡ place (p + 1)
-    pub line_begins : b ≡ 10 → (place (p + 1)).column ≡ 1
-    pub line_goes_on : (b == 10) ≡ false → (place (p + 1)).line ≡ (place p).line
+    pub line_begins : class ≡ line_ending → (place (p + 1)).column ≡ 1
+    pub line_goes_on : class ≡ other → (place (p + 1)).line ≡ (place p).line
 
-  has-seat : (p b : ℕ) (o : Option Seat) → slice_get seats p ≡ o → byte_of o ≡ Some b → HasByte p Byte b
-  has-seat p b None e is = absurd (cc)
-  has-seat p b (Some s) e is =
-      let same : s.byte ≡ b = cc in
+  has-seat : (p : ℕ) (c : LineByte) (o : Option Seat) → slice_get seats p ≡ o → class_of line_byte (byte_of o) ≡ Some c → HasByte p Byte c
+  has-seat p c None e is = absurd (cc)
+  has-seat p c (Some s) e is =
+      let begins = begins-there p s e in
+      let same : line_byte s.byte ≡ c = cc in
       let one : suc p ≡ p + 1 = omega arith in
+      let next : place (p + 1) ≡ s.end = ap place (sym one) ∙ ap (end_or (point 1 1 0 0)) e in
       record {
-        here = ap (λ o. shown g.bytes (point_or (document_end g.tab g.bytes) o)) e ∙ seat-shown p s e;
-        next = ap (λ o. shown g.bytes (end_or (document_end g.tab g.bytes) o)) e ∙ ap (shown g.bytes) (sym (next-place p s e)) ∙ (place-stands (suc p)).1 ∙ ap place one;
-        line_begins = λ ten. subst (λ n. (place n).column ≡ 1) one (line-begins p s e (same ∙ ten));
-        line_goes_on = λ other. subst (λ n. (place n).line ≡ (place p).line) one (line-goes-on p s e (ap (λ n. n == 10) same ∙ other));
+        here = ap (λ o. shown g.bytes (point_or (document_end g.tab g.bytes) o)) e ∙ begins.shown_is;
+        next = ap (λ o. shown g.bytes (end_or (document_end g.tab g.bytes) o)) e ∙ (seat-stands (document_end g.tab g.bytes) end-stands (Some s) p e).1 ∙ sym next;
+        line_begins = λ class. ap (λ (q : Point). q.column) (next ∙ sym begins.end_is) ∙ new-line g.tab g.bytes s.byte s.point (s.byte == 10) refl (same ∙ class);
+        line_goes_on = λ class.
+            ap (λ (q : Point). q.line) (next ∙ sym begins.end_is) ∙ same-line g.tab g.bytes s.byte s.point (s.byte == 10) (goes_on g.tab s.byte s.point) refl refl (same ∙ class)
+            ∙ sym (shown-line g.bytes s.point) ∙ ap (λ (q : Point). q.line) begins.shown_is;
       }
 
-  pub has-byte : (p : ℕ) (w : Waits) (b : ℕ) → current_of (whole_text g) p w ≡ Some b → HasByte p w b
-  has-byte p Nothing b is = absurd (cc)
-  has-byte p Byte b is = has-seat p b (slice_get seats p) refl is
-  has-byte p End b is = absurd (cc)
+  pub has-byte : (p : ℕ) (w : Waits) (c : LineByte) → class_of line_byte (current_of (whole_text g) p w) ≡ Some c → HasByte p w c
+  has-byte p Nothing c is = absurd (cc)
+  has-byte p Byte c is = has-seat p c (slice_get seats p) refl is
+  has-byte p End c is = absurd (cc)
