@@ -7,11 +7,6 @@ use Rattle.mdconstructs_text.proofs.Paragraphs.ChunkPairs.{last-get, place-at-ev
 use Rattle.mdconstructs_text.proofs.Plain.Stretches.{seen}
 use Rattle.mdconstructs_text.proofs.Texts.WholePlaces.{place, here-is-point, behind-is-point, next-is-point, has-byte}
 
--- what waits, by its class
-none-waits : (o : Option ℕ) → class_of line_byte o ≡ None → o ≡ None
-none-waits None e = refl
-none-waits (Some b) e = absurd (cc)
-
 module _ (g : Given) (document : IsDocument g) where
   abbrev Chunks : List Event → Type 0
   Chunks es = AreChunks g.tab g.bytes es
@@ -31,7 +26,7 @@ module _ (g : Given) (document : IsDocument g) where
 
     -- nothing waits, as all was read
     abbrev NoByte : Type 0
-    NoByte = (sight g (whole_text g) k).current ≡ None
+    NoByte = waits_class g (whole_text g) k ≡ None
 
   -- What is known at the name of a state; `ended` says that all was read
   abbrev InState : (ended : Type 0) → Configuration Unit Unit → Name → Type 0
@@ -84,7 +79,7 @@ module _ (g : Given) (document : IsDocument g) where
         let i = chunk_before k in
         let more = length-append k.events (m ∷ []) in
         let both = length-append (k.events ++ m ∷ []) (n ∷ []) in
-        let at_line : Connected k → AtLine k = λ c. elim (known c) [ inl none ↦ let no : Some other ≡ None = sym e ∙ ap (class_of line_byte) none in absurd (cc) | inr at ↦ at ] in (
+        let at_line : Connected k → AtLine k = λ c. elim (known c) [ inl none ↦ let no : Some other ≡ None = sym e ∙ none in absurd (cc) | inr at ↦ at ] in (
           λ mark. (
             plain-more (k.events ++ m ∷ []) n refl (next-is-point g document k.position k.waiting) (plain-more k.events m refl (here-is-point g document k.position k.waiting) h),
             inr (inr (inl (
@@ -113,7 +108,7 @@ module _ (g : Given) (document : IsDocument g) where
     from-line-start b w e h known = (plain-more _ _ refl (behind-is-point g document k.position) h, inl refl)
 
     from-start-of-chunk : (b w : Option LineByte) → waits_class g (whole_text g) k ≡ w → Chunks k.events → (Connected k → InLine k) → RowsKeep (paragraph_start_rows b w)
-    from-start-of-chunk b None e h known = (h, inr (inl (refl, λ c. inl (none-waits (sight g (whole_text g) k).current e))))
+    from-start-of-chunk b None e h known = (h, inr (inl (refl, λ c. inl e)))
     from-start-of-chunk b (Some w) e h known =
         let at = (sight g (whole_text g) k).enter_place in
         let i = length k.events in
@@ -132,7 +127,7 @@ module _ (g : Given) (document : IsDocument g) where
         )
 
     from-inside : (b w : Option LineByte) → waits_class g (whole_text g) k ≡ w → Chunks k.events → length k.events ≡ chunk_before k + 1 → RowsKeep (paragraph_inside_rows b w)
-    from-inside b None e h long = (plain-more _ _ refl (behind-is-point g document k.position) h, inr (inl (refl, λ c. inl (none-waits (sight g (whole_text g) k).current e))))
+    from-inside b None e h long = (plain-more _ _ refl (behind-is-point g document k.position) h, inr (inl (refl, λ c. inl e)))
     from-inside b (Some line_ending) e h long =
         let byte = has-byte g document k.position k.waiting line_ending e in
         let n : Event = record { kind = Exit; name = Data; point = (sight g (whole_text g) k).next; link = None } in

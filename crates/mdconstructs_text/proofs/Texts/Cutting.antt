@@ -1,16 +1,12 @@
 -- Cutting a text into items: the bound of the cut does not matter.
 use Rattle.mdconstructs_text.proofs.Prelude.{◌≡◌, ℕ, zero, suc, ◌<◌, ◌≤◌, ◌∷◌, List, refl, ap, arith, length, take, drop, Seat, bytes_of, cut, length-drop}
 
--- each part is at least a byte
-abbrev IsPositive : {A : Type 0} → (List ℕ → A) → (A → ℕ) → Type 0
-IsPositive front size = (b : ℕ) (bs : List ℕ) → 0 < size (front (b ∷ bs))
-
 -- at least one is dropped
 pub drop-less : {X : Type 0} (n : ℕ) (x : X) (xs : List X) → 0 < n → length (drop n (x ∷ xs)) ≤ length xs
 drop-less n x xs h = let left = length-drop n (x ∷ xs) in omega (arith, left, h)
 
--- a larger bound cuts alike
-pub cut-enough : {A : Type 0} (front : List ℕ → A) (size : A → ℕ) → IsPositive front size → (b c : ℕ) (seats : List Seat) → length seats ≤ b → length seats ≤ c
+-- a larger bound cuts alike, if each part is at least a byte
+pub cut-enough : {A : Type 0} (front : List ℕ → A) (size : A → ℕ) → ((b : ℕ) (bs : List ℕ) → 0 < size (front (b ∷ bs))) → (b c : ℕ) (seats : List Seat) → length seats ≤ b → length seats ≤ c
     → cut front size b seats ≡ cut front size c seats
 cut-enough front size positive zero (suc c) (s ∷ ss) h i = absurd (omega (arith, h))
 cut-enough front size positive (suc b) zero (s ∷ ss) h i = absurd (omega (arith, i))
