@@ -103,12 +103,6 @@ found-passes test (y ∷ ys) x h = elim (test y) as (λ t. test y ≡ t → cond
   | false ↦ λ e is. found-passes test ys x is
 ] refl h
 
--- a stretch in three
-in-three : (i n : ℕ) (l : List Seat) → take i l ++ (between i (i + n) l ++ drop (i + n) l) ≡ l
-in-three i n l =
-    let size : i + n - i ≡ n = omega arith in
-    (λ x. take i l ++ (take (size x) (drop i l) ++ sym (drop-drop n i l) x)) ∙ ap (λ r. take i l ++ r) (take-append-drop n (drop i l)) ∙ take-append-drop i l
-
 module _ (bytes : List ℕ) where
   -- ---- data
   lines-cut : (lines : List (List Seat)) → AllByRecursion EndsOnce lines → IsCut bytes (flat_map (data_line bytes) lines) (flat_map both lines)
@@ -156,7 +150,10 @@ module _ (bytes : List ℕ) where
   three-cut : {xs ys zs : List Event} (name : Name) (i n : ℕ) (l : List Seat) → IsCut bytes xs (take i l) → IsCut bytes ys (between i (i + n) l) → IsCut bytes zs (drop (i + n) l)
       → IsCut bytes (span bytes name l (xs ++ (ys ++ zs))) l
   three-cut {xs} {ys} {zs} name i n l first middle last =
-      cut-span bytes name l (xs ++ (ys ++ zs)) (subst (IsCut bytes (xs ++ (ys ++ zs))) (in-three i n l) (cut-append bytes first (cut-append bytes middle last)))
+      let size : i + n - i ≡ n = omega arith in
+      let all : take i l ++ (between i (i + n) l ++ drop (i + n) l) ≡ l =
+      (λ x. take i l ++ (take (size x) (drop i l) ++ sym (drop-drop n i l) x)) ∙ ap (λ r. take i l ++ r) (take-append-drop n (drop i l)) ∙ take-append-drop i l in
+      cut-span bytes name l (xs ++ (ys ++ zs)) (subst (IsCut bytes (xs ++ (ys ++ zs))) all (cut-append bytes first (cut-append bytes middle last)))
 
   -- code spans: two backtick strings of one length
   code-found : (seats : List Seat) (o : Option ℕ) → let t = backticks (bytes_of seats) in before_backtick_string t (drop t (bytes_of seats)) ≡ o → OfOption (ItemCut seats) (option_map (code_span t) o)
@@ -194,23 +191,20 @@ module _ (bytes : List ℕ) where
       (cut-leaf bytes AutolinkProtocol (between 1 (1 + n) l) (plain-line (between 1 (1 + n) l) (subst NoEnding (sym middle_is) plain)))
       (cut-leaf bytes AutolinkMarker (drop (1 + n) l) (subst OneLine (sym last_is) (one-taken (drop (1 + n) seats)))))
 
-  escape-cut : (seats : List Seat) → ItemCut seats escape
-  escape-cut seats =
-      let l = take 2 seats in
-      let es = leaf bytes CharacterEscapeMarker (take 1 l) ++ leaf bytes CharacterEscapeValue (drop 1 l) in
-      let value = cut-leaf bytes CharacterEscapeValue (drop 1 l) (subst OneLine (sym (drop-take 1 1 seats)) (one-taken (drop 1 seats))) in
-      cut-span bytes CharacterEscape l es (subst (IsCut bytes es) (take-append-drop 1 l) (cut-append bytes (cut-leaf bytes CharacterEscapeMarker (take 1 l) (one-taken l)) value))
-
   -- the item that is there
   item-cut : (on : Constructs) (s : Seat) (ss : List Seat) → ItemCut (s ∷ ss) (item_at on (bytes_of (s ∷ ss)))
   item-cut on s ss =
       let Cut = ItemCut (s ∷ ss) in
       let text = bytes_of (s ∷ ss) in
       let t = backticks text in
+      let l = take 2 (s ∷ ss) in
+      let es = leaf bytes CharacterEscapeMarker (take 1 l) ++ leaf bytes CharacterEscapeValue (drop 1 l) in
+      let value = cut-leaf bytes CharacterEscapeValue (drop 1 l) (subst OneLine (sym (drop-take 1 1 (s ∷ ss))) (one-taken (drop 1 (s ∷ ss)))) in
+      let escaped = cut-span bytes CharacterEscape l es (subst (IsCut bytes es) (take-append-drop 1 l) (cut-append bytes (cut-leaf bytes CharacterEscapeMarker (take 1 l) (one-taken l)) value)) in
       at-item Cut on text
       (when-there Cut (has_byte_at text 0 is_backtick) (option_map (code_span t) (before_backtick_string t (drop t text))) (code-found (s ∷ ss) (before_backtick_string t (drop t text)) refl))
       (when-there Cut (has_byte_at text 0 is_less_than) (autolink_to text (uri (drop 1 text))) (link-to (s ∷ ss) (uri (drop 1 text)) refl))
-      (when-there Cut _ (Some escape) (escape-cut (s ∷ ss))) (part-cut is_special refl Data s ss)
+      (when-there Cut _ (Some escape) escaped) (part-cut is_special refl Data s ss)
 
 -- so it is with all items of a text
 pub text-cut : (g : Given) (text : Text) → IsCut g.bytes (text_events g text) text.seats

@@ -122,14 +122,11 @@ module _ (t : ℕ) (bytes : List ℕ) (all : List Marked) where
       subst (λ es. Formed bytes p (event bytes Enter Paragraph s.point ∷ es) (end_after s.end ss)) (sym (map-append (as_linked all) inside ((exit, None) ∷ [])))
       (around-formed s ss p rest c (event bytes Enter Paragraph s.point) Paragraph (linked bytes all inside) refl refl refl (λ enter void. absurd (cc)) formed)
 
-  block-forms : (b : ℕ) (block : Block) → Forms (block_marks bytes b block) (block_bytes block)
-  block-forms b (blank line) = leaf-forms None BlankLineEnding line
-  block-forms b (paragraph lines) = paragraph-forms b lines (all_of lines) refl
-
   blocks-form : (b : ℕ) (blocks : List Block) → Forms (blocks_marks bytes b blocks) (flat_map block_bytes blocks)
   blocks-form b [] = λ p rest c. none-formed p p (before-self p.index p.vs)
   blocks-form b (block ∷ blocks) =
-      both (block_marks bytes b block) (blocks_marks bytes (suc b) blocks) (block_bytes block) (flat_map block_bytes blocks) (block-forms b block) (blocks-form (suc b) blocks)
+      let one = elim block as (λ k. Forms (block_marks bytes b k) (block_bytes k)) [ blank l ↦ leaf-forms None BlankLineEnding l | paragraph lines ↦ paragraph-forms b lines (all_of lines) refl ] in
+      both (block_marks bytes b block) (blocks_marks bytes (suc b) blocks) (block_bytes block) (flat_map block_bytes blocks) one (blocks-form (suc b) blocks)
 
 -- so it is with all blocks of a document
 pub paragraphs-formed : (t : ℕ) (bytes : List ℕ) → 0 < t → let es = paragraph_events bytes (virtual t bytes) in IsBalanced es × IsVoidTight es × IsInOrder bytes es
