@@ -1,6 +1,5 @@
 -- Plain data, as the machine of texts reads it.
 pub mod Backslashes
 pub mod Classes
-pub mod Data
 pub mod Items
 pub mod Stretches

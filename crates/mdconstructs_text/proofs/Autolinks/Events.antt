@@ -1,7 +1,6 @@
 -- The events that the machine of texts makes of an autolink are the item's.
-use Rattle.mdconstructs_text.proofs.Prelude.{at-front, ◌≡◌, ℕ, suc, ◌+◌, ◌<◌, ◌∷◌, ◌++◌, [], List, false, sym, ◌∙◌, ap, Some, arith, length, take, drop, slice_get, ◌==◌, take_at, drop_at, length-take-le, slice_get_within, between_is, between, drop-next, end-after-one, Event, Enter, Exit, Autolink, AutolinkMarker, AutolinkProtocol, shown, Seat, end_after, Given, Text, point_or, end_place, autolink, event, leaf, item_events, take-suc, get_or_from_slice_get, append_assoc}
-use Rattle.mdconstructs_text.proofs.Plain.Stretches.{get-drop, leaf-read}
-use Rattle.mdconstructs_text.proofs.Autolinks.Steps.{begun_link, ended_link}
+use Rattle.mdconstructs_text.proofs.Prelude.{at-front, ◌≡◌, ℕ, suc, ◌+◌, ◌<◌, ◌∷◌, ◌++◌, [], List, false, refl, sym, ◌∙◌, ap, Some, arith, length, take, drop, slice_get, ◌==◌, take_at, drop_at, drop-drop, length-take-le, slice_get_within, between_is, between, drop-next, end-after-one, Event, Enter, Exit, Autolink, AutolinkMarker, AutolinkProtocol, shown, Seat, Given, Text, point_or, end_or, end_place, autolink, event, leaf, item_events, take-suc, get_or_from_slice_get, append_assoc, take-append_seam}
+use Rattle.mdconstructs_text.proofs.Plain.Stretches.{leaf-read}
 
 -- A virtual byte that is no line ending ends where the next is shown: gaps are only at the starts of lines
 abbrev pub IsJoined : Given → Text → Type 0
@@ -16,24 +15,40 @@ spelled bytes n s x xs size =
     let more : 1 + n ≡ suc n = omega arith in
     let inside : between 1 (1 + n) all ≡ xs = between_is all 1 (1 + n) ∙ ap (λ k. drop 1 (take k all)) more ∙ take_at xs (x ∷ []) n size in
     let last : drop (1 + n) all ≡ x ∷ [] = ap (λ k. drop k all) more ∙ drop_at xs (x ∷ []) n size in
-    ap (λ l. event bytes Enter Autolink s.point
-    ∷ ((leaf bytes AutolinkMarker (s ∷ []) ++ (leaf bytes AutolinkProtocol l ++ leaf bytes AutolinkMarker (drop (1 + n) all))) ++ event bytes Exit Autolink (end_after s.end (xs ++ x ∷ [])) ∷ [])) inside
-    ∙ ap (λ l. event bytes Enter Autolink s.point
-    ∷ ((leaf bytes AutolinkMarker (s ∷ []) ++ (leaf bytes AutolinkProtocol xs ++ leaf bytes AutolinkMarker l)) ++ event bytes Exit Autolink (end_after s.end (xs ++ x ∷ [])) ∷ [])) last
-    ∙ ap (λ e. event bytes Enter Autolink s.point
-    ∷ ((leaf bytes AutolinkMarker (s ∷ []) ++ (leaf bytes AutolinkProtocol xs ++ leaf bytes AutolinkMarker (x ∷ []))) ++ event bytes Exit Autolink e ∷ [])) (end-after-one s.end xs x)
+    rw (inside, last, end-after-one s.end xs x) refl
 
 module _ (g : Given) (text : Text) where
+  -- the events before the scheme
+  abbrev pub begun_link : List Event → ℕ → List Event
+  begun_link events p =
+      (((events ++ event g.bytes Enter Autolink (point_or text.end (slice_get text.seats p)) ∷ [])
+      ++ event g.bytes Enter AutolinkMarker (point_or text.end (slice_get text.seats p)) ∷ [])
+      ++ event g.bytes Exit AutolinkMarker (end_or text.end (slice_get text.seats p)) ∷ [])
+      ++ event g.bytes Enter AutolinkProtocol (end_or text.end (slice_get text.seats p)) ∷ []
+
+  -- they are taken back if it is rejected
+  pub begun-front : (events : List Event) (p : ℕ) → take (length events) (begun_link events p) ≡ events
+  begun-front events p = simp (append_assoc, take-append_seam)
+
+  -- and those behind all
+  abbrev pub ended_link : List Event → ℕ → List Event
+  ended_link events q =
+      (((events ++ event g.bytes Exit AutolinkProtocol (end_place text q) ∷ [])
+      ++ event g.bytes Enter AutolinkMarker (point_or text.end (slice_get text.seats q)) ∷ [])
+      ++ event g.bytes Exit AutolinkMarker (end_or text.end (slice_get text.seats q)) ∷ [])
+      ++ event g.bytes Exit Autolink (end_or text.end (slice_get text.seats q)) ∷ []
+
   -- The events that an autolink leaves are the item's
-  pub link-events : IsJoined g text → (events : List Event) (p n : ℕ) (s r x : Seat) (rs : List Seat) → drop p text.seats ≡ s ∷ r ∷ rs → (s.byte == 10) ≡ false → 0 < n
-      → slice_get text.seats (p + 1 + n) ≡ Some x → ended_link g text (begun_link g text events p) (p + 1 + n) ≡ events ++ item_events g.bytes (autolink n, take (n + 2) (s ∷ r ∷ rs))
-  link-events joined events p n s r x rs here plain some at_x =
+  pub link-events : IsJoined g text → (events : List Event) (p n : ℕ) (s r x : Seat) (rs xs : List Seat) → drop p text.seats ≡ s ∷ r ∷ rs → (s.byte == 10) ≡ false → 0 < n
+      → drop (p + 1 + n) text.seats ≡ x ∷ xs → ended_link (begun_link events p) (p + 1 + n) ≡ events ++ item_events g.bytes (autolink n, take (n + 2) (s ∷ r ∷ rs))
+  link-events joined events p n s r x rs xs here plain some there =
       let ss = r ∷ rs in
       let q = p + 1 + n in
       let at = at-front text.seats p s ss here in
       let behind = drop-next text.seats p s ss here in
       let at_r = at-front text.seats (p + 1) r rs behind in
-      let last : slice_get ss n ≡ Some x = ap (λ l. slice_get l n) (sym behind) ∙ get-drop text.seats (p + 1) n ∙ at_x in
+      let at_x = at-front text.seats q x xs there in
+      let last : slice_get ss n ≡ Some x = at-front ss n x xs (ap (drop n) (sym behind) ∙ drop-drop n (p + 1) text.seats ∙ there) in
       let within = slice_get_within ss n x last in
       let exits = event g.bytes Exit AutolinkProtocol (end_place text q) in
       let protocol : event g.bytes Enter AutolinkProtocol r.point ∷ exits ∷ [] ≡ leaf g.bytes AutolinkProtocol (take n ss) =
@@ -43,7 +58,7 @@ module _ (g : Given) (text : Text) where
       let all : take (n + 2) (s ∷ ss) ≡ s ∷ (take n ss ++ x ∷ []) = ap (λ k. take k (s ∷ ss)) two_more ∙ ap (λ l. s ∷ l) (take-suc ss n x within ∙ ap (λ y. take n ss ++ y ∷ []) (get_or_from_slice_get ss n x x last)) in
       let item = ap (λ l. item_events g.bytes (autolink n, l)) all ∙ spelled g.bytes n s x (take n ss) size in
       let joins = joined p s r at at_r plain in
-      let made : ended_link g text (begun_link g text events p) q
+      let made : ended_link (begun_link events p) q
       ≡ events ++ event g.bytes Enter Autolink s.point ∷ event g.bytes Enter AutolinkMarker s.point ∷ event g.bytes Exit AutolinkMarker s.end ∷ event g.bytes Enter AutolinkProtocol r.point ∷ exits
       ∷ event g.bytes Enter AutolinkMarker x.point ∷ event g.bytes Exit AutolinkMarker x.end ∷ event g.bytes Exit Autolink x.end ∷ [] = simp (at, at_x, joins, append_assoc) in
       made

@@ -53,18 +53,16 @@ module _ (bytes : List ℕ) where
 
 module _ (t : ℕ) (bytes : List ℕ) where
   -- a virtual byte that is no line ending ends a column further on
-  end-column : (byte : ℕ) (p : Point) (b c : Bool) → (byte == 10) ≡ b → goes_on t byte p ≡ c → b ≡ false → (end_at t byte p).column ≡ suc p.column
-  end-column byte p true c e f h = absurd (cc)
-  end-column byte p false true e f h = rw (e, f) refl
-  end-column byte p false false e f h = rw (e, f) refl
+  end-column : (byte : ℕ) (p : Point) (c : Bool) → (byte == 10) ≡ false → goes_on t byte p ≡ c → (end_at t byte p).column ≡ suc p.column
+  end-column byte p true e f = rw (e, f) refl
+  end-column byte p false e f = rw (e, f) refl
 
   -- so it does not end at the start of a line
   pub chain-in-line : (p : Point) (xs : List Seat) → IsChain t bytes p xs → AllByRecursion EndsInLine xs
   chain-in-line p [] c = tt
   chain-in-line p (s ∷ ss) c = (
     (λ plain.
-        let is = end-column s.byte s.point (s.byte == 10) (goes_on t s.byte s.point) refl refl plain in
-        let column : s.end.column ≡ suc s.point.column = ap (λ (q : Point). q.column) (sym c.1.end_is) ∙ is in
+        let column : s.end.column ≡ suc s.point.column = ap (λ (q : Point). q.column) (sym c.1.end_is) ∙ end-column s.byte s.point (goes_on t s.byte s.point) plain refl in
         let first = c.1.seat_bounds.first in
         omega (arith, column, first)),
     chain-in-line s.end ss c.2,
@@ -82,11 +80,6 @@ module _ (t : ℕ) (bytes : List ℕ) where
       let ended = (chain-at t bytes s.end (ss ++ ys) c.2).shown in
       ((λ e. ended ∙ sym (chain-begins s.end ss ys c.2)), chain-joined s.end ss ys c.2)
 
-  -- a test that another does not change
-  not-and : (a b : Bool) → a ≡ false → (not a && b) ≡ b
-  not-and true b h = absurd (cc)
-  not-and false b h = refl
-
   -- no place is before the first
   origin-upto : (p : Point) → stands_before p (point 1 1 0 0) ≡ false
   origin-upto p = not-before p.index p.vs 0 0 (omega arith) refl
@@ -96,7 +89,7 @@ module _ (t : ℕ) (bytes : List ℕ) where
   before-is p place =
       let origin = point 1 1 0 0 in
       let f = λ (s : Seat). stands_before s.point p in
-      filter-same (in_range origin p) f (virtual t bytes) (every-all (λ s. in_range origin p s ≡ f s) (λ s. not-and (stands_before s.point origin) (f s) (origin-upto s.point)) (virtual t bytes))
+      filter-same (in_range origin p) f (virtual t bytes) (every-all (λ s. in_range origin p s ≡ f s) (λ s. ap (λ t. not t && f s) (origin-upto s.point)) (virtual t bytes))
       ∙ ap (filter f) place.splits
       ∙ filter-append f place.before (rest_at t bytes p)
       ∙ ap (λ (ys : List Seat). filter f place.before ++ ys) (filter-none f (rest_at t bytes p) (rest-later t bytes p))
@@ -131,14 +124,6 @@ module _ (t : ℕ) (bytes : List ℕ) where
     pub range-is : filter (in_range a b) (virtual t bytes) ≡ left_of t bytes a b
     range-is = text-splits t bytes a a b first (upto-self t bytes a) upto ∙ ap (λ (xs : List Seat). xs ++ left_of t bytes a b) (range-empty t bytes a)
 
-    -- it is joined up to the second place
-    pub range-joined : AreJoined bytes (left_of t bytes a b) (shown bytes b)
-    range-joined = subst (AreJoined bytes (left_of t bytes a b)) (sym way-ends) (chain-joined (shown bytes a) (left_of t bytes a b) (rest_at t bytes b) way-chain)
-
-    -- and begins at the first
-    pub range-begins : begin_or bytes (left_of t bytes a b) (shown bytes b) ≡ shown bytes a
-    range-begins = ap (begin_or bytes (left_of t bytes a b)) way-ends ∙ chain-begins (shown bytes a) (left_of t bytes a b) (rest_at t bytes b) way-chain
-
 -- a text that ends at a place, and whose virtual bytes are joined up to there
 record IsJoinedToEnd (g : Given) (text : Text) : Type 0 where
   place : IsPlace g.tab g.bytes text.end
@@ -146,30 +131,30 @@ record IsJoinedToEnd (g : Given) (text : Text) : Type 0 where
   joined : AreJoined g.bytes text.seats (shown g.bytes text.end)
 
 module _ (g : Given) (d : 0 < g.tab) where
-  -- behind a range
-  pushed-stands : (text : Text) (from to : Point) → IsJoinedToEnd g text → FitsAfter g text (pushed from to) → IsJoinedToEnd g (followed_by g text (pushed from to))
-  pushed-stands text from to h fits =
-      let a = place-of-point g.tab g.bytes d from fits.0 in
-      let b = place-of-point g.tab g.bytes d to fits.1 in
-      let more = left_of g.tab g.bytes from to in
-      let same : shown g.bytes text.end ≡ shown g.bytes from = sym (same-shown g.tab g.bytes from text.end a h.place fits.2) in
-      let begins = range-begins g.tab g.bytes d from to a b fits.3 in
-      let before : AreJoined g.bytes text.seats (begin_or g.bytes more (shown g.bytes to)) = subst (AreJoined g.bytes text.seats) (same ∙ sym begins) h.joined in
-      let whole = joined-append g.bytes text.seats more (shown g.bytes to) before (range-joined g.tab g.bytes d from to a b fits.3) in record {
-        place = b;
-        in_line = every-append EndsInLine text.seats (filter (in_range from to) (virtual g.tab g.bytes)) h.in_line
-            (every-filter EndsInLine (in_range from to) (virtual g.tab g.bytes) (chain-in-line g.tab g.bytes (point 1 1 0 0) (virtual g.tab g.bytes) (whole-chain g.tab g.bytes d)));
-        joined = subst (λ (ys : List Seat). AreJoined g.bytes (text.seats ++ ys) (shown g.bytes to)) (sym (range-is g.tab g.bytes d from to a b fits.3)) whole;
-      }
-
   -- behind a gap
   passed-stands : (b : Bool) (text : Text) (p : Point) → IsJoinedToEnd g text → IsPlace g.tab g.bytes p → (b ≡ false → text.end.column ≡ 1) → IsJoinedToEnd g (cond b text (record { start = text.start; seats = text.seats; end = p }))
   passed-stands true text p h place line = h
   passed-stands false text p h place line = record { place = place; in_line = h.in_line; joined = joined-line g.bytes text.seats text.end (shown g.bytes p) h.in_line h.joined (line refl) }
 
-  -- behind either
+  -- behind a range, or a gap
   piece-stands : (text : Text) (piece : Piece) → IsJoinedToEnd g text → FitsAfter g text piece → IsJoinedToEnd g (followed_by g text piece)
-  piece-stands text (pushed from to) h fits = pushed-stands text from to h fits
+  piece-stands text (pushed from to) h fits =
+      let a = place-of-point g.tab g.bytes d from fits.0 in
+      let b = place-of-point g.tab g.bytes d to fits.1 in
+      let more = left_of g.tab g.bytes from to in
+      let rest = rest_at g.tab g.bytes to in
+      let chain = way-chain g.tab g.bytes d from to a b fits.3 in
+      let ends = way-ends g.tab g.bytes d from to a b fits.3 in
+      let same : shown g.bytes text.end ≡ shown g.bytes from = sym (same-shown g.tab g.bytes from text.end a h.place fits.2) in
+      let begins : begin_or g.bytes more (shown g.bytes to) ≡ shown g.bytes from = ap (begin_or g.bytes more) ends ∙ chain-begins g.tab g.bytes (shown g.bytes from) more rest chain in
+      let before : AreJoined g.bytes text.seats (begin_or g.bytes more (shown g.bytes to)) = subst (AreJoined g.bytes text.seats) (same ∙ sym begins) h.joined in
+      let behind : AreJoined g.bytes more (shown g.bytes to) = subst (AreJoined g.bytes more) (sym ends) (chain-joined g.tab g.bytes (shown g.bytes from) more rest chain) in record {
+        place = b;
+        in_line = every-append EndsInLine text.seats (filter (in_range from to) (virtual g.tab g.bytes)) h.in_line
+            (every-filter EndsInLine (in_range from to) (virtual g.tab g.bytes) (chain-in-line g.tab g.bytes (point 1 1 0 0) (virtual g.tab g.bytes) (whole-chain g.tab g.bytes d)));
+        joined = subst (λ (ys : List Seat). AreJoined g.bytes (text.seats ++ ys) (shown g.bytes to)) (sym (range-is g.tab g.bytes d from to a b fits.3))
+            (joined-append g.bytes text.seats more (shown g.bytes to) before behind);
+      }
   piece-stands text (passed p) h fits =
       passed-stands (denotes_same g.tab g.bytes p text.end) text p h (place-of-point g.tab g.bytes d p fits.0)
       (elim fits.1 [ inl same ↦ λ not_same. absurd (let e : true ≡ false = sym same ∙ not_same in cc) | inr later ↦ λ not_same. later.0 ])

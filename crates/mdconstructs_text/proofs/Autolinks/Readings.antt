@@ -1,214 +1,328 @@
 -- Autolinks, as the machine of texts reads them: if one is there, it is read whole, with its events; if not, what was tried leaves nothing.
-use Rattle.mdconstructs_text.proofs.Prelude.{at-front, ◌≡◌, ℕ, ◌+◌, ◌<◌, ◌≤◌, ◌∷◌, ◌++◌, [], List, Bool, true, false, cond, refl, sym, ◌∙◌, ap, subst, Option, Some, None, arith, length, take, drop, slice_get, nat_lt, nat_le, ◌&&◌, ◌==◌, nat_tests, drop-drop, drop-map, slice_get_within, is_ascii_alphabetic, prefix_len, drop-next, Event, State, Next, Retry, Ok, AutolinkStart, AutolinkOpen, AutolinkSchemeInsideOrEmailAtext, AutolinkUrlInside, Seat, Nothing, Given, Text, Configuration, Local, Choice, byte_of, counts, Item, autolink, item_length, passes, has_byte_at, is_scheme_byte, is_allowed, uri, autolink_to, autolink_at, is_colon, is_greater_than, is_less_than, bytes_of, item_events, links_by_itself, Byte, and_parts, and-true, TextBefore}
-use Rattle.mdconstructs_text.proofs.Texts.Steps.{EndsWith, Leads, between_items, leads-byte, leads-ok, fed-is}
-use Rattle.mdconstructs_text.proofs.Plain.Stretches.{byte-behind, run-ends, found, reads-run}
-use Rattle.mdconstructs_text.proofs.Plain.Items.{outer, Tried, byte-rows, leads-tried}
-use Rattle.mdconstructs_text.proofs.Autolinks.Steps.{link_spans, in_link, begun_link, marker-read, colon-read, reads-allowed, closing-read, Refused, refused-fed, open-seen, scheme-seen, too-short, link-seen}
-use Rattle.mdconstructs_text.proofs.Autolinks.Events.{IsJoined, link-events}
-use Rattle.mdconstructs_text.proofs.Autolinks.Schemes.{is_long_enough, front-is-scheme, scheme-read, scheme-too-long}
+use Rattle.mdconstructs_text.proofs.Prelude.{at-front, ◌≡◌, ℕ, ◌+◌, ◌<◌, ◌≤◌, ◌∷◌, ◌++◌, [], List, Bool, true, false, cond, refl, sym, ◌∙◌, ap, subst, Option, Some, None, inl, inr, arith, take, drop, nat_le, ◌&&◌, ◌==◌, and-false, and-true, cases_lt, eqb-true, lt-ltb, drop-drop, drop-map, is_ascii_alphabetic, prefix_len, drop-next, Event, Autolink, AutolinkProtocol, Name, Next, Retry, TextBefore, AutolinkStart, AutolinkOpen, AutolinkSchemeInsideOrEmailAtext, AutolinkUrlInside, Seat, Nothing, Byte, Given, Text, Configuration, Local, Choice, byte_of, counts, Item, autolink, passes, has_byte_at, is_scheme_byte, is_allowed, uri, autolink_to, autolink_at, is_colon, is_greater_than, bytes_of, item_events, Rows, TextByte, text_byte, class_of, row, Nok, row_step, sight, held, has_room, has_scheme, links_by_itself, autolink_open_rows, autolink_scheme_rows, autolink_url_rows, nat_tests, consume, letter, scheme_goes_on, zero, suc, length-prefix_len, list_all, is_scheme, more_than}
+use Rattle.std.proofs.lemmas.Bool.{le-leb, lt-leb, le-ltb}
+use Rattle.markdown_base.specs.declared.event.Name.{Name as EventName}
+use Rattle.mdconstructs_text.proofs.Texts.Steps.{EndsWith, between_items, text_step, leads-called, leads-seen, leads-tested, leads-ok, before_class}
+use Rattle.mdconstructs_text.proofs.Plain.Classes.{by-class}
+use Rattle.mdconstructs_text.proofs.Plain.Stretches.{shows, first_byte, past, passed, past-stops, past-at, passed-counts, byte-behind, goes-next, loops}
+use Rattle.mdconstructs_text.proofs.Plain.Items.{outer, Decides, Tried, decides-before, byte-rows, leads-tried, puts-back, refused}
+use Rattle.mdconstructs_text.proofs.CodeSpans.Parts.{size_b, with_b, grows_b, more-is}
+use Rattle.mdconstructs_text.proofs.Autolinks.Events.{IsJoined, begun_link, begun-front, ended_link, link-events}
 
--- what a test of two sizes says
-at-most : (m n : ℕ) (b : Bool) → nat_le m n ≡ b → cond b (m ≤ n) (n < m)
-at-most m n true h = grind (arith, nat_tests)
-at-most m n false h = grind (arith, nat_tests)
+-- a scheme begins at a letter
+open-class : (before : Option TextByte) (b : ℕ) → is_ascii_alphabetic b ≡ true → autolink_open_rows before (Some (text_byte b)) ≡ autolink_open_rows before (Some letter)
+open-class before b h =
+    by-class (λ w. autolink_open_rows before (Some w) ≡ autolink_open_rows before (Some letter)) b
+    (λ e. absurd (grind (arith, nat_tests))) (λ e. absurd (grind (arith, nat_tests))) (λ e. absurd (grind (arith, nat_tests))) (λ e. absurd (grind (arith, nat_tests)))
+    (λ e. absurd (grind (arith, nat_tests))) (λ e. absurd (grind (arith, nat_tests))) (λ e. refl) (λ e f. absurd (cc)) (λ e. absurd (grind (arith, nat_tests)))
+    (λ o e. absurd (cc (o.letter))) (λ o e. absurd (cc (o.letter))) (λ o n e. absurd (cc (o.letter)))
 
-module _ (g : Given) (text : Text) where
-  -- What was tried at a place is read, with its events, or leaves nothing
-  abbrev Decided : (p : ℕ) (ended : Bool) (events : List Event) → List Seat → Configuration Unit Unit → State → Option Item → Type 0
-  Decided p ended events seats k s None = Refused g text p ended events k s
-  Decided p ended events seats k s (Some item) =
-      (after : Local Unit Unit)
-      × Leads g text k (outer p ended events ∷ []) s
-      (between_items (p + item_length item) Nothing false (events ++ item_events g.bytes (item, take (item_length item) seats)) after) (outer p ended events ∷ []) Ok
+-- and at no other byte, nor at the end
+open-refused : (before : Option TextByte) (o : Option ℕ) → passes is_ascii_alphabetic o ≡ false → autolink_open_rows before (class_of text_byte o) ≡ row [] Nok
+open-refused before None h = refl
+open-refused before (Some b) h =
+    by-class (λ w. autolink_open_rows before (Some w) ≡ row [] Nok) b
+    (λ e. refl) (λ e. refl) (λ e. refl) (λ e. refl) (λ e. refl) (λ e. refl) (λ e. absurd (cc)) (λ e f. refl) (λ e. refl) (λ o e. refl) (λ o e. refl) (λ o n e. refl)
 
-  -- what is decided further on is decided here
-  decided-before : (p : ℕ) (ended : Bool) (events : List Event) (seats : List Seat) (k k' : Configuration Unit Unit) (s s' : State) (o : Option Item)
-      → Leads g text k (outer p ended events ∷ []) s k' (outer p ended events ∷ []) s' → Decided p ended events seats k' s' o → Decided p ended events seats k s o
-  decided-before p ended events seats k k' s s' None leads d = (d.0, λ es h. leads es (d.1 es h))
-  decided-before p ended events seats k k' s s' (Some item) leads d = (d.0, λ es h. leads es (d.1 es h))
+-- it goes on at the bytes of schemes, and may end at a colon
+scheme-class : (before : Option TextByte) (b : ℕ) → is_scheme_byte b ≡ true → autolink_scheme_rows before (Some (text_byte b)) ≡ scheme_goes_on
+scheme-class before b h =
+    by-class (λ w. autolink_scheme_rows before (Some w) ≡ scheme_goes_on) b
+    (λ e. absurd (grind (arith, nat_tests))) (λ e. absurd (grind (arith, nat_tests))) (λ e. absurd (grind (arith, nat_tests))) (λ e. absurd (grind (arith, nat_tests)))
+    (λ e. absurd (grind (arith, nat_tests))) (λ e. absurd (grind (arith, nat_tests))) (λ e. refl) (λ e f. refl) (λ e. refl)
+    (λ o e. absurd (grind (arith, nat_tests, o))) (λ o e. absurd (grind (arith, nat_tests, o))) (λ o n e. absurd (grind (arith, nat_tests, o)))
 
-module _ (g : Given) (text : Text) (joined : IsJoined g text) (p : ℕ) (ended : Bool) (events : List Event) (s r : Seat) (rs : List Seat) (here : drop p text.seats ≡ s ∷ r ∷ rs) (plain : (s.byte == 10) ≡ false) where
-  -- how many bytes may be its scheme, how many may follow the colon, and how many that is between the markers
-  abbrev scheme_length : ℕ
-  scheme_length = prefix_len is_scheme_byte (bytes_of (r ∷ rs))
+-- any other byte refuses it, and so does the end
+scheme-refused : (before : Option TextByte) (o : Option ℕ) → passes is_scheme_byte o ≡ false → passes (λ b. b == 58) o ≡ false → autolink_scheme_rows before (class_of text_byte o) ≡ row [] Nok
+scheme-refused before None h i = refl
+scheme-refused before (Some b) h i =
+    by-class (λ w. autolink_scheme_rows before (Some w) ≡ row [] Nok) b
+    (λ e. refl) (λ e. refl) (λ e. refl) (λ e. refl) (λ e. refl) (λ e. absurd (cc))
+    (λ e. absurd (grind (arith, nat_tests))) (λ e f. absurd (grind (arith, nat_tests))) (λ e. absurd (grind (arith, nat_tests))) (λ o e. refl) (λ o e. refl) (λ o n e. refl)
 
-  -- between the markers
-  abbrev inside : ℕ
-  inside = scheme_length + 1 + prefix_len is_allowed (drop (scheme_length + 1) (bytes_of (r ∷ rs)))
+-- behind the scheme all allowed bytes are read, and it may end at `>`
+link-class : (before : Option TextByte) (b : ℕ) → is_allowed b ≡ true → autolink_url_rows before (Some (text_byte b)) ≡ row (consume ∷ []) (Next AutolinkUrlInside)
+link-class before b h =
+    by-class (λ w. autolink_url_rows before (Some w) ≡ row (consume ∷ []) (Next AutolinkUrlInside)) b
+    (λ e. absurd (grind (arith, nat_tests))) (λ e. refl) (λ e. absurd (grind (arith, nat_tests))) (λ e. absurd (grind (arith, nat_tests)))
+    (λ e. refl) (λ e. refl) (λ e. refl) (λ e f. refl) (λ e. refl) (λ o e. refl) (λ o e. absurd (grind (arith, nat_tests))) (λ o n e. refl)
 
-  -- in the autolink that is tried
-  abbrev in_tried : ℕ → Bool → Local Unit Unit → Configuration Unit Unit
-  in_tried q e local = in_link q e (begun_link g text events p) local
+-- any other byte refuses it, and so does the end
+link-refused : (before : Option TextByte) (o : Option ℕ) → passes is_allowed o ≡ false → passes (λ b. b == 62) o ≡ false → autolink_url_rows before (class_of text_byte o) ≡ row [] Nok
+link-refused before None h i = refl
+link-refused before (Some b) h i =
+    by-class (λ w. autolink_url_rows before (Some w) ≡ row [] Nok) b
+    (λ e. refl) (λ e. absurd (grind (arith, nat_tests))) (λ e. refl) (λ e. absurd (cc))
+    (λ e. absurd (grind (arith, nat_tests))) (λ e. absurd (grind (arith, nat_tests))) (λ e. absurd (grind (arith, nat_tests))) (λ e f. absurd (grind (arith, nat_tests))) (λ e. absurd (grind (arith, nat_tests)))
+    (λ o e. absurd (grind (arith, nat_tests, o))) (λ o e. refl) (λ o n e. absurd (grind (arith, nat_tests, o)))
 
-  -- what waits there
+-- this many bytes are enough for a scheme, and not too many, and the first is a letter
+abbrev is_long_enough : List ℕ → ℕ → Bool
+is_long_enough text n = nat_le 2 n && (nat_le n 32 && has_byte_at text 0 is_ascii_alphabetic)
+
+-- all bytes up to the first that no scheme has are bytes of schemes
+all-scheme : (text : List ℕ) → list_all is_scheme_byte (take (prefix_len is_scheme_byte text) text) ≡ true
+all-scheme [] = refl
+all-scheme (b ∷ bs) = elim (is_scheme_byte b) as (λ t. is_scheme_byte b ≡ t → list_all is_scheme_byte (take (cond t (1 + prefix_len is_scheme_byte bs) 0) (b ∷ bs)) ≡ true) [
+  | true ↦ λ e.
+      let one : 1 + prefix_len is_scheme_byte bs ≡ suc (prefix_len is_scheme_byte bs) = omega arith in
+      ap (λ n. list_all is_scheme_byte (take n (b ∷ bs))) one ∙ ap (λ t. t && list_all is_scheme_byte (take (prefix_len is_scheme_byte bs) bs)) e ∙ all-scheme bs
+  | false ↦ λ e. refl
+] refl
+
+-- the first byte is the whole text's
+first-of : (n : ℕ) (text : List ℕ) → is_long_enough (take n text) n ≡ is_long_enough text n
+first-of zero text = refl
+first-of (suc n) [] = refl
+first-of (suc n) (b ∷ bs) = refl
+
+-- so they are a scheme if they are long enough
+front-is-scheme : (text : List ℕ) → let n = prefix_len is_scheme_byte text in is_scheme (take n text) ≡ is_long_enough text n
+front-is-scheme text =
+    let n = prefix_len is_scheme_byte text in
+    ap (λ l. nat_le 2 l && (nat_le l 32 && (has_byte_at (take n text) 0 is_ascii_alphabetic && list_all is_scheme_byte (take n text)))) (length-prefix_len is_scheme_byte text)
+    ∙ ap (λ t. nat_le 2 n && (nat_le n 32 && (has_byte_at (take n text) 0 is_ascii_alphabetic && t))) (all-scheme text)
+    ∙ ap (λ t. nat_le 2 n && (nat_le n 32 && t)) (and-true (has_byte_at (take n text) 0 is_ascii_alphabetic))
+    ∙ first-of n text
+
+-- how long a scheme is that begins with a letter
+scheme-is : (r : Seat) (rs : List Seat) → is_ascii_alphabetic r.byte ≡ true → prefix_len is_scheme_byte (bytes_of (r ∷ rs)) ≡ 1 + prefix_len is_scheme_byte (bytes_of rs)
+scheme-is r rs h = let is : is_scheme_byte r.byte ≡ true = grind (arith, nat_tests) in ap (λ t. cond t (1 + prefix_len is_scheme_byte (bytes_of rs)) 0) is
+
+-- the spans that are open
+abbrev link_spans : List EventName
+link_spans = Autolink ∷ AutolinkProtocol ∷ []
+
+module _ (g : Given) (text : Text) (p : ℕ) (ended : Bool) (events : List Event) where
+  -- what waits in the autolink that is tried at a place
   abbrev choices : List Choice
   choices = outer p ended events ∷ []
 
-  -- the reading of an autolink, decided
-  abbrev IsDecided : Configuration Unit Unit → State → Option Item → Type 0
-  IsDecided k state o = Decided g text p ended events (s ∷ r ∷ rs) k state o
+  abbrev in_tried : ℕ → List Seat → Local Unit Unit → Configuration Unit Unit
+  in_tried q l local = shows l link_spans q (begun_link g text events p) local
+
+  -- the reading of an autolink is decided
+  abbrev IsDecided : List Seat → ℕ → List Seat → Local Unit Unit → Name → Option Item → Type 0
+  IsDecided seats q l local name o = Decides g text p ended events seats (in_tried q l local) choices (Retry name) o
+
+  -- it is rejected by a state whose row fails
+  rejects : (table : (previous current : Option TextByte) → Rows Unit Unit) (name : Name)
+      → ((k : Configuration Unit Unit) → text_step g (sight g text k) k name ≡ row_step g text k (table (class_of text_byte (sight g text k).previous) (class_of text_byte (sight g text k).current)))
+      → (seats : List Seat) (q : ℕ) (l : List Seat) (local : Local Unit Unit) → drop q text.seats ≡ l → table (before_class g text q) (class_of text_byte (first_byte l)) ≡ row [] Nok
+      → IsDecided seats q l local name None
+  rejects table name has seats q l local at fails =
+      (counts local, refused g text table name has p ended events l link_spans q (begun_link g text events p) local at fails (begun-front g text events p))
+
+  -- a scheme is read whole, or rejected if it is too long
+  reads-scheme : (seats l : List Seat) (q q' : ℕ) (local : Local Unit Unit) (o : Option Item) → drop q text.seats ≡ l → q' ≡ q + prefix_len is_scheme_byte (bytes_of l) → size_b local ≤ 32
+      → (size_b local + prefix_len is_scheme_byte (bytes_of l) ≤ 32 → IsDecided seats q' (past is_scheme_byte l) (passed is_scheme_byte grows_b l local) AutolinkSchemeInsideOrEmailAtext o)
+      → (32 < size_b local + prefix_len is_scheme_byte (bytes_of l) → o ≡ None) → IsDecided seats q l local AutolinkSchemeInsideOrEmailAtext o
+  reads-scheme seats [] q q' local o at is upto ends none =
+      let same : q' ≡ q = omega (arith, is) in
+      subst (λ n. IsDecided seats n [] local AutolinkSchemeInsideOrEmailAtext o) same (ends (omega (arith, upto)))
+  reads-scheme seats (s ∷ ss) q q' local o at is upto ends none =
+      let l = s ∷ ss in
+      let m = prefix_len is_scheme_byte (bytes_of ss) in
+      let size = size_b local in
+      let front = at-front text.seats q s ss at in
+      let next = drop-next text.seats q s ss at in
+      elim (is_scheme_byte s.byte) as (λ b. is_scheme_byte s.byte ≡ b → q' ≡ q + cond b (1 + m) 0
+      → (size + cond b (1 + m) 0 ≤ 32 → IsDecided seats q' (cond b (past is_scheme_byte ss) l) (cond b (passed is_scheme_byte grows_b ss (grows_b local)) local) AutolinkSchemeInsideOrEmailAtext o)
+      → (32 < size + cond b (1 + m) 0 → o ≡ None) → IsDecided seats q l local AutolinkSchemeInsideOrEmailAtext o) [
+        | true ↦ λ e i more over.
+            elim (cases_lt size 32) [
+              | inl room ↦
+                  let grown : more_than size ≡ size + 1 = more-is size (omega (arith, room)) in
+                  decides-before g text p ended events seats (in_tried q l local) (in_tried (q + 1) ss (grows_b local)) choices choices (Retry AutolinkSchemeInsideOrEmailAtext)
+                  (Retry AutolinkSchemeInsideOrEmailAtext) o
+                  (λ es h.
+                  leads-tested g text has_room autolink_scheme_rows (in_tried q l local) choices AutolinkSchemeInsideOrEmailAtext es (ap byte_of front)
+                  (scheme-class (before_class g text q) s.byte e) (lt-ltb size 32 room) refl
+                  (goes-next g text ss link_spans (q + 1) (begun_link g text events p) (grows_b local) choices AutolinkSchemeInsideOrEmailAtext next es h))
+                  (reads-scheme seats ss (q + 1) q' (grows_b local) o next (omega (arith, i)) (omega (arith, grown, room)) (λ h. more (omega (arith, grown, h))) (λ h. over (omega (arith, grown, h))))
+              | inr full ↦ subst (IsDecided seats q l local AutolinkSchemeInsideOrEmailAtext) (sym (over (omega (arith, full)))) (
+                counts local,
+                λ es h.
+                    leads-tested g text has_room autolink_scheme_rows (in_tried q l local) choices AutolinkSchemeInsideOrEmailAtext es (ap byte_of front)
+                    (scheme-class (before_class g text q) s.byte e) (le-ltb size 32 full) refl
+                    (puts-back g text p ended events (in_tried q l (counts local)) (begun-front g text events p) es h),
+              )
+            ]
+        | false ↦ λ e i more over.
+            let same : q' ≡ q = omega (arith, i) in
+            subst (λ n. IsDecided seats n l local AutolinkSchemeInsideOrEmailAtext o) same (more (omega (arith, upto)))
+      ] refl is ends none
+
+module _ (g : Given) (text : Text) (joined : IsJoined g text) (p : ℕ) (ended : Bool) (events : List Event) (s r : Seat) (rs : List Seat) (here : drop p text.seats ≡ s ∷ r ∷ rs) (plain : (s.byte == 10) ≡ false) where
+  -- the bytes, how many may be the scheme, and how many that is between the markers
+  abbrev bytes : List ℕ
+  bytes = bytes_of (s ∷ r ∷ rs)
+
+  abbrev scheme_length : ℕ
+  scheme_length = prefix_len is_scheme_byte (bytes_of (r ∷ rs))
+
+  abbrev inside : ℕ
+  inside = scheme_length + 1 + prefix_len is_allowed (drop (scheme_length + 1) (bytes_of (r ∷ rs)))
+
+  -- the reading is decided from a place in it
+  abbrev Decided : ℕ → List Seat → Local Unit Unit → Name → Option Item → Type 0
+  Decided q l local name o = IsDecided g text p ended events (s ∷ r ∷ rs) q l local name o
 
   -- the seats behind the first marker
   behind : drop (p + 1) text.seats ≡ r ∷ rs
   behind = drop-next text.seats p s (r ∷ rs) here
 
   -- behind all allowed bytes it ends at `>`
-  closes : (e : Bool) (local : Local Unit Unit) → passes is_allowed (byte_of (slice_get text.seats (p + 1 + inside))) ≡ false
-      → IsDecided (in_tried (p + 1 + inside) e local) (Next AutolinkUrlInside) (autolink_to (bytes_of (s ∷ r ∷ rs)) (Some inside))
-  closes e local none =
+  closes : (l : List Seat) (local : Local Unit Unit) → drop (p + 1 + inside) text.seats ≡ l → passes is_allowed (first_byte l) ≡ false
+      → Decided (p + 1 + inside) l local AutolinkUrlInside (cond (passes is_greater_than (first_byte l)) (Some (autolink inside)) None)
+  closes [] local at none = rejects g text p ended events autolink_url_rows AutolinkUrlInside (λ k. refl) (s ∷ r ∷ rs) (p + 1 + inside) [] local at refl
+  closes (x ∷ xs) local at none =
       let q = p + 1 + inside in
-      let k = in_tried q e local in
-      let last = has_byte_at (bytes_of (s ∷ r ∷ rs)) (inside + 1) is_greater_than in
-      let same : p + (inside + 1) ≡ q = omega arith in
-      let byte : last ≡ passes (λ b. b == 62) (byte_of (slice_get text.seats q)) =
-      ap (passes (λ b. b == 62)) (byte-behind text.seats p (inside + 1) (s ∷ r ∷ rs) here ∙ ap (λ i. byte_of (slice_get text.seats i)) same) in
-      elim last as (λ b. last ≡ b → IsDecided k (Next AutolinkUrlInside) (cond b (Some (autolink inside)) None)) [
+      elim (x.byte == 62) as (λ b. (x.byte == 62) ≡ b → Decided q (x ∷ xs) local AutolinkUrlInside (cond b (Some (autolink inside)) None)) [
         | true ↦ λ is.
-            let (x, at, closing) = found (λ b. b == 62) (slice_get text.seats q) (sym byte ∙ is) in
             let further : q + 1 ≡ p + (inside + 2) = omega arith in
-            let made = link-events g text joined events p inside s r x rs here plain (omega arith) at in (
+            let made = link-events g text joined events p inside s r x rs xs here plain (omega arith) at in (
+              false,
               counts local,
               λ es h.
-                  leads-byte g text link_spans q e (begun_link g text events p) local choices AutolinkUrlInside at es
-                  (closing-read g text q e (begun_link g text events p) local choices x at closing es
-                  (subst (λ l. EndsWith g text (between_items (q + 1) Nothing false l (counts local)) choices Ok es) (sym made)
-                  (subst (λ i. EndsWith g text (between_items i Nothing false (events ++ item_events g.bytes (autolink inside, take (inside + 2) (s ∷ r ∷ rs))) (counts local)) choices Ok es) (sym further) h))),
+                  leads-seen g text autolink_url_rows (in_tried g text p ended events q (x ∷ xs) local) (choices g text p ended events) AutolinkUrlInside es
+                  (ap byte_of (at-front text.seats q x xs at))
+                  (ap (λ c. autolink_url_rows (before_class g text q) (Some (text_byte c))) (eqb-true x.byte 62 is)) refl
+                  (leads-ok g text (between_items (q + 1) Nothing false (ended_link g text (begun_link g text events p) q) (counts local)) (outer p ended events) [] es
+                  (subst (λ l. EndsWith g text (between_items (q + 1) Nothing false l (counts local)) [] (Next TextBefore) es) (sym made)
+                  (subst (λ i. EndsWith g text (between_items i Nothing false (events ++ item_events g.bytes (autolink inside, take (inside + 2) (s ∷ r ∷ rs))) (counts local)) []
+                  (Next TextBefore) es) (sym further) h))),
             )
-        | false ↦ λ other. refused-fed g text p ended events k AutolinkUrlInside (link-seen g text (nat_lt q (length text.seats)) p ended events q e local none (sym byte ∙ other))
+        | false ↦ λ other.
+            rejects g text p ended events autolink_url_rows AutolinkUrlInside (λ k. refl) (s ∷ r ∷ rs) q (x ∷ xs) local at (link-refused (before_class g text q) (Some x.byte) none other)
       ] refl
-
-  -- the byte behind the scheme
-  colon-is : has_byte_at (bytes_of (r ∷ rs)) scheme_length is_colon ≡ passes (λ b. b == 58) (byte_of (slice_get text.seats (p + 1 + scheme_length)))
-  colon-is = ap (passes (λ b. b == 58)) (byte-behind text.seats (p + 1) scheme_length (r ∷ rs) behind)
 
   -- behind a whole scheme a colon is passed, and then all allowed bytes
-  passes-colon : (e : Bool) (local : Local Unit Unit) → local.tokenize_state.size_b ≡ scheme_length → nat_le 2 scheme_length ≡ true → has_byte_at (bytes_of (r ∷ rs)) scheme_length is_colon ≡ true
-      → IsDecided (in_tried (p + 1 + scheme_length) e local) (Next AutolinkSchemeInsideOrEmailAtext) (autolink_to (bytes_of (s ∷ r ∷ rs)) (Some inside))
-  passes-colon e local size long colon =
+  passes-colon : (c : Seat) (l : List Seat) (local : Local Unit Unit) → drop (p + 1 + scheme_length) text.seats ≡ c ∷ l → (c.byte == 58) ≡ true → nat_le 2 (size_b local) ≡ true
+      → Decided (p + 1 + scheme_length) (c ∷ l) local AutolinkSchemeInsideOrEmailAtext (autolink_to bytes (Some inside))
+  passes-colon c l local at colon long =
       let n = scheme_length in
       let q = p + 1 + n in
-      let l = drop (n + 1) (r ∷ rs) in
-      let (c, at, is) = found (λ b. b == 58) (slice_get text.seats q) (sym colon-is ∙ colon) in
-      let next : q + 1 ≡ p + 1 + (n + 1) = omega arith in
-      let behind_colon : drop (q + 1) text.seats ≡ l = ap (λ i. drop i text.seats) next ∙ sym (drop-drop (n + 1) (p + 1) text.seats) ∙ ap (drop (n + 1)) behind in
-      let ran = reads-run g text link_spans AutolinkUrlInside is_allowed (reads-allowed g text) l (q + 1) false (begun_link g text events p) (counts local) choices behind_colon in
-      let m = prefix_len is_allowed (drop (n + 1) (bytes_of (r ∷ rs))) in
-      let sum : q + 1 + m ≡ p + 1 + (n + 1 + m) = omega arith in
-      let total : q + 1 + prefix_len is_allowed (bytes_of l) ≡ p + 1 + inside = ap (λ xs. q + 1 + prefix_len is_allowed xs) (sym (drop-map (λ (x : Seat). x.byte) (n + 1) (r ∷ rs))) ∙ sum in
-      let stops : passes is_allowed (byte_of (slice_get text.seats (p + 1 + inside))) ≡ false = ap (λ i. passes is_allowed (byte_of (slice_get text.seats i))) (sym total) ∙ run-ends is_allowed text.seats l (q + 1) behind_colon in
-      decided-before g text p ended events (s ∷ r ∷ rs) (in_tried q e local) (in_tried (p + 1 + inside) ran.0 ran.1) (Next AutolinkSchemeInsideOrEmailAtext) (Next AutolinkUrlInside) (autolink_to (bytes_of (s ∷ r ∷ rs)) (Some inside))
+      let q' = p + 1 + inside in
+      let next = drop-next text.seats q c l at in
+      let place : p + 1 + (n + 1) ≡ q + 1 = omega arith in
+      let tail : drop (n + 1) (r ∷ rs) ≡ l = ap (drop (n + 1)) (sym behind) ∙ drop-drop (n + 1) (p + 1) text.seats ∙ ap (λ i. drop i text.seats) place ∙ next in
+      let same : prefix_len is_allowed (drop (n + 1) (bytes_of (r ∷ rs))) ≡ prefix_len is_allowed (bytes_of l) =
+      ap (prefix_len is_allowed) (drop-map (λ (x : Seat). x.byte) (n + 1) (r ∷ rs) ∙ ap bytes_of tail) in
+      let total : q' ≡ q + 1 + prefix_len is_allowed (bytes_of l) = omega (arith, same) in
+      let rest = past is_allowed l in
+      let at' : drop q' text.seats ≡ rest = past-at g text is_allowed l (q + 1) q' next total in
+      let marker : p + (inside + 1) ≡ q' = omega arith in
+      let last = byte-behind text.seats p (inside + 1) (s ∷ r ∷ rs) rest here (ap (λ i. drop i text.seats) marker ∙ at') in
+      let after = passed is_allowed counts l (counts local) in
+      let waits = choices g text p ended events in
+      let begun = begun_link g text events p in
+      decides-before g text p ended events (s ∷ r ∷ rs) (in_tried g text p ended events q (c ∷ l) local) (in_tried g text p ended events q' rest after) waits waits
+      (Retry AutolinkSchemeInsideOrEmailAtext) (Retry AutolinkUrlInside) (autolink_to bytes (Some inside))
       (λ es h.
-      leads-byte g text link_spans q e (begun_link g text events p) local choices AutolinkSchemeInsideOrEmailAtext at es
-      (colon-read g text q e (begun_link g text events p) local choices c at is (ap (nat_le 2) size ∙ long) es
-      (ran.2 es (subst (λ i. EndsWith g text (in_tried i ran.0 ran.1) choices (Next AutolinkUrlInside) es) (sym total) h))))
-      (closes ran.0 ran.1 stops)
+      leads-tested g text has_scheme autolink_scheme_rows (in_tried g text p ended events q (c ∷ l) local) waits AutolinkSchemeInsideOrEmailAtext es (ap byte_of (at-front text.seats q c l at))
+      (ap (λ b. autolink_scheme_rows (before_class g text q) (Some (text_byte b))) (eqb-true c.byte 58 colon)) long refl
+      (goes-next g text l link_spans (q + 1) begun (counts local) waits AutolinkUrlInside next es
+      (loops g text link_spans waits AutolinkUrlInside is_allowed counts
+      (λ q ended events local s at is es.
+      leads-seen g text autolink_url_rows (held link_spans q Byte ended events local) waits AutolinkUrlInside es (ap byte_of at) (link-class (before_class g text q) s.byte is) refl)
+      l (q + 1) q' begun (counts local) next total es h)))
+      (subst (λ o. Decided q' rest after AutolinkUrlInside (cond (passes is_greater_than o) (Some (autolink inside)) None)) (sym last) (closes rest after at' (past-stops is_allowed l)))
 
   -- an autolink is rejected if no colon ends its scheme, or if its scheme is too short
-  refuses-scheme : (e : Bool) (local : Local Unit Unit) → local.tokenize_state.size_b ≡ scheme_length → (nat_le 2 scheme_length && has_byte_at (bytes_of (r ∷ rs)) scheme_length is_colon) ≡ false
-      → Refused g text p ended events (in_tried (p + 1 + scheme_length) e local) (Next AutolinkSchemeInsideOrEmailAtext)
-  refuses-scheme e local size none =
-      let q = p + 1 + scheme_length in
-      let k = in_tried q e local in
-      let colon = has_byte_at (bytes_of (r ∷ rs)) scheme_length is_colon in
-      let stops = run-ends is_scheme_byte text.seats (r ∷ rs) (p + 1) behind in
-      elim colon as (λ b. colon ≡ b → Refused g text p ended events k (Next AutolinkSchemeInsideOrEmailAtext)) [
-        | true ↦ λ is.
-            let (c, at, byte) = found (λ b. b == 58) (slice_get text.seats q) (sym colon-is ∙ is) in
-            let short : nat_le 2 scheme_length ≡ false = sym (and-true (nat_le 2 scheme_length)) ∙ ap (λ t. nat_le 2 scheme_length && t) (sym is) ∙ none in
-            refused-fed g text p ended events k AutolinkSchemeInsideOrEmailAtext
-            (subst (λ j. Refused g text p ended events j (Retry AutolinkSchemeInsideOrEmailAtext)) (sym (fed-is g text q e (begun_link g text events p) link_spans local (slice_get_within text.seats q c at)))
-            (too-short g text p ended events q e local c at byte (ap (nat_le 2) size ∙ short)))
-        | false ↦ λ other.
-            refused-fed g text p ended events k AutolinkSchemeInsideOrEmailAtext (scheme-seen g text (nat_lt q (length text.seats)) p ended events q e local stops (sym colon-is ∙ other))
-      ] refl
-
-  -- from the place at which a scheme may begin
-  abbrev starts : Local Unit Unit → Option Item → Type 0
-  starts local o = IsDecided (in_tried (p + 1) false local) (Next AutolinkOpen) o
-
-  -- whether it has a scheme, and a colon behind it
-  abbrev is_link : Bool
-  is_link = is_long_enough (bytes_of (r ∷ rs)) scheme_length && has_byte_at (bytes_of (r ∷ rs)) scheme_length is_colon
-
-  uri-is : uri (bytes_of (r ∷ rs)) ≡ cond is_link (Some inside) None
-  uri-is = ap (λ b. cond (b && has_byte_at (bytes_of (r ∷ rs)) scheme_length is_colon) (Some inside) None) (front-is-scheme (bytes_of (r ∷ rs)))
-
-  -- if it has, all allowed bytes behind that are read
-  takes-link : (local : Local Unit Unit) → is_link ≡ true → starts local (autolink_to (bytes_of (s ∷ r ∷ rs)) (Some inside))
-  takes-link local is =
-      let both = and_parts (is_long_enough (bytes_of (r ∷ rs)) scheme_length) (has_byte_at (bytes_of (r ∷ rs)) scheme_length is_colon) is in
-      let size = and_parts (nat_le 2 scheme_length) (nat_le scheme_length 32 && is_ascii_alphabetic r.byte) both.0 in
-      let first = and_parts (nat_le scheme_length 32) (is_ascii_alphabetic r.byte) size.1 in
-      let read = scheme-read g text (p + 1) false (begun_link g text events p) local choices r rs behind first.1 (at-most scheme_length 32 true first.0) in
-      decided-before g text p ended events (s ∷ r ∷ rs) (in_tried (p + 1) false local) (in_tried (p + 1 + scheme_length) read.0 read.1) (Next AutolinkOpen) (Next AutolinkSchemeInsideOrEmailAtext) (autolink_to (bytes_of (s ∷ r ∷ rs)) (Some inside))
-      read.3 (passes-colon read.0 read.1 read.2 size.0 both.1)
-
-  -- if it has not, it is rejected
-  refuses-link : (local : Local Unit Unit) → is_link ≡ false → starts local None
-  refuses-link local none =
+  ends-scheme : (l : List Seat) (local : Local Unit Unit) → drop (p + 1 + scheme_length) text.seats ≡ l → passes is_scheme_byte (first_byte l) ≡ false → size_b local ≡ scheme_length
+      → Decided (p + 1 + scheme_length) l local AutolinkSchemeInsideOrEmailAtext (autolink_to bytes (cond (nat_le 2 scheme_length && passes is_colon (first_byte l)) (Some inside) None))
+  ends-scheme [] local at none size =
+      subst (λ b. Decided (p + 1 + scheme_length) [] local AutolinkSchemeInsideOrEmailAtext (autolink_to bytes (cond b (Some inside) None))) (sym (and-false (nat_le 2 scheme_length)))
+      (rejects g text p ended events autolink_scheme_rows AutolinkSchemeInsideOrEmailAtext (λ k. refl) (s ∷ r ∷ rs) (p + 1 + scheme_length) [] local at refl)
+  ends-scheme (c ∷ l) local at none size =
       let n = scheme_length in
-      let k = in_tried (p + 1) false local in
-      elim (is_ascii_alphabetic r.byte) as (λ b. is_ascii_alphabetic r.byte ≡ b → starts local None) [
-        | true ↦ λ letter.
-            elim (nat_le n 32) as (λ b. nat_le n 32 ≡ b → starts local None) [
-              | true ↦ λ room.
-                  let read = scheme-read g text (p + 1) false (begun_link g text events p) local choices r rs behind letter (at-most n 32 true room) in
-                  let colon = has_byte_at (bytes_of (r ∷ rs)) n is_colon in
-                  let rest : (nat_le 2 n && colon) ≡ false =
-                  ap (λ t. t && colon) (sym (and-true (nat_le 2 n))) ∙ ap (λ t. (nat_le 2 n && t) && colon) (sym (ap (λ t. t && is_ascii_alphabetic r.byte) room ∙ letter)) ∙ none in
-                  decided-before g text p ended events (s ∷ r ∷ rs) k (in_tried (p + 1 + n) read.0 read.1) (Next AutolinkOpen) (Next AutolinkSchemeInsideOrEmailAtext) None read.3 (refuses-scheme read.0 read.1 read.2 rest)
-              | false ↦ λ long. scheme-too-long g text p ended events (p + 1) false local r rs behind letter (at-most n 32 false long)
+      let q = p + 1 + n in
+      let Here = λ (b : Bool). Decided q (c ∷ l) local AutolinkSchemeInsideOrEmailAtext (autolink_to bytes (cond b (Some inside) None)) in
+      elim (c.byte == 58) as (λ b. (c.byte == 58) ≡ b → Here (nat_le 2 n && b)) [
+        | true ↦ λ colon.
+            elim (nat_le 2 n) as (λ b. nat_le 2 n ≡ b → Here (b && true)) [
+              | true ↦ λ long. passes-colon c l local at colon (ap (nat_le 2) size ∙ long)
+              | false ↦ λ short. (
+                counts local,
+                λ es h.
+                    leads-tested g text has_scheme autolink_scheme_rows (in_tried g text p ended events q (c ∷ l) local) (choices g text p ended events) AutolinkSchemeInsideOrEmailAtext es
+                    (ap byte_of (at-front text.seats q c l at))
+                    (ap (λ b. autolink_scheme_rows (before_class g text q) (Some (text_byte b))) (eqb-true c.byte 58 colon)) (ap (nat_le 2) size ∙ short) refl
+                    (puts-back g text p ended events (in_tried g text p ended events q (c ∷ l) (counts local)) (begun-front g text events p) es h),
+              )
             ] refl
         | false ↦ λ other.
-            let first : passes is_ascii_alphabetic (byte_of (slice_get text.seats (p + 1))) ≡ false = ap (λ o. passes is_ascii_alphabetic (byte_of o)) (at-front text.seats (p + 1) r rs behind) ∙ other in
-            refused-fed g text p ended events k AutolinkOpen (open-seen g text (nat_lt (p + 1) (length text.seats)) p ended events (p + 1) false local first)
+            subst Here (sym (and-false (nat_le 2 n)))
+            (rejects g text p ended events autolink_scheme_rows AutolinkSchemeInsideOrEmailAtext (λ k. refl) (s ∷ r ∷ rs) q (c ∷ l) local at
+            (scheme-refused (before_class g text q) (Some c.byte) none other))
       ] refl
 
   -- so the tests of the item decide
-  pub decides-link : (local : Local Unit Unit) → starts local (autolink_to (bytes_of (s ∷ r ∷ rs)) (uri (bytes_of (r ∷ rs))))
+  pub decides-link : (local : Local Unit Unit) → Decided (p + 1) (r ∷ rs) local AutolinkOpen (autolink_to bytes (uri (bytes_of (r ∷ rs))))
   decides-link local =
-      subst (λ o. starts local (autolink_to (bytes_of (s ∷ r ∷ rs)) o)) (sym uri-is)
-      (elim is_link as (λ b. is_link ≡ b → starts local (autolink_to (bytes_of (s ∷ r ∷ rs)) (cond b (Some inside) None))) [
-        | true ↦ takes-link local
-        | false ↦ refuses-link local
+      let n = scheme_length in
+      let colon = has_byte_at (bytes_of (r ∷ rs)) n is_colon in
+      let waits = choices g text p ended events in
+      let begun = begun_link g text events p in
+      let Here = λ (b : Bool). Decided (p + 1) (r ∷ rs) local AutolinkOpen (autolink_to bytes (cond (b && colon) (Some inside) None)) in
+      subst Here (sym (front-is-scheme (bytes_of (r ∷ rs))))
+      (elim (is_ascii_alphabetic r.byte) as (λ a. is_ascii_alphabetic r.byte ≡ a → Here (nat_le 2 n && (nat_le n 32 && a))) [
+        | true ↦ λ letter.
+            let next = drop-next text.seats (p + 1) r rs behind in
+            let is : n ≡ 1 + prefix_len is_scheme_byte (bytes_of rs) = scheme-is r rs letter in
+            let place : p + 1 + n ≡ p + 1 + 1 + prefix_len is_scheme_byte (bytes_of rs) = omega (arith, is) in
+            let first = with_b 1 (counts local) in
+            let read = passed is_scheme_byte grows_b rs first in
+            let rest = past is_scheme_byte rs in
+            let at = past-at g text is_scheme_byte rs (p + 1 + 1) (p + 1 + n) next place in
+            let byte = byte-behind text.seats (p + 1) n (r ∷ rs) rest behind at in
+            let item = λ (b : Bool). autolink_to bytes (cond ((nat_le 2 n && (b && true)) && colon) (Some inside) None) in
+            decides-before g text p ended events (s ∷ r ∷ rs) (in_tried g text p ended events (p + 1) (r ∷ rs) local) (in_tried g text p ended events (p + 1 + 1) rs first) waits waits
+            (Retry AutolinkOpen) (Retry AutolinkSchemeInsideOrEmailAtext) (item (nat_le n 32))
+            (λ es h.
+            leads-seen g text autolink_open_rows (in_tried g text p ended events (p + 1) (r ∷ rs) local) waits AutolinkOpen es (ap byte_of (at-front text.seats (p + 1) r rs behind))
+            (open-class (before_class g text (p + 1)) r.byte letter) refl
+            (goes-next g text rs link_spans (p + 1 + 1) begun first waits AutolinkSchemeInsideOrEmailAtext next es h))
+            (reads-scheme g text p ended events (s ∷ r ∷ rs) rs (p + 1 + 1) (p + 1 + n) first (item (nat_le n 32)) next place (omega arith)
+            (λ fits.
+            let counted : size_b read ≡ 1 + prefix_len is_scheme_byte (bytes_of rs) = passed-counts size_b grows_b (λ c h. more-is (size_b c) h) is_scheme_byte rs first (omega (arith, fits)) in
+            let size : size_b read ≡ n = omega (arith, counted, is) in
+            let long = le-leb n 32 (omega (arith, fits, is)) in
+            let same : (nat_le 2 n && passes is_colon (first_byte rest)) ≡ ((nat_le 2 n && (nat_le n 32 && true)) && colon) =
+            ap (λ o. nat_le 2 n && passes is_colon o) (sym byte) ∙ ap (λ t. t && colon) (sym (ap (λ t. nat_le 2 n && (t && true)) long ∙ and-true (nat_le 2 n))) in
+            subst (λ b. Decided (p + 1 + n) rest read AutolinkSchemeInsideOrEmailAtext (autolink_to bytes (cond b (Some inside) None))) same
+            (ends-scheme rest read at (past-stops is_scheme_byte rs) size))
+            (λ over. ap item (lt-leb n 32 (omega (arith, over, is))) ∙ ap (λ t. autolink_to bytes (cond (t && colon) (Some inside) None)) (and-false (nat_le 2 n))))
+        | false ↦ λ other.
+            let none : (nat_le 2 n && (nat_le n 32 && false)) ≡ false = ap (λ t. nat_le 2 n && t) (and-false (nat_le n 32)) ∙ and-false (nat_le 2 n) in
+            subst Here (sym none)
+            (rejects g text p ended events autolink_open_rows AutolinkOpen (λ k. refl) (s ∷ r ∷ rs) (p + 1) (r ∷ rs) local behind (open-refused (before_class g text (p + 1)) (Some r.byte) other))
       ] refl)
 
 module _ (g : Given) (text : Text) where
   -- If the construct is on, an autolink is tried at its marker
   tries-marker : (p : ℕ) (ended : Bool) (events : List Event) (local : Local Unit Unit) (s : Seat) (ss : List Seat) → drop p text.seats ≡ s ∷ ss → s.byte ≡ 60 → g.options.constructs.autolink ≡ true
-      → Leads g text (between_items p Byte ended events local) [] (Retry TextBefore) (in_link (p + 1) false (begun_link g text events p) (counts (counts local))) (outer p ended events ∷ []) (Next AutolinkOpen)
-  tries-marker p ended events local s ss here is on es h =
-      let at = at-front text.seats p s ss here in
-      leads-tried g text links_by_itself AutolinkStart p ended events local (byte-rows g text p 60 s at is) on es (marker-read g text p ended events (counts local) (outer p ended events ∷ []) s at es h)
-
-  -- It is read where it may begin, or the attempt leaves nothing
-  from-marker : (p : ℕ) (ended : Bool) (events : List Event) (local : Local Unit Unit) (s : Seat) (ss : List Seat) → drop p text.seats ≡ s ∷ ss → s.byte ≡ 60 → g.options.constructs.autolink ≡ true
-      → (o : Option Item) → Decided g text p ended events (s ∷ ss) (in_link (p + 1) false (begun_link g text events p) (counts (counts local))) (Next AutolinkOpen) o → Tried g text p ended events local (s ∷ ss) o
-  from-marker p ended events local s ss here is on None d = (d.0, λ es h. tries-marker p ended events local s ss here is on es (d.1 es h))
-  from-marker p ended events local s ss here is on (Some item) d = (
-    false,
-    d.0,
-    λ es h.
-        tries-marker p ended events local s ss here is on es
-        (d.1 es
-        (leads-ok g text (between_items (p + item_length item) Nothing false (events ++ item_events g.bytes (item, take (item_length item) (s ∷ ss))) d.0) (outer p ended events) [] es h)),
-  )
+      → (o : Option Item) → IsDecided g text p ended events (s ∷ ss) (p + 1) ss (counts (counts local)) AutolinkOpen o → Tried g text p ended events local (s ∷ ss) o
+  tries-marker p ended events local s ss here is on o decided =
+      let begun = begun_link g text events p in
+      let waits = outer p ended events ∷ [] in
+      decides-before g text p ended events (s ∷ ss) (between_items p Byte ended events local) (shows ss link_spans (p + 1) begun (counts (counts local))) [] waits (Retry TextBefore)
+      (Retry AutolinkOpen) o
+      (λ es h.
+      leads-tried g text links_by_itself AutolinkStart p ended events local (byte-rows g text p 60 s (at-front text.seats p s ss here) is) on es
+      (leads-called g text (between_items p Byte ended events (counts local)) waits AutolinkStart es
+      (goes-next g text ss link_spans (p + 1) begun (counts (counts local)) waits AutolinkOpen (drop-next text.seats p s ss here) es h)))
+      decided
 
   -- So autolinks are tried at `<`
   pub tries-autolink : IsJoined g text → (p : ℕ) (ended : Bool) (events : List Event) (local : Local Unit Unit) (s : Seat) (ss : List Seat) → drop p text.seats ≡ s ∷ ss → s.byte ≡ 60
       → g.options.constructs.autolink ≡ true → Tried g text p ended events local (s ∷ ss) (autolink_at (bytes_of (s ∷ ss)))
   tries-autolink joined p ended events local s [] here is on =
-      let same : p + 1 + 0 ≡ p + 1 = omega arith in
-      let end : passes is_ascii_alphabetic (byte_of (slice_get text.seats (p + 1))) ≡ false =
-      ap (λ i. passes is_ascii_alphabetic (byte_of (slice_get text.seats i))) (sym same) ∙ run-ends is_ascii_alphabetic text.seats [] (p + 1) (drop-next text.seats p s [] here) in
-      let less : has_byte_at (bytes_of (s ∷ [])) 0 is_less_than ≡ true = ap (λ b. b == 60) is in
-      subst (λ b. Tried g text p ended events local (s ∷ []) (cond b (autolink_to (bytes_of (s ∷ [])) (uri [])) None)) (sym less)
-      (from-marker p ended events local s [] here is on None
-      (refused-fed g text p ended events (in_link (p + 1) false (begun_link g text events p) (counts (counts local))) AutolinkOpen
-      (open-seen g text (nat_lt (p + 1) (length text.seats)) p ended events (p + 1) false (counts (counts local)) end)))
+      subst (λ b. Tried g text p ended events local (s ∷ []) (cond b (autolink_to (bytes_of (s ∷ [])) (uri [])) None)) (sym (ap (λ b. b == 60) is))
+      (tries-marker p ended events local s [] here is on None
+      (rejects g text p ended events autolink_open_rows AutolinkOpen (λ k. refl) (s ∷ []) (p + 1) [] (counts (counts local)) (drop-next text.seats p s [] here) refl))
   tries-autolink joined p ended events local s (r ∷ rs) here is on =
-      let less : has_byte_at (bytes_of (s ∷ r ∷ rs)) 0 is_less_than ≡ true = ap (λ b. b == 60) is in
-      let plain : (s.byte == 10) ≡ false = ap (λ b. b == 10) is in
-      subst (λ b. Tried g text p ended events local (s ∷ r ∷ rs) (cond b (autolink_to (bytes_of (s ∷ r ∷ rs)) (uri (bytes_of (r ∷ rs)))) None)) (sym less)
-      (from-marker p ended events local s (r ∷ rs) here is on (autolink_to (bytes_of (s ∷ r ∷ rs)) (uri (bytes_of (r ∷ rs))))
-      (decides-link g text joined p ended events s r rs here plain (counts (counts local))))
+      subst (λ b. Tried g text p ended events local (s ∷ r ∷ rs) (cond b (autolink_to (bytes_of (s ∷ r ∷ rs)) (uri (bytes_of (r ∷ rs)))) None)) (sym (ap (λ b. b == 60) is))
+      (tries-marker p ended events local s (r ∷ rs) here is on (autolink_to (bytes_of (s ∷ r ∷ rs)) (uri (bytes_of (r ∷ rs))))
+      (decides-link g text joined p ended events s r rs here (ap (λ b. b == 10) is) (counts (counts local))))

@@ -1,5 +1,5 @@
 -- The place of the backtick string that closes a code span: it is looked for from the front, a byte at a time.
-use Rattle.mdconstructs_text.proofs.Prelude.{◌≡◌, ℕ, zero, suc, ◌+◌, ◌<◌, ◌∷◌, [], List, Bool, true, false, cond, not, ◌&&◌, ◌==◌, refl, sym, ◌∙◌, ap, subst, Option, Some, None, arith, length, take, drop, option_map, max, and-false, drop-drop, eqb-true, nat_tests, last_or, position_or_len, find, range_with_len, and-right, code_span, line_ending, plain_run, passes, ends_with, is_backtick_or_line_feed, backticks, is_backtick_string, code_span_at, part_length, part_at, plain_length, is_backtick}
+use Rattle.mdconstructs_text.proofs.Prelude.{◌≡◌, ℕ, zero, suc, ◌+◌, ◌<◌, ◌∷◌, [], List, Bool, true, false, cond, not, ◌&&◌, ◌==◌, refl, sym, ◌∙◌, ap, subst, Option, Some, None, arith, length, take, drop, option_map, max, and-false, drop-drop, eqb-true, nat_tests, last_or, position_or_len, find, range_with_len, and-right, code_span, line_ending, plain_run, passes, ends_with, is_backtick_or_line_feed, backticks, before_backtick_string, is_backtick_string, code_span_at, part_length, part_at, plain_length, is_backtick}
 
 -- the place of a backtick string, from further in front
 abbrev pub further : ℕ → Option ℕ → Option ℕ
@@ -18,10 +18,6 @@ further-further m n (Some x) = let e : m + (n + x) ≡ m + n + x = omega arith i
 no-further : (o : Option ℕ) → further 0 o ≡ o
 no-further None = refl
 no-further (Some m) = let e : 0 + m ≡ m = omega arith in ap Some e
-
--- no backtick string of none is looked for
-not-none : (k : ℕ) → 0 < k → (0 == k) ≡ false
-not-none k h = grind (arith, nat_tests)
 
 -- the last byte up to a position, and that one
 last-behind : (o : Option ℕ) (text : List ℕ) (i b : ℕ) (bs : List ℕ) → drop i text ≡ b ∷ bs → last_or o (take (suc i) text) ≡ Some b
@@ -52,15 +48,11 @@ module _ (text : List ℕ) (k : ℕ) where
 pub no-tick : (b : ℕ) → is_backtick_or_line_feed b ≡ false → (b == 96) ≡ false
 no-tick b h = grind (arith, nat_tests)
 
--- nor is a line ending
-line-feed-no-tick : (b : ℕ) → (b == 10) ≡ true → (b == 96) ≡ false
-line-feed-no-tick b h = grind (arith, nat_tests)
-
 -- nothing begins in bytes that are no backticks
 no-run : (k : ℕ) → 0 < k → (before : Bool) (b : ℕ) (bs : List ℕ) → (b == 96) ≡ false → first_run k before (b ∷ bs) ≡ further 1 (first_run k false bs)
 no-run k some before b bs h =
-    let zero-run : backticks (b ∷ bs) ≡ 0 = ap (λ t. cond t (1 + backticks bs) 0) h in
-    let no : (not before && (backticks (b ∷ bs) == k)) ≡ false = ap (λ n. not before && (n == k)) zero-run ∙ ap (λ t. not before && t) (not-none k some) ∙ and-false _ in
+    let other : (0 == k) ≡ false = grind (arith, nat_tests) in
+    let no : (not before && (backticks (b ∷ bs) == k)) ≡ false = ap (λ t. not before && (cond t (1 + backticks bs) 0 == k)) h ∙ ap (λ t. not before && t) other ∙ and-false _ in
     ap (λ t. cond t (Some 0) (further 1 (first_run k (b == 96) bs))) no ∙ ap (λ t. further 1 (first_run k t bs)) h
 
 -- a backtick string, behind its first backtick, is passed
@@ -109,7 +101,7 @@ pub passes-piece : (k : ℕ) → 0 < k → (b : ℕ) (bs : List ℕ) → (backti
     → let n = part_length (part_at is_backtick_or_line_feed (b ∷ bs)) in first_run k false (b ∷ bs) ≡ further n (first_run k false (drop n (b ∷ bs)))
 passes-piece k some b bs h =
     elim (b == 10) as (λ t. (b == 10) ≡ t → let n = part_length (cond t line_ending (plain_run (plain_length is_backtick_or_line_feed (b ∷ bs)))) in first_run k false (b ∷ bs) ≡ further n (first_run k false (drop n (b ∷ bs)))) [
-      | true ↦ λ e. no-run k some false b bs (line-feed-no-tick b e)
+      | true ↦ λ e. no-run k some false b bs (ap (λ c. c == 96) (eqb-true b 10 e))
       | false ↦ λ e.
           let r = max 1 (backticks (b ∷ bs)) in
           let d = position_or_len is_backtick_or_line_feed (drop r (b ∷ bs)) in
@@ -117,16 +109,13 @@ passes-piece k some b bs h =
           ∙ ap (λ l. further (r + d) (first_run k false l)) (drop-drop d r (b ∷ bs))
     ] refl
 
--- a backtick string at the front is found there
-pub first-here : (k : ℕ) (b : ℕ) (bs : List ℕ) → (backticks (b ∷ bs) == k) ≡ true → first_run k false (b ∷ bs) ≡ Some 0
-first-here k b bs h = ap (λ t. cond t (Some 0) (further 1 (first_run k (b == 96) bs))) h
-
 -- A code span is there if a backtick string that closes it is found behind the one that opens it
-pub code-span-found : (bs : List ℕ) → let text = 96 ∷ bs in code_span_at text ≡ option_map (code_span (backticks text)) (first_run (backticks text) false (drop (backticks text) text))
-code-span-found bs =
-    let text = 96 ∷ bs in
+pub code-span-found : (b : ℕ) (bs : List ℕ) → b ≡ 96 → let text = b ∷ bs in code_span_at text ≡ option_map (code_span (backticks text)) (first_run (backticks text) false (drop (backticks text) text))
+code-span-found b bs is =
+    let text = b ∷ bs in
     let k = backticks text in
-    ap (option_map (code_span k)) (found (drop k text) k (drop k text) 0 false refl refl ∙ no-further (first_run k false (drop k text)))
+    ap (λ c. cond (c == 96) (option_map (code_span k) (before_backtick_string k (drop k text))) None) is
+    ∙ ap (option_map (code_span k)) (found (drop k text) k (drop k text) 0 false refl refl ∙ no-further (first_run k false (drop k text)))
 
 -- a place that was found, from one byte further on
 found-behind : (o : Option ℕ) (m : ℕ) → further 1 o ≡ Some m → (n : ℕ) × (o ≡ Some n) × (m ≡ suc n)

@@ -1,58 +1,149 @@
 -- Code spans as items: if one is there, it is read with its events; if not, data is read from its first backtick.
-use Rattle.mdconstructs_text.proofs.Prelude.{◌≡◌, ℕ, suc, ◌+◌, ◌-◌, ◌^◌, ◌<◌, ◌≤◌, ◌∷◌, ◌++◌, [], List, Bool, true, false, refl, sym, ◌∙◌, ap, subst, Option, Some, None, arith, length, take, drop, option_map, append_assoc, drop-drop, length-drop, flat_map, Event, CodeText, CodeTextSequence, CodeTextData, Next, Retry, Ok, Nok, TextBefore, RawTextBetween, Seat, Nothing, Byte, Given, Text, Local, Choice, code_span, is_backtick, backticks, code_span_at, bytes_of, leaf, part_events, item_events, drop-map}
-use Rattle.mdconstructs_text.proofs.Texts.Steps.{EndsWith, Leads, between_items}
-use Rattle.mdconstructs_text.proofs.Plain.Items.{outer, Tried}
+use Rattle.mdconstructs_text.proofs.Prelude.{at-front, ◌≡◌, ℕ, suc, ◌+◌, ◌-◌, ◌^◌, ◌<◌, ◌≤◌, ◌∷◌, ◌++◌, [], List, Bool, true, false, cond, refl, sym, ◌∙◌, ap, subst, Option, Some, None, arith, length, take, drop, option_map, append_assoc, take_at, drop-drop, drop-take, take-take, length-take, length-drop, flat_map, between, Event, CodeText, CodeTextSequence, CodeTextData, Next, Retry, Ok, Nok, TextBefore, RawTextStart, RawTextSequenceOpen, RawTextSequenceClose, RawTextBetween, RawFlowAfter, Seat, Nothing, Byte, Given, Text, Local, Choice, byte_of, counts, code_span, is_backtick, is_backtick_or_line_feed, backticks, part_length, part_at, code_span_at, bytes_of, leaf, part_events, pieces, item_events, drop-map, held, backtick, spans_code, sizes_are_equal, raw_text_start_rows, raw_text_sequence_open_rows, raw_text_sequence_close_rows}
+use Rattle.std.proofs.lemmas.Bool.{eq-eqb}
+use Rattle.mdconstructs_text.proofs.Texts.Cutting.{cut-enough}
+use Rattle.mdconstructs_text.proofs.Texts.Steps.{EndsWith, Leads, between_items, leads-called, leads-fed, leads-seen, leads-tested, leads-ok, before_class}
+use Rattle.mdconstructs_text.proofs.Plain.Classes.{tick-class, run-ended}
+use Rattle.mdconstructs_text.proofs.Plain.Items.{outer, leads-tried, Decides, Tried, decides-before, puts-back, byte-rows}
+use Rattle.mdconstructs_text.proofs.Plain.Stretches.{is_end, shows, first_byte, past, passed, past-is, past-at, past-stops, passed-counts, shown-fed, class-rows, sees, loops-from, span-read, leaf-read}
 use Rattle.mdconstructs_text.proofs.CodeSpans.Found.{first_run, first-run-is, code-span-found}
-use Rattle.mdconstructs_text.proofs.CodeSpans.Steps.{is_end, shows, past, past-is, past-at}
-use Rattle.mdconstructs_text.proofs.CodeSpans.Calls.{in_code, size_b, enter_at, exit_at}
-use Rattle.mdconstructs_text.proofs.CodeSpans.Cuts.{cut_pieces}
-use Rattle.mdconstructs_text.proofs.CodeSpans.Parts.{count-within, run-positive}
+use Rattle.mdconstructs_text.proofs.CodeSpans.FoundParts.{piece-positive, cut_pieces}
+use Rattle.mdconstructs_text.proofs.CodeSpans.Parts.{in_code, in_run, size_b, with_b, with_c, grows_b, grows_c, more-is, count-within, run-positive, enter_at, exit_at, inner, tries-run, sizes-read}
 use Rattle.mdconstructs_text.proofs.CodeSpans.Walks.{RunsAreShort, Walks, walks}
-use Rattle.mdconstructs_text.proofs.CodeSpans.Ends.{closes, opens, refuses, taken}
-use Rattle.mdconstructs_text.proofs.CodeSpans.Events.{code-span-events}
 
--- what is found behind the opening backtick string
-spans-at : (b : ℕ) (bs : List ℕ) → b ≡ 96 → let text = b ∷ bs in code_span_at text ≡ option_map (code_span (backticks text)) (first_run (backticks text) false (drop (backticks text) text))
-spans-at b bs is = subst (λ c. let text = c ∷ bs in code_span_at text ≡ option_map (code_span (backticks text)) (first_run (backticks text) false (drop (backticks text) text))) (sym is) (code-span-found bs)
+-- lists of events, one after another
+joined : (es : List Event) (a : Event) (l1 p l2 : List Event) (z : Event) → ((es ++ a ∷ l1) ++ p) ++ (l2 ++ z ∷ []) ≡ es ++ a ∷ ((l1 ++ (p ++ l2)) ++ z ∷ [])
+joined es a l1 p l2 z = simp append_assoc
+
+-- a backtick string of at least one begins with a backtick
+begins-run : (b : ℕ) (bs : List ℕ) → 0 < backticks (b ∷ bs) → is_backtick b ≡ true
+begins-run b bs h = elim (is_backtick b) as (λ t. 0 < cond t (1 + backticks bs) 0 → t ≡ true) [
+  | true ↦ λ i. refl
+  | false ↦ λ i. absurd (omega (arith, i))
+] h
 
 module _ (g : Given) (text : Text) where
-  -- the backtick string that closes it is read, and the code span ends
-  ends : RunsAreShort text → (k : ℕ) → 0 < k → (l : List Seat) (q : ℕ) (events : List Event) (local : Local Unit Unit) (cs : List Choice) → drop q text.seats ≡ l → size_b local ≡ k → backticks (bytes_of l) ≡ k
+  -- The events of the first run, of the pieces and of the last run are the code span's
+  code-span-events : (k m bound p : ℕ) (s : Seat) (ss : List Seat) (events : List Event) → drop p text.seats ≡ s ∷ ss → 0 < k → k + m + k ≤ suc (length ss) → length (drop k (s ∷ ss)) ≤ bound
+      → ((events ++ enter_at g text CodeText p ∷ leaf g.bytes CodeTextSequence (take k (s ∷ ss))) ++ flat_map (part_events g.bytes CodeTextData) (cut_pieces bound (take m (drop k (s ∷ ss)))))
+      ++ (leaf g.bytes CodeTextSequence (take k (drop (k + m) (s ∷ ss))) ++ exit_at g text CodeText (p + (k + m + k)) ∷ [])
+      ≡ events ++ item_events g.bytes (code_span k m, take (k + m + k) (s ∷ ss))
+  code-span-events k m bound p s ss events at some short enough =
+      let l = s ∷ ss in
+      let n = k + m + k in
+      let f = part_events g.bytes CodeTextData in
+      let one = leaf g.bytes CodeTextSequence in
+      let first : take k (take n l) ≡ take k l = take-take k n l (omega arith) in
+      let size : k + m - k ≡ m = omega arith in
+      let all : n ≡ k + (m + k) = omega arith in
+      let inside : between k (k + m) (take n l) ≡ take m (drop k l) =
+      ap (λ i. take i (drop k (take n l))) size ∙ ap (λ i. take m (drop k (take i l))) all ∙ ap (take m) (drop-take k (m + k) l) ∙ take-take m (m + k) (drop k l) (omega arith) in
+      let cut = length-take m (drop k l) in
+      let parts : pieces (between k (k + m) (take n l)) ≡ cut_pieces bound (take m (drop k l)) = ap pieces inside
+      ∙ cut-enough (part_at is_backtick_or_line_feed) part_length (piece-positive is_backtick_or_line_feed) (length (take m (drop k l))) bound (take m (drop k l)) (omega arith)
+      (omega (arith, cut, enough)) in
+      let made : (one (take k l) ++ (flat_map f (cut_pieces bound (take m (drop k l))) ++ one (take k (drop (k + m) l))))
+      ≡ one (take k (take n l)) ++ (flat_map f (pieces (between k (k + m) (take n l))) ++ one (drop (k + m) (take n l))) =
+      ap (λ c. one c ++ (flat_map f (cut_pieces bound (take m (drop k l))) ++ one (take k (drop (k + m) l)))) (sym first)
+      ∙ ap (λ c. one (take k (take n l)) ++ (flat_map f c ++ one (take k (drop (k + m) l)))) (sym parts)
+      ∙ ap (λ c. one (take k (take n l)) ++ (flat_map f (pieces (between k (k + m) (take n l))) ++ one c)) (sym (drop-take (k + m) k l)) in
+      joined events (enter_at g text CodeText p) (one (take k l)) (flat_map f (cut_pieces bound (take m (drop k l)))) (one (take k (drop (k + m) l))) (exit_at g text CodeText (p + n))
+      ∙ ap (λ c. events ++ enter_at g text CodeText p ∷ (c ++ exit_at g text CodeText (p + n) ∷ [])) made
+      ∙ ap (λ c. events ++ c) (span-read text g.bytes CodeText (one (take k (take n l)) ++ (flat_map f (pieces (between k (k + m) (take n l))) ++ one (drop (k + m) (take n l)))) n p s ss at (omega (arith, some)) short)
+
+  -- The backtick string that closes a code span is read, and the code span ends behind it
+  closes : RunsAreShort text → (k : ℕ) → 0 < k → (l : List Seat) (q : ℕ) (events : List Event) (local : Local Unit Unit) (cs : List Choice) → drop q text.seats ≡ l → size_b local ≡ k
+      → backticks (bytes_of l) ≡ k
       → (left : List Seat) × (after : Local Unit Unit)
       × Leads g text (shows l in_code q events local) cs (Retry RawTextBetween)
       (shows left [] (q + k) (events ++ (leaf g.bytes CodeTextSequence (take k l) ++ exit_at g text CodeText (q + k) ∷ [])) after) cs Ok
-  ends short k some [] q events local cs at size is = absurd (omega (arith, some, is))
-  ends short k some (s ∷ ss) q events local cs at size is =
+  closes short k some [] q events local cs at size is = absurd (omega (arith, some, is))
+  closes short k some (s ∷ ss) q events local cs at size is =
       let l = s ∷ ss in
+      let q1 = q + k in
+      let place : q1 ≡ q + backticks (bytes_of l) = omega (arith, is) in
+      let l1 = past is_backtick l in
+      let at1 : drop q1 text.seats ≡ l1 = past-at g text is_backtick l q q1 at place in
       let small : backticks (bytes_of l) < 2 ^ 64 = subst (λ c. backticks (bytes_of c) < 2 ^ 64) at (short q) in
-      let closed = closes g text q s ss events local cs at (omega (arith, some, size)) (is ∙ sym size) small in (
-        past is_backtick l,
-        closed.0,
+      let within : k ≤ suc (length ss) = subst (λ n. n ≤ suc (length ss)) is (count-within is_backtick l) in
+      let opened = events ++ enter_at g text CodeTextSequence q ∷ [] in
+      let read = passed is_backtick grows_c l (with_c 0 (counts local)) in
+      let sequence = opened ++ exit_at g text CodeTextSequence q1 ∷ [] in
+      let equal = sizes-read g text l local small ∙ eq-eqb (backticks (bytes_of l)) (size_b local) (is ∙ sym size) in
+      let made : sequence ++ exit_at g text CodeText q1 ∷ [] ≡ events ++ (leaf g.bytes CodeTextSequence (take k l) ++ exit_at g text CodeText q1 ∷ []) =
+      ap (λ c. c ++ exit_at g text CodeText q1 ∷ [])
+      (append_assoc events (enter_at g text CodeTextSequence q ∷ []) (exit_at g text CodeTextSequence q1 ∷ []) ∙ ap (λ c. events ++ c)
+      (leaf-read text g.bytes CodeTextSequence k q s ss at some within))
+      ∙ append_assoc events (leaf g.bytes CodeTextSequence (take k l)) (exit_at g text CodeText q1 ∷ []) in (
+        l1,
+        counts (counts read),
         λ es h.
-            closed.1 es
-            (subst (λ j. EndsWith g text (shows (past is_backtick l) [] (q + j) (events ++ (leaf g.bytes CodeTextSequence (take j l) ++ exit_at g text CodeText (q + j) ∷ [])) closed.0) cs Ok es) (sym is) h),
+            tries-run g text q q1 s ss events local cs at (begins-run s.byte (bytes_of ss) (omega (arith, some, is))) place es
+            (leads-tested g text sizes_are_equal raw_text_sequence_close_rows (shows l1 in_run q1 opened read) (inner g text q events ∷ cs) RawTextSequenceClose es (sees g text l1 q1 at1)
+            (run-ended (before_class g text q1) (first_byte l1) (past-stops is_backtick l)).1 equal refl
+            (leads-ok g text (shows l1 in_code q1 sequence (counts read)) (inner g text q events) cs es
+            (leads-fed g text (held in_code q1 Nothing (is_end l1) sequence (counts read)) cs RawFlowAfter es
+            (subst (λ k. EndsWith g text k cs (Retry RawFlowAfter) es) (sym (shown-fed g text l1 in_code q1 sequence (counts read) at1))
+            (leads-called g text (shows l1 in_code q1 sequence (counts read)) cs RawFlowAfter es
+            (subst (λ c. EndsWith g text (shows l1 [] q1 c (counts (counts read))) cs Ok es) (sym made) h)))))),
       )
 
-  -- how far the walk behind the opening backtick string has come
-  from-walk : RunsAreShort text → (p : ℕ) (ended : Bool) (events : List Event) (local mid : Local Unit Unit) (s : Seat) (ss : List Seat) → drop p text.seats ≡ s ∷ ss → is_backtick s.byte ≡ true
+  -- The backtick string that opens a code span is read, and its size is kept
+  opens : (p : ℕ) (ended : Bool) (events : List Event) (local : Local Unit Unit) (s : Seat) (ss : List Seat) → drop p text.seats ≡ s ∷ ss → s.byte ≡ 96
+      → g.options.constructs.code_text ≡ true → backticks (bytes_of (s ∷ ss)) < 2 ^ 64
+      → let k = backticks (bytes_of (s ∷ ss)) in
+      (after : Local Unit Unit) × (size_b after ≡ k)
+      × Leads g text (between_items p Byte ended events local) [] (Retry TextBefore)
+      (shows (past is_backtick (s ∷ ss)) in_code (p + k) (events ++ enter_at g text CodeText p ∷ leaf g.bytes CodeTextSequence (take k (s ∷ ss))) after) (outer p ended events ∷ []) (Retry RawTextBetween)
+  opens p ended events local s ss at is on short =
+      let l = s ∷ ss in
+      let k = backticks (bytes_of l) in
+      let cs = outer p ended events ∷ [] in
+      let front = at-front text.seats p s ss at in
+      let tick = ap is_backtick is in
+      let some = run-positive s.byte (bytes_of ss) tick in
+      let begun = (events ++ enter_at g text CodeText p ∷ []) ++ enter_at g text CodeTextSequence p ∷ [] in
+      let first = with_b 0 (counts (counts local)) in
+      let read = passed is_backtick grows_b l first in
+      let l1 = past is_backtick l in
+      let counted : size_b read ≡ 0 + k = passed-counts size_b grows_b (λ c h. more-is (size_b c) h) is_backtick l first (omega (arith, short)) in
+      let at1 : drop (p + k) text.seats ≡ l1 = past-at g text is_backtick l p (p + k) at refl in
+      let made : begun ++ exit_at g text CodeTextSequence (p + k) ∷ [] ≡ events ++ enter_at g text CodeText p ∷ leaf g.bytes CodeTextSequence (take k l) =
+      ap (λ c. c ++ exit_at g text CodeTextSequence (p + k) ∷ []) (append_assoc events (enter_at g text CodeText p ∷ []) (enter_at g text CodeTextSequence p ∷ []))
+      ∙ append_assoc events (enter_at g text CodeText p ∷ enter_at g text CodeTextSequence p ∷ []) (exit_at g text CodeTextSequence (p + k) ∷ [])
+      ∙ ap (λ c. events ++ enter_at g text CodeText p ∷ c) (leaf-read text g.bytes CodeTextSequence k p s ss at some (count-within is_backtick l)) in (
+        counts read,
+        (omega (arith, counted)),
+        λ es h.
+            leads-tried g text spans_code RawTextStart p ended events local (byte-rows g text p 96 s front is) on es
+            (leads-seen g text raw_text_start_rows (between_items p Byte ended events (counts local)) cs RawTextStart es (ap byte_of front)
+            (class-rows g text raw_text_start_rows p s backtick (tick-class s.byte tick)) refl
+            (loops-from g text in_run cs RawTextSequenceOpen is_backtick grows_b
+            (λ q ended events local s at tick es.
+            leads-seen g text raw_text_sequence_open_rows (held in_run q Byte ended events local) cs RawTextSequenceOpen es (ap byte_of at)
+            (class-rows g text raw_text_sequence_open_rows q s backtick (tick-class s.byte tick)) refl)
+            s ss p (p + k) ended begun first at tick refl es
+            (leads-seen g text raw_text_sequence_open_rows (shows l1 in_run (p + k) begun read) cs RawTextSequenceOpen es (sees g text l1 (p + k) at1)
+            (run-ended (before_class g text (p + k)) (first_byte l1) (past-stops is_backtick l)).0 refl
+            (subst (λ c. EndsWith g text (shows l1 in_code (p + k) c (counts read)) cs (Retry RawTextBetween) es) (sym made) h)))),
+      )
+
+  -- what the walk behind the opening backtick string has come to
+  from-walk : RunsAreShort text → (p : ℕ) (ended : Bool) (events : List Event) (mid : Local Unit Unit) (s : Seat) (ss : List Seat) → drop p text.seats ≡ s ∷ ss → is_backtick s.byte ≡ true
       → let l = s ∷ ss in let k = backticks (bytes_of l) in let rest = past is_backtick l in
       let cs = outer p ended events ∷ [] in
       let begun = events ++ enter_at g text CodeText p ∷ leaf g.bytes CodeTextSequence (take k l) in
-      Leads g text (between_items p Byte ended events local) [] (Retry TextBefore) (shows rest in_code (p + k) begun mid) cs (Retry RawTextBetween)
-      → (o : Option ℕ) → first_run k false (bytes_of rest) ≡ o → Walks g text k cs (length rest) (p + k) rest begun mid o → Tried g text p ended events local l (option_map (code_span k) o)
-  from-walk short p ended events local mid s ss at tick opened None found walked =
-      let l = s ∷ ss in
-      let k = backticks (bytes_of l) in
-      let made = enter_at g text CodeText p ∷ leaf g.bytes CodeTextSequence (take k l) in
-      let cs = outer p ended events ∷ [] in (
+      (o : Option ℕ) → first_run k false (bytes_of rest) ≡ o → Walks g text k cs (length rest) (p + k) rest begun mid o
+      → Decides g text p ended events l (shows rest in_code (p + k) begun mid) cs (Retry RawTextBetween) (option_map (code_span k) o)
+  from-walk short p ended events mid s ss at tick None found walked =
+      let made = enter_at g text CodeText p ∷ leaf g.bytes CodeTextSequence (take (backticks (bytes_of (s ∷ ss))) (s ∷ ss)) in (
         walked.2,
         λ es h.
-            opened es
-            (walked.3 es
-            (subst (λ c. EndsWith g text (shows [] in_code walked.0 c walked.2) cs Nok es) (sym (append_assoc events made walked.1))
-            (refuses g text p walked.0 ended events (made ++ walked.1) walked.2 es h))),
+            walked.3 es
+            (subst (λ c. EndsWith g text (shows [] in_code walked.0 c walked.2) (outer p ended events ∷ []) Nok es) (sym (append_assoc events made walked.1))
+            (puts-back g text p ended events (shows [] in_code walked.0 (events ++ (made ++ walked.1)) walked.2) (take_at events (made ++ walked.1) (length events) refl) es h)),
       )
-  from-walk short p ended events local mid s ss at tick opened (Some m) found walked =
+  from-walk short p ended events mid s ss at tick (Some m) found walked =
       let l = s ∷ ss in
       let k = backticks (bytes_of l) in
       let rest = past is_backtick l in
@@ -65,28 +156,27 @@ module _ (g : Given) (text : Text) where
       let at1 : drop (p + k) text.seats ≡ rest = past-at g text is_backtick l p (p + k) at refl in
       let at2 : drop (p + k + m) text.seats ≡ drop m rest = sym (drop-drop m (p + k) text.seats) ∙ ap (drop m) at1 in
       let last : backticks (bytes_of (drop m rest)) ≡ k = ap backticks (sym (drop-map (λ (s : Seat). s.byte) m rest)) ∙ first-run-is k false (bytes_of rest) m found in
-      let closed = ends short k some (drop m rest) (p + k + m) (begun ++ pieces_at rest) walked.0 cs at2 walked.1 last in
+      let closed = closes short k some (drop m rest) (p + k + m) (begun ++ pieces_at rest) walked.0 cs at2 walked.1 last in
       let fits : k ≤ length (drop m rest) = subst (λ n. n ≤ length (drop m rest)) last (count-within is_backtick (drop m rest)) in
       let cut : length (drop m rest) ≡ length rest - m = length-drop m rest in
       let left : length rest ≡ suc (length ss) - k = ap length behind ∙ length-drop k l in
       let same_left : length (drop k l) ≡ bound = ap length (sym behind) in
       let place : p + k + m + k ≡ p + (k + m + k) = omega arith in
-      let made : (begun ++ pieces_at rest) ++ (leaf g.bytes CodeTextSequence (take k (drop m rest)) ++ exit_at g text CodeText (p + k + m + k) ∷ [])
-      ≡ events ++ item_events g.bytes (code_span k m, take (k + m + k) l) =
+      let whole = (begun ++ pieces_at rest) ++ (leaf g.bytes CodeTextSequence (take k (drop m rest)) ++ exit_at g text CodeText (p + k + m + k) ∷ []) in
+      let made : whole ≡ events ++ item_events g.bytes (code_span k m, take (k + m + k) l) =
       ap (λ r. (begun ++ pieces_at r) ++ (leaf g.bytes CodeTextSequence (take k (drop m r)) ++ exit_at g text CodeText (p + k + m + k) ∷ [])) behind
       ∙ ap (λ r. (begun ++ pieces_at (drop k l)) ++ (leaf g.bytes CodeTextSequence (take k r) ++ exit_at g text CodeText (p + k + m + k) ∷ [])) (drop-drop m k l)
       ∙ ap (λ n. (begun ++ pieces_at (drop k l)) ++ (leaf g.bytes CodeTextSequence (take k (drop (k + m) l)) ++ exit_at g text CodeText n ∷ [])) place
-      ∙ code-span-events g text k m bound p s ss events at some (omega (arith, some, fits, cut, left)) (omega (arith, same_left)) in
-      let whole = (begun ++ pieces_at rest) ++ (leaf g.bytes CodeTextSequence (take k (drop m rest)) ++ exit_at g text CodeText (p + k + m + k) ∷ []) in (
+      ∙ code-span-events k m bound p s ss events at some (omega (arith, some, fits, cut, left)) (omega (arith, same_left)) in (
         is_end closed.0,
         closed.1,
         λ es h.
-            opened es
-            (walked.2 es
+            walked.2 es
             (closed.2 es
-            (taken g text p (p + k + m + k) ended closed.0 whole events closed.1 es
+            (leads-ok g text (shows closed.0 [] (p + k + m + k) whole closed.1) (outer p ended events) [] es
             (subst (λ c. EndsWith g text (between_items (p + k + m + k) Nothing (is_end closed.0) c closed.1) [] (Next TextBefore) es) (sym made)
-            (subst (λ n. EndsWith g text (between_items n Nothing (is_end closed.0) (events ++ item_events g.bytes (code_span k m, take (k + m + k) l)) closed.1) [] (Next TextBefore) es) (sym place) h))))),
+            (subst (λ n. EndsWith g text (between_items n Nothing (is_end closed.0) (events ++ item_events g.bytes (code_span k m, take (k + m + k) l)) closed.1) [] (Next TextBefore) es)
+            (sym place) h)))),
       )
 
   -- Code spans are tried at backticks
@@ -98,18 +188,13 @@ module _ (g : Given) (text : Text) where
       let rest = past is_backtick l in
       let cs = outer p ended events ∷ [] in
       let tick = ap is_backtick is in
-      let small : k < 2 ^ 64 = subst (λ c. backticks (bytes_of c) < 2 ^ 64) at (short p) in
-      let opened = opens g text p ended events local s ss at tick on small in
+      let opened = opens p ended events local s ss at is on (subst (λ c. backticks (bytes_of c) < 2 ^ 64) at (short p)) in
       let begun = events ++ enter_at g text CodeText p ∷ leaf g.bytes CodeTextSequence (take k l) in
       let at1 : drop (p + k) text.seats ≡ rest = past-at g text is_backtick l p (p + k) at refl in
       let walked = walks g text k cs short (run-positive s.byte (bytes_of ss) tick) (length rest) (p + k) rest begun opened.0 opened.1 (omega arith) at1 in
-      let same : first_run k false (bytes_of rest) ≡ first_run k false (drop k (bytes_of l)) = ap (first_run k false) (ap bytes_of (past-is is_backtick l) ∙ sym (drop-map (λ (s : Seat). s.byte) k l)) in
-      subst (Tried g text p ended events local l) (ap (option_map (code_span k)) same ∙ sym (spans-at s.byte (bytes_of ss) is))
-      (from-walk short p ended events local opened.0 s ss at tick opened.2 (first_run k false (bytes_of rest)) refl walked)
-
--- if the bytes of the text can be counted, so can its backtick strings
-pub runs-are-short : (text : Text) → length text.seats < 2 ^ 64 → RunsAreShort text
-runs-are-short text h q =
-    let some : backticks (bytes_of (drop q text.seats)) ≤ length (drop q text.seats) = count-within is_backtick (drop q text.seats) in
-    let less : length (drop q text.seats) ≡ length text.seats - q = length-drop q text.seats in
-    omega (arith, some, less, h)
+      let o = first_run k false (bytes_of rest) in
+      let same : o ≡ first_run k false (drop k (bytes_of l)) = ap (first_run k false) (ap bytes_of (past-is is_backtick l) ∙ sym (drop-map (λ (s : Seat). s.byte) k l)) in
+      subst (Tried g text p ended events local l) (ap (option_map (code_span k)) same ∙ sym (code-span-found s.byte (bytes_of ss) is))
+      (decides-before g text p ended events l (between_items p Byte ended events local) (shows rest in_code (p + k) begun opened.0) [] cs (Retry TextBefore) (Retry RawTextBetween)
+      (option_map (code_span k) o) opened.2
+      (from-walk short p ended events opened.0 s ss at tick o refl walked))

@@ -1,33 +1,83 @@
 -- The pieces of a code span, as the machine of texts reads them: line endings, data, and runs that do not close it.
-use Rattle.mdconstructs_text.proofs.Prelude.{at-front, ◌≡◌, ℕ, suc, ◌+◌, ◌-◌, ◌^◌, ◌<◌, ◌≤◌, ◌∷◌, ◌++◌, [], List, Bool, true, false, cond, not, ◌==◌, ◌||◌, refl, sym, ◌∙◌, ap, subst, arith, max, length, take, drop, append_assoc, take_at, drop-drop, length-drop, length-map, prefix_len-le-length, prefix_len, position_or_len, Event, CodeTextSequence, CodeTextData, Next, Retry, Nok, RawTextBetween, RawTextData, RawTextSequenceClose, RawFlowBeforeContentChunk, RawFlowContentChunk, Seat, Nothing, Byte, Given, Text, Local, Choice, counts, Part, line_ending, plain_run, is_line_feed, is_backtick, is_backtick_or_line_feed, backticks, part_length, plain_length, bytes_of, leaf, part_events, held, drop-map, line-ending-read}
-use Rattle.mdconstructs_text.proofs.Texts.Steps.{EndsWith, Leads, leads-nok}
-use Rattle.mdconstructs_text.proofs.CodeSpans.Steps.{shows, past, passed, past-is, past-at, past-stops, passed-keeps, passed-counts, goes-next, loops}
-use Rattle.mdconstructs_text.proofs.Plain.Stretches.{leaf-read}
-use Rattle.mdconstructs_text.proofs.CodeSpans.Calls.{in_code, in_run, in_code_data, size_b, size_c, with_c, grows_c, more-is, is_code_byte, enter_at, exit_at, inner, close-reads, chunk-reads, data-reads, close-fails, chunk-ends, data-ends, between-line-feed, between-data, between-run, chunk-begins}
-use Rattle.mdconstructs_text.proofs.CodeSpans.Cuts.{piece_of}
+use Rattle.mdconstructs_text.proofs.Prelude.{at-front, ◌≡◌, ℕ, suc, ◌+◌, ◌-◌, ◌^◌, ◌<◌, ◌≤◌, ◌∷◌, ◌++◌, [], List, Bool, true, false, cond, not, ◌==◌, ◌||◌, refl, sym, ◌∙◌, ap, subst, Option, Some, None, arith, nat_tests, not-true, not-false, max, length, take, drop, slice_get, append_assoc, take_at, drop-drop, drop-map, drop-next, length-drop, length-map, prefix_len-le-length, prefix_len, position_or_len, Event, Enter, Exit, CodeText, CodeTextSequence, CodeTextData, LineEnding, Next, Retry, RawTextBetween, RawTextData, RawTextSequenceClose, RawFlowAfter, RawFlowBeforeContentChunk, RawFlowContentChunk, Seat, Nothing, Byte, Attempt, Given, Text, Local, Choice, byte_of, point_or, end_or, end_place, class_of, counts, passes, Part, line_ending, plain_run, is_line_feed, is_backtick, is_backtick_or_line_feed, backticks, part_length, plain_length, bytes_of, row, enter, exit, consume, event, leaf, part_events, held, TextByte, backtick, line_feed, text_byte, more_than, sizes_are_equal, raw_text_between_rows, raw_text_data_rows, raw_text_sequence_close_rows, raw_flow_content_chunk_rows, line-ending-read}
+use Rattle.markdown_base.specs.declared.event.Name.{Name as EventName}
+use Rattle.mdconstructs_text.proofs.Texts.Steps.{EndsWith, Leads, leads-called, leads-seen, leads-tested, leads-nok, before_class}
+use Rattle.mdconstructs_text.proofs.Plain.Classes.{by-class, tick-class, run-ended}
+use Rattle.mdconstructs_text.proofs.Plain.Stretches.{shows, first_byte, past, passed, past-is, past-at, past-stops, passed-keeps, passed-counts, goes-next, class-rows, sees, loops, leaf-read}
+use Rattle.mdconstructs_text.proofs.CodeSpans.FoundParts.{piece_of}
 
--- how long data is, and what begins with a backtick string
+-- the spans that are open in a code span
+abbrev pub in_code : List EventName
+in_code = CodeText ∷ []
+
+-- a run is read
+abbrev pub in_run : List EventName
+in_run = CodeText ∷ CodeTextSequence ∷ []
+
+-- data is read
+abbrev in_code_data : List EventName
+in_code_data = CodeText ∷ CodeTextData ∷ []
+
+-- the sizes of the run that opens it, and of the one that is read
+abbrev pub size_b : Local Unit Unit → ℕ
+size_b local = local.tokenize_state.size_b
+
+abbrev size_c : Local Unit Unit → ℕ
+size_c local = local.tokenize_state.size_c
+
+-- a size is written
+abbrev pub with_b : ℕ → Local Unit Unit → Local Unit Unit
+with_b n local = record local { tokenize_state = record local.tokenize_state { size_b = n } }
+
+abbrev pub with_c : ℕ → Local Unit Unit → Local Unit Unit
+with_c n local = record local { tokenize_state = record local.tokenize_state { size_c = n } }
+
+-- in a call that counts a backtick
+abbrev pub grows_b : Local Unit Unit → Local Unit Unit
+grows_b local = with_b (more_than (size_b local)) (counts local)
+
+abbrev pub grows_c : Local Unit Unit → Local Unit Unit
+grows_c local = with_c (more_than (size_c local)) (counts local)
+
+-- a size grows by one, as long as there is a greater number
+pub more-is : (n : ℕ) → n + 1 < 2 ^ 64 → more_than n ≡ n + 1
+more-is n h = omega (arith, h)
+
+-- what is data in a code span, and how long it is
+abbrev is_code_byte : ℕ → Bool
+is_code_byte b = not (is_backtick_or_line_feed b)
+
 abbrev data_length : List ℕ → ℕ
 data_length bytes = position_or_len is_backtick_or_line_feed bytes
 
--- data and runs that are there have at least a byte
-data-positive : (b : ℕ) (bs : List ℕ) → is_backtick_or_line_feed b ≡ false → 0 < data_length (b ∷ bs)
-data-positive b bs e = let more : data_length (b ∷ bs) ≡ 1 + data_length bs = ap (λ t. cond (not t) (1 + data_length bs) 0) e in omega (arith, more)
+-- data begins, and is read
+abbrev AtData : Option TextByte → TextByte → Type 0
+AtData b w = (raw_text_between_rows b (Some w) ≡ row (enter CodeTextData ∷ []) (Retry RawTextData)) × (raw_text_data_rows b (Some w) ≡ row (consume ∷ []) (Next RawTextData))
 
+-- at each byte of data
+at-data : (before : Option TextByte) (b : ℕ) → is_backtick_or_line_feed b ≡ false → AtData before (text_byte b)
+at-data before b h =
+    by-class (AtData before) b
+    (λ e. absurd (grind (arith, nat_tests))) (λ e. absurd (grind (arith, nat_tests))) (λ e. (refl, refl)) (λ e. (refl, refl)) (λ e. (refl, refl)) (λ e. (refl, refl)) (λ e. (refl, refl)) (λ e f. (refl, refl)) (λ e. (refl, refl))
+    (λ o e. (refl, refl)) (λ o e. (refl, refl)) (λ o n e. (refl, refl))
+
+-- line endings are of the class of LF
+line-feed-class : (b : ℕ) → is_line_feed b ≡ true → text_byte b ≡ line_feed
+line-feed-class b h = let e : b ≡ 10 = grind (arith, nat_tests) in ap text_byte e
+
+-- data ends at a byte that is none, and at the end
+data-ended : (before : Option TextByte) (o : Option ℕ) → passes (λ b. not (is_backtick_or_line_feed b)) o ≡ false
+    → raw_text_data_rows before (class_of text_byte o) ≡ row (exit CodeTextData ∷ []) (Retry RawTextBetween)
+data-ended before None h = refl
+data-ended before (Some b) h =
+    elim (b == 10) as (λ t. (t || (b == 96)) ≡ true → (b == 10) ≡ t → raw_text_data_rows before (Some (text_byte b)) ≡ row (exit CodeTextData ∷ []) (Retry RawTextBetween)) [
+      | true ↦ λ i e. ap (λ w. raw_text_data_rows before (Some w)) (line-feed-class b e)
+      | false ↦ λ i e. ap (λ w. raw_text_data_rows before (Some w)) (tick-class b i)
+    ] (not-false _ h) refl
+
+-- runs that are there have at least a byte
 pub run-positive : (b : ℕ) (bs : List ℕ) → is_backtick b ≡ true → 0 < backticks (b ∷ bs)
 run-positive b bs e = let more : backticks (b ∷ bs) ≡ 1 + backticks bs = ap (λ t. cond t (1 + backticks bs) 0) e in omega (arith, more)
-
--- what is plain: data, or a backtick string with the data behind it
-data-length : (b : ℕ) (bs : List ℕ) → is_backtick b ≡ false → is_backtick_or_line_feed b ≡ false → plain_length is_backtick_or_line_feed (b ∷ bs) ≡ data_length (b ∷ bs)
-data-length b bs tickless e =
-    let none : backticks (b ∷ bs) ≡ 0 = ap (λ t. cond t (1 + backticks bs) 0) tickless in
-    ap (λ r. max 1 r + data_length (drop (max 1 r) (b ∷ bs))) none ∙ sym (ap (λ t. cond (not t) (1 + data_length bs) 0) e)
-
-chunk-length : (b : ℕ) (bs : List ℕ) → is_backtick b ≡ true → plain_length is_backtick_or_line_feed (b ∷ bs) ≡ backticks (b ∷ bs) + data_length (drop (backticks (b ∷ bs)) (b ∷ bs))
-chunk-length b bs e =
-    let some : 0 < backticks (b ∷ bs) = run-positive b bs e in
-    let same : max 1 (backticks (b ∷ bs)) ≡ backticks (b ∷ bs) = omega (arith, some) in
-    ap (λ r. r + data_length (drop r (b ∷ bs))) same
 
 -- what begins a list is no longer than it
 pub count-within : (p : ℕ → Bool) (l : List Seat) → prefix_len p (bytes_of l) ≤ length l
@@ -37,14 +87,50 @@ count-within p l =
     omega (arith, some, same)
 
 module _ (g : Given) (text : Text) where
+  -- an event at the start of the byte at a position, or at the end of the byte before it
+  abbrev pub enter_at : EventName → ℕ → Event
+  enter_at name q = event g.bytes Enter name (point_or text.end (slice_get text.seats q))
+
+  abbrev pub exit_at : EventName → ℕ → Event
+  exit_at name q = event g.bytes Exit name (end_place text q)
+
+  -- the choice that is made at a run
+  abbrev pub inner : ℕ → List Event → Choice
+  inner q events = record {
+    kind = Attempt;
+    ok = Next RawFlowAfter;
+    nok = Next RawFlowBeforeContentChunk;
+    saved = Some (record { position = q; ended = false; events = length events; stack = in_code });
+  }
+
+  -- a run is tried, and read to its end
+  pub tries-run : (q q' : ℕ) (s : Seat) (ss : List Seat) (events : List Event) (local : Local Unit Unit) (cs : List Choice) → drop q text.seats ≡ s ∷ ss → is_backtick s.byte ≡ true
+      → q' ≡ q + backticks (bytes_of (s ∷ ss))
+      → Leads g text (held in_code q Byte false events local) cs (Retry RawTextBetween)
+      (shows (past is_backtick (s ∷ ss)) in_run q' (events ++ enter_at CodeTextSequence q ∷ []) (passed is_backtick grows_c (s ∷ ss) (with_c 0 (counts local)))) (inner q events ∷ cs)
+      (Retry RawTextSequenceClose)
+  tries-run q q' s ss events local cs at tick is es h =
+      let tried = inner q events ∷ cs in
+      leads-seen g text raw_text_between_rows (held in_code q Byte false events local) cs RawTextBetween es (ap byte_of (at-front text.seats q s ss at))
+      (class-rows g text raw_text_between_rows q s backtick (tick-class s.byte tick)) refl
+      (loops g text in_run tried RawTextSequenceClose is_backtick grows_c
+      (λ q ended events local s at tick es.
+      leads-seen g text raw_text_sequence_close_rows (held in_run q Byte ended events local) tried RawTextSequenceClose es (ap byte_of at)
+      (class-rows g text raw_text_sequence_close_rows q s backtick (tick-class s.byte tick)) refl)
+      (s ∷ ss) q q' (events ++ enter_at CodeTextSequence q ∷ []) (with_c 0 (counts local)) at is es h)
+
   -- data is read to its end
-  data-read : (l : List Seat) (q : ℕ) (events : List Event) (local : Local Unit Unit) (cs : List Choice) → drop q text.seats ≡ l
+  data-read : (l : List Seat) (q q' : ℕ) (events : List Event) (local : Local Unit Unit) (cs : List Choice) → drop q text.seats ≡ l → q' ≡ q + data_length (bytes_of l)
       → Leads g text (shows l in_code_data q events local) cs (Retry RawTextData)
-      (shows (past is_code_byte l) in_code (q + data_length (bytes_of l)) (events ++ exit_at g text CodeTextData (q + data_length (bytes_of l)) ∷ []) (counts (passed is_code_byte counts l local))) cs (Retry RawTextBetween)
-  data-read l q events local cs at es h =
-      let q' = q + data_length (bytes_of l) in
-      loops g text in_code_data cs RawTextData is_code_byte counts (data-reads g text cs) l q q' events local at refl es
-      (data-ends g text (past is_code_byte l) q' events (passed is_code_byte counts l local) cs (past-at g text is_code_byte l q q' at refl) (past-stops is_code_byte l) es h)
+      (shows (past is_code_byte l) in_code q' (events ++ exit_at CodeTextData q' ∷ []) (counts (passed is_code_byte counts l local))) cs (Retry RawTextBetween)
+  data-read l q q' events local cs at is es h =
+      let rest = past is_code_byte l in
+      loops g text in_code_data cs RawTextData is_code_byte counts
+      (λ q ended events local s at inside es.
+      leads-seen g text raw_text_data_rows (held in_code_data q Byte ended events local) cs RawTextData es (ap byte_of at) (at-data (before_class g text q) s.byte (not-true _ inside)).1 refl)
+      l q q' events local at is es
+      (leads-seen g text raw_text_data_rows (shows rest in_code_data q' events (passed is_code_byte counts l local)) cs RawTextData es (sees g text rest q' (past-at g text is_code_byte l q q' at is))
+      (data-ended (before_class g text q') (first_byte rest) (past-stops is_code_byte l)) refl h)
 
   -- a piece is read, with its events
   abbrev pub ReadsAs : (q : ℕ) (s : Seat) (ss : List Seat) (events : List Event) (local : Local Unit Unit) (cs : List Choice) → Part → Type 0
@@ -53,47 +139,11 @@ module _ (g : Given) (text : Text) where
       × Leads g text (held in_code q Byte false events local) cs (Retry RawTextBetween)
       (shows (drop (part_length a) (s ∷ ss)) in_code (q + part_length a) (events ++ part_events g.bytes CodeTextData (a, take (part_length a) (s ∷ ss))) after) cs (Retry RawTextBetween)
 
-  -- a line ending
-  reads-line-feed : (q : ℕ) (s : Seat) (ss : List Seat) (events : List Event) (local : Local Unit Unit) (cs : List Choice) → drop q text.seats ≡ s ∷ ss → is_line_feed s.byte ≡ true
-      → ReadsAs q s ss events local cs line_ending
-  reads-line-feed q s ss events local cs at is =
-      let same = line-ending-read g text events q s (at-front text.seats q s ss at) in (
-        counts local,
-        refl,
-        λ es h.
-            between-line-feed g text q s ss events local cs at is es
-            (subst (λ l. EndsWith g text (shows ss in_code (q + 1) l (counts local)) cs (Retry RawTextBetween) es) (sym same) h),
-      )
-
   -- the events of data, as they are made
   plain-events : (n q : ℕ) (s : Seat) (ss : List Seat) (events : List Event) → drop q text.seats ≡ s ∷ ss → 0 < n → n ≤ suc (length ss)
-      → (events ++ enter_at g text CodeTextData q ∷ []) ++ exit_at g text CodeTextData (q + n) ∷ [] ≡ events ++ leaf g.bytes CodeTextData (take n (s ∷ ss))
+      → (events ++ enter_at CodeTextData q ∷ []) ++ exit_at CodeTextData (q + n) ∷ [] ≡ events ++ leaf g.bytes CodeTextData (take n (s ∷ ss))
   plain-events n q s ss events at some h =
-      append_assoc events (enter_at g text CodeTextData q ∷ []) (exit_at g text CodeTextData (q + n) ∷ []) ∙ ap (λ l. events ++ l) (leaf-read text g.bytes CodeTextData n q s ss at some h)
-
-  -- data that begins with no backtick string
-  reads-data : (q : ℕ) (s : Seat) (ss : List Seat) (events : List Event) (local : Local Unit Unit) (cs : List Choice) → drop q text.seats ≡ s ∷ ss → is_backtick_or_line_feed s.byte ≡ false
-      → ReadsAs q s ss events local cs (plain_run (data_length (bytes_of (s ∷ ss))))
-  reads-data q s ss events local cs at inside =
-      let n = data_length (bytes_of (s ∷ ss)) in
-      let begun = events ++ enter_at g text CodeTextData q ∷ [] in
-      let after = counts (passed is_code_byte counts (s ∷ ss) (counts local)) in
-      let same = plain-events n q s ss events at (data-positive s.byte (bytes_of ss) inside) (count-within is_code_byte (s ∷ ss)) in (
-        after,
-        passed-keeps size_b counts (λ l. refl) is_code_byte (s ∷ ss) (counts local),
-        λ es h.
-            between-data g text q s events local cs (at-front text.seats q s ss at) inside es
-            (data-read (s ∷ ss) q begun (counts local) cs at es
-            (subst (λ l. EndsWith g text (shows l in_code (q + n) (begun ++ exit_at g text CodeTextData (q + n) ∷ []) after) cs (Retry RawTextBetween) es) (sym (past-is is_code_byte (s ∷ ss)))
-            (subst (λ l. EndsWith g text (shows (drop n (s ∷ ss)) in_code (q + n) l after) cs (Retry RawTextBetween) es) (sym same) h))),
-      )
-
-  -- what was tried at a backtick string is put back
-  put-back : (l : List Seat) (q q' : ℕ) (events : List Event) (e : Event) (local : Local Unit Unit) (cs : List Choice)
-      → Leads g text (shows l in_run q' (events ++ e ∷ []) local) (inner g text q events ∷ cs) Nok (held in_code q Nothing false events local) cs (Next RawFlowBeforeContentChunk)
-  put-back l q q' events e local cs es h =
-      leads-nok g text (shows l in_run q' (events ++ e ∷ []) local) (inner g text q events) cs es
-      (subst (λ l. EndsWith g text (held in_code q Nothing false l local) cs (Next RawFlowBeforeContentChunk) es) (sym (take_at events (e ∷ []) (length events) refl)) h)
+      append_assoc events (enter_at CodeTextData q ∷ []) (exit_at CodeTextData (q + n) ∷ []) ∙ ap (λ l. events ++ l) (leaf-read text g.bytes CodeTextData n q s ss at some h)
 
   -- the size of a backtick string that was read, compared with the size of the one that opened the code span
   pub sizes-read : (l : List Seat) (local : Local Unit Unit) → backticks (bytes_of l) < 2 ^ 64
@@ -116,10 +166,8 @@ module _ (g : Given) (text : Text) where
       let d = data_length (bytes_of l1) in
       let q1 = q + j in
       let at1 : drop q1 text.seats ≡ l1 = past-at g text is_backtick l q q1 at refl in
-      let front = at-front text.seats q s ss at in
-      let tried = inner g text q events ∷ cs in
-      let opened = events ++ enter_at g text CodeTextSequence q ∷ [] in
-      let begun = events ++ enter_at g text CodeTextData q ∷ [] in
+      let ended = run-ended (before_class g text q1) (first_byte l1) (past-stops is_backtick l) in
+      let begun = events ++ enter_at CodeTextData q ∷ [] in
       let read = passed is_backtick grows_c l (with_c 0 (counts local)) in
       let again = passed is_backtick counts l (counts (counts read)) in
       let after = counts (passed is_code_byte counts l1 (counts again)) in
@@ -127,7 +175,7 @@ module _ (g : Given) (text : Text) where
       passed-keeps size_b counts (λ k. refl) is_code_byte l1 (counts again) ∙ passed-keeps size_b counts (λ k. refl) is_backtick l (counts (counts read))
       ∙ passed-keeps size_b grows_c (λ k. refl) is_backtick l (with_c 0 (counts local)) in
       let behind : past is_code_byte l1 ≡ drop (j + d) l = past-is is_code_byte l1 ∙ ap (drop d) (past-is is_backtick l) ∙ drop-drop d j l in
-      let place : q + j + d ≡ q + (j + d) = omega arith in
+      let place : q + (j + d) ≡ q + j + d = omega arith in
       let some : 0 < j = run-positive s.byte (bytes_of ss) tick in
       let first : j ≤ suc (length ss) = count-within is_backtick l in
       let rest : d ≤ length l1 = count-within is_code_byte l1 in
@@ -136,35 +184,69 @@ module _ (g : Given) (text : Text) where
         after,
         kept,
         λ es h.
-            between-run g text q s events local cs front tick es
-            (loops g text in_run tried RawTextSequenceClose is_backtick grows_c (close-reads g text tried) l q q1 opened (with_c 0 (counts local)) at refl es
-            (close-fails g text l1 q1 opened read tried at1 (past-stops is_backtick l) (sizes-read l local short ∙ other) es
-            (put-back l1 q q1 events (enter_at g text CodeTextSequence q) (counts read) cs es
+            tries-run q q1 s ss events local cs at tick refl es
+            (leads-tested g text sizes_are_equal raw_text_sequence_close_rows (shows l1 in_run q1 (events ++ enter_at CodeTextSequence q ∷ []) read) (inner q events ∷ cs) RawTextSequenceClose es
+            (sees g text l1 q1 at1)
+            ended.1 (sizes-read l local short ∙ other) refl
+            (leads-nok g text (shows l1 in_run q1 (events ++ enter_at CodeTextSequence q ∷ []) (counts read)) (inner q events) cs es
+            (subst (λ l. EndsWith g text (held in_code q Nothing false l (counts read)) cs (Next RawFlowBeforeContentChunk) es)
+            (sym (take_at events (enter_at CodeTextSequence q ∷ []) (length events) refl))
             (goes-next g text l in_code q events (counts read) cs RawFlowBeforeContentChunk at es
-            (chunk-begins g text q s events (counts read) cs front tick es
-            (loops g text in_code_data cs RawFlowContentChunk is_backtick counts (chunk-reads g text cs) l q q1 begun (counts (counts read)) at refl es
-            (chunk-ends g text l1 q1 begun again cs at1 (past-stops is_backtick l) es
-            (data-read l1 q1 begun (counts again) cs at1 es
-            (subst (λ n. EndsWith g text (shows (past is_code_byte l1) in_code n (begun ++ exit_at g text CodeTextData n ∷ []) after) cs (Retry RawTextBetween) es) (sym place)
-            (subst (λ k. EndsWith g text (shows k in_code (q + (j + d)) (begun ++ exit_at g text CodeTextData (q + (j + d)) ∷ []) after) cs (Retry RawTextBetween) es) (sym behind)
-            (subst (λ k. EndsWith g text (shows (drop (j + d) l) in_code (q + (j + d)) k after) cs (Retry RawTextBetween) es) (sym same) h))))))))))),
+            (leads-called g text (held in_code q Byte false events (counts read)) cs RawFlowBeforeContentChunk es
+            (loops g text in_code_data cs RawFlowContentChunk is_backtick counts
+            (λ q ended events local s at tick es.
+            leads-seen g text raw_flow_content_chunk_rows (held in_code_data q Byte ended events local) cs RawFlowContentChunk es (ap byte_of at)
+            (class-rows g text raw_flow_content_chunk_rows q s backtick (tick-class s.byte tick)) refl)
+            l q q1 begun (counts (counts read)) at refl es
+            (leads-seen g text raw_flow_content_chunk_rows (shows l1 in_code_data q1 begun again) cs RawFlowContentChunk es (sees g text l1 q1 at1) ended.4 refl
+            (data-read l1 q1 (q + (j + d)) begun (counts again) cs at1 place es
+            (subst (λ k. EndsWith g text (shows k in_code (q + (j + d)) (begun ++ exit_at CodeTextData (q + (j + d)) ∷ []) after) cs (Retry RawTextBetween) es) (sym behind)
+            (subst (λ k. EndsWith g text (shows (drop (j + d) l) in_code (q + (j + d)) k after) cs (Retry RawTextBetween) es) (sym same) h)))))))))),
       )
 
   -- Each piece is read with its events, if it begins with no backtick string that closes the code span
   pub reads-piece : (q : ℕ) (s : Seat) (ss : List Seat) (events : List Event) (local : Local Unit Unit) (cs : List Choice) → drop q text.seats ≡ s ∷ ss
       → (backticks (bytes_of (s ∷ ss)) == size_b local) ≡ false → backticks (bytes_of (s ∷ ss)) < 2 ^ 64 → ReadsAs q s ss events local cs (piece_of (s ∷ ss))
   reads-piece q s ss events local cs at other short =
-      let bytes = bytes_of (s ∷ ss) in
+      let l = s ∷ ss in
+      let bytes = bytes_of l in
+      let front = at-front text.seats q s ss at in
       elim (is_line_feed s.byte) as (λ t. is_line_feed s.byte ≡ t → ReadsAs q s ss events local cs (cond t line_ending (plain_run (plain_length is_backtick_or_line_feed bytes)))) [
-        | true ↦ λ e. reads-line-feed q s ss events local cs at e
+        | true ↦ λ e.
+            let made = (events ++ enter_at LineEnding q ∷ []) ++ event g.bytes Exit LineEnding (end_or text.end (slice_get text.seats q)) ∷ [] in (
+              counts local,
+              refl,
+              λ es h.
+                  leads-seen g text raw_text_between_rows (held in_code q Byte false events local) cs RawTextBetween es (ap byte_of front)
+                  (class-rows g text raw_text_between_rows q s line_feed (line-feed-class s.byte e)) refl
+                  (goes-next g text ss in_code (q + 1) made (counts local) cs RawTextBetween (drop-next text.seats q s ss at) es
+                  (subst (λ l. EndsWith g text (shows ss in_code (q + 1) l (counts local)) cs (Retry RawTextBetween) es) (sym (line-ending-read g text events q s front)) h)),
+            )
         | false ↦ λ e.
             elim (is_backtick s.byte) as (λ t. is_backtick s.byte ≡ t → ReadsAs q s ss events local cs (plain_run (plain_length is_backtick_or_line_feed bytes))) [
               | true ↦ λ tick.
-                  let rest : drop (backticks bytes) bytes ≡ bytes_of (past is_backtick (s ∷ ss)) = drop-map (λ (s : Seat). s.byte) (backticks bytes) (s ∷ ss) ∙ ap bytes_of (sym (past-is is_backtick (s ∷ ss))) in
-                  let size = chunk-length s.byte (bytes_of ss) tick ∙ ap (λ k. backticks bytes + data_length k) rest in
+                  let some = run-positive s.byte (bytes_of ss) tick in
+                  let first : max 1 (backticks bytes) ≡ backticks bytes = omega (arith, some) in
+                  let rest : drop (backticks bytes) bytes ≡ bytes_of (past is_backtick l) = drop-map (λ (s : Seat). s.byte) (backticks bytes) l ∙ ap bytes_of (sym (past-is is_backtick l)) in
+                  let size = ap (λ r. r + data_length (drop r bytes)) first ∙ ap (λ k. backticks bytes + data_length k) rest in
                   subst (λ n. ReadsAs q s ss events local cs (plain_run n)) (sym size) (reads-chunk q s ss events local cs at tick other short)
               | false ↦ λ tickless.
                   let inside : is_backtick_or_line_feed s.byte ≡ false = ap (λ t. t || is_backtick s.byte) e ∙ tickless in
-                  subst (λ n. ReadsAs q s ss events local cs (plain_run n)) (sym (data-length s.byte (bytes_of ss) tickless inside)) (reads-data q s ss events local cs at inside)
+                  let n = data_length bytes in
+                  let begun = events ++ enter_at CodeTextData q ∷ [] in
+                  let after = counts (passed is_code_byte counts l (counts local)) in
+                  let none : backticks bytes ≡ 0 = ap (λ t. cond t (1 + backticks (bytes_of ss)) 0) tickless in
+                  let some : n ≡ 1 + data_length (bytes_of ss) = ap (λ t. cond (not t) (1 + data_length (bytes_of ss)) 0) inside in
+                  let size : plain_length is_backtick_or_line_feed bytes ≡ n = ap (λ r. max 1 r + data_length (drop (max 1 r) bytes)) none ∙ sym some in
+                  let same = plain-events n q s ss events at (omega (arith, some)) (count-within is_code_byte l) in
+                  subst (λ n. ReadsAs q s ss events local cs (plain_run n)) (sym size) (
+                    after,
+                    passed-keeps size_b counts (λ l. refl) is_code_byte l (counts local),
+                    λ es h.
+                        leads-seen g text raw_text_between_rows (held in_code q Byte false events local) cs RawTextBetween es (ap byte_of front) (at-data (before_class g text q) s.byte inside).0 refl
+                        (data-read l q (q + n) begun (counts local) cs at refl es
+                        (subst (λ l. EndsWith g text (shows l in_code (q + n) (begun ++ exit_at CodeTextData (q + n) ∷ []) after) cs (Retry RawTextBetween) es) (sym (past-is is_code_byte l))
+                        (subst (λ k. EndsWith g text (shows (drop n l) in_code (q + n) k after) cs (Retry RawTextBetween) es) (sym same) h))),
+                  )
             ] refl
       ] refl

@@ -1,7 +1,7 @@
 -- The virtual bytes of a text can be counted, and so can the runs of backticks among them.
-use Rattle.mdconstructs_text.proofs.Prelude.{◌≡◌, ℕ, zero, suc, ◌+◌, ◌-◌, ◌*◌, ◌%◌, ◌^◌, ◌<◌, ◌≤◌, ◌∷◌, ◌++◌, [], List, Bool, true, false, cond, not, ◌&&◌, ◌||◌, ◌==◌, refl, sym, ◌∙◌, ap, subst, inl, inr, arith, length, length-append, mul-suc, and_parts, filter, list_all, AllByRecursion, or-leads, Point, Seat, tab_width, in_tab, begins_with_lf, virtual_from, virtual, stands_before, is_upto, denotes_same, in_range, Given, Text, Piece, pushed, passed, IsText, empty_text, followed_by, followed_by_all, FitsAfter, CanFollow, after-before, before-upto, every-all, filter-same, same-before, count_by-le-length, length-filter}
+use Rattle.mdconstructs_text.proofs.Prelude.{◌≡◌, ℕ, zero, suc, ◌+◌, ◌-◌, ◌*◌, ◌%◌, ◌^◌, ◌<◌, ◌≤◌, ◌∷◌, ◌++◌, [], List, Bool, true, false, cond, not, ◌&&◌, ◌||◌, ◌==◌, refl, sym, ◌∙◌, ap, subst, inl, inr, arith, length, drop, length-drop, backticks, is_backtick, bytes_of, length-append, mul-suc, and_parts, filter, list_all, AllByRecursion, or-leads, Point, Seat, tab_width, in_tab, begins_with_lf, virtual_from, virtual, stands_before, denotes_same, in_range, Given, Text, Piece, pushed, passed, IsText, empty_text, followed_by, followed_by_all, FitsAfter, CanFollow, after-before, before-upto, every-all, filter-same, same-before, count_by-le-length, length-filter}
 use Rattle.mdconstructs_text.proofs.CodeSpans.Walks.{RunsAreShort}
-use Rattle.mdconstructs_text.proofs.CodeSpans.Items.{runs-are-short}
+use Rattle.mdconstructs_text.proofs.CodeSpans.Parts.{count-within}
 
 -- if the first test implies the second, the elements that pass the first and those that pass only the second are all that pass the second
 add-step : (a b : Bool) (x : Seat) (f r h : List Seat) → (a ≡ true → b ≡ true) → length f + length r ≡ length h → length (cond a (x ∷ f) f) + length (cond (not a && b) (x ∷ r) r) ≡ length (cond b (x ∷ h) h)
@@ -31,35 +31,28 @@ module _ (g : Given) where
   abbrev IsCounted : Text → Type 0
   IsCounted text = length text.seats ≤ before text.end
 
-  -- a range is pushed
-  pushed-counted : (text : Text) (from to : Point) → IsCounted text → denotes_same g.tab g.bytes from text.end ≡ true → is_upto g.tab g.bytes from to ≡ true → IsCounted (followed_by g text (pushed from to))
-  pushed-counted text from to h same upto =
-      let all = virtual g.tab g.bytes in
-      let at_end : before from ≡ before text.end =
-      ap length (filter-same (λ (s : Seat). stands_before s.point from) (λ (s : Seat). stands_before s.point text.end) all (same-before g.tab g.bytes from text.end same)) in
-      let sum : before from + length (filter (in_range from to) all) ≡ before to =
-      counts-add (λ s. stands_before s.point from) (λ s. stands_before s.point to) all (all-implied (λ s. stands_before s.point from) (λ s. stands_before s.point to) all upto) in
-      let whole : length (text.seats ++ filter (in_range from to) all) ≡ length text.seats + length (filter (in_range from to) all) = length-append text.seats (filter (in_range from to) all) in
-      omega (arith, h, at_end, sum, whole)
-
-  -- a gap is passed
-  further-counted : (text : Text) (p : Point) → IsCounted text → stands_before text.end p ≡ true → IsCounted (record text { end = p })
-  further-counted text p h later =
+  -- a gap is passed, or is none
+  passed-counted : (b : Bool) (text : Text) (p : Point) → IsCounted text → (b ≡ false → stands_before text.end p ≡ true) → IsCounted (cond b text (record text { end = p }))
+  passed-counted true text p h later = h
+  passed-counted false text p h later =
       let all = virtual g.tab g.bytes in
       let end = text.end in
       let sum : before end + length (filter (λ s. not (stands_before s.point end) && stands_before s.point p) all) ≡ before p =
       counts-add (λ s. stands_before s.point end) (λ s. stands_before s.point p) all
       (every-all (λ s. stands_before s.point end ≡ true → stands_before s.point p ≡ true)
-      (λ s e. before-upto s.point.index s.point.vs end.index end.vs p.index p.vs e (after-before end.index end.vs p.index p.vs later)) all) in
+      (λ s e. before-upto s.point.index s.point.vs end.index end.vs p.index p.vs e (after-before end.index end.vs p.index p.vs (later refl))) all) in
       omega (arith, h, sum)
 
-  passed-counted : (b : Bool) (text : Text) (p : Point) → IsCounted text → (b ≡ false → stands_before text.end p ≡ true) → IsCounted (cond b text (record text { end = p }))
-  passed-counted true text p h later = h
-  passed-counted false text p h later = further-counted text p h (later refl)
-
-  -- either is
+  -- a range is pushed, or a gap is passed
   piece-counted : (text : Text) (piece : Piece) → IsCounted text → FitsAfter g text piece → IsCounted (followed_by g text piece)
-  piece-counted text (pushed from to) h fits = pushed-counted text from to h fits.2 fits.3
+  piece-counted text (pushed from to) h fits =
+      let all = virtual g.tab g.bytes in
+      let at_end : before from ≡ before text.end =
+      ap length (filter-same (λ (s : Seat). stands_before s.point from) (λ (s : Seat). stands_before s.point text.end) all (same-before g.tab g.bytes from text.end fits.2)) in
+      let sum : before from + length (filter (in_range from to) all) ≡ before to =
+      counts-add (λ s. stands_before s.point from) (λ s. stands_before s.point to) all (all-implied (λ s. stands_before s.point from) (λ s. stands_before s.point to) all fits.3) in
+      let whole : length (text.seats ++ filter (in_range from to) all) ≡ length text.seats + length (filter (in_range from to) all) = length-append text.seats (filter (in_range from to) all) in
+      omega (arith, h, at_end, sum, whole)
   piece-counted text (passed p) h fits =
       passed-counted (denotes_same g.tab g.bytes p text.end) text p h
       (elim fits.1 [ inl same ↦ λ not_same. absurd (let e : true ≡ false = sym same ∙ not_same in cc) | inr later ↦ λ not_same. later.2 ])
@@ -79,10 +72,6 @@ tab-length : (b n l c i v : ℕ) → length (in_tab b n l c i v) ≡ n
 tab-length b zero l c i v = refl
 tab-length b (suc n) l c i v = ap suc (tab-length 32 n l (suc c) i (suc v))
 
--- it is at most the tab size
-narrow : (t n : ℕ) → t - n ≤ t
-narrow t n = omega arith
-
 -- and each other byte has at most one
 virtual-length : (t : ℕ) → 1 ≤ t → (bs : List ℕ) (l c i : ℕ) → length (virtual_from t l c i bs) ≤ t * length bs
 virtual-length t some [] l c i = omega arith
@@ -94,7 +83,7 @@ virtual-length t some (b ∷ bs) l c i =
     let other : length (virtual_from t l (suc c) (suc i) bs) ≤ m = virtual-length t some bs l (suc c) (suc i) in
     let w = tab_width t c in
     let stop : length (virtual_from t l (c + w) (suc i) bs) ≤ m = virtual-length t some bs l (c + w) (suc i) in
-    let width : w ≤ t = narrow t ((c - 1) % t) in
+    let width : t - ((c - 1) % t) ≤ t = omega arith in
     let tab : length (in_tab 9 w l c i 0 ++ virtual_from t l (c + w) (suc i) bs) ≡ length (in_tab 9 w l c i 0) + length (virtual_from t l (c + w) (suc i) bs) =
     length-append (in_tab 9 w l c i 0) (virtual_from t l (c + w) (suc i) bs) in
     let cells : length (in_tab 9 w l c i 0) ≡ w = tab-length 9 w l c i 0 in
@@ -103,9 +92,9 @@ virtual-length t some (b ∷ bs) l c i =
     (cond-le (b == 13) _ _ (m + t) (cond-le (begins_with_lf bs) _ _ (m + t) (omega (arith, some, pair)) (omega (arith, some, line)))
     (cond-le (b == 9) _ _ (m + t) (omega (arith, stop, width, tab, cells)) (omega (arith, some, other)))))
 
--- So the text of a tokenizer can be counted
-pub text-is-short : (g : Given) (text : Text) → IsText g text → length text.seats < 2 ^ 64
-text-is-short g text is =
+-- So the text of a tokenizer can be counted, and so can its runs of backticks
+pub runs-of-text : (g : Given) (text : Text) → IsText g text → RunsAreShort text
+runs-of-text g text is q =
     let counted : length text.seats ≤ before g text.end =
     subst (IsCounted g) (sym is.is) (pieces-counted g (empty_text text.start) is.pieces (omega arith) is.follow) in
     let is_before = λ (s : Seat). stands_before s.point text.end in
@@ -114,8 +103,6 @@ text-is-short g text is =
     let some : before g text.end ≤ length (virtual g.tab g.bytes) = omega (arith, few, same) in
     let all : length (virtual g.tab g.bytes) ≤ g.tab * length g.bytes = virtual-length g.tab is.document.tab.0 g.bytes 1 1 0 in
     let limit : g.tab * length g.bytes + 1 < 2 ^ 64 = is.document.limit in
-    omega (arith, counted, some, all, limit)
-
--- and so can its runs of backticks
-pub runs-of-text : (g : Given) (text : Text) → IsText g text → RunsAreShort text
-runs-of-text g text is = runs-are-short text (text-is-short g text is)
+    let run : backticks (bytes_of (drop q text.seats)) ≤ length (drop q text.seats) = count-within is_backtick (drop q text.seats) in
+    let less : length (drop q text.seats) ≡ length text.seats - q = length-drop q text.seats in
+    omega (arith, counted, some, all, limit, run, less)

@@ -1,13 +1,11 @@
 -- The inside of a code span, as the machine of texts reads it: up to the backtick string that closes it, or to the end.
-use Rattle.mdconstructs_text.proofs.Prelude.{◌≡◌, ℕ, zero, suc, ◌+◌, ◌^◌, ◌<◌, ◌≤◌, ◌∷◌, ◌++◌, [], List, true, false, ◌==◌, refl, sym, ◌∙◌, ap, subst, Option, Some, None, arith, length, take, drop, append-nil, append_assoc, drop-drop, flat_map, Event, CodeTextData, Retry, Nok, RawTextBetween, Seat, Given, Text, Local, Choice, counts, is_backtick_or_line_feed, backticks, part_length, bytes_of, part_events, drop-map}
+use Rattle.mdconstructs_text.proofs.Prelude.{◌≡◌, ℕ, zero, suc, ◌+◌, ◌^◌, ◌<◌, ◌≤◌, ◌∷◌, ◌++◌, [], List, true, false, ◌==◌, refl, sym, ◌∙◌, ap, subst, cond, Option, Some, None, arith, length, take, drop, append-nil, append_assoc, drop-drop, flat_map, Event, CodeTextData, Retry, Nok, RawTextBetween, Seat, Given, Text, Local, Choice, counts, is_backtick_or_line_feed, backticks, part_length, bytes_of, part_events, drop-map}
 use Rattle.mdconstructs_text.proofs.Texts.Cutting.{drop-less}
-use Rattle.mdconstructs_text.proofs.Texts.Steps.{EndsWith, Leads}
-use Rattle.mdconstructs_text.proofs.CodeSpans.Found.{first_run, further, passes-piece, first-here}
-use Rattle.mdconstructs_text.proofs.CodeSpans.FoundParts.{piece-positive}
-use Rattle.mdconstructs_text.proofs.CodeSpans.Steps.{shows}
-use Rattle.mdconstructs_text.proofs.CodeSpans.Calls.{in_code, size_b, between-end}
-use Rattle.mdconstructs_text.proofs.CodeSpans.Cuts.{cut_pieces, piece_of, cut-front}
-use Rattle.mdconstructs_text.proofs.CodeSpans.Parts.{reads-piece}
+use Rattle.mdconstructs_text.proofs.Texts.Steps.{EndsWith, Leads, leads-called}
+use Rattle.mdconstructs_text.proofs.CodeSpans.Found.{first_run, further, passes-piece}
+use Rattle.mdconstructs_text.proofs.CodeSpans.FoundParts.{piece-positive, cut_pieces, piece_of, cut-front}
+use Rattle.mdconstructs_text.proofs.Plain.Stretches.{shows}
+use Rattle.mdconstructs_text.proofs.CodeSpans.Parts.{in_code, size_b, reads-piece}
 
 -- Runs of backticks can be counted: the sizes that the machine compares stop growing at the greatest number there is
 abbrev pub RunsAreShort : Text → Type 0
@@ -24,26 +22,6 @@ module _ (g : Given) (text : Text) (k : ℕ) (cs : List Choice) where
       (after : Local Unit Unit) × (size_b after ≡ k)
       × Leads g text (shows l in_code q events local) cs (Retry RawTextBetween)
       (shows (drop m l) in_code (q + m) (events ++ flat_map (part_events g.bytes CodeTextData) (cut_pieces bound (take m l))) after) cs (Retry RawTextBetween)
-
-  -- at the end there is none
-  at-end : (bound q : ℕ) (events : List Event) (local : Local Unit Unit) → Walks bound q [] events local None
-  at-end bound q events local = (
-    q,
-    [],
-    counts local,
-    λ es h. between-end g text q events local cs es (subst (λ l. EndsWith g text (shows [] in_code q l (counts local)) cs Nok es) (append-nil events) h),
-  )
-
-  -- the backtick string is at the front
-  stays : (bound q : ℕ) (s : Seat) (ss : List Seat) (events : List Event) (local : Local Unit Unit) → size_b local ≡ k → Walks (suc bound) q (s ∷ ss) events local (Some 0)
-  stays bound q s ss events local size =
-      let here : q + 0 ≡ q = omega arith in (
-        local,
-        size,
-        λ es h.
-            subst (λ l. EndsWith g text (shows (s ∷ ss) in_code q l local) cs (Retry RawTextBetween) es) (append-nil events)
-            (subst (λ n. EndsWith g text (shows (s ∷ ss) in_code n (events ++ []) local) cs (Retry RawTextBetween) es) here h),
-      )
 
   -- over a piece
   goes-on : (bound q : ℕ) (s : Seat) (ss : List Seat) (events : List Event) (local mid : Local Unit Unit)
@@ -78,14 +56,26 @@ module _ (g : Given) (text : Text) (k : ℕ) (cs : List Choice) where
   -- The walk, by the number of bytes that are left
   pub walks : RunsAreShort text → 0 < k → (bound q : ℕ) (l : List Seat) (events : List Event) (local : Local Unit Unit) → size_b local ≡ k → length l ≤ bound → drop q text.seats ≡ l
       → Walks bound q l events local (first_run k false (bytes_of l))
-  walks short some zero q [] events local size within at = at-end zero q events local
+  walks short some bound q [] events local size within at = (
+    q,
+    [],
+    counts local,
+    λ es h. leads-called g text (shows [] in_code q events local) cs RawTextBetween es (subst (λ l. EndsWith g text (shows [] in_code q l (counts local)) cs Nok es) (append-nil events) h),
+  )
   walks short some zero q (s ∷ ss) events local size within at = absurd (omega (arith, within))
-  walks short some (suc bound) q [] events local size within at = at-end (suc bound) q events local
   walks short some (suc bound) q (s ∷ ss) events local size within at =
       let l = s ∷ ss in
       let n = part_length (piece_of l) in
       elim (backticks (bytes_of l) == k) as (λ t. (backticks (bytes_of l) == k) ≡ t → Walks (suc bound) q l events local (first_run k false (bytes_of l))) [
-        | true ↦ λ e. subst (Walks (suc bound) q l events local) (sym (first-here k s.byte (bytes_of ss) e)) (stays bound q s ss events local size)
+        | true ↦ λ e.
+            let here : q + 0 ≡ q = omega arith in
+            subst (Walks (suc bound) q l events local) (sym (ap (λ t. cond t (Some 0) (further 1 (first_run k (s.byte == 96) (bytes_of ss)))) e)) (
+              local,
+              size,
+              λ es h.
+                  subst (λ c. EndsWith g text (shows l in_code q c local) cs (Retry RawTextBetween) es) (append-nil events)
+                  (subst (λ n. EndsWith g text (shows l in_code n (events ++ []) local) cs (Retry RawTextBetween) es) here h),
+            )
         | false ↦ λ e.
             let other : (backticks (bytes_of l) == size_b local) ≡ false = ap (λ b. backticks (bytes_of l) == b) size ∙ e in
             let small : backticks (bytes_of l) < 2 ^ 64 = subst (λ c. backticks (bytes_of c) < 2 ^ 64) at (short q) in

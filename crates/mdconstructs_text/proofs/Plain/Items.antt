@@ -1,9 +1,16 @@
--- Plain data as an item: if no construct is there, data is read with its events.
-use Rattle.mdconstructs_text.proofs.Prelude.{at-front, ◌≡◌, ℕ, ◌+◌, ◌∷◌, ◌++◌, [], List, Bool, true, false, refl, sym, ◌∙◌, ap, subst, Option, Some, None, length, take, drop, slice_get, ◌==◌, ◌||◌, Constructs, Event, Name, Next, Retry, TextBefore, TextBeforeData, Seat, Nothing, Byte, Attempt, Given, Text, Configuration, Local, Choice, Sight, sight, byte_of, class_of, counts, Item, plain_run, part, item_length, item_at, is_special, plain_length, code_span_at, autolink_at, escape_at, if_on, or_else, text_byte, bytes_of, item_events, text_before_rows, tries}
-use Rattle.mdconstructs_text.proofs.Texts.Steps.{Leads, between_items, leads-byte, leads-seen, leads-tested, before_class, waiting_class}
+-- Plain data, and an item at a byte: if no construct is there, data is read, a backtick string or one byte, and all up to the next byte at which
+-- another item may begin.
+use Rattle.mdconstructs_text.proofs.Prelude.{at-front, ◌≡◌, ℕ, ◌+◌, ◌∷◌, ◌++◌, [], List, Bool, true, false, sym, ◌∙◌, ap, subst, arith, nat_tests, Option, Some, None, length, take, drop, slice_get, ◌==◌, Constructs, Event, Name, State, Next, Retry, Nok, TextBefore, TextBeforeData, Seat, Nothing, Byte, Attempt, Given, Text, Configuration, Local, Choice, Sight, sight, byte_of, class_of, counts, refl, Item, plain_run, part, item_length, item_at, is_special, plain_length, code_span_at, if_on, or_else, Rows, TextByte, row, row_step, text_byte, bytes_of, item_events, text_before_rows, tries, suc, ◌≤◌, cond, max, not, ◌-◌, add_assoc, not-true, append_assoc, drop-drop, drop-map, drop-next, length-drop, length-map, prefix_len-le-length, prefix_len, Enter, Exit, Data, DataAtBreak, DataInside, point_or, end_place, is_backtick, backticks, backtick, event, leaf, text_before_data_rows, data_at_break_rows, data_inside_rows, held}
+use Rattle.markdown_base.specs.declared.event.Name.{Name as EventName}
+use Rattle.mdconstructs_text.proofs.Texts.Steps.{EndsWith, Leads, between_items, text_step, leads-byte, leads-nok, leads-seen, leads-tested, before_class, waiting_class}
 use Rattle.mdconstructs_text.proofs.Texts.LineEndings.{Adds, nowhere}
-use Rattle.mdconstructs_text.proofs.Plain.Classes.{plain-class}
-use Rattle.mdconstructs_text.proofs.Plain.Data.{adds-plain}
+use Rattle.mdconstructs_text.proofs.Plain.Classes.{plain-class, data-ends, tick-class, run-ended}
+use Rattle.mdconstructs_text.proofs.Plain.Stretches.{shows, first_byte, sees, past, passed, past-stops, past-is, leaf-read, past-at, goes-next, goes-back, class-rows, loops, loops-from}
+use Rattle.mdconstructs_text.specs.Items.{first_plain}
+
+-- a byte at which no other item may begin
+abbrev is_plain : ℕ → Bool
+is_plain b = not (is_special b)
 
 -- plain data, as much as there is
 abbrev pub plain_of : List Seat → Item
@@ -19,81 +26,147 @@ tick-at on b bs is =
     subst (λ c. item_at on (c ∷ bs) ≡ or_else (if_on on.code_text (code_span_at (c ∷ bs))) (part (plain_run (plain_length is_special (c ∷ bs))))) (sym is)
     (ap (or_else (if_on on.code_text (code_span_at (96 ∷ bs)))) (nowhere on.autolink _ ∙ nowhere on.character_escape _))
 
--- at `<`
-pub less-at : (on : Constructs) (b : ℕ) (bs : List ℕ) → b ≡ 60 → item_at on (b ∷ bs) ≡ or_else (if_on on.autolink (autolink_at (b ∷ bs))) (part (plain_run (plain_length is_special (b ∷ bs))))
-less-at on b bs is =
-    subst (λ c. item_at on (c ∷ bs) ≡ or_else (if_on on.autolink (autolink_at (c ∷ bs))) (part (plain_run (plain_length is_special (c ∷ bs))))) (sym is)
-    (nowhere on.code_text _ ∙ ap (or_else (if_on on.autolink (autolink_at (60 ∷ bs)))) (nowhere on.character_escape _))
-
--- at a backslash
-pub backslash-at : (on : Constructs) (b : ℕ) (bs : List ℕ) → b ≡ 92 → item_at on (b ∷ bs) ≡ or_else (if_on on.character_escape (escape_at (b ∷ bs))) (part (plain_run (plain_length is_special (b ∷ bs))))
-backslash-at on b bs is =
-    subst (λ c. item_at on (c ∷ bs) ≡ or_else (if_on on.character_escape (escape_at (c ∷ bs))) (part (plain_run (plain_length is_special (c ∷ bs))))) (sym is)
-    (nowhere on.code_text _ ∙ nowhere on.autolink _)
-
 -- and at the others
-four : (a b c d : Bool) → ((a || b) || (c || d)) ≡ false → (a ≡ false) × (b ≡ false) × (c ≡ false) × (d ≡ false)
-four true b c d h = absurd (cc)
-four false true c d h = absurd (cc)
-four false false true d h = absurd (cc)
-four false false false true h = absurd (cc)
-four false false false false h = (refl, refl, refl, refl)
-
--- it is plain data
 pub plain-at : (on : Constructs) (b : ℕ) (bs : List ℕ) → is_special b ≡ false → item_at on (b ∷ bs) ≡ part (plain_run (plain_length is_special (b ∷ bs)))
 plain-at on b bs h =
-    let none = four (b == 10) (b == 96) (b == 60) (b == 92) h in
-    let no_tick : (b == 96) ≡ false = none.1 in
-    let no_less : (b == 60) ≡ false = none.2 in
-    let no_backslash : (b == 92) ≡ false = none.3 in
-    let no_line_feed : (b == 10) ≡ false = none.0 in
+    let no_tick : (b == 96) ≡ false = grind (arith, nat_tests) in
+    let no_less : (b == 60) ≡ false = grind (arith, nat_tests) in
+    let no_backslash : (b == 92) ≡ false = grind (arith, nat_tests) in
+    let no_line_feed : (b == 10) ≡ false = grind (arith, nat_tests) in
     rw (no_tick, no_less, no_backslash, no_line_feed) (nowhere on.code_text _ ∙ nowhere on.autolink _ ∙ nowhere on.character_escape _)
 
 module _ (g : Given) (text : Text) where
-  -- A construct was tried at a byte: if it is there, it was read, with its events; if not, data comes at the byte,
-  -- and what was tried left nothing
-  abbrev pub Tried : (p : ℕ) (ended : Bool) (events : List Event) (local : Local Unit Unit) → List Seat → Option Item → Type 0
-  Tried p ended events local seats None =
-      (after : Local Unit Unit) × Leads g text (between_items p Byte ended events local) [] (Retry TextBefore) (between_items p Nothing ended events after) [] (Next TextBeforeData)
-  Tried p ended events local seats (Some item) =
+  -- data begins at the byte that waits
+  abbrev entered_data : List Event → ℕ → List Event
+  entered_data events p = events ++ event g.bytes Enter Data (point_or text.end (slice_get text.seats p)) ∷ []
+
+  -- with its first bytes, which were read
+  abbrev HasBegun : (p : ℕ) → Bool → List Event → Local Unit Unit → List Seat → (n : ℕ) → Type 0
+  HasBegun p ended events local l n =
+      (after : Local Unit Unit)
+      × Leads g text (between_items p Byte ended events local) [] (Retry TextBeforeData) (shows (drop n l) (Data ∷ []) (p + n) (entered_data events p) after) [] (Retry DataInside)
+
+  -- a whole backtick string, or another byte
+  data-begun : (p : ℕ) (ended : Bool) (events : List Event) (local : Local Unit Unit) (s : Seat) (ss : List Seat) → drop p text.seats ≡ s ∷ ss
+      → HasBegun p ended events local (s ∷ ss) (first_plain (bytes_of (s ∷ ss)))
+  data-begun p ended events local s ss here =
+      let l = s ∷ ss in
+      let r = backticks (bytes_of ss) in
+      let at = at-front text.seats p s ss here in
+      let begun = entered_data events p in
+      elim (is_backtick s.byte) as (λ b. is_backtick s.byte ≡ b → HasBegun p ended events local l (max 1 (cond b (1 + r) 0))) [
+        | true ↦ λ is.
+            let size : backticks (bytes_of l) ≡ 1 + r = ap (λ t. cond t (1 + r) 0) is in
+            let first : backticks (bytes_of l) ≡ max 1 (1 + r) = omega (arith, size) in
+            let place : p + max 1 (1 + r) ≡ p + backticks (bytes_of l) = omega (arith, size) in
+            let q = p + max 1 (1 + r) in
+            let rest = past is_backtick l in
+            let after = passed is_backtick counts l (counts local) in (
+              counts after,
+              λ es h.
+                  leads-seen g text text_before_data_rows (between_items p Byte ended events local) [] TextBeforeData es (ap byte_of at)
+                  (class-rows g text text_before_data_rows p s backtick (tick-class s.byte is)) refl
+                  (loops-from g text (Data ∷ []) [] DataAtBreak is_backtick counts
+                  (λ q ended events local s at is es.
+                  leads-seen g text data_at_break_rows (held (Data ∷ []) q Byte ended events local) [] DataAtBreak es (ap byte_of at)
+                  (class-rows g text data_at_break_rows q s backtick (tick-class s.byte is)) refl)
+                  s ss p q ended begun (counts local) here is place es
+                  (leads-seen g text data_at_break_rows (shows rest (Data ∷ []) q begun after) [] DataAtBreak es (sees g text rest q (past-at g text is_backtick l p q here place))
+                  (run-ended (before_class g text q) (first_byte rest) (past-stops is_backtick l)).5 refl
+                  (subst (λ l. EndsWith g text (shows l (Data ∷ []) q begun (counts after)) [] (Retry DataInside) es) (sym (past-is is_backtick l ∙ ap (λ n. drop n l) first)) h))),
+            )
+        | false ↦ λ other. (
+          counts local,
+          λ es h.
+              leads-seen g text text_before_data_rows (between_items p Byte ended events local) [] TextBeforeData es (ap byte_of at) (run-ended (before_class g text p) (Some s.byte) other).6 refl
+              (goes-next g text ss (Data ∷ []) (p + 1) begun (counts local) [] DataInside (drop-next text.seats p s ss here) es h),
+        )
+      ] refl
+
+  -- From a state in which a construct is tried at a byte: if it is there, it is read, with its events; if not, data comes at the byte,
+  -- and what was tried leaves nothing
+  abbrev pub Decides : (p : ℕ) (ended : Bool) (events : List Event) → List Seat → Configuration Unit Unit → List Choice → State → Option Item → Type 0
+  Decides p ended events seats k cs s None = (after : Local Unit Unit) × Leads g text k cs s (between_items p Nothing ended events after) [] (Next TextBeforeData)
+  Decides p ended events seats k cs s (Some item) =
       (ended_after : Bool) × (after : Local Unit Unit)
-      × Leads g text (between_items p Byte ended events local) [] (Retry TextBefore)
-      (between_items (p + item_length item) Nothing ended_after (events ++ item_events g.bytes (item, take (item_length item) seats)) after) [] (Next TextBefore)
+      × Leads g text k cs s (between_items (p + item_length item) Nothing ended_after (events ++ item_events g.bytes (item, take (item_length item) seats)) after) [] (Next TextBefore)
 
-  -- an item that was read from the byte that waits on
-  from-byte : (p : ℕ) (ended : Bool) (events : List Event) (local : Local Unit Unit) (s : Seat) (seats : List Seat) (item : Item) → slice_get text.seats p ≡ Some s
-      → (ended_after : Bool) → (after : Local Unit Unit)
-      → Leads g text (between_items p Byte ended events local) [] (Retry TextBefore)
-      (between_items (p + item_length item) Nothing ended_after (events ++ item_events g.bytes (item, take (item_length item) seats)) after) [] (Next TextBefore)
-      → Adds g text p ended events local seats item
-  from-byte p ended events local s seats item at ended_after after leads = (
-    ended_after,
-    after,
-    λ es h.
-        leads-byte g text [] p ended events local [] TextBefore at es (leads es h),
-  )
+  -- from between items
+  abbrev pub Tried : (p : ℕ) (ended : Bool) (events : List Event) (local : Local Unit Unit) → List Seat → Option Item → Type 0
+  Tried p ended events local seats o = Decides p ended events seats (between_items p Byte ended events local) [] (Retry TextBefore) o
 
-  -- data that one comes to
+  -- what is decided further on is decided here
+  pub decides-before : (p : ℕ) (ended : Bool) (events : List Event) (seats : List Seat) (k k' : Configuration Unit Unit) (cs cs' : List Choice) (s s' : State) (o : Option Item)
+      → Leads g text k cs s k' cs' s' → Decides p ended events seats k' cs' s' o → Decides p ended events seats k cs s o
+  decides-before p ended events seats k k' cs cs' s s' None leads d = (d.0, λ es h. leads es (d.1 es h))
+  decides-before p ended events seats k k' cs cs' s s' (Some item) leads d = (d.0, d.1, λ es h. leads es (d.2 es h))
+
+  -- what was tried is put back
+  pub puts-back : (p : ℕ) (ended : Bool) (events : List Event) (k : Configuration Unit Unit) → take (length events) k.events ≡ events
+      → Leads g text k (outer p ended events ∷ []) Nok (between_items p Nothing ended events k.local) [] (Next TextBeforeData)
+  puts-back p ended events k kept es h =
+      leads-nok g text k (outer p ended events) [] es (subst (λ l. EndsWith g text (between_items p Nothing ended l k.local) [] (Next TextBeforeData) es) (sym kept) h)
+
+  -- by a state whose row fails, whatever waits
+  pub refused : (table : (previous current : Option TextByte) → Rows Unit Unit) (name : Name)
+      → ((k : Configuration Unit Unit) → text_step g (sight g text k) k name ≡ row_step g text k (table (class_of text_byte (sight g text k).previous) (class_of text_byte (sight g text k).current)))
+      → (p : ℕ) (ended : Bool) (events : List Event) (l : List Seat) (stack : List EventName) (q : ℕ) (begun : List Event) (local : Local Unit Unit) → drop q text.seats ≡ l
+      → table (before_class g text q) (class_of text_byte (first_byte l)) ≡ row [] Nok → take (length events) begun ≡ events
+      → Leads g text (shows l stack q begun local) (outer p ended events ∷ []) (Retry name) (between_items p Nothing ended events (counts local)) [] (Next TextBeforeData)
+  refused table name has p ended events l stack q begun local at fails kept es h =
+      leads-seen g text table (shows l stack q begun local) (outer p ended events ∷ []) name es (sees g text l q at) fails (has (shows l stack q begun local))
+      (puts-back p ended events (shows l stack q begun (counts local)) kept es h)
+
+  -- data that one comes to is read, with its events, and one goes on behind it
   from-data : (p : ℕ) (ended : Bool) (events : List Event) (local : Local Unit Unit) (s : Seat) (ss : List Seat) → drop p text.seats ≡ s ∷ ss → (between : Local Unit Unit)
       → Leads g text (between_items p Byte ended events local) [] (Retry TextBefore) (between_items p Byte ended events between) [] (Retry TextBeforeData)
       → Adds g text p ended events local (s ∷ ss) (plain_of (s ∷ ss))
   from-data p ended events local s ss here between comes =
-      let read = adds-plain g text p ended events between s ss here in
-      from-byte p ended events local s (s ∷ ss) (plain_of (s ∷ ss)) (at-front text.seats p s ss here) read.0 read.1 (λ es h. comes es (read.2 es h))
-
-  -- a construct that was tried is read, or data is
-  from-tried : (p : ℕ) (ended : Bool) (events : List Event) (local : Local Unit Unit) (s : Seat) (ss : List Seat) → drop p text.seats ≡ s ∷ ss → (o : Option Item)
-      → Tried p ended events local (s ∷ ss) o → Adds g text p ended events local (s ∷ ss) (or_else o (plain_of (s ∷ ss)))
-  from-tried p ended events local s ss here (Some item) taken = from-byte p ended events local s (s ∷ ss) item (at-front text.seats p s ss here) taken.0 taken.1 taken.2
-  from-tried p ended events local s ss here None refused =
-      from-data p ended events local s ss here refused.0 (λ es h. refused.1 es (leads-byte g text [] p ended events refused.0 [] TextBeforeData (at-front text.seats p s ss here) es h))
+      let bytes = bytes_of (s ∷ ss) in
+      let n = first_plain bytes in
+      let whole = plain_length is_special bytes in
+      let l = drop n (s ∷ ss) in
+      let q = p + whole in
+      let behind : drop (p + n) text.seats ≡ l = sym (drop-drop n p text.seats) ∙ ap (drop n) here in
+      let total : p + n + prefix_len is_plain (bytes_of l) ≡ q =
+      add_assoc p n (prefix_len is_plain (bytes_of l)) ∙ ap (λ xs. p + (n + prefix_len is_plain xs)) (sym (drop-map (λ (x : Seat). x.byte) n (s ∷ ss))) in
+      let ticks : backticks bytes ≤ length bytes = prefix_len-le-length is_backtick bytes in
+      let others : prefix_len is_plain (drop n bytes) ≤ length (drop n bytes) = prefix_len-le-length is_plain (drop n bytes) in
+      let left : length (drop n bytes) ≡ length bytes - n = length-drop n bytes in
+      let size : length bytes ≡ suc (length ss) = length-map (s ∷ ss) (λ x. x.byte) in
+      let first : (1 ≤ n) × (n ≤ length bytes) = ((omega arith), (omega (arith, ticks, size))) in
+      let entered = entered_data events p in
+      let begun = data-begun p ended events between s ss here in
+      let read = passed is_plain counts l begun.0 in
+      let rest = past is_plain l in
+      let there = past-at g text is_plain l (p + n) q behind (sym total) in
+      let made = entered ++ event g.bytes Exit Data (end_place text q) ∷ [] in
+      let same : made ≡ events ++ leaf g.bytes Data (take whole (s ∷ ss)) =
+      append_assoc events _ _ ∙ ap (λ es. events ++ es) (leaf-read text g.bytes Data whole p s ss here (omega (arith, first.0)) (omega (arith, first.0, first.1, others, left, size))) in (
+        false,
+        counts read,
+        λ es h.
+            leads-byte g text [] p ended events local [] TextBefore (at-front text.seats p s ss here) es
+            (comes es
+            (begun.1 es
+            (loops g text (Data ∷ []) [] DataInside is_plain counts
+            (λ q ended events local s at is es.
+            leads-seen g text data_inside_rows (held (Data ∷ []) q Byte ended events local) [] DataInside es (ap byte_of at)
+            (plain-class (before_class g text q) s.byte (not-true (is_special s.byte) is)).1 refl)
+            l (p + n) q entered begun.0 behind (sym total) es
+            (leads-seen g text data_inside_rows (shows rest (Data ∷ []) q entered read) [] DataInside es (sees g text rest q there)
+            (data-ends (before_class g text q) (first_byte rest) (past-stops is_plain l)) refl
+            (goes-back g text rest [] q made (counts read) [] TextBefore there es
+            (subst (λ l. EndsWith g text (between_items q Nothing false l (counts read)) [] (Next TextBefore) es) (sym same) h)))))),
+      )
 
   -- a byte at which no other item may begin
   pub from-plain : (p : ℕ) (ended : Bool) (events : List Event) (local : Local Unit Unit) (s : Seat) (ss : List Seat) → drop p text.seats ≡ s ∷ ss → is_special s.byte ≡ false
       → Adds g text p ended events local (s ∷ ss) (plain_of (s ∷ ss))
   from-plain p ended events local s ss here ordinary =
       from-data p ended events local s ss here (counts local)
-      (λ es. leads-seen g text text_before_rows (between_items p Byte ended events local) [] TextBefore es (ap byte_of (at-front text.seats p s ss here)) (plain-class (before_class g text p) s.byte ordinary) refl)
+      (λ es. leads-seen g text text_before_rows (between_items p Byte ended events local) [] TextBefore es (ap byte_of (at-front text.seats p s ss here))
+      (plain-class (before_class g text p) s.byte ordinary).0 refl)
 
   -- the rows at a byte that may begin a construct
   pub byte-rows : (p b : ℕ) (s : Seat) → slice_get text.seats p ≡ Some s → s.byte ≡ b → text_before_rows (before_class g text p) (waiting_class g text p) ≡ text_before_rows (before_class g text p) (Some (text_byte b))
@@ -112,6 +185,11 @@ module _ (g : Given) (text : Text) where
       → drop p text.seats ≡ s ∷ ss → text_before_rows (before_class g text p) (waiting_class g text p) ≡ tries test name
       → (on : Bool) → (let k = between_items p Byte ended events (counts local) in test g (sight g text k) k ≡ on) → (o : Option Item) → (on ≡ true → Tried p ended events local (s ∷ ss) o)
       → Adds g text p ended events local (s ∷ ss) (or_else (if_on on o) (plain_of (s ∷ ss)))
-  from-construct test name p ended events local s ss here rows true picks o tried = from-tried p ended events local s ss here o (tried refl)
+  from-construct test name p ended events local s ss here rows true picks (Some item) tried =
+      let taken = tried refl in
+      (taken.0, taken.1, λ es h. leads-byte g text [] p ended events local [] TextBefore (at-front text.seats p s ss here) es (taken.2 es h))
+  from-construct test name p ended events local s ss here rows true picks None tried =
+      let rejected = tried refl in
+      from-data p ended events local s ss here rejected.0 (λ es h. rejected.1 es (leads-byte g text [] p ended events rejected.0 [] TextBeforeData (at-front text.seats p s ss here) es h))
   from-construct test name p ended events local s ss here rows false picks o tried =
       from-data p ended events local s ss here (counts local) (λ es. leads-tested g text test text_before_rows (between_items p Byte ended events local) [] TextBefore es refl rows picks refl)

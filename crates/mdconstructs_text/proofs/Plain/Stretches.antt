@@ -1,44 +1,87 @@
--- Runs of bytes that a state reads one after another, and what is behind them.
-use Rattle.mdconstructs_text.proofs.Prelude.{at-front, ◌≡◌, ℕ, zero, suc, ◌+◌, ◌<◌, ◌≤◌, ◌∷◌, [], List, Bool, true, false, cond, refl, sym, ◌∙◌, ap, subst, Option, Some, None, arith, length, take, drop, slice_get, option_map, slice_get-map, prefix_len, drop-next, Event, Enter, Exit, Name, Next, Retry, Seat, end_after, Nothing, Byte, End, Given, Text, Configuration, Local, Choice, byte_of, point_or, end_or, end_place, fed, fed-ends, counts, passes, bytes_of, event, leaf, held, ◌++◌}
+-- How the machine of texts reads on over bytes that one state reads, one after another, and what is behind them.
+use Rattle.mdconstructs_text.proofs.Prelude.{at-front, ◌≡◌, ℕ, zero, suc, ◌+◌, ◌^◌, ◌<◌, ◌≤◌, ◌∷◌, ◌++◌, [], List, Bool, true, false, cond, refl, sym, ◌∙◌, ap, subst, Option, Some, None, arith, length, take, drop, slice_get, drop-drop, prefix_len, drop-next, Event, Enter, Exit, Name, Next, Retry, Seat, end_after, Waits, Nothing, Byte, End, Given, Text, Configuration, Local, Choice, byte_of, point_or, end_or, end_place, current_of, fed, fed-ends, passes, Rows, TextByte, text_byte, bytes_of, event, leaf, held}
 use Rattle.markdown_base.specs.declared.event.Name.{Name as EventName}
+use Rattle.mdconstructs_machines.proofs.LineReads.Steps.{stands as fed_as}
 use Rattle.mdconstructs_text.specs.TextEvents.{span}
-use Rattle.mdconstructs_text.proofs.Texts.Steps.{EndsWith, Leads, text_step, leads-byte}
+use Rattle.mdconstructs_text.proofs.Texts.Steps.{EndsWith, Leads, text_step, leads-fed, before_class}
 
--- an element of what is left
-pub get-drop : {X : Type 0} (xs : List X) (p n : ℕ) → slice_get (drop p xs) n ≡ slice_get xs (p + n)
-get-drop xs zero n = let same : n ≡ 0 + n = omega arith in ap (slice_get xs) same
-get-drop [] (suc p) n = refl
-get-drop (x ∷ xs) (suc p) n = let same : suc (p + n) ≡ suc p + n = omega arith in get-drop xs p n ∙ ap (slice_get (x ∷ xs)) same
+-- what waits where these virtual bytes are left: the first of them, or the end
+abbrev pub waits_at : List Seat → Waits
+waits_at [] = End
+waits_at (s ∷ ss) = Byte
 
--- a virtual byte has its byte
-as-byte : (o : Option Seat) → option_map (λ s. s.byte) o ≡ byte_of o
-as-byte None = refl
-as-byte (Some s) = refl
+abbrev pub is_end : List Seat → Bool
+is_end [] = true
+is_end (s ∷ ss) = false
 
--- the byte so far behind a position
-pub byte-behind : (xs : List Seat) (p n : ℕ) (l : List Seat) → drop p xs ≡ l → slice_get (bytes_of l) n ≡ byte_of (slice_get xs (p + n))
-byte-behind xs p n l h = slice_get-map (λ s. s.byte) l n ∙ as-byte (slice_get l n) ∙ ap byte_of (ap (λ m. slice_get m n) (sym h) ∙ get-drop xs p n)
+abbrev pub shows : List Seat → List EventName → ℕ → List Event → Local Unit Unit → Configuration Unit Unit
+shows l stack q events local = held stack q (waits_at l) (is_end l) events local
 
--- a run of bytes that pass is followed by none that passes
-pub run-ends : (test : ℕ → Bool) (xs : List Seat) (l : List Seat) (p : ℕ) → drop p xs ≡ l → passes test (byte_of (slice_get xs (p + prefix_len test (bytes_of l)))) ≡ false
-run-ends test xs [] p h =
-    let none : slice_get (bytes_of []) 0 ≡ byte_of (slice_get xs (p + 0)) = byte-behind xs p 0 [] h in
-    ap (passes test) (sym none)
-run-ends test xs (s ∷ ss) p h = elim (test s.byte) as (λ b. test s.byte ≡ b → passes test (byte_of (slice_get xs (p + cond b (1 + prefix_len test (bytes_of ss)) 0))) ≡ false) [
-  | true ↦ λ e.
-      let further : p + (1 + prefix_len test (bytes_of ss)) ≡ p + 1 + prefix_len test (bytes_of ss) = omega arith in
-      ap (λ n. passes test (byte_of (slice_get xs n))) further ∙ run-ends test xs ss (p + 1) (drop-next xs p s ss h)
-  | false ↦ λ e. ap (passes test) (sym (byte-behind xs p 0 (s ∷ ss) h)) ∙ e
+abbrev pub first_byte : List Seat → Option ℕ
+first_byte [] = None
+first_byte (s ∷ ss) = Some s.byte
+
+-- what is left behind the bytes that pass
+abbrev pub past : (ℕ → Bool) → List Seat → List Seat
+past p [] = []
+past p (s ∷ ss) = cond (p s.byte) (past p ss) (s ∷ ss)
+
+-- what is written over them
+abbrev pub passed : (ℕ → Bool) → (Local Unit Unit → Local Unit Unit) → List Seat → Local Unit Unit → Local Unit Unit
+passed p f [] local = local
+passed p f (s ∷ ss) local = cond (p s.byte) (passed p f ss (f local)) local
+
+-- behind the bytes that pass, none does
+pub past-stops : (p : ℕ → Bool) (l : List Seat) → passes p (first_byte (past p l)) ≡ false
+past-stops p [] = refl
+past-stops p (s ∷ ss) = elim (p s.byte) as (λ t. p s.byte ≡ t → passes p (first_byte (cond t (past p ss) (s ∷ ss))) ≡ false) [
+  | true ↦ λ e. past-stops p ss
+  | false ↦ λ e. e
 ] refl
 
--- a byte that passes is there
-pub found : (test : ℕ → Bool) (o : Option Seat) → passes test (byte_of o) ≡ true → (s : Seat) × (o ≡ Some s) × (test s.byte ≡ true)
-found test None h = absurd (cc)
-found test (Some s) h = (s, refl, h)
+-- how many they are
+pub past-is : (p : ℕ → Bool) (l : List Seat) → past p l ≡ drop (prefix_len p (bytes_of l)) l
+past-is p [] = refl
+past-is p (s ∷ ss) = elim (p s.byte) as (λ t. cond t (past p ss) (s ∷ ss) ≡ drop (cond t (1 + prefix_len p (bytes_of ss)) 0) (s ∷ ss)) [
+  | true ↦ let one : suc (prefix_len p (bytes_of ss)) ≡ 1 + prefix_len p (bytes_of ss) = omega arith in past-is p ss ∙ ap (λ n. drop n (s ∷ ss)) one
+  | false ↦ refl
+]
+
+-- what is written leaves a number as it is
+pub passed-keeps : (φ : Local Unit Unit → ℕ) (f : Local Unit Unit → Local Unit Unit) → ((local : Local Unit Unit) → φ (f local) ≡ φ local)
+    → (p : ℕ → Bool) (l : List Seat) (local : Local Unit Unit) → φ (passed p f l local) ≡ φ local
+passed-keeps φ f keeps p [] local = refl
+passed-keeps φ f keeps p (s ∷ ss) local = elim (p s.byte) as (λ t. φ (cond t (passed p f ss (f local)) local) ≡ φ local) [
+  | true ↦ passed-keeps φ f keeps p ss (f local) ∙ keeps local
+  | false ↦ refl
+]
+
+-- or counts the bytes
+pub passed-counts : (φ : Local Unit Unit → ℕ) (f : Local Unit Unit → Local Unit Unit) → ((local : Local Unit Unit) → φ local + 1 < 2 ^ 64 → φ (f local) ≡ φ local + 1)
+    → (p : ℕ → Bool) (l : List Seat) (local : Local Unit Unit) → φ local + prefix_len p (bytes_of l) < 2 ^ 64 → φ (passed p f l local) ≡ φ local + prefix_len p (bytes_of l)
+passed-counts φ f grows p [] local h = omega arith
+passed-counts φ f grows p (s ∷ ss) local h =
+    elim (p s.byte) as (λ t. φ local + cond t (1 + prefix_len p (bytes_of ss)) 0 < 2 ^ 64 → φ (cond t (passed p f ss (f local)) local) ≡ φ local + cond t (1 + prefix_len p (bytes_of ss)) 0) [
+      | true ↦ λ i.
+          let once : φ (f local) ≡ φ local + 1 = grows local (omega (arith, i)) in
+          let others : φ (passed p f ss (f local)) ≡ φ (f local) + prefix_len p (bytes_of ss) = passed-counts φ f grows p ss (f local) (omega (arith, i, once)) in
+          omega (arith, once, others)
+      | false ↦ λ i. omega arith
+    ] h
+
+-- the byte so far behind a position
+first-behind : (l : List Seat) (n : ℕ) → slice_get (bytes_of l) n ≡ first_byte (drop n l)
+first-behind [] zero = refl
+first-behind [] (suc n) = refl
+first-behind (s ∷ ss) zero = refl
+first-behind (s ∷ ss) (suc n) = first-behind ss n
+
+pub byte-behind : (xs : List Seat) (p n : ℕ) (l rest : List Seat) → drop p xs ≡ l → drop (p + n) xs ≡ rest → slice_get (bytes_of l) n ≡ first_byte rest
+byte-behind xs p n l rest h i = first-behind l n ∙ ap first_byte (ap (drop n) (sym h) ∙ drop-drop n p xs ∙ i)
 
 module _ (text : Text) where
   -- the place at which the byte before ends
-  pub end-behind : (m p : ℕ) (s : Seat) (ss : List Seat) → drop p text.seats ≡ s ∷ ss → m ≤ length ss → end_place text (p + suc m) ≡ end_after s.end (take m ss)
+  end-behind : (m p : ℕ) (s : Seat) (ss : List Seat) → drop p text.seats ≡ s ∷ ss → m ≤ length ss → end_place text (p + suc m) ≡ end_after s.end (take m ss)
   end-behind zero p s ss h l =
       let one : p + suc zero ≡ suc p = omega arith in
       ap (end_place text) one ∙ ap (end_or text.start) (at-front text.seats p s ss h)
@@ -59,46 +102,85 @@ module _ (text : Text) where
       → event bytes Enter name (point_or text.end (slice_get text.seats p)) ∷ event bytes Exit name (end_place text (p + n)) ∷ [] ≡ leaf bytes name (take n (s ∷ ss))
   leaf-read bytes name n p s ss h l m = span-read bytes name [] n p s ss h l m
 
--- a byte waits, or the end
-abbrev pub seen : Bool → Configuration Unit Unit → Configuration Unit Unit
-seen b k = cond b (record k { waiting = Byte }) (record k { waiting = End; ended = true })
-
 module _ (g : Given) (text : Text) where
+  -- the seats behind the bytes that pass
+  pub past-at : (p : ℕ → Bool) (l : List Seat) (q q' : ℕ) → drop q text.seats ≡ l → q' ≡ q + prefix_len p (bytes_of l) → drop q' text.seats ≡ past p l
+  past-at p l q q' at is =
+      ap (λ n. drop n text.seats) is ∙ sym (drop-drop (prefix_len p (bytes_of l)) q text.seats) ∙ ap (drop (prefix_len p (bytes_of l))) at ∙ sym (past-is p l)
+
+  -- what is fed, and what is fed once more
+  stands : (l : List Seat) (stack : List EventName) (q : ℕ) (events : List Event) (local : Local Unit Unit) → drop q text.seats ≡ l
+      → fed text (held stack q Nothing false events local) ≡ shows l stack q events local
+  stands [] stack q events local at = fed_as g text (text_step g) [] stack q false events local at
+  stands (s ∷ ss) stack q events local at = fed_as g text (text_step g) (s ∷ ss) stack q false events local at
+
+  pub shown-fed : (l : List Seat) (stack : List EventName) (q : ℕ) (events : List Event) (local : Local Unit Unit) → drop q text.seats ≡ l
+      → fed text (held stack q Nothing (is_end l) events local) ≡ shows l stack q events local
+  shown-fed [] stack q events local at = fed_as g text (text_step g) [] stack q true events local at
+  shown-fed (s ∷ ss) stack q events local at = stands (s ∷ ss) stack q events local at
+
+  -- a state that is to come is called with what is fed
+  pub goes-next : (l : List Seat) (stack : List EventName) (q : ℕ) (events : List Event) (local : Local Unit Unit) (cs : List Choice) (name : Name) → drop q text.seats ≡ l
+      → Leads g text (held stack q Nothing false events local) cs (Next name) (shows l stack q events local) cs (Retry name)
+  goes-next l stack q events local cs name at es h =
+      leads-fed g text (held stack q Nothing false events local) cs name es (subst (λ k. EndsWith g text k cs (Retry name) es) (sym (stands l stack q events local at)) h)
+
   -- feeding may come later
   pub leads-unfed : (k : Configuration Unit Unit) (cs : List Choice) (n : Name) → Leads g text (fed text k) cs (Retry n) k cs (Next n)
   leads-unfed k cs n events h calls =
       let it = h calls in
       (it.0, ((fed-ends g (text_step g) text calls k cs n it.0).1 it.1.0, it.1.1, it.1.2))
 
-  -- A state reads each byte that passes, and adds no event
-  abbrev pub ReadsByte : (spans : List EventName) → Name → (test : ℕ → Bool) → Type 0
-  ReadsByte spans name test = (p : ℕ) (ended : Bool) (events : List Event) (local : Local Unit Unit) (cs : List Choice) (s : Seat) → slice_get text.seats p ≡ Some s → test s.byte ≡ true
-      → Leads g text (held spans p Byte ended events local) cs (Retry name) (held spans (p + 1) Nothing false events (counts local)) cs (Next name)
+  pub goes-back : (l : List Seat) (stack : List EventName) (q : ℕ) (events : List Event) (local : Local Unit Unit) (cs : List Choice) (name : Name) → drop q text.seats ≡ l
+      → Leads g text (shows l stack q events local) cs (Retry name) (held stack q Nothing false events local) cs (Next name)
+  goes-back l stack q events local cs name at es h =
+      subst (λ k. EndsWith g text k cs (Retry name) es) (stands l stack q events local at) (leads-unfed (held stack q Nothing false events local) cs name es h)
 
-  -- The whole run of bytes that pass was read
-  abbrev pub HasRead : (spans : List EventName) → Name → (p n : ℕ) → Bool → List Event → Local Unit Unit → List Choice → Type 0
-  HasRead spans name p n ended events local cs =
-      (ended_after : Bool) × (after : Local Unit Unit) × Leads g text (held spans p Nothing ended events local) cs (Next name) (held spans (p + n) Nothing ended_after events after) cs (Next name)
+  -- the rows at a byte of a class
+  pub class-rows : (rows : Option TextByte → Option TextByte → Rows Unit Unit) (q : ℕ) (s : Seat) (w : TextByte) → text_byte s.byte ≡ w
+      → rows (before_class g text q) (Some (text_byte s.byte)) ≡ rows (before_class g text q) (Some w)
+  class-rows rows q s w is = ap (λ v. rows (before_class g text q) (Some v)) is
 
-  -- so it reads a run of them
-  pub reads-run : (spans : List EventName) (name : Name) (test : ℕ → Bool) → ReadsByte spans name test
-      → (l : List Seat) (p : ℕ) (ended : Bool) (events : List Event) (local : Local Unit Unit) (cs : List Choice) → drop p text.seats ≡ l
-      → HasRead spans name p (prefix_len test (bytes_of l)) ended events local cs
-  reads-run spans name test one [] p ended events local cs here =
-      let same : p ≡ p + 0 = omega arith in
-      (ended, local, λ es h. subst (λ n. EndsWith g text (held spans n Nothing ended events local) cs (Next name) es) (sym same) h)
-  reads-run spans name test one (s ∷ ss) p ended events local cs here = elim (test s.byte) as (λ b. test s.byte ≡ b → HasRead spans name p (cond b (1 + prefix_len test (bytes_of ss)) 0) ended events local cs) [
-    | true ↦ λ e.
-        let at = at-front text.seats p s ss here in
-        let rest = reads-run spans name test one ss (p + 1) false events (counts local) cs (drop-next text.seats p s ss here) in
-        let further : p + (1 + prefix_len test (bytes_of ss)) ≡ p + 1 + prefix_len test (bytes_of ss) = omega arith in (
-          rest.0,
-          rest.1,
-          λ es h.
-              leads-byte g text spans p ended events local cs name at es
-              (one p ended events local cs s at e es (rest.2 es (subst (λ n. EndsWith g text (held spans n Nothing rest.0 events rest.1) cs (Next name) es) further h))),
-        )
-    | false ↦ λ e.
-        let same : p ≡ p + 0 = omega arith in
-        (ended, local, λ es h. subst (λ n. EndsWith g text (held spans n Nothing ended events local) cs (Next name) es) (sym same) h)
-  ] refl
+  -- the byte that is seen
+  pub sees : (l : List Seat) (q : ℕ) → drop q text.seats ≡ l → current_of text q (waits_at l) ≡ first_byte l
+  sees [] q at = refl
+  sees (s ∷ ss) q at = ap byte_of (at-front text.seats q s ss at)
+
+module _ (g : Given) (text : Text) (stack : List EventName) (cs : List Choice) (name : Name) (p : ℕ → Bool) (f : Local Unit Unit → Local Unit Unit) where
+  -- the state reads a byte that passes, and goes on with itself
+  abbrev pub Reads : Type 0
+  Reads = (q : ℕ) (ended : Bool) (events : List Event) (local : Local Unit Unit) (s : Seat) → slice_get text.seats q ≡ Some s → p s.byte ≡ true
+      → Leads g text (held stack q Byte ended events local) cs (Retry name) (held stack (q + 1) Nothing false events (f local)) cs (Next name)
+
+  -- if none passes, the machine stays there
+  stays : (l : List Seat) (q q' : ℕ) (events : List Event) (local : Local Unit Unit) → q ≡ q'
+      → Leads g text (shows l stack q events local) cs (Retry name) (shows l stack q' events local) cs (Retry name)
+  stays l q q' events local same = subst (λ n. Leads g text (shows l stack q events local) cs (Retry name) (shows l stack n events local) cs (Retry name)) same (λ es h. h)
+
+  -- and so it comes behind all that pass
+  pub loops : Reads → (l : List Seat) (q q' : ℕ) (events : List Event) (local : Local Unit Unit) → drop q text.seats ≡ l → q' ≡ q + prefix_len p (bytes_of l)
+      → Leads g text (shows l stack q events local) cs (Retry name) (shows (past p l) stack q' events (passed p f l local)) cs (Retry name)
+  loops reads [] q q' events local at is = stays [] q q' events local (omega (arith, is))
+  loops reads (s ∷ ss) q q' events local at is =
+      elim (p s.byte) as (λ t. p s.byte ≡ t → q' ≡ q + cond t (1 + prefix_len p (bytes_of ss)) 0
+      → Leads g text (shows (s ∷ ss) stack q events local) cs (Retry name) (shows (cond t (past p ss) (s ∷ ss)) stack q' events (cond t (passed p f ss (f local)) local)) cs (Retry name)) [
+        | true ↦ λ e i. λ es h.
+            let next = drop-next text.seats q s ss at in
+            reads q false events local s (at-front text.seats q s ss at) e es
+            (goes-next g text ss stack (q + 1) events (f local) cs name next es (loops reads ss (q + 1) q' events (f local) next (omega (arith, i)) es h))
+        | false ↦ λ e i. stays (s ∷ ss) q q' events local (omega (arith, i))
+      ] refl is
+
+  -- from a byte that passes it does, whatever was said of the end
+  pub loops-from : Reads → (s : Seat) (ss : List Seat) (q q' : ℕ) (ended : Bool) (events : List Event) (local : Local Unit Unit) → drop q text.seats ≡ s ∷ ss → p s.byte ≡ true
+      → q' ≡ q + prefix_len p (bytes_of (s ∷ ss))
+      → Leads g text (held stack q Byte ended events local) cs (Retry name) (shows (past p (s ∷ ss)) stack q' events (passed p f (s ∷ ss) local)) cs (Retry name)
+  loops-from reads s ss q q' ended events local at passing is =
+      elim (p s.byte) as (λ t. t ≡ true → q' ≡ q + cond t (1 + prefix_len p (bytes_of ss)) 0
+      → Leads g text (held stack q Byte ended events local) cs (Retry name) (shows (cond t (past p ss) (s ∷ ss)) stack q' events (cond t (passed p f ss (f local)) local)) cs (Retry name)) [
+        | true ↦ λ e i. λ es h.
+            let next = drop-next text.seats q s ss at in
+            reads q ended events local s (at-front text.seats q s ss at) passing es
+            (goes-next g text ss stack (q + 1) events (f local) cs name next es (loops reads ss (q + 1) q' events (f local) next (omega (arith, i)) es h))
+        | false ↦ λ e i. absurd (cc)
+      ] passing is

@@ -1,4 +1,4 @@
-use Rattle.mdconstructs_text.proofs.Prelude.{◌≡◌, [], ◌∷◌, Some, refl, sym, subst, ap, ◌∙◌, true, false, is_ascii_punctuation, CharacterEscape, CharacterEscapeValue, Ok, Nok, sight_of, enter, exit, consume, class_of, picked, step_of, DoesAll, can-exit, then, text_byte, escape_inside, escape_inside_rows}
+use Rattle.mdconstructs_text.proofs.Prelude.{◌≡◌, [], ◌∷◌, Some, refl, sym, subst, ap, ◌∙◌, true, false, is_ascii_punctuation, CharacterEscape, CharacterEscapeValue, Ok, sight_of, enter, exit, consume, class_of, picked, step_of, DoesAll, can-exit, then, text_byte, escape_inside, escape_inside_rows}
 use Rattle.mdconstructs_text.proofs.Escapes.Classes.{escaped-class, refused-class}
 use Rattle.mdconstructs_text.proofs.text.escape_inside.Goals as goal
 
@@ -26,12 +26,8 @@ returns-in_ok-exit-in-Some c =
 
 pub returns-else-is_ascii_punctuation : goal.returns-else-is_ascii_punctuation
 returns-else-is_ascii_punctuation c =
-    let t = c.args.t.now in
-    let s = sight_of t in
-    let k = t.configuration in
-    let b = class_of text_byte s.previous in
-    let byte = c.in-Some.byte in
-    let is = sym c.current.ensures ∙ c.in-Some.is in
-    let none : is_ascii_punctuation byte ≡ false = sym c.is_ascii_punctuation.ensures.value ∙ c.if-is_ascii_punctuation.false in
-    subst (λ rows. DoesAll (step_of (picked rows t.given s k) s k) t t Nok) (sym (ap (λ o. escape_inside_rows b (class_of text_byte o)) is ∙ refused-class b (Some byte) none))
+    let s = sight_of c.args.t.now in
+    let none : is_ascii_punctuation c.in-Some.byte ≡ false = sym c.is_ascii_punctuation.ensures.value ∙ c.if-is_ascii_punctuation.false in
+    rw (ap (λ o. escape_inside_rows (class_of text_byte s.previous) (class_of text_byte o)) (sym c.current.ensures ∙ c.in-Some.is) ∙ refused-class (class_of text_byte s.previous)
+    (Some c.in-Some.byte) none)
     (record { answered = refl; became = refl })
