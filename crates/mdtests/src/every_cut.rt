@@ -83,14 +83,14 @@ fn document_of(
 }
 
 /// How many readings of a document are as the uncut one, if it is cut at each place, and if it has less than four bytes, at each two.
+/// The document has at most four bytes, and the tab size is 16 at most.
 fn same_of_document(
     alloc: Global,
     readers: &[Reader],
     bytes: &[u8],
     tab: TabSize,
 ) -> Result<usize, AllocError> {
-    let _ = tab.get();
-    if bytes.len() > 4 {
+    if tab.get() > 16 || bytes.len() > 4 {
         return Err(AllocError);
     }
     let places = places(alloc, bytes, tab)?;

@@ -127,8 +127,8 @@ fn read_chains(
     told(alloc, &answer, events.as_slice())
 }
 
-/// Reads all chains of a list over a small document, with this tab size and a machine that runs out of memory at a call. Returns
-/// the result, and then the list.
+/// Reads all chains of a list over a document of at most 9 bytes, with this tab size, 16 at most, and a machine that runs out of
+/// memory at a call. Returns the result, and then the list.
 fn read(
     alloc: Global,
     list: &[Row],
@@ -140,8 +140,7 @@ fn read(
         tab_size: TabSize::new(tab).ok_or(AllocError)?,
         ..ParseOptions::gfm()
     };
-    let _ = options.tab_size.get();
-    if bytes.len() > 9 {
+    if options.tab_size.get() > 16 || bytes.len() > 9 {
         return Err(AllocError);
     }
     let mut events = listed(alloc, list)?;
