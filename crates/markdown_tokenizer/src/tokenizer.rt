@@ -258,6 +258,7 @@ impl<'a, M: MachineTypes> Tokenizer<'a, M> {
                 self.previous = Some(self.byte);
                 self.ended = false;
                 self.waits = Waits::Nothing;
+                // `feed` sets it again before it is read. With it LLVM writes all that is next to it at once.
                 self.moves = Moves::Other;
             }
             _ => self.consume_apart(),
