@@ -1,5 +1,5 @@
 -- What words choose, word by word, is what the options that they spell choose.
-use Rattle.mdevents_program.proofs.Prelude.{arith, ◌≡◌, ◌++◌, ℕ, List, [], ◌∷◌, Option, Some, None, true, false, Bool, refl, ◌∙◌, codes, filter_map, unwrap_or, option_and_then, option_map, bytes_eq, Choice, Which, Lines, Spelled, cut, deep, machine, tab, decimal_of, which_of, tab_size_of, options_of, cut_in, deep_in, machine_in, tab_in, at_most_one, choice_together, choice_of_words, chosen_after}
+use Rattle.mdevents_program.proofs.Prelude.{arith, ◌≡◌, ◌++◌, ℕ, List, [], ◌∷◌, Option, Some, None, true, false, Bool, refl, ◌∙◌, codes, filter_map, unwrap_or, option_and_then, bytes_eq, Choice, Which, Lines, Spelled, cut, deep, machine, tab, decimal_of, which_of, tab_size_of, options_of, cut_in, deep_in, machine_in, tab_in, at_most_one, choice_together, chosen_after}
 
 -- what came before of an option with a value
 abbrev given : {A : Type 0} → Option A → List A
@@ -27,32 +27,6 @@ together n d which t options =
 abbrev after : Option ℕ → Bool → Option Which → Option ℕ → List (List ℕ) → Option Choice
 after n d which t words = chosen_after (record { cut = n; deep = d; machine = which; tab = t }) words
 
--- an option that came once, and again
-module _ (n : Option ℕ) (d : Bool) (which : Option Which) (t : Option ℕ) where
-  first-cut : (m : ℕ) (options : Option (List Spelled)) → together (Some m) d which t options ≡ together None d which t (option_map (λ rest. cut m ∷ rest) options)
-  first-cut m options = grind arith
-
-  second-cut : (m k : ℕ) (options : Option (List Spelled)) → None ≡ together (Some m) d which t (option_map (λ rest. cut k ∷ rest) options)
-  second-cut m k options = grind arith
-
-  first-deep : (options : Option (List Spelled)) → together n true which t options ≡ together n false which t (option_map (λ rest. deep ∷ rest) options)
-  first-deep options = grind arith
-
-  second-deep : (options : Option (List Spelled)) → None ≡ together n true which t (option_map (λ rest. deep ∷ rest) options)
-  second-deep options = grind arith
-
-  first-machine : (w : Which) (options : Option (List Spelled)) → together n d (Some w) t options ≡ together n d None t (option_map (λ rest. machine w ∷ rest) options)
-  first-machine w options = grind arith
-
-  second-machine : (v w : Which) (options : Option (List Spelled)) → None ≡ together n d (Some v) t (option_map (λ rest. machine w ∷ rest) options)
-  second-machine v w options = grind arith
-
-  first-tab : (m : ℕ) (options : Option (List Spelled)) → together n d which (Some m) options ≡ together n d which None (option_map (λ rest. tab m ∷ rest) options)
-  first-tab m options = grind arith
-
-  second-tab : (m k : ℕ) (options : Option (List Spelled)) → None ≡ together n d which (Some m) (option_map (λ rest. tab k ∷ rest) options)
-  second-tab m k options = grind arith
-
 -- a word that is not `--deep`, and its value
 module _ (words : List (List ℕ)) (known : (n : Option ℕ) (d : Bool) (which : Option Which) (t : Option ℕ) → after n d which t words ≡ together n d which t (options_of words))
     (name value : List ℕ) (not-deep : bytes_eq name (codes "--deep") ≡ false) where
@@ -61,35 +35,28 @@ module _ (words : List (List ℕ)) (known : (n : Option ℕ) (d : Bool) (which :
 
   by-cut : (n : Option ℕ) (d : Bool) (which : Option Which) (t : Option ℕ) → bytes_eq name (codes "--cut") ≡ true → (number : Option ℕ) → decimal_of value ≡ number → Goal n d which t
   by-cut None d which t e None f = rw (not-deep, e, f) refl
-  by-cut None d which t e (Some n) f = rw (not-deep, e, f) (known (Some n) d which t ∙ first-cut None d which t n (options_of words))
+  by-cut None d which t e (Some n) f = rw (not-deep, e, f) (known (Some n) d which t ∙ grind arith)
   by-cut (Some m) d which t e None f = rw (not-deep, e, f) refl
-  by-cut (Some m) d which t e (Some n) f = rw (not-deep, e, f) (second-cut None d which t m n (options_of words))
+  by-cut (Some m) d which t e (Some n) f = rw (not-deep, e, f) (grind arith)
 
   by-machine : (n : Option ℕ) (d : Bool) (which : Option Which) (t : Option ℕ) → bytes_eq name (codes "--cut") ≡ false → bytes_eq name (codes "--machine") ≡ true → (machine : Option Which) → which_of value ≡ machine → Goal n d which t
   by-machine n d None t a e None f = rw (not-deep, a, e, f) refl
-  by-machine n d None t a e (Some w) f = rw (not-deep, a, e, f) (known n d (Some w) t ∙ first-machine n d None t w (options_of words))
+  by-machine n d None t a e (Some w) f = rw (not-deep, a, e, f) (known n d (Some w) t ∙ grind arith)
   by-machine n d (Some v) t a e None f = rw (not-deep, a, e, f) refl
-  by-machine n d (Some v) t a e (Some w) f = rw (not-deep, a, e, f) (second-machine n d None t v w (options_of words))
+  by-machine n d (Some v) t a e (Some w) f = rw (not-deep, a, e, f) (grind arith)
 
   by-tab : (n : Option ℕ) (d : Bool) (which : Option Which) (t : Option ℕ) → bytes_eq name (codes "--cut") ≡ false → bytes_eq name (codes "--machine") ≡ false → bytes_eq name (codes "--tab") ≡ true
       → (size : Option ℕ) → tab_size_of value ≡ size → Goal n d which t
   by-tab n d which None a b e None f = rw (not-deep, a, b, e, f) refl
-  by-tab n d which None a b e (Some m) f = rw (not-deep, a, b, e, f) (known n d which (Some m) ∙ first-tab n d which None m (options_of words))
+  by-tab n d which None a b e (Some m) f = rw (not-deep, a, b, e, f) (known n d which (Some m) ∙ grind arith)
   by-tab n d which (Some m) a b e None f = rw (not-deep, a, b, e, f) refl
-  by-tab n d which (Some m) a b e (Some k) f = rw (not-deep, a, b, e, f) (second-tab n d which None m k (options_of words))
+  by-tab n d which (Some m) a b e (Some k) f = rw (not-deep, a, b, e, f) (grind arith)
 
   by-name : (n : Option ℕ) (d : Bool) (which : Option Which) (t : Option ℕ) (b c s : Bool) → bytes_eq name (codes "--cut") ≡ b → bytes_eq name (codes "--machine") ≡ c → bytes_eq name (codes "--tab") ≡ s → Goal n d which t
   by-name n d which t true c s e f g = by-cut n d which t e (decimal_of value) refl
   by-name n d which t false true s e f g = by-machine n d which t e f (which_of value) refl
   by-name n d which t false false true e f g = by-tab n d which t e f g (tab_size_of value) refl
   by-name n d which t false false false e f g = rw (not-deep, e, f, g) refl
-
--- `--deep`, and more words
-by-deep : (word : List ℕ) (words : List (List ℕ)) → ((n : Option ℕ) (d : Bool) (which : Option Which) (t : Option ℕ) → after n d which t (word ∷ words) ≡ together n d which t (options_of (word ∷ words)))
-    → (name : List ℕ) → bytes_eq name (codes "--deep") ≡ true
-    → (n : Option ℕ) (d : Bool) (which : Option Which) (t : Option ℕ) → after n d which t (name ∷ word ∷ words) ≡ together n d which t (options_of (name ∷ word ∷ words))
-by-deep word words known name is-deep n false which t = rw is-deep (known n true which t ∙ first-deep n false which t (options_of (word ∷ words)))
-by-deep word words known name is-deep n true which t = rw is-deep (second-deep n true which t (options_of (word ∷ words)))
 
 -- without more options
 one-of : {A : Type 0} (o : Option A) → at_most_one (given o ++ []) ≡ Some o
@@ -101,23 +68,21 @@ alone n false which t = rw (one-of n, one-of which, one-of t) refl
 
 one-word : (n : Option ℕ) (d : Bool) (which : Option Which) (t : Option ℕ) (name : List ℕ) (b : Bool) → bytes_eq name (codes "--deep") ≡ b
     → after n d which t (name ∷ []) ≡ together n d which t (options_of (name ∷ []))
-one-word n false which t name true e = rw e (alone n true which t ∙ first-deep n false which t (Some []))
-one-word n true which t name true e = rw e (second-deep n true which t (Some []))
+one-word n false which t name true e = rw e (alone n true which t ∙ grind arith)
+one-word n true which t name true e = rw e (grind arith)
 one-word n d which t name false e = rw e refl
 
 first-word : (name value : List ℕ) (words : List (List ℕ)) (known : (n : Option ℕ) (d : Bool) (which : Option Which) (t : Option ℕ) → after n d which t words ≡ together n d which t (options_of words))
     → ((n : Option ℕ) (d : Bool) (which : Option Which) (t : Option ℕ) → after n d which t (value ∷ words) ≡ together n d which t (options_of (value ∷ words)))
     → (n : Option ℕ) (d : Bool) (which : Option Which) (t : Option ℕ) (b : Bool) → bytes_eq name (codes "--deep") ≡ b → after n d which t (name ∷ value ∷ words) ≡ together n d which t (options_of (name ∷ value ∷ words))
-first-word name value words known known-behind n d which t true e = by-deep value words known-behind name e n d which t
+first-word name value words known known-behind n false which t true e = rw e (known-behind n true which t ∙ grind arith)
+first-word name value words known known-behind n true which t true e = rw e (grind arith)
 first-word name value words known known-behind n d which t false e =
     by-name words known name value e n d which t (bytes_eq name (codes "--cut")) (bytes_eq name (codes "--machine")) (bytes_eq name (codes "--tab")) refl refl refl
 
-after-together : (n : Option ℕ) (d : Bool) (which : Option Which) (t : Option ℕ) (words : List (List ℕ)) → after n d which t words ≡ together n d which t (options_of words)
+-- words choose what the options that they spell choose
+pub after-together : (n : Option ℕ) (d : Bool) (which : Option Which) (t : Option ℕ) (words : List (List ℕ)) → after n d which t words ≡ together n d which t (options_of words)
 after-together n d which t [] = alone n d which t
 after-together n d which t (name ∷ []) = one-word n d which t name (bytes_eq name (codes "--deep")) refl
 after-together n d which t (name ∷ value ∷ words) =
     first-word name value words (λ m e w u. after-together m e w u words) (λ m e w u. after-together m e w u (value ∷ words)) n d which t (bytes_eq name (codes "--deep")) refl
-
--- words choose what the options that they spell choose
-pub chosen_after-chosen : (words : List (List ℕ)) → chosen_after (record { cut = None; deep = false; machine = None; tab = None }) words ≡ choice_of_words words
-chosen_after-chosen words = after-together None false None None words

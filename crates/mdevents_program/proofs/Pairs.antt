@@ -1,5 +1,5 @@
 -- The digits of a number, two at a time.
-use Rattle.mdevents_program.proofs.Prelude.{◌≡◌, ℕ, zero, suc, ◌+◌, ◌-◌, ◌*◌, ◌/◌, ◌%◌, ◌^◌, ◌<◌, ◌≤◌, Bool, true, ◌&&◌, T, eqb, List, [], ◌∷◌, ◌++◌, length, get_or, ap, ◌∙◌, inl, inr, arith, eq-zero-or-pos, eqb→eq, append_assoc, length-append, lit<, decimal_digit, decimal_step, length-decimal-le, lt_trans, decimal, and_l, and_r, PAIRS}
+use Rattle.mdevents_program.proofs.Prelude.{◌≡◌, ℕ, zero, suc, ◌+◌, ◌-◌, ◌*◌, ◌/◌, ◌%◌, ◌^◌, ◌<◌, ◌≤◌, Bool, true, ◌&&◌, T, eqb, List, [], ◌∷◌, ◌++◌, length, get_or, ap, ◌∙◌, inl, inr, arith, eq-zero-or-pos, eqb→eq, append_assoc, length-append, decimal_digit, decimal_step, decimal, and_l, and_r, PAIRS}
 
 -- the two digits of a number below 100
 abbrev pub pair : ℕ → List ℕ
@@ -11,17 +11,13 @@ has-pairs zero = true
 has-pairs (suc p) = (eqb (get_or PAIRS (p * 2) 0) (48 + p / 10) && eqb (get_or PAIRS (p * 2 + 1) 0) (48 + p % 10)) && has-pairs p
 
 -- what the table has of a number, if it has the digits of those below n
-has-pair : (n p : ℕ) → T (has-pairs n) → p < n → (get_or PAIRS (p * 2) 0 ≡ 48 + p / 10) × (get_or PAIRS (p * 2 + 1) 0 ≡ 48 + p % 10)
+pub has-pair : (n p : ℕ) → T (has-pairs n) → p < n → (get_or PAIRS (p * 2) 0 ≡ 48 + p / 10) × (get_or PAIRS (p * 2 + 1) 0 ≡ 48 + p % 10)
 has-pair zero p t h = absurd (omega arith)
 has-pair (suc n) p t h =
     elim (eq-zero-or-pos (n - p)) [
       | inl z ↦ let e : p ≡ n = omega arith in let both = and_l _ (has-pairs n) t in rw e (eqb→eq _ _ (and_l _ _ both), eqb→eq _ _ (and_r _ _ both))
       | inr g ↦ has-pair n p (and_r _ (has-pairs n) t) (omega arith)
     ]
-
--- what the table has of a number below 100
-pub pair-at : (p : ℕ) → p < 100 → (get_or PAIRS (p * 2) 0 ≡ 48 + p / 10) × (get_or PAIRS (p * 2 + 1) 0 ≡ 48 + p % 10)
-pair-at p h = has-pair 100 p tt h
 
 -- a number of two digits
 pub decimal-two : (n : ℕ) → 10 ≤ n → n < 100 → decimal n ≡ pair n
@@ -38,7 +34,3 @@ decimal-more n lo hi =
 -- and how many digits it has
 pub length-more : (n : ℕ) → 100 ≤ n → n < 2 ^ 64 → length (decimal n) ≡ length (decimal (n / 100)) + 2
 length-more n lo hi = ap length (decimal-more n lo hi) ∙ length-append _ _
-
--- a number has at most 20 digits
-pub most-digits : (n : ℕ) → n < 2 ^ 64 → length (decimal n) ≤ 20
-most-digits n small = length-decimal-le 20 n (lit< tt) (let wide : 18446744073709551616 < 10 ^ 20 = lit< tt in lt_trans small wide) small

@@ -15,7 +15,7 @@ pub use Rattle.std.specs.Char.{is_ascii_digit}
 pub use Rattle.std.specs.Fmt.{decimal}
 pub use Rattle.std.specs.Io.KnownBytes.{Appends, Consumes}
 pub use Rattle.std.specs.List.{list_all}
-pub use Rattle.std.specs.Option.{option_and_then, option_map}
+pub use Rattle.std.specs.Option.{option_and_then}
 pub use Rattle.std.specs.Prelude.{codes, filter_map, map, string_bytes, unwrap_or, ◌↔◌}
 pub use Rattle.std.specs.Simd.Lanes.{put_chunk}
 pub use Rattle.std.specs.Str.{bytes_eq}
@@ -59,7 +59,7 @@ pub use Rattle.mdconstructs.specs.Save.{save_rules}
 pub use Rattle.mdconstructs.specs.TextEvents.{text_events}
 pub use Rattle.mdconstructs.specs.TextRules.{text_rules}
 pub use lib.Ieee.Fits.{and_l, and_r}
-pub use Rattle.mdevents_program.specs.Arguments.{Spelled, at_most_one, choice_of_words, choice_together, cut, cut_in, decimal_of, deep, deep_in, links_text, machine, machine_in, options_of, tab, tab_in, tab_size_of, which_of}
+pub use Rattle.mdevents_program.specs.Arguments.{Spelled, at_most_one, choice_together, cut, cut_in, decimal_of, deep, deep_in, links_text, machine, machine_in, options_of, tab, tab_in, tab_size_of, which_of}
 pub use Rattle.mdevents_program.specs.ArgumentsInner.{chosen_after, with_value}
 pub use Rattle.mdevents_program.specs.Printed.{event_line, printed_events, printed_point}
 pub use Rattle.mdevents_program.specs.Program.{ArePrintedEvents, document, virtual_bytes}

@@ -9,5 +9,4 @@ up-to-16 size n false e taken not-taken = taken (grind (arith, nat_tests))
 pub returns : goal.returns
 returns c =
     let n = c.in_ok-number.number in
-    let number = c.in_ok-number.ensures.number in
-    rw (← number) (up-to-16 c.new.result n (nat_lt 16 n) refl (c.new.ensures.taken c.in_ok-number.ensures.some) c.new.ensures.above)
+    rw (← c.in_ok-number.ensures.number) (up-to-16 c.new.result n (nat_lt 16 n) refl (c.new.ensures.taken c.in_ok-number.ensures.some) c.new.ensures.above)

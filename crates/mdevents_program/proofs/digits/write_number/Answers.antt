@@ -1,9 +1,12 @@
-use Rattle.mdevents_program.proofs.Prelude.{◌≡◌, ◌+◌, ◌-◌, refl, ap, length, arith, append_assoc, decimal_digit, drop-set}
-use Rattle.mdevents_program.proofs.Pairs.{most-digits, decimal-two, decimal-more, length-more}
+use Rattle.mdevents_program.proofs.Prelude.{◌≡◌, ◌<◌, ◌^◌, ◌+◌, ◌-◌, refl, ap, lit<, lt_trans, length-decimal-le, length, arith, append_assoc, decimal_digit, drop-set}
+use Rattle.mdevents_program.proofs.Pairs.{decimal-two, decimal-more, length-more}
 use Rattle.mdevents_program.proofs.digits.write_number.Goals as goal
 
 pub pairs-init : goal.pairs-init
-pairs-init c = let most = most-digits c.args.number c.ranges.number.fits in record { room = omega (arith, most); inside = omega arith; digits = refl }
+pairs-init c =
+    let wide : 18446744073709551616 < 10 ^ 20 = lit< tt in
+    let most = length-decimal-le 20 c.args.number (lit< tt) (lt_trans c.ranges.number.fits wide) c.ranges.number.fits in
+    record { room = omega (arith, most); inside = omega arith; digits = refl }
 
 pub overflow_sub-at : goal.overflow_sub-at
 overflow_sub-at c = omega (arith, length-more c.pairs.rest c.pairs-test.true c.pairs.auto.rest-fits.fits, c.pairs.invariant.room, c.requires.0)
@@ -24,15 +27,15 @@ overflow_sub-bytes c = omega (arith, ap length (decimal_digit c.pairs.rest c.if-
 pub overflow_sub-result : goal.overflow_sub-result
 overflow_sub-result c = omega (arith, ap length (decimal_digit c.pairs.rest c.if-rest-lt10.true), c.pairs.invariant.room, c.requires.0)
 
-pub returns-then-rest-lt10-clause-bytes : goal.returns-then-rest-lt10-clause-bytes
-returns-then-rest-lt10-clause-bytes c =
+pub returns-then-rest-lt10 : goal.returns-then-rest-lt10
+returns-then-rest-lt10 c =
     let l = c.pairs in
     let one = ap length (decimal_digit l.rest c.if-rest-lt10.true) in
-    let back : l.at - 1 + 1 ≡ l.at = omega (arith, one, l.invariant.room, c.requires.0) in
-    rw (drop-set l.bytes (l.at - 1) _ (omega (arith, one, l.invariant.room, l.invariant.inside, c.requires.0, c.requires.1, l.auto.bytes)), back) (rw (decimal_digit l.rest c.if-rest-lt10.true) at l.invariant.digits)
-
-pub returns-then-rest-lt10-clause-most : goal.returns-then-rest-lt10-clause-most
-returns-then-rest-lt10-clause-most c = (omega (arith, c.pairs.invariant.inside), omega (arith, ap length (decimal_digit c.pairs.rest c.if-rest-lt10.true), c.pairs.invariant.room, c.requires.0))
+    let back : l.at - 1 + 1 ≡ l.at = omega (arith, one, l.invariant.room, c.requires.0) in record {
+      bytes = rw (drop-set l.bytes (l.at - 1) _ (omega (arith, one, l.invariant.room, l.invariant.inside, c.requires.0, c.requires.1, l.auto.bytes)), back)
+          (rw (decimal_digit l.rest c.if-rest-lt10.true) at l.invariant.digits);
+      most = (omega (arith, l.invariant.inside), omega (arith, one, l.invariant.room, c.requires.0));
+    }
 
 pub overflow_sub-at-2 : goal.overflow_sub-at-2
 overflow_sub-at-2 c = omega (arith, ap length (decimal-two c.pairs.rest c.if-rest-lt10.false c.pairs-test.false), c.pairs.invariant.room, c.requires.0)
@@ -40,11 +43,10 @@ overflow_sub-at-2 c = omega (arith, ap length (decimal-two c.pairs.rest c.if-res
 pub overflow_sub-result-2 : goal.overflow_sub-result-2
 overflow_sub-result-2 c = omega (arith, ap length (decimal-two c.pairs.rest c.if-rest-lt10.false c.pairs-test.false), c.pairs.invariant.room, c.requires.0)
 
-pub returns-clause-bytes : goal.returns-clause-bytes
-returns-clause-bytes c =
+pub returns : goal.returns
+returns c =
     let two = decimal-two c.pairs.rest c.if-rest-lt10.false c.pairs-test.false in
-    let back : c.pairs.at - 2 + 2 ≡ c.pairs.at = omega (arith, ap length two, c.pairs.invariant.room, c.requires.0) in
-    rw (c.write_pair-2.ensures, back) (rw two at c.pairs.invariant.digits)
-
-pub returns-clause-most : goal.returns-clause-most
-returns-clause-most c = (omega (arith, c.pairs.invariant.inside), omega (arith, ap length (decimal-two c.pairs.rest c.if-rest-lt10.false c.pairs-test.false), c.pairs.invariant.room, c.requires.0))
+    let back : c.pairs.at - 2 + 2 ≡ c.pairs.at = omega (arith, ap length two, c.pairs.invariant.room, c.requires.0) in record {
+      bytes = rw (c.write_pair-2.ensures, back) (rw two at c.pairs.invariant.digits);
+      most = (omega (arith, c.pairs.invariant.inside), omega (arith, ap length two, c.pairs.invariant.room, c.requires.0));
+    }

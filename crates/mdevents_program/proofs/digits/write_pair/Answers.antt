@@ -1,10 +1,10 @@
 use Rattle.mdevents_program.proofs.Prelude.{◌≡◌, ◌+◌, ◌%◌, set, arith, length-set, set_comm, drop-set}
-use Rattle.mdevents_program.proofs.Pairs.{pair-at}
+use Rattle.mdevents_program.proofs.Pairs.{has-pair}
 use Rattle.mdevents_program.proofs.digits.write_pair.Goals as goal
 
 pub returns : goal.returns
 returns c =
-    let digits = pair-at c.args.pair c.requires.0 in
+    let digits = has-pair 100 c.args.pair tt c.requires.0 in
     let at = c.args.at in
     let bytes = c.args.bytes.now in
     let e : at + 1 + 1 ≡ at + 2 = omega arith in

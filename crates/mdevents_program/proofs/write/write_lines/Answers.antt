@@ -10,10 +10,6 @@ beginning text waited rest all count e =
     ∙ sym (append_assoc text waited rest) ∙ e in
     ap (λ x. take (length front) x) (sym split) ∙ take_at front (drop count waited ++ rest) (length front) refl
 
--- the lines of the first events are a beginning of the lines of all events
-lines-split : (events : List Event) (n : ℕ) → printed_events (take n events) ++ printed_events (drop n events) ≡ printed_events events
-lines-split events n = sym (flat_map-append event_line (take n events) (drop n events)) ∙ ap printed_events (take-append-drop n events)
-
 -- the line of one more event
 next-line : (events : List Event) (n : ℕ) (e : Event) → take (n + 1) events ≡ take n events ++ e ∷ [] → printed_events (take (n + 1) events) ≡ printed_events (take n events) ++ event_line e
 next-line events n e more = ap printed_events more ∙ flat_map-append event_line (take n events) (e ∷ []) ∙ ap (λ x. printed_events (take n events) ++ x) (append-nil (event_line e))
@@ -27,7 +23,8 @@ module _ (events : List Event) (n : ℕ) (a b c : Option (List ℕ)) (text waite
   cut-short : (count : ℕ) → Appends b c (take count waited) → (count : ℕ) × Appends a c (take count (printed_events events))
   cut-short count second =
       let rest = printed_events (drop n events) in
-      let whole = beginning text waited rest (printed_events events) count (ap (λ x. x ++ rest) e ∙ lines-split events n) in
+      let split = ap (λ x. x ++ rest) e ∙ sym (flat_map-append event_line (take n events) (drop n events)) ∙ ap printed_events (take-append-drop n events) in
+      let whole = beginning text waited rest (printed_events events) count split in
       (length (text ++ take count waited), subst (Appends a c) (sym whole) (Appends-trans a b c text (take count waited) first second))
 
   -- a writer that took what waited after the last event has all lines
@@ -59,21 +56,14 @@ returns-in_err-make_room-clause-failed g c =
     let (count, second) = c.in_err-make_room.ensures.failed in
     rw is (cut-short c.args.events.now c.loop-event.event-index _ _ _ text _ first e count second)
 
-pub returns-clause-all : goal.returns-clause-all
-returns-clause-all g c =
-    let (text, first, e) = c.loop-event.invariant in
-    let same = ap (λ x. text ++ x) c.as_slice.ensures ∙ e in
-    on_ok_weaker c.write_all.result (whole c.args.events.now c.loop-event.event-index _ _ _ text _ first same c.loop-event-test.false) c.write_all.ensures.all
-
-pub returns-clause-failed : goal.returns-clause-failed
-returns-clause-failed g c =
-    let (text, first, e) = c.loop-event.invariant in
-    let same = ap (λ x. text ++ x) c.as_slice.ensures ∙ e in
-    on_err_weaker c.write_all.result (λ (count, second). cut-short c.args.events.now c.loop-event.event-index _ _ _ text _ first same count second) c.write_all.ensures.failed
-
-pub returns-clause-asked : goal.returns-clause-asked
-returns-clause-asked g c =
+pub returns : goal.returns
+returns g c =
     let events = c.args.events.now in
     let (text, first, e) = c.loop-event.invariant in
-    let all = ap (λ x. text ++ x) c.as_slice.ensures ∙ e ∙ ap printed_events (take_all c.loop-event.event-index events c.loop-event-test.false) in
-    on_err_weaker c.write_all.result (λ some. some-event events text _ all some) c.write_all.ensures.asked
+    let same = ap (λ x. text ++ x) c.as_slice.ensures ∙ e in
+    let all = same ∙ ap printed_events (take_all c.loop-event.event-index events c.loop-event-test.false) in record {
+      all = on_ok_weaker c.write_all.result (whole events c.loop-event.event-index _ _ _ text _ first same c.loop-event-test.false) c.write_all.ensures.all;
+      failed = on_err_weaker c.write_all.result (λ (count, second). cut-short events c.loop-event.event-index _ _ _ text _ first same count second) c.write_all.ensures.failed;
+      cause = c.write_all.ensures.cause;
+      asked = on_err_weaker c.write_all.result (λ some. some-event events text _ all some) c.write_all.ensures.asked;
+    }

@@ -4,9 +4,8 @@ use Rattle.mdevents_program.proofs.last_point.LastPoint.push_text.Goals as goal
 pub returns-then-len-le-BLOCK : goal.returns-then-len-le-BLOCK
 returns-then-len-le-BLOCK c =
     let inside = c.self.inside in
-    let told = c.self.told in
     let buffer = c.args.buffer.now in
-    let rest = take_all (118 - inside.start) (drop inside.start inside.bytes) (omega (arith, told, length-drop inside.start inside.bytes)) in
+    let rest = take_all (118 - inside.start) (drop inside.start inside.bytes) (omega (arith, c.self.told, length-drop inside.start inside.bytes)) in
     c.push_block.ensures.bytes
     ∙ ap (λ x. buffer ++ take (86 - inside.start) x) rest
     ∙ ap (λ x. buffer ++ x) (c.self.invariant.1 ∙ ap (λ p. printed_point p ++ 10 ∷ []) c.self.view_is)
