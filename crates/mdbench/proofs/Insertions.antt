@@ -1,5 +1,5 @@
 -- Edits that remove nothing are apart in whatever order they are added.
-use Rattle.mdbench.proofs.Prelude.{◌≡◌, ℕ, ◌+◌, ◌≤◌, Bool, true, false, cond, List, [], ◌∷◌, ◌++◌, inl, inr, refl, sym, subst, arith, cases_lt, Event, Edit, AreDisjoint, edit_at, is_no_edit, added_after, put_after, put-less, put-same, put-more}
+use Rattle.mdbench.proofs.Prelude.{◌≡◌, ℕ, ◌+◌, ◌≤◌, true, false, cond, List, [], ◌∷◌, ◌++◌, inl, inr, refl, sym, subst, arith, cases_lt, Event, Edit, AreDisjoint, edit_at, is_no_edit, added_after, put_after, put-less, put-same, put-more}
 
 -- edits in order that remove nothing, from an index on, within n events
 abbrev pub AreInsertions : ℕ → List Edit → ℕ → Type 0
@@ -30,8 +30,4 @@ put from (e ∷ es) n k xs l within h = elim (cases_lt k e.index) [
 ]
 
 pub added : (es : List Edit) (n k : ℕ) (xs : List Event) → k ≤ n → AreInsertions 0 es n → AreInsertions 0 (added_after es (edit_at k 0 xs)) n
-added es n k xs within h = at (is_no_edit (edit_at k 0 xs))
-  where
-    at : (b : Bool) → AreInsertions 0 (cond b es (put_after es (edit_at k 0 xs))) n
-    at true = h
-    at false = put 0 es n k xs (omega arith) within h
+added es n k xs within h = elim (is_no_edit (edit_at k 0 xs)) as (λ b. AreInsertions 0 (cond b es (put_after es (edit_at k 0 xs))) n) [ true ↦ h | false ↦ put 0 es n k xs (omega arith) within h ]
