@@ -7,9 +7,7 @@ less_from_cmp x y e = grind (arith, nat_tests)
 none_above : (es : List (ℕ × Replacement)) (k x : ℕ) → k < x → AllByRecursion (λ y. nat_cmp x y ≡ Less) (keys_of es) → lookup (is_at (nat_cmp k)) es ≡ None
 none_above [] k x l h = refl
 none_above (e ∷ es) k x l h =
-    let more : x < e.0 = less_from_cmp x e.0 h.0 in
-    let rest = none_above es k x l h.1 in
-    grind (arith, nat_tests)
+    grind (arith, nat_tests, less_from_cmp x e.0 h.0, none_above es k x l h.1)
 
 -- a value that means what the old one did
 pub set_same : (test : ℕ → Bool) (es : List (ℕ × Replacement)) (v w : Replacement) → lookup test es ≡ Some v → w.remove ≡ v.remove → w.additions.items ≡ v.additions.items → edits_of (set_value test es w) ≡ edits_of es

@@ -69,9 +69,4 @@ old_place-pass (e ∷ es) n i removed added xs h d r l m =
     let past = place_in-olds_above n i (take (e.index - i) xs) in
     let below = place_in-pass_below es n (e.index + e.remove) (drop (e.index + e.remove - i) xs) h.1 d' in
     let more = old_place-pass es n (e.index + e.remove) (removed + e.remove) (added + length e.events) (drop (e.index + e.remove - i) xs) h.1 d' (omega arith) in
-    let sum = shifted i (e.index - i) (length e.events) (e.index + e.remove) removed added (removed + e.remove) (place_in (of_list n) (pass es (e.index + e.remove) (drop (e.index + e.remove - i) xs))) (omega arith) in
     grind (arith, nat_tests)
-  where
-    shifted : (i k g j removed added removed' : ℕ) (o : Option ℕ) → i - removed + added + (k + g) ≡ j - removed' + (added + g) → option_map (λ p. i - removed + added + p) (or_after k None (or_after g None o)) ≡ option_map (λ p. j - removed' + (added + g) + p) o
-    shifted i k g j removed added removed' None e = refl
-    shifted i k g j removed added removed' (Some p) e = let z : i - removed + added + (k + (g + p)) ≡ j - removed' + (added + g) + p = omega arith in ap Some z

@@ -50,10 +50,7 @@ woven-below e es n zero i xs d m f = rw (sym m, add-zero) refl
 woven-below e es n (suc k) i [] d m f = absurd (omega arith)
 woven-below e es n (suc k) i (x ∷ xs) d m f =
     let after : AreApart (i + 1) (e ∷ es) n = ((omega arith), d.1) in
-    let none : events_at (e ∷ es) i ≡ [] = events_at-none (e ∷ es) (i + 1) n i after (omega arith) in
-    let stays : is_removed (e ∷ es) i ≡ false = is_removed-none (e ∷ es) (i + 1) n i after (omega arith) in
-    let more : woven (e ∷ es) (i + 1) xs ≡ olds (i + 1) (take k xs) ++ woven (e ∷ es) e.index (drop k xs) = woven-below e es n k (i + 1) xs after (omega arith) (omega arith) in
-    rw (none, stays, more) refl
+    rw (events_at-none (e ∷ es) (i + 1) n i after (omega arith), is_removed-none (e ∷ es) (i + 1) n i after (omega arith), woven-below e es n k (i + 1) xs after (omega arith) (omega arith)) refl
 
 pub woven-nil : (i : ℕ) (xs : List Event) → woven [] i xs ≡ olds i xs
 woven-nil i [] = refl

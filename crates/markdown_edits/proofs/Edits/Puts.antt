@@ -1,5 +1,5 @@
 -- Edits put into a list in the order of the indices.
-use Rattle.markdown_edits.proofs.Prelude.{◌≡◌, ℕ, ◌<◌, ◌≤◌, Bool, true, false, cond, List, [], ◌∷◌, ◌++◌, append-nil, refl, sym, ◌∙◌, ap, ⊎_elim, arith, AllByRecursion, cases_order, Event, every-map, Edit, merged, put_by, put_before, put_after, removal_at, is_no_edit, added_after, added_before, IsAscending, nat_tests}
+use Rattle.markdown_edits.proofs.Prelude.{◌≡◌, ℕ, ◌<◌, ◌≤◌, Bool, true, false, cond, List, [], ◌∷◌, ◌++◌, append-nil, refl, sym, ◌∙◌, ap, arith, AllByRecursion, Event, every-map, Edit, merged, put_by, put_before, put_after, removal_at, is_no_edit, added_after, added_before, IsAscending, nat_tests}
 
 module _ (f : List Event → List Event → List Event) where
   pub put-less : (e d : Edit) (es : List Edit) → d.index < e.index → put_by f (e ∷ es) d ≡ d ∷ e ∷ es
@@ -28,20 +28,14 @@ module _ (f : List Event → List Event → List Event) where
   -- edits that are above an index are above it after one more that is
   put-above : (k : ℕ) (es : List Edit) (d : Edit) → k < d.index → AllByRecursion (λ (e : Edit). k < e.index) es → AllByRecursion (λ (e : Edit). k < e.index) (put_by f es d)
   put-above k [] d l h = (l, tt)
-  put-above k (e ∷ es) d l h = ⊎_elim
-      (λ (q : d.index ≡ e.index). rw (put-same e d es q) h)
-      (⊎_elim (λ (q : d.index < e.index). rw (put-less e d es q) (l, h)) (λ (q : e.index < d.index). rw (put-more e d es q) (h.0, put-above k es d l h.1)))
-      (cases_order d.index e.index)
+  put-above k (e ∷ es) d l h = grind (arith, nat_tests, h.0, h.1, put-above k es d l h.1)
 
   -- edits ascend after one more
   pub IsAscending-put : (es : List Edit) (d : Edit) → IsAscending es → IsAscending (put_by f es d)
   IsAscending-put [] d a = (tt, tt)
-  IsAscending-put (e ∷ es) d a = ⊎_elim
-      (λ (q : d.index ≡ e.index). rw (put-same e d es q) a)
-      (⊎_elim
-      (λ (q : d.index < e.index). rw (put-less e d es q) ((q, every-map (λ (x : Edit). e.index < x.index) (λ (x : Edit). d.index < x.index) (λ x l. omega arith) es a.0), a))
-      (λ (q : e.index < d.index). rw (put-more e d es q) (put-above e.index es d q a.0, IsAscending-put es d a.1)))
-      (cases_order d.index e.index)
+  IsAscending-put (e ∷ es) d a =
+      let above = λ (q : d.index < e.index). every-map (λ (x : Edit). e.index < x.index) (λ (x : Edit). d.index < x.index) (λ x l. omega arith) es a.0 in
+      grind (arith, nat_tests, a.0, a.1, put-above e.index es d, IsAscending-put es d a.1)
 
 -- the additions of two edits at one index, the second one's first or last
 abbrev pub joined : Bool → List Event → List Event → List Event

@@ -1,5 +1,5 @@
 -- The edited list by identities is the one by prefix sums.
-use Rattle.markdown_edits.proofs.Prelude.{◌≡◌, ℕ, ◌+◌, ◌-◌, ◌<◌, cond, ltb, List, [], ◌∷◌, map, length, take, drop, Option, Some, None, refl, sym, ◌∙◌, ap, subst, arith, option_map, option_and_then, IfSome, All, map-append, length-map, All-head, All-tail, All-take, All-drop, Event, Link, relinked, with_ends, EndsBelow, EachEnd, Edit, AreDisjoint, as_addition, as_change, edited, of_list, Tagged, place_in, woven, placed_in, shifts, place_by, place_from, moved, spliced}
+use Rattle.markdown_edits.proofs.Prelude.{◌≡◌, ℕ, ◌+◌, ◌-◌, ◌<◌, cond, ltb, List, [], ◌∷◌, map, length, take, drop, Option, Some, None, refl, sym, ◌∙◌, ap, subst, arith, option_map, All, map-append, length-map, All-head, All-tail, All-take, All-drop, Event, Link, relinked, with_ends, EndsBelow, Edit, AreDisjoint, as_addition, as_change, edited, of_list, Tagged, place_in, woven, placed_in, shifts, place_by, place_from, moved, spliced}
 use Rattle.markdown_edits.proofs.Edits.Passes.{olds, pass, AreApart, woven-pass}
 use Rattle.markdown_edits.proofs.Edits.FinalPlaces.{HasNo, old_place, old_place-pass}
 use Rattle.markdown_edits.proofs.Edits.Shifts.{place_by-shifts}
@@ -31,16 +31,10 @@ relinked-same e =
     ap (λ (l : Option Link). record e { link = l }) same
 
 -- two ways to move ends that agree below n
-end_agree : (f g : ℕ → Option ℕ) (n : ℕ) (o : Option ℕ) → ((k : ℕ) → k < n → f k ≡ g k) → IfSome o (λ k. k < n) → option_and_then f o ≡ option_and_then g o
-end_agree f g n None h b = refl
-end_agree f g n (Some k) h b = h k b
-
-link_agree : (f g : ℕ → Option ℕ) (n : ℕ) (o : Option Link) → ((k : ℕ) → k < n → f k ≡ g k) → IfSome o (EachEnd (λ k. k < n)) → option_map (with_ends f) o ≡ option_map (with_ends g) o
-link_agree f g n None h b = refl
-link_agree f g n (Some l) h b = rw (end_agree f g n l.previous h b.0, end_agree f g n l.next h b.1) refl
-
 pub relinked-agree : (f g : ℕ → Option ℕ) (n : ℕ) (e : Event) → ((k : ℕ) → k < n → f k ≡ g k) → EndsBelow n e → relinked f e ≡ relinked g e
-relinked-agree f g n e h b = ap (λ (l : Option Link). record e { link = l }) (link_agree f g n e.link h b)
+relinked-agree f g n e h b =
+    let same : option_map (with_ends f) e.link ≡ option_map (with_ends g) e.link = grind (arith, h) in
+    ap (λ (l : Option Link). record e { link = l }) same
 
 pub placed_in-additions : (ts : List Tagged) (xs : List Event) → placed_in ts (map as_addition xs) ≡ xs
 placed_in-additions ts [] = refl

@@ -29,12 +29,7 @@ record There (ws : List Change) (n i : ℕ) (xs : List Event) (p : ℕ) : Type 0
 
 woven_cases : (ws : List Change) (n i p : ℕ) (x : Event) (xs : List Event) → HasNo (of_list n) ws → place_in (of_list n) (woven ws i (x ∷ xs)) ≡ Some p
     → Here ws n i p ⊎ There ws n i xs p
-woven_cases ws n i p x xs h e =
-    told (is_removed ws i) (eqb n i) (place_in (of_list n) (woven ws (i + 1) xs)) refl refl refl (sym (place_in-woven_cons ws n i x xs h) ∙ e)
-  where
-    told : (gone here : Bool) (o : Option ℕ) → is_removed ws i ≡ gone → eqb n i ≡ here → place_in (of_list n) (woven ws (i + 1) xs) ≡ o
-        → behind (length (events_at ws i)) gone here o ≡ Some p → Here ws n i p ⊎ There ws n i xs p
-    told gone here o g a f q = grind (arith, nat_tests)
+woven_cases ws n i p x xs h e = grind (arith, nat_tests, place_in-woven_cons ws n i x xs h)
 
 -- no event has a place if none of its kind is left
 le_of_place : (ws : List Change) (n i p : ℕ) (xs : List Event) → HasNo (of_list n) ws → place_in (of_list n) (woven ws i xs) ≡ Some p → i ≤ n
@@ -79,13 +74,10 @@ same_event ws n i p (x ∷ xs) h e = ⊎_elim
     let y : n - i ≡ suc (n - (i + 1)) = omega (arith, (le_of_place ws n (i + 1) a.place xs h a.found)) in
     ap (slice_get (woven ws i (x ∷ xs))) z
     ∙ slice_get-behind (events_at ws i) (cond (is_removed ws i) [] (as_listed i x ∷ []) ++ woven ws (i + 1) xs) (cond (is_removed ws i) 0 1 + a.place)
-    ∙ rest (is_removed ws i) a.place (woven ws (i + 1) xs)
+    ∙ grind arith
     ∙ same_event ws n (i + 1) a.place xs h a.found
     ∙ ap (λ k. option_map (as_listed n) (slice_get (x ∷ xs) k)) (sym y))
     (woven_cases ws n i p x xs h e)
-  where
-    rest : (gone : Bool) (k : ℕ) (ts : List Tagged) → slice_get (cond gone [] (as_listed i x ∷ []) ++ ts) (cond gone 0 1 + k) ≡ slice_get ts k
-    rest gone k ts = grind arith
 
 -- the laws
 
@@ -104,10 +96,7 @@ stays_as_it_was ws xs new n p e =
     let ts : List Tagged = woven ws 0 xs in
     slice_get-map (λ (u : Tagged). relinked (placed_end ts u.identity) u.event) ts p
     ∙ ap (option_map (λ (u : Tagged). relinked (placed_end ts u.identity) u.event)) (same_event ws n 0 p xs (has_no ws new n) e ∙ ap (λ k. option_map (as_listed n) (slice_get xs k)) z)
-    ∙ both (slice_get xs n)
-  where
-    both : (o : Option Event) → option_map (λ (u : Tagged). relinked (placed_end (woven ws 0 xs) u.identity) u.event) (option_map (as_listed n) o) ≡ option_map (relinked (place_after ws xs)) o
-    both o = grind arith
+    ∙ grind arith
 
 pub next_moved : (f : ℕ → Option ℕ) (o : Option Event) → option_and_then (λ (e : Event). option_and_then (λ (l : Link). l.next) e.link) (option_map (relinked f) o)
     ≡ option_and_then f (option_and_then (λ (e : Event). option_and_then (λ (l : Link). l.next) e.link) o)
