@@ -10,12 +10,6 @@ some_before bs zero text within low high =
     absurd (omega (arith, ((IsCharBoundary-start bs text).1 within low), high))
 some_before bs (suc i) text within low high = omega arith
 
--- a part, and what comes before it
-front_is : (bs : List ℕ) (i j : ℕ) → i ≤ j → take j bs ≡ take i bs ++ take (j - i) (drop i bs)
-front_is bs i j le =
-    let e : j ≡ i + (j - i) = omega arith in
-    ap (λ n. take n bs) e ∙ take-add i (j - i) bs
-
 last_of_both : (o : Option ℕ) (xs ys : List ℕ) → 0 < length ys → last_or o (xs ++ ys) ≡ last_or None ys
 last_of_both o [] [] some = absurd (omega arith)
 last_of_both o [] (y ∷ ys) some = refl
@@ -33,7 +27,8 @@ pub char_before_part : (bs : List ℕ) (i j : ℕ) → IsUtf8 bs → i < j → j
     → char_before bs j ≡ last_or None (chars (take (j - i) (drop i bs)))
 char_before_part bs i j text lt within starts ends =
     let long : 0 < length (take (j - i) (drop i bs)) = grind (arith, length-take, length-drop) in
-    ap (λ xs. last_or None (chars xs)) (front_is bs i j (omega arith))
+    let e : j ≡ i + (j - i) = omega arith in
+    ap (λ xs. last_or None (chars xs)) (ap (λ n. take n bs) e ∙ take-add i (j - i) bs)
     ∙ ap (λ cs. last_or None cs) (chars-append (take i bs) (take (j - i) (drop i bs)) (IsUtf8-take bs i text starts))
     ∙ last_of_both None (chars (take i bs)) (chars (take (j - i) (drop i bs))) (some_char (take (j - i) (drop i bs)) (IsUtf8-between bs i j text (omega arith) starts ends) long)
 

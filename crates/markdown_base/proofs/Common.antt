@@ -5,23 +5,19 @@ use Rattle.markdown_base.proofs.Prelude.{◌≡◌, ℕ, zero, suc, ◌+◌, ◌
 
 -- `not a || b` is an implication
 pub or-leads : (a b : Bool) → (not a || b) ≡ true → a ≡ true → b ≡ true
-or-leads true b h e = h
-or-leads false b h e = absurd (cc)
+or-leads a b h e = grind arith
 
 -- the right part of `a && b`
 pub and-right : (a b : Bool) → (a && b) ≡ true → b ≡ true
-and-right true b h = h
-and-right false b h = absurd (cc)
+and-right a b h = grind arith
 
 -- nothing makes `a && false` true
 pub and-false-never : (a : Bool) → (a && false) ≡ true → ⊥
-and-false-never true h = cc
-and-false-never false h = cc
+and-false-never a h = grind arith
 
 -- an implication, read backwards
 pub leads-back : (a b : Bool) → (a ≡ true → b ≡ true) → b ≡ false → a ≡ false
-leads-back true b h e = absurd (let f = h refl in cc)
-leads-back false b h e = refl
+leads-back a b h e = grind (arith, h)
 
 -- ---- elements of lists
 

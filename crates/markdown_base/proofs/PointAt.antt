@@ -1,5 +1,5 @@
 -- Lemmas on the point of a place that the virtual text reaches, and on how it moves along a line.
-use Rattle.markdown_base.proofs.Prelude.{◌≡◌, ◌≢◌, ℕ, zero, suc, ◌+◌, ◌-◌, ◌<◌, ◌≤◌, inl, inr, Bool, true, false, List, [], ◌∷◌, ◌++◌, drop, refl, ap, ◌∙◌, arith, subst, eq-eqb, ne_eqb, ◌==◌, ◌&&◌, slice_index, find, Some, AllByRecursion, flat_map, false≢true, flat_map-append, Point, Seat, point, tab_width, in_tab, other_byte, begins_with_lf, virtual_from, end_after, document_end, shown, follows_cr, point_at, IsPointOf, HasNoLineEnding, nat_tests}
+use Rattle.markdown_base.proofs.Prelude.{◌≡◌, ℕ, zero, suc, ◌+◌, ◌-◌, ◌<◌, ◌≤◌, inl, inr, Bool, true, false, List, [], ◌∷◌, ◌++◌, drop, refl, ap, ◌∙◌, arith, subst, eq-eqb, ◌==◌, ◌&&◌, slice_index, find, Some, AllByRecursion, flat_map, false≢true, flat_map-append, Point, Seat, point, tab_width, in_tab, other_byte, begins_with_lf, virtual_from, end_after, document_end, shown, follows_cr, point_at, IsPointOf, HasNoLineEnding, nat_tests}
 use Rattle.std.proofs.lemmas.List.{append_assoc}
 use Rattle.markdown_base.proofs.Scans.{IsReached, drop_is, tab_width-least, place-of}
 
@@ -11,18 +11,10 @@ is_at index p = (p.index == index) && (p.vs == 0)
 abbrev both : List ℕ → Seat → List Point
 both bytes s = shown bytes s.point ∷ s.point ∷ []
 
-not_at : (index : ℕ) (p : Point) → p.index ≢ index → is_at index p ≡ false
-not_at index p other = rw (ne_eqb p.index index other) refl
-
-shown_below : (bytes : List ℕ) (p : Point) (index : ℕ) → p.index < index → (shown bytes p).index ≢ index
-shown_below bytes p index below = grind (arith, nat_tests)
-
 -- no place before an index is at it
 find_past : (bytes : List ℕ) (index : ℕ) (front : List Seat) (rest : List Point) → AllByRecursion (λ s. s.point.index < index) front → find (is_at index) (flat_map (both bytes) front ++ rest) ≡ find (is_at index) rest
 find_past bytes index [] rest below = refl
-find_past bytes index (s ∷ front) rest below =
-    rw (not_at index (shown bytes s.point) (shown_below bytes s.point index below.0), not_at index s.point (λ e. omega (arith, below.0)))
-    (find_past bytes index front rest below.1)
+find_past bytes index (s ∷ front) rest below = grind (arith, nat_tests, below.0, find_past bytes index front rest below.1)
 
 find_here : (index line column : ℕ) (rest : List Point) → find (is_at index) (point line column index 0 ∷ rest) ≡ Some (point line column index 0)
 find_here index line column rest = rw (eq-eqb index index refl) refl
