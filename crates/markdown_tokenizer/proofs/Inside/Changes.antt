@@ -8,19 +8,16 @@ use Rattle.markdown_tokenizer.proofs.Positions.Gaps.{same-not_before, other-befo
 use Rattle.markdown_tokenizer.proofs.Positions.Cursors.{upto-order, upto-upto, end-upto, same-self, same-upto, same-back, range-continued, range-empty}
 use Rattle.markdown_tokenizer.proofs.Positions.Points.{point_at-point, point_at-is}
 use Rattle.markdown_tokenizer.proofs.Inside.Made.{made-new, made-bound, made-linked}
-use Rattle.markdown_tokenizer.proofs.Inside.Fields.{Saves, wide_of, text_between, next-more, within, here-all, kept-same, made-more, nested-map, nested-as}
+use Rattle.markdown_tokenizer.proofs.Inside.Fields.{Saves, wide_of, text_between, next-more, within, here-all, kept-same, made-more, nested-map}
 use Rattle.markdown_tokenizer.proofs.Inside.Known.{known-other, ready-none}
 use Rattle.markdown_tokenizer.proofs.Inside.Spans.{same-choices}
 use Rattle.markdown_tokenizer.proofs.Inside.Steps.{looks_in, end-place-in}
 
 -- pieces that can follow one after another
-can-follow-more : (g : Given) (text : Text) (pieces : List Piece) (piece : Piece) → CanFollow g text pieces → FitsAfter g (followed_by_all g text pieces) piece → CanFollow g text (pieces ++ piece ∷ [])
-can-follow-more g text [] piece h k = (k, tt)
-can-follow-more g text (p ∷ pieces) piece h k = (h.0, can-follow-more g (followed_by g text p) pieces piece h.1 k)
-
-followed-more : (g : Given) (text : Text) (pieces : List Piece) (piece : Piece) → followed_by_all g text (pieces ++ piece ∷ []) ≡ followed_by g (followed_by_all g text pieces) piece
-followed-more g text [] piece = refl
-followed-more g text (p ∷ pieces) piece = followed-more g (followed_by g text p) pieces piece
+follow-more : (g : Given) (text : Text) (pieces : List Piece) (piece : Piece) → CanFollow g text pieces → FitsAfter g (followed_by_all g text pieces) piece
+    → CanFollow g text (pieces ++ piece ∷ []) × (followed_by_all g text (pieces ++ piece ∷ []) ≡ followed_by g (followed_by_all g text pieces) piece)
+follow-more g text [] piece h k = ((k, tt), refl)
+follow-more g text (p ∷ pieces) piece h k = let more = follow-more g (followed_by g text p) pieces piece h.1 k in ((h.0, more.0), more.1)
 
 -- a text with a piece put at its end is a text
 pub text-more : (g : Given) (text : Text) (piece : Piece) → IsText g text → FitsAfter g text piece → IsText g (followed_by g text piece)
@@ -29,13 +26,13 @@ text-more g text piece h fits =
       | pushed from to ↦ refl
       | passed p ↦ elim (denotes_same g.tab g.bytes p text.end) as (λ b. (cond b text (record { start = text.start; seats = text.seats; end = p })).start ≡ text.start) [ true ↦ refl | false ↦ refl ]
     ] in
+    let more = follow-more g (empty_text text.start) h.pieces piece h.follow (subst (λ (w : Text). FitsAfter g w piece) h.is fits) in
     record {
       document = h.document;
       starts = subst (IsPointOf g.tab g.bytes) (sym same) h.starts;
       pieces = h.pieces ++ piece ∷ [];
-      follow = subst (λ (p : Point). CanFollow g (empty_text p) (h.pieces ++ piece ∷ [])) (sym same)
-          (can-follow-more g (empty_text text.start) h.pieces piece h.follow (subst (λ (w : Text). FitsAfter g w piece) h.is fits));
-      is = ap (λ (w : Text). followed_by g w piece) h.is ∙ sym (followed-more g (empty_text text.start) h.pieces piece) ∙ ap (λ (p : Point). followed_by_all g (empty_text p) (h.pieces ++ piece ∷ [])) (sym same);
+      follow = subst (λ (p : Point). CanFollow g (empty_text p) (h.pieces ++ piece ∷ [])) (sym same) more.0;
+      is = ap (λ (w : Text). followed_by g w piece) h.is ∙ sym more.1 ∙ ap (λ (p : Point). followed_by_all g (empty_text p) (h.pieces ++ piece ∷ [])) (sym same);
     }
 
 can-feed-more : (position m n : ℕ) (closed : Bool) → m ≤ n → can_feed position m closed ≡ true → can_feed position n closed ≡ true
@@ -323,16 +320,11 @@ module _ {M R D : Type 0} {same : R → R → Bool} (t : Inside M R D) (sound : 
   linked-kept_choices =
       let bytes = t.parse_state.now.bytes.now in
       let same_length = sym (length-map events unlinked) ∙ ap length events-unlinked ∙ length-map t.events.items unlinked in
-      nested-as (Saves t) (IsProgress t.phase (tab_of t.parse_state.now) bytes t.skips (text_within t) events t.stack.items t.closed)
-      (length t.events.items) (length t.stack.items) (length events) (length t.stack.items) (reverse t.kept_choices.items) (λ p a b h. (
-        omega (arith, a, same_length),
-        b,
-        record {
-          read = h.read;
-          ended = h.ended;
-          made = λ reads. made-linked (take p.events_len t.events.items) (take p.events_len events)
-              (sym (take-map unlinked p.events_len t.events.items) ∙ ap (take p.events_len) (sym events-unlinked) ∙ take-map unlinked p.events_len events)
-              bytes (take p.stack_len t.stack.items) (shown bytes p.after_previous)
-              (shown bytes (reach t.skips p.after_previous (can_feed (position_from (tab_of t.parse_state.now) bytes t.skips t.start p.after_previous) (length (text_within t).seats) t.closed))) (h.made reads);
-        },
-      )) sound.kept_choices
+      rw same_length (nested-map (Saves t) (IsProgress t.phase (tab_of t.parse_state.now) bytes t.skips (text_within t) events t.stack.items t.closed)
+      (length t.events.items) (length t.stack.items) (reverse t.kept_choices.items) (λ p a b h. record {
+        read = h.read;
+        ended = h.ended;
+        made = λ reads. made-linked (take p.events_len t.events.items) (take p.events_len events)
+            (sym (take-map unlinked p.events_len t.events.items) ∙ ap (take p.events_len) (sym events-unlinked) ∙ take-map unlinked p.events_len events)
+            bytes (take p.stack_len t.stack.items) (shown bytes p.after_previous) _ (h.made reads);
+      }) sound.kept_choices)

@@ -36,21 +36,16 @@ module _ {M R D : Type 0} {same : R → R → Bool} (t : Inside M R D) (sound : 
   pub saves-here : Saves t (progress_of t)
   saves-here = record { read = sound.placed.read; ended = sound.placed.ended; made = λ reads. rw (take-length t.events.items, take-length t.stack.items) (waits-more t.waits sound.placed.waiting (sound.made reads)) }
 
-  module _ (kind : AttemptKind) (ok nok : GoesOn) where
-    abbrev mark_if : Bool → KeptChoice
-    mark_if saves = record { kind = kind; ok = ok; nok = nok; saved = saved_if saves t }
+  module _ (kind : AttemptKind) (ok nok : GoesOn) (saves : Bool) (kept_choices : List KeptChoice)
+      (put : kept_choices ≡ t.kept_choices.items ++ record { kind = kind; ok = ok; nok = nok; saved = saved_if saves t } ∷ []) where
+    pub chosen-kept_choices : AreNested (Saves t) (length t.events.items) (length t.stack.items) (reverse kept_choices)
+    chosen-kept_choices = rw (put, reverse-push) (elim saves as (λ (b : Bool).
+        AreNested (Saves t) (length t.events.items) (length t.stack.items) (record { kind = kind; ok = ok; nok = nok; saved = saved_if b t } ∷ reverse t.kept_choices.items)) [
+          | true ↦ ((omega arith, omega arith, saves-here), sound.kept_choices)
+          | false ↦ (tt, sound.kept_choices)
+        ])
 
-    nested-one : (saves : Bool) → AreNested (Saves t) (length t.events.items) (length t.stack.items) (mark_if saves ∷ reverse t.kept_choices.items)
-    nested-one true = ((omega arith, omega arith, saves-here), sound.kept_choices)
-    nested-one false = (tt, sound.kept_choices)
-
-    choice-one : (saves : Bool) → choice_of (position_from tab_in bytes_in t.skips t.start) t.stack.items (mark_if saves) ≡ choice_at kind (state_of ok) (state_of nok) saves (seen t).configuration
-    choice-one true = rw (take-length t.stack.items) refl
-    choice-one false = refl
-
-    module _ (saves : Bool) (kept_choices : List KeptChoice) (put : kept_choices ≡ t.kept_choices.items ++ mark_if saves ∷ []) where
-      pub chosen-kept_choices : AreNested (Saves t) (length t.events.items) (length t.stack.items) (reverse kept_choices)
-      chosen-kept_choices = rw (put, reverse-push t.kept_choices.items (mark_if saves)) (nested-one saves)
-
-      pub chosen-choices : map (choice_of (position_from tab_in bytes_in t.skips t.start) t.stack.items) (reverse kept_choices) ≡ choice_at kind (state_of ok) (state_of nok) saves (seen t).configuration ∷ (seen t).choices
-      chosen-choices = rw (put, reverse-push t.kept_choices.items (mark_if saves)) (ap (λ (c : Choice). c ∷ (seen t).choices) (choice-one saves))
+    pub chosen-choices : map (choice_of (position_from tab_in bytes_in t.skips t.start) t.stack.items) (reverse kept_choices) ≡ choice_at kind (state_of ok) (state_of nok) saves (seen t).configuration ∷ (seen t).choices
+    chosen-choices = rw (put, reverse-push) (ap (λ (c : Choice). c ∷ (seen t).choices) (elim saves as (λ (b : Bool).
+        choice_of (position_from tab_in bytes_in t.skips t.start) t.stack.items (record { kind = kind; ok = ok; nok = nok; saved = saved_if b t })
+        ≡ choice_at kind (state_of ok) (state_of nok) b (seen t).configuration) [ true ↦ rw (take-length t.stack.items) refl | false ↦ refl ]))

@@ -56,23 +56,12 @@ nested-as P Q a b c d [] f h = tt
 nested-as P Q a b c d (choice ∷ kept_choices) f h =
     elim choice.saved as (λ (saved : Option Progress). AreNested P a b (record choice { saved = saved } ∷ kept_choices) → AreNested Q c d (record choice { saved = saved } ∷ kept_choices)) [
       | None ↦ λ k. (tt, nested-as P Q a b c d kept_choices f k.1)
-      | Some p ↦ λ k. (
-        f p k.0.0 k.0.1 k.0.2,
-        nested-as P Q p.events_len p.stack_len p.events_len p.stack_len kept_choices (λ q x y l. (x, y, (f q (omega (arith, k.0.0)) (omega (arith, k.0.1)) l).2)) k.1,
-      )
+      | Some p ↦ λ k. (f p k.0.0 k.0.1 k.0.2, nested-as P Q p.events_len p.stack_len p.events_len p.stack_len kept_choices (λ q x y l. (x, y, (f q (omega arith) (omega arith) l).2)) k.1)
     ] h
 
 pub nested-map : (P Q : Progress → Type 0) (events stack : ℕ) (kept_choices : List KeptChoice) → ((p : Progress) → p.events_len ≤ events → p.stack_len ≤ stack → P p → Q p)
     → AreNested P events stack kept_choices → AreNested Q events stack kept_choices
 nested-map P Q events stack kept_choices f h = nested-as P Q events stack events stack kept_choices (λ p a b k. (a, b, f p a b k)) h
-
--- but for the last choice
-pub nested-front : (P : Progress → Type 0) (events stack : ℕ) (choice : KeptChoice) (kept_choices : List KeptChoice) → AreNested P events stack (choice ∷ kept_choices) → AreNested P events stack kept_choices
-nested-front P events stack choice kept_choices h =
-    elim choice.saved as (λ (saved : Option Progress). AreNested P events stack (record choice { saved = saved } ∷ kept_choices) → AreNested P events stack kept_choices) [
-      | None ↦ λ k. k.1
-      | Some p ↦ λ k. nested-as P P p.events_len p.stack_len events stack kept_choices (λ q x y l. (omega (arith, k.0.0), omega (arith, k.0.1), l)) k.1
-    ] h
 
 -- what a choice of a tokenizer saved
 abbrev pub Saves : {M R D : Type 0} → Inside M R D → Progress → Type 0
@@ -99,11 +88,9 @@ module _ {M R D : Type 0} {same : R → R → Bool} (t : Inside M R D) (sound : 
 
     -- no more was read than the text
     pub within : position_from tab_in bytes_in t.skips t.start after_previous ≤ length (seats_between tab_in bytes_in t.skips t.start end_in)
-    within = omega (
-      arith,
-      ap length (kept-splits tab_in bytes_in t.skips t.start after_previous end_in read.place read.from read.upto),
-      length-append (seats_between tab_in bytes_in t.skips t.start after_previous) (filter (is_kept t.skips) (left_of tab_in bytes_in after_previous end_in)),
-    )
+    within =
+        let splits = kept-splits tab_in bytes_in t.skips t.start after_previous end_in read.place read.from read.upto in
+        omega (arith, ap length splits, length-append (seats_between tab_in bytes_in t.skips t.start after_previous) (filter (is_kept t.skips) (left_of tab_in bytes_in after_previous end_in)))
 
     pub here-all : is_upto tab_in bytes_in end_in here ≡ true → length (seats_between tab_in bytes_in t.skips t.start end_in) ≤ position_from tab_in bytes_in t.skips t.start after_previous
     here-all e =

@@ -6,7 +6,7 @@ use Rattle.std.specs.declared.result.Result.TheVariants as result
 use Rattle.markdown_base.specs.declared.event.Name.{Name}
 use Rattle.markdown_base.specs.declared.state.Name.{Name as StateName}
 use Rattle.markdown_tokenizer.specs.declared.waiting.GoesOn.TheVariants as continuation
-use Rattle.markdown_tokenizer.proofs.Inside.Fields.{Saves, wide_of, placed-there, looks, next-more, next-past, next-none-left, nested-front}
+use Rattle.markdown_tokenizer.proofs.Inside.Fields.{Saves, wide_of, placed-there, looks, next-more, next-past, next-none-left, nested-as}
 use Rattle.markdown_tokenizer.proofs.Inside.Steps.{before-end}
 use Rattle.markdown_tokenizer.proofs.Inside.Spans.{same-front, same-choices}
 use Rattle.markdown_tokenizer.proofs.Inside.Known.{known-other}
@@ -27,11 +27,13 @@ module _ (P : Progress → Type 0) where
   from-one : (kind : AttemptKind) (ok nok : GoesOn) (saved : Option Progress) (kept_choices : List KeptChoice) (from : Progress) (b : Bool)
       → let choice : KeptChoice = record { kind = kind; ok = ok; nok = nok; saved = saved } in
       P from → AreNested P from.events_len from.stack_len (choice ∷ kept_choices) → GoesFrom from kept_choices (unwrap_or (saved_for choice b) from)
-  from-one Attempt ok nok saved kept_choices from true now h = (
-    now,
-    nested-front P from.events_len from.stack_len (record { kind = Attempt; ok = ok; nok = nok; saved = saved }) kept_choices h,
-    (omega arith, omega arith),
-  )
+  from-one Attempt ok nok saved kept_choices from true now h =
+      let front = elim saved as (λ (saved : Option Progress). AreNested P from.events_len from.stack_len (record { kind = Attempt; ok = ok; nok = nok; saved = saved } ∷ kept_choices)
+      → AreNested P from.events_len from.stack_len kept_choices) [
+        | None ↦ λ k. k.1
+        | Some p ↦ λ k. nested-as P P p.events_len p.stack_len from.events_len from.stack_len kept_choices (λ q x y l. (omega arith, omega arith, l)) k.1
+      ] in
+      (now, front h, (omega arith, omega arith))
   from-one Check ok nok saved kept_choices from true now h = from-saved from saved kept_choices now h.0 h.1
   from-one _ ok nok saved kept_choices from false now h = from-saved from saved kept_choices now h.0 h.1
 

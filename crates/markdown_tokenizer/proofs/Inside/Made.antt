@@ -122,6 +122,8 @@ module _ (bytes : List ℕ) (events : List Event) (stack : List Name) (after_pre
       let rest = take (length stack - 1) stack in
       let whole : stack ≡ rest ++ e.name ∷ [] = push_from_last stack e.name top in
       let same : same_name e.name e.name ≡ true = same_name-refl e.name in
+      let follows = λ (_ : e.kind ≡ Exit) (v : is_void e.name ≡ true).
+      ap (last_kind Exit) (push_from_last events (last v).0 (last v).1) ∙ last_kind-append Exit (take (length events - 1) events) ((last v).0 ∷ []) ∙ (last v).2 in
       let here : AreUpto after_previous (events ++ e ∷ []) = All-push (λ d. stands_before after_previous d.point ≡ false) events e upto (ap (stands_before after_previous) at ∙ stands-self after_previous) in
       record {
         names = ap (map (λ (e : Event). e.name)) (open_events_from-append [] events (e ∷ []) ∙ ap (λ (k : Kind). open_after k e (open_events events)) k)
@@ -130,11 +132,7 @@ module _ (bytes : List ℕ) (events : List Event) (stack : List Name) (after_pre
             ∙ ap (λ (ns : List Name). take (length ns - 1) ns) m.names;
         nested = names-push events e (reverse stack) m.nested ∙ ap (λ (k : Kind). names_after k e.name (reverse stack)) k
             ∙ ap (names_after Exit e.name) (ap reverse whole ∙ reverse-push rest e.name) ∙ ap (λ (t : Bool). cond t (Some (reverse rest)) None) same;
-        tight = void_exits-append is_void Exit events (e ∷ []) m.tight (
-          λ _ v.
-              (let p = last v in ap (last_kind Exit) (push_from_last events p.0 p.1) ∙ last_kind-append Exit (take (length events - 1) events) (p.0 ∷ []) ∙ p.2),
-          tt,
-        );
+        tight = void_exits-append is_void Exit events (e ∷ []) m.tight (follows, tt);
         in_order = in_order-push bytes events e m.in_order (subst (λ (p : Point). AreUpto p events) (sym at) upto) (subst (IsShown bytes) (sym at) m.left_shown);
         behind = AreUpto-later after_previous bound (events ++ e ∷ []) m.left_bound here;
         read = λ _. here;
