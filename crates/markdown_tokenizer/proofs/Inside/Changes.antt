@@ -35,6 +35,23 @@ text-more g text piece h fits =
       is = ap (λ (w : Text). followed_by g w piece) h.is ∙ sym more.1 ∙ ap (λ (p : Point). followed_by_all g (empty_text p) (h.pieces ++ piece ∷ [])) (sym same);
     }
 
+-- a tokenizer that has read nothing
+module _ (tab : ℕ) (wide : 0 < tab) (bytes : List ℕ) (p : Point) (h : IsPointOf tab bytes p) where
+  pub start-end : end_point tab bytes (p.index, p.vs) ≡ p
+  start-end = ap (λ (o : Option Point). unwrap_or o (point 1 1 0 0)) (point_at-point tab bytes wide p h)
+
+  pub start-empty : seats_between tab bytes [] p p ≡ []
+  start-empty = ap (filter (is_kept [])) (range-empty tab bytes p)
+
+  pub start-found : point_at tab bytes (p.index, p.vs) ≡ Some p
+  start-found = point_at-point tab bytes wide p h
+
+  pub start-text : (options : ParseOptions) → IsDocument (record { bytes = bytes; options = options; tab = tab }) → IsText (record { bytes = bytes; options = options; tab = tab }) (empty_text p)
+  start-text options document = record { document = document; starts = h; pieces = []; follow = tt; is = refl }
+
+  pub start-made : IsMade bytes [] [] (shown bytes p) (shown bytes p)
+  start-made = made-new bytes (shown bytes p) (shown bytes p) (stands-self (shown bytes p)) (shown-shown tab bytes p) (shown-shown tab bytes p)
+
 can-feed-more : (position m n : ℕ) (closed : Bool) → m ≤ n → can_feed position m closed ≡ true → can_feed position n closed ≡ true
 can-feed-more position m n closed le h = grind (arith, nat_tests)
 
@@ -213,13 +230,10 @@ module _ {M R D : Type 0} {same : R → R → Bool} (t : Inside M R D) (sound : 
         reach-on true m = resumed-on m
         reach-on false m = m
 
-      passed-end : end_point tab_in bytes_in (q.index, q.vs) ≡ q
-      passed-end = ap (λ (o : Option Point). unwrap_or o (point 1 1 0 0)) (point_at-point tab_in bytes_in (wide_of t sound) q fits.0)
-
       module _ (list : List Point) (put : list ≡ added) where
         pub added-sound : IsSound same (record t { skips = list; end = (q.index, q.vs); ready = 0; moves = Other })
         added-sound =
-            let e = passed-end in
+            let e = start-end tab_in (wide_of t sound) bytes_in q fits.0 in
             let size = ap length seats-same in
             let position = position-same sound.placed.read in
             record {
@@ -259,7 +273,7 @@ module _ {M R D : Type 0} {same : R → R → Bool} (t : Inside M R D) (sound : 
 
         pub added-seen : seen (record t { skips = list; end = (q.index, q.vs) }) ≡ extended (seen t) (followed_by (seen t).given (seen t).text (passed q))
         added-seen =
-            let e = passed-end in
+            let e = start-end tab_in (wide_of t sound) bytes_in q fits.0 in
             let text : text_between tab_in bytes_in added t.start (end_point tab_in bytes_in (q.index, q.vs)) ≡ followed_by (seen t).given (text_within t) (passed q) = rw e (sym text-passed) in
             let choices = same-choices (position_from tab_in bytes_in added t.start) (position_from tab_in bytes_in t.skips t.start) t.stack.items t.stack.items (Saves t)
             (length t.events.items) (length t.stack.items) (reverse t.kept_choices.items) (λ p le saved. rw (position-same saved.read) refl) sound.kept_choices in
@@ -270,23 +284,6 @@ same-some e = cc
 
 abbrev pub ExtendedAt : {M R D : Type 0} → Inside M R D → (ℕ × ℕ) → Point → Point → Type 0
 ExtendedAt t to f u = seen (record t { end = to }) ≡ extended (seen t) (followed_by (seen t).given (seen t).text (pushed f u))
-
--- a tokenizer that has read nothing
-module _ (tab : ℕ) (wide : 0 < tab) (bytes : List ℕ) (p : Point) (h : IsPointOf tab bytes p) where
-  pub start-end : end_point tab bytes (p.index, p.vs) ≡ p
-  start-end = ap (λ (o : Option Point). unwrap_or o (point 1 1 0 0)) (point_at-point tab bytes wide p h)
-
-  pub start-empty : seats_between tab bytes [] p p ≡ []
-  start-empty = ap (filter (is_kept [])) (range-empty tab bytes p)
-
-  pub start-found : point_at tab bytes (p.index, p.vs) ≡ Some p
-  start-found = point_at-point tab bytes wide p h
-
-  pub start-text : (options : ParseOptions) → IsDocument (record { bytes = bytes; options = options; tab = tab }) → IsText (record { bytes = bytes; options = options; tab = tab }) (empty_text p)
-  start-text options document = record { document = document; starts = h; pieces = []; follow = tt; is = refl }
-
-  pub start-made : IsMade bytes [] [] (shown bytes p) (shown bytes p)
-  start-made = made-new bytes (shown bytes p) (shown bytes p) (stands-self (shown bytes p)) (shown-shown tab bytes p) (shown-shown tab bytes p)
 
 -- links are no part of what was made
 updated-unlinked : (i : ℕ) (f : Event → Event) → ((e : Event) → unlinked (f e) ≡ unlinked e) → (events : List Event) → map unlinked (updated_at i f events) ≡ map unlinked events

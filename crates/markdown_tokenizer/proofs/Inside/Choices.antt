@@ -1,8 +1,7 @@
 -- A choice begins.
-use Rattle.markdown_tokenizer.proofs.Prelude.{◌≡◌, ℕ, List, [], ◌∷◌, ◌++◌, Bool, true, false, cond, Option, Some, None, length, refl, ap, arith, map, reverse, take-length, lt-ltb, AttemptKind, GoesOn, KeptChoice, Progress, Inside, Choice, Point, shown, Waits, Nothing, Byte, End, IsMade, tab_of, seen, text_within, state_of, choice_at, choice_of, position_from, standing, reach, can_feed, IsWhatWaits, AreNested, IsSound}
+use Rattle.markdown_tokenizer.proofs.Prelude.{◌≡◌, ℕ, List, [], ◌∷◌, ◌++◌, Bool, true, false, cond, Option, Some, None, length, refl, ap, arith, map, reverse, reverse-append, take-length, lt-ltb, AttemptKind, GoesOn, KeptChoice, Progress, Inside, Choice, Point, shown, Waits, Nothing, Byte, End, IsMade, tab_of, seen, text_within, state_of, choice_at, choice_of, position_from, standing, reach, can_feed, IsWhatWaits, AreNested, IsSound}
 use Rattle.std.proofs.lemmas.Bool.{or_left, or_right}
 use Rattle.markdown_tokenizer.proofs.Inside.Fields.{Saves, next-more, made-more}
-use Rattle.markdown_tokenizer.proofs.Inside.Made.{reverse-push}
 
 -- how far a tokenizer has read
 abbrev pub progress_of : {M R D : Type 0} → Inside M R D → Progress
@@ -39,13 +38,13 @@ module _ {M R D : Type 0} {same : R → R → Bool} (t : Inside M R D) (sound : 
   module _ (kind : AttemptKind) (ok nok : GoesOn) (saves : Bool) (kept_choices : List KeptChoice)
       (put : kept_choices ≡ t.kept_choices.items ++ record { kind = kind; ok = ok; nok = nok; saved = saved_if saves t } ∷ []) where
     pub chosen-kept_choices : AreNested (Saves t) (length t.events.items) (length t.stack.items) (reverse kept_choices)
-    chosen-kept_choices = rw (put, reverse-push) (elim saves as (λ (b : Bool).
+    chosen-kept_choices = rw (put, reverse-append) (elim saves as (λ (b : Bool).
         AreNested (Saves t) (length t.events.items) (length t.stack.items) (record { kind = kind; ok = ok; nok = nok; saved = saved_if b t } ∷ reverse t.kept_choices.items)) [
           | true ↦ ((omega arith, omega arith, saves-here), sound.kept_choices)
           | false ↦ (tt, sound.kept_choices)
         ])
 
     pub chosen-choices : map (choice_of (position_from tab_in bytes_in t.skips t.start) t.stack.items) (reverse kept_choices) ≡ choice_at kind (state_of ok) (state_of nok) saves (seen t).configuration ∷ (seen t).choices
-    chosen-choices = rw (put, reverse-push) (ap (λ (c : Choice). c ∷ (seen t).choices) (elim saves as (λ (b : Bool).
+    chosen-choices = rw (put, reverse-append) (ap (λ (c : Choice). c ∷ (seen t).choices) (elim saves as (λ (b : Bool).
         choice_of (position_from tab_in bytes_in t.skips t.start) t.stack.items (record { kind = kind; ok = ok; nok = nok; saved = saved_if b t })
         ≡ choice_at kind (state_of ok) (state_of nok) b (seen t).configuration) [ true ↦ rw (take-length t.stack.items) refl | false ↦ refl ]))

@@ -1,5 +1,5 @@
 -- Choices end, and what they go on with is fed: what that does to the fields of a tokenizer, and what it means.
-use Rattle.markdown_tokenizer.proofs.Prelude.{◌≡◌, ◌==◌, ℕ, ◌≤◌, ◌<◌, List, [], ◌∷◌, ◌++◌, Bool, true, false, cond, Option, Some, None, length, refl, sym, ap, ◌∙◌, subst, arith, take, length-take, ◌⊎◌, inl, inr, map, reverse, IfSome, IsSome, unwrap_or, nat_lt, Result, Vec, take-take, take-length, length-map, length_push, lt-ltb, le-ltb, Event, Kind, Enter, Exit, Point, State, Next, Ok, Nok, open_events, shown, stands-self, AttemptKind, Attempt, Check, GoesOn, KeptChoice, Other, Progress, Waits, Nothing, Byte, End, Reading, Inside, Configuration, Choice, Saved, Step, Local, TokenizerValue, at_configuration, fed, unfed, restored, settled_at, settled_all, settled_to, answer_of, answer_in, EndsClosed, TakesUp, continuation_of, saved_for, ended_by, Unwinding, unwinding, unwound, resumed, IsReadyAt, IsMade, last_kind, IsNextByte, tab_of, seen, text_within, state_of, choice_of, saved_of, position_from, standing, reach, can_feed, IsWhatWaits, AreNested, events_of, stack_of, IsSound}
+use Rattle.markdown_tokenizer.proofs.Prelude.{◌≡◌, ◌==◌, ℕ, ◌≤◌, ◌<◌, List, [], ◌∷◌, ◌++◌, Bool, true, false, Option, Some, None, length, refl, sym, ap, ◌∙◌, subst, arith, take, length-take, ◌⊎◌, inl, inr, map, reverse, IfSome, IsSome, unwrap_or, Result, Vec, take-take, take-length, length-map, length_push, lt-ltb, le-ltb, Event, Kind, Enter, Exit, Point, State, Next, Ok, Nok, open_events, shown, stands-self, AttemptKind, Attempt, Check, GoesOn, KeptChoice, Other, Progress, Waits, Nothing, Byte, End, Reading, Inside, Configuration, Choice, Saved, Step, Local, TokenizerValue, unfed, restored, settled_at, settled_all, settled_to, answer_of, answer_in, EndsClosed, TakesUp, continuation_of, saved_for, ended_by, Unwinding, unwinding, unwound, resumed, IsReadyAt, IsMade, last_kind, IsNextByte, tab_of, seen, text_within, state_of, choice_of, saved_of, position_from, standing, reach, can_feed, IsWhatWaits, AreNested, events_of, stack_of, IsSound}
 use Rattle.std.proofs.lemmas.Bool.{or_from, or_left, or_right}
 use Rattle.std.proofs.lemmas.List.{length-reverse}
 use Rattle.std.specs.declared.result.Result.TheVariants as result
@@ -87,14 +87,12 @@ module _ {R D : Type 0} (position : Point → ℕ) (events : List Event) (stack 
   settled-unwound P _ _ from now h = refl
 
 -- what waits makes no difference where a choice ends
-restored-unfed : {R D : Type 0} (saved : Option Saved) (k : Configuration R D) → restored saved k ≡ restored saved (unfed k)
-restored-unfed None k = refl
-restored-unfed (Some saved) k = refl
-
 settled-unfed : {R D : Type 0} (kind : AttemptKind) (saved : Option Saved) (b : Bool) (k : Configuration R D) → settled_at kind saved (answer_of b) k ≡ settled_at kind saved (answer_of b) (unfed k)
-settled-unfed Attempt saved true k = refl
-settled-unfed Check saved true k = restored-unfed saved k
-settled-unfed _ saved _ k = restored-unfed saved k
+settled-unfed Attempt None true k = refl
+settled-unfed Attempt (Some saved) true k = refl
+settled-unfed Check None b k = refl
+settled-unfed Check (Some saved) b k = refl
+settled-unfed _ _ _ k = refl
 
 some-unfed : {R D : Type 0} (choices : List Choice) (b : Bool) (k : Configuration R D) → (choices ≡ [] → ⊥) → settled_all k choices (answer_of b) ≡ settled_all (unfed k) choices (answer_of b)
 some-unfed [] b k h = absurd (h refl)
@@ -251,11 +249,6 @@ module _ {M R D : Type 0} {same : R → R → Bool} (t : Inside M R D) (sound : 
         top,
       ) refl
 
-  fed-there : (b : Bool) → nat_lt position_there size_in ≡ b
-      → at_configuration (settled_to (seen t) step_there) (fed (seen t).text step_there.configuration) ≡ cond b (waiting_there Byte from.ended) (waiting_there End true)
-  fed-there true e = rw e refl
-  fed-there false e = rw e refl
-
   -- no span is open where the reading has ended
   pub closes : EndsClosed (settled_all (seen t).configuration (seen t).choices (answer_of ok)) → (goal ≡ continuation.Ok) ⊎ (goal ≡ continuation.Nok) → stack.items ≡ []
   closes closed o =
@@ -273,11 +266,11 @@ module _ {M R D : Type 0} {same : R → R → Bool} (t : Inside M R D) (sound : 
     pub takes-byte : (name : StateName) (byte : ℕ) → goal ≡ continuation.Next name → NextThere (Some byte) → TakesThere (seen (after Byte from.ended byte)) (result.Ok name)
     takes-byte name byte e n =
         let lt = byte-left byte n in
-        by-step _ _ (rw e (refl, seen-there Byte from.ended byte ∙ sym (fed-there true (lt-ltb position_there size_in lt)), λ f. lt))
+        by-step _ _ (rw e (refl, rw (lt-ltb position_there size_in lt) (seen-there Byte from.ended byte), λ f. lt))
 
     pub takes-end : (name : StateName) → goal ≡ continuation.Next name → flush ≡ true → NextThere None → TakesThere (seen (after End true t.byte)) (result.Ok name)
     takes-end name e f n =
-        by-step _ _ (rw e (refl, seen-there End true t.byte ∙ sym (fed-there false (le-ltb position_there size_in (none-left n))), λ g. absurd (let c : true ≡ false = sym f ∙ g in cc)))
+        by-step _ _ (rw e (refl, rw (le-ltb position_there size_in (none-left n)) (seen-there End true t.byte), λ g. absurd (let c : true ≡ false = sym f ∙ g in cc)))
 
     pub takes-none : (name : StateName) → goal ≡ continuation.Next name → flush ≡ false → NextThere None → TakesThere (seen (after Nothing from.ended t.byte)) (result.Err (Next name))
     takes-none name e f n = by-step _ _ (rw e (seen-there Nothing from.ended t.byte, refl, f, none-left n))

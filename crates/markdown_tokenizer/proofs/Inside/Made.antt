@@ -28,9 +28,6 @@ push_from_last [] x e = cc
 push_from_last (y ∷ []) x e = cc
 push_from_last (y ∷ z ∷ zs) x e = let k : length (y ∷ z ∷ zs) - 1 ≡ suc (length (z ∷ zs) - 1) = omega arith in rw k (ap (λ l. y ∷ l) (push_from_last (z ∷ zs) x e))
 
-pub reverse-push : {A : Type 0} (xs : List A) (x : A) → reverse (xs ++ x ∷ []) ≡ x ∷ reverse xs
-reverse-push xs x = reverse-append xs (x ∷ [])
-
 -- ---- the parts, with one more event
 
 pub last_kind-append : (k : Kind) (xs ys : List Event) → last_kind k (xs ++ ys) ≡ last_kind (last_kind k xs) ys
@@ -93,7 +90,7 @@ module _ (bytes : List ℕ) (events : List Event) (stack : List Name) (after_pre
       → IsMade bytes (events ++ e ∷ []) (stack ++ e.name ∷ []) after_previous bound
   made-enter m e k from upto is = record {
     names = ap (map (λ (e : Event). e.name)) (open_events-enter events e k) ∙ map-append (λ (e : Event). e.name) (open_events events) (e ∷ []) ∙ ap (λ (ns : List Name). ns ++ e.name ∷ []) m.names;
-    nested = names-push events e (reverse stack) m.nested ∙ ap (λ (k : Kind). names_after k e.name (reverse stack)) k ∙ ap Some (sym (reverse-push stack e.name));
+    nested = names-push events e (reverse stack) m.nested ∙ ap (λ (k : Kind). names_after k e.name (reverse stack)) k ∙ ap Some (sym (reverse-append stack (e.name ∷ [])));
     tight = void_exits-append is_void Exit events (e ∷ []) m.tight (λ x. enter-is-no-exit (sym k ∙ x), tt);
     in_order = in_order-push bytes events e m.in_order (AreUpto-later bound e.point events from m.behind) is;
     behind = All-push (λ d. stands_before bound d.point ≡ false) events e m.behind upto;
@@ -131,7 +128,7 @@ module _ (bytes : List ℕ) (events : List Event) (stack : List Name) (after_pre
             ∙ ap (λ (n : ℕ). take (n - 1) (map (λ (e : Event). e.name) (open_events events))) (sym (length-map (open_events events) (λ (e : Event). e.name)))
             ∙ ap (λ (ns : List Name). take (length ns - 1) ns) m.names;
         nested = names-push events e (reverse stack) m.nested ∙ ap (λ (k : Kind). names_after k e.name (reverse stack)) k
-            ∙ ap (names_after Exit e.name) (ap reverse whole ∙ reverse-push rest e.name) ∙ ap (λ (t : Bool). cond t (Some (reverse rest)) None) same;
+            ∙ ap (names_after Exit e.name) (ap reverse whole ∙ reverse-append rest (e.name ∷ [])) ∙ ap (λ (t : Bool). cond t (Some (reverse rest)) None) same;
         tight = void_exits-append is_void Exit events (e ∷ []) m.tight (follows, tt);
         in_order = in_order-push bytes events e m.in_order (subst (λ (p : Point). AreUpto p events) (sym at) upto) (subst (IsShown bytes) (sym at) m.left_shown);
         behind = AreUpto-later after_previous bound (events ++ e ∷ []) m.left_bound here;
