@@ -1,6 +1,6 @@
 -- The virtual bytes of a document, one after another: each begins at the place where the one before it ends.
 use Rattle.markdown_tokenizer.proofs.Prelude.{◌≡◌, ◌≢◌, ℕ, zero, suc, ◌+◌, ◌-◌, ◌*◌, ◌%◌, ◌≤◌, ◌<◌, ◌==◌, List, [], ◌∷◌, ◌++◌, Bool, true, false, cond, length, drop, refl, sym, ap, ◌∙◌, subst, arith, add-one, slice_index, nat_lt, ◌&&◌, ◌||◌, nat_tests, eqb-true, mod-lt, suc-mod, mod_self, mod-eq_of_lt, Point, Seat, point, tab_width, in_tab, virtual_from, virtual, begins_with_lf, line_feed, stands_before, shown, IsShown, rest_at, Bounds, end_at}
-use Rattle.markdown_tokenizer.proofs.Positions.Order.{is-not, not-number, before-self, below-before, more-before, above-later}
+use Rattle.markdown_tokenizer.proofs.Positions.Order.{is-not, not-number, before-self, below-before, more-before, after-before}
 use Rattle.markdown_tokenizer.proofs.Positions.Seats.{width-pos, drop-first, no-lf-there}
 
 -- the place after a virtual byte, and what is left there
@@ -151,7 +151,7 @@ module _ (t : ℕ) (bytes : List ℕ) (d : 0 < t) where
         (flat-bounds (suc l) 1 (suc (suc i)) second.0 (omega (arith, bounds.lines)) (omega arith) (omega arith)) in
         rw (ex, ey, ew) (subst (IsChain t bytes (point l c i 0)) (sym e) (seat-chain (point l c i 0) (line_feed l c (suc i)) rest (rw (first, lf) (ap (λ (k : ℕ). point l c k 0) back))
         (rw second_are refl)
-        (flat-bounds l c (suc i) inside (omega (arith, bounds.lines)) bounds.first (omega (arith, bounds.columns))) (above-later (suc i) 0 i 0 (omega arith)) second.0
+        (flat-bounds l c (suc i) inside (omega (arith, bounds.lines)) bounds.first (omega (arith, bounds.columns))) (after-before i 0 (suc i) 0 (below-before i 0 (suc i) 0 (omega arith))) second.0
         (below-before (suc i) 0 (suc (suc i)) 0 (omega arith)) refl (record { is = rw both refl; shown = shown; bounds = bounds }) more))
     byte-chain false true z false ex ey ez ew =
         rw (ex, ey, ew) (line-chain (rw (ex, ey, ew) refl) (shown-other bytes (point (suc l) 1 (suc i) 0) (no-lf-there (suc i) bytes bs there ew)))

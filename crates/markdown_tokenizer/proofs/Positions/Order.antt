@@ -11,9 +11,6 @@ after-before i j m n h = grind (arith, nat_tests)
 pub before-self : (i j : ℕ) → (nat_lt i i || ((i == i) && nat_lt j j)) ≡ false
 before-self i j = grind (arith, nat_tests)
 
-pub above-later : (i j m n : ℕ) → m < i → (nat_lt i m || ((i == m) && nat_lt j n)) ≡ false
-above-later i j m n h = grind (arith, nat_tests)
-
 pub below-before : (i j m n : ℕ) → i < m → (nat_lt i m || ((i == m) && nat_lt j n)) ≡ true
 below-before i j m n h = grind (arith, nat_tests)
 
@@ -22,9 +19,6 @@ more-before i j = grind (arith, nat_tests)
 
 pub not-before : (i j m n : ℕ) → m ≤ i → n ≡ 0 → (nat_lt i m || ((i == m) && nat_lt j n)) ≡ false
 not-before i j m n h e = grind (arith, nat_tests)
-
-pub not-before-in : (i j m n : ℕ) → i ≡ m → n ≤ j → (nat_lt i m || ((i == m) && nat_lt j n)) ≡ false
-not-before-in i j m n h e = grind (arith, nat_tests)
 
 -- one place is before a second, and the second not after a third
 pub before-upto : (i j m n u v : ℕ) → (nat_lt i m || ((i == m) && nat_lt j n)) ≡ true → (nat_lt u m || ((u == m) && nat_lt v n)) ≡ false → (nat_lt i u || ((i == u) && nat_lt j v)) ≡ true

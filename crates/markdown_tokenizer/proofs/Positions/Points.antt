@@ -1,6 +1,6 @@
 -- Places that denote the same are shown alike, and a place has one point.
 use Rattle.markdown_tokenizer.proofs.Prelude.{◌≡◌, ℕ, zero, suc, ◌-◌, ◌<◌, ◌==◌, List, [], ◌∷◌, Bool, true, false, cond, Some, refl, sym, ap, ◌∙◌, subst, arith, ◌&&◌, find, slice_index, Contains, Contains-append_right, nat_tests, eqb-true, and_parts, Point, point, end_after, shown, follows_cr, denotes_same, IsPointOf, points, point_at, IsPlace}
-use Rattle.markdown_tokenizer.proofs.Positions.Order.{not-before-in}
+use Rattle.markdown_tokenizer.proofs.Positions.Order.{before-self}
 use Rattle.markdown_tokenizer.proofs.Positions.Standing.{place-of-point}
 pub use Rattle.markdown_tokenizer.proofs.Positions.Standing.{same-numbers}
 use Rattle.markdown_tokenizer.proofs.Positions.Cursors.{same-behind, upto-order, upto-same}
@@ -21,8 +21,8 @@ module _ (t : ℕ) (bytes : List ℕ) where
   -- two places with one index and one number in a tab are one point
   pub one-point : (p q : Point) → IsPlace t bytes p → IsPlace t bytes q → p.index ≡ q.index → p.vs ≡ q.vs → p ≡ q
   one-point p q a b e f =
-      let to = upto-order t bytes p q (not-before-in q.index q.vs p.index p.vs (sym e) (omega arith)) in
-      let back = upto-order t bytes q p (not-before-in p.index p.vs q.index q.vs e (omega arith)) in
+      let to = upto-order t bytes p q (rw (e, f) (before-self q.index q.vs)) in
+      let back = upto-order t bytes q p (rw (e, f) (before-self q.index q.vs)) in
       let s = same-shown p q a b (upto-same t bytes p q to back) in
       same-numbers p.line p.column p.index p.vs q.line q.column q.index q.vs
       (sym (shown-line bytes p) ∙ ap (λ (x : Point). x.line) s ∙ shown-line bytes q)

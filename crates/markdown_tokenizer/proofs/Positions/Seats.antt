@@ -1,7 +1,7 @@
 -- The virtual byte at a place, read from the bytes.
 use Rattle.markdown_tokenizer.proofs.Prelude.{AllByRecursion, ◌≡◌, ◌≢◌, ℕ, zero, suc, ◌+◌, ◌-◌, ◌≤◌, ◌<◌, ◌==◌, List, [], ◌∷◌, ◌++◌, Bool, true, false, cond, length, drop, Some, ◌⊎◌, inl, inr, refl, sym, ap, ◌∙◌, arith, drop-cons, add-one, slice_index, drop_all, eqb-true, cases_lt, nat_tests, mod-lt, Point, Seat, point, tab_width, in_tab, end_in_tab, virtual_from, begins_with_lf, stands_before, every-map, every-append, rest_at, begins_pair, IsSeatAt, IsNextSeat}
 use Rattle.std.proofs.lemmas.Bool.{cond_both}
-use Rattle.markdown_tokenizer.proofs.Positions.Order.{every-cond, not-before, not-before-in, above-later, before-self, is-not, not-number}
+use Rattle.markdown_tokenizer.proofs.Positions.Order.{every-cond, not-before, after-before, below-before, before-self, is-not, not-number}
 
 -- seats from an index on
 abbrev FromIndex : ℕ → Seat → Type 0
@@ -34,9 +34,9 @@ rest-later t bytes p =
     cond_both (p.vs == 0) here (spaces ++ more) (AllByRecursion P)
     (λ e. every-map (FromIndex p.index) P (λ s h. not-before s.point.index s.point.vs p.index p.vs h (eqb-true p.vs 0 e)) here (virtual-index t p.line p.column p.index (drop p.index bytes)))
     (λ e. every-append P spaces more
-    (every-map (λ s. (s.point.index ≡ p.index) × (p.vs ≤ s.point.vs)) P (λ s h. not-before-in s.point.index s.point.vs p.index p.vs h.0 h.1) spaces
+    (every-map (λ s. (s.point.index ≡ p.index) × (p.vs ≤ s.point.vs)) P (λ s h. let e = h.0 in let f = h.1 in grind (arith, nat_tests)) spaces
     (tab-index 32 (tab_width t p.column) p.line p.column p.index p.vs))
-    (every-map (FromIndex (suc p.index)) P (λ s h. above-later s.point.index s.point.vs p.index p.vs (omega (arith, h))) more
+    (every-map (FromIndex (suc p.index)) P (λ s h. after-before p.index p.vs s.point.index s.point.vs (below-before p.index p.vs s.point.index s.point.vs (omega (arith, h)))) more
     (virtual-index t p.line (p.column + tab_width t p.column) (suc p.index) (drop (suc p.index) bytes))))
 
 -- the first of what is left at an index is the byte there
@@ -124,7 +124,7 @@ seat-crlf t bytes p h i cr lf =
         after = virtual_from t (suc p.line) 1 (suc (suc p.index)) (drop (suc (suc p.index)) bytes);
         is = here ∙ ap (λ (v : ℕ). record { byte = 10; point = point p.line p.column (suc p.index) v; end = point (suc p.line) 1 (suc (suc p.index)) 0 } ∷ virtual_from t (suc p.line) 1 (suc (suc p.index)) (drop (suc (suc p.index)) bytes)) (sym h);
         same = there ∙ sym here;
-        later = above-later (suc p.index) p.vs p.index p.vs (omega arith);
+        later = after-before p.index p.vs (suc p.index) p.vs (below-before p.index p.vs (suc p.index) p.vs (omega arith));
         inside = i;
       },
     )

@@ -93,12 +93,6 @@ module _ {R D : Type 0} (given : Given) (step : Sight → Configuration R D → 
   abbrev inner : (b c : ℕ) (cs : List Choice) → Step R D → Option (Reading R D)
   inner b c cs s = after_choices (read given step text c) cs (after_choices (read given step text b) s.choices (read given step text b s.configuration s.answer))
 
-  forth : (b : ℕ) (cs : List Choice) (s : Step R D) → Agrees (outcome given step text b s.configuration (s.choices ++ cs) s.answer) (inner b (suc b) cs s)
-  forth b cs s r e =
-      let mid = after_choices (read given step text b) s.choices (read given step text b s.configuration s.answer) in
-      after-agrees (read given step text b) (read given step text (suc b)) (read-grows b) cs mid mid (λ q h. h) r
-      (sym (after-append (read given step text b) s.choices cs (read given step text b s.configuration s.answer)) ∙ e)
-
   back : (b : ℕ) (cs : List Choice) (s : Step R D) → Agrees (inner b (suc b) cs s) (outcome given step text (suc b) s.configuration (s.choices ++ cs) s.answer)
   back b cs s r e =
       let small = after_choices (read given step text b) s.choices (read given step text b s.configuration s.answer) in
@@ -116,9 +110,12 @@ module _ {R D : Type 0} (given : Given) (step : Sight → Configuration R D → 
       let stepped = λ (b : ℕ). after-more (read given step text (suc b)) cs 1 (after_choices (read given step text b) s.choices (read given step text b s.configuration s.answer)) in (
         (λ h. record {
           bound = suc h.bound;
-          is = ap (more_calls calls) (stepped h.bound)
-              ∙ more-more calls 1 (inner h.bound (suc h.bound) cs s)
-              ∙ more-agrees (calls + 1) (outcome given step text h.bound s.configuration (s.choices ++ cs) s.answer) (inner h.bound (suc h.bound) cs s) (forth h.bound cs s) r h.is;
+          is =
+              let low = read given step text h.bound in
+              let mid = after_choices low s.choices (low s.configuration s.answer) in
+              ap (more_calls calls) (stepped h.bound) ∙ more-more calls 1 (inner h.bound (suc h.bound) cs s)
+              ∙ more-agrees (calls + 1) (after_choices low (s.choices ++ cs) (low s.configuration s.answer)) (inner h.bound (suc h.bound) cs s)
+              (λ q e. after-agrees low (read given step text (suc h.bound)) (read-grows h.bound) cs mid mid (λ u k. k) q (sym (after-append low s.choices cs (low s.configuration s.answer)) ∙ e)) r h.is;
         }),
         (λ h. elim h.bound as (λ b. more_calls calls (outcome given step text b k cs (Retry n)) ≡ Some r → EndsIn given step text (calls + 1) s.configuration (s.choices ++ cs) s.answer r) [
           | zero ↦ λ e.

@@ -4,37 +4,32 @@ use Rattle.markdown_tokenizer.proofs.ranges.+follow_on.Goals as goal
 
 -- the points of a range are the points of its places
 module _ (t : ℕ) (bytes : List ℕ) (p : Point) (from to : ℕ × ℕ) (first last : Point) (from_is : point_at t bytes from ≡ Some first) (to_is : point_at t bytes to ≡ Some last) (r : IsRangeFrom t bytes p from to) where
-  begins-there : (start : Point) → denotes_same t bytes start p ≡ true → denotes_same t bytes first start ≡ true
-  begins-there start same =
-      let e : r.first ≡ first = cc in
-      same-same t bytes first p start (subst (λ (q : Point). denotes_same t bytes q p ≡ true) e r.begins) (same-back t bytes start p same)
-
-  runs-on : is_upto t bytes first last ≡ true
-  runs-on =
+  range-is : (denotes_same t bytes first p ≡ true) × (is_upto t bytes first last ≡ true)
+  range-is =
       let e : r.first ≡ first = cc in
       let f : r.last ≡ last = cc in
-      subst (λ (q : Point). is_upto t bytes q last ≡ true) e (subst (λ (q : Point). is_upto t bytes r.first q ≡ true) f r.upto)
+      subst (λ (q : Point). (denotes_same t bytes q p ≡ true) × (is_upto t bytes q last ≡ true)) e (r.begins, subst (λ (q : Point). is_upto t bytes r.first q ≡ true) f r.upto)
 
 pub returns-then-not-denote_same : goal.returns-then-not-denote_same
 returns-then-not-denote_same t c =
     let bytes = c.args.bytes.now in let tab = c.args.tab_size in let range = c.in-Some.range.now in
     let p = after_any tab bytes c.args.end range.0 in
-    let not_same = sym c.denote_same.ensures ∙ c.if-not-denote_same.true in
+    let start = c.in-Some-start_after.start in let from = c.in-Some-point_at.from in
     rw c.in-Some.ensures.cases.0 (
       (λ h. absurd (false≢true h)),
-      λ h. sym not_same ∙ begins-there tab bytes p range.1 range.2 _ _ (sym c.point_at.ensures ∙ c.in-Some-point_at.is)
-          (sym c.point_at-2.ensures ∙ c.in-Some-point_at-2.is) h.1 c.in-Some-start_after.start c.in-Some-start_after.ensures.start,
+      λ h. sym (sym c.denote_same.ensures ∙ c.if-not-denote_same.true) ∙ same-same tab bytes from p start
+          (range-is tab bytes p range.1 range.2 from _ (sym c.point_at.ensures ∙ c.in-Some-point_at.is) (sym c.point_at-2.ensures ∙ c.in-Some-point_at-2.is) h.1).0
+          (same-back tab bytes start p c.in-Some-start_after.ensures.start),
     )
 
 pub returns-then-not-is_up_to : goal.returns-then-not-is_up_to
 returns-then-not-is_up_to t c =
     let bytes = c.args.bytes.now in let tab = c.args.tab_size in let range = c.in-Some.range.now in
     let p = after_any tab bytes c.args.end range.0 in
-    let not_upto = sym c.is_up_to.ensures ∙ c.if-not-is_up_to.true in
     rw c.in-Some.ensures.cases.0 (
       (λ h. absurd (false≢true h)),
-      λ h. sym not_upto ∙ runs-on tab bytes p range.1 range.2 _ _ (sym c.point_at.ensures ∙ c.in-Some-point_at.is)
-          (sym c.point_at-2.ensures ∙ c.in-Some-point_at-2.is) h.1,
+      λ h. sym (sym c.is_up_to.ensures ∙ c.if-not-is_up_to.true)
+          ∙ (range-is tab bytes p range.1 range.2 _ _ (sym c.point_at.ensures ∙ c.in-Some-point_at.is) (sym c.point_at-2.ensures ∙ c.in-Some-point_at-2.is) h.1).1,
     )
 
 pub returns : goal.returns
