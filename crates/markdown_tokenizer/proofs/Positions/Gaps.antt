@@ -94,12 +94,11 @@ module _ (t : ℕ) (bytes : List ℕ) (d : 0 < t) where
     resumed-by false (Some q) e f = elim (outside q f) [ inl h ↦ absurd (is-not after_previous.column 1 e h) | inr h ↦ stays (fresh-after after_previous q place refl f h) ]
     resumed-by true (Some q) e f =
         let first = eqb-true after_previous.column 1 e in
-        let found = skip-is (IsSkip t bytes end) skips after_previous.line q are f in
-        let skip = found.1 in
+        let (line, skip) = skip-is (IsSkip t bytes end) skips after_previous.line q are f in
         let before = true_from_ne_false (stands_before after_previous q) (λ k. omega (
           arith,
           column-rises q after_previous skip.place place
-              (upto-order t bytes q after_previous k) found.0,
+              (upto-order t bytes q after_previous k) line,
           skip.inside,
         )) in
         let later = upto-order t bytes after_previous q (after-before after_previous.index after_previous.vs q.index q.vs before) in
@@ -110,8 +109,8 @@ module _ (t : ℕ) (bytes : List ℕ) (d : 0 < t) where
           shown_later = upto-shown t bytes d after_previous q place skip.place later;
           from = upto-upto t bytes start after_previous q from later;
           upto = skip.upto;
-          same = jump-same skips after_previous place start q from skip.place found.0 f later;
-          fresh = fresh-after q q skip.place found.0 f (before-self q.index q.vs);
+          same = jump-same skips after_previous place start q from skip.place line f later;
+          fresh = fresh-after q q skip.place line f (before-self q.index q.vs);
         }
 
     pub resumed-at : IsResumed t bytes skips start end after_previous (resumed skips after_previous)

@@ -60,6 +60,9 @@ pub record IsAmong (s : Seat) (xs : List Seat) : Type 0 where
   pub splits : xs ≡ front ++ s ∷ back
 
 module _ (t : ℕ) (bytes : List ℕ) (d : 0 < t) where
+  chain-after : (xs ys : List Seat) → virtual t bytes ≡ xs ++ ys → IsChain t bytes (end_after (point 1 1 0 0) xs) ys
+  chain-after xs ys e = chain-split t bytes (point 1 1 0 0) xs ys (subst (IsChain t bytes (point 1 1 0 0)) e (whole-chain t bytes d))
+
   -- the place after some of the virtual bytes
   pub place-after : (xs ys : List Seat) → virtual t bytes ≡ xs ++ ys → IsPlace t bytes (end_after (point 1 1 0 0) xs)
   place-after xs ys e =
@@ -74,19 +77,14 @@ module _ (t : ℕ) (bytes : List ℕ) (d : 0 < t) where
       }
 
   pub rest-after : (xs ys : List Seat) → virtual t bytes ≡ xs ++ ys → rest_at t bytes (end_after (point 1 1 0 0) xs) ≡ ys
-  rest-after xs ys e =
-      let c = subst (IsChain t bytes (point 1 1 0 0)) e (whole-chain t bytes d) in
-      (chain-at t bytes (end_after (point 1 1 0 0) xs) ys (chain-split t bytes (point 1 1 0 0) xs ys c)).is
+  rest-after xs ys e = (chain-at t bytes (end_after (point 1 1 0 0) xs) ys (chain-after xs ys e)).is
 
   pub end-place : IsPlace t bytes (document_end t bytes)
   end-place = place-after (virtual t bytes) [] (sym (append-nil (virtual t bytes)))
 
   module _ (xs : List Seat) (s : Seat) (ys : List Seat) (e : virtual t bytes ≡ xs ++ s ∷ ys) where
-    from-here : IsChain t bytes (end_after (point 1 1 0 0) xs) (s ∷ ys)
-    from-here = chain-split t bytes (point 1 1 0 0) xs (s ∷ ys) (subst (IsChain t bytes (point 1 1 0 0)) e (whole-chain t bytes d))
-
     pub seat-begins : Begins t bytes (end_after (point 1 1 0 0) xs) s ys
-    seat-begins = from-here.1
+    seat-begins = (chain-after xs (s ∷ ys) e).1
 
     -- each place where it is next, as its own and where it is shown, is a place of the document
     place-here : (q : Point) → rest_at t bytes q ≡ s ∷ ys → Bounds t bytes q → shown bytes q ≡ end_after (point 1 1 0 0) xs → stands_before q (end_after (point 1 1 0 0) xs) ≡ false → IsPlace t bytes q
@@ -103,7 +101,7 @@ module _ (t : ℕ) (bytes : List ℕ) (d : 0 < t) where
 
     -- no LF of a CR LF is at the place after it
     pub after-shown : IsShown bytes s.end
-    after-shown = (chain-at t bytes s.end ys from-here.2).shown
+    after-shown = (chain-at t bytes s.end ys (chain-after xs (s ∷ ys) e).2).shown
 
   seats-are-places : (xs ys : List Seat) → virtual t bytes ≡ xs ++ ys → AllByRecursion (IsPlace t bytes) (flat_map (λ s. shown bytes s.point ∷ s.point ∷ []) ys)
   seats-are-places xs [] e = tt
@@ -132,7 +130,7 @@ module _ (t : ℕ) (bytes : List ℕ) (d : 0 < t) (p : Point) (seat : Seat) (pla
       (place-after t bytes d (place.before ++ seat ∷ []) n.after (seat-splits ∙ sym (append_assoc place.before (seat ∷ []) n.after)))
 
   pub seat-rest : rest_at t bytes seat.end ≡ n.after
-  seat-rest = (chain-at t bytes seat.end n.after (from-here t bytes d place.before seat n.after seat-splits).2).is
+  seat-rest = (chain-at t bytes seat.end n.after (chain-after t bytes d place.before (seat ∷ n.after) seat-splits).2).is
 
   -- a step to its end comes to a place, and has only what follows it left
   pub steps : (q : Point) → q ≡ seat.end → IsPlace t bytes q × (rest_at t bytes p ≡ seat ∷ rest_at t bytes q)

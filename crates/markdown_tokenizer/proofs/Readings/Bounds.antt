@@ -93,15 +93,6 @@ module _ {R D : Type 0} (given : Given) (step : Sight → Configuration R D → 
   abbrev inner : (b c : ℕ) (cs : List Choice) → Step R D → Option (Reading R D)
   inner b c cs s = after_choices (read given step text c) cs (after_choices (read given step text b) s.choices (read given step text b s.configuration s.answer))
 
-  back : (b : ℕ) (cs : List Choice) (s : Step R D) → Agrees (inner b (suc b) cs s) (outcome given step text (suc b) s.configuration (s.choices ++ cs) s.answer)
-  back b cs s r e =
-      let small = after_choices (read given step text b) s.choices (read given step text b s.configuration s.answer) in
-      let large = after_choices (read given step text (suc b)) s.choices (read given step text (suc b) s.configuration s.answer) in
-      after-append (read given step text (suc b)) s.choices cs (read given step text (suc b) s.configuration s.answer)
-      ∙ after-agrees (read given step text (suc b)) (read given step text (suc b)) (λ k t q h. h) cs small large
-      (after-agrees (read given step text b) (read given step text (suc b)) (read-grows b) s.choices (read given step text b s.configuration s.answer) (read given step text (suc b) s.configuration s.answer) (read-grows b s.configuration s.answer))
-      r e
-
   pub called-ends : (calls : ℕ) (k : Configuration R D) (cs : List Choice) (n : Name) (r : Reading R D)
       → let s = step (sight given text k) k n in
       EndsIn given step text (calls + 1) s.configuration (s.choices ++ cs) s.answer r ↔ EndsIn given step text calls k cs (Retry n) r
@@ -123,7 +114,14 @@ module _ {R D : Type 0} (given : Given) (step : Sight → Configuration R D → 
               let f : None ≡ Some r = ap (more_calls calls) (sym none) ∙ e in absurd cc
           | suc b ↦ λ e. record {
             bound = suc b;
-            is = more-agrees (calls + 1) (inner b (suc b) cs s) (outcome given step text (suc b) s.configuration (s.choices ++ cs) s.answer) (back b cs s) r
+            is =
+                let low = read given step text b in
+                let high = read given step text (suc b) in
+                let from = low s.configuration s.answer in
+                let to = high s.configuration s.answer in
+                more-agrees (calls + 1) (inner b (suc b) cs s) (after_choices high (s.choices ++ cs) to)
+                (λ q i. after-append high s.choices cs to ∙ after-agrees high high (λ u v w j. j) cs (after_choices low s.choices from) (after_choices high s.choices to)
+                (after-agrees low high (read-grows b) s.choices from to (read-grows b s.configuration s.answer)) q i) r
                 (sym (more-more calls 1 (inner b (suc b) cs s)) ∙ sym (ap (more_calls calls) (stepped b)) ∙ e);
           }
         ] h.is),
