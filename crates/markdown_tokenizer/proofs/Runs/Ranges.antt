@@ -79,11 +79,7 @@ module _ {M R D : Type 0} (rules : M → Given → Rules R D) where
   -- the next range is the first of those that are left
   pub ranges-at : (bytes : List ℕ) (options : ParseOptions) (ranges : List AfterGap) (n : ℕ) (d : AfterGap) (t : TokenizerValue M R D) (state : State) → n < length ranges
       → HasRanges bytes options (drop n ranges) t state → HasRanges bytes options (get_or ranges n d ∷ drop (n + 1) ranges) t state
-  ranges-at bytes options ranges n d t state lt r = record {
-    place = r.place;
-    stands = r.stands;
-    follow = subst (λ (xs : List AfterGap). FollowOn options.tab_size bytes r.place xs) (drop_more ranges n d lt) r.follow;
-  }
+  ranges-at bytes options ranges n d t state lt r = subst (λ (xs : List AfterGap). HasRanges bytes options xs t state) (drop_more ranges n d lt) r
 
   -- the state is the one that waits: what `push` and `flush` require of it
   pub ranges-holds : (bytes : List ℕ) (options : ParseOptions) (ranges : List AfterGap) (t : TokenizerValue M R D) (state : State) → HasRanges bytes options ranges t state → HoldsOf (rules t.machine t.given) t state

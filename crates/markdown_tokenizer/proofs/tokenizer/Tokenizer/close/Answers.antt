@@ -1,4 +1,3 @@
-use Rattle.markdown_tokenizer.proofs.Prelude.{refl}
 use Rattle.markdown_tokenizer.proofs.Inside.Fields.{closed-sound}
 use Rattle.markdown_tokenizer.proofs.tokenizer.Tokenizer.close.Goals as goal
 

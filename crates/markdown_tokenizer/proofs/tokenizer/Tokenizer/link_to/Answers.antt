@@ -1,5 +1,4 @@
 use Rattle.markdown_tokenizer.proofs.Inside.Changes.{linked-made, linked-kept_choices}
-use Rattle.markdown_tokenizer.proofs.Prelude.{refl}
 use Rattle.markdown_tokenizer.proofs.tokenizer.Tokenizer.link_to.Goals as goal
 
 pub invariant_of-self : goal.invariant_of-self

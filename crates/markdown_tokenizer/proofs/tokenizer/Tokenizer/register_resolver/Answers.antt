@@ -1,5 +1,5 @@
 use Rattle.markdown_tokenizer.proofs.Runs.Resolvers.{turned}
-use Rattle.markdown_tokenizer.proofs.Prelude.{sym, refl, ◌∙◌, IsDistinct-push}
+use Rattle.markdown_tokenizer.proofs.Prelude.{sym, ◌∙◌, IsDistinct-push}
 use Rattle.markdown_tokenizer.proofs.tokenizer.Tokenizer.register_resolver.Goals as goal
 
 pub invariant_of-self-2 : goal.invariant_of-self-2

@@ -1,5 +1,5 @@
 use Rattle.markdown_tokenizer.proofs.Runs.Resolvers.{none-equal, turned}
-use Rattle.markdown_tokenizer.proofs.Prelude.{sym, refl, ◌∙◌, IsDistinct-cons}
+use Rattle.markdown_tokenizer.proofs.Prelude.{sym, ◌∙◌, IsDistinct-cons}
 use Rattle.markdown_tokenizer.proofs.tokenizer.Tokenizer.register_resolver_before.Goals as goal
 
 pub invariant_of-self : goal.invariant_of-self

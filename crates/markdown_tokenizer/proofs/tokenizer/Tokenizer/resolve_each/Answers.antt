@@ -1,4 +1,4 @@
-use Rattle.markdown_tokenizer.proofs.Prelude.{◌+◌, drop, refl}
+use Rattle.markdown_tokenizer.proofs.Prelude.{◌+◌, drop}
 use Rattle.markdown_tokenizer.proofs.Runs.Resolvers.{resolves-one, resolves-last, resolves-next, resolves-refused}
 use Rattle.markdown_tokenizer.proofs.tokenizer.Tokenizer.resolve_each.Goals as goal
 

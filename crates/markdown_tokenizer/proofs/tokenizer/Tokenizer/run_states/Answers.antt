@@ -1,4 +1,4 @@
-use Rattle.markdown_tokenizer.proofs.Prelude.{◌∙◌, refl, Next}
+use Rattle.markdown_tokenizer.proofs.Prelude.{refl, Next}
 use Rattle.markdown_tokenizer.proofs.Runs.TakingUp.{kept-first, kept-next, kept-last, kept-answer, holds-there, closes-there, fewer-left}
 use Rattle.markdown_tokenizer.proofs.tokenizer.Tokenizer.run_states.Goals as goal
 
@@ -17,14 +17,13 @@ loop-answer-init g c =
     let k = kept-first g.met.M.Machine.lawful c.args.flush c.args.self.now c.args.state c.requires.waits c.requires.holds in
     kept-next g.met.M.Machine.lawful c.requires.text k c.next_call.new.self c.in-Some.name c.in-Some.ensures
 
-pub call_state-requires : goal.call_state-requires
-call_state-requires g c =
+pub call_state-requires-clause-waits : goal.call_state-requires-clause-waits
+call_state-requires-clause-waits g c =
     let u = c.loop-answer.self in let holds = holds-there g.met.M.Machine.lawful c.loop-answer.invariant in
-    record {
-      reading = c.loop-answer.invariant.same.phase ∙ c.requires.reading;
-      waits = (g.met.M.Machine.lawful u.machine u.given).invariant_kept.waits u.text u.configuration u.choices c.loop-answer.name c.shows_in_text.ensures.text holds;
-      holds = holds;
-    }
+    (g.met.M.Machine.lawful u.machine u.given).invariant_kept.waits u.text u.configuration u.choices c.loop-answer.name c.shows_in_text.ensures.text holds
+
+pub call_state-requires-clause-holds : goal.call_state-requires-clause-holds
+call_state-requires-clause-holds g c = holds-there g.met.M.Machine.lawful c.loop-answer.invariant
 
 pub go_on-requires-clause-ends : goal.go_on-requires-clause-ends
 go_on-requires-clause-ends g c =
