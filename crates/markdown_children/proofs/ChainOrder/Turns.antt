@@ -21,8 +21,6 @@ left_last {events} {es} {link_index} {made} {i} {j} {f = suc f} w n =
 -- a chunk before another
 pub left_next : {events es : List Event} {link_index : ℕ} {made : List Chunk} {i j f d : ℕ} → IsLeft events es link_index made i j f → next_of events i ≡ Some d
     → (k : ℕ) × (i < d) × IsLeft events es link_index (made ++ record { index = i; start = j; end = j + length (front_until (place_at events (i + 1)) (drop j es)) } ∷ []) d (j + length (front_until (place_at events (i + 1)) (drop j es))) k
-left_next {f = zero} w n = let a = w.chunks in let b = w.inside in absurd (omega arith)
-left_next {f = suc zero} w n = let a = w.chunks in let b = w.inside in absurd (omega arith)
 left_next {events} {es} {link_index} {made} {i} {j} {f = suc (suc f)} {d} w n =
     let ahead = w.forward.0.next d n in
     let a = w.chunks in
@@ -40,3 +38,4 @@ left_next {events} {es} {link_index} {made} {i} {j} {f = suc (suc f)} {d} w n =
         built = append_assoc made (_ ∷ []) _ ∙ ap (λ t. made ++ t) (sym table) ∙ w.built;
       },
     )
+left_next {f = f} w n = let a = w.chunks in let b = w.inside in absurd (omega arith)

@@ -14,9 +14,8 @@ four-parts a b c d e = let two = and_parts (a && b) (c && d) e in let x = and_pa
 -- ---- balance
 
 closed-none : (o : Option (List Name)) → is_closed o ≡ true → o ≡ Some []
-closed-none None e = absurd (cc)
 closed-none (Some []) e = refl
-closed-none (Some (n ∷ st)) e = absurd (cc)
+closed-none o e = absurd (cc)
 
 pub balanced-closes : (es : List Event) → closes es ≡ true → IsBalanced es
 balanced-closes es e = balanced_from_open es (closed-none (names_after_all (Some []) es) e)

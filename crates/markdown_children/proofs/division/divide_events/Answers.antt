@@ -1,4 +1,4 @@
-use Rattle.markdown_children.proofs.Prelude.{◌≡◌, ℕ, zero, suc, ◌+◌, ◌-◌, ◌*◌, ◌^◌, ◌<◌, ◌≤◌, true, false, ltb, List, [], ◌∷◌, ◌++◌, map, length, take, drop, get_or, Option, Some, None, refl, sym, ◌∙◌, ap, ⊎_elim, arith, zero-add, add-zero, All, All-map, IfSome, between, AllByRecursion, IsNonDecreasingBy, cases_lt, lt-ltb, le-ltb, drop-drop, All-from_recursion, recursion_from_All, drop-append_seam, take-append_seam, Event, Link, relinked, EachEnd, Edit, AreDisjoint, AreBehind, removed_by, next_of, chain_from, chain_of, place_at, HasEndsWithin, parts, divided, child_place, part_edits, chain_edits, total, IsForward, StandBefore, table, rest_table, table_place, AreAbove, AreRising, chunk_edit, Chunk, every-map, Point}
+use Rattle.markdown_children.proofs.Prelude.{◌≡◌, ℕ, zero, suc, ◌+◌, ◌-◌, ◌*◌, ◌^◌, ◌<◌, ◌≤◌, List, [], ◌∷◌, ◌++◌, map, length, take, drop, get_or, Option, Some, None, refl, sym, ◌∙◌, ap, arith, zero-add, add-zero, All, All-map, IfSome, between, AllByRecursion, IsNonDecreasingBy, drop-drop, All-from_recursion, recursion_from_All, drop-append_seam, take-append_seam, Event, Link, relinked, EachEnd, Edit, AreDisjoint, AreBehind, removed_by, next_of, chain_from, chain_of, place_at, HasEndsWithin, parts, divided, child_place, part_edits, chain_edits, total, IsForward, StandBefore, table, rest_table, table_place, AreAbove, AreRising, chunk_edit, Chunk, every-map, Point, nat_tests}
 use Rattle.markdown_children.proofs.ChainOrder.Following.{by_option}
 use Rattle.markdown_children.proofs.ChainOrder.Spaced.{length-parts, length-map_ends}
 use Rattle.markdown_children.proofs.Parts.Kept.{joined, joined-parts}
@@ -8,18 +8,12 @@ use Rattle.markdown_children.proofs.division.divide_events.Goals as goal
 -- ---- places
 
 table_place-child_place : (ks : List ℕ) (ps : List (List Event)) (j n removed added : ℕ) → table_place (table ks ps j) removed added (j + n) ≡ child_place ks ps removed (added + j) n
-table_place-child_place (k ∷ ks) (p ∷ ps) j n removed added = ⊎_elim
-    (λ (l : n < length p).
-    let a : ltb n (length p) ≡ true = lt-ltb n (length p) l in
-    let b : ltb (j + n) (j + length p) ≡ true = lt-ltb (j + n) (j + length p) (omega arith) in
-    let z : k - removed + added + (j + n) ≡ k - removed + (added + j) + n = omega arith in
-    rw (a, b) (ap Some z))
-    (λ (l : length p ≤ n).
-    let b : ltb (j + n) (j + length p) ≡ false = le-ltb (j + n) (j + length p) (omega arith) in
-    let z : j + n ≡ j + length p + (n - length p) = omega arith in
+table_place-child_place (k ∷ ks) (p ∷ ps) j n removed added =
     let y : added + (j + length p) ≡ added + j + length p = omega arith in
-    rw (le-ltb n (length p) l, b) (ap (λ m. table_place (table ks ps (j + length p)) (removed + 2) added m) z ∙ (table_place-child_place ks ps (j + length p) (n - length p) (removed + 2) added) ∙ ap (λ m. child_place ks ps (removed + 2) m (n - length p)) y))
-    (cases_lt n (length p))
+    let more : length p ≤ n → table_place (table ks ps (j + length p)) (removed + 2) added (j + n) ≡ child_place ks ps (removed + 2) (added + j + length p) (n - length p) =
+    λ l. (let z : j + n ≡ j + length p + (n - length p) = omega arith in ap (table_place (table ks ps (j + length p)) (removed + 2) added) z)
+    ∙ table_place-child_place ks ps (j + length p) (n - length p) (removed + 2) added ∙ ap (λ m. child_place ks ps (removed + 2) m (n - length p)) y in
+    grind (arith, nat_tests)
 table_place-child_place ks ps j n removed added = refl
 
 edits_by_table : (f : ℕ → Option ℕ) (child : List Event) (ks : List ℕ) (ps : List (List Event)) (j : ℕ) → length ks ≡ length ps → drop j child ≡ joined ps → map (chunk_edit f child) (table ks ps j) ≡ part_edits f ks ps
