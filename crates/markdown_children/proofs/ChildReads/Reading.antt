@@ -10,16 +10,20 @@ use Rattle.markdown_children.proofs.ChildReads.ChainReads.{flagged, Reads, reads
 abbrev pub place_of_point : Point → ℕ × ℕ
 place_of_point p = (p.index, p.vs)
 
--- these chunks are behind the one at an index, and then these pieces of the chain's text are left
-pub record ReadsAt {M R D : Type 0} (rules : M → Given → Rules R D) (m : M) (bytes : List ℕ) (options : ParseOptions) (wanted : Option Content) (events : List Event) (c : ℕ) (start : Name)
-    (left : List ℕ → List Piece) (at : ℕ) (t : TokenizerValue M R D) (state : State) : Type 0 where
+-- a chain is read with this flag, and these chunks are behind the one at an index
+pub record StandsAt (options : ParseOptions) (wanted : Option Content) (events : List Event) (c at : ℕ) : Type 0 where
   pub wide : 0 < options.tab_size
   pub flag : Bool
   pub paragraph : (flag ≡ true) ↔ IsAtFirstParagraph events c options.constructs
   pub behind : List ℕ
   pub lead : LeadOnFrom events at behind
   pub fit : fits wanted events at ≡ true
-  pub reads : Reads (given_by bytes options) rules m (place_at events c) flag start (text_from (given_by bytes options) events c) (left behind) t state
+
+-- and then these pieces of the chain's text are left
+pub record ReadsAt {M R D : Type 0} (rules : M → Given → Rules R D) (m : M) (bytes : List ℕ) (options : ParseOptions) (wanted : Option Content) (events : List Event) (c : ℕ) (start : Name)
+    (left : List ℕ → List Piece) (at : ℕ) (t : TokenizerValue M R D) (state : State) : Type 0 where
+  pub stands : StandsAt options wanted events c at
+  pub reads : Reads (given_by bytes options) rules m (place_at events c) stands.flag start (text_from (given_by bytes options) events c) (left stands.behind) t state
 
 -- the range of the chunk at d comes next
 abbrev pub range_next : List Event → ℕ → List ℕ → List Piece
@@ -40,12 +44,7 @@ chain-first rules m bytes options {wanted} {events} {c} {start} {flag} {t} ready
     let keeps = lawful.invariant_kept in
     let start_is : t ≡ flagged g m (place_at events c) flag = e ∙ ap (with_flag flag) f in
     record {
-      wide = document.tab.0;
-      flag = flag;
-      paragraph = paragraph;
-      behind = w.0;
-      lead = w.2;
-      fit = h;
+      stands = record { wide = document.tab.0; flag = flag; paragraph = paragraph; behind = w.0; lead = w.2; fit = h };
       reads = rw start_is (record {
         same_given = refl;
         machine = refl;
@@ -61,40 +60,31 @@ chain-first rules m bytes options {wanted} {events} {c} {start} {flag} {t} ready
 module _ {M R D : Type 0} {rules : M → Given → Rules R D} {m : M} {bytes : List ℕ} {options : ParseOptions} {wanted : Option Content} {events : List Event} {c : ℕ} {start : Name} {t : TokenizerValue M R D} {state : State} where
   module _ {d : ℕ} (r : ReadsAt rules m bytes options wanted events c start (range_next events d) d t state) {ends : (ℕ × ℕ) × (ℕ × ℕ)} (is : ends ≡ (place_of_point (place_at events d), place_of_point (place_at events (d + 1)))) where
     pub on-range : CanPush t.given t.text ends.0 ends.1
-    on-range = subst (λ (x : (ℕ × ℕ) × (ℕ × ℕ)). CanPush t.given t.text x.0 x.1) (sym is) (reads-range r.wide r.reads)
+    on-range = subst (λ (x : (ℕ × ℕ) × (ℕ × ℕ)). CanPush t.given t.text x.0 x.1) (sym is) (reads-range r.stands.wide r.reads)
 
     pub on-pushed : {u : TokenizerValue M R D} {answer : State} → IsPushed (rules t.machine t.given) t ends.0 ends.1 state u answer → ReadsAt rules m bytes options wanted events c start (pieces_behind events) d u answer
     on-pushed {u} {answer} h = record {
-      wide = r.wide;
-      flag = r.flag;
-      paragraph = r.paragraph;
-      behind = r.behind;
-      lead = r.lead;
-      fit = r.fit;
-      reads = reads-pushed r.wide r.reads (subst (λ (x : (ℕ × ℕ) × (ℕ × ℕ)). IsPushed (rules t.machine t.given) t x.0 x.1 state u answer) is h);
+      stands = r.stands;
+      reads = reads-pushed r.stands.wide r.reads (subst (λ (x : (ℕ × ℕ) × (ℕ × ℕ)). IsPushed (rules t.machine t.given) t x.0 x.1 state u answer) is h);
     }
 
   module _ (ready : IsReady options.tab_size bytes wanted events) {at : ℕ} (r : ReadsAt rules m bytes options wanted events c start (pieces_behind events) at t state) where
     -- if a link leads on, the next chunk is further on, inside the list
     pub chain-rises : {d : ℕ} → next_of events at ≡ Some d → (at < d) × (d + 1 < length events)
-    chain-rises {d} e = (ready.forward at d e, inside options.tab_size bytes wanted events ready d (fits_next options.tab_size bytes wanted events ready at d r.fit e))
+    chain-rises {d} e = (ready.forward at d e, inside options.tab_size bytes wanted events ready d (fits_next options.tab_size bytes wanted events ready at d r.stands.fit e))
 
     -- and the gap before it comes next, and then its range
     pub chain-next : {d : ℕ} → next_of events at ≡ Some d → ReadsAt rules m bytes options wanted events c start (λ ks. passed (place_at events d) ∷ range_next events d ks) d t state
-    chain-next {d} e = go r.behind r.lead r.reads
+    chain-next {d} e = go r.stands.behind r.stands.lead r.reads
       where
-        go : (ks : List ℕ) → LeadOnFrom events at ks → Reads (given_by bytes options) rules m (place_at events c) r.flag start (text_from (given_by bytes options) events c) (pieces_behind events ks) t state
+        go : (ks : List ℕ) → LeadOnFrom events at ks → Reads (given_by bytes options) rules m (place_at events c) r.stands.flag start (text_from (given_by bytes options) events c) (pieces_behind events ks) t state
             → ReadsAt rules m bytes options wanted events c start (λ ks. passed (place_at events d) ∷ range_next events d ks) d t state
         go [] lead reads = absurd (none-some d (sym lead ∙ e))
         go (k ∷ ks) lead reads =
             let same : k ≡ d = let f : Some k ≡ Some d = sym lead.0 ∙ e in cc in
+            let s = r.stands in
             subst (λ n. ReadsAt rules m bytes options wanted events c start (λ ks. passed (place_at events n) ∷ range_next events n ks) n t state) same (record {
-              wide = r.wide;
-              flag = r.flag;
-              paragraph = r.paragraph;
-              behind = ks;
-              lead = lead.2;
-              fit = fits_next options.tab_size bytes wanted events ready at k r.fit lead.0;
+              stands = record { wide = s.wide; flag = s.flag; paragraph = s.paragraph; behind = ks; lead = lead.2; fit = fits_next options.tab_size bytes wanted events ready at k s.fit lead.0 };
               reads = reads;
             })
 
@@ -103,21 +93,16 @@ module _ {M R D : Type 0} {rules : M → Given → Rules R D} {m : M} {bytes : L
     chain-passed e is moved =
         let to = chain-next e in
         record {
-          wide = to.wide;
-          flag = to.flag;
-          paragraph = to.paragraph;
-          behind = to.behind;
-          lead = to.lead;
-          fit = to.fit;
+          stands = to.stands;
           reads = reads-passed to.reads (moved ∙ ap (λ (q : Point). record t { text = followed_by t.given t.text (passed q) }) is);
         }
 
   module _ {at : ℕ} (r : ReadsAt rules m bytes options wanted events c start (pieces_behind events) at t state) (last : next_of events at ≡ None) (starts : start_at events c ≡ Some start) where
-    all-read : Reads (given_by bytes options) rules m (place_at events c) r.flag start (text_from (given_by bytes options) events c) [] t state
-    all-read = go r.behind r.lead r.reads
+    all-read : Reads (given_by bytes options) rules m (place_at events c) r.stands.flag start (text_from (given_by bytes options) events c) [] t state
+    all-read = go r.stands.behind r.stands.lead r.reads
       where
-        go : (ks : List ℕ) → LeadOnFrom events at ks → Reads (given_by bytes options) rules m (place_at events c) r.flag start (text_from (given_by bytes options) events c) (pieces_behind events ks) t state
-            → Reads (given_by bytes options) rules m (place_at events c) r.flag start (text_from (given_by bytes options) events c) [] t state
+        go : (ks : List ℕ) → LeadOnFrom events at ks → Reads (given_by bytes options) rules m (place_at events c) r.stands.flag start (text_from (given_by bytes options) events c) (pieces_behind events ks) t state
+            → Reads (given_by bytes options) rules m (place_at events c) r.stands.flag start (text_from (given_by bytes options) events c) [] t state
         go [] lead reads = reads
         go (k ∷ ks) lead reads = absurd (none-some k (sym last ∙ lead.0))
 
@@ -127,7 +112,7 @@ module _ {M R D : Type 0} {rules : M → Given → Rules R D} {m : M} {bytes : L
         let q = reads-flushed all-read f in
         record {
           result = f.result;
-          read = record { flag = r.flag; flagged = r.paragraph; start = start; starts = starts; ends = q.0.ends; within = q.0.within };
+          read = record { flag = r.stands.flag; flagged = r.stands.paragraph; start = start; starts = starts; ends = q.0.ends; within = q.0.within };
           well = f.well;
           final = v.configuration;
           resolved = q.1;
@@ -143,4 +128,4 @@ module _ {M R D : Type 0} {rules : M → Given → Rules R D} {m : M} {bytes : L
     chain-fault (fault.Message message) other told =
         let h = told message refl in
         let q = reads-refused all-read h in
-        record { result = h.result; read = record { flag = r.flag; flagged = r.paragraph; start = start; starts = starts; ends = q.0.ends; within = q.0.within }; message = q.1 }
+        record { result = h.result; read = record { flag = r.stands.flag; flagged = r.stands.paragraph; start = start; starts = starts; ends = q.0.ends; within = q.0.within }; message = q.1 }

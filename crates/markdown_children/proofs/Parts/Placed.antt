@@ -1,5 +1,5 @@
 -- The places of children's events after disjoint changes. Edits that bring each part with its link ends there give the list with children.
-use Rattle.markdown_children.proofs.Prelude.{◌≡◌, ℕ, suc, ◌+◌, ◌-◌, ◌*◌, ◌<◌, ◌≤◌, true, ltb, List, [], ◌∷◌, ◌++◌, length, take, drop, Option, Some, None, refl, ◌∙◌, ap, subst, ⊎_elim, arith, length-drop, option_map, ne_eqb, lt-ltb, le-ltb, cases_lt, length-take-le, Event, Identity, of_child, Tagged, place_in, Change, olds, pass, AreApart, AreApart-le, or_after, place_in-append, length-olds, child_place, total, tagged_child, part_changes, cond, map, sym, flat_map, All, AllByRecursion, map-append, All-head, All-tail, relinked, EndsBelow, as_addition, as_change, edited, of_list, of_addition, as_listed, is_same, woven, placed, placed_in, placed_end, changed, woven-pass, zero-add, relinked-same, relinked-agree, same_shift, Divided, part_edits, chain_edits, all_edits, first_chunk, chain_changes, every-both, every-all, nat_tests}
+use Rattle.markdown_children.proofs.Prelude.{◌≡◌, ℕ, suc, ◌+◌, ◌-◌, ◌*◌, ◌<◌, ◌≤◌, List, [], ◌∷◌, ◌++◌, length, take, drop, Option, Some, None, refl, ◌∙◌, ap, subst, arith, length-drop, option_map, ne_eqb, length-take-le, Event, Identity, of_child, Tagged, place_in, Change, olds, pass, AreApart, AreApart-le, or_after, place_in-append, length-olds, child_place, total, tagged_child, part_changes, cond, map, sym, flat_map, All, AllByRecursion, map-append, All-head, All-tail, relinked, EndsBelow, as_addition, as_change, edited, of_list, of_addition, as_listed, is_same, woven, placed, placed_in, placed_end, changed, woven-pass, zero-add, relinked-same, relinked-agree, same_shift, Divided, part_edits, chain_edits, all_edits, first_chunk, chain_changes, every-both, every-all, nat_tests}
 use Rattle.markdown_children.proofs.ChainOrder.Spaced.{HasParts}
 
 -- what a change leaves of the events
@@ -69,17 +69,14 @@ place_in-child_in c n j (e ∷ es) l m =
 pub change_place-chain : (c j : ℕ) (ks : List ℕ) (ps : List (List Event)) (ws : List Change) (n removed added : ℕ) → length ks ≡ length ps → n < total ps
     → change_place (of_child c (j + n)) (part_changes c j ks ps ++ ws) removed added ≡ child_place ks ps removed added n
 change_place-chain c j [] [] ws n removed added e l = absurd (omega arith)
-change_place-chain c j (k ∷ ks) (p ∷ ps) ws n removed added e l = ⊎_elim
-    (λ (q : n < length p).
-    let t : ltb n (length p) ≡ true = lt-ltb n (length p) q in
-    let z : j + n - j ≡ n = omega arith in
-    rw (place_in-child_in c (j + n) j p (omega arith) (omega arith), t, z) refl)
-    (λ (q : length p ≤ n).
-    let z : j + n ≡ j + length p + (n - length p) = omega arith in
-    rw (place_in-child_none c (j + n) j p (λ (m : j ≤ j + n). omega arith), length-tagged_child c j p, le-ltb n (length p) q)
-    (ap (λ m. change_place (of_child c m) (part_changes c (j + length p) ks ps ++ ws) (removed + 2) (added + length p)) z
-    ∙ change_place-chain c (j + length p) ks ps ws (n - length p) (removed + 2) (added + length p) (omega arith) (omega arith)))
-    (cases_lt n (length p))
+change_place-chain c j (k ∷ ks) (p ∷ ps) ws n removed added e l =
+    let here : n < length p → place_in (of_child c (j + n)) (tagged_child c j p) ≡ Some (j + n - j) = λ q. place_in-child_in c (j + n) j p (omega arith) (omega arith) in
+    let there : length p ≤ n → place_in (of_child c (j + n)) (tagged_child c j p) ≡ None = λ q. place_in-child_none c (j + n) j p (λ (m : j ≤ j + n). omega arith) in
+    let rest : List Change = part_changes c (j + length p) ks ps ++ ws in
+    let more : length p ≤ n → change_place (of_child c (j + n)) rest (removed + 2) (added + length p) ≡ child_place ks ps (removed + 2) (added + length p) (n - length p) =
+    λ q. (let z : j + n ≡ j + length p + (n - length p) = omega arith in ap (λ m. change_place (of_child c m) rest (removed + 2) (added + length p)) z)
+    ∙ change_place-chain c (j + length p) ks ps ws (n - length p) (removed + 2) (added + length p) (omega arith) (omega arith) in
+    rw (length-tagged_child c j p) (grind (arith, nat_tests))
 change_place-chain c j ks ps ws n removed added e l = absurd (omega arith)
 
 -- the changes of another chain only shift

@@ -1,5 +1,5 @@
 -- Where the bytes of a document begin, and its places.
-use Rattle.markdown_children.proofs.Prelude.{◌≡◌, ℕ, zero, suc, ◌+◌, ◌-◌, ◌<◌, ◌≤◌, ◌⊎◌, inl, inr, Bool, true, false, cond, List, [], ◌∷◌, ◌++◌, length, drop, get_or, Some, refl, sym, ◌∙◌, ap, subst, arith, eqb-true, append_assoc, ◌==◌, ◌&&◌, nat_le, nat_lt, slice_index, leb-true, ltb-true, le-leb, lt-ltb, eq-eqb, ne_eqb, false_from_ne_true, same_Some, and_parts, Point, Seat, point, tab_width, in_tab, begins_with_lf, virtual_from, shown, follows_cr, IsPointOf, IsShown, point_at, IsReached, IsSeatPlace, IsReturnPlace, tab_width-least, reached_start, reached-line_feed, reached-return, reached-crlf, reached-tab, reached-plain, place-of, byte_here, point-of_reached, is_lf, ends_line, and-false-never, point_at-point, point_at-is, IsAmong, seat-is-point, IsShownPlace, width_at, line_after, column_after, line_at, column_at, byte_start, is_of_byte, is_place, ByteStart, get_or-eq_default, cases_lt, ⊎_elim}
+use Rattle.markdown_children.proofs.Prelude.{◌≡◌, ℕ, zero, suc, ◌+◌, ◌-◌, ◌<◌, ◌≤◌, ◌⊎◌, inl, inr, Bool, true, false, List, [], ◌∷◌, ◌++◌, length, drop, get_or, Some, refl, sym, ◌∙◌, ap, subst, arith, eqb-true, append_assoc, ◌==◌, ◌&&◌, nat_le, nat_lt, slice_index, leb-true, ltb-true, le-leb, lt-ltb, eq-eqb, ne_eqb, false_from_ne_true, same_Some, and_parts, Point, Seat, point, tab_width, in_tab, begins_with_lf, virtual_from, shown, follows_cr, IsPointOf, IsShown, point_at, IsReached, IsSeatPlace, IsReturnPlace, tab_width-least, reached_start, reached-line_feed, reached-return, reached-crlf, reached-tab, reached-plain, place-of, byte_here, point-of_reached, is_lf, ends_line, and-false-never, point_at-point, point_at-is, IsAmong, seat-is-point, IsShownPlace, width_at, line_after, column_after, line_at, column_at, byte_start, is_of_byte, is_place, ByteStart, get_or-eq_default, cases_lt, ⊎_elim}
 use Rattle.markdown_children.proofs.ChainOrder.Following.{by_test}
 use Rattle.markdown_children.proofs.Ready.Tests.{four-parts}
 
@@ -130,15 +130,3 @@ module _ (t : ℕ) (some : 0 < t) (bytes : List ℕ) where
 
   pub place-complete : (p : Point) → IsShownPlace t bytes p → is_place t bytes p ≡ true
   place-complete p h = place-of-byte p h.0 h.1 p.vs refl (place-of t some bytes p h.0)
-
--- line and column after a byte
-pub line-on : (bytes : List ℕ) (line i : ℕ) (b : Bool) → line ≡ line_at bytes i → ends_line bytes i ≡ b → cond b (line + 1) line ≡ line_at bytes (i + 1)
-line-on bytes line i b l e =
-    let s : suc i ≡ i + 1 = omega arith in
-    let n : line + 1 ≡ suc (line_at bytes i) = omega (arith, l) in
-    (λ j. cond (sym e j) (n j) (l j)) ∙ ap (line_at bytes) s
-
-pub column-on : (t : ℕ) (bytes : List ℕ) (column i : ℕ) → column ≡ column_at t bytes i → column_after t bytes column i ≡ column_at t bytes (i + 1)
-column-on t bytes column i c =
-    let s : suc i ≡ i + 1 = omega arith in
-    ap (λ n. column_after t bytes n i) c ∙ ap (column_at t bytes) s

@@ -1,5 +1,5 @@
-use Rattle.markdown_children.proofs.Prelude.{◌≡◌, ◌≤◌, ◌<◌, ℕ, suc, ◌+◌, true, false, List, length, refl, sym, ap, ◌∙◌, arith, lit≤, ◌==◌, slice_index, ne_eqb, mul-le-mul_left, mul-le-mul_right, column_after, line_at, column_at, ByteStart}
-use Rattle.markdown_children.proofs.Ready.Reached.{reached-at, line_at-le, line-on, column-on}
+use Rattle.markdown_children.proofs.Prelude.{◌≡◌, ◌≤◌, ◌<◌, ℕ, suc, false, List, length, refl, sym, ap, ◌∙◌, arith, add-one, lit≤, ◌==◌, slice_index, ne_eqb, mul-le-mul_left, mul-le-mul_right, line_at, column_at, ByteStart}
+use Rattle.markdown_children.proofs.Ready.Reached.{reached-at, line_at-le}
 use Rattle.markdown_children.proofs.byte_starts.walked.Goals as goal
 
 -- a byte above a CR is no tab and no line ending
@@ -19,10 +19,9 @@ pub loop-index-preserved-then-bytes-index-gt13 : goal.loop-index-preserved-then-
 loop-index-preserved-then-bytes-index-gt13 c =
     let i = c.loop-index.invariant in
     let no = apart c.args.bytes.now c.loop-index.index c.if-bytes-index-gt13.true in
-    let plain : c.loop-index.column + 1 ≡ column_after c.args.t c.args.bytes.now c.loop-index.column c.loop-index.index = rw (no 13 (lit≤ tt), no 10 (lit≤ tt), no 9 (lit≤ tt)) (omega arith) in
     record {
-      line = line-on c.args.bytes.now c.loop-index.line c.loop-index.index false i.line (rw (no 13 (lit≤ tt), no 10 (lit≤ tt)) refl);
-      column = plain ∙ column-on c.args.t c.args.bytes.now c.loop-index.column c.loop-index.index i.column;
+      line = rw (add-one c.loop-index.index, no 13 (lit≤ tt), no 10 (lit≤ tt)) i.line;
+      column = rw (add-one c.loop-index.index, no 13 (lit≤ tt), no 10 (lit≤ tt), no 9 (lit≤ tt)) (omega (arith, i.column));
     }
 
 pub overflow_add-line : goal.overflow_add-line
@@ -31,13 +30,8 @@ overflow_add-line c =
 
 pub loop-index-preserved-then-ends_line : goal.loop-index-preserved-then-ends_line
 loop-index-preserved-then-ends_line c =
-    let i = c.loop-index.invariant in
     let ends = sym c.ends_line.ensures.end ∙ c.if-ends_line.true in
-    let first : 1 ≡ column_after c.args.t c.args.bytes.now c.loop-index.column c.loop-index.index = rw ends refl in
-    record {
-      line = line-on c.args.bytes.now c.loop-index.line c.loop-index.index true i.line ends;
-      column = first ∙ column-on c.args.t c.args.bytes.now c.loop-index.column c.loop-index.index i.column;
-    }
+    record { line = rw (add-one c.loop-index.index, ends) (omega (arith, c.loop-index.invariant.line)); column = rw (add-one c.loop-index.index, ends) refl }
 
 pub column_after-column-requires : goal.column_after-column-requires
 column_after-column-requires c =
@@ -53,10 +47,8 @@ column_after-column-requires c =
 pub loop-index-preserved : goal.loop-index-preserved
 loop-index-preserved c =
     let i = c.loop-index.invariant in
-    record {
-      line = line-on c.args.bytes.now c.loop-index.line c.loop-index.index false i.line (sym c.ends_line.ensures.end ∙ c.if-ends_line.false);
-      column = c.column_after-column.ensures ∙ column-on c.args.t c.args.bytes.now c.loop-index.column c.loop-index.index i.column;
-    }
+    let goes_on = sym c.ends_line.ensures.end ∙ c.if-ends_line.false in
+    record { line = rw (add-one c.loop-index.index, goes_on) i.line; column = rw (add-one c.loop-index.index, ← i.column) c.column_after-column.ensures }
 
 pub returns : goal.returns
 returns c =

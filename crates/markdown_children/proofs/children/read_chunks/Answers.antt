@@ -33,7 +33,7 @@ loop-next-init g c =
 pub next_of-requires : goal.next_of-requires
 next_of-requires g c =
     let p = c.args.parse_state.now in
-    omega (arith, inside p.options.now.tab_size p.bytes.now c.args.filter c.args.events.now c.requires.ready c.loop-next.at c.loop-next.invariant.2.fit)
+    omega (arith, inside p.options.now.tab_size p.bytes.now c.args.filter c.args.events.now c.requires.ready c.loop-next.at c.loop-next.invariant.2.stands.fit)
 
 pub place_at-gap-requires : goal.place_at-gap-requires
 place_at-gap-requires g c =
