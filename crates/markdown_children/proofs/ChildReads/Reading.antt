@@ -77,7 +77,8 @@ module _ {M R D : Type 0} {rules : M → Given → Rules R D} {m : M} {bytes : L
     pub chain-next : {d : ℕ} → next_of events at ≡ Some d → ReadsAt rules m bytes options wanted events c start (λ ks. passed (place_at events d) ∷ range_next events d ks) d t state
     chain-next {d} e = go r.stands.behind r.stands.lead r.reads
       where
-        go : (ks : List ℕ) → LeadOnFrom events at ks → Reads (given_by bytes options) rules m (place_at events c) r.stands.flag start (text_from (given_by bytes options) events c) (pieces_behind events ks) t state
+        go : (ks : List ℕ) → LeadOnFrom events at ks
+            → Reads (given_by bytes options) rules m (place_at events c) r.stands.flag start (text_from (given_by bytes options) events c) (pieces_behind events ks) t state
             → ReadsAt rules m bytes options wanted events c start (λ ks. passed (place_at events d) ∷ range_next events d ks) d t state
         go [] lead reads = absurd (none-some d (sym lead ∙ e))
         go (k ∷ ks) lead reads =
@@ -101,7 +102,8 @@ module _ {M R D : Type 0} {rules : M → Given → Rules R D} {m : M} {bytes : L
     all-read : Reads (given_by bytes options) rules m (place_at events c) r.stands.flag start (text_from (given_by bytes options) events c) [] t state
     all-read = go r.stands.behind r.stands.lead r.reads
       where
-        go : (ks : List ℕ) → LeadOnFrom events at ks → Reads (given_by bytes options) rules m (place_at events c) r.stands.flag start (text_from (given_by bytes options) events c) (pieces_behind events ks) t state
+        go : (ks : List ℕ) → LeadOnFrom events at ks
+            → Reads (given_by bytes options) rules m (place_at events c) r.stands.flag start (text_from (given_by bytes options) events c) (pieces_behind events ks) t state
             → Reads (given_by bytes options) rules m (place_at events c) r.stands.flag start (text_from (given_by bytes options) events c) [] t state
         go [] lead reads = reads
         go (k ∷ ks) lead reads = absurd (none-some k (sym last ∙ lead.0))
