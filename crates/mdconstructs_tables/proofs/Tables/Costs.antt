@@ -206,12 +206,10 @@ module _ {W R D : Type 0} (table : Table W R D) (g : Given) (late : Bool) where
       well-costs : (kind : AttemptKind) (b : Bool) (saved : Option Saved) → saves kind c.nok ≡ b → fits_choice table.states f kind c.ok c.nok ≡ true → IsSaved table.class g text k.position (outline k) stack f b saved
           → falls_on falling c.ok ≡ true → IsFarBehind saved → CanGoBack late kind → table_cost table g text (settled_at kind saved Ok k) c.ok ≤ reserve_of table late text c saved
       well-costs Attempt true (Some saved) is fit h may far back =
-          let goes = (and_parts (may_go_on table.states f None c.ok) _ fit).0 in
-          let cost = go-costs f None c.ok text (unfed k) goes in
+          let cost = go-costs f None c.ok text (unfed k) (and_parts (may_go_on table.states f None c.ok) _ fit).0 in
           omega (arith, cost, state-falls c.ok text (behind late saved.position) k.position may far)
       well-costs Attempt false None is fit h may far back =
-          let goes = (and_parts (may_go_on table.states f None c.ok) _ fit).0 in
-          let cost = go-costs f None c.ok text (unfed k) goes in
+          let cost = go-costs f None c.ok text (unfed k) (and_parts (may_go_on table.states f None c.ok) _ fit).0 in
           let least : 0 ≤ k.position = omega arith in
           omega (arith, cost, state-falls c.ok text 0 k.position may least)
       well-costs Check true (Some saved) is fit h may far back =
