@@ -3,9 +3,7 @@ pub mod Accounts
 pub mod Back
 pub mod Data
 pub mod Deep
-pub mod Events
 pub mod Lines
-pub mod Looks
 pub mod Peek
 pub mod Reads
 pub mod Rows

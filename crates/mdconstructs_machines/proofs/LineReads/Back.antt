@@ -1,10 +1,9 @@
 -- The machine that goes back reads the first line as data, and all the rest as data, with a look in between that fails.
 use Rattle.mdconstructs_machines.proofs.BlockReads.Accounts.{lines-are-all}
-use Rattle.mdconstructs_machines.proofs.LineReads.Events.{joined-first}
+use Rattle.mdconstructs_machines.proofs.LineReads.Reads.{joined-first}
 use Rattle.mdconstructs_machines.proofs.Prelude.{◌≡◌, ℕ, ◌+◌, ◌∷◌, ◌++◌, [], List, Bool, true, false, cond, refl, sym, ◌∙◌, ap, subst, Some, None, drop, take, drop-next, Event, Enter, Exit, Data, Point, Name, Next, Retry, TextStart, TextBefore, DataStart, DataInside, StringStart, DataAtBreak, StringBefore, Seat, end_after, Check, Byte, End, with_local, Given, Text, Configuration, Local, Choice, Step, Sight, point_or, end_place, whole_text, back_rules, text_start_rows, text_before_rows, data_start_rows, data_inside_rows, string_start_rows, data_at_break_rows, string_before_rows, is_line_ending, joined, lines_in, all_of, back_events, IsReadAs, event, leaf, line_ending, other, line_byte, counts, EventName}
-use Rattle.mdconstructs_machines.proofs.LineReads.Looks.{FailsTo, goes-back, shows-events, place-behind}
+use Rattle.mdconstructs_machines.proofs.LineReads.Steps.{FailsTo, goes-back, shows-events, place-behind, EndsWith, held, shows, ended, goes-next, reads-from, at-front}
 use Rattle.mdconstructs_machines.proofs.LineReads.Rows.{leads-row, waits_class, is-class, byte-class}
-use Rattle.mdconstructs_machines.proofs.LineReads.Steps.{EndsWith, held, shows, ended, goes-next, reads-from, at-front}
 
 -- the first line, and all the rest
 abbrev first_line : List Seat → List Seat

@@ -2,9 +2,8 @@
 use Rattle.mdconstructs_machines.proofs.Prelude.{◌≡◌, ℕ, ◌+◌, ◌∷◌, [], List, Bool, true, false, refl, ◌∙◌, ap, Some, None, drop, drop-next, Event, Name, Next, Retry, StringStart, StringBefore, DataStart, Seat, Attempt, Byte, End, Given, Text, Configuration, Local, Choice, Step, Sight, byte_of, seat_before, whole_text, class_of, deep_rules, data_events, IsReadAs, line_byte, counts}
 use Rattle.mdconstructs_machines.specs.Deep.{string_start_rows, string_before_rows}
 use Rattle.mdconstructs_machines.proofs.LineReads.Data.{data-read}
-use Rattle.mdconstructs_machines.proofs.LineReads.Looks.{Passes, FailsAtEnd, FailsTo, goes-back, looks-on, seat-behind}
+use Rattle.mdconstructs_machines.proofs.LineReads.Steps.{Passes, FailsAtEnd, FailsTo, goes-back, looks-on, seat-behind, EndsWith, held, shows, ended, goes-next, reads-from, leads-step, at-front}
 use Rattle.mdconstructs_machines.proofs.LineReads.Rows.{leads-row, row_step, waits_class, byte-class}
-use Rattle.mdconstructs_machines.proofs.LineReads.Steps.{EndsWith, held, shows, ended, goes-next, reads-from, leads-step, at-front}
 
 module _ (g : Given) (text : Text) where
   abbrev step : Sight → Configuration Unit Unit → Name → Step Unit Unit

@@ -2,9 +2,8 @@
 use Rattle.mdconstructs_machines.proofs.Prelude.{◌≡◌, ◌∷◌, [], List, true, false, refl, Some, None, drop, Name, Next, Retry, TextStart, TextBefore, DataStart, Seat, Check, Byte, End, Given, Text, Configuration, Local, Step, Sight, whole_text, data_events, peek_rules, IsReadAs, line_byte, counts}
 use Rattle.mdconstructs_machines.specs.Peek.{text_start_rows, text_before_rows}
 use Rattle.mdconstructs_machines.proofs.LineReads.Data.{ReadsData, data-read}
-use Rattle.mdconstructs_machines.proofs.LineReads.Looks.{Passes, FailsAtEnd, goes-back, looks-on}
+use Rattle.mdconstructs_machines.proofs.LineReads.Steps.{Passes, FailsAtEnd, goes-back, looks-on, EndsWith, held, shows, reads-from}
 use Rattle.mdconstructs_machines.proofs.LineReads.Rows.{leads-row, waits_class, byte-class}
-use Rattle.mdconstructs_machines.proofs.LineReads.Steps.{EndsWith, held, shows, reads-from}
 
 module _ (g : Given) (text : Text) where
   abbrev step : Sight → Configuration Unit Unit → Name → Step Unit Unit

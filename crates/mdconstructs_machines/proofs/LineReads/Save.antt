@@ -1,11 +1,10 @@
 -- The machine that saves its place passes the first line, goes back to where it ended, and reads data.
-use Rattle.mdconstructs_machines.proofs.LineReads.Events.{joined-first}
+use Rattle.mdconstructs_machines.proofs.LineReads.Reads.{joined-first}
 use Rattle.mdconstructs_machines.proofs.Prelude.{◌≡◌, ℕ, ◌+◌, ◌∷◌, [], List, Bool, true, false, cond, refl, sym, ◌∙◌, ap, subst, Some, None, drop, flat_map, drop-next, Name, Next, Retry, TextStart, TextBefore, DataStart, Seat, Attempt, Nothing, Byte, End, with_local, Given, Text, Configuration, Local, Step, Sight, whole_text, is_line_ending, joined, lines_in, data_line, data_events, save_events, IsReadAs, save_rules, line_ending, other, counts}
 use Rattle.mdconstructs_machines.specs.Save.{text_start_rows, text_before_rows}
 use Rattle.mdconstructs_machines.proofs.LineReads.Data.{data-read}
-use Rattle.mdconstructs_machines.proofs.LineReads.Looks.{goes-back, shows-events}
+use Rattle.mdconstructs_machines.proofs.LineReads.Steps.{goes-back, shows-events, EndsWith, held, shows, ended, goes-next, reads-from, at-front}
 use Rattle.mdconstructs_machines.proofs.LineReads.Rows.{leads-row, waits_class, is-class}
-use Rattle.mdconstructs_machines.proofs.LineReads.Steps.{EndsWith, held, shows, ended, goes-next, reads-from, at-front}
 
 module _ (g : Given) (text : Text) where
   abbrev step : Sight → Configuration Unit Unit → Name → Step Unit Unit
