@@ -39,7 +39,7 @@ pub use Rattle.markdown_tokenizer.specs.Engine.{IsRunRefused, whole_text}
 pub use Rattle.markdown_tokenizer.specs.Lawful.{ConsumesOnce, CostPays, EndsWhenRead, ForEachCall, IsAsFar, IsLawful, KeepsInvariant, OnlyAdds}
 pub use Rattle.markdown_tokenizer.specs.Plain.{IsPlain, KeepsPlain, plain}
 pub use Rattle.markdown_tokenizer.specs.Reading.{EndsIn, Reading, after_choices, fed, more_calls, read, restored, settle, settled_at, unfed}
-pub use Rattle.markdown_tokenizer.specs.Resolving.{IsResolvingRefused, Resolved, found, refused, resolved_by, taken, with_more}
+pub use Rattle.markdown_tokenizer.specs.Resolving.{IsResolvingRefused, found, refused, resolved_by, taken, with_more}
 pub use Rattle.markdown_tokenizer.specs.Rules.{Rules}
 pub use Rattle.markdown_tokenizer.specs.Sight.{Sight, byte_of, current_of, end_place, seat_before, sight, sight_in, sight_of}
 pub use Rattle.markdown_tokenizer.specs.Text.{Given, IsText, Piece, Text, empty_text, followed_by, in_range, passed, pushed}

@@ -306,10 +306,6 @@ module _ {W R D : Type 0} (table : Table W R D) (g : Given) (late : Bool) where
         → table_cost table g text (settled_at choice.kind choice.saved Nok k) choice.nok ≤ reserved text choice
     nok-pays text k choice choices h = let w = h.1.waiting.0 in badly-costs choice w.frame h.1.base text k choice.kind (saves choice.kind choice.nok) choice.saved refl w.fits w.saved
 
-goes-back : (kind : AttemptKind) → CanGoBack false kind
-goes-back Attempt = tt
-goes-back Check = refl
-
 every-falls : (a : State) → falls_on every a ≡ true
 every-falls (Next name) = refl
 every-falls a = refl
@@ -322,6 +318,6 @@ table-cost_pays table g fit = record {
       let w = h.1.waiting.0 in
       let behind_it = if-saved table.class table.states g text (λ saved. behind false saved.position ≤ k.position) h.1.base w.frame k.position (outline k) (λ s h. h.behind)
       (saves choice.kind choice.nok) choice.saved w.saved in
-      ok-pays table g false fit text k choice choices h (every-falls choice.ok) behind_it (goes-back choice.kind);
+      ok-pays table g false fit text k choice choices h (every-falls choice.ok) behind_it (elim choice.kind as (λ kind. CanGoBack false kind) [ Attempt ↦ tt | Check ↦ refl ]);
   for_nok = λ text k choice choices is h. nok-pays table g false fit text k choice choices h;
 }

@@ -1,5 +1,5 @@
 -- A machine whose table refuses nothing refuses no document.
-use Rattle.mdconstructs_tables.proofs.Prelude.{◌≡◌, ◌≢◌, ℕ, List, [], ◌∷◌, ◌++◌, Bool, true, false, cond, Option, Some, None, ◌⊎◌, ⊎_elim, refl, filter, list_any, or_parts, Message, Name, Next, Ok, Error, none-mapped, Subresult, Attempt, Check, Given, Text, Configuration, Choice, Step, start_configuration, with_local, with_resolvers, whole_text, IsRunRefused, Reading, EndsIn, Resolved, refused, resolved_by, with_more, taken, found, IsResolvingRefused, Rules, Sight, sight, Act, choose, Rows, row, when, StateRows, Table, class_of, seen_after, with_choice_of, chooses, picked, named, step_of, step_at, table_step, is_message, act_refuses, rows_refuse, refusing, RulesRefuseNothing, cond_both}
+use Rattle.mdconstructs_tables.proofs.Prelude.{◌≡◌, ◌≢◌, ℕ, List, [], ◌∷◌, ◌++◌, Bool, true, false, cond, Option, Some, None, ◌⊎◌, ⊎_elim, refl, filter, list_any, or_parts, Message, Name, Next, Ok, Error, none-mapped, Subresult, Attempt, Check, Given, Text, Configuration, Choice, Step, start_configuration, with_local, with_resolvers, whole_text, IsRunRefused, Reading, EndsIn, refused, resolved_by, with_more, taken, found, IsResolvingRefused, Rules, Sight, sight, Act, choose, Rows, row, when, StateRows, Table, class_of, seen_after, with_choice_of, chooses, picked, named, step_of, step_at, table_step, is_message, act_refuses, rows_refuse, refusing, RulesRefuseNothing, cond_both}
 use Rattle.markdown_tokenizer.specs.Resolving.{done}
 use Rattle.mdconstructs_tables.specs.Rows.{done as act_done}
 use Rattle.mdconstructs_tables.proofs.KeptByReading.{kept-refused}
@@ -52,15 +52,13 @@ module _ {W R D : Type 0} (table : Table W R D) (none : (previous current : Opti
 
 module _ {R D : Type 0} (rules : Given → Rules R D) (nothing : RulesRefuseNothing rules) (g : Given) (text : Text) where
   -- a resolver, and then those after it
-  after-one : (one : Resolved R D) (rs : List R) (k : Configuration R D) (r : R) (sub : Subresult) (m : Message) → (rules g).resolver (sight g text k) k r ≡ one
-      → ((new : Configuration R D) (more : Subresult) → resolved_by (rules g).resolver g text rs new more ≢ refused m) → resolved_by (rules g).resolver g text (r ∷ rs) k sub ≢ refused m
-  after-one (done new more) rs k r sub m e behind is = behind new (with_more sub more) (rw (e, resolved_by) at is)
-  after-one (refused message) rs k r sub m e behind is = nothing.resolvers g (sight g text k) k r message e
-
   resolvers-refuse-nothing : (rs : List R) (k : Configuration R D) (sub : Subresult) (m : Message) → resolved_by (rules g).resolver g text rs k sub ≢ refused m
   resolvers-refuse-nothing [] k sub m is = absurd (cc)
   resolvers-refuse-nothing (r ∷ rs) k sub m is =
-      after-one ((rules g).resolver (sight g text k) k r) rs k r sub m refl (λ new more e. resolvers-refuse-nothing rs new more m e) is
+      elim ((rules g).resolver (sight g text k) k r) as (λ one. (rules g).resolver (sight g text k) k r ≡ one → ⊥) [
+        | done new more ↦ λ e. resolvers-refuse-nothing rs new (with_more sub more) m (rw (e, resolved_by) at is)
+        | refused message ↦ λ e. nothing.resolvers g (sight g text k) k r message e
+      ] refl
 
   -- no reading is refused, nor what resolvers make of it
   pub none-refused : (resolve : Bool) (calls : ℕ) (k : Configuration R D) (name : Name) (r : Reading R D) (m : Message) → EndsIn g (rules g).step text calls k [] (Next name) r
