@@ -13,9 +13,6 @@ abbrev pub IsPlain : Marked → Type 0
 IsPlain (e, None) = Unit {0}
 IsPlain (e, Some c) = ⊥
 
-self : (b n : ℕ) (e : Event) → begins (b, n) (e, Some (b, n)) ≡ true
-self b n e = grind (arith, nat_tests)
-
 -- what is before a chunk begins none from there on in that block
 away : (b n : ℕ) (x : Marked) → IsBefore b n x → (k : ℕ) → n ≤ k → begins (b, k) x ≡ false
 away b n (e, None) h k l = refl
@@ -171,9 +168,9 @@ module _ (e : Event) (b n : ℕ) (front : List Marked) (f : Event) (tail : List 
       let after_new : chunk_at more (b, suc (suc n)) ≡ None =
       at-none (begins (b, suc (suc n))) more (every-append (λ x. begins (b, suc (suc n)) x ≡ false) olds (new ∷ []) (elsewhere (suc (suc n)) (omega arith)) (grind (arith, nat_tests), tt)) in
       let line : (j : ℕ) → suc j ≡ n → begins (b, j) new ≡ false = λ j is. grind (arith, nat_tests) in
-      let at_new : chunk_at more (b, suc n) ≡ Some (length olds) = at-first (begins (b, suc n)) olds new [] (elsewhere (suc n) (omega arith)) (self b (suc n) e) in
+      let at_new : chunk_at more (b, suc n) ≡ Some (length olds) = at-first (begins (b, suc n)) olds new [] (elsewhere (suc n) (omega arith)) (grind (arith, nat_tests)) in
       let at_last : chunk_at more (b, n) ≡ Some (length front) =
-      ap (position (begins (b, n))) (append_assoc front (last ∷ tail) (new ∷ [])) ∙ at-first (begins (b, n)) front last (tail ++ new ∷ []) (all-away b n front before n (omega arith)) (self b n f) in
+      ap (position (begins (b, n))) (append_assoc front (last ∷ tail) (new ∷ [])) ∙ at-first (begins (b, n)) front last (tail ++ new ∷ []) (all-away b n front before n (omega arith)) (grind (arith, nat_tests)) in
       let last_next : as_linked more last ≡ with_next (length olds) (as_linked olds last) =
       link-same f (chunk_before more (b, n)) (chunk_before olds (b, n)) (chunk_at more (b, suc n)) (Some (length olds)) (same-before olds new b n line) at_new in
       let new_previous : as_linked more new ≡ with_previous (length front) (alone e) =
