@@ -213,31 +213,40 @@ module _ {W R D : Type 0} (table : Table W R D) (g : Given) where
       retried b None p above name text k k' choices read waits order class (ahead-at None text k met order) (rw at at h.reads.0) fit (rw at at h.began) h waiting (λ v e. absurd (cc))
   answered st b w p above a text k k' choices read waits order class met fit at h waiting = absurd (cc)
 
-  -- if the text goes on, the invariant at a state returned still holds
-  state-longer : (o : Option (StateRows W R D)) (where_to : StateRows W R D → Point → Bool) (text more : Text) (k : Configuration R D) (choices : List Choice) → Extends text more → k.position ≤ length text.seats
-      → IsStateAt table g text o where_to k choices → IsStateAt table g more o where_to k choices
-  state-longer None where_to text more k choices e inside h = h
-  state-longer (Some state) where_to text more k choices e inside h =
+  -- the same spans are open once the next byte, or the end, was fed, and if the text goes on
+  moved : (o : Option (StateRows W R D)) (from to : StateRows W R D → Point → Bool) (text more : Text) (k : Configuration R D) (choices : List Choice) (waits : Waits) (ended : Bool)
+      → ((state : StateRows W R D) (q : Point) → from state q ≡ true → to state q ≡ true) → ((w : W) → class_in table.class text k.position ≡ Some w → class_in table.class more k.position ≡ Some w)
+      → ((base : List EventName) → AreWaiting table.class table.states g text k.position (outline k) base choices → AreWaiting table.class table.states g more k.position (outline k) base choices)
+      → IsStateAt table g text o from k choices
+      → IsStateAt table g more o to (record { position = k.position; waiting = waits; ended = ended; events = k.events; stack = k.stack; local = k.local }) choices
+  moved None from to text more k choices waits ended f class wait h = h
+  moved (Some state) from to text more k choices waits ended f class wait h =
       let o = h.spans in
+      let called = called-more state.called (class_in table.class text k.position) (class_in table.class more k.position) class o.called in
       record {
         base = h.base;
-        spans = record { stack = o.stack; began = o.began; void = o.void; below = o.below; needs = o.needs; called = called-more state.called (class_in table.class text k.position) (class_in table.class more k.position) (class-kept table.class table.states g text more e k.position) o.called };
-        waiting = waiting-longer table.class table.states g text more e choices h.base k.position (outline k) inside h.waiting;
+        spans = record { stack = o.stack; began = began-on (from state) (to state) (outline k) (f state) o.began; void = o.void; below = o.below; needs = o.needs; called = called };
+        waiting = wait h.base h.waiting;
       }
 
+  -- if the text goes on, the invariant at a state returned still holds
   pub longer : (a : State) (text more : Text) (k : Configuration R D) (choices : List Choice) → Extends text more → k.ended ≡ false → k.position ≤ length text.seats → HoldsAt table g text k choices a → HoldsAt table g more k choices a
-  longer (Next name) text more k choices e fresh inside h = (
-    h.0,
-    subst (λ q. IsStateAt table g more (named table.states name) (λ state. upto (fresh_fed state.begun) q) k choices) (sym (place-kept table.class table.states g text more e k.position inside))
-        (state-longer (named table.states name) (λ state. upto (fresh_fed state.begun) (exit_place_at g text k.position)) text more k choices e inside h.1),
-  )
+  longer (Next name) text more k choices e fresh inside h =
+      let began = λ (state : StateRows W R D). upto (fresh_fed state.begun) (exit_place_at g text k.position) in (
+        h.0,
+        subst (λ q. IsStateAt table g more (named table.states name) (λ state. upto (fresh_fed state.begun) q) k choices) (sym (place-kept table.class table.states g text more e k.position inside))
+            (moved (named table.states name) began began text more k choices k.waiting k.ended (λ state q h. h) (class-kept table.class table.states g text more e k.position)
+            (λ base. waiting-longer table.class table.states g text more e choices base k.position (outline k) inside) h.1),
+      )
   longer (Retry name) text more k choices e fresh inside h =
       let (fed, seen) = waits-longer g text more k.position k.ended k.waiting e fresh h.0 in
-      let o = named table.states name in (
+      let o = named table.states name in
+      let began = λ (state : StateRows W R D). began_at (of_class text k) state (sight g text k) in (
         fed,
         subst (SightIsInOrder k.waiting) (sym seen) h.1,
         subst (λ s. IsStateAt table g more o (λ state. began_at (class_of table.class s.current) state s) k choices) (sym seen)
-            (state-longer o (λ state. began_at (of_class text k) state (sight g text k)) text more k choices e inside h.2),
+            (moved o began began text more k choices k.waiting k.ended (λ state q h. h) (class-kept table.class table.states g text more e k.position)
+            (λ base. waiting-longer table.class table.states g text more e choices base k.position (outline k) inside) h.2),
       )
   longer Ok text more k choices e fresh inside h = record {
     base = h.base;
@@ -249,19 +258,6 @@ module _ {W R D : Type 0} (table : Table W R D) (g : Given) where
   longer Nok text more k choices e fresh inside h =
       record { base = h.base; waiting = waiting-longer table.class table.states g text more e choices h.base k.position (outline k) inside h.waiting; any = h.any }
   longer (Error message) text more k choices e fresh inside h = h
-
-  -- the same spans are open once the next byte, or the end, was fed
-  moved : (o : Option (StateRows W R D)) (from to : StateRows W R D → Point → Bool) (text : Text) (k : Configuration R D) (choices : List Choice) (waits : Waits) (ended : Bool)
-      → ((state : StateRows W R D) (q : Point) → from state q ≡ true → to state q ≡ true) → IsStateAt table g text o from k choices
-      → IsStateAt table g text o to (record { position = k.position; waiting = waits; ended = ended; events = k.events; stack = k.stack; local = k.local }) choices
-  moved None from to text k choices waits ended f h = h
-  moved (Some state) from to text k choices waits ended f h =
-      let o = h.spans in
-      record {
-        base = h.base;
-        spans = record { stack = o.stack; began = began-on (from state) (to state) (outline k) (f state) o.began; void = o.void; below = o.below; needs = o.needs; called = o.called };
-        waiting = h.waiting;
-      }
 
   -- what may have begun when nothing waits may have when a byte does, or the end
   fed-byte : (begun : Begun W) (w : W) (s : Sight) (q : Point) → (stands_before q s.exit_place ≡ true → stands_before q s.next ≡ true) → (stands_before s.exit_place q ≡ false → stands_before q s.next ≡ true)
@@ -284,8 +280,8 @@ module _ {W R D : Type 0} (table : Table W R D) (g : Given) where
       let is_byte : w ≡ Some (table.class seat.byte) = rw at refl in
       let later : (q : Point) → stands_before q s.exit_place ≡ true → stands_before q s.next ≡ true = λ q. began-before_next g text k.position q is inside in
       let soon : (q : Point) → stands_before s.exit_place q ≡ false → stands_before q s.next ≡ true = λ q h. upto-before q.index q.vs s.exit_place.index s.exit_place.vs s.next.index s.next.vs h (ends-before_next g text k.position is inside) in
-      let open_at = moved (named table.states name) (λ state. upto (fresh_fed state.begun) s.exit_place) (λ state. began_at (Some (table.class seat.byte)) state s) text k choices Byte k.ended
-      (λ state q. fed-byte state.begun (table.class seat.byte) s q (later q) (soon q)) h.1 in
+      let open_at = moved (named table.states name) (λ state. upto (fresh_fed state.begun) s.exit_place) (λ state. began_at (Some (table.class seat.byte)) state s) text text k choices Byte k.ended
+      (λ state q. fed-byte state.begun (table.class seat.byte) s q (later q) (soon q)) (λ w is. is) (λ base h. h) h.1 in
       rw e (
         inside,
         record { begins = λ waits. begins-before_end g text k.position is inside; later = λ waits. later },
@@ -297,7 +293,8 @@ module _ {W R D : Type 0} (table : Table W R D) (g : Given) where
       rw e (
         (refl, past),
         record { begins = λ waits. absurd (cc); later = λ waits. absurd (cc) },
-        moved (named table.states name) (λ state. upto (fresh_fed state.begun) s.exit_place) (λ state. began_at None state s) text k choices End true (λ state q. fed-end state.begun s q) h.1,
+        moved (named table.states name) (λ state. upto (fresh_fed state.begun) s.exit_place) (λ state. began_at None state s) text text k choices End true
+            (λ state q. fed-end state.begun s q) (λ w is. is) (λ base h. h) h.1,
       )
 
   pub starts-at : (o : Option (StateRows W R D)) (p : Point) (where_to : StateRows W R D → Point → Bool) (flag : Bool) → may_start table.states o ≡ true
