@@ -1,8 +1,8 @@
 -- Autolinks, as the machine of texts reads them: if one is there, it is read whole, with its events; if not, what was tried leaves nothing.
-use Rattle.mdconstructs_text.proofs.Prelude.{at-front, ◌≡◌, ℕ, ◌+◌, ◌<◌, ◌≤◌, ◌∷◌, ◌++◌, [], List, Bool, true, false, cond, refl, sym, ◌∙◌, ap, subst, Option, Some, None, inl, inr, arith, take, drop, nat_le, ◌&&◌, ◌==◌, and-false, and-true, cases_lt, eqb-true, lt-ltb, drop-drop, drop-map, is_ascii_alphabetic, prefix_len, drop-next, Event, Autolink, AutolinkProtocol, Name, Next, Retry, TextBefore, AutolinkStart, AutolinkOpen, AutolinkSchemeInsideOrEmailAtext, AutolinkUrlInside, Seat, Nothing, Byte, Given, Text, Configuration, Local, Choice, byte_of, counts, Item, autolink, passes, has_byte_at, is_scheme_byte, is_allowed, uri, autolink_to, autolink_at, is_colon, is_greater_than, bytes_of, item_events, Rows, TextByte, text_byte, class_of, row, Nok, row_step, sight, held, has_room, has_scheme, links_by_itself, autolink_open_rows, autolink_scheme_rows, autolink_url_rows, nat_tests, consume, letter, scheme_goes_on, zero, suc, length-prefix_len, list_all, is_scheme, more_than}
+use Rattle.mdconstructs_text.proofs.Prelude.{at-front, ◌≡◌, ℕ, ◌+◌, ◌<◌, ◌≤◌, ◌∷◌, [], List, Bool, true, false, cond, refl, sym, ◌∙◌, ap, subst, Option, Some, None, inl, inr, arith, take, drop, nat_le, ◌&&◌, ◌==◌, and-false, and-true, cases_lt, eqb-true, lt-ltb, drop-drop, drop-map, is_ascii_alphabetic, prefix_len, drop-next, Event, Autolink, AutolinkProtocol, Name, Next, Retry, TextBefore, AutolinkStart, AutolinkOpen, AutolinkSchemeInsideOrEmailAtext, AutolinkUrlInside, Seat, Nothing, Byte, Given, Text, Configuration, Local, Choice, byte_of, counts, Item, autolink, passes, has_byte_at, is_scheme_byte, is_allowed, uri, autolink_to, autolink_at, is_colon, is_greater_than, bytes_of, Rows, TextByte, text_byte, class_of, row, Nok, row_step, sight, held, has_room, has_scheme, links_by_itself, autolink_open_rows, autolink_scheme_rows, autolink_url_rows, nat_tests, consume, letter, scheme_goes_on, zero, suc, length-prefix_len, list_all, is_scheme, more_than}
 use Rattle.std.proofs.lemmas.Bool.{le-leb, lt-leb, le-ltb}
 use Rattle.markdown_base.specs.declared.event.Name.{Name as EventName}
-use Rattle.mdconstructs_text.proofs.Texts.Steps.{EndsWith, between_items, text_step, leads-called, leads-seen, leads-tested, leads-ok, before_class}
+use Rattle.mdconstructs_text.proofs.Texts.Steps.{between_items, text_step, leads-called, leads-seen, leads-tested, leads-ok, before_class}
 use Rattle.mdconstructs_text.proofs.Plain.Classes.{by-class}
 use Rattle.mdconstructs_text.proofs.Plain.Stretches.{shows, first_byte, past, passed, past-stops, past-at, passed-counts, byte-behind, goes-next, loops}
 use Rattle.mdconstructs_text.proofs.Plain.Items.{outer, Decides, Tried, decides-before, byte-rows, leads-tried, puts-back, refused}
@@ -15,7 +15,7 @@ open-class before b h =
     by-class (λ w. autolink_open_rows before (Some w) ≡ autolink_open_rows before (Some letter)) b
     (λ e. absurd (grind (arith, nat_tests))) (λ e. absurd (grind (arith, nat_tests))) (λ e. absurd (grind (arith, nat_tests))) (λ e. absurd (grind (arith, nat_tests)))
     (λ e. absurd (grind (arith, nat_tests))) (λ e. absurd (grind (arith, nat_tests))) (λ e. refl) (λ e f. absurd (cc)) (λ e. absurd (grind (arith, nat_tests)))
-    (λ o e. absurd (cc (o.letter))) (λ o e. absurd (cc (o.letter))) (λ o n e. absurd (cc (o.letter)))
+    (λ o e. absurd (cc (o.6))) (λ o e. absurd (cc (o.6))) (λ o n e. absurd (cc (o.6)))
 
 -- and at no other byte, nor at the end
 open-refused : (before : Option TextByte) (o : Option ℕ) → passes is_ascii_alphabetic o ≡ false → autolink_open_rows before (class_of text_byte o) ≡ row [] Nok
@@ -189,9 +189,7 @@ module _ (g : Given) (text : Text) (joined : IsJoined g text) (p : ℕ) (ended :
                   (ap byte_of (at-front text.seats q x xs at))
                   (ap (λ c. autolink_url_rows (before_class g text q) (Some (text_byte c))) (eqb-true x.byte 62 is)) refl
                   (leads-ok g text (between_items (q + 1) Nothing false (ended_link g text (begun_link g text events p) q) (counts local)) (outer p ended events) [] es
-                  (subst (λ l. EndsWith g text (between_items (q + 1) Nothing false l (counts local)) [] (Next TextBefore) es) (sym made)
-                  (subst (λ i. EndsWith g text (between_items i Nothing false (events ++ item_events g.bytes (autolink inside, take (inside + 2) (s ∷ r ∷ rs))) (counts local)) []
-                  (Next TextBefore) es) (sym further) h))),
+                  (rw (made, further) h)),
             )
         | false ↦ λ other.
             rejects g text p ended events autolink_url_rows AutolinkUrlInside (λ k. refl) (s ∷ r ∷ rs) q (x ∷ xs) local at (link-refused (before_class g text q) (Some x.byte) none other)

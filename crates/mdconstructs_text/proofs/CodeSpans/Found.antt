@@ -48,6 +48,14 @@ module _ (text : List ℕ) (k : ℕ) where
 pub no-tick : (b : ℕ) → is_backtick_or_line_feed b ≡ false → (b == 96) ≡ false
 no-tick b h = grind (arith, nat_tests)
 
+-- nothing is found in the first n bytes, by whether a backtick precedes them, and what is behind them
+abbrev pub Passes : (k : ℕ) → (before after : Bool) → List ℕ → (n : ℕ) → Type 0
+Passes k before after text n = first_run k before text ≡ further n (first_run k after (drop n text))
+
+-- nor in more of them
+passes-more : (k : ℕ) (before between after : Bool) (text : List ℕ) (m n : ℕ) → Passes k before between text m → Passes k between after (drop m text) n → Passes k before after text (m + n)
+passes-more k before between after text m n h i = h ∙ ap (further m) i ∙ further-further m n _ ∙ ap (λ l. further (m + n) (first_run k after l)) (drop-drop n m text)
+
 -- nothing begins in bytes that are no backticks
 no-run : (k : ℕ) → 0 < k → (before : Bool) (b : ℕ) (bs : List ℕ) → (b == 96) ≡ false → first_run k before (b ∷ bs) ≡ further 1 (first_run k false bs)
 no-run k some before b bs h =
@@ -56,57 +64,42 @@ no-run k some before b bs h =
     ap (λ t. cond t (Some 0) (further 1 (first_run k (b == 96) bs))) no ∙ ap (λ t. further 1 (first_run k t bs)) h
 
 -- a backtick string, behind its first backtick, is passed
-passes-run : (k : ℕ) → 0 < k → (text : List ℕ) → first_run k true text ≡ further (backticks text) (first_run k false (drop (backticks text) text))
+passes-run : (k : ℕ) → 0 < k → (text : List ℕ) → Passes k true false text (backticks text)
 passes-run k some [] = refl
-passes-run k some (b ∷ bs) =
-    elim (b == 96) as (λ t. (b == 96) ≡ t → first_run k true (b ∷ bs) ≡ further (cond t (1 + backticks bs) 0) (first_run k false (drop (cond t (1 + backticks bs) 0) (b ∷ bs)))) [
-      | true ↦ λ e.
-          let one : 1 + backticks bs ≡ suc (backticks bs) = omega arith in
-          let tail : first_run k true (b ∷ bs) ≡ further 1 (first_run k true bs) = ap (λ t. further 1 (first_run k t bs)) e in
-          tail ∙ ap (further 1) (passes-run k some bs) ∙ further-further 1 (backticks bs) _ ∙ ap (λ n. further (1 + backticks bs) (first_run k false (drop n (b ∷ bs)))) (sym one)
-      | false ↦ λ e. no-run k some true b bs e ∙ sym (no-run k some false b bs e) ∙ sym (no-further _)
-    ] refl
+passes-run k some (b ∷ bs) = elim (b == 96) as (λ t. (b == 96) ≡ t → Passes k true false (b ∷ bs) (cond t (1 + backticks bs) 0)) [
+  | true ↦ λ e. passes-more k true true false (b ∷ bs) 1 (backticks bs) (ap (λ t. further 1 (first_run k t bs)) e) (passes-run k some bs)
+  | false ↦ λ e. no-run k some true b bs e ∙ sym (no-run k some false b bs e) ∙ sym (no-further _)
+] refl
 
 -- and so are other bytes
-passes-data : (k : ℕ) → 0 < k → (text : List ℕ) → let n = position_or_len is_backtick_or_line_feed text in first_run k false text ≡ further n (first_run k false (drop n text))
+passes-data : (k : ℕ) → 0 < k → (text : List ℕ) → Passes k false false text (position_or_len is_backtick_or_line_feed text)
 passes-data k some [] = refl
 passes-data k some (b ∷ bs) =
-    elim (is_backtick_or_line_feed b) as (λ t. is_backtick_or_line_feed b ≡ t
-    → first_run k false (b ∷ bs)
-    ≡ further (cond (not t) (1 + position_or_len is_backtick_or_line_feed bs) 0) (first_run k false (drop (cond (not t) (1 + position_or_len is_backtick_or_line_feed bs) 0) (b ∷ bs)))) [
+    let n = position_or_len is_backtick_or_line_feed bs in
+    elim (is_backtick_or_line_feed b) as (λ t. is_backtick_or_line_feed b ≡ t → Passes k false false (b ∷ bs) (cond (not t) (1 + n) 0)) [
       | true ↦ λ e. sym (no-further _)
-      | false ↦ λ e.
-          let one : 1 + position_or_len is_backtick_or_line_feed bs ≡ suc (position_or_len is_backtick_or_line_feed bs) = omega arith in
-          no-run k some false b bs (no-tick b e) ∙ ap (further 1) (passes-data k some bs) ∙ further-further 1 (position_or_len is_backtick_or_line_feed bs) _
-          ∙ ap (λ n. further (1 + position_or_len is_backtick_or_line_feed bs) (first_run k false (drop n (b ∷ bs)))) (sym one)
+      | false ↦ λ e. passes-more k false false false (b ∷ bs) 1 n (no-run k some false b bs (no-tick b e)) (passes-data k some bs)
     ] refl
 
 -- what begins a piece of data: a whole backtick string of another length, or a byte
-passes-first : (k : ℕ) → 0 < k → (b : ℕ) (bs : List ℕ) → (backticks (b ∷ bs) == k) ≡ false
-    → let r = max 1 (backticks (b ∷ bs)) in first_run k false (b ∷ bs) ≡ further r (first_run k false (drop r (b ∷ bs)))
-passes-first k some b bs h =
-    elim (b == 96) as (λ t. (b == 96) ≡ t → let r = max 1 (cond t (1 + backticks bs) 0) in first_run k false (b ∷ bs) ≡ further r (first_run k false (drop r (b ∷ bs)))) [
-      | true ↦ λ e.
-          let more : max 1 (1 + backticks bs) ≡ suc (backticks bs) = omega arith in
-          let one : 1 + backticks bs ≡ suc (backticks bs) = omega arith in
-          let behind : first_run k false (b ∷ bs) ≡ further 1 (first_run k true bs) =
-          ap (λ t. cond t (Some 0) (further 1 (first_run k (b == 96) bs))) h ∙ ap (λ t. further 1 (first_run k t bs)) e in
-          behind ∙ ap (further 1) (passes-run k some bs) ∙ further-further 1 (backticks bs) _ ∙ ap (λ n. further n (first_run k false (drop (backticks bs) bs))) one
-          ∙ ap (λ n. further n (first_run k false (drop n (b ∷ bs)))) (sym more)
-      | false ↦ λ e. no-run k some false b bs e
-    ] refl
+passes-first : (k : ℕ) → 0 < k → (b : ℕ) (bs : List ℕ) → (backticks (b ∷ bs) == k) ≡ false → Passes k false false (b ∷ bs) (max 1 (backticks (b ∷ bs)))
+passes-first k some b bs h = elim (b == 96) as (λ t. (b == 96) ≡ t → Passes k false false (b ∷ bs) (max 1 (cond t (1 + backticks bs) 0))) [
+  | true ↦ λ e.
+      let more : 1 + backticks bs ≡ max 1 (1 + backticks bs) = omega arith in
+      let behind : Passes k false true (b ∷ bs) 1 = ap (λ t. cond t (Some 0) (further 1 (first_run k (b == 96) bs))) h ∙ ap (λ t. further 1 (first_run k t bs)) e in
+      subst (Passes k false false (b ∷ bs)) more (passes-more k false true false (b ∷ bs) 1 (backticks bs) behind (passes-run k some bs))
+  | false ↦ λ e. no-run k some false b bs e
+] refl
 
 -- a whole piece is passed, unless it begins with the backtick string that is looked for
-pub passes-piece : (k : ℕ) → 0 < k → (b : ℕ) (bs : List ℕ) → (backticks (b ∷ bs) == k) ≡ false
-    → let n = part_length (part_at is_backtick_or_line_feed (b ∷ bs)) in first_run k false (b ∷ bs) ≡ further n (first_run k false (drop n (b ∷ bs)))
+pub passes-piece : (k : ℕ) → 0 < k → (b : ℕ) (bs : List ℕ) → (backticks (b ∷ bs) == k) ≡ false → Passes k false false (b ∷ bs) (part_length (part_at is_backtick_or_line_feed (b ∷ bs)))
 passes-piece k some b bs h =
-    elim (b == 10) as (λ t. (b == 10) ≡ t → let n = part_length (cond t line_ending (plain_run (plain_length is_backtick_or_line_feed (b ∷ bs)))) in first_run k false (b ∷ bs) ≡ further n (first_run k false (drop n (b ∷ bs)))) [
+    elim (b == 10) as (λ t. (b == 10) ≡ t → Passes k false false (b ∷ bs) (part_length (cond t line_ending (plain_run (plain_length is_backtick_or_line_feed (b ∷ bs)))))) [
       | true ↦ λ e. no-run k some false b bs (ap (λ c. c == 96) (eqb-true b 10 e))
       | false ↦ λ e.
           let r = max 1 (backticks (b ∷ bs)) in
-          let d = position_or_len is_backtick_or_line_feed (drop r (b ∷ bs)) in
-          passes-first k some b bs h ∙ ap (further r) (passes-data k some (drop r (b ∷ bs))) ∙ further-further r d _
-          ∙ ap (λ l. further (r + d) (first_run k false l)) (drop-drop d r (b ∷ bs))
+          let rest = drop r (b ∷ bs) in
+          passes-more k false false false (b ∷ bs) r (position_or_len is_backtick_or_line_feed rest) (passes-first k some b bs h) (passes-data k some rest)
     ] refl
 
 -- A code span is there if a backtick string that closes it is found behind the one that opens it

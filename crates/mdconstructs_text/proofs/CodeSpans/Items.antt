@@ -1,5 +1,5 @@
 -- Code spans as items: if one is there, it is read with its events; if not, data is read from its first backtick.
-use Rattle.mdconstructs_text.proofs.Prelude.{at-front, ◌≡◌, ℕ, suc, ◌+◌, ◌-◌, ◌^◌, ◌<◌, ◌≤◌, ◌∷◌, ◌++◌, [], List, Bool, true, false, cond, refl, sym, ◌∙◌, ap, subst, Option, Some, None, arith, length, take, drop, option_map, append_assoc, take_at, drop-drop, drop-take, take-take, length-take, length-drop, flat_map, between, Event, CodeText, CodeTextSequence, CodeTextData, Next, Retry, Ok, Nok, TextBefore, RawTextStart, RawTextSequenceOpen, RawTextSequenceClose, RawTextBetween, RawFlowAfter, Seat, Nothing, Byte, Given, Text, Local, Choice, byte_of, counts, code_span, is_backtick, is_backtick_or_line_feed, backticks, part_length, part_at, code_span_at, bytes_of, leaf, part_events, pieces, item_events, drop-map, held, backtick, spans_code, sizes_are_equal, raw_text_start_rows, raw_text_sequence_open_rows, raw_text_sequence_close_rows}
+use Rattle.mdconstructs_text.proofs.Prelude.{at-front, ◌≡◌, ℕ, suc, ◌+◌, ◌-◌, ◌^◌, ◌<◌, ◌≤◌, ◌∷◌, ◌++◌, [], List, Bool, true, false, cond, refl, sym, ◌∙◌, ap, subst, Option, Some, None, arith, length, take, drop, option_map, append_assoc, take_at, drop-drop, drop-take, take-take, length-take, length-drop, flat_map, between, Event, CodeText, CodeTextSequence, CodeTextData, Retry, Ok, Nok, TextBefore, RawTextStart, RawTextSequenceOpen, RawTextSequenceClose, RawTextBetween, RawFlowAfter, Seat, Nothing, Byte, Given, Text, Local, Choice, byte_of, counts, code_span, is_backtick, is_backtick_or_line_feed, backticks, part_length, part_at, code_span_at, bytes_of, leaf, part_events, pieces, item_events, drop-map, held, backtick, spans_code, sizes_are_equal, raw_text_start_rows, raw_text_sequence_open_rows, raw_text_sequence_close_rows}
 use Rattle.std.proofs.lemmas.Bool.{eq-eqb}
 use Rattle.mdconstructs_text.proofs.Texts.Cutting.{cut-enough}
 use Rattle.mdconstructs_text.proofs.Texts.Steps.{EndsWith, Leads, between_items, leads-called, leads-fed, leads-seen, leads-tested, leads-ok, before_class}
@@ -44,9 +44,7 @@ module _ (g : Given) (text : Text) where
       (omega (arith, cut, enough)) in
       let made : (one (take k l) ++ (flat_map f (cut_pieces bound (take m (drop k l))) ++ one (take k (drop (k + m) l))))
       ≡ one (take k (take n l)) ++ (flat_map f (pieces (between k (k + m) (take n l))) ++ one (drop (k + m) (take n l))) =
-      ap (λ c. one c ++ (flat_map f (cut_pieces bound (take m (drop k l))) ++ one (take k (drop (k + m) l)))) (sym first)
-      ∙ ap (λ c. one (take k (take n l)) ++ (flat_map f c ++ one (take k (drop (k + m) l)))) (sym parts)
-      ∙ ap (λ c. one (take k (take n l)) ++ (flat_map f (pieces (between k (k + m) (take n l))) ++ one c)) (sym (drop-take (k + m) k l)) in
+      cc (first, parts, drop-take (k + m) k l) in
       joined events (enter_at g text CodeText p) (one (take k l)) (flat_map f (cut_pieces bound (take m (drop k l)))) (one (take k (drop (k + m) l))) (exit_at g text CodeText (p + n))
       ∙ ap (λ c. events ++ enter_at g text CodeText p ∷ (c ++ exit_at g text CodeText (p + n) ∷ [])) made
       ∙ ap (λ c. events ++ c) (span-read text g.bytes CodeText (one (take k (take n l)) ++ (flat_map f (pieces (between k (k + m) (take n l))) ++ one (drop (k + m) (take n l)))) n p s ss at (omega (arith, some)) short)
@@ -71,10 +69,7 @@ module _ (g : Given) (text : Text) where
       let sequence = opened ++ exit_at g text CodeTextSequence q1 ∷ [] in
       let equal = sizes-read g text l local small ∙ eq-eqb (backticks (bytes_of l)) (size_b local) (is ∙ sym size) in
       let made : sequence ++ exit_at g text CodeText q1 ∷ [] ≡ events ++ (leaf g.bytes CodeTextSequence (take k l) ++ exit_at g text CodeText q1 ∷ []) =
-      ap (λ c. c ++ exit_at g text CodeText q1 ∷ [])
-      (append_assoc events (enter_at g text CodeTextSequence q ∷ []) (exit_at g text CodeTextSequence q1 ∷ []) ∙ ap (λ c. events ++ c)
-      (leaf-read text g.bytes CodeTextSequence k q s ss at some within))
-      ∙ append_assoc events (leaf g.bytes CodeTextSequence (take k l)) (exit_at g text CodeText q1 ∷ []) in (
+      simp append_assoc (ap (λ c. events ++ (c ++ exit_at g text CodeText q1 ∷ [])) (leaf-read text g.bytes CodeTextSequence k q s ss at some within)) in (
         l1,
         counts (counts read),
         λ es h.
@@ -109,9 +104,7 @@ module _ (g : Given) (text : Text) where
       let counted : size_b read ≡ 0 + k = passed-counts size_b grows_b (λ c h. more-is (size_b c) h) is_backtick l first (omega (arith, short)) in
       let at1 : drop (p + k) text.seats ≡ l1 = past-at g text is_backtick l p (p + k) at refl in
       let made : begun ++ exit_at g text CodeTextSequence (p + k) ∷ [] ≡ events ++ enter_at g text CodeText p ∷ leaf g.bytes CodeTextSequence (take k l) =
-      ap (λ c. c ++ exit_at g text CodeTextSequence (p + k) ∷ []) (append_assoc events (enter_at g text CodeText p ∷ []) (enter_at g text CodeTextSequence p ∷ []))
-      ∙ append_assoc events (enter_at g text CodeText p ∷ enter_at g text CodeTextSequence p ∷ []) (exit_at g text CodeTextSequence (p + k) ∷ [])
-      ∙ ap (λ c. events ++ enter_at g text CodeText p ∷ c) (leaf-read text g.bytes CodeTextSequence k p s ss at some (count-within is_backtick l)) in (
+      simp append_assoc (ap (λ c. events ++ enter_at g text CodeText p ∷ c) (leaf-read text g.bytes CodeTextSequence k p s ss at some (count-within is_backtick l))) in (
         counts read,
         (omega (arith, counted)),
         λ es h.
@@ -164,19 +157,14 @@ module _ (g : Given) (text : Text) where
       let place : p + k + m + k ≡ p + (k + m + k) = omega arith in
       let whole = (begun ++ pieces_at rest) ++ (leaf g.bytes CodeTextSequence (take k (drop m rest)) ++ exit_at g text CodeText (p + k + m + k) ∷ []) in
       let made : whole ≡ events ++ item_events g.bytes (code_span k m, take (k + m + k) l) =
-      ap (λ r. (begun ++ pieces_at r) ++ (leaf g.bytes CodeTextSequence (take k (drop m r)) ++ exit_at g text CodeText (p + k + m + k) ∷ [])) behind
-      ∙ ap (λ r. (begun ++ pieces_at (drop k l)) ++ (leaf g.bytes CodeTextSequence (take k r) ++ exit_at g text CodeText (p + k + m + k) ∷ [])) (drop-drop m k l)
-      ∙ ap (λ n. (begun ++ pieces_at (drop k l)) ++ (leaf g.bytes CodeTextSequence (take k (drop (k + m) l)) ++ exit_at g text CodeText n ∷ [])) place
-      ∙ code-span-events k m bound p s ss events at some (omega (arith, some, fits, cut, left)) (omega (arith, same_left)) in (
+      cc (drop-drop m k l, code-span-events k m bound p s ss events at some (omega (arith, some, fits, cut, left)) (omega (arith, same_left))) in (
         is_end closed.0,
         closed.1,
         λ es h.
             walked.2 es
             (closed.2 es
             (leads-ok g text (shows closed.0 [] (p + k + m + k) whole closed.1) (outer p ended events) [] es
-            (subst (λ c. EndsWith g text (between_items (p + k + m + k) Nothing (is_end closed.0) c closed.1) [] (Next TextBefore) es) (sym made)
-            (subst (λ n. EndsWith g text (between_items n Nothing (is_end closed.0) (events ++ item_events g.bytes (code_span k m, take (k + m + k) l)) closed.1) [] (Next TextBefore) es)
-            (sym place) h)))),
+            (rw (made, place) h))),
       )
 
   -- Code spans are tried at backticks

@@ -200,8 +200,7 @@ module _ (g : Given) (text : Text) where
             l q q1 begun (counts (counts read)) at refl es
             (leads-seen g text raw_flow_content_chunk_rows (shows l1 in_code_data q1 begun again) cs RawFlowContentChunk es (sees g text l1 q1 at1) ended.4 refl
             (data-read l1 q1 (q + (j + d)) begun (counts again) cs at1 place es
-            (subst (λ k. EndsWith g text (shows k in_code (q + (j + d)) (begun ++ exit_at CodeTextData (q + (j + d)) ∷ []) after) cs (Retry RawTextBetween) es) (sym behind)
-            (subst (λ k. EndsWith g text (shows (drop (j + d) l) in_code (q + (j + d)) k after) cs (Retry RawTextBetween) es) (sym same) h)))))))))),
+            (rw (behind, same) h))))))))),
       )
 
   -- Each piece is read with its events, if it begins with no backtick string that closes the code span
@@ -245,8 +244,7 @@ module _ (g : Given) (text : Text) where
                     λ es h.
                         leads-seen g text raw_text_between_rows (held in_code q Byte false events local) cs RawTextBetween es (ap byte_of front) (at-data (before_class g text q) s.byte inside).0 refl
                         (data-read l q (q + n) begun (counts local) cs at refl es
-                        (subst (λ l. EndsWith g text (shows l in_code (q + n) (begun ++ exit_at CodeTextData (q + n) ∷ []) after) cs (Retry RawTextBetween) es) (sym (past-is is_code_byte l))
-                        (subst (λ k. EndsWith g text (shows (drop n l) in_code (q + n) k after) cs (Retry RawTextBetween) es) (sym same) h))),
+                        (rw (past-is is_code_byte l, same) h)),
                   )
             ] refl
       ] refl

@@ -48,9 +48,7 @@ module _ (g : Given) (text : Text) (k : ℕ) (cs : List Choice) where
         λ es h.
             piece es
             (rest.2 es
-            (subst (λ c. EndsWith g text (shows c in_code (q + n + m) ((events ++ made) ++ others) rest.0) cs (Retry RawTextBetween) es) (sym (drop-drop m n l))
-            (subst (λ c. EndsWith g text (shows (drop (n + m) l) in_code c ((events ++ made) ++ others) rest.0) cs (Retry RawTextBetween) es) (sym place)
-            (subst (λ c. EndsWith g text (shows (drop (n + m) l) in_code (q + (n + m)) c rest.0) cs (Retry RawTextBetween) es) (sym same) h)))),
+            (rw (drop-drop m n l, place, same) h)),
       )
 
   -- The walk, by the number of bytes that are left
@@ -73,8 +71,7 @@ module _ (g : Given) (text : Text) (k : ℕ) (cs : List Choice) where
               local,
               size,
               λ es h.
-                  subst (λ c. EndsWith g text (shows l in_code q c local) cs (Retry RawTextBetween) es) (append-nil events)
-                  (subst (λ n. EndsWith g text (shows l in_code n (events ++ []) local) cs (Retry RawTextBetween) es) here h),
+                  rw (append-nil events, here) at h,
             )
         | false ↦ λ e.
             let other : (backticks (bytes_of l) == size_b local) ≡ false = ap (λ b. backticks (bytes_of l) == b) size ∙ e in

@@ -1,7 +1,7 @@
 -- How the machine of texts reads a backslash escape: if one is there, it is read whole, with its events; if not, the attempt leaves
 -- nothing.
-use Rattle.mdconstructs_text.proofs.Prelude.{at-front, ◌≡◌, ℕ, ◌+◌, ◌∷◌, ◌++◌, [], List, Bool, true, false, cond, refl, sym, ap, subst, Some, None, drop, slice_get, ◌&&◌, ◌==◌, is_ascii_punctuation, drop-next, Event, CharacterEscape, CharacterEscapeMarker, CharacterEscapeValue, Enter, Exit, Next, Retry, TextBefore, CharacterEscapeStart, CharacterEscapeInside, Seat, Nothing, Byte, Given, Text, Local, byte_of, point_or, end_or, counts, escape, escape_at, bytes_of, item_events, event, escapes, escape_start_rows, escape_inside_rows, append_assoc, take-append_seam, passes, arith, held}
-use Rattle.mdconstructs_text.proofs.Texts.Steps.{EndsWith, Leads, between_items, leads-seen, leads-ok, before_class}
+use Rattle.mdconstructs_text.proofs.Prelude.{at-front, ◌≡◌, ℕ, ◌+◌, ◌∷◌, ◌++◌, [], List, Bool, true, false, cond, refl, sym, ap, subst, Some, None, drop, slice_get, ◌&&◌, ◌==◌, is_ascii_punctuation, drop-next, Event, CharacterEscape, CharacterEscapeMarker, CharacterEscapeValue, Enter, Exit, Retry, TextBefore, CharacterEscapeStart, CharacterEscapeInside, Seat, Nothing, Byte, Given, Text, Local, byte_of, point_or, end_or, counts, escape, escape_at, bytes_of, item_events, event, escapes, escape_start_rows, escape_inside_rows, append_assoc, take-append_seam, passes, arith, held}
+use Rattle.mdconstructs_text.proofs.Texts.Steps.{Leads, between_items, leads-seen, leads-ok, before_class}
 use Rattle.mdconstructs_text.proofs.Plain.Items.{outer, byte-rows, leads-tried, Tried, refused}
 use Rattle.mdconstructs_text.proofs.Plain.Stretches.{shows, first_byte, goes-next}
 use Rattle.mdconstructs_text.proofs.Escapes.Classes.{escaped-class, refused-class}
@@ -58,8 +58,7 @@ module _ (g : Given) (text : Text) (p : ℕ) (ended : Bool) (events : List Event
               (ap byte_of next)
               (escaped-class (before_class g text (p + 1)) v.byte punctuation) refl
               (leads-ok g text (between_items (p + 1 + 1) Nothing false made after) (outer p ended events) [] es
-              (subst (λ l. EndsWith g text (between_items (p + 1 + 1) Nothing false l after) [] (Next TextBefore) es) (sym same)
-              (subst (λ n. EndsWith g text (between_items n Nothing false whole after) [] (Next TextBefore) es) (sym further) h)))),
+              (rw (same, further) h))),
         )
         | false ↦ λ other. refuses (v ∷ vs) here other
       ] refl)

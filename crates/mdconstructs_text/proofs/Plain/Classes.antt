@@ -7,16 +7,10 @@ by-test P true x y h i = h refl
 by-test P false x y h i = i refl
 
 -- a byte of none of the classes that come first
-pub record IsAnother (b : ℕ) : Type 0 where
-  pub line_feed : (b == 10) ≡ false
-  pub backtick : (b == 96) ≡ false
-  pub less : (b == 60) ≡ false
-  pub greater : (b == 62) ≡ false
-  pub backslash : (b == 92) ≡ false
-  pub colon : (b == 58) ≡ false
-  pub letter : is_ascii_alphabetic b ≡ false
-  pub digit : is_ascii_alphanumeric b ≡ false
-  pub mark : ((b == 43) || ((b == 46) || (b == 45))) ≡ false
+abbrev pub IsAnother : ℕ → Type 0
+IsAnother b =
+    ((b == 10) ≡ false) × ((b == 96) ≡ false) × ((b == 60) ≡ false) × ((b == 62) ≡ false) × ((b == 92) ≡ false) × ((b == 58) ≡ false)
+    × (is_ascii_alphabetic b ≡ false) × (is_ascii_alphanumeric b ≡ false) × (((b == 43) || ((b == 46) || (b == 45))) ≡ false)
 
 -- What holds of the class of a byte: it is enough that it holds of each class whose test the byte passes
 pub by-class : (P : TextByte → Type 0) (b : ℕ)
@@ -30,17 +24,7 @@ by-class P b at_lf at_tick at_less at_greater at_backslash at_colon at_letter at
     by-test P (b == 62) _ _ at_greater (λ no_greater. by-test P (b == 92) _ _ at_backslash (λ no_backslash. by-test P (b == 58) _ _ at_colon (λ no_colon.
     by-test P (is_ascii_alphabetic b) _ _ at_letter (λ no_letter. by-test P (is_ascii_alphanumeric b) _ _ (at_digit no_letter) (λ no_digit.
     by-test P ((b == 43) || ((b == 46) || (b == 45))) _ _ at_mark (λ no_mark.
-    let another : IsAnother b = record {
-      line_feed = no_lf;
-      backtick = no_tick;
-      less = no_less;
-      greater = no_greater;
-      backslash = no_backslash;
-      colon = no_colon;
-      letter = no_letter;
-      digit = no_digit;
-      mark = no_mark;
-    } in
+    let another : IsAnother b = (no_lf, no_tick, no_less, no_greater, no_backslash, no_colon, no_letter, no_digit, no_mark) in
     by-test P (is_ascii_punctuation b) _ _ (at_punctuation another) (λ no_punctuation. by-test P (nat_lt b 33 || (b == 127)) _ _ (at_blank another) (at_other another no_punctuation)))))))))))
 
 -- data begins and goes on at a byte at which no other item may begin
