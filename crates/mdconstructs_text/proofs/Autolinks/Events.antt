@@ -53,14 +53,12 @@ module _ (g : Given) (text : Text) where
       let exits = event g.bytes Exit AutolinkProtocol (end_place text q) in
       let protocol : event g.bytes Enter AutolinkProtocol r.point ∷ exits ∷ [] ≡ leaf g.bytes AutolinkProtocol (take n ss) =
       ap (λ o. event g.bytes Enter AutolinkProtocol (point_or text.end o) ∷ exits ∷ []) (sym at_r) ∙ leaf-read text g.bytes AutolinkProtocol n (p + 1) r rs behind some (omega (arith, within)) in
-      let size : length (take n ss) ≡ n = length-take-le n ss (omega (arith, within)) in
       let two_more : n + 2 ≡ suc (suc n) = omega arith in
       let all : take (n + 2) (s ∷ ss) ≡ s ∷ (take n ss ++ x ∷ []) = ap (λ k. take k (s ∷ ss)) two_more ∙ ap (λ l. s ∷ l) (take-suc ss n x within ∙ ap (λ y. take n ss ++ y ∷ []) (get_or_from_slice_get ss n x x last)) in
-      let item = ap (λ l. item_events g.bytes (autolink n, l)) all ∙ spelled g.bytes n s x (take n ss) size in
-      let joins = joined p s r at at_r plain in
+      let item = ap (λ l. item_events g.bytes (autolink n, l)) all ∙ spelled g.bytes n s x (take n ss) (length-take-le n ss (omega (arith, within))) in
       let made : ended_link (begun_link events p) q
       ≡ events ++ event g.bytes Enter Autolink s.point ∷ event g.bytes Enter AutolinkMarker s.point ∷ event g.bytes Exit AutolinkMarker s.end ∷ event g.bytes Enter AutolinkProtocol r.point ∷ exits
-      ∷ event g.bytes Enter AutolinkMarker x.point ∷ event g.bytes Exit AutolinkMarker x.end ∷ event g.bytes Exit Autolink x.end ∷ [] = simp (at, at_x, joins, append_assoc) in
+      ∷ event g.bytes Enter AutolinkMarker x.point ∷ event g.bytes Exit AutolinkMarker x.end ∷ event g.bytes Exit Autolink x.end ∷ [] = simp (at, at_x, joined p s r at at_r plain, append_assoc) in
       made
       ∙ ap (λ l. events ++ event g.bytes Enter Autolink s.point ∷ ((leaf g.bytes AutolinkMarker (s ∷ []) ++ (l ++ leaf g.bytes AutolinkMarker (x ∷ []))) ++ event g.bytes Exit Autolink x.end ∷ [])) protocol
       ∙ ap (λ es. events ++ es) (sym item)

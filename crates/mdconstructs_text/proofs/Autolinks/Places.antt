@@ -35,8 +35,7 @@ module _ (bytes : List ℕ) where
   joined-line (x ∷ []) p q cols h one = (
     (λ e.
         let same : x.end.column ≡ p.column = sym (shown-column bytes x.end) ∙ ap (λ (r : Point). r.column) (h.0 e) ∙ shown-column bytes p in
-        let more = cols.0 e in
-        absurd (omega (arith, same, more, one))),
+        absurd (omega (arith, same, cols.0 e, one))),
     tt,
   )
   joined-line (x ∷ y ∷ ys) p q cols h one = (h.0, joined-line (y ∷ ys) p q cols.1 h.1 one)
@@ -63,8 +62,7 @@ module _ (t : ℕ) (bytes : List ℕ) where
   chain-in-line p (s ∷ ss) c = (
     (λ plain.
         let column : s.end.column ≡ suc s.point.column = ap (λ (q : Point). q.column) (sym c.1.end_is) ∙ end-column s.byte s.point (goes_on t s.byte s.point) plain refl in
-        let first = c.1.seat_bounds.first in
-        omega (arith, column, first)),
+        omega (arith, column, c.1.seat_bounds.first)),
     chain-in-line s.end ss c.2,
   )
 
@@ -76,9 +74,7 @@ module _ (t : ℕ) (bytes : List ℕ) where
   -- and each ends where the next is shown
   chain-joined : (p : Point) (xs ys : List Seat) → IsChain t bytes p (xs ++ ys) → AreJoined bytes xs (end_after p xs)
   chain-joined p [] ys c = tt
-  chain-joined p (s ∷ ss) ys c =
-      let ended = (chain-at t bytes s.end (ss ++ ys) c.2).shown in
-      ((λ e. ended ∙ sym (chain-begins s.end ss ys c.2)), chain-joined s.end ss ys c.2)
+  chain-joined p (s ∷ ss) ys c = ((λ e. (chain-at t bytes s.end (ss ++ ys) c.2).shown ∙ sym (chain-begins s.end ss ys c.2)), chain-joined s.end ss ys c.2)
 
   -- no place is before the first
   origin-upto : (p : Point) → stands_before p (point 1 1 0 0) ≡ false

@@ -284,8 +284,7 @@ module _ (g : Given) (text : Text) (joined : IsJoined g text) (p : ℕ) (ended :
             (goes-next g text rs link_spans (p + 1 + 1) begun first waits AutolinkSchemeInsideOrEmailAtext next es h))
             (reads-scheme g text p ended events (s ∷ r ∷ rs) rs (p + 1 + 1) (p + 1 + n) first (item (nat_le n 32)) next place (omega arith)
             (λ fits.
-            let counted : size_b read ≡ 1 + prefix_len is_scheme_byte (bytes_of rs) = passed-counts size_b grows_b (λ c h. more-is (size_b c) h) is_scheme_byte rs first (omega (arith, fits)) in
-            let size : size_b read ≡ n = omega (arith, counted, is) in
+            let size : size_b read ≡ n = omega (arith, passed-counts size_b grows_b (λ c h. more-is (size_b c) h) is_scheme_byte rs first (omega (arith, fits)), is) in
             let long = le-leb n 32 (omega (arith, fits, is)) in
             let same : (nat_le 2 n && passes is_colon (first_byte rest)) ≡ ((nat_le 2 n && (nat_le n 32 && true)) && colon) =
             ap (λ o. nat_le 2 n && passes is_colon o) (sym byte) ∙ ap (λ t. t && colon) (sym (ap (λ t. nat_le 2 n && (t && true)) long ∙ and-true (nat_le 2 n))) in

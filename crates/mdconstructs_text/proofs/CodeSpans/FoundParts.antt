@@ -27,9 +27,8 @@ piece-within ends b bs n h =
           let text = b ∷ bs in
           let r = max 1 (backticks text) in
           let d = position_or_len ends (drop r text) in
-          let first : backticks text ≤ suc n = omega (arith, i) in
           let rest : r + (suc n - r) ≡ suc n = omega (arith, i) in
-          let runs : backticks (take (suc n) text) ≡ backticks text = prefix-within is_backtick (suc n) text first in
+          let runs : backticks (take (suc n) text) ≡ backticks text = prefix-within is_backtick (suc n) text (omega (arith, i)) in
           let tail : drop r (take (suc n) text) ≡ take (suc n - r) (drop r text) = ap (λ m. drop r (take m text)) (sym rest) ∙ drop-take r (suc n - r) text in
           let ended : position_or_len ends (drop r (take (suc n) text)) ≡ d =
           ap (position_or_len ends) tail ∙ prefix-within (λ x. not (ends x)) (suc n - r) (drop r text) (omega (arith, i)) in

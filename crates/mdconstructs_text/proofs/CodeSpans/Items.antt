@@ -33,18 +33,16 @@ module _ (g : Given) (text : Text) where
       let n = k + m + k in
       let f = part_events g.bytes CodeTextData in
       let one = leaf g.bytes CodeTextSequence in
-      let first : take k (take n l) ≡ take k l = take-take k n l (omega arith) in
       let size : k + m - k ≡ m = omega arith in
       let all : n ≡ k + (m + k) = omega arith in
       let inside : between k (k + m) (take n l) ≡ take m (drop k l) =
       ap (λ i. take i (drop k (take n l))) size ∙ ap (λ i. take m (drop k (take i l))) all ∙ ap (take m) (drop-take k (m + k) l) ∙ take-take m (m + k) (drop k l) (omega arith) in
-      let cut = length-take m (drop k l) in
       let parts : pieces (between k (k + m) (take n l)) ≡ cut_pieces bound (take m (drop k l)) = ap pieces inside
       ∙ cut-enough (part_at is_backtick_or_line_feed) part_length (piece-positive is_backtick_or_line_feed) (length (take m (drop k l))) bound (take m (drop k l)) (omega arith)
-      (omega (arith, cut, enough)) in
+      (omega (arith, length-take m (drop k l), enough)) in
       let made : (one (take k l) ++ (flat_map f (cut_pieces bound (take m (drop k l))) ++ one (take k (drop (k + m) l))))
       ≡ one (take k (take n l)) ++ (flat_map f (pieces (between k (k + m) (take n l))) ++ one (drop (k + m) (take n l))) =
-      cc (first, parts, drop-take (k + m) k l) in
+      cc (take-take k n l (omega arith), parts, drop-take (k + m) k l) in
       joined events (enter_at g text CodeText p) (one (take k l)) (flat_map f (cut_pieces bound (take m (drop k l)))) (one (take k (drop (k + m) l))) (exit_at g text CodeText (p + n))
       ∙ ap (λ c. events ++ enter_at g text CodeText p ∷ (c ++ exit_at g text CodeText (p + n) ∷ [])) made
       ∙ ap (λ c. events ++ c) (span-read text g.bytes CodeText (one (take k (take n l)) ++ (flat_map f (pieces (between k (k + m) (take n l))) ++ one (drop (k + m) (take n l)))) n p s ss at (omega (arith, some)) short)
@@ -62,14 +60,12 @@ module _ (g : Given) (text : Text) where
       let place : q1 ≡ q + backticks (bytes_of l) = omega (arith, is) in
       let l1 = past is_backtick l in
       let at1 : drop q1 text.seats ≡ l1 = past-at g text is_backtick l q q1 at place in
-      let small : backticks (bytes_of l) < 2 ^ 64 = subst (λ c. backticks (bytes_of c) < 2 ^ 64) at (short q) in
-      let within : k ≤ suc (length ss) = subst (λ n. n ≤ suc (length ss)) is (count-within is_backtick l) in
       let opened = events ++ enter_at g text CodeTextSequence q ∷ [] in
       let read = passed is_backtick grows_c l (with_c 0 (counts local)) in
       let sequence = opened ++ exit_at g text CodeTextSequence q1 ∷ [] in
-      let equal = sizes-read g text l local small ∙ eq-eqb (backticks (bytes_of l)) (size_b local) (is ∙ sym size) in
+      let equal = sizes-read g text l local (subst (λ c. backticks (bytes_of c) < 2 ^ 64) at (short q)) ∙ eq-eqb (backticks (bytes_of l)) (size_b local) (is ∙ sym size) in
       let made : sequence ++ exit_at g text CodeText q1 ∷ [] ≡ events ++ (leaf g.bytes CodeTextSequence (take k l) ++ exit_at g text CodeText q1 ∷ []) =
-      simp append_assoc (ap (λ c. events ++ (c ++ exit_at g text CodeText q1 ∷ [])) (leaf-read text g.bytes CodeTextSequence k q s ss at some within)) in (
+      simp append_assoc (ap (λ c. events ++ (c ++ exit_at g text CodeText q1 ∷ [])) (leaf-read text g.bytes CodeTextSequence k q s ss at some (omega (arith, is, count-within is_backtick l)))) in (
         l1,
         counts (counts read),
         λ es h.
@@ -96,17 +92,15 @@ module _ (g : Given) (text : Text) where
       let cs = outer p ended events ∷ [] in
       let front = at-front text.seats p s ss at in
       let tick = ap is_backtick is in
-      let some = run-positive s.byte (bytes_of ss) tick in
       let begun = (events ++ enter_at g text CodeText p ∷ []) ++ enter_at g text CodeTextSequence p ∷ [] in
       let first = with_b 0 (counts (counts local)) in
       let read = passed is_backtick grows_b l first in
       let l1 = past is_backtick l in
-      let counted : size_b read ≡ 0 + k = passed-counts size_b grows_b (λ c h. more-is (size_b c) h) is_backtick l first (omega (arith, short)) in
       let at1 : drop (p + k) text.seats ≡ l1 = past-at g text is_backtick l p (p + k) at refl in
       let made : begun ++ exit_at g text CodeTextSequence (p + k) ∷ [] ≡ events ++ enter_at g text CodeText p ∷ leaf g.bytes CodeTextSequence (take k l) =
-      simp append_assoc (ap (λ c. events ++ enter_at g text CodeText p ∷ c) (leaf-read text g.bytes CodeTextSequence k p s ss at some (count-within is_backtick l))) in (
+      simp append_assoc (ap (λ c. events ++ enter_at g text CodeText p ∷ c) (leaf-read text g.bytes CodeTextSequence k p s ss at (run-positive s.byte (bytes_of ss) tick) (count-within is_backtick l))) in (
         counts read,
-        (omega (arith, counted)),
+        (omega (arith, passed-counts size_b grows_b (λ c h. more-is (size_b c) h) is_backtick l first (omega (arith, short)))),
         λ es h.
             leads-tried g text spans_code RawTextStart p ended events local (byte-rows g text p 96 s front is) on es
             (leads-seen g text raw_text_start_rows (between_items p Byte ended events (counts local)) cs RawTextStart es (ap byte_of front)
@@ -150,14 +144,15 @@ module _ (g : Given) (text : Text) where
       let at2 : drop (p + k + m) text.seats ≡ drop m rest = sym (drop-drop m (p + k) text.seats) ∙ ap (drop m) at1 in
       let last : backticks (bytes_of (drop m rest)) ≡ k = ap backticks (sym (drop-map (λ (s : Seat). s.byte) m rest)) ∙ first-run-is k false (bytes_of rest) m found in
       let closed = closes short k some (drop m rest) (p + k + m) (begun ++ pieces_at rest) walked.0 cs at2 walked.1 last in
-      let fits : k ≤ length (drop m rest) = subst (λ n. n ≤ length (drop m rest)) last (count-within is_backtick (drop m rest)) in
-      let cut : length (drop m rest) ≡ length rest - m = length-drop m rest in
       let left : length rest ≡ suc (length ss) - k = ap length behind ∙ length-drop k l in
-      let same_left : length (drop k l) ≡ bound = ap length (sym behind) in
       let place : p + k + m + k ≡ p + (k + m + k) = omega arith in
       let whole = (begun ++ pieces_at rest) ++ (leaf g.bytes CodeTextSequence (take k (drop m rest)) ++ exit_at g text CodeText (p + k + m + k) ∷ []) in
       let made : whole ≡ events ++ item_events g.bytes (code_span k m, take (k + m + k) l) =
-      cc (drop-drop m k l, code-span-events k m bound p s ss events at some (omega (arith, some, fits, cut, left)) (omega (arith, same_left))) in (
+      cc (
+        drop-drop m k l,
+        code-span-events k m bound p s ss events at some (omega (arith, some, last, count-within is_backtick (drop m rest), length-drop m rest, left))
+            (omega (arith, ap length behind)),
+      ) in (
         is_end closed.0,
         closed.1,
         λ es h.

@@ -81,10 +81,7 @@ run-positive b bs e = let more : backticks (b ∷ bs) ≡ 1 + backticks bs = ap 
 
 -- what begins a list is no longer than it
 pub count-within : (p : ℕ → Bool) (l : List Seat) → prefix_len p (bytes_of l) ≤ length l
-count-within p l =
-    let some : prefix_len p (bytes_of l) ≤ length (bytes_of l) = prefix_len-le-length p (bytes_of l) in
-    let same : length (bytes_of l) ≡ length l = length-map l (λ (s : Seat). s.byte) in
-    omega (arith, some, same)
+count-within p l = omega (arith, prefix_len-le-length p (bytes_of l), length-map l (λ (s : Seat). s.byte))
 
 module _ (g : Given) (text : Text) where
   -- an event at the start of the byte at a position, or at the end of the byte before it
@@ -151,8 +148,7 @@ module _ (g : Given) (text : Text) where
   sizes-read l local short =
       let begun = with_c 0 (counts local) in
       let read = passed is_backtick grows_c l begun in
-      let counted : size_c read ≡ 0 + backticks (bytes_of l) = passed-counts size_c grows_c (λ k h. more-is (size_c k) h) is_backtick l begun (omega (arith, short)) in
-      let all : size_c read ≡ backticks (bytes_of l) = omega (arith, counted) in
+      let all : size_c read ≡ backticks (bytes_of l) = omega (arith, passed-counts size_c grows_c (λ k h. more-is (size_c k) h) is_backtick l begun (omega (arith, short))) in
       ap (λ n. n == size_b read) all ∙ ap (λ n. backticks (bytes_of l) == n) (passed-keeps size_b grows_c (λ k. refl) is_backtick l begun)
 
   -- a backtick string that does not close the code span, with the data after it: it is tried, put back, and read once more
@@ -176,11 +172,8 @@ module _ (g : Given) (text : Text) where
       ∙ passed-keeps size_b grows_c (λ k. refl) is_backtick l (with_c 0 (counts local)) in
       let behind : past is_code_byte l1 ≡ drop (j + d) l = past-is is_code_byte l1 ∙ ap (drop d) (past-is is_backtick l) ∙ drop-drop d j l in
       let place : q + (j + d) ≡ q + j + d = omega arith in
-      let some : 0 < j = run-positive s.byte (bytes_of ss) tick in
-      let first : j ≤ suc (length ss) = count-within is_backtick l in
-      let rest : d ≤ length l1 = count-within is_code_byte l1 in
-      let left : length l1 ≡ suc (length ss) - j = ap length (past-is is_backtick l) ∙ length-drop j l in
-      let same = plain-events (j + d) q s ss events at (omega (arith, some)) (omega (arith, first, rest, left)) in (
+      let same = plain-events (j + d) q s ss events at (omega (arith, run-positive s.byte (bytes_of ss) tick))
+      (omega (arith, count-within is_backtick l, count-within is_code_byte l1, ap length (past-is is_backtick l) ∙ length-drop j l)) in (
         after,
         kept,
         λ es h.

@@ -1,5 +1,5 @@
 -- The virtual bytes of a text can be counted, and so can the runs of backticks among them.
-use Rattle.mdconstructs_text.proofs.Prelude.{◌≡◌, ℕ, zero, suc, ◌+◌, ◌-◌, ◌*◌, ◌%◌, ◌^◌, ◌<◌, ◌≤◌, ◌∷◌, ◌++◌, [], List, Bool, true, false, cond, not, ◌&&◌, ◌||◌, ◌==◌, refl, sym, ◌∙◌, ap, subst, inl, inr, arith, length, drop, length-drop, backticks, is_backtick, bytes_of, length-append, mul-suc, and_parts, filter, list_all, AllByRecursion, or-leads, Point, Seat, tab_width, in_tab, begins_with_lf, virtual_from, virtual, stands_before, denotes_same, in_range, Given, Text, Piece, pushed, passed, IsText, empty_text, followed_by, followed_by_all, FitsAfter, CanFollow, after-before, before-upto, every-all, filter-same, same-before, count_by-le-length, length-filter}
+use Rattle.mdconstructs_text.proofs.Prelude.{◌≡◌, ℕ, zero, suc, ◌+◌, ◌-◌, ◌*◌, ◌%◌, ◌^◌, ◌<◌, ◌≤◌, ◌∷◌, ◌++◌, [], List, Bool, true, false, cond, not, ◌&&◌, ◌||◌, ◌==◌, refl, sym, ◌∙◌, ap, subst, inl, inr, arith, length, drop, length-drop, is_backtick, length-append, mul-suc, and_parts, filter, list_all, AllByRecursion, or-leads, Point, Seat, tab_width, in_tab, begins_with_lf, virtual_from, virtual, stands_before, denotes_same, in_range, Given, Text, Piece, pushed, passed, IsText, empty_text, followed_by, followed_by_all, FitsAfter, CanFollow, after-before, before-upto, every-all, filter-same, same-before, count_by-le-length, length-filter}
 use Rattle.mdconstructs_text.proofs.CodeSpans.Walks.{RunsAreShort}
 use Rattle.mdconstructs_text.proofs.CodeSpans.Parts.{count-within}
 
@@ -98,11 +98,7 @@ runs-of-text g text is q =
     let counted : length text.seats ≤ before g text.end =
     subst (IsCounted g) (sym is.is) (pieces-counted g (empty_text text.start) is.pieces (omega arith) is.follow) in
     let is_before = λ (s : Seat). stands_before s.point text.end in
-    let few = count_by-le-length is_before (virtual g.tab g.bytes) in
-    let same = length-filter is_before (virtual g.tab g.bytes) in
-    let some : before g text.end ≤ length (virtual g.tab g.bytes) = omega (arith, few, same) in
+    let some : before g text.end ≤ length (virtual g.tab g.bytes) = omega (arith, count_by-le-length is_before (virtual g.tab g.bytes), length-filter is_before (virtual g.tab g.bytes)) in
     let all : length (virtual g.tab g.bytes) ≤ g.tab * length g.bytes = virtual-length g.tab is.document.tab.0 g.bytes 1 1 0 in
     let limit : g.tab * length g.bytes + 1 < 2 ^ 64 = is.document.limit in
-    let run : backticks (bytes_of (drop q text.seats)) ≤ length (drop q text.seats) = count-within is_backtick (drop q text.seats) in
-    let less : length (drop q text.seats) ≡ length text.seats - q = length-drop q text.seats in
-    omega (arith, counted, some, all, limit, run, less)
+    omega (arith, counted, some, all, limit, count-within is_backtick (drop q text.seats), length-drop q text.seats)

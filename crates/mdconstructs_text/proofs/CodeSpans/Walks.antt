@@ -74,9 +74,7 @@ module _ (g : Given) (text : Text) (k : ℕ) (cs : List Choice) where
                   rw (append-nil events, here) at h,
             )
         | false ↦ λ e.
-            let other : (backticks (bytes_of l) == size_b local) ≡ false = ap (λ b. backticks (bytes_of l) == b) size ∙ e in
-            let small : backticks (bytes_of l) < 2 ^ 64 = subst (λ c. backticks (bytes_of c) < 2 ^ 64) at (short q) in
-            let it = reads-piece g text q s ss events local cs at other small in
+            let it = reads-piece g text q s ss events local cs at (ap (λ b. backticks (bytes_of l) == b) size ∙ e) (subst (λ c. backticks (bytes_of c) < 2 ^ 64) at (short q)) in
             let passed = events ++ part_events g.bytes CodeTextData (piece_of l, take n l) in
             let less : length (drop n l) ≤ length ss = drop-less n s ss (piece-positive is_backtick_or_line_feed s.byte (bytes_of ss)) in
             let behind : drop (q + n) text.seats ≡ drop n l = sym (drop-drop n q text.seats) ∙ ap (drop n) at in

@@ -38,13 +38,11 @@ module _ (g : Given) (text : Text) (p : ℕ) (ended : Bool) (events : List Event
   pub tries-escape : (ss : List Seat) → drop p text.seats ≡ s ∷ ss → Tried g text p ended events local (s ∷ ss) (escape_at (bytes_of (s ∷ ss)))
   tries-escape [] here = subst (λ b. Tried g text p ended events local (s ∷ []) (cond (b && false) (Some escape) None)) (sym (ap (λ b. b == 92) is)) (refuses [] here refl)
   tries-escape (v ∷ vs) here =
-      let at = at-front text.seats p s (v ∷ vs) here in
       let next = at-front text.seats (p + 1) v vs (drop-next text.seats p s (v ∷ vs) here) in
       let value = slice_get text.seats (p + 1) in
       let made = ((begun_escape ++ event g.bytes Enter CharacterEscapeValue (point_or text.end value) ∷ [])
       ++ event g.bytes Exit CharacterEscapeValue (end_or text.end value) ∷ []) ++ event g.bytes Exit CharacterEscape (end_or text.end value) ∷ [] in
-      let whole = events ++ item_events g.bytes (escape, s ∷ v ∷ []) in
-      let same : made ≡ whole = simp (at, next, append_assoc) in
+      let same : made ≡ events ++ item_events g.bytes (escape, s ∷ v ∷ []) = simp (at-front text.seats p s (v ∷ vs) here, next, append_assoc) in
       let further : p + 1 + 1 ≡ p + 2 = omega arith in
       let after = counts (counts (counts local)) in
       subst (λ b. Tried g text p ended events local (s ∷ v ∷ vs) (cond (b && is_ascii_punctuation v.byte) (Some escape) None)) (sym (ap (λ b. b == 92) is))

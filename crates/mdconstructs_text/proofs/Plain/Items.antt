@@ -130,11 +130,8 @@ module _ (g : Given) (text : Text) where
       let behind : drop (p + n) text.seats ≡ l = sym (drop-drop n p text.seats) ∙ ap (drop n) here in
       let total : p + n + prefix_len is_plain (bytes_of l) ≡ q =
       add_assoc p n (prefix_len is_plain (bytes_of l)) ∙ ap (λ xs. p + (n + prefix_len is_plain xs)) (sym (drop-map (λ (x : Seat). x.byte) n (s ∷ ss))) in
-      let ticks : backticks bytes ≤ length bytes = prefix_len-le-length is_backtick bytes in
-      let others : prefix_len is_plain (drop n bytes) ≤ length (drop n bytes) = prefix_len-le-length is_plain (drop n bytes) in
-      let left : length (drop n bytes) ≡ length bytes - n = length-drop n bytes in
       let size : length bytes ≡ suc (length ss) = length-map (s ∷ ss) (λ x. x.byte) in
-      let first : (1 ≤ n) × (n ≤ length bytes) = ((omega arith), (omega (arith, ticks, size))) in
+      let first : (1 ≤ n) × (n ≤ length bytes) = ((omega arith), (omega (arith, prefix_len-le-length is_backtick bytes, size))) in
       let entered = entered_data events p in
       let begun = data-begun p ended events between s ss here in
       let read = passed is_plain counts l begun.0 in
@@ -142,7 +139,8 @@ module _ (g : Given) (text : Text) where
       let there = past-at g text is_plain l (p + n) q behind (sym total) in
       let made = entered ++ event g.bytes Exit Data (end_place text q) ∷ [] in
       let same : made ≡ events ++ leaf g.bytes Data (take whole (s ∷ ss)) =
-      append_assoc events _ _ ∙ ap (λ es. events ++ es) (leaf-read text g.bytes Data whole p s ss here (omega (arith, first.0)) (omega (arith, first.0, first.1, others, left, size))) in (
+      append_assoc events _ _ ∙ ap (λ es. events ++ es) (leaf-read text g.bytes Data whole p s ss here (omega (arith, first.0))
+      (omega (arith, first.0, first.1, prefix_len-le-length is_plain (drop n bytes), length-drop n bytes, size))) in (
         false,
         counts read,
         λ es h.

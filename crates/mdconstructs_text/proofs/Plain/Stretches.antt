@@ -64,8 +64,7 @@ passed-counts φ f grows p (s ∷ ss) local h =
     elim (p s.byte) as (λ t. φ local + cond t (1 + prefix_len p (bytes_of ss)) 0 < 2 ^ 64 → φ (cond t (passed p f ss (f local)) local) ≡ φ local + cond t (1 + prefix_len p (bytes_of ss)) 0) [
       | true ↦ λ i.
           let once : φ (f local) ≡ φ local + 1 = grows local (omega (arith, i)) in
-          let others : φ (passed p f ss (f local)) ≡ φ (f local) + prefix_len p (bytes_of ss) = passed-counts φ f grows p ss (f local) (omega (arith, i, once)) in
-          omega (arith, once, others)
+          omega (arith, once, passed-counts φ f grows p ss (f local) (omega (arith, i, once)))
       | false ↦ λ i. omega arith
     ] h
 

@@ -1,4 +1,4 @@
-use Rattle.mdconstructs_text.proofs.Prelude.{◌≡◌, [], ◌∷◌, Some, refl, sym, subst, ap, ◌∙◌, true, false, is_ascii_punctuation, CharacterEscape, CharacterEscapeValue, Ok, sight_of, enter, exit, consume, class_of, picked, step_of, DoesAll, can-exit, then, text_byte, escape_inside, escape_inside_rows}
+use Rattle.mdconstructs_text.proofs.Prelude.{◌≡◌, [], ◌∷◌, Some, refl, sym, ap, ◌∙◌, true, false, is_ascii_punctuation, CharacterEscape, CharacterEscapeValue, sight_of, enter, exit, consume, class_of, can-exit, then, text_byte, escape_inside, escape_inside_rows}
 use Rattle.mdconstructs_text.proofs.Escapes.Classes.{escaped-class, refused-class}
 use Rattle.mdconstructs_text.proofs.text.escape_inside.Goals as goal
 
@@ -12,13 +12,11 @@ pub returns-in_ok-exit-in-Some : goal.returns-in_ok-exit-in-Some
 returns-in_ok-exit-in-Some c =
     let t = c.args.t.now in
     let s = sight_of t in
-    let k = t.configuration in
     let b = class_of text_byte s.previous in
     let byte = c.in-Some.byte in
     let is = sym c.current.ensures ∙ c.in-Some.is in
     let punctuation : is_ascii_punctuation byte ≡ true = sym c.is_ascii_punctuation.ensures.value ∙ c.if-is_ascii_punctuation.true in
-    subst (λ rows. DoesAll (step_of (picked rows t.given s k) s k) t c.exit.new.self Ok) (sym (ap (λ o. escape_inside_rows b (class_of text_byte o)) is ∙ escaped-class b byte punctuation))
-    (record {
+    rw (ap (λ o. escape_inside_rows b (class_of text_byte o)) is ∙ escaped-class b byte punctuation) (record {
       answered = refl;
       became = then text_byte escape_inside _ (Some (text_byte byte)) t c.requires.called refl (ap (class_of text_byte) is) (enter CharacterEscapeValue ∷ consume ∷ exit CharacterEscapeValue ∷ [])
           (exit CharacterEscape) c.marker.new.t c.exit.new.self refl c.in_ok-marker-in-Some.ensures c.in_ok-exit-in-Some.ensures.ok;
