@@ -1,5 +1,5 @@
 -- Choices end, and what they go on with is fed: what that does to the fields of a tokenizer, and what it means.
-use Rattle.markdown_tokenizer.proofs.Prelude.{◌≡◌, ◌==◌, ℕ, ◌≤◌, ◌<◌, List, [], ◌∷◌, ◌++◌, Bool, true, false, Option, Some, None, length, refl, sym, ap, ◌∙◌, subst, arith, take, length-take, ◌⊎◌, inl, inr, map, reverse, IfSome, IsSome, unwrap_or, Result, Vec, take-take, take-length, length-map, length_push, lt-ltb, le-ltb, Event, Kind, Enter, Exit, Point, State, Next, Ok, Nok, open_events, shown, stands-self, AttemptKind, Attempt, Check, GoesOn, KeptChoice, Other, Progress, Waits, Nothing, Byte, End, Reading, Inside, Configuration, Choice, Saved, Step, Local, TokenizerValue, unfed, restored, settled_at, settled_all, settled_to, answer_of, answer_in, EndsClosed, TakesUp, continuation_of, saved_for, ended_by, Unwinding, unwinding, unwound, resumed, IsReadyAt, IsMade, last_kind, IsNextByte, tab_of, seen, text_within, state_of, choice_of, saved_of, position_from, standing, reach, can_feed, IsWhatWaits, AreNested, events_of, stack_of, IsSound}
+use Rattle.markdown_tokenizer.proofs.Prelude.{eqb-true, ◌≡◌, ◌==◌, ℕ, ◌≤◌, ◌<◌, List, [], ◌∷◌, ◌++◌, Bool, true, false, Option, Some, None, length, refl, sym, ap, ◌∙◌, subst, arith, take, length-take, ◌⊎◌, inl, inr, map, reverse, IfSome, IsSome, unwrap_or, Result, Vec, take-take, take-length, length-map, length_push, lt-ltb, le-ltb, Event, Kind, Enter, Exit, Point, State, Next, Ok, Nok, open_events, shown, stands-self, AttemptKind, Attempt, Check, GoesOn, KeptChoice, Other, Progress, Waits, Nothing, Byte, End, Reading, Inside, Configuration, Choice, Saved, Step, Local, TokenizerValue, unfed, restored, settled_at, settled_all, settled_to, answer_of, answer_in, EndsClosed, TakesUp, continuation_of, saved_for, ended_by, Unwinding, unwinding, unwound, resumed, IsReadyAt, IsMade, last_kind, IsNextByte, tab_of, seen, text_within, state_of, choice_of, saved_of, position_from, standing, reach, can_feed, IsWhatWaits, AreNested, events_of, stack_of, IsSound}
 use Rattle.std.proofs.lemmas.Bool.{or_from, or_left, or_right}
 use Rattle.std.proofs.lemmas.List.{length-reverse}
 use Rattle.std.specs.declared.result.Result.TheVariants as result
@@ -12,7 +12,7 @@ use Rattle.markdown_tokenizer.proofs.Inside.Spans.{same-front, same-choices}
 use Rattle.markdown_tokenizer.proofs.Inside.Known.{known-other}
 use Rattle.markdown_tokenizer.proofs.Inside.Choices.{progress_of, saves-here}
 use Rattle.markdown_tokenizer.proofs.Inside.Made.{last_view, last_kind-append, open_events-enter}
-use Rattle.markdown_tokenizer.proofs.Positions.Order.{eq-zero, is-not}
+use Rattle.markdown_tokenizer.proofs.Positions.Order.{is-not}
 
 -- what choices saved
 module _ (P : Progress → Type 0) where
@@ -113,7 +113,7 @@ made-closed bytes events stack after_previous bound m e = assumption (m.read (ca
 
 pub none-by : (items : List KeptChoice) (n : ℕ) (b : Bool) → b ≡ (n == 0) → b ≡ true → n ≡ length items → items ≡ []
 none-by [] n b e f g = refl
-none-by (x ∷ xs) n b e f g = let z = eq-zero n (sym e ∙ f) in absurd (omega (arith, z, g))
+none-by (x ∷ xs) n b e f g = let z = eqb-true n 0 (sym e ∙ f) in absurd (omega (arith, z, g))
 
 -- with no choice the reading has ended
 pub takes-ended : {M R D : Type 0} (flush : Bool) (q : TokenizerValue M R D) (ok : Bool) (answer : State) → q.choices ≡ [] → answer ≡ answer_of ok
