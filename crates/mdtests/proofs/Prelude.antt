@@ -1,5 +1,5 @@
 -- What the proofs of this crate cite from below them: words of std, of the crates below and of specs.
-pub use Rattle.std.proofs.Common.{All, Bool, List, None, Option, Some, [], ap, arith, cond, false, get_or, inl, inr, length, lit<, refl, rules, subst, suc, sym, true, zero, ℕ, ⊎_elim, ◌*◌, ◌++◌, ◌+◌, ◌-◌, ◌<◌, ◌^◌, ◌∙◌, ◌∷◌, ◌≡◌, ◌≤◌}
+pub use Rattle.std.proofs.Common.{All, Bool, List, None, Option, Some, [], ap, arith, cond, false, get_or, inl, inr, length, lit<, refl, rules, subst, sym, true, ℕ, ⊎_elim, ◌*◌, ◌++◌, ◌+◌, ◌-◌, ◌<◌, ◌∙◌, ◌∷◌, ◌≡◌, ◌≤◌}
 pub use Rattle.std.proofs.lemmas.Bool.{cases_eq}
 pub use Rattle.std.proofs.lemmas.List.Elements.{All-push}
 pub use Rattle.std.specs.Option.{IfSome}
@@ -9,14 +9,13 @@ pub use Rattle.markdown.proofs.ChainOrder.Forward.{ends-inside, forward-chain, o
 pub use Rattle.markdown.proofs.Edits.Puts.{put-less}
 pub use Rattle.markdown.proofs.Positions.Points.{found-passes}
 pub use Rattle.markdown.proofs.Runs.Ranges.{HasRanges, ranges-at, ranges-gap, ranges-holds, ranges-passed, ranges-pushed, ranges-range, ranges-start}
-pub use Rattle.markdown.proofs.Runs.Whole.{run-holds, run-last, run-pushed, run-range, run-start, start-is-point}
+pub use Rattle.markdown.proofs.Runs.Whole.{start-is-point}
 pub use Rattle.markdown.specs.ChildrenLaws.{HasEndsWithin}
 pub use Rattle.markdown.specs.Configuration.{Choice, Configuration, TokenizerValue}
-pub use Rattle.markdown.specs.Edits.{AreDisjoint, Edit, added_after, edit_at, is_no_edit, put_after}
+pub use Rattle.markdown.specs.Edits.{AreDisjoint, Edit, edit_at, put_after}
 pub use Rattle.markdown.specs.Engine.{given_by, given_of}
 pub use Rattle.markdown.specs.Events.{EachEnd, EndsBelow, empty, span}
 pub use Rattle.markdown.specs.Parts.{chain_edits, divided}
-pub use Rattle.markdown.specs.Places.{IsPointOf}
 pub use Rattle.markdown.specs.Reads.{start_name}
 pub use Rattle.markdown.specs.StateConstants.Name.{ContentDefinitionBefore, StringStart, TextStart}
 pub use Rattle.markdown.specs.Text.{Given, Text}
@@ -25,7 +24,6 @@ pub use Rattle.markdown.specs.declared.configuration.ParseOptions.{ParseOptions}
 pub use Rattle.markdown.specs.declared.event.Content.{Content}
 pub use Rattle.markdown.specs.declared.event.Content.TheVariants.{Flow, String}
 pub use Rattle.markdown.specs.declared.event.Event.{Event}
-pub use Rattle.markdown.specs.declared.event.Link.{Link}
 pub use Rattle.markdown.specs.declared.event.Point.{Point}
 pub use Rattle.markdown.specs.declared.state.Name.{Name}
 pub use Rattle.markdown.specs.declared.state.State.{State}

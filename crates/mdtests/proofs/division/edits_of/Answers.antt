@@ -4,22 +4,16 @@ use Rattle.mdtests.proofs.division.edits_of.Goals as goal
 pub ready-requires : goal.ready-requires
 ready-requires c = record { limit = subst (λ (t : ℕ). IsWithinLimit t c.args.bytes.now) (sym c.default-tab_size.ensures) c.requires.limit }
 
-pub divide_events-requires-clause-chain : goal.divide_events-requires-clause-chain
-divide_events-requires-clause-chain c =
-    forward-chain c.default-tab_size.result c.args.bytes.now None c.args.events.now (c.in_ok-ready.ensures.0 c.if-not-branch.false) c.args.index (sym c.begins_at.ensures ∙ c.if-not-begins_at.false)
-
-pub divide_events-requires-clause-within : goal.divide_events-requires-clause-within
-divide_events-requires-clause-within c =
-    within c.default-tab_size.result c.args.bytes.now None c.args.events.now (c.in_ok-ready.ensures.0 c.if-not-branch.false) c.args.index (sym c.begins_at.ensures ∙ c.if-not-begins_at.false)
-
-pub divide_events-requires-clause-before : goal.divide_events-requires-clause-before
-divide_events-requires-clause-before c = rw c.new-map.ensures (record { disjoint = omega arith; below = tt })
-
-pub divide_events-requires-clause-sums : goal.divide_events-requires-clause-sums
-divide_events-requires-clause-sums c = rw c.new-map.ensures (refl, refl)
-
-pub divide_events-requires-clause-ends : goal.divide_events-requires-clause-ends
-divide_events-requires-clause-ends c = subst HasEndsWithin c.as_slice.ensures.value (c.has_ends_within.ensures c.if-not-has_ends_within.false)
+pub divide_events-requires : goal.divide_events-requires
+divide_events-requires c = record {
+  chain =
+      forward-chain c.default-tab_size.result c.args.bytes.now None c.args.events.now (c.in_ok-ready.ensures.0 c.if-not-branch.false) c.args.index (sym c.begins_at.ensures ∙ c.if-not-begins_at.false);
+  within = within c.default-tab_size.result c.args.bytes.now None c.args.events.now (c.in_ok-ready.ensures.0 c.if-not-branch.false) c.args.index (sym c.begins_at.ensures ∙ c.if-not-begins_at.false);
+  before = rw c.new-map.ensures (record { disjoint = omega arith; below = tt });
+  sums = rw c.new-map.ensures (refl, refl);
+  ends = subst HasEndsWithin c.as_slice.ensures.value (c.has_ends_within.ensures c.if-not-has_ends_within.false);
+  fits = omega arith;
+}
 
 pub returns : goal.returns
 returns c =

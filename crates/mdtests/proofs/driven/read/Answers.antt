@@ -1,7 +1,5 @@
-use Rattle.mdtests.proofs.Prelude.{given_by, start-is-point}
+use Rattle.mdtests.proofs.Prelude.{given_of, start-is-point}
 use Rattle.mdtests.proofs.driven.read.Goals as goal
 
 pub new-tokenizer-requires : goal.new-tokenizer-requires
-new-tokenizer-requires g c =
-    let p = c.args.parse_state.now in
-    record { place = start-is-point (given_by p.bytes.now p.options.now) p.tab_size.0 }
+new-tokenizer-requires g c = record { place = start-is-point (given_of c.args.parse_state.now) c.args.parse_state.now.tab_size.0 }

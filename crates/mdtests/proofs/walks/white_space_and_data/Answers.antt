@@ -1,10 +1,11 @@
 use Rattle.mdtests.proofs.Prelude.{[], ◌∷◌, refl, sym, ◌∙◌, arith, span, empty, IsBalanced-pair}
 use Rattle.mdtests.proofs.walks.white_space_and_data.Goals as goal
 
-pub returns-clause-balanced : goal.returns-clause-balanced
-returns-clause-balanced c =
+pub returns : goal.returns
+returns c =
     let second = IsBalanced-pair c.event-3.result c.event-4.result c.event-3.ensures.is c.event-4.ensures.is (c.event-4.ensures.named ∙ sym c.event-3.ensures.named) in
-    span c.event.result c.event-2.result [] (c.event-3.result ∷ c.event-4.result ∷ []) refl c.event.ensures.is c.event-2.ensures.is (c.event-2.ensures.named ∙ sym c.event.ensures.named) empty second
-
-pub returns-clause-white_space : goal.returns-clause-white_space
-returns-clause-white_space c = (0, c.event.result, omega arith, refl, rw c.event.ensures.named refl)
+    record {
+      balanced =
+          span c.event.result c.event-2.result [] (c.event-3.result ∷ c.event-4.result ∷ []) refl c.event.ensures.is c.event-2.ensures.is (c.event-2.ensures.named ∙ sym c.event.ensures.named) empty second;
+      white_space = (0, c.event.result, omega arith, refl, rw c.event.ensures.named refl);
+    }
