@@ -59,12 +59,8 @@ module _ (words : List (List ℕ)) (known : (n : Option ℕ) (d : Bool) (which :
   by-name n d which t false false false e f g = rw (not-deep, e, f, g) refl
 
 -- without more options
-one-of : {A : Type 0} (o : Option A) → at_most_one (given o ++ []) ≡ Some o
-one-of o = grind arith
-
 alone : (n : Option ℕ) (d : Bool) (which : Option Which) (t : Option ℕ) → after n d which t [] ≡ together n d which t (Some [])
-alone n true which t = rw (one-of n, one-of which, one-of t) refl
-alone n false which t = rw (one-of n, one-of which, one-of t) refl
+alone n d which t = grind arith
 
 one-word : (n : Option ℕ) (d : Bool) (which : Option Which) (t : Option ℕ) (name : List ℕ) (b : Bool) → bytes_eq name (codes "--deep") ≡ b
     → after n d which t (name ∷ []) ≡ together n d which t (options_of (name ∷ []))
