@@ -125,17 +125,14 @@ module _ {M R D : Type 0} {same : R → R → Bool} (t : Inside M R D) (sound : 
 
       -- once the next byte is consumed, the text was read up to its end
       pub read-next : stands_before seat.point end_in ≡ true → IsReadTo tab_in bytes_in t.skips (text_within t) seat.end (Some seat.byte)
-      read-next lt =
-          let number = next-number in
-          let is = next-seat lt in
-          record {
-            place = end-seat-place tab_in bytes_in (wide_of t sound) here seat looks.place n;
-            from = upto-upto tab_in bytes_in t.start here seat.end looks.from (upto-after tab_in bytes_in here seat looks.place n (wide_of t sound));
-            upto = after-upto tab_in bytes_in here seat looks.place n (wide_of t sound) end_in looks.upto lt;
-            outside = consumed-outside tab_in bytes_in (wide_of t sound) here seat t.skips looks.place n (looks.fresh seat n);
-            back = rw (number, is) refl;
-            previous_is = rw (number, is) refl;
-          }
+      read-next lt = record {
+        place = end-seat-place tab_in bytes_in (wide_of t sound) here seat looks.place n;
+        from = upto-upto tab_in bytes_in t.start here seat.end looks.from (upto-after tab_in bytes_in here seat looks.place n (wide_of t sound));
+        upto = after-upto tab_in bytes_in here seat looks.place n (wide_of t sound) end_in looks.upto lt;
+        outside = consumed-outside tab_in bytes_in (wide_of t sound) here seat t.skips looks.place n (looks.fresh seat n);
+        back = rw (next-number, next-seat lt) refl;
+        previous_is = rw (next-number, next-seat lt) refl;
+      }
 
     -- at the document's end all was read
     pub next-none-left : rest_at tab_in bytes_in here ≡ [] → length (seats_between tab_in bytes_in t.skips t.start end_in) ≤ position_from tab_in bytes_in t.skips t.start after_previous

@@ -241,13 +241,9 @@ module _ {M R D : Type 0} {same : R → R → Bool} (t : Inside M R D) (sound : 
 
   seen-there : (waits : Waits) (ended : Bool) (byte : ℕ) → seen (after waits ended byte) ≡ waiting_there waits ended
   seen-there waits ended byte =
-      let cut = h.cut in let top = h.top in
-      rw (
-        same-choices position_in position_in stack.items t.stack.items (Saves t) from.events_len from.stack_len (reverse kept_choices.items)
-            (λ p le saved. rw (front-stack p.stack_len le) refl) goes-from.1,
-        cut,
-        top,
-      ) refl
+      let choices = same-choices position_in position_in stack.items t.stack.items (Saves t) from.events_len from.stack_len (reverse kept_choices.items)
+      (λ p le saved. rw (front-stack p.stack_len le) refl) goes-from.1 in
+      rw (choices, h.cut, h.top) refl
 
   -- no span is open where the reading has ended
   pub closes : EndsClosed (settled_all (seen t).configuration (seen t).choices (answer_of ok)) → (goal ≡ continuation.Ok) ⊎ (goal ≡ continuation.Nok) → stack.items ≡ []

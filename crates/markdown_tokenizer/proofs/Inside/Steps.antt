@@ -194,8 +194,7 @@ module _ {M R D : Type 0} {same : R → R → Bool} (t : Inside M R D) (sound : 
       → (ready : ℕ) → IsReadyAt t.skips after_previous t.end.0 ready
       → IsSound same (record t { after_previous = after_previous; previous = Some t.byte; ended = false; waits = Nothing; moves = Other; ready = ready })
   consumed-sound waits after_previous l ready r =
-      let f = waits.is in
-      let read : IsReadTo tab_in bytes_in t.skips (text_within t) after_previous (Some t.byte) = rw (l, f) (read-next t sound sound.placed.read waits.seat waits.at waits.before) in
+      let read : IsReadTo tab_in bytes_in t.skips (text_within t) after_previous (Some t.byte) = rw (l, waits.is) (read-next t sound sound.placed.read waits.seat waits.at waits.before) in
       let q = shown bytes_in here_in in
       let s = seat-shown tab_in bytes_in (wide_of t sound) here_in waits.seat looks_in.place waits.at in
       let later : stands_before (shown bytes_in after_previous) q ≡ false = rw (l, s)
