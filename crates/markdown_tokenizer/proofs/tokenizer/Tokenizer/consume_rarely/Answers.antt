@@ -1,19 +1,9 @@
 use Rattle.markdown_tokenizer.proofs.Prelude.{ℕ, refl, sym, subst, IsSeatAt}
-use Rattle.markdown_tokenizer.proofs.Inside.Fields.{wide_of}
 use Rattle.markdown_tokenizer.proofs.Inside.Steps.{byte-waits, consumed-sound, consumed-seen, place-at, seat-at}
 use Rattle.markdown_tokenizer.proofs.tokenizer.Tokenizer.consume_rarely.Goals as goal
 
-pub pass-requires : goal.pass-requires
-pass-requires g c =
-    let t = c.self.inside in let sound = c.self.invariant in
-    let w = byte-waits t sound (rw (← c.self.view_is) at c.requires) in
-    let place = c.resume.ensures in
-    rw sound.placed.tab (record {
-      some = wide_of t sound;
-      limit = t.parse_state.now.limit;
-      place = place-at t sound _ _ refl place;
-      next = (w.seat, seat-at t sound _ _ w.seat refl place w.at, sym w.is);
-    })
+pub pass-requires-clause-place : goal.pass-requires-clause-place
+pass-requires-clause-place g c = let tab = c.self.invariant.placed.tab in rw tab (place-at c.self.inside c.self.invariant _ _ refl c.resume.ensures)
 
 pub invariant_of-self : goal.invariant_of-self
 invariant_of-self g c =
