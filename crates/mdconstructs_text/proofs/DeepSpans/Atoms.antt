@@ -29,8 +29,16 @@ map-cut f [] (x ∷ xs) y ys h = absurd (cc)
 map-cut f (z ∷ zs) [] y ys h = record { front = []; here = z; back = zs; are = refl; front_is = refl; here_is = (cc); back_is = (cc) }
 map-cut f (z ∷ zs) (x ∷ xs) y ys h =
     let first : x ≡ f z = cc in
-    let more = map-cut f zs xs y ys (cc) in
-    record { front = z ∷ more.front; here = more.here; back = more.back; are = ap (λ l. z ∷ l) more.are; front_is = λ i. first i ∷ more.front_is i; here_is = more.here_is; back_is = more.back_is }
+    let others : xs ++ y ∷ ys ≡ map f zs = cc in
+    let more = map-cut f zs xs y ys others in record {
+      front = z ∷ more.front;
+      here = more.here;
+      back = more.back;
+      are = ap (λ l. z ∷ l) more.are;
+      front_is = λ i. first i ∷ more.front_is i;
+      here_is = more.here_is;
+      back_is = more.back_is;
+    }
 
 -- no line ending but at the end
 abbrev pub OneLine : List Seat → Type 0

@@ -50,7 +50,10 @@ text-readable = readable text_rules (record {
   law = λ g. (text-lawful g).invariant_kept;
   flow = λ g. record { flow_start = λ k. refl; line_start = λ k. refl; start = λ k. refl; inside = λ k. refl };
   starts = λ g. (0, omega arith, (cc));
-  both = λ g text k h balanced. elim h [ inl h ↦ (let shape = h.known.shape in λ i j. (shape.on i j, shape.back i j)) | inr h ↦ (no-links-shape k.events h.0.2 balanced).chained ];
+  both = λ g text k h balanced. elim h [
+    | inl h ↦ (let shape = h.known.shape in λ i j. (shape.on i j, shape.back i j))
+    | inr h ↦ (no-links-shape k.events h.0.2 balanced).chained
+  ];
 })
 
 -- The events of the blocks of a document: its chunks follow one another, and its chains can be read

@@ -49,7 +49,10 @@ module _ (g : Given) (document : IsDocument g) where
       let ended = NoByte (fed (whole_text g) k) in
       let r : InState ended k name = elim h.1 [
         | inl e ↦ inl e
-        | inr r ↦ elim r [ inl line ↦ inr (inl (line.0, λ c. elim (line.1 c) [ inl none ↦ absurd none | inr at ↦ inr at ])) | inr q ↦ inr (inr q) ]
+        | inr r ↦ elim r [
+          | inl line ↦ inr (inl (line.0, λ c. elim (line.1 c) [ inl none ↦ absurd none | inr at ↦ inr at ]))
+          | inr q ↦ inr (inr q)
+        ]
       ] in
       elim (nat_lt k.position (length (whole_text g).seats)) as (λ b. Chunks (seen b k).events × InState ended (seen b k) name) [ true ↦ (h.0, r) | false ↦ (h.0, r) ]
 
