@@ -1,6 +1,6 @@
 -- Plain data, and an item at a byte: if no construct is there, data is read, a backtick string or one byte, and all up to the next byte at which
 -- another item may begin.
-use Rattle.mdconstructs_text.proofs.Prelude.{at-front, ◌≡◌, ℕ, ◌+◌, ◌∷◌, ◌++◌, [], List, Bool, true, false, sym, ◌∙◌, ap, subst, arith, nat_tests, Option, Some, None, length, take, drop, slice_get, ◌==◌, Constructs, Event, Name, State, Next, Retry, Nok, TextBefore, TextBeforeData, Seat, Nothing, Byte, Attempt, Given, Text, Configuration, Local, Choice, Sight, sight, byte_of, class_of, counts, refl, Item, plain_run, part, item_length, item_at, is_special, plain_length, code_span_at, if_on, or_else, Rows, TextByte, row, row_step, text_byte, bytes_of, item_events, text_before_rows, tries, suc, ◌≤◌, cond, max, not, ◌-◌, add_assoc, not-true, append_assoc, drop-drop, drop-map, drop-next, length-drop, length-map, prefix_len-le-length, prefix_len, Enter, Exit, Data, DataAtBreak, DataInside, point_or, end_place, is_backtick, backticks, backtick, event, leaf, text_before_data_rows, data_at_break_rows, data_inside_rows, held}
+use Rattle.mdconstructs_text.proofs.Prelude.{at-front, ◌≡◌, ℕ, ◌+◌, ◌∷◌, ◌++◌, [], List, Bool, true, false, sym, ◌∙◌, ap, subst, arith, nat_tests, Option, Some, None, length, take, drop, slice_get, ◌==◌, Constructs, Event, Name, State, Next, Retry, Nok, TextBefore, TextBeforeData, Seat, Nothing, Byte, Attempt, Given, Text, Configuration, Local, Choice, Sight, sight, byte_of, class_of, counts, refl, Item, plain_run, part, item_length, item_at, is_special, plain_length, code_span_at, if_on, or_else, Rows, TextByte, row, row_step, text_byte, bytes_of, item_events, text_before_rows, tries, suc, ◌≤◌, cond, max, not, add_assoc, not-true, append_assoc, drop-drop, drop-map, drop-next, length-drop, length-map, prefix_len-le-length, prefix_len, Enter, Exit, Data, DataAtBreak, DataInside, point_or, end_place, is_backtick, backticks, backtick, event, leaf, text_before_data_rows, data_at_break_rows, data_inside_rows, held}
 use Rattle.markdown_base.specs.declared.event.Name.{Name as EventName}
 use Rattle.mdconstructs_text.proofs.Texts.Steps.{EndsWith, Leads, between_items, text_step, leads-byte, leads-nok, leads-seen, leads-tested, before_class, waiting_class}
 use Rattle.mdconstructs_text.proofs.Texts.LineEndings.{Adds, nowhere}
