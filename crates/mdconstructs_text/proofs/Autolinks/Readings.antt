@@ -262,7 +262,6 @@ module _ (g : Given) (text : Text) (joined : IsJoined g text) (p : ℕ) (ended :
       let n = scheme_length in
       let colon = has_byte_at (bytes_of (r ∷ rs)) n is_colon in
       let waits = choices g text p ended events in
-      let begun = begun_link g text events p in
       let Here = λ (b : Bool). Decided (p + 1) (r ∷ rs) local AutolinkOpen (autolink_to bytes (cond (b && colon) (Some inside) None)) in
       subst Here (sym (front-is-scheme (bytes_of (r ∷ rs))))
       (elim (is_ascii_alphabetic r.byte) as (λ a. is_ascii_alphabetic r.byte ≡ a → Here (nat_le 2 n && (nat_le n 32 && a))) [
@@ -274,20 +273,20 @@ module _ (g : Given) (text : Text) (joined : IsJoined g text) (p : ℕ) (ended :
             let read = passed is_scheme_byte grows_b rs first in
             let rest = past is_scheme_byte rs in
             let at = past-at g text is_scheme_byte rs (p + 1 + 1) (p + 1 + n) next place in
-            let byte = byte-behind text.seats (p + 1) n (r ∷ rs) rest behind at in
             let item = λ (b : Bool). autolink_to bytes (cond ((nat_le 2 n && (b && true)) && colon) (Some inside) None) in
             decides-before g text p ended events (s ∷ r ∷ rs) (in_tried g text p ended events (p + 1) (r ∷ rs) local) (in_tried g text p ended events (p + 1 + 1) rs first) waits waits
             (Retry AutolinkOpen) (Retry AutolinkSchemeInsideOrEmailAtext) (item (nat_le n 32))
             (λ es h.
             leads-seen g text autolink_open_rows (in_tried g text p ended events (p + 1) (r ∷ rs) local) waits AutolinkOpen es (ap byte_of (at-front text.seats (p + 1) r rs behind))
             (open-class (before_class g text (p + 1)) r.byte letter) refl
-            (goes-next g text rs link_spans (p + 1 + 1) begun first waits AutolinkSchemeInsideOrEmailAtext next es h))
+            (goes-next g text rs link_spans (p + 1 + 1) (begun_link g text events p) first waits AutolinkSchemeInsideOrEmailAtext next es h))
             (reads-scheme g text p ended events (s ∷ r ∷ rs) rs (p + 1 + 1) (p + 1 + n) first (item (nat_le n 32)) next place (omega arith)
             (λ fits.
             let size : size_b read ≡ n = omega (arith, passed-counts size_b grows_b (λ c h. more-is (size_b c) h) is_scheme_byte rs first (omega (arith, fits)), is) in
             let long = le-leb n 32 (omega (arith, fits, is)) in
             let same : (nat_le 2 n && passes is_colon (first_byte rest)) ≡ ((nat_le 2 n && (nat_le n 32 && true)) && colon) =
-            ap (λ o. nat_le 2 n && passes is_colon o) (sym byte) ∙ ap (λ t. t && colon) (sym (ap (λ t. nat_le 2 n && (t && true)) long ∙ and-true (nat_le 2 n))) in
+            ap (λ o. nat_le 2 n && passes is_colon o) (sym (byte-behind text.seats (p + 1) n (r ∷ rs) rest behind at))
+            ∙ ap (λ t. t && colon) (sym (ap (λ t. nat_le 2 n && (t && true)) long ∙ and-true (nat_le 2 n))) in
             subst (λ b. Decided (p + 1 + n) rest read AutolinkSchemeInsideOrEmailAtext (autolink_to bytes (cond b (Some inside) None))) same
             (ends-scheme rest read at (past-stops is_scheme_byte rs) size))
             (λ over. ap item (lt-leb n 32 (omega (arith, over, is))) ∙ ap (λ t. autolink_to bytes (cond (t && colon) (Some inside) None)) (and-false (nat_le 2 n))))

@@ -98,7 +98,8 @@ module _ (g : Given) (text : Text) where
       let l1 = past is_backtick l in
       let at1 : drop (p + k) text.seats ≡ l1 = past-at g text is_backtick l p (p + k) at refl in
       let made : begun ++ exit_at g text CodeTextSequence (p + k) ∷ [] ≡ events ++ enter_at g text CodeText p ∷ leaf g.bytes CodeTextSequence (take k l) =
-      simp append_assoc (ap (λ c. events ++ enter_at g text CodeText p ∷ c) (leaf-read text g.bytes CodeTextSequence k p s ss at (run-positive s.byte (bytes_of ss) tick) (count-within is_backtick l))) in (
+      simp append_assoc (ap (λ c. events ++ enter_at g text CodeText p ∷ c)
+      (leaf-read text g.bytes CodeTextSequence k p s ss at (run-positive s.byte (bytes_of ss) tick) (count-within is_backtick l))) in (
         counts read,
         (omega (arith, passed-counts size_b grows_b (λ c h. more-is (size_b c) h) is_backtick l first (omega (arith, short)))),
         λ es h.
@@ -135,15 +136,13 @@ module _ (g : Given) (text : Text) where
       let k = backticks (bytes_of l) in
       let rest = past is_backtick l in
       let bound = length rest in
-      let cs = outer p ended events ∷ [] in
       let begun = events ++ enter_at g text CodeText p ∷ leaf g.bytes CodeTextSequence (take k l) in
       let pieces_at = λ (r : List Seat). flat_map (part_events g.bytes CodeTextData) (cut_pieces bound (take m r)) in
       let some : 0 < k = run-positive s.byte (bytes_of ss) tick in
       let behind : rest ≡ drop k l = past-is is_backtick l in
-      let at1 : drop (p + k) text.seats ≡ rest = past-at g text is_backtick l p (p + k) at refl in
-      let at2 : drop (p + k + m) text.seats ≡ drop m rest = sym (drop-drop m (p + k) text.seats) ∙ ap (drop m) at1 in
+      let at1 : drop (p + k + m) text.seats ≡ drop m rest = sym (drop-drop m (p + k) text.seats) ∙ ap (drop m) (past-at g text is_backtick l p (p + k) at refl) in
       let last : backticks (bytes_of (drop m rest)) ≡ k = ap backticks (sym (drop-map (λ (s : Seat). s.byte) m rest)) ∙ first-run-is k false (bytes_of rest) m found in
-      let closed = closes short k some (drop m rest) (p + k + m) (begun ++ pieces_at rest) walked.0 cs at2 walked.1 last in
+      let closed = closes short k some (drop m rest) (p + k + m) (begun ++ pieces_at rest) walked.0 (outer p ended events ∷ []) at1 walked.1 last in
       let left : length rest ≡ suc (length ss) - k = ap length behind ∙ length-drop k l in
       let place : p + k + m + k ≡ p + (k + m + k) = omega arith in
       let whole = (begun ++ pieces_at rest) ++ (leaf g.bytes CodeTextSequence (take k (drop m rest)) ++ exit_at g text CodeText (p + k + m + k) ∷ []) in
