@@ -4,11 +4,11 @@ pub use Rattle.markdown_tokenizer.proofs.Positions.Order.{every-all, every-back,
 pub use Rattle.std.specs.Cmp.Derive.{both_true}
 pub use Rattle.std.proofs.lemmas.Simd.{map-map}
 pub use Rattle.std.proofs.lemmas.Slice.Zip.{AllZip-long, all_zipped_more}
-pub use Rattle.std.proofs.Common.{Bool, List, None, Option, Result, Some, [], add-one, ap, append-nil, append_assoc, arith, cond, drop, eqb, eqb-true, false, get_or, inl, inr, leb, length, length-append, length-drop, length-take, lit≤, ltb, map, refl, reverse, rules, slice_set, subst, suc, sym, take, take-append-drop, true, zero, zero-add, add-zero, ℕ, ⊎_elim, ◌*◌, ◌++◌, ◌+◌, ◌-◌, ◌/◌, ◌<◌, ◌^◌, ◌∙◌, ◌∷◌, ◌≡◌, ◌≢◌, ◌≤◌, ◌⊎◌}
+pub use Rattle.std.proofs.Common.{Bool, List, None, Option, Result, Some, [], add-one, ap, append-nil, append_assoc, arith, cond, drop, eqb, eqb-true, false, get_or, inl, inr, leb, length, length-append, length-drop, length-take, lit≤, map, refl, reverse, rules, slice_set, subst, suc, sym, take, take-append-drop, true, zero, zero-add, add-zero, ℕ, ⊎_elim, ◌*◌, ◌++◌, ◌+◌, ◌-◌, ◌/◌, ◌<◌, ◌^◌, ◌∙◌, ◌∷◌, ◌≡◌, ◌≢◌, ◌≤◌, ◌⊎◌}
 pub use Rattle.std.proofs.Math.ListN.{drop_of_length-le, get_or-eq_default}
 pub use Rattle.std.proofs.Math.Nat.{mul-le-mul_left, mul-le-mul_right}
 pub use Rattle.std.proofs.Math.Seq.{drop-append_seam, take-append_seam, take-suc}
-pub use Rattle.std.proofs.lemmas.Bool.{and_parts, both_ways, cases_eq, cases_lt, eq-eqb, false_from_ne_true, le-leb, le-ltb, leb-false, leb-true, lt-ltb, ltb-false, ltb-true, ne_eqb, not-true, not_from_false, or_cases, or_left, or_right}
+pub use Rattle.std.proofs.lemmas.Bool.{and_parts, both_ways, cases_lt, eq-eqb, false_from_ne_true, le-leb, le-ltb, leb-false, leb-true, lt-ltb, ltb-false, ltb-true, ne_eqb, not-true, not_from_false, or_cases, or_left, or_right}
 pub use Rattle.std.proofs.lemmas.Bool.Decides.{nat_tests, same_from_decides}
 pub use Rattle.std.proofs.lemmas.Grind.{flat_map-append}
 pub use Rattle.std.proofs.lemmas.List.{drop-drop, length-map, length-reverse, length-take-le, map-append}

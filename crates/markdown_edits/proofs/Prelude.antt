@@ -14,7 +14,7 @@ pub use Rattle.std.specs.List.{All, AllByRecursion, between, slice_get}
 pub use Rattle.std.specs.List.Sorted.{IsNonDecreasingBy, IsPartitionPoint, IsStrictlySortedBy}
 pub use Rattle.std.specs.Map.{keys_of, lookup, set_value}
 pub use Rattle.std.specs.Map.Iter.{deref_pair}
-pub use Rattle.std.specs.Option.{IfSome, is_some, option_and_then, option_map}
+pub use Rattle.std.specs.Option.{is_some, option_and_then, option_map}
 pub use Rattle.std.specs.Ordering.{nat_cmp}
 pub use Rattle.std.specs.Prelude.{IsSomeAnd}
 pub use Rattle.std.specs.Result.{OnErr, OnOk, is_err}

@@ -11,11 +11,11 @@ pub use Rattle.std.proofs.lemmas.List.Elements.{All-from_get_or, All-from_recurs
 pub use Rattle.std.proofs.lemmas.List.Folds.{length-prefix_len}
 pub use Rattle.std.proofs.lemmas.List.Kept.{AllPairs-cons}
 pub use Rattle.std.proofs.lemmas.List.Sums.{count_by-le-length, length-filter, prefix_len-le-length, take_while-cons}
-pub use Rattle.std.proofs.lemmas.Option.{get_or_from_slice_get, slice_get-map, slice_get_within}
+pub use Rattle.std.proofs.lemmas.Option.{get_or_from_slice_get, slice_get_within}
 pub use Rattle.std.proofs.lemmas.Slice.{between_is}
 pub use Rattle.std.specs.Char.{is_ascii_alphabetic, is_ascii_alphanumeric, is_ascii_punctuation}
 pub use Rattle.std.specs.List.{AllByRecursion, between, find, flat_map, last_or, list_all, position_or_len, prefix_len, range_with_len}
-pub use Rattle.std.specs.Prelude.{All, AllPairs, Contains, codes, filter, is_some, map, option_and_then, replicate, unwrap_or}
+pub use Rattle.std.specs.Prelude.{AllPairs, Contains, codes, filter, is_some, map, option_and_then, replicate, unwrap_or}
 pub use Rattle.markdown_base.proofs.Common.{and-right, drop-at, drop-next, every-append, every-filter, every-get, every-map, filter-none, get-front, or-leads}
 pub use Rattle.markdown_base.proofs.Seats.{end-after-append, end-after-one}
 pub use Rattle.markdown_base.specs.Events.{IsBalanced, IsInOrder, IsVoidTight, empty, is_enter, is_void, span}
@@ -24,29 +24,28 @@ pub use Rattle.markdown_base.specs.Presets.{default_constructs, default_parse_op
 pub use Rattle.markdown_base.specs.Virtual.{IsTabSize, Seat, begins_with_lf, document_end, end_after, in_tab, point, tab_width, virtual, virtual_from}
 pub use Rattle.markdown_base.specs.declared.configuration.Constructs.{Constructs}
 pub use Rattle.markdown_base.specs.declared.event.Content.{Content}
-pub use Rattle.markdown_base.specs.declared.event.Content.TheVariants.{Flow, String}
+pub use Rattle.markdown_base.specs.declared.event.Content.TheVariants.{Flow}
 pub use Rattle.markdown_base.specs.declared.event.Event.{Event}
 pub use Rattle.markdown_base.specs.declared.event.Kind.{Kind}
 pub use Rattle.markdown_base.specs.declared.event.Kind.TheVariants.{Enter, Exit}
 pub use Rattle.markdown_base.specs.declared.event.Link.{Link}
 pub use Rattle.markdown_base.specs.declared.event.Name.TheVariants.{Autolink, AutolinkMarker, AutolinkProtocol, BlankLineEnding, BlockQuoteMarker, CharacterEscape, CharacterEscapeMarker, CharacterEscapeValue, CodeText, CodeTextData, CodeTextSequence, Data, LineEnding, Paragraph}
 pub use Rattle.markdown_base.specs.declared.event.Point.{Point}
-pub use Rattle.markdown_base.specs.declared.message.Message.{Message}
 pub use Rattle.markdown_base.specs.declared.state.Name.{Name}
 pub use Rattle.markdown_base.specs.declared.state.State.{State}
 pub use Rattle.markdown_base.specs.declared.state.State.TheVariants.{Error, Next, Nok, Ok, Retry}
 pub use Rattle.markdown_base.specs.declared.state.TheConstants.Name.{AutolinkOpen, AutolinkSchemeInsideOrEmailAtext, AutolinkStart, AutolinkUrlInside, CharacterEscapeInside, CharacterEscapeStart, DataAtBreak, DataInside, DataStart, FlowStart, ParagraphInside, ParagraphLineStart, ParagraphStart, RawFlowAfter, RawFlowBeforeContentChunk, RawFlowContentChunk, RawTextBetween, RawTextData, RawTextSequenceClose, RawTextSequenceOpen, RawTextStart, TextBefore, TextBeforeData, TextStart}
-pub use Rattle.markdown_children.proofs.ChainOrder.Following.{chunk, filter-no, filter-yes, fits_next, follow_one_another, starts_fit, whole-from}
+pub use Rattle.markdown_children.proofs.ChainOrder.Following.{chunk, fits_next, follow_one_another, starts_fit, whole-from}
 pub use Rattle.markdown_children.proofs.ChainOrder.Forward.{begins-fits}
-pub use Rattle.markdown_children.proofs.ChainOrder.Spaced.{changes_are_apart, length-map_ends, length-parts}
+pub use Rattle.markdown_children.proofs.ChainOrder.Spaced.{changes_are_apart}
 pub use Rattle.markdown_children.proofs.ChildReads.Pieces.{chunks_can_be_read}
-pub use Rattle.markdown_children.proofs.Parts.Kept.{after-step, after_changes, joined-parts, split-at, untagged, untagged-child, untagged-olds}
+pub use Rattle.markdown_children.proofs.Parts.Kept.{after_changes, joined-parts, split-at, untagged, untagged-olds}
 pub use Rattle.markdown_children.specs.Chains.{begins, chain_of, content_at, fits, fitting_starts, some_fits}
-pub use Rattle.markdown_children.specs.Children.{chain_changes, child_changes, part_changes, tagged_child, with_children}
+pub use Rattle.markdown_children.specs.Children.{chain_changes, child_changes, part_changes, with_children}
 pub use Rattle.markdown_children.specs.Laws.{AreSpaced, IsWholeFrom, LeadOnFrom}
 pub use Rattle.markdown_children.specs.Parts.{divided_over, front_until, parts}
-pub use Rattle.markdown_children.specs.Reads.{AreChildren, Child, IsChild, lists, pieces_behind, pieces_of, start_name, text_of_chain}
-pub use Rattle.markdown_children.specs.Ready.{IsChunk, IsGap, IsReadable, IsReady, IsShownPlace, place_at}
+pub use Rattle.markdown_children.specs.Reads.{AreChildren, Child, lists, pieces_behind, pieces_of, start_name, text_of_chain}
+pub use Rattle.markdown_children.specs.Ready.{IsChunk, IsReady, IsShownPlace, place_at}
 pub use Rattle.markdown_edits.proofs.Balanced.{IsBalanced-append}
 pub use Rattle.markdown_edits.proofs.Edits.Passes.{woven-pass}
 pub use Rattle.markdown_edits.proofs.Edits.Splices.{edited-none}
@@ -61,7 +60,7 @@ pub use Rattle.markdown_tokenizer.proofs.Positions.Order.{after-before, before-s
 pub use Rattle.markdown_tokenizer.proofs.Positions.Points.{same-shown, shown-column, shown-line}
 pub use Rattle.markdown_tokenizer.proofs.Positions.SeatLaws.{end-is-point, end-of-is-point, get-among}
 pub use Rattle.markdown_tokenizer.proofs.Positions.Seats.{rest-later}
-pub use Rattle.markdown_tokenizer.proofs.Positions.Standing.{after-shown, chain-at, chain-split, chain-upto, end-place, place-after, place-of-point, rest-after, shown-shown}
+pub use Rattle.markdown_tokenizer.proofs.Positions.Standing.{after-shown, chain-at, chain-split, chain-upto, place-after, place-of-point, rest-after, shown-shown}
 pub use Rattle.markdown_tokenizer.proofs.Readings.Bounds.{fed-ends, one-end, settled-ok-ends}
 pub use Rattle.markdown_tokenizer.proofs.Readings.Plain.{edited-same, no-links-shape}
 pub use Rattle.markdown_tokenizer.proofs.Runs.Whole.{start-is-point, start-upto}
@@ -69,11 +68,10 @@ pub use Rattle.markdown_tokenizer.proofs.Runs.Working.{text-on}
 pub use Rattle.markdown_tokenizer.specs.Calls.{with_local, with_resolvers}
 pub use Rattle.markdown_tokenizer.specs.Configuration.{Choice, Configuration, Local, Step, start_configuration}
 pub use Rattle.markdown_tokenizer.specs.Cursor.{IsPlace, end_at, goes_on, rest_at}
-pub use Rattle.markdown_tokenizer.specs.Engine.{IsRun, IsRunRefused, IsWellFormed, given_by, whole_text}
+pub use Rattle.markdown_tokenizer.specs.Engine.{IsWellFormed, given_by, whole_text}
 pub use Rattle.markdown_tokenizer.specs.Lawful.{KeepsInvariant}
-pub use Rattle.markdown_tokenizer.specs.Plain.{IsPlain}
 pub use Rattle.markdown_tokenizer.specs.Reading.{EndsIn, Reading, fed, settled_at}
-pub use Rattle.markdown_tokenizer.specs.Resolving.{IsResolved, done, edits_made, found, resolved_by, resolving, taken}
+pub use Rattle.markdown_tokenizer.specs.Resolving.{IsResolved, done, edits_made, found, resolved_by, taken}
 pub use Rattle.markdown_tokenizer.specs.Rules.{Rules}
 pub use Rattle.markdown_tokenizer.specs.Sight.{Sight, byte_of, current_of, end_or, end_place, next_place, point_of, point_or, seat_before, sight, sight_of}
 pub use Rattle.markdown_tokenizer.specs.Text.{CanFollow, FitsAfter, Given, IsDocument, IsText, Piece, Text, empty_text, followed_by, followed_by_all, passed, pushed}
@@ -85,14 +83,14 @@ pub use Rattle.mdconstructs_machines.proofs.BlockReads.Accounts.{block_bytes, bl
 pub use Rattle.mdconstructs_machines.proofs.BlockReads.Whole.{blocks-read, reads-whole}
 pub use Rattle.mdconstructs_machines.proofs.Innermost.{enter-more, exit-more, span-more}
 pub use Rattle.mdconstructs_machines.proofs.LineReads.Accounts.{both}
-pub use Rattle.mdconstructs_machines.proofs.LineReads.Data.{ReadsData, data-read}
-pub use Rattle.mdconstructs_machines.proofs.LineReads.Rows.{leads-row, line-ending-read, row_step, waits_class}
-pub use Rattle.mdconstructs_machines.proofs.LineReads.Steps.{EndsWith, at-front, goes-next, held, shows, stands}
+pub use Rattle.mdconstructs_machines.proofs.LineReads.Data.{data-read}
+pub use Rattle.mdconstructs_machines.proofs.LineReads.Rows.{line-ending-read, row_step, waits_class}
+pub use Rattle.mdconstructs_machines.proofs.LineReads.Steps.{EndsWith, at-front, goes-next, held}
 pub use Rattle.mdconstructs_machines.specs.Innermost.{AccountFor, ended_next, innermost_spans, span_over, stretch_bytes}
 pub use Rattle.mdconstructs_machines.specs.Laws.Paragraphs.{begins-chunk, can-follow, chunk_at, known-before, paragraphs-fit, paragraphs-known}
 pub use Rattle.mdconstructs_machines.specs.LineEvents.{all_of, data_events, data_line, ending_of, is_line_ending, joined, line_text, lines_in}
 pub use Rattle.mdconstructs_machines.specs.ParagraphEvents.{Block, Chunk, Marked, as_linked, block_marks, blocks_marks, blocks_of, chunk_of, line_marks, lines_marks, mark_of, marked_span, paragraph, paragraph_events}
-pub use Rattle.mdconstructs_machines.specs.Paragraphs.{CanLinkChunk, chunk_before, flow_start, flow_start_rows, knows_chunk, paragraph_inside, paragraph_inside_rows, paragraph_line_start, paragraph_line_start_rows, paragraph_start, paragraph_start_rows, paragraphs, paragraphs_rules, text_start_rows}
+pub use Rattle.mdconstructs_machines.specs.Paragraphs.{CanLinkChunk, chunk_before, flow_start, flow_start_rows, knows_chunk, paragraph_inside, paragraph_inside_rows, paragraph_line_start, paragraph_line_start_rows, paragraph_start, paragraph_start_rows, paragraphs, paragraphs_rules}
 pub use Rattle.mdconstructs_machines.specs.ReadAs.{IsReadAs}
 pub use Rattle.mdconstructs_machines.specs.Tables.{LineByte, counts, line_byte}
 pub use Rattle.mdconstructs_tables.proofs.KeptByReading.{IsKept, holds-at-start, kept-well, lawful-kept}
@@ -106,13 +104,13 @@ pub use Rattle.mdconstructs_tables.specs.Knowledge.{EachRow}
 pub use Rattle.mdconstructs_tables.specs.LinkShapes.{next_end}
 pub use Rattle.mdconstructs_tables.specs.Markers.{marked}
 pub use Rattle.mdconstructs_tables.specs.Refusals.{RulesRefuseNothing, refusing}
-pub use Rattle.mdconstructs_tables.specs.RowInvariant.{DoesAll, begun}
+pub use Rattle.mdconstructs_tables.specs.RowInvariant.{begun}
 pub use Rattle.mdconstructs_tables.specs.RowTest.{allows_all, start_shape}
-pub use Rattle.mdconstructs_tables.specs.Rows.{Row, Rows, class_of, consume, enter, exit, picked, row, step_of, table_step, when, write}
+pub use Rattle.mdconstructs_tables.specs.Rows.{Rows, class_of, consume, enter, exit, picked, row, step_of, table_step, when}
 pub use Rattle.mdconstructs_text.specs.ChainTexts.{AreReadBy, HasReadableChains, chain_data, chain_events, chain_text, with_data, with_read, with_texts}
-pub use Rattle.mdconstructs_text.specs.Items.{Item, Part, autolink, autolink_at, autolink_to, backticks, before_backtick_string, code_span, code_span_at, ends_with, escape, escape_at, has_byte_at, if_on, is_allowed, is_backslash, is_backtick, is_backtick_or_line_feed, is_backtick_string, is_colon, is_greater_than, is_less_than, is_line_feed, is_scheme, is_scheme_byte, is_special, item_at, item_length, line_ending, or_else, part, part_at, part_length, passes, plain_length, plain_run, uri}
-pub use Rattle.mdconstructs_text.specs.Laws.Rules.{in-paragraphs, in-text, inline-lawful, text-lawful, texts-apart}
+pub use Rattle.mdconstructs_text.specs.Items.{Item, Part, autolink, autolink_at, autolink_to, backticks, before_backtick_string, code_span, code_span_at, ends_with, escape, escape_at, has_byte_at, if_on, is_allowed, is_backtick, is_backtick_or_line_feed, is_backtick_string, is_colon, is_greater_than, is_less_than, is_line_feed, is_scheme, is_scheme_byte, is_special, item_at, item_length, line_ending, or_else, part, part_at, part_length, passes, plain_length, plain_run, uri}
+pub use Rattle.mdconstructs_text.specs.Laws.Rules.{in-paragraphs, in-text, text-lawful}
 pub use Rattle.mdconstructs_text.specs.TextCosts.{TextByte, backslash, backtick, blank, colon, digit, greater, is_tick, less, letter, line_feed, mark, other, punctuation, text_byte}
 pub use Rattle.mdconstructs_text.specs.TextEvents.{bytes_of, cut, event, item_events, leaf, part_events, pieces, seat_events, text_events}
-pub use Rattle.mdconstructs_text.specs.TextRules.{flow, inline_rules, text_rules}
-pub use Rattle.mdconstructs_text.specs.TextTable.{autolink_open, autolink_open_rows, autolink_scheme, autolink_scheme_rows, autolink_start, autolink_start_rows, autolink_url, autolink_url_rows, data_at_break, data_at_break_rows, data_inside, data_inside_rows, escape_inside, escape_inside_rows, escape_start, escape_start_rows, escaped, escapes, has_room, has_scheme, links_by_itself, more_than, raw_flow_after, raw_flow_before_content_chunk, raw_flow_before_content_chunk_rows, raw_flow_content_chunk, raw_flow_content_chunk_rows, raw_text_between, raw_text_between_rows, raw_text_data, raw_text_data_rows, raw_text_sequence_close, raw_text_sequence_close_rows, raw_text_sequence_open, raw_text_sequence_open_rows, raw_text_start, raw_text_start_rows, scheme_goes_on, size_b_is, sizes_are_equal, spans_code, text_before, text_before_data, text_before_data_rows, text_before_rows, text_start, texts, tries}
+pub use Rattle.mdconstructs_text.specs.TextRules.{flow, text_rules}
+pub use Rattle.mdconstructs_text.specs.TextTable.{autolink_open, autolink_open_rows, autolink_scheme, autolink_scheme_rows, autolink_start, autolink_url, autolink_url_rows, data_at_break, data_at_break_rows, data_inside, data_inside_rows, escape_inside, escape_inside_rows, escape_start, escape_start_rows, escaped, escapes, has_room, has_scheme, links_by_itself, more_than, raw_flow_after, raw_flow_before_content_chunk, raw_flow_content_chunk, raw_flow_content_chunk_rows, raw_text_between, raw_text_between_rows, raw_text_data, raw_text_data_rows, raw_text_sequence_close, raw_text_sequence_close_rows, raw_text_sequence_open, raw_text_sequence_open_rows, raw_text_start, raw_text_start_rows, scheme_goes_on, sizes_are_equal, spans_code, text_before, text_before_data, text_before_data_rows, text_before_rows, text_start, texts, tries}
