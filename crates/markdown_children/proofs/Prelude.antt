@@ -1,5 +1,5 @@
 -- What the proofs of this crate cite from below them: words of std, of the crates below and of specs.
-pub use Rattle.markdown_base.proofs.LineLemmas.{passing_kept, passing_more, passing_pushed}
+pub use Rattle.markdown_base.proofs.LineLemmas.{passing_more, passing_next}
 pub use Rattle.markdown_tokenizer.proofs.Positions.Order.{every-all, every-back, every-both, every-cond, every-front}
 pub use Rattle.std.specs.Cmp.Derive.{both_true}
 pub use Rattle.std.proofs.lemmas.Simd.{map-map}

@@ -1,5 +1,5 @@
 -- The loop of `subtokenize`: what is known before the event at an index is looked at.
-use Rattle.markdown_children.proofs.Prelude.{◌≡◌, ℕ, zero, suc, ◌+◌, ◌-◌, ◌*◌, ◌<◌, ◌↔◌, true, false, List, [], ◌∷◌, ◌++◌, length, Option, Some, refl, sym, ◌∙◌, ap, subst, arith, add-zero, append_assoc, append-nil, flat_map, filter, AllByRecursion, map-append, length-map, flat_map-append, Content, Event, relinked, Edit, removed_by, added_by, Subresult, Fault, Memory, Failed, Given, Rules, with_more, chain_of, begins, fitting_starts, IsReady, AreSpaced, Divided, divided, divided_over, child_place, part_edits, chain_edits, all_edits, total, StandBefore, Child, lists, IsChild, AreChildren, IsChildFault, IsSubtokenizeFault, SoFar, starts_below, AllZip-long, all_zipped_more, passing_kept, passing_more, passing_pushed, length-append}
+use Rattle.markdown_children.proofs.Prelude.{◌≡◌, ℕ, zero, suc, ◌+◌, ◌-◌, ◌*◌, ◌<◌, ◌↔◌, true, false, List, [], ◌∷◌, ◌++◌, length, Option, Some, refl, sym, ◌∙◌, ap, subst, arith, add-zero, append_assoc, append-nil, flat_map, filter, AllByRecursion, map-append, length-map, flat_map-append, Content, Event, relinked, Edit, removed_by, added_by, Subresult, Fault, Memory, Failed, Given, Rules, with_more, chain_of, begins, fitting_starts, IsReady, AreSpaced, Divided, divided, divided_over, child_place, part_edits, chain_edits, all_edits, total, StandBefore, Child, lists, IsChild, AreChildren, IsChildFault, IsSubtokenizeFault, SoFar, starts_below, AllZip-long, all_zipped_more, passing_more, passing_next, length-append}
 use Rattle.markdown_tokenizer.specs.declared.tokenizer.fault.Fault.TheVariants as fault
 use Rattle.markdown_children.proofs.ChainOrder.Following.{filter-yes, whole-from, follow_one_another}
 use Rattle.markdown_children.proofs.ChainOrder.Forward.{begins-fits, within}
@@ -88,7 +88,8 @@ module _ {R D : Type 0} {g : Given} {rules : Given → Rules R D} {wanted : Opti
   pub so_far-other : {i : ℕ} {es fs : List Edit} {sums more : ℕ × ℕ} {sub found : Subresult} → begins wanted events i ≡ false → fs ≡ es → more ≡ sums → found ≡ sub → SoFar g rules wanted events i es sums sub
       → SoFar g rules wanted events (i + 1) fs more found
   so_far-other {i} {sub = sub} b e d f s =
-      let same : starts_below wanted events i ≡ starts_below wanted events (i + 1) = passing_kept (begins wanted events) i (starts_below wanted events i) refl b in
+      let same : starts_below wanted events i ≡ starts_below wanted events (i + 1) =
+      passing_next (begins wanted events) i (starts_below wanted events i) (starts_below wanted events i) false refl b (sym (append-nil _)) in
       rw (e, d, f) (record {
         children = s.children;
         read = subst (λ (ks : List ℕ). AreChildren g rules events ks s.children) same s.read;
@@ -109,7 +110,7 @@ module _ {R D : Type 0} {g : Given} {rules : Given → Rules R D} {wanted : Opti
       → SoFar g rules wanted events (i + 1) fs more found
   so_far-next {i} {es} {fs} {sums} {more} {sub} {found} {child} {tab} {bytes} ready b s is e r a f_is =
       let cs : List ℕ = starts_below wanted events i in
-      let next : cs ++ i ∷ [] ≡ starts_below wanted events (i + 1) = passing_pushed (begins wanted events) i cs (cs ++ i ∷ []) refl b refl in
+      let next : cs ++ i ∷ [] ≡ starts_below wanted events (i + 1) = passing_next (begins wanted events) i cs (cs ++ i ∷ []) true refl b refl in
       let long : length cs ≡ length (lists s.children) = sym (AllZip-long (IsChild g rules events) cs s.children s.read) ∙ sym (length-map s.children (λ (c : Child). c.events)) in
       let ds : List Divided = divided_over events cs (lists s.children) in
       let dv : Divided = divided events i child.events in

@@ -17,6 +17,10 @@ is_end (s ∷ ss) = false
 abbrev pub shows : List Seat → List EventName → ℕ → List Event → Local Unit Unit → Configuration Unit Unit
 shows l stack q events local = held stack q (waits_at l) (is_end l) events local
 
+-- a configuration to which a byte is fed, or the end
+abbrev pub seen : Bool → Configuration Unit Unit → Configuration Unit Unit
+seen b k = cond b (record k { waiting = Byte }) (record k { waiting = End; ended = true })
+
 abbrev pub first_byte : List Seat → Option ℕ
 first_byte [] = None
 first_byte (s ∷ ss) = Some s.byte
@@ -80,7 +84,7 @@ byte-behind xs p n l rest h i = first-behind l n ∙ ap first_byte (ap (drop n) 
 
 module _ (text : Text) where
   -- the place at which the byte before ends
-  end-behind : (m p : ℕ) (s : Seat) (ss : List Seat) → drop p text.seats ≡ s ∷ ss → m ≤ length ss → end_place text (p + suc m) ≡ end_after s.end (take m ss)
+  pub end-behind : (m p : ℕ) (s : Seat) (ss : List Seat) → drop p text.seats ≡ s ∷ ss → m ≤ length ss → end_place text (p + suc m) ≡ end_after s.end (take m ss)
   end-behind zero p s ss h l =
       let one : p + suc zero ≡ suc p = omega arith in
       ap (end_place text) one ∙ ap (end_or text.start) (at-front text.seats p s ss h)
