@@ -13,7 +13,8 @@ module _ (xs ys : List Event) where
   pooled-more [] h = refl
   pooled-more (e ∷ es) h =
       let p = All-head (IsPart (length xs)) e es h in
-      let part = ap (take (e.end - e.start)) (drop-append-le e.start xs ys (omega (arith, p.0, p.1))) ∙ take-append-le (e.end - e.start) (drop e.start xs) ys (omega (arith, length-drop e.start xs, p.1)) in
+      let part = ap (take (e.end - e.start)) (drop-append-le e.start xs ys (omega (arith, p.0, p.1)))
+      ∙ take-append-le (e.end - e.start) (drop e.start xs) ys (omega (arith, length-drop e.start xs, p.1)) in
       ap (λ zs. edit_at e.index e.remove zs ∷ pooled (xs ++ ys) es) part
       ∙ ap (λ ds. part_edit xs e ∷ ds) (pooled-more es (All-tail (IsPart (length xs)) e es h))
 
@@ -54,8 +55,4 @@ all-before xs [] k e n q g a l = tt
 all-before xs (f ∷ []) zero e n q g a l = let same : e ≡ f = same_Some e f g in ((omega (arith, ap (λ (x : Entry). x.index) same)), tt)
 all-before xs (f ∷ []) (suc k) e n q g a l = absurd (omega (arith, q))
 all-before xs (f ∷ d ∷ es) zero e n q g a l = absurd (omega (arith, q))
-all-before xs (f ∷ d ∷ es) (suc k) e n q g a l =
-    let rest = all-before xs (d ∷ es) k e n (omega (arith, q)) g a.1 l in
-    let b : d.index < n = rest.0 in
-    let c : f.index < d.index = a.0.0 in
-    ((omega arith), rest)
+all-before xs (f ∷ d ∷ es) (suc k) e n q g a l = grind (arith, a.0.0, all-before xs (d ∷ es) k e n (omega (arith, q)) g a.1 l)

@@ -8,4 +8,5 @@ returns-in-Some-clause-all c = λ t.
     let at = rw c.deref.ensures.value at c.in-Some.ensures.value in
     let some : length es - 1 < length es = slice_get_within es (length es - 1) c.in-Some.entry.now (sym at) in
     subst (AllByRecursion (λ (e : Edit). e.index < c.args.index)) c.self.view_is
-    (all-before c.self.inside.additions.items es (length es - 1) c.in-Some.entry.now c.args.index (omega (arith, some)) at (subst IsAscending (sym c.self.view_is) c.requires) (ltb-true c.in-Some.entry.now.index c.args.index t))
+    (all-before c.self.inside.additions.items es (length es - 1) c.in-Some.entry.now c.args.index (omega (arith, some)) at
+    (subst IsAscending (sym c.self.view_is) c.requires) (ltb-true c.in-Some.entry.now.index c.args.index t))
