@@ -1,5 +1,5 @@
 -- What the proofs of this crate cite from below them: words of std, of the crates below and of specs.
-pub use Rattle.std.proofs.Common.{Bool, Err, List, None, Ok, Option, Some, T, [], ap, append-nil, append_assoc, arith, cond, drop, eq-zero-or-pos, eqb, eqb→eq, false, get_or, inl, inr, length, length-append, length-drop, length-set, length-take-le, lit<, nat_lt, refl, rules, set, subst, suc, sym, take, take-append-drop, take-take, true, zero, ℕ, ⊎_elim, ◌%◌, ◌&&◌, ◌*◌, ◌++◌, ◌+◌, ◌-◌, ◌/◌, ◌<◌, ◌^◌, ◌∙◌, ◌∷◌, ◌≡◌, ◌≤◌, ◌⊎◌}
+pub use Rattle.std.proofs.Common.{Bool, Err, List, None, Ok, Option, Some, T, [], ap, append-nil, append_assoc, arith, drop, eq-zero-or-pos, eqb, eqb→eq, false, get_or, inl, inr, length, length-append, length-drop, length-set, length-take-le, lit<, nat_lt, refl, rules, set, subst, suc, sym, take, take-append-drop, take-take, true, zero, ℕ, ⊎_elim, ◌%◌, ◌&&◌, ◌*◌, ◌++◌, ◌+◌, ◌-◌, ◌/◌, ◌<◌, ◌^◌, ◌∙◌, ◌∷◌, ◌≡◌, ◌≤◌}
 pub use Rattle.std.proofs.KnownBytes.{Appends-nil, Appends-trans, Consumes-trans, Keeps-refl}
 pub use Rattle.std.proofs.Math.Nat.{le-div_iff_mul-le, lt_trans, mul_comm}
 pub use Rattle.std.proofs.Math.Seq.{take-add}
@@ -59,7 +59,7 @@ pub use Rattle.mdconstructs.specs.Save.{save_rules}
 pub use Rattle.mdconstructs.specs.TextEvents.{text_events}
 pub use Rattle.mdconstructs.specs.TextRules.{text_rules}
 pub use lib.Ieee.Fits.{and_l, and_r}
-pub use Rattle.mdevents_program.specs.Arguments.{Spelled, at_most_one, choice_together, cut, cut_in, decimal_of, deep, deep_in, links_text, machine, machine_in, options_of, tab, tab_in, tab_size_of, which_of}
+pub use Rattle.mdevents_program.specs.Arguments.{Spelled, at_most_one, choice_together, cut, cut_in, decimal_of, deep, deep_in, machine, machine_in, options_of, tab, tab_in, tab_size_of, which_of}
 pub use Rattle.mdevents_program.specs.ArgumentsInner.{chosen_after, with_value}
 pub use Rattle.mdevents_program.specs.Printed.{event_line, printed_events, printed_point}
 pub use Rattle.mdevents_program.specs.Program.{ArePrintedEvents, document, virtual_bytes}
@@ -67,5 +67,5 @@ pub use Rattle.mdevents_program.specs.Runs.{Gives, GivesDeep, GivesUnready, HasR
 pub use Rattle.mdevents_program.specs.declared.arguments.Choice.{Choice}
 pub use Rattle.mdevents_program.specs.declared.arguments.SoFar.{SoFar}
 pub use Rattle.mdevents_program.specs.declared.arguments.Which.{Which}
-pub use Rattle.mdevents_program.specs.declared.arguments.Which.TheVariants.{Back, Deep, Lines, Peek, Save}
+pub use Rattle.mdevents_program.specs.declared.arguments.Which.TheVariants.{Lines}
 pub use Rattle.mdevents_program.specs.declared.digits.TheConstants.{PAIRS}
