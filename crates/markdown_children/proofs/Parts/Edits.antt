@@ -8,11 +8,11 @@ use Rattle.markdown_children.proofs.Parts.Placed.{AreChains, edited-children}
 -- ---- disjoint
 
 -- edits are disjoint from an index on, and each of them is before another index
-abbrev pub AreWithin : ℕ → List Edit → ℕ → Type 0
-AreWithin from es n = AreDisjoint from es n × AllByRecursion (λ (e : Edit). e.index < n) es
+abbrev pub AreDisjointWithin : ℕ → List Edit → ℕ → Type 0
+AreDisjointWithin from es n = AreDisjoint from es n × AllByRecursion (λ (e : Edit). e.index < n) es
 
 edits-spaced : (f : ℕ → Option ℕ) (from n : ℕ) (ks more : List ℕ) (ps : List (List Event)) (es : List Edit) → length ks ≡ length ps → AreSpaced from (ks ++ more) n
-    → ((m : ℕ) → AreSpaced m more n → AreWithin m es n) → AreWithin from (part_edits f ks ps ++ es) n
+    → ((m : ℕ) → AreSpaced m more n → AreDisjointWithin m es n) → AreDisjointWithin from (part_edits f ks ps ++ es) n
 edits-spaced f from n [] more ps es e h rest = rest from h
 edits-spaced f from n (k ∷ ks) more [] es e h rest = absurd (omega arith)
 edits-spaced f from n (k ∷ ks) more (p ∷ ps) es e h rest =
@@ -20,7 +20,7 @@ edits-spaced f from n (k ∷ ks) more (p ∷ ps) es e h rest =
     ((h.0, r.0), (omega (arith, AreDisjoint-le (part_edits f ks ps ++ es) (k + 2) n r.0), r.1))
 
 pub all_edits-spaced : (events : List Event) (cs : List ℕ) (children : List (List Event)) (removed added from n : ℕ) → AreSpaced from (flat_map (chain_of events) cs) n
-    → AreWithin from (all_edits removed added (divided_over events cs children)) n
+    → AreDisjointWithin from (all_edits removed added (divided_over events cs children)) n
 all_edits-spaced events (c ∷ cs) (child ∷ children) removed added from n h =
     let d : Divided = divided events c child in
     edits-spaced (child_place d.chunks d.parts removed added) from n d.chunks (flat_map (chain_of events) cs) d.parts (all_edits (removed + 2 * length d.chunks) (added + total d.parts) (divided_over events cs children))

@@ -90,12 +90,12 @@ module _ (tab : ℕ) (bytes : List ℕ) (wanted : Option Content) (events : List
       ∙ ap (λ p. names_after_all p (drop (k + 2) events)) (names-leave (IsBalanced-pair c.enter c.exit c.linked.enter c.ended.exits c.ended.same) o)
 
   -- changes keep each stack from an index on
-  abbrev IsKept : List Change → ℕ → Type 0
-  IsKept ws i = (o : Option (List Name)) → names_after_all o (after_changes ws i) ≡ names_after_all o (drop i events)
+  abbrev KeepNames : List Change → ℕ → Type 0
+  KeepNames ws i = (o : Option (List Name)) → names_after_all o (after_changes ws i) ≡ names_after_all o (drop i events)
 
   -- behind the chunk at k its chain's other parts act as if they were adjacent
   through : (c j k : ℕ) (ks more : List ℕ) (ps : List (List Event)) (ws : List Change) → Fits k → LeadOnFrom events k ks → length ks ≡ length ps → AreSpaced (k + 2) (ks ++ more) n
-      → ((m : ℕ) → AreSpaced m more n → IsKept ws m)
+      → ((m : ℕ) → AreSpaced m more n → KeepNames ws m)
       → (o : Option (List Name)) → names_after_all o (after_changes (part_changes c j ks ps ++ ws) (k + 2)) ≡ names_after_all (names_after_all o (joined ps)) (drop (k + 2) events)
   through c j k [] more [] ws h lead e sp kept o = kept (k + 2) sp o ∙ ap (λ p. names_after_all p (drop (k + 2) events)) (sym (names-none o))
   through c j k (d ∷ ks) more (p ∷ ps) ws h lead e sp kept o =
@@ -111,7 +111,7 @@ module _ (tab : ℕ) (bytes : List ℕ) (wanted : Option Content) (events : List
 
   -- a chain whose parts together are balanced
   one_chain : (c i : ℕ) (ks more : List ℕ) (ps : List (List Event)) (ws : List Change) → Fits c → LeadOnFrom events c ks → length (c ∷ ks) ≡ length ps → IsBalanced (joined ps) → Unit {0}
-      → AreSpaced i (c ∷ (ks ++ more)) n → ((m : ℕ) → AreSpaced m more n → IsKept ws m) → IsKept (part_changes c 0 (c ∷ ks) ps ++ ws) i
+      → AreSpaced i (c ∷ (ks ++ more)) n → ((m : ℕ) → AreSpaced m more n → KeepNames ws m) → KeepNames (part_changes c 0 (c ∷ ks) ps ++ ws) i
   one_chain c i ks more [] ws h lead e b t sp kept o = absurd (omega arith)
   one_chain c i ks more (p ∷ ps) ws h lead e b t sp kept o =
       let q : Option (List Name) = names_after_all o (between i c events) in
@@ -151,8 +151,8 @@ module _ (tab : ℕ) (bytes : List ℕ) (wanted : Option Content) (events : List
   pub with_children_balanced : (children : List (List Event)) → AllByRecursion IsBalanced children → IsBalanced (with_children wanted events children)
   with_children_balanced children bs =
       let ws : List Change = child_changes wanted events children in
-      let kept : IsKept ws 0 =
-      with_children_holds IsKept IsBalanced (λ ks ps. Unit {0}) (λ i o. ap (names_after_all o) (untagged-olds i (drop i events))) one_chain children bs
+      let kept : KeepNames ws 0 =
+      with_children_holds KeepNames IsBalanced (λ ks ps. Unit {0}) (λ i o. ap (names_after_all o) (untagged-olds i (drop i events))) one_chain children bs
       (every-all (λ (d : Divided). Unit {0}) (λ d. tt) (divided_over events (fitting_starts wanted events) children)) in
       balanced_from_open (with_children wanted events children)
       (names-placed (Some []) (woven ws 0 events) (woven ws 0 events)

@@ -10,8 +10,8 @@ module _ {M R D : Type 0} {rules : M → Given → Rules R D} (laws : (m : M) (g
   KeptFrom flush t a u s = Kept t.given (rules t.machine t.given) flush t a u s
 
   -- what a call of this state did
-  abbrev Called : TokenizerValue M R D → TokenizerValue M R D → Name → State → Type 0
-  Called u v n answer = DidStep u v ((rules u.machine u.given).step (sight u.given u.text u.configuration) u.configuration n) answer
+  abbrev DidCall : TokenizerValue M R D → TokenizerValue M R D → Name → State → Type 0
+  DidCall u v n answer = DidStep u v ((rules u.machine u.given).step (sight u.given u.text u.configuration) u.configuration n) answer
 
   pub kept-first : (flush : Bool) (t : TokenizerValue M R D) (a : State) → (flush ≡ false → t.configuration.waiting ≢ End) → HoldsAll (rules t.machine t.given) flush t a → KeptFrom flush t a t a
   kept-first flush t a waits h = record {
@@ -60,12 +60,12 @@ module _ {M R D : Type 0} {rules : M → Given → Rules R D} (laws : (m : M) (g
 
   -- a state is called, and returned this
   pub kept-answer : {flush : Bool} {t u v : TokenizerValue M R D} {a s answer : State} {n : Name} → IsText t.given t.text → KeptFrom flush t a u (Retry n) → IsInText u
-      → Called u v n answer → answer ≡ s → KeptFrom flush t a v s
+      → DidCall u v n answer → answer ≡ s → KeptFrom flush t a v s
   kept-answer {flush} {t} {u} {v} {a} {s} {answer} {n} is k sound called e =
       let law = laws t.machine t.given in let is_here = text-worked t.given t u is k.same in
       let st = (rules t.machine t.given).step (sight t.given u.text u.configuration) u.configuration n in
       let did : DidStep u v st s = subst (λ (q : M). DidStep u v ((rules q t.given).step (sight t.given u.text u.configuration) u.configuration n) s) k.same.machine
-      (subst (λ (q : Given). DidStep u v ((rules u.machine q).step (sight q u.text u.configuration) u.configuration n) s) k.same.given (subst (λ (x : State). Called u v n x) e called)) in
+      (subst (λ (q : Given). DidStep u v ((rules u.machine q).step (sight q u.text u.configuration) u.configuration n) s) k.same.given (subst (λ (x : State). DidCall u v n x) e called)) in
       let now = (k.leads [] tt (λ _. refl)).kept in rw (did.became, did.answered) (record {
         same = record { given = k.same.given; machine = k.same.machine; text = k.same.text; closed = k.same.closed; phase = k.same.phase; counted = omega (arith, k.same.counted) };
         message = λ m is_error. let f : Retry n ≡ Error m = (k.message m is_error).0 in absurd cc;
@@ -127,7 +127,7 @@ module _ {M R D : Type 0} {rules : M → Given → Rules R D} (laws : (m : M) (g
         closed answer q some h = absurd cc
 
     -- a call, after which a state is taken up, leaves fewer
-    pub fewer-left : {before : TokenizerValue M R D} {answer : State} {n : Name} (w : TokenizerValue M R D) (next : Name) → Called before u n answer
+    pub fewer-left : {before : TokenizerValue M R D} {answer : State} {n : Name} (w : TokenizerValue M R D) (next : Name) → DidCall before u n answer
         → (let e = settled_all u.configuration u.choices s in TakesUp flush (settled_to u e) w e.answer (result.Ok next))
         → let all = budget (rules t.machine t.given) t.text t a in all - w.calls < all - before.calls
     fewer-left w next called takes =
