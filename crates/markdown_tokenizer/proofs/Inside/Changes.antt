@@ -1,5 +1,5 @@
 -- Each call that changes a text, the events or the choices of a tokenizer keeps what holds of its fields.
-use Rattle.markdown_tokenizer.proofs.Prelude.{AllByRecursion, ◌≡◌, ℕ, zero, suc, ◌≤◌, inl, inr, ◌<◌, List, [], ◌∷◌, ◌++◌, Bool, true, false, cond, Option, Some, None, length, refl, sym, ap, ◌∙◌, subst, arith, take, map, option_map, reverse, unwrap_or, Point, Event, Link, ParseOptions, Seat, point, shown, stands_before, is_upto, denotes_same, IsPointOf, point_at, Waits, Nothing, Byte, End, Reading, Inside, Given, Text, Piece, pushed, passed, IsDocument, IsText, CanFollow, FitsAfter, followed_by, followed_by_all, empty_text, extended, resumed, IsReadyAt, tab_of, seen, text_within, end_point, seats_between, position_from, standing, reach, can_feed, IsReadTo, ByteWaits, IsWhatWaits, IsProgress, AreNested, IsSound, IsPlace, IsSeatAt, is_after_pair, IsMade, with_ends, unlinked, linked_to, updated_at, next_set, previous_set, with_next, with_previous, length-map, stands-self, Other, take-map, filter, is_kept, filter-append, in_range, virtual, seat_before, slice_get, get-front, length-append, end_or, byte_of, false_from_ne_true, nat_tests}
+use Rattle.markdown_tokenizer.proofs.Prelude.{AllByRecursion, ◌≡◌, ℕ, zero, suc, ◌≤◌, inl, inr, ◌<◌, List, [], ◌∷◌, ◌++◌, Bool, true, false, cond, Option, Some, None, length, refl, sym, ap, ◌∙◌, subst, arith, take, map, option_map, reverse, unwrap_or, Point, Event, Link, ParseOptions, Seat, point, shown, stands_before, is_upto, denotes_same, IsPointOf, point_at, Waits, Nothing, Byte, End, Reading, Inside, Given, Text, Piece, pushed, passed, IsDocument, IsText, CanFollow, FitsAfter, followed_by, followed_by_all, empty_text, extended, resumed, IsReadyAt, seen, text_within, end_point, seats_between, position_from, standing, reach, can_feed, IsReadTo, ByteWaits, IsWhatWaits, IsProgress, AreNested, IsSound, IsPlace, is_after_pair, IsMade, with_ends, unlinked, linked_to, updated_at, next_set, previous_set, with_next, with_previous, length-map, stands-self, Other, take-map, filter, is_kept, filter-append, in_range, virtual, seat_before, slice_get, get-front, length-append, end_or, byte_of, false_from_ne_true, nat_tests}
 use Rattle.std.proofs.lemmas.Bool.{true_from_ne_false}
 use Rattle.markdown_base.specs.declared.event.Name.{Name}
 use Rattle.markdown_tokenizer.proofs.Positions.Standing.{shown-shown, place-of-point}
@@ -8,7 +8,7 @@ use Rattle.markdown_tokenizer.proofs.Positions.Gaps.{same-not_before, other-befo
 use Rattle.markdown_tokenizer.proofs.Positions.Cursors.{upto-order, upto-upto, end-upto, same-self, same-upto, same-back, range-continued, range-empty}
 use Rattle.markdown_tokenizer.proofs.Positions.Points.{point_at-point, point_at-is}
 use Rattle.markdown_tokenizer.proofs.Inside.Made.{made-new, made-bound, made-linked}
-use Rattle.markdown_tokenizer.proofs.Inside.Fields.{Saves, wide_of, text_between, next-more, within, here-all, kept-same, made-more, nested-map}
+use Rattle.markdown_tokenizer.proofs.Inside.Fields.{Saves, wide_of, text_between, next-more, within, here-all, kept-same, made-more, nested-map, bytes_within, tab_within, end_within, position_within, size_within, ReadWithin, WaitsWithin, ByteWithin, IsSeatWithin}
 use Rattle.markdown_tokenizer.proofs.Inside.Known.{known-other, ready-none}
 use Rattle.markdown_tokenizer.proofs.Inside.Spans.{same-choices}
 use Rattle.markdown_tokenizer.proofs.Inside.Steps.{looks_in, end-place-in}
@@ -56,124 +56,112 @@ can-feed-more : (position m n : ℕ) (closed : Bool) → m ≤ n → can_feed po
 can-feed-more position m n closed le h = grind (arith, nat_tests)
 
 module _ {M R D : Type 0} {same : R → R → Bool} (t : Inside M R D) (sound : IsSound same t) where
-  abbrev bytes_in : List ℕ
-  bytes_in = t.parse_state.now.bytes.now
-
-  abbrev tab_in : ℕ
-  tab_in = tab_of t.parse_state.now
-
-  abbrev end_in : Point
-  end_in = end_point tab_in bytes_in t.end
-
-  abbrev size_in : ℕ
-  size_in = length (seats_between tab_in bytes_in t.skips t.start end_in)
-
-  starts-upto : is_upto tab_in bytes_in t.start end_in ≡ true
-  starts-upto = upto-upto tab_in bytes_in t.start t.after_previous end_in sound.placed.read.from sound.placed.read.upto
+  starts-upto : is_upto (tab_within t) (bytes_within t) t.start (end_within t) ≡ true
+  starts-upto = upto-upto (tab_within t) (bytes_within t) t.start t.after_previous (end_within t) sound.placed.read.from sound.placed.read.upto
 
   -- what waits in another text
-  waiting-on : (w : Waits) (skips : List Point) (text : Text) → (ByteWaits tab_in bytes_in t.skips t.after_previous end_in t.byte → ByteWaits tab_in bytes_in skips t.after_previous text.end t.byte)
-      → (t.closed ≡ true → size_in ≤ position_from tab_in bytes_in t.skips t.start t.after_previous → length text.seats ≤ position_from tab_in bytes_in skips text.start t.after_previous)
-      → IsWhatWaits tab_in bytes_in t.skips (text_within t) t.after_previous t.byte t.closed w → IsWhatWaits tab_in bytes_in skips text t.after_previous t.byte t.closed w
+  waiting-on : (w : Waits) (skips : List Point) (text : Text) → (ByteWithin t → ByteWaits (tab_within t) (bytes_within t) skips t.after_previous text.end t.byte)
+      → (t.closed ≡ true → size_within t ≤ position_within t t.after_previous → length text.seats ≤ position_from (tab_within t) (bytes_within t) skips text.start t.after_previous)
+      → WaitsWithin t w → IsWhatWaits (tab_within t) (bytes_within t) skips text t.after_previous t.byte t.closed w
   waiting-on Nothing skips text byte end h = h
   waiting-on Byte skips text byte end h = byte h
   waiting-on End skips text byte end h = record { closed_too = h.closed_too; all = end h.closed_too h.all }
 
   -- a byte that waits is before a later end
-  still-before : (to : Point) → is_upto tab_in bytes_in end_in to ≡ true → (w : ByteWaits tab_in bytes_in t.skips t.after_previous end_in t.byte) → stands_before w.seat.point to ≡ true
+  still-before : (to : Point) → is_upto (tab_within t) (bytes_within t) (end_within t) to ≡ true → (w : ByteWithin t) → stands_before w.seat.point to ≡ true
   still-before to later w = true_from_ne_false _ (λ e.
       let here = resumed t.skips t.after_previous in
-      let back = upto-upto tab_in bytes_in end_in to here later (end-upto tab_in bytes_in here w.seat (looks_in t sound).place w.at to e) in
+      let back = upto-upto (tab_within t) (bytes_within t) (end_within t) to here later (end-upto (tab_within t) (bytes_within t) here w.seat (looks_in t sound).place w.at to e) in
       let all = here-all t sound sound.placed.read back in
       let more = next-more t sound sound.placed.read w.seat w.at w.before in
       omega (arith, all, more))
 
   -- the text ends later
-  module _ (to : ℕ × ℕ) (f u : Point) (found : point_at tab_in bytes_in to ≡ Some u) (fits : FitsAfter (seen t).given (text_within t) (pushed f u)) (open_still : t.closed ≡ false) where
-    later : is_upto tab_in bytes_in end_in u ≡ true
-    later = upto-upto tab_in bytes_in end_in f u (same-upto tab_in bytes_in f end_in fits.2).1 fits.3
+  module _ (to : ℕ × ℕ) (f u : Point) (found : point_at (tab_within t) (bytes_within t) to ≡ Some u) (fits : FitsAfter (seen t).given (text_within t) (pushed f u)) (open_still : t.closed ≡ false) where
+    later : is_upto (tab_within t) (bytes_within t) (end_within t) u ≡ true
+    later = upto-upto (tab_within t) (bytes_within t) (end_within t) f u (same-upto (tab_within t) (bytes_within t) f (end_within t) fits.2).1 fits.3
 
-    longer-seats : seats_between tab_in bytes_in t.skips t.start u ≡ (text_within t).seats ++ filter (in_range f u) (virtual tab_in bytes_in)
+    longer-seats : seats_between (tab_within t) (bytes_within t) t.skips t.start u ≡ (text_within t).seats ++ filter (in_range f u) (virtual (tab_within t) (bytes_within t))
     longer-seats =
-        ap (filter (is_kept t.skips)) (range-continued tab_in bytes_in t.start end_in f u (end-place-in t sound) starts-upto later (same-back tab_in bytes_in f end_in fits.2))
-        ∙ filter-append (is_kept t.skips) (filter (in_range t.start end_in) (virtual tab_in bytes_in)) (filter (in_range f u) (virtual tab_in bytes_in))
-        ∙ ap (λ (xs : List Seat). (text_within t).seats ++ xs) (pushed-kept tab_in bytes_in (wide_of t sound) t.skips end_in f u sound.placed.skips (end-place-in t sound) fits.2 fits.3)
+        ap (filter (is_kept t.skips)) (range-continued (tab_within t) (bytes_within t) t.start (end_within t) f u (end-place-in t sound) starts-upto later (same-back (tab_within t) (bytes_within t) f (end_within t) fits.2))
+        ∙ filter-append (is_kept t.skips) (filter (in_range t.start (end_within t)) (virtual (tab_within t) (bytes_within t))) (filter (in_range f u) (virtual (tab_within t) (bytes_within t)))
+        ∙ ap (λ (xs : List Seat). (text_within t).seats ++ xs) (pushed-kept (tab_within t) (bytes_within t) (wide_of t sound) t.skips (end_within t) f u sound.placed.skips (end-place-in t sound) fits.2 fits.3)
 
     -- the byte before is the same
-    before-longer : (n : ℕ) → n ≤ size_in → seat_before (text_between tab_in bytes_in t.skips t.start u) n ≡ seat_before (text_within t) n
+    before-longer : (n : ℕ) → n ≤ size_within t → seat_before (text_between (tab_within t) (bytes_within t) t.skips t.start u) n ≡ seat_before (text_within t) n
     before-longer zero h = refl
-    before-longer (suc n) h = ap (λ (xs : List Seat). slice_get xs n) longer-seats ∙ get-front (text_within t).seats (filter (in_range f u) (virtual tab_in bytes_in)) n (omega (arith, h))
+    before-longer (suc n) h = ap (λ (xs : List Seat). slice_get xs n) longer-seats ∙ get-front (text_within t).seats (filter (in_range f u) (virtual (tab_within t) (bytes_within t))) n (omega (arith, h))
 
-    longer : {after_previous : Point} {previous : Option ℕ} → IsReadTo tab_in bytes_in t.skips (text_within t) after_previous previous → IsReadTo tab_in bytes_in t.skips (text_between tab_in bytes_in t.skips t.start u) after_previous previous
+    longer : {after_previous : Point} {previous : Option ℕ} → ReadWithin t after_previous previous → IsReadTo (tab_within t) (bytes_within t) t.skips (text_between (tab_within t) (bytes_within t) t.skips t.start u) after_previous previous
     longer {after_previous} read =
-        let e = before-longer (position_from tab_in bytes_in t.skips t.start after_previous) (within t sound read) in
-        assumption (upto-upto tab_in bytes_in after_previous end_in u read.upto later, read.back ∙ ap (end_or t.start) (sym e), read.previous_is ∙ ap byte_of (sym e))
+        let e = before-longer (position_within t after_previous) (within t sound read) in
+        assumption (upto-upto (tab_within t) (bytes_within t) after_previous (end_within t) u read.upto later, read.back ∙ ap (end_or t.start) (sym e), read.previous_is ∙ ap byte_of (sym e))
 
-    text-longer : followed_by (seen t).given (text_within t) (pushed f u) ≡ text_between tab_in bytes_in t.skips t.start u
+    text-longer : followed_by (seen t).given (text_within t) (pushed f u) ≡ text_between (tab_within t) (bytes_within t) t.skips t.start u
     text-longer = ap (λ (seats : List Seat). record { start = t.start; seats = seats; end = u }) (sym longer-seats)
 
     pub extended-sound : (ready : ℕ) → IsReadyAt t.skips t.after_previous to.0 ready → IsSound same (record t { end = to; ready = ready })
     extended-sound ready r =
-        let e : end_point tab_in bytes_in to ≡ u = ap (λ (o : Option Point). unwrap_or o (point 1 1 0 0)) found in
-        let more : size_in ≤ length (seats_between tab_in bytes_in t.skips t.start u) =
-        omega (arith, ap length longer-seats, length-append (text_within t).seats (filter (in_range f u) (virtual tab_in bytes_in))) in
+        let e : end_point (tab_within t) (bytes_within t) to ≡ u = ap (λ (o : Option Point). unwrap_or o (point 1 1 0 0)) found in
+        let more : size_within t ≤ length (seats_between (tab_within t) (bytes_within t) t.skips t.start u) =
+        omega (arith, ap length longer-seats, length-append (text_within t).seats (filter (in_range f u) (virtual (tab_within t) (bytes_within t)))) in
         record {
           placed = record {
             tab = sound.placed.tab;
             reads = sound.placed.reads;
             end_at = rw e found;
             text = rw e (subst (IsText (seen t).given) text-longer (text-more (seen t).given (text_within t) (pushed f u) sound.placed.text fits));
-            skips = rw e (pushed-skips tab_in bytes_in (wide_of t sound) t.skips end_in f u sound.placed.skips (end-place-in t sound) fits.2 fits.3);
+            skips = rw e (pushed-skips (tab_within t) (bytes_within t) (wide_of t sound) t.skips (end_within t) f u sound.placed.skips (end-place-in t sound) fits.2 fits.3);
             read = rw e (longer sound.placed.read);
-            waiting = rw e (waiting-on t.waits t.skips (text_between tab_in bytes_in t.skips t.start u) (λ w. record { seat = w.seat; at = w.at; before = still-before u later w; is = w.is })
+            waiting = rw e (waiting-on t.waits t.skips (text_between (tab_within t) (bytes_within t) t.skips t.start u) (λ w. record { seat = w.seat; at = w.at; before = still-before u later w; is = w.is })
                 (λ c all. absurd (let no : true ≡ false = sym c ∙ open_still in cc)) sound.placed.waiting);
             ended = sound.placed.ended;
           };
           made = sound.made;
-          kept_choices = rw e (nested-map (Saves t) (IsProgress t.phase tab_in bytes_in t.skips (text_between tab_in bytes_in t.skips t.start u) t.events.items t.stack.items t.closed)
-              (length t.events.items) (length t.stack.items) (reverse t.kept_choices.items) (λ p a b h. let position = position_from tab_in bytes_in t.skips t.start p.after_previous in record {
+          kept_choices = rw e (nested-map (Saves t) (IsProgress t.phase (tab_within t) (bytes_within t) t.skips (text_between (tab_within t) (bytes_within t) t.skips t.start u) t.events.items t.stack.items t.closed)
+              (length t.events.items) (length t.stack.items) (reverse t.kept_choices.items) (λ p a b h. let position = position_within t p.after_previous in record {
                 read = longer h.read;
                 ended = h.ended;
                 made = λ reads. made-more t sound h.read (take p.events_len t.events.items) (take p.stack_len t.stack.items)
-                    (can_feed position size_in t.closed) (can_feed position (length (seats_between tab_in bytes_in t.skips t.start u)) t.closed) (can-feed-more position size_in _ t.closed more) (h.made reads);
+                    (can_feed position (size_within t) t.closed) (can_feed position (length (seats_between (tab_within t) (bytes_within t) t.skips t.start u)) t.closed) (can-feed-more position (size_within t) _ t.closed more) (h.made reads);
               }) sound.kept_choices);
           once = sound.once;
           known = record { own_bytes = sound.known.own_bytes; ready_at = r; there = sound.known.there; over = sound.known.over };
         }
 
     pub extended-seen : seen (record t { end = to }) ≡ extended (seen t) (followed_by (seen t).given (seen t).text (pushed f u))
-    extended-seen = let e : end_point tab_in bytes_in to ≡ u = ap (λ (o : Option Point). unwrap_or o (point 1 1 0 0)) found in rw (e, text-longer) refl
+    extended-seen = let e : end_point (tab_within t) (bytes_within t) to ≡ u = ap (λ (o : Option Point). unwrap_or o (point 1 1 0 0)) found in rw (e, text-longer) refl
 
   -- a gap is passed, or none is there
   module _ (q : Point) (fits : FitsAfter (seen t).given (text_within t) (passed q)) where
-    passed-place : IsPlace tab_in bytes_in q
-    passed-place = place-of-point tab_in bytes_in (wide_of t sound) q fits.0
+    passed-place : IsPlace (tab_within t) (bytes_within t) q
+    passed-place = place-of-point (tab_within t) (bytes_within t) (wide_of t sound) q fits.0
 
     -- what the test of the code means
-    after-end : is_after_pair (shown bytes_in q) t.end ≡ stands_before end_in (shown bytes_in q)
-    after-end = let at = point_at-is tab_in bytes_in t.end end_in sound.placed.end_at in let i = at.index in let v = at.vs in rw (i, v) refl
+    after-end : is_after_pair (shown (bytes_within t) q) t.end ≡ stands_before (end_within t) (shown (bytes_within t) q)
+    after-end = let at = point_at-is (tab_within t) (bytes_within t) t.end (end_within t) sound.placed.end_at in let i = at.index in let v = at.vs in rw (i, v) refl
 
     -- a gap there is
     pub record IsPassed : Type 0 where
-      pub other : denotes_same tab_in bytes_in q end_in ≡ false
-      pub first : end_in.column ≡ 1
-      pub line : q.line ≡ end_in.line
-      pub before : stands_before end_in q ≡ true
+      pub other : denotes_same (tab_within t) (bytes_within t) q (end_within t) ≡ false
+      pub first : (end_within t).column ≡ 1
+      pub line : q.line ≡ (end_within t).line
+      pub before : stands_before (end_within t) q ≡ true
 
-    pub passes : is_after_pair (shown bytes_in q) t.end ≡ true → IsPassed
+    pub passes : is_after_pair (shown (bytes_within t) q) t.end ≡ true → IsPassed
     passes e =
-        let other = false_from_ne_true (denotes_same tab_in bytes_in q end_in)
-        (λ same. let g : true ≡ false = sym e ∙ after-end ∙ same-not_before tab_in bytes_in (wide_of t sound) q end_in passed-place (end-place-in t sound) same in cc) in
+        let other = false_from_ne_true (denotes_same (tab_within t) (bytes_within t) q (end_within t))
+        (λ same. let g : true ≡ false = sym e ∙ after-end ∙ same-not_before (tab_within t) (bytes_within t) (wide_of t sound) q (end_within t) passed-place (end-place-in t sound) same in cc) in
         elim fits.1 [
           | inl same ↦ (let g : true ≡ false = sym same ∙ other in absurd cc)
           | inr f ↦ record { other = other; first = f.0; line = f.1; before = f.2 }
         ]
 
-    pub passed-nothing : is_after_pair (shown bytes_in q) t.end ≡ false → seen t ≡ extended (seen t) (followed_by (seen t).given (seen t).text (passed q))
+    pub passed-nothing : is_after_pair (shown (bytes_within t) q) t.end ≡ false → seen t ≡ extended (seen t) (followed_by (seen t).given (seen t).text (passed q))
     passed-nothing e =
-        let same : denotes_same tab_in bytes_in q end_in ≡ true = elim fits.1 [
+        let same : denotes_same (tab_within t) (bytes_within t) q (end_within t) ≡ true = elim fits.1 [
           | inl same ↦ same
-          | inr f ↦ true_from_ne_false _ (λ other. let g : true ≡ false = sym (other-before tab_in bytes_in (wide_of t sound) q end_in passed-place (end-place-in t sound) f.2 other) ∙ sym after-end ∙ e in cc)
+          | inr f ↦ true_from_ne_false _ (λ other. let g : true ≡ false = sym (other-before (tab_within t) (bytes_within t) (wide_of t sound) q (end_within t) passed-place (end-place-in t sound) f.2 other) ∙ sym after-end ∙ e in cc)
         ] in
         rw same refl
 
@@ -182,45 +170,45 @@ module _ {M R D : Type 0} {same : R → R → Bool} (t : Inside M R D) (sound : 
       added = t.skips ++ q ∷ []
 
       abbrev text_added : Text
-      text_added = text_between tab_in bytes_in added t.start q
+      text_added = text_between (tab_within t) (bytes_within t) added t.start q
 
       seats-same : text_added.seats ≡ (text_within t).seats
-      seats-same = added-text tab_in bytes_in (wide_of t sound) t.skips t.start end_in q sound.placed.skips (end-place-in t sound) passed-place is.first is.line is.before is.other starts-upto
+      seats-same = added-text (tab_within t) (bytes_within t) (wide_of t sound) t.skips t.start (end_within t) q sound.placed.skips (end-place-in t sound) passed-place is.first is.line is.before is.other starts-upto
 
-      position-same : {after_previous : Point} {previous : Option ℕ} → IsReadTo tab_in bytes_in t.skips (text_within t) after_previous previous → position_from tab_in bytes_in added t.start after_previous ≡ position_from tab_in bytes_in t.skips t.start after_previous
+      position-same : {after_previous : Point} {previous : Option ℕ} → ReadWithin t after_previous previous → position_from (tab_within t) (bytes_within t) added t.start after_previous ≡ position_within t after_previous
       position-same {after_previous} read =
-          ap length (added-read tab_in bytes_in (wide_of t sound) t.skips t.start end_in q sound.placed.skips (end-place-in t sound) passed-place is.first is.line is.before is.other after_previous read.upto)
+          ap length (added-read (tab_within t) (bytes_within t) (wide_of t sound) t.skips t.start (end_within t) q sound.placed.skips (end-place-in t sound) passed-place is.first is.line is.before is.other after_previous read.upto)
 
       -- the byte before is the same
       before-passed : (n : ℕ) → seat_before text_added n ≡ seat_before (text_within t) n
       before-passed zero = refl
       before-passed (suc n) = ap (λ (xs : List Seat). slice_get xs n) seats-same
 
-      passed-later : is_upto tab_in bytes_in end_in q ≡ true
-      passed-later = upto-order tab_in bytes_in end_in q (after-before end_in.index end_in.vs q.index q.vs is.before)
+      passed-later : is_upto (tab_within t) (bytes_within t) (end_within t) q ≡ true
+      passed-later = upto-order (tab_within t) (bytes_within t) (end_within t) q (after-before (end_within t).index (end_within t).vs q.index q.vs is.before)
 
       pub text-passed : followed_by (seen t).given (text_within t) (passed q) ≡ text_added
       text-passed = rw is.other (ap (λ (xs : List Seat). record { start = t.start; seats = xs; end = q }) (sym seats-same))
 
       -- the gaps so far are in earlier lines
       pub passed-behind : AllByRecursion (λ (p : Point). p.line < q.line) t.skips
-      passed-behind = let l = is.line in subst (λ (k : ℕ). AllByRecursion (λ (p : Point). p.line < k) t.skips) (sym l) (skips-earlier tab_in bytes_in (wide_of t sound) end_in (end-place-in t sound) is.first t.skips sound.placed.skips)
+      passed-behind = let l = is.line in subst (λ (k : ℕ). AllByRecursion (λ (p : Point). p.line < k) t.skips) (sym l) (skips-earlier (tab_within t) (bytes_within t) (wide_of t sound) (end_within t) (end-place-in t sound) is.first t.skips sound.placed.skips)
 
-      read-on : {after_previous : Point} {previous : Option ℕ} → IsReadTo tab_in bytes_in t.skips (text_within t) after_previous previous → IsReadTo tab_in bytes_in added text_added after_previous previous
+      read-on : {after_previous : Point} {previous : Option ℕ} → ReadWithin t after_previous previous → IsReadTo (tab_within t) (bytes_within t) added text_added after_previous previous
       read-on {after_previous} read =
-          let e = ap (seat_before text_added) (position-same read) ∙ before-passed (position_from tab_in bytes_in t.skips t.start after_previous) in
-          let outside = added-outside tab_in bytes_in (wide_of t sound) t.skips t.start end_in q sound.placed.skips (end-place-in t sound) passed-place
+          let e = ap (seat_before text_added) (position-same read) ∙ before-passed (position_within t after_previous) in
+          let outside = added-outside (tab_within t) (bytes_within t) (wide_of t sound) t.skips t.start (end_within t) q sound.placed.skips (end-place-in t sound) passed-place
           is.first is.line is.before is.other after_previous read.place read.upto read.outside in
-          assumption (upto-upto tab_in bytes_in after_previous end_in q read.upto passed-later, outside, read.back ∙ ap (end_or t.start) (sym e), read.previous_is ∙ ap byte_of (sym e))
+          assumption (upto-upto (tab_within t) (bytes_within t) after_previous (end_within t) q read.upto passed-later, outside, read.back ∙ ap (end_or t.start) (sym e), read.previous_is ∙ ap byte_of (sym e))
 
-      module _ (events : List Event) (stack : List Name) {after_previous : Point} {previous : Option ℕ} (read : IsReadTo tab_in bytes_in t.skips (text_within t) after_previous previous) where
+      module _ (events : List Event) (stack : List Name) {after_previous : Point} {previous : Option ℕ} (read : ReadWithin t after_previous previous) where
         abbrev MadeUpto : Point → Type 0
-        MadeUpto p = IsMade bytes_in events stack (shown bytes_in after_previous) (shown bytes_in p)
+        MadeUpto p = IsMade (bytes_within t) events stack (shown (bytes_within t) after_previous) (shown (bytes_within t) p)
 
         resumed-on : MadeUpto (resumed t.skips after_previous) → MadeUpto (resumed added after_previous)
-        resumed-on m = made-bound bytes_in events stack (shown bytes_in after_previous) (shown bytes_in (resumed t.skips after_previous)) m (shown bytes_in (resumed added after_previous))
-            (added-shown tab_in bytes_in (wide_of t sound) t.skips t.start end_in q sound.placed.skips (end-place-in t sound) passed-place is.first is.line is.before is.other
-            after_previous read.place read.upto) (shown-shown tab_in bytes_in (resumed added after_previous))
+        resumed-on m = made-bound (bytes_within t) events stack (shown (bytes_within t) after_previous) (shown (bytes_within t) (resumed t.skips after_previous)) m (shown (bytes_within t) (resumed added after_previous))
+            (added-shown (tab_within t) (bytes_within t) (wide_of t sound) t.skips t.start (end_within t) q sound.placed.skips (end-place-in t sound) passed-place is.first is.line is.before is.other
+            after_previous read.place read.upto) (shown-shown (tab_within t) (bytes_within t) (resumed added after_previous))
 
         standing-on : (w : Waits) → MadeUpto (standing t.skips after_previous w) → MadeUpto (standing added after_previous w)
         standing-on Nothing m = m
@@ -233,49 +221,49 @@ module _ {M R D : Type 0} {same : R → R → Bool} (t : Inside M R D) (sound : 
       module _ (list : List Point) (put : list ≡ added) where
         pub added-sound : IsSound same (record t { skips = list; end = (q.index, q.vs); ready = 0; moves = Other })
         added-sound =
-            let e = start-end tab_in (wide_of t sound) bytes_in q fits.0 in
+            let e = start-end (tab_within t) (wide_of t sound) (bytes_within t) q fits.0 in
             let size = ap length seats-same in
             let position = position-same sound.placed.read in
             record {
               placed = record {
                 tab = sound.placed.tab;
                 reads = sound.placed.reads;
-                end_at = rw e (point_at-point tab_in bytes_in (wide_of t sound) q fits.0);
+                end_at = rw e (point_at-point (tab_within t) (bytes_within t) (wide_of t sound) q fits.0);
                 text = rw (put, e) (subst (IsText (seen t).given) text-passed (text-more (seen t).given (text_within t) (passed q) sound.placed.text fits));
-                skips = rw (put, e) (added-skips tab_in bytes_in (wide_of t sound) t.skips t.start end_in q sound.placed.skips (end-place-in t sound) passed-place is.first is.line is.before is.other);
+                skips = rw (put, e) (added-skips (tab_within t) (bytes_within t) (wide_of t sound) t.skips t.start (end_within t) q sound.placed.skips (end-place-in t sound) passed-place is.first is.line is.before is.other);
                 read = rw (put, e) (read-on sound.placed.read);
                 waiting = rw (put, e) (waiting-on t.waits added text_added (λ w.
                     let more = next-more t sound sound.placed.read w.seat w.at w.before in
-                    let there : resumed added t.after_previous ≡ resumed t.skips t.after_previous = elim (added-resumed tab_in bytes_in (wide_of t sound) t.skips t.start end_in q
+                    let there : resumed added t.after_previous ≡ resumed t.skips t.after_previous = elim (added-resumed (tab_within t) (bytes_within t) (wide_of t sound) t.skips t.start (end_within t) q
                     sound.placed.skips (end-place-in t sound) passed-place is.first is.line is.before is.other t.after_previous sound.placed.read.place sound.placed.read.upto) [
                       | inl e ↦ e
-                      | inr e ↦ (let same = kept-same tab_in bytes_in t.skips t.start t.after_previous t.start end_in (same-self tab_in bytes_in t.start) e.0 in absurd (omega (arith, more, ap length same)))
+                      | inr e ↦ (let same = kept-same (tab_within t) (bytes_within t) t.skips t.start t.after_previous t.start (end_within t) (same-self (tab_within t) (bytes_within t) t.start) e.0 in absurd (omega (arith, more, ap length same)))
                     ] in
                     record {
                       seat = w.seat;
-                      at = subst (λ (p : Point). IsSeatAt tab_in bytes_in p w.seat) (sym there) w.at;
+                      at = subst (λ (p : Point). IsSeatWithin t p w.seat) (sym there) w.at;
                       before = still-before q passed-later w;
                       is = w.is;
                     }) (λ c all. omega (arith, all, size, position)) sound.placed.waiting);
                 ended = sound.placed.ended;
               };
               made = λ reads. rw put (standing-on t.events.items t.stack.items sound.placed.read t.waits (sound.made reads));
-              kept_choices = rw (put, e) (nested-map (Saves t) (IsProgress t.phase tab_in bytes_in added text_added t.events.items t.stack.items t.closed)
+              kept_choices = rw (put, e) (nested-map (Saves t) (IsProgress t.phase (tab_within t) (bytes_within t) added text_added t.events.items t.stack.items t.closed)
                   (length t.events.items) (length t.stack.items) (reverse t.kept_choices.items) (λ p a b h. record {
                     read = read-on h.read;
                     ended = h.ended;
                     made = λ reads. rw (position-same h.read, size) (reach-on (take p.events_len t.events.items) (take p.stack_len t.stack.items) h.read
-                        (can_feed (position_from tab_in bytes_in t.skips t.start p.after_previous) size_in t.closed) (h.made reads));
+                        (can_feed (position_within t p.after_previous) (size_within t) t.closed) (h.made reads));
                   }) sound.kept_choices);
               once = sound.once;
-              known = known-other list t.after_previous q.index t.bytes.now tab_in bytes_in sound.known.own_bytes 0 (ready-none list t.after_previous q.index) t.waits;
+              known = known-other list t.after_previous q.index t.bytes.now (tab_within t) (bytes_within t) sound.known.own_bytes 0 (ready-none list t.after_previous q.index) t.waits;
             }
 
         pub added-seen : seen (record t { skips = list; end = (q.index, q.vs) }) ≡ extended (seen t) (followed_by (seen t).given (seen t).text (passed q))
         added-seen =
-            let e = start-end tab_in (wide_of t sound) bytes_in q fits.0 in
-            let text : text_between tab_in bytes_in added t.start (end_point tab_in bytes_in (q.index, q.vs)) ≡ followed_by (seen t).given (text_within t) (passed q) = rw e (sym text-passed) in
-            let choices = same-choices (position_from tab_in bytes_in added t.start) (position_from tab_in bytes_in t.skips t.start) t.stack.items t.stack.items (Saves t)
+            let e = start-end (tab_within t) (wide_of t sound) (bytes_within t) q fits.0 in
+            let text : text_between (tab_within t) (bytes_within t) added t.start (end_point (tab_within t) (bytes_within t) (q.index, q.vs)) ≡ followed_by (seen t).given (text_within t) (passed q) = rw e (sym text-passed) in
+            let choices = same-choices (position_from (tab_within t) (bytes_within t) added t.start) (position_within t) t.stack.items t.stack.items (Saves t)
             (length t.events.items) (length t.stack.items) (reverse t.kept_choices.items) (λ p le saved. rw (position-same saved.read) refl) sound.kept_choices in
             rw (put, text, position-same sound.placed.read, choices) refl
 
@@ -309,15 +297,15 @@ module _ {M R D : Type 0} {same : R → R → Bool} (t : Inside M R D) (sound : 
   events-unlinked : map unlinked events ≡ map unlinked t.events.items
   events-unlinked = ap (map unlinked) is ∙ linked-unlinked previous next t.events.items
 
-  pub linked-made : t.phase ≡ Reading → IsMade t.parse_state.now.bytes.now events t.stack.items (shown t.parse_state.now.bytes.now t.after_previous) (shown t.parse_state.now.bytes.now (standing t.skips t.after_previous t.waits))
-  linked-made reads = made-linked t.events.items events (sym events-unlinked) t.parse_state.now.bytes.now t.stack.items (shown t.parse_state.now.bytes.now t.after_previous)
-      (shown t.parse_state.now.bytes.now (standing t.skips t.after_previous t.waits)) (sound.made reads)
+  pub linked-made : t.phase ≡ Reading → IsMade (bytes_within t) events t.stack.items (shown (bytes_within t) t.after_previous) (shown (bytes_within t) (standing t.skips t.after_previous t.waits))
+  linked-made reads = made-linked t.events.items events (sym events-unlinked) (bytes_within t) t.stack.items (shown (bytes_within t) t.after_previous)
+      (shown (bytes_within t) (standing t.skips t.after_previous t.waits)) (sound.made reads)
 
-  pub linked-kept_choices : AreNested (IsProgress t.phase (tab_of t.parse_state.now) t.parse_state.now.bytes.now t.skips (text_within t) events t.stack.items t.closed) (length events) (length t.stack.items) (reverse t.kept_choices.items)
+  pub linked-kept_choices : AreNested (IsProgress t.phase (tab_within t) (bytes_within t) t.skips (text_within t) events t.stack.items t.closed) (length events) (length t.stack.items) (reverse t.kept_choices.items)
   linked-kept_choices =
-      let bytes = t.parse_state.now.bytes.now in
+      let bytes = bytes_within t in
       let same_length = sym (length-map events unlinked) ∙ ap length events-unlinked ∙ length-map t.events.items unlinked in
-      rw same_length (nested-map (Saves t) (IsProgress t.phase (tab_of t.parse_state.now) bytes t.skips (text_within t) events t.stack.items t.closed)
+      rw same_length (nested-map (Saves t) (IsProgress t.phase (tab_within t) bytes t.skips (text_within t) events t.stack.items t.closed)
       (length t.events.items) (length t.stack.items) (reverse t.kept_choices.items) (λ p a b h. record {
         read = h.read;
         ended = h.ended;

@@ -1,7 +1,7 @@
 -- A choice begins.
-use Rattle.markdown_tokenizer.proofs.Prelude.{◌≡◌, ℕ, List, [], ◌∷◌, ◌++◌, Bool, true, false, cond, Option, Some, None, length, refl, ap, arith, map, reverse, reverse-append, take-length, lt-ltb, AttemptKind, GoesOn, KeptChoice, Progress, Inside, Choice, Point, shown, Waits, Nothing, Byte, End, IsMade, tab_of, seen, text_within, state_of, choice_at, choice_of, position_from, standing, reach, can_feed, IsWhatWaits, AreNested, IsSound}
+use Rattle.markdown_tokenizer.proofs.Prelude.{◌≡◌, List, [], ◌∷◌, ◌++◌, Bool, true, false, cond, Option, Some, None, length, refl, ap, arith, map, reverse, reverse-append, take-length, lt-ltb, AttemptKind, GoesOn, KeptChoice, Progress, Inside, Choice, Point, shown, Waits, Nothing, Byte, End, IsMade, seen, text_within, state_of, choice_at, choice_of, standing, reach, can_feed, AreNested, IsSound}
 use Rattle.std.proofs.lemmas.Bool.{or_left, or_right}
-use Rattle.markdown_tokenizer.proofs.Inside.Fields.{Saves, next-more, made-more}
+use Rattle.markdown_tokenizer.proofs.Inside.Fields.{Saves, next-more, made-more, bytes_within, position_within, WaitsWithin}
 
 -- how far a tokenizer has read
 abbrev pub progress_of : {M R D : Type 0} → Inside M R D → Progress
@@ -11,23 +11,17 @@ abbrev pub saved_if : {M R D : Type 0} → Bool → Inside M R D → Option Prog
 saved_if saves t = cond saves (Some (progress_of t)) None
 
 module _ {M R D : Type 0} {same : R → R → Bool} (t : Inside M R D) (sound : IsSound same t) where
-  abbrev bytes_in : List ℕ
-  bytes_in = t.parse_state.now.bytes.now
-
-  abbrev tab_in : ℕ
-  tab_in = tab_of t.parse_state.now
-
   abbrev MadeUpto : Point → Type 0
-  MadeUpto p = IsMade bytes_in t.events.items t.stack.items (shown bytes_in t.after_previous) (shown bytes_in p)
+  MadeUpto p = IsMade (bytes_within t) t.events.items t.stack.items (shown (bytes_within t) t.after_previous) (shown (bytes_within t) p)
 
   abbrev can_feed_in : Bool
-  can_feed_in = can_feed (position_from tab_in bytes_in t.skips t.start t.after_previous) (length (text_within t).seats) t.closed
+  can_feed_in = can_feed (position_within t t.after_previous) (length (text_within t).seats) t.closed
 
   reach-by : (a : Bool) → (a ≡ true → can_feed_in ≡ true) → MadeUpto (reach t.skips t.after_previous a) → MadeUpto (reach t.skips t.after_previous can_feed_in)
   reach-by a f m = made-more t sound sound.placed.read t.events.items t.stack.items a can_feed_in f m
 
   -- if something waits, more can be fed
-  waits-more : (w : Waits) → IsWhatWaits tab_in bytes_in t.skips (text_within t) t.after_previous t.byte t.closed w → MadeUpto (standing t.skips t.after_previous w) → MadeUpto (reach t.skips t.after_previous can_feed_in)
+  waits-more : (w : Waits) → WaitsWithin t w → MadeUpto (standing t.skips t.after_previous w) → MadeUpto (reach t.skips t.after_previous can_feed_in)
   waits-more Nothing h m = reach-by false (λ e. absurd (cc)) m
   waits-more Byte h m = reach-by true (λ e. or_left _ t.closed (lt-ltb _ _ (next-more t sound sound.placed.read h.seat h.at h.before))) m
   waits-more End h m = reach-by true (λ e. or_right _ t.closed h.closed_too) m
@@ -44,7 +38,7 @@ module _ {M R D : Type 0} {same : R → R → Bool} (t : Inside M R D) (sound : 
           | false ↦ (tt, sound.kept_choices)
         ])
 
-    pub chosen-choices : map (choice_of (position_from tab_in bytes_in t.skips t.start) t.stack.items) (reverse kept_choices) ≡ choice_at kind (state_of ok) (state_of nok) saves (seen t).configuration ∷ (seen t).choices
+    pub chosen-choices : map (choice_of (position_within t) t.stack.items) (reverse kept_choices) ≡ choice_at kind (state_of ok) (state_of nok) saves (seen t).configuration ∷ (seen t).choices
     chosen-choices = rw (put, reverse-append) (ap (λ (c : Choice). c ∷ (seen t).choices) (elim saves as (λ (b : Bool).
-        choice_of (position_from tab_in bytes_in t.skips t.start) t.stack.items (record { kind = kind; ok = ok; nok = nok; saved = saved_if b t })
+        choice_of (position_within t) t.stack.items (record { kind = kind; ok = ok; nok = nok; saved = saved_if b t })
         ≡ choice_at kind (state_of ok) (state_of nok) b (seen t).configuration) [ true ↦ rw (take-length t.stack.items) refl | false ↦ refl ]))

@@ -1,5 +1,5 @@
 -- What the steps of the code do to the fields of a tokenizer, and what that means.
-use Rattle.markdown_tokenizer.proofs.Prelude.{AllByRecursion, ◌≡◌, ℕ, suc, ◌≤◌, ◌<◌, List, [], ◌∷◌, ◌++◌, Bool, true, false, Option, Some, None, length, refl, sym, ap, ◌∙◌, subst, arith, add-one, take, length-append, slice_get, reverse, filter, slice_get_within, false_from_ne_true, filter-append, Event, Point, Seat, virtual, shown, stands_before, is_upto, denotes_same, IsPointOf, Waits, Nothing, Byte, End, Inside, Text, in_range, is_kept, resumed, IsMade, tab_of, text_within, end_point, seats_between, position_from, reach, can_feed, IsReadTo, IsWhatWaits, IsProgress, AreNested, IsSound, KeptChoice, Progress, IsPlace, IsSeatAt, rest_at, Given, IsPlaced, Phase, Reading}
+use Rattle.markdown_tokenizer.proofs.Prelude.{AllByRecursion, ◌≡◌, ℕ, suc, ◌≤◌, ◌<◌, List, [], ◌∷◌, ◌++◌, Bool, true, false, Option, Some, None, length, refl, sym, ap, ◌∙◌, subst, arith, add-one, take, length-append, slice_get, reverse, filter, slice_get_within, false_from_ne_true, filter-append, Event, Point, Seat, virtual, shown, stands_before, is_upto, denotes_same, IsPointOf, Waits, Nothing, Byte, End, Inside, Text, in_range, is_kept, resumed, IsMade, tab_of, text_within, end_point, seats_between, position_from, reach, can_feed, IsReadTo, ByteWaits, IsWhatWaits, IsProgress, AreNested, IsSound, KeptChoice, Progress, IsPlace, IsSeatAt, rest_at, Given, IsPlaced, Phase, Reading}
 use Rattle.std.proofs.lemmas.Bool.{or_right}
 use Rattle.markdown_base.specs.declared.event.Name.{Name}
 use Rattle.markdown_tokenizer.proofs.Positions.Seats.{rest-later}
@@ -63,102 +63,124 @@ pub nested-map : (P Q : Progress → Type 0) (events stack : ℕ) (kept_choices 
     → AreNested P events stack kept_choices → AreNested Q events stack kept_choices
 nested-map P Q events stack kept_choices f h = nested-as P Q events stack events stack kept_choices (λ p a b k. (a, b, f p a b k)) h
 
+-- the document of a tokenizer's text: its bytes, its tab size, and where the text ends
+module _ {M R D : Type 0} (t : Inside M R D) where
+  abbrev pub bytes_within : List ℕ
+  bytes_within = t.parse_state.now.bytes.now
+
+  abbrev pub tab_within : ℕ
+  tab_within = tab_of t.parse_state.now
+
+  abbrev pub end_within : Point
+  end_within = end_point tab_within bytes_within t.end
+
+  -- the bytes that a place has behind it in the text, and how many they are in all of it
+  abbrev pub position_within : Point → ℕ
+  position_within = position_from tab_within bytes_within t.skips t.start
+
+  abbrev pub size_within : ℕ
+  size_within = length (text_within t).seats
+
+  -- in the text: what was read up to a place, what waits, a byte that waits, and the byte at a place
+  abbrev pub ReadWithin : Point → Option ℕ → Type 0
+  ReadWithin = IsReadTo tab_within bytes_within t.skips (text_within t)
+
+  abbrev pub WaitsWithin : Waits → Type 0
+  WaitsWithin = IsWhatWaits tab_within bytes_within t.skips (text_within t) t.after_previous t.byte t.closed
+
+  abbrev pub ByteWithin : Type 0
+  ByteWithin = ByteWaits tab_within bytes_within t.skips t.after_previous end_within t.byte
+
+  abbrev pub IsSeatWithin : Point → Seat → Type 0
+  IsSeatWithin = IsSeatAt tab_within bytes_within
+
 -- what a choice of a tokenizer saved
 abbrev pub Saves : {M R D : Type 0} → Inside M R D → Progress → Type 0
-Saves t = IsProgress t.phase (tab_of t.parse_state.now) t.parse_state.now.bytes.now t.skips (text_within t) t.events.items t.stack.items t.closed
+Saves t = IsProgress t.phase (tab_within t) (bytes_within t) t.skips (text_within t) t.events.items t.stack.items t.closed
 
 module _ {M R D : Type 0} {same : R → R → Bool} (t : Inside M R D) (sound : IsSound same t) where
-  abbrev bytes_in : List ℕ
-  bytes_in = t.parse_state.now.bytes.now
-
-  abbrev tab_in : ℕ
-  tab_in = tab_of t.parse_state.now
-
-  abbrev end_in : Point
-  end_in = end_point tab_in bytes_in t.end
-
   -- a text was read up to a place
-  module _ {after_previous : Point} {previous : Option ℕ} (read : IsReadTo tab_in bytes_in t.skips (text_within t) after_previous previous) where
+  module _ {after_previous : Point} {previous : Option ℕ} (read : ReadWithin t after_previous previous) where
     abbrev here : Point
     here = resumed t.skips after_previous
 
     -- the place from which the next byte is looked for
-    pub looks : IsResumed tab_in bytes_in t.skips t.start end_in after_previous here
-    looks = resumed-at tab_in bytes_in (wide_of t sound) t.skips t.start end_in after_previous sound.placed.skips read.place read.from read.upto read.outside
+    pub looks : IsResumed (tab_within t) (bytes_within t) t.skips t.start (end_within t) after_previous here
+    looks = resumed-at (tab_within t) (bytes_within t) (wide_of t sound) t.skips t.start (end_within t) after_previous sound.placed.skips read.place read.from read.upto read.outside
 
     -- no more was read than the text
-    pub within : position_from tab_in bytes_in t.skips t.start after_previous ≤ length (seats_between tab_in bytes_in t.skips t.start end_in)
+    pub within : position_within t after_previous ≤ size_within t
     within =
-        let splits = kept-splits tab_in bytes_in t.skips t.start after_previous end_in read.place read.from read.upto in
-        omega (arith, ap length splits, length-append (seats_between tab_in bytes_in t.skips t.start after_previous) (filter (is_kept t.skips) (left_of tab_in bytes_in after_previous end_in)))
+        let splits = kept-splits (tab_within t) (bytes_within t) t.skips t.start after_previous (end_within t) read.place read.from read.upto in
+        omega (arith, ap length splits, length-append (seats_between (tab_within t) (bytes_within t) t.skips t.start after_previous) (filter (is_kept t.skips) (left_of (tab_within t) (bytes_within t) after_previous (end_within t))))
 
-    pub here-all : is_upto tab_in bytes_in end_in here ≡ true → length (seats_between tab_in bytes_in t.skips t.start end_in) ≤ position_from tab_in bytes_in t.skips t.start after_previous
+    pub here-all : is_upto (tab_within t) (bytes_within t) (end_within t) here ≡ true → size_within t ≤ position_within t after_previous
     here-all e =
-        let same = kept-same tab_in bytes_in t.skips t.start end_in t.start here (same-self tab_in bytes_in t.start) (upto-same tab_in bytes_in end_in here e looks.upto) in
+        let same = kept-same (tab_within t) (bytes_within t) t.skips t.start (end_within t) t.start here (same-self (tab_within t) (bytes_within t) t.start) (upto-same (tab_within t) (bytes_within t) (end_within t) here e looks.upto) in
         omega (arith, ap length same, ap length looks.same)
 
-    module _ (seat : Seat) (n : IsSeatAt tab_in bytes_in here seat) where
+    module _ (seat : Seat) (n : IsSeatWithin t here seat) where
       -- the next byte of the text is the next byte of the document, if that is in the text
-      pub next-seat : stands_before seat.point end_in ≡ true → slice_get (seats_between tab_in bytes_in t.skips t.start end_in) (position_from tab_in bytes_in t.skips t.start after_previous) ≡ Some seat
+      pub next-seat : stands_before seat.point (end_within t) ≡ true → slice_get (text_within t).seats (position_within t after_previous) ≡ Some seat
       next-seat lt =
-          let read_here = seats_between tab_in bytes_in t.skips t.start here in
-          let f = λ (s : Seat). stands_before s.point end_in in
+          let read_here = seats_between (tab_within t) (bytes_within t) t.skips t.start here in
+          let f = λ (s : Seat). stands_before s.point (end_within t) in
           let rest = filter (is_kept t.skips) (filter f n.after) in
           let left_is = ap (filter (is_kept t.skips)) (ap (filter f) n.is ∙ first-kept f seat n.after lt) ∙ first-kept (is_kept t.skips) seat (filter f n.after) (looks.fresh seat n) in
-          let splits = kept-splits tab_in bytes_in t.skips t.start here end_in looks.place looks.from looks.upto ∙ ap (λ (xs : List Seat). read_here ++ xs) left_is in
-          ap (λ (xs : List Seat). slice_get xs (position_from tab_in bytes_in t.skips t.start after_previous)) splits ∙ ap (λ (k : ℕ). slice_get (read_here ++ seat ∷ rest) k) (sym (ap length looks.same)) ∙ get-after read_here (seat ∷ rest)
+          let splits = kept-splits (tab_within t) (bytes_within t) t.skips t.start here (end_within t) looks.place looks.from looks.upto ∙ ap (λ (xs : List Seat). read_here ++ xs) left_is in
+          ap (λ (xs : List Seat). slice_get xs (position_within t after_previous)) splits ∙ ap (λ (k : ℕ). slice_get (read_here ++ seat ∷ rest) k) (sym (ap length looks.same)) ∙ get-after read_here (seat ∷ rest)
 
-      pub next-more : stands_before seat.point end_in ≡ true → position_from tab_in bytes_in t.skips t.start after_previous < length (seats_between tab_in bytes_in t.skips t.start end_in)
+      pub next-more : stands_before seat.point (end_within t) ≡ true → position_within t after_previous < size_within t
       next-more lt = slice_get_within _ _ _ (next-seat lt)
 
       -- else all was read
-      pub next-past : stands_before seat.point end_in ≡ false → length (seats_between tab_in bytes_in t.skips t.start end_in) ≤ position_from tab_in bytes_in t.skips t.start after_previous
-      next-past lt = here-all (end-upto tab_in bytes_in here seat looks.place n end_in lt)
+      pub next-past : stands_before seat.point (end_within t) ≡ false → size_within t ≤ position_within t after_previous
+      next-past lt = here-all (end-upto (tab_within t) (bytes_within t) here seat looks.place n (end_within t) lt)
 
       -- one more is read once it is consumed
-      pub next-number : position_from tab_in bytes_in t.skips t.start seat.end ≡ suc (position_from tab_in bytes_in t.skips t.start after_previous)
+      pub next-number : position_within t seat.end ≡ suc (position_within t after_previous)
       next-number =
-          let read_here = seats_between tab_in bytes_in t.skips t.start here in
-          let only = ap (filter (is_kept t.skips)) (next-only tab_in bytes_in here seat looks.place n (wide_of t sound)) ∙ first-kept (is_kept t.skips) seat [] (looks.fresh seat n) in
-          let splits = kept-splits tab_in bytes_in t.skips t.start here seat.end looks.place looks.from (upto-after tab_in bytes_in here seat looks.place n (wide_of t sound)) ∙ ap (λ (xs : List Seat). read_here ++ xs) only in
+          let read_here = seats_between (tab_within t) (bytes_within t) t.skips t.start here in
+          let only = ap (filter (is_kept t.skips)) (next-only (tab_within t) (bytes_within t) here seat looks.place n (wide_of t sound)) ∙ first-kept (is_kept t.skips) seat [] (looks.fresh seat n) in
+          let splits = kept-splits (tab_within t) (bytes_within t) t.skips t.start here seat.end looks.place looks.from (upto-after (tab_within t) (bytes_within t) here seat looks.place n (wide_of t sound)) ∙ ap (λ (xs : List Seat). read_here ++ xs) only in
           ap length splits ∙ length-append read_here (seat ∷ []) ∙ add-one (length read_here) ∙ ap (λ (xs : List Seat). suc (length xs)) looks.same
 
       -- once the next byte is consumed, the text was read up to its end
-      pub read-next : stands_before seat.point end_in ≡ true → IsReadTo tab_in bytes_in t.skips (text_within t) seat.end (Some seat.byte)
+      pub read-next : stands_before seat.point (end_within t) ≡ true → ReadWithin t seat.end (Some seat.byte)
       read-next lt = record {
-        place = end-seat-place tab_in bytes_in (wide_of t sound) here seat looks.place n;
-        from = upto-upto tab_in bytes_in t.start here seat.end looks.from (upto-after tab_in bytes_in here seat looks.place n (wide_of t sound));
-        upto = after-upto tab_in bytes_in here seat looks.place n (wide_of t sound) end_in looks.upto lt;
-        outside = consumed-outside tab_in bytes_in (wide_of t sound) here seat t.skips looks.place n (looks.fresh seat n);
+        place = end-seat-place (tab_within t) (bytes_within t) (wide_of t sound) here seat looks.place n;
+        from = upto-upto (tab_within t) (bytes_within t) t.start here seat.end looks.from (upto-after (tab_within t) (bytes_within t) here seat looks.place n (wide_of t sound));
+        upto = after-upto (tab_within t) (bytes_within t) here seat looks.place n (wide_of t sound) (end_within t) looks.upto lt;
+        outside = consumed-outside (tab_within t) (bytes_within t) (wide_of t sound) here seat t.skips looks.place n (looks.fresh seat n);
         back = rw (next-number, next-seat lt) refl;
         previous_is = rw (next-number, next-seat lt) refl;
       }
 
     -- at the document's end all was read
-    pub next-none-left : rest_at tab_in bytes_in here ≡ [] → length (seats_between tab_in bytes_in t.skips t.start end_in) ≤ position_from tab_in bytes_in t.skips t.start after_previous
-    next-none-left e = here-all (rest-none tab_in bytes_in here end_in looks.place e)
+    pub next-none-left : rest_at (tab_within t) (bytes_within t) here ≡ [] → size_within t ≤ position_within t after_previous
+    next-none-left e = here-all (rest-none (tab_within t) (bytes_within t) here (end_within t) looks.place e)
 
-    module _ (all : length (seats_between tab_in bytes_in t.skips t.start end_in) ≤ position_from tab_in bytes_in t.skips t.start after_previous) where
+    module _ (all : size_within t ≤ position_within t after_previous) where
       -- if all was read, the place of an enter is the end
-      ends-here : (rest : List Seat) → rest_at tab_in bytes_in here ≡ rest → is_upto tab_in bytes_in end_in here ≡ true
-      ends-here [] e = rest-none tab_in bytes_in here end_in looks.place e
+      ends-here : (rest : List Seat) → rest_at (tab_within t) (bytes_within t) here ≡ rest → is_upto (tab_within t) (bytes_within t) (end_within t) here ≡ true
+      ends-here [] e = rest-none (tab_within t) (bytes_within t) here (end_within t) looks.place e
       ends-here (seat ∷ after) e =
-          let begins = seat-begins tab_in bytes_in (wide_of t sound) looks.place.before seat after (looks.place.splits ∙ ap (λ (xs : List Seat). looks.place.before ++ xs) e) in
-          let later = subst (AllByRecursion (λ s. stands_before s.point here ≡ false)) e (rest-later tab_in bytes_in here) in
-          let n : IsSeatAt tab_in bytes_in here seat = record { after = after; is = e; same = begins.at_seat ∙ sym e; later = later.0; inside = begins.inside } in
-          end-upto tab_in bytes_in here seat looks.place n end_in (false_from_ne_true _ (λ lt. let more = next-more seat n lt in omega arith))
+          let begins = seat-begins (tab_within t) (bytes_within t) (wide_of t sound) looks.place.before seat after (looks.place.splits ∙ ap (λ (xs : List Seat). looks.place.before ++ xs) e) in
+          let later = subst (AllByRecursion (λ s. stands_before s.point here ≡ false)) e (rest-later (tab_within t) (bytes_within t) here) in
+          let n : IsSeatWithin t here seat = record { after = after; is = e; same = begins.at_seat ∙ sym e; later = later.0; inside = begins.inside } in
+          end-upto (tab_within t) (bytes_within t) here seat looks.place n (end_within t) (false_from_ne_true _ (λ lt. let more = next-more seat n lt in omega arith))
 
-      pub end-shown : IsPlace tab_in bytes_in end_in → shown bytes_in end_in ≡ shown bytes_in here
-      end-shown place = same-shown tab_in bytes_in end_in here place looks.place (upto-same tab_in bytes_in end_in here (ends-here (rest_at tab_in bytes_in here) refl) looks.upto)
+      pub end-shown : IsPlace (tab_within t) (bytes_within t) (end_within t) → shown (bytes_within t) (end_within t) ≡ shown (bytes_within t) here
+      end-shown place = same-shown (tab_within t) (bytes_within t) (end_within t) here place looks.place (upto-same (tab_within t) (bytes_within t) (end_within t) here (ends-here (rest_at (tab_within t) (bytes_within t) here) refl) looks.upto)
 
     module _ (events : List Event) (stack : List Name) where
       abbrev MadeUpto : Point → Type 0
-      MadeUpto p = IsMade bytes_in events stack (shown bytes_in after_previous) (shown bytes_in p)
+      MadeUpto p = IsMade (bytes_within t) events stack (shown (bytes_within t) after_previous) (shown (bytes_within t) p)
 
       -- an enter may be after a gap
       pub made-later : MadeUpto after_previous → MadeUpto (resumed t.skips after_previous)
-      made-later m = made-bound bytes_in events stack (shown bytes_in after_previous) (shown bytes_in after_previous) m (shown bytes_in (resumed t.skips after_previous))
-          looks.shown_later (shown-shown tab_in bytes_in (resumed t.skips after_previous))
+      made-later m = made-bound (bytes_within t) events stack (shown (bytes_within t) after_previous) (shown (bytes_within t) after_previous) m (shown (bytes_within t) (resumed t.skips after_previous))
+          looks.shown_later (shown-shown (tab_within t) (bytes_within t) (resumed t.skips after_previous))
 
       -- if more can be fed, an enter may have a later place
       pub made-more : (a b : Bool) → (a ≡ true → b ≡ true) → MadeUpto (reach t.skips after_previous a) → MadeUpto (reach t.skips after_previous b)
@@ -170,12 +192,12 @@ module _ {M R D : Type 0} {same : R → R → Bool} (t : Inside M R D) (sound : 
   pub closed-sound : IsSound same (record t { closed = true })
   closed-sound = record {
     placed = placed-there sound.placed sound.placed.read
-        (elim t.waits as (λ (w : Waits). IsWhatWaits tab_in bytes_in t.skips (text_within t) t.after_previous t.byte t.closed w → IsWhatWaits tab_in bytes_in t.skips (text_within t) t.after_previous t.byte true w)
+        (elim t.waits as (λ (w : Waits). WaitsWithin t w → IsWhatWaits (tab_within t) (bytes_within t) t.skips (text_within t) t.after_previous t.byte true w)
         [ Nothing ↦ λ h. h | Byte ↦ λ h. h | End ↦ λ h. record { closed_too = refl; all = h.all } ] sound.placed.waiting) (λ _. refl) (λ e. absurd (let f : true ≡ false = e in cc));
     made = sound.made;
-    kept_choices = nested-map (Saves t) (IsProgress t.phase tab_in bytes_in t.skips (text_within t) t.events.items t.stack.items true)
+    kept_choices = nested-map (Saves t) (IsProgress t.phase (tab_within t) (bytes_within t) t.skips (text_within t) t.events.items t.stack.items true)
         (length t.events.items) (length t.stack.items) (reverse t.kept_choices.items) (λ p a b h.
-        let position = position_from tab_in bytes_in t.skips t.start p.after_previous in
+        let position = position_within t p.after_previous in
         record {
           read = h.read;
           ended = λ _. refl;

@@ -1,12 +1,12 @@
 -- Choices end, and what they go on with is fed: what that does to the fields of a tokenizer, and what it means.
-use Rattle.markdown_tokenizer.proofs.Prelude.{eqb-true, ◌≡◌, ◌==◌, ℕ, ◌≤◌, ◌<◌, List, [], ◌∷◌, ◌++◌, Bool, true, false, Option, Some, None, length, refl, sym, ap, ◌∙◌, subst, arith, take, length-take, ◌⊎◌, inl, inr, map, reverse, IfSome, IsSome, unwrap_or, Result, Vec, take-take, take-length, length-map, length_push, lt-ltb, le-ltb, Event, Kind, Enter, Exit, Point, State, Next, Ok, Nok, open_events, shown, stands-self, AttemptKind, Attempt, Check, GoesOn, KeptChoice, Other, Progress, Waits, Nothing, Byte, End, Reading, Inside, Configuration, Choice, Saved, Step, Local, TokenizerValue, unfed, restored, settled_at, settled_all, settled_to, answer_of, answer_in, EndsClosed, TakesUp, continuation_of, saved_for, ended_by, Unwinding, unwinding, unwound, resumed, IsReadyAt, IsMade, last_kind, IsNextByte, tab_of, seen, text_within, state_of, choice_of, saved_of, position_from, standing, reach, can_feed, IsWhatWaits, AreNested, events_of, stack_of, IsSound}
+use Rattle.markdown_tokenizer.proofs.Prelude.{eqb-true, ◌≡◌, ◌==◌, ℕ, ◌≤◌, ◌<◌, List, [], ◌∷◌, ◌++◌, Bool, true, false, Option, Some, None, length, refl, sym, ap, ◌∙◌, subst, arith, take, length-take, ◌⊎◌, inl, inr, map, reverse, IfSome, IsSome, unwrap_or, Result, Vec, take-take, take-length, length-map, length_push, lt-ltb, le-ltb, Event, Kind, Enter, Exit, Point, State, Next, Ok, Nok, open_events, shown, stands-self, AttemptKind, Attempt, Check, GoesOn, KeptChoice, Other, Progress, Waits, Nothing, Byte, End, Reading, Inside, Configuration, Choice, Saved, Step, Local, TokenizerValue, unfed, restored, settled_at, settled_all, settled_to, answer_of, answer_in, EndsClosed, TakesUp, continuation_of, saved_for, ended_by, Unwinding, unwinding, unwound, resumed, IsReadyAt, IsMade, last_kind, IsNextByte, seen, text_within, state_of, choice_of, saved_of, standing, reach, can_feed, IsWhatWaits, AreNested, events_of, stack_of, IsSound}
 use Rattle.std.proofs.lemmas.Bool.{or_from, or_left, or_right}
 use Rattle.std.proofs.lemmas.List.{length-reverse}
 use Rattle.std.specs.declared.result.Result.TheVariants as result
 use Rattle.markdown_base.specs.declared.event.Name.{Name}
 use Rattle.markdown_base.specs.declared.state.Name.{Name as StateName}
 use Rattle.markdown_tokenizer.specs.declared.waiting.GoesOn.TheVariants as continuation
-use Rattle.markdown_tokenizer.proofs.Inside.Fields.{Saves, wide_of, placed-there, looks, next-more, next-past, next-none-left, nested-as}
+use Rattle.markdown_tokenizer.proofs.Inside.Fields.{Saves, wide_of, placed-there, looks, next-more, next-past, next-none-left, nested-as, bytes_within, tab_within, position_within, size_within}
 use Rattle.markdown_tokenizer.proofs.Inside.Steps.{before-end}
 use Rattle.markdown_tokenizer.proofs.Inside.Spans.{same-front, same-choices}
 use Rattle.markdown_tokenizer.proofs.Inside.Known.{known-other}
@@ -140,64 +140,52 @@ unwound-by t ok kept_choices goal from events stack ready events_len stack_len c
 -- a tokenizer whose choices end
 module _ {M R D : Type 0} {same : R → R → Bool} (t : Inside M R D) (sound : IsSound same t) {ok : Bool} {kept_choices : Vec KeptChoice} {goal : GoesOn} {from : Progress} {events : Vec Event} {stack : Vec Name} {ready : ℕ}
     (h : IsUnwound t ok kept_choices goal from events stack ready) where
-  abbrev bytes_in : List ℕ
-  bytes_in = t.parse_state.now.bytes.now
-
-  abbrev tab_in : ℕ
-  tab_in = tab_of t.parse_state.now
-
-  abbrev position_in : Point → ℕ
-  position_in = position_from tab_in bytes_in t.skips t.start
-
   abbrev position_there : ℕ
-  position_there = position_in from.after_previous
-
-  abbrev size_in : ℕ
-  size_in = length (text_within t).seats
+  position_there = position_within t from.after_previous
 
   goes-from : GoesFrom (Saves t) (progress_of t) (reverse kept_choices.items) from
   goes-from = subst (λ (u : Unwinding). GoesFrom (Saves t) (progress_of t) u.kept_choices u.from) (sym h.ends) (from-all (Saves t) (reverse t.kept_choices.items) (ended_by ok) (progress_of t) (saves-here t sound) sound.kept_choices)
 
   abbrev step_there : Step R D
-  step_there = step_of position_in t.events.items t.stack.items (seen t).configuration.local (unwinding (reverse kept_choices.items) goal from)
+  step_there = step_of (position_within t) t.events.items t.stack.items (seen t).configuration.local (unwinding (reverse kept_choices.items) goal from)
 
   -- what the definition comes to
   settled-is : settled_all (seen t).configuration (seen t).choices (answer_of ok) ≡ step_there
   settled-is =
       let local = (seen t).configuration.local in
-      let here : unfed (seen t).configuration ≡ at_from position_in t.events.items t.stack.items local (progress_of t) = rw (take-length t.events.items, take-length t.stack.items) refl in
+      let here : unfed (seen t).configuration ≡ at_from (position_within t) t.events.items t.stack.items local (progress_of t) = rw (take-length t.events.items, take-length t.stack.items) refl in
       let ended : answer_of ok ≡ state_of (ended_by ok) = elim ok as (λ (b : Bool). answer_of b ≡ state_of (ended_by b)) [ true ↦ refl | false ↦ refl ] in
       some-unfed (seen t).choices ok (seen t).configuration
-      (λ e. omega (arith, h.some, ap length e, length-map (reverse t.kept_choices.items) (choice_of position_in t.stack.items), length-reverse t.kept_choices.items))
+      (λ e. omega (arith, h.some, ap length e, length-map (reverse t.kept_choices.items) (choice_of (position_within t) t.stack.items), length-reverse t.kept_choices.items))
       ∙ ap (λ (k : Configuration R D). settled_all k (seen t).choices (answer_of ok)) here
-      ∙ ap (settled_all (at_from position_in t.events.items t.stack.items local (progress_of t)) (seen t).choices) ended
-      ∙ settled-unwound position_in t.events.items t.stack.items local (Saves t) (reverse t.kept_choices.items) (ended_by ok) (progress_of t) (saves-here t sound) sound.kept_choices
-      ∙ ap (step_of position_in t.events.items t.stack.items local) (sym h.ends)
+      ∙ ap (settled_all (at_from (position_within t) t.events.items t.stack.items local (progress_of t)) (seen t).choices) ended
+      ∙ settled-unwound (position_within t) t.events.items t.stack.items local (Saves t) (reverse t.kept_choices.items) (ended_by ok) (progress_of t) (saves-here t sound) sound.kept_choices
+      ∙ ap (step_of (position_within t) t.events.items t.stack.items local) (sym h.ends)
 
   front-stack : (n : ℕ) → n ≤ from.stack_len → take n stack.items ≡ take n t.stack.items
   front-stack n le = rw h.top (take-take n from.stack_len t.stack.items le)
 
   abbrev MadeUpto : Point → Type 0
-  MadeUpto p = t.phase ≡ Reading → IsMade bytes_in events.items stack.items (shown bytes_in from.after_previous) (shown bytes_in p)
+  MadeUpto p = t.phase ≡ Reading → IsMade (bytes_within t) events.items stack.items (shown (bytes_within t) from.after_previous) (shown (bytes_within t) p)
 
-  reach-is : (b : Bool) → can_feed position_there size_in t.closed ≡ b → MadeUpto (reach t.skips from.after_previous b)
+  reach-is : (b : Bool) → can_feed position_there (size_within t) t.closed ≡ b → MadeUpto (reach t.skips from.after_previous b)
   reach-is b e = let cut = h.cut in let top = h.top in subst (λ (c : Bool). MadeUpto (reach t.skips from.after_previous c)) e (rw (cut, top) goes-from.0.made)
 
   abbrev NextThere : Option ℕ → Type 0
-  NextThere o = IsNextByte tab_in bytes_in (resumed t.skips from.after_previous) t.end o
+  NextThere o = IsNextByte (tab_within t) (bytes_within t) (resumed t.skips from.after_previous) t.end o
 
   -- where the code looks for the next byte
-  pub next-there : (slice : List Point) (place : Point) (o : Option ℕ) → slice ≡ t.skips → place ≡ resumed slice from.after_previous → ((tab : ℕ) → 0 < tab → IsNextByte tab bytes_in place t.end o) → NextThere o
-  next-there slice place o e f next = subst (λ (p : Point). IsNextByte tab_in bytes_in p t.end o) (f ∙ ap (λ (xs : List Point). resumed xs from.after_previous) e) (next tab_in (wide_of t sound))
+  pub next-there : (slice : List Point) (place : Point) (o : Option ℕ) → slice ≡ t.skips → place ≡ resumed slice from.after_previous → ((tab : ℕ) → 0 < tab → IsNextByte tab (bytes_within t) place t.end o) → NextThere o
+  next-there slice place o e f next = subst (λ (p : Point). IsNextByte (tab_within t) (bytes_within t) p t.end o) (f ∙ ap (λ (xs : List Point). resumed xs from.after_previous) e) (next (tab_within t) (wide_of t sound))
 
-  pub within-there : (slice : List Point) (place : Point) → slice ≡ t.skips → place ≡ resumed slice from.after_previous → 0 < place.vs → place.index < length bytes_in
-  within-there slice place e f = subst (λ (p : Point). 0 < p.vs → p.index < length bytes_in) (sym (f ∙ ap (λ (xs : List Point). resumed xs from.after_previous) e))
+  pub within-there : (slice : List Point) (place : Point) → slice ≡ t.skips → place ≡ resumed slice from.after_previous → 0 < place.vs → place.index < length (bytes_within t)
+  within-there slice place e f = subst (λ (p : Point). 0 < p.vs → p.index < length (bytes_within t)) (sym (f ∙ ap (λ (xs : List Point). resumed xs from.after_previous) e))
       (looks t sound goes-from.0.read).place.bounds.tab
 
-  byte-left : (byte : ℕ) → NextThere (Some byte) → position_there < size_in
+  byte-left : (byte : ℕ) → NextThere (Some byte) → position_there < size_within t
   byte-left byte n = next-more t sound goes-from.0.read n.0 n.1 (before-end t sound n.0.point ∙ n.2)
 
-  none-left : NextThere None → size_in ≤ position_there
+  none-left : NextThere None → size_within t ≤ position_there
   none-left (inl e) = next-none-left t sound goes-from.0.read e
   none-left (inr m) = next-past t sound goes-from.0.read m.0 m.1 (before-end t sound m.0.point ∙ m.2)
 
@@ -205,7 +193,7 @@ module _ {M R D : Type 0} {same : R → R → Bool} (t : Inside M R D) (sound : 
   abbrev after : Waits → Bool → ℕ → Inside M R D
   after waits ended byte = record t { kept_choices = kept_choices; after_previous = from.after_previous; previous = from.previous; events = events; stack = stack; waits = waits; ended = ended; byte = byte; ready = ready; moves = Other }
 
-  sound-by : (waits : Waits) (ended : Bool) (byte : ℕ) → IsWhatWaits tab_in bytes_in t.skips (text_within t) from.after_previous byte t.closed waits → (ended ≡ true → t.closed ≡ true)
+  sound-by : (waits : Waits) (ended : Bool) (byte : ℕ) → IsWhatWaits (tab_within t) (bytes_within t) t.skips (text_within t) from.after_previous byte t.closed waits → (ended ≡ true → t.closed ≡ true)
       → MadeUpto (standing t.skips from.after_previous waits) → IsSound same (after waits ended byte)
   sound-by waits ended byte w e m = record {
     placed = placed-there sound.placed goes-from.0.read w e sound.placed.reads;
@@ -215,13 +203,13 @@ module _ {M R D : Type 0} {same : R → R → Bool} (t : Inside M R D) (sound : 
         (omega (arith, goes-from.2.1, ap length h.top, length-take from.stack_len t.stack.items))
         (λ n le. let cut = h.cut in rw cut (take-take n from.events_len t.events.items le)) front-stack goes-from.1;
     once = sound.once;
-    known = known-other t.skips from.after_previous t.end.0 t.bytes.now tab_in bytes_in sound.known.own_bytes ready h.near waits;
+    known = known-other t.skips from.after_previous t.end.0 t.bytes.now (tab_within t) (bytes_within t) sound.known.own_bytes ready h.near waits;
   }
 
   -- a byte
   pub byte-sound : (byte : ℕ) → NextThere (Some byte) → IsSound same (after Byte from.ended byte)
   byte-sound byte n = sound-by Byte from.ended byte (record { seat = n.0; at = n.1; before = before-end t sound n.0.point ∙ n.2; is = sym n.3 }) goes-from.0.ended
-      (reach-is true (or_left _ t.closed (lt-ltb position_there size_in (byte-left byte n))))
+      (reach-is true (or_left _ t.closed (lt-ltb position_there (size_within t) (byte-left byte n))))
 
   -- the end
   pub end-sound : NextThere None → t.closed ≡ true → IsSound same (after End true t.byte)
@@ -229,19 +217,19 @@ module _ {M R D : Type 0} {same : R → R → Bool} (t : Inside M R D) (sound : 
 
   -- nothing
   pub none-sound : NextThere None → t.closed ≡ false → IsSound same (after Nothing from.ended t.byte)
-  none-sound n still = sound-by Nothing from.ended t.byte tt goes-from.0.ended (reach-is false (or_from _ t.closed (le-ltb position_there size_in (none-left n)) still))
+  none-sound n still = sound-by Nothing from.ended t.byte tt goes-from.0.ended (reach-is false (or_from _ t.closed (le-ltb position_there (size_within t) (none-left n)) still))
 
   -- the reading has ended
   pub ended-sound : stack.items ≡ [] → IsSound same (after Nothing from.ended t.byte)
   ended-sound e = sound-by Nothing from.ended t.byte tt goes-from.0.ended
-      (λ reads. made-closed bytes_in events.items stack.items (shown bytes_in from.after_previous) (shown bytes_in (reach t.skips from.after_previous (can_feed position_there size_in t.closed))) (reach-is _ refl reads) e)
+      (λ reads. made-closed (bytes_within t) events.items stack.items (shown (bytes_within t) from.after_previous) (shown (bytes_within t) (reach t.skips from.after_previous (can_feed position_there (size_within t) t.closed))) (reach-is _ refl reads) e)
 
   abbrev waiting_there : Waits → Bool → TokenizerValue M R D
   waiting_there waits ended = record (seen t) { configuration = record step_there.configuration { waiting = waits; ended = ended }; choices = step_there.choices }
 
   seen-there : (waits : Waits) (ended : Bool) (byte : ℕ) → seen (after waits ended byte) ≡ waiting_there waits ended
   seen-there waits ended byte =
-      let choices = same-choices position_in position_in stack.items t.stack.items (Saves t) from.events_len from.stack_len (reverse kept_choices.items)
+      let choices = same-choices (position_within t) (position_within t) stack.items t.stack.items (Saves t) from.events_len from.stack_len (reverse kept_choices.items)
       (λ p le saved. rw (front-stack p.stack_len le) refl) goes-from.1 in
       rw (choices, h.cut, h.top) refl
 
@@ -262,11 +250,11 @@ module _ {M R D : Type 0} {same : R → R → Bool} (t : Inside M R D) (sound : 
     pub takes-byte : (name : StateName) (byte : ℕ) → goal ≡ continuation.Next name → NextThere (Some byte) → TakesThere (seen (after Byte from.ended byte)) (result.Ok name)
     takes-byte name byte e n =
         let lt = byte-left byte n in
-        by-step _ _ (rw e (refl, rw (lt-ltb position_there size_in lt) (seen-there Byte from.ended byte), λ f. lt))
+        by-step _ _ (rw e (refl, rw (lt-ltb position_there (size_within t) lt) (seen-there Byte from.ended byte), λ f. lt))
 
     pub takes-end : (name : StateName) → goal ≡ continuation.Next name → flush ≡ true → NextThere None → TakesThere (seen (after End true t.byte)) (result.Ok name)
     takes-end name e f n =
-        by-step _ _ (rw e (refl, rw (le-ltb position_there size_in (none-left n)) (seen-there End true t.byte), λ g. absurd (let c : true ≡ false = sym f ∙ g in cc)))
+        by-step _ _ (rw e (refl, rw (le-ltb position_there (size_within t) (none-left n)) (seen-there End true t.byte), λ g. absurd (let c : true ≡ false = sym f ∙ g in cc)))
 
     pub takes-none : (name : StateName) → goal ≡ continuation.Next name → flush ≡ false → NextThere None → TakesThere (seen (after Nothing from.ended t.byte)) (result.Err (Next name))
     takes-none name e f n = by-step _ _ (rw e (seen-there Nothing from.ended t.byte, refl, f, none-left n))

@@ -1,8 +1,8 @@
 -- A span begins or ends: the fields of a tokenizer keep what holds of them.
-use Rattle.markdown_tokenizer.proofs.Prelude.{◌≡◌, ℕ, suc, ◌-◌, ◌≤◌, ◌<◌, List, [], ◌∷◌, ◌++◌, Bool, Option, Some, None, length, refl, sym, ap, ◌∙◌, subst, arith, length-append, take, length-take, map, reverse, IfSome, All, take-append-le, take-take, Point, Event, Link, Enter, Exit, shown, Waits, Nothing, Byte, End, KeptChoice, Progress, Inside, Choice, CanExit, resumed, tab_of, seen, text_within, position_from, standing, choice_of, saved_of, IsProgress, AreNested, IsSound, Vec, with_enter, with_exit, stands-self, saved_at_place, Saved, state_of}
+use Rattle.markdown_tokenizer.proofs.Prelude.{◌≡◌, ℕ, suc, ◌-◌, ◌≤◌, ◌<◌, List, [], ◌∷◌, ◌++◌, Bool, Option, Some, None, length, refl, sym, ap, ◌∙◌, subst, arith, length-append, take, length-take, map, reverse, IfSome, All, take-append-le, take-take, Point, Event, Link, Enter, Exit, shown, Waits, Nothing, Byte, End, KeptChoice, Progress, Inside, Choice, CanExit, resumed, seen, text_within, standing, choice_of, saved_of, IsProgress, AreNested, IsSound, Vec, with_enter, with_exit, stands-self, saved_at_place, Saved, state_of}
 use Rattle.markdown_base.specs.declared.event.Name.{Name}
 use Rattle.markdown_tokenizer.proofs.Inside.Made.{made-enter, made-exit}
-use Rattle.markdown_tokenizer.proofs.Inside.Fields.{nested-as, Saves}
+use Rattle.markdown_tokenizer.proofs.Inside.Fields.{nested-as, Saves, bytes_within, tab_within, position_within}
 use Rattle.markdown_tokenizer.proofs.Inside.Steps.{here-is, after_previous-is}
 
 -- what choices saved, as a list of choices, with other positions and another stack, where each is seen as the same
@@ -21,26 +21,26 @@ same-choices f g a b P events stack (choice ∷ kept_choices) same h =
 -- choices saved the same of other events and another stack, where the front is the same
 pub same-front : {M R D : Type 0} (t : Inside M R D) (m n : ℕ) (events : List Event) (stack : List Name) (kept_choices : List KeptChoice) → m ≤ length events → n ≤ length stack
     → ((k : ℕ) → k ≤ m → take k events ≡ take k t.events.items) → ((k : ℕ) → k ≤ n → take k stack ≡ take k t.stack.items) → AreNested (Saves t) m n kept_choices
-    → AreNested (IsProgress t.phase (tab_of t.parse_state.now) t.parse_state.now.bytes.now t.skips (text_within t) events stack t.closed) (length events) (length stack) kept_choices
+    → AreNested (IsProgress t.phase (tab_within t) (bytes_within t) t.skips (text_within t) events stack t.closed) (length events) (length stack) kept_choices
 same-front t m n events stack kept_choices more higher front top h =
-    nested-as (Saves t) (IsProgress t.phase (tab_of t.parse_state.now) t.parse_state.now.bytes.now t.skips (text_within t) events stack t.closed) m n (length events) (length stack) kept_choices
+    nested-as (Saves t) (IsProgress t.phase (tab_within t) (bytes_within t) t.skips (text_within t) events stack t.closed) m n (length events) (length stack) kept_choices
     (λ p a b k. let e = front p.events_len a in let s = top p.stack_len b in (omega arith, omega arith, record { read = k.read; ended = k.ended; made = rw (e, s) k.made })) h
 
 -- the code's place, from its list of gaps
 pub entered-here : {M R D : Type 0} (t : Inside M R D) (slice : List Point) (place here : Point) → slice ≡ t.skips → place ≡ standing slice t.after_previous t.waits
-    → here ≡ shown t.parse_state.now.bytes.now place → here ≡ shown t.parse_state.now.bytes.now (standing t.skips t.after_previous t.waits)
-entered-here t slice place here e f g = g ∙ ap (shown t.parse_state.now.bytes.now) (f ∙ ap (λ (skips : List Point). standing skips t.after_previous t.waits) e)
+    → here ≡ shown (bytes_within t) place → here ≡ shown (bytes_within t) (standing t.skips t.after_previous t.waits)
+entered-here t slice place here e f g = g ∙ ap (shown (bytes_within t)) (f ∙ ap (λ (skips : List Point). standing skips t.after_previous t.waits) e)
 
 -- the same where the next byte is looked for at the place after the byte before
 pub entered-there : {M R D : Type 0} (t : Inside M R D) (slice : List Point) (here : Point) → slice ≡ t.skips → resumed slice t.after_previous ≡ t.after_previous
-    → here ≡ shown t.parse_state.now.bytes.now t.after_previous → here ≡ shown t.parse_state.now.bytes.now (standing t.skips t.after_previous t.waits)
+    → here ≡ shown (bytes_within t) t.after_previous → here ≡ shown (bytes_within t) (standing t.skips t.after_previous t.waits)
 entered-there t slice here e there is =
     let at = subst (λ (skips : List Point). resumed skips t.after_previous ≡ t.after_previous) e there in
-    is ∙ ap (shown t.parse_state.now.bytes.now) (sym (elim t.waits as (λ (w : Waits). standing t.skips t.after_previous w ≡ t.after_previous) [ Nothing ↦ refl | Byte ↦ at | End ↦ at ]))
+    is ∙ ap (shown (bytes_within t)) (sym (elim t.waits as (λ (w : Waits). standing t.skips t.after_previous w ≡ t.after_previous) [ Nothing ↦ refl | Byte ↦ at | End ↦ at ]))
 
 module _ {M R D : Type 0} {same : R → R → Bool} (t : Inside M R D) (sound : IsSound same t) where
   -- a span begins
-  module _ (name : Name) (link : Option Link) (here : Point) (is : here ≡ shown t.parse_state.now.bytes.now (standing t.skips t.after_previous t.waits)) (events : Vec Event) (stack : Vec Name)
+  module _ (name : Name) (link : Option Link) (here : Point) (is : here ≡ shown (bytes_within t) (standing t.skips t.after_previous t.waits)) (events : Vec Event) (stack : Vec Name)
       (put : events.items ≡ t.events.items ++ record { kind = Enter; name = name; point = here; link = link } ∷ []) (top : stack.items ≡ t.stack.items ++ name ∷ []) where
     entered-front : (n : ℕ) → n ≤ length t.stack.items → take n stack.items ≡ take n t.stack.items
     entered-front n le = rw top (take-append-le n t.stack.items (name ∷ []) le)
@@ -48,8 +48,8 @@ module _ {M R D : Type 0} {same : R → R → Bool} (t : Inside M R D) (sound : 
     pub entered-sound : IsSound same (record t { events = events; stack = stack })
     entered-sound = record {
       placed = sound.placed;
-      made = λ reads. rw (put, top, is) (let bound = shown t.parse_state.now.bytes.now (standing t.skips t.after_previous t.waits) in let m = sound.made reads in
-          made-enter t.parse_state.now.bytes.now t.events.items t.stack.items (shown t.parse_state.now.bytes.now t.after_previous) bound m (record { kind = Enter; name = name; point = bound; link = link }) refl
+      made = λ reads. rw (put, top, is) (let bound = shown (bytes_within t) (standing t.skips t.after_previous t.waits) in let m = sound.made reads in
+          made-enter (bytes_within t) t.events.items t.stack.items (shown (bytes_within t) t.after_previous) bound m (record { kind = Enter; name = name; point = bound; link = link }) refl
           (stands-self bound) (stands-self bound) m.bound_shown);
       kept_choices = same-front t (length t.events.items) (length t.stack.items) events.items stack.items (reverse t.kept_choices.items)
           (omega (arith, ap length put, length-append t.events.items (record { kind = Enter; name = name; point = here; link = link } ∷ [])))
@@ -61,7 +61,7 @@ module _ {M R D : Type 0} {same : R → R → Bool} (t : Inside M R D) (sound : 
 
     pub entered-seen : seen (record t { events = events; stack = stack }) ≡ with_enter name link (seen t)
     entered-seen =
-        let position = position_from (tab_of t.parse_state.now) t.parse_state.now.bytes.now t.skips t.start in
+        let position = position_within t in
         let choices = same-choices position position stack.items t.stack.items (Saves t) (length t.events.items) (length t.stack.items) (reverse t.kept_choices.items) (λ p le saved. rw (entered-front p.stack_len le) refl) sound.kept_choices in
         rw (choices, put, top, is ∙ here-is t sound) refl
 
@@ -78,21 +78,21 @@ nested-below position stack P events (choice ∷ kept_choices) above h =
     ] (above 0 (choice_of position stack choice) (omega arith)) h
 
 module _ {M R D : Type 0} {same : R → R → Bool} (t : Inside M R D) (sound : IsSound same t) (name : Name) (can : CanExit name (seen t)) (here : Point)
-    (is : here ≡ shown t.parse_state.now.bytes.now t.after_previous) (events : Vec Event) (stack : Vec Name)
+    (is : here ≡ shown (bytes_within t) t.after_previous) (events : Vec Event) (stack : Vec Name)
     (put : events.items ≡ t.events.items ++ record { kind = Exit; name = name; point = here; link = None } ∷ []) (top : stack.items ≡ take (length t.stack.items - 1) t.stack.items) where
   exited-front : (n : ℕ) → n ≤ length t.stack.items - 1 → take n stack.items ≡ take n t.stack.items
   exited-front n le = rw top (take-take n (length t.stack.items - 1) t.stack.items le)
 
   exited-nested : AreNested (Saves t) (length t.events.items) (length t.stack.items - 1) (reverse t.kept_choices.items)
   exited-nested =
-      nested-below (position_from (tab_of t.parse_state.now) t.parse_state.now.bytes.now t.skips t.start) t.stack.items (Saves t) (length t.events.items) (reverse t.kept_choices.items) can.above sound.kept_choices
+      nested-below (position_within t) t.stack.items (Saves t) (length t.events.items) (reverse t.kept_choices.items) can.above sound.kept_choices
 
   pub exited-sound : IsSound same (record t { events = events; stack = stack })
   exited-sound = record {
     placed = sound.placed;
     made = λ reads. let l = after_previous-is t sound in
-        rw (put, top, is) (let left = shown t.parse_state.now.bytes.now t.after_previous in
-        made-exit t.parse_state.now.bytes.now t.events.items t.stack.items left (shown t.parse_state.now.bytes.now (standing t.skips t.after_previous t.waits)) (sound.made reads)
+        rw (put, top, is) (let left = shown (bytes_within t) t.after_previous in
+        made-exit (bytes_within t) t.events.items t.stack.items left (shown (bytes_within t) (standing t.skips t.after_previous t.waits)) (sound.made reads)
         (record { kind = Exit; name = name; point = left; link = None }) refl refl can.top (λ o e. rw l (can.read o e)) can.void);
     kept_choices = same-front t (length t.events.items) (length t.stack.items - 1) events.items stack.items (reverse t.kept_choices.items)
         (omega (arith, ap length put, length-append t.events.items (record { kind = Exit; name = name; point = here; link = None } ∷ [])))
@@ -104,6 +104,6 @@ module _ {M R D : Type 0} {same : R → R → Bool} (t : Inside M R D) (sound : 
 
   pub exited-seen : seen (record t { events = events; stack = stack }) ≡ with_exit name (seen t)
   exited-seen =
-      let position = position_from (tab_of t.parse_state.now) t.parse_state.now.bytes.now t.skips t.start in
+      let position = position_within t in
       let choices = same-choices position position stack.items t.stack.items (Saves t) (length t.events.items) (length t.stack.items - 1) (reverse t.kept_choices.items) (λ p le saved. rw (exited-front p.stack_len le) refl) exited-nested in
       rw (choices, put, top, is ∙ after_previous-is t sound) refl
