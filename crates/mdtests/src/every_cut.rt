@@ -1,7 +1,7 @@
 //! Short documents, cut at every place and at every two places: the events do not depend on the cuts.
 
 ghost use Rattle.markdown.specs.Virtual.{IsWithinLimit};
-ghost use Rattle.std.specs.Prelude.{◌+◌, ◌*◌, ◌<◌, length};
+ghost use Rattle.std.specs.Prelude.{◌+◌, ◌*◌, ◌<◌, ◌≤◌, length};
 
 use crate::pushed::{Reader, read_cut};
 use markdown::configuration::TabSize;
@@ -83,14 +83,16 @@ fn document_of(
 }
 
 /// How many readings of a document are as the uncut one, if it is cut at each place, and if it has less than four bytes, at each two.
-/// The document has at most four bytes, and the tab size is 16 at most.
+/// The document has at most four bytes.
 fn same_of_document(
     alloc: Global,
     readers: &[Reader],
     bytes: &[u8],
     tab: TabSize,
-) -> Result<usize, AllocError> {
-    if tab.get() > 16 || bytes.len() > 4 {
+) -> Result<usize, AllocError>
+    requires tab { tab ≤ 16 }
+{
+    if bytes.len() > 4 {
         return Err(AllocError);
     }
     let places = places(alloc, bytes, tab)?;
@@ -110,7 +112,9 @@ fn same_of_size(
     letters: &[u8],
     tab: TabSize,
     size: usize,
-) -> Result<usize, AllocError> {
+) -> Result<usize, AllocError>
+    requires tab { tab ≤ 16 }
+{
     if letters.is_empty() || size > 4 {
         return Err(AllocError);
     }

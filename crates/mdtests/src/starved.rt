@@ -127,8 +127,8 @@ fn read_chains(
     told(alloc, &answer, events.as_slice())
 }
 
-/// Reads all chains of a list over a document of at most 9 bytes, with this tab size, 16 at most, and a machine that runs out of
-/// memory at a call. Returns the result, and then the list.
+/// Reads all chains of a list over a document of at most 9 bytes, with this tab size and a machine that runs out of memory at a call.
+/// Returns the result, and then the list.
 fn read(
     alloc: Global,
     list: &[Row],
@@ -136,13 +136,14 @@ fn read(
     tab: usize,
     at: usize,
 ) -> Result<String, AllocError> {
-    let options = ParseOptions {
-        tab_size: TabSize::new(tab).ok_or(AllocError)?,
-        ..ParseOptions::gfm()
-    };
-    if options.tab_size.get() > 16 || bytes.len() > 9 {
+    let tab_size = TabSize::new(tab).ok_or(AllocError)?;
+    if bytes.len() > 9 {
         return Err(AllocError);
     }
+    let options = ParseOptions {
+        tab_size,
+        ..ParseOptions::gfm()
+    };
     let mut events = listed(alloc, list)?;
     read_chains(alloc, &mut events, bytes, &options, &Starved { at })
 }
