@@ -4,5 +4,3 @@
 pub mod headings;
 pub mod labels;
 pub mod spans;
-#[cfg(test)]
-mod tests;

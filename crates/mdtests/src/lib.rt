@@ -12,6 +12,8 @@ mod edit_map;
 #[cfg(test)]
 mod every_cut;
 #[cfg(test)]
+mod examples;
+#[cfg(test)]
 mod machines;
 #[cfg(test)]
 mod no_memory;

@@ -1,19 +1,19 @@
-//! Tests of the examples, with expected lines worked by hand.
+//! Tests of the examples of the pages, with expected lines worked by hand.
 
 ghost use Rattle.std.specs.Prelude.{◌<◌, Contains};
 ghost use Rattle.markdown.specs.Presets.{default_parse_options};
 ghost use Rattle.markdown.specs.Engine.{given_by};
 
-use crate::headings::Headings;
-use crate::labels::Labels;
-use crate::spans::code_spans;
+use crate::shown::assert_shown;
 use markdown::configuration::ParseOptions;
 use markdown::event::{Event, Kind, Point};
 use markdown::parser::ParseState;
 use markdown::state::{Machine, Name};
 use markdown::tokenizer::{Fault, run};
+use mdexamples::headings::Headings;
+use mdexamples::labels::Labels;
+use mdexamples::spans::code_spans;
 use std::alloc::{AllocError, Global};
-use std::process::Abort;
 
 /// The code spans of a document that is pushed in ranges of this size.
 fn spans_of(alloc: Global, bytes: &[u8], size: usize) -> Result<String, AllocError>
@@ -26,30 +26,19 @@ fn spans_of(alloc: Global, bytes: &[u8], size: usize) -> Result<String, AllocErr
     }
 }
 
-/// Asserts that a text was made, and is this one.
-fn assert_made(
-    rt: &impl Abort,
-    made: Result<String, AllocError>,
-    want: &str,
-) -> Result<(), AllocError> {
-    let made = made?;
-    assert_eq!(rt; made.as_str(), want);
-    Ok(())
-}
-
 #[test]
 fn code_spans_are_listed_however_the_document_is_cut(rt: HostRuntime) -> Result<(), AllocError> {
     let document = b"See `x`\nand\t``y`\nz``.\n";
     for size in [1, 3, 100] {
         let made = spans_of(rt.alloc(), document, size);
-        assert_made(&rt, made, "1:5 to 1:8\n2:5 to 3:4\n")?;
+        assert_shown(&rt, made, "1:5 to 1:8\n2:5 to 3:4\n")?;
     }
     Ok(())
 }
 
 #[test]
 fn empty_document_has_no_code_spans(rt: HostRuntime) -> Result<(), AllocError> {
-    assert_made(&rt, spans_of(rt.alloc(), b"", 1), "")
+    assert_shown(&rt, spans_of(rt.alloc(), b"", 1), "")
 }
 
 /// The events of a document, a line each, as `enter Data 1:1`.
@@ -66,7 +55,7 @@ fn lines_of<M: Machine>(
         return Err(AllocError);
     };
     match run(alloc, &document, start, &[], false) {
-        Ok((events, _)) => shown(alloc, events.as_slice()),
+        Ok((events, _)) => lines(alloc, events.as_slice()),
         Err(fault) => refused(alloc, &fault),
     }
 }
@@ -77,7 +66,7 @@ fn refused(alloc: Global, fault: &Fault) -> Result<String, AllocError> {
 }
 
 /// The lines of events.
-fn shown(alloc: Global, events: &[Event]) -> Result<String, AllocError> {
+fn lines(alloc: Global, events: &[Event]) -> Result<String, AllocError> {
     let mut text = String::new(alloc);
     for event in events {
         let kind = match event.kind {
@@ -94,7 +83,7 @@ fn shown(alloc: Global, events: &[Event]) -> Result<String, AllocError> {
 #[test]
 fn headings_have_up_to_six_signs(rt: HostRuntime) -> Result<(), AllocError> {
     let made = lines_of(rt.alloc(), &Headings {}, Name::FlowStart, b"#a\n#######\nb");
-    assert_made(
+    assert_shown(
         &rt,
         made,
         "enter HeadingAtx 1:1\n\
@@ -121,7 +110,7 @@ fn headings_have_up_to_six_signs(rt: HostRuntime) -> Result<(), AllocError> {
 #[test]
 fn labels_end_in_their_line(rt: HostRuntime) -> Result<(), AllocError> {
     let made = lines_of(rt.alloc(), &Labels {}, Name::TextBefore, b"a[b]\n[c");
-    assert_made(
+    assert_shown(
         &rt,
         made,
         "enter Data 1:1\n\
