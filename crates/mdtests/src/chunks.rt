@@ -9,7 +9,7 @@ use std::alloc::{AllocError, Global};
 pub(crate) type Place = (usize, usize, usize, usize);
 
 /// Events as tests write them.
-#[derive(Clone, Copy)]
+#[derive(Drop)]
 pub(crate) enum Row {
     /// An enter without a link.
     Enter(Name, Place),
@@ -34,8 +34,8 @@ fn event_at(kind: Kind, name: Name, place: Place, link: Option<Link>) -> Event {
 }
 
 /// Appends the events of a row.
-fn push_row(events: &mut Vec<Event>, row: Row) -> Result<(), AllocError> {
-    match row {
+fn push_row(events: &mut Vec<Event>, row: &Row) -> Result<(), AllocError> {
+    match *row {
         Enter(name, place) => events.push(event_at(Kind::Enter, name, place, None))?,
         Exit(name, place) => events.push(event_at(Kind::Exit, name, place, None))?,
         Span(name, place, end) => {
@@ -59,7 +59,7 @@ fn push_row(events: &mut Vec<Event>, row: Row) -> Result<(), AllocError> {
 pub(crate) fn listed(alloc: Global, rows: &[Row]) -> Result<Vec<Event>, AllocError> {
     let mut events = Vec::new(alloc);
     for row in rows {
-        push_row(&mut events, *row)?;
+        push_row(&mut events, row)?;
     }
     Ok(events)
 }

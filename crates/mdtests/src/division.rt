@@ -9,7 +9,7 @@ ghost use Rattle.markdown.specs.ChildrenLaws.{HasEndsWithin};
 
 use crate::chunks::Row::{Chunk, Span};
 use crate::chunks::{QUOTE, Row, listed};
-use crate::shown::{assert_shown, shown};
+use crate::shown::{assert_shown, push_events};
 use markdown::configuration::TabSize;
 use markdown::event::{Content, Event, Name};
 use markdown::subtokenize::{divide_events, ready};
@@ -89,26 +89,37 @@ fn edits_of(
     Ok(Some((sums, map)))
 }
 
-/// Puts a child in the place of the chain that begins at an index: the sums, how many events of the child are left, and the list.
+/// How many events were removed and added, how many events of the child are left, and the list.
+fn told(
+    alloc: Global,
+    sums: (usize, usize),
+    left: usize,
+    events: &[Event],
+) -> Result<String, AllocError> {
+    let (removed, added) = sums;
+    let mut text = format!(in alloc; "removed {removed}, added {added}, left {left}\n")?;
+    push_events(&mut text, events)?;
+    Ok(text)
+}
+
+/// Puts a child in the place of the chain that begins at an index, in a document of at most 99 bytes.
 fn put(
     alloc: Global,
     list: &[Row],
     bytes: &[u8],
     index: usize,
     child: &[Row],
-) -> Result<String, AllocError>
-    requires limit { IsWithinLimit 4 bytes.now }
-{
+) -> Result<String, AllocError> {
+    if bytes.len() > 99 {
+        return Err(AllocError);
+    }
     let mut events = listed(alloc, list)?;
     let mut child = listed(alloc, child)?;
     match edits_of(alloc, events.as_slice(), bytes, index, &mut child)? {
         None => String::from_str(alloc, "not ready"),
         Some((sums, mut map)) => {
             map.consume(&mut events)?;
-            let lines = shown(alloc, events.as_slice())?;
-            let (removed, added) = sums;
-            let left = child.len();
-            format!(in alloc; "removed {removed}, added {added}, left {left}\n{lines}")
+            told(alloc, sums, child.len(), events.as_slice())
         }
     }
 }
@@ -156,7 +167,6 @@ const PUT: &[(&[Row], &[u8], usize, &[Row], &str)] = &[
 #[test]
 fn child_is_divided_over_its_chunks(rt: HostRuntime) -> Result<(), AllocError> {
     for &(list, bytes, index, child, want) in PUT {
-        assert!(rt; bytes.len() < 9);
         assert_shown(&rt, put(rt.alloc(), list, bytes, index, child), want)?;
     }
     Ok(())

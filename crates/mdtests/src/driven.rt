@@ -87,6 +87,16 @@ fn push_shown<M: Machine>(
     }
 }
 
+/// Appends what a push after a flush returns.
+fn push_again<M: Machine>(text: &mut String, tokenizer: &mut Tokenizer<M>) -> Result<(), AllocError>
+    requires { tokenizer.old.closed ≡ true }
+{
+    match tokenizer.push((0, 0), (0, 0), State::Ok) {
+        Ok(_) => text.push_str("pushed\n"),
+        Err(fault) => writeln!(text, "{fault}"),
+    }
+}
+
 /// Appends what a flush returned, and a push after it; then the number of calls, and if the flush succeeded, whether these
 /// resolvers are registered, and the events.
 fn push_end<M: Machine>(
@@ -98,10 +108,7 @@ fn push_end<M: Machine>(
     requires { tokenizer.old.closed ≡ true }
 {
     push_answer(text, flushed)?;
-    match tokenizer.push((0, 0), (0, 0), State::Ok) {
-        Ok(_) => text.push_str("pushed\n")?,
-        Err(fault) => writeln!(text, "{fault}")?,
-    }
+    push_again(text, tokenizer)?;
     let calls = tokenizer.tokenize_state.size;
     writeln!(text, "{calls} calls")?;
     if flushed.is_err() {

@@ -1,7 +1,7 @@
 //! Edits of small lists, with expected lists worked by hand.
 
 ghost use Rattle.markdown.specs.Events.{EndsBelow};
-ghost use Rattle.std.specs.Prelude.{◌≡◌, ◌*◌, ◌^◌, ◌<◌, length, All, None, IfOk, IfSome};
+ghost use Rattle.std.specs.Prelude.{◌≡◌, ◌*◌, ◌^◌, ◌<◌, ◌≤◌, length, All, None, IfOk, IfSome};
 
 use crate::shown::{assert_shown, at, shown};
 use markdown::event::{Content, Event, Kind, Link, Name};
@@ -83,21 +83,49 @@ fn small_edits_are_made(rt: HostRuntime) -> Result<(), AllocError> {
     assert_shown(&rt, added_in_front_of_many(alloc), want)
 }
 
-/// Two chains, one within the stretch of the other, with two events added in front of most.
+/// The enter of the span that is `apart` spans before span k.
+fn enter_before(k: usize, apart: usize) -> Option<usize>
+    requires { 2 * k < 2 ^ 64 }
+    ensures { IfSome result (λ p. p ≤ 2 * k) }
+{
+    if k >= apart {
+        Some(2 * (k - apart))
+    } else {
+        None
+    }
+}
+
+/// The enter of the span that is `apart` spans after span k, of `count` spans.
+fn enter_behind(k: usize, apart: usize, count: usize) -> Option<usize>
+    requires fits { 2 * count < 2 ^ 64 }
+    requires inside { k < count }
+    ensures { IfSome result (λ n. n < 2 * count) }
+{
+    if apart < count - k {
+        Some(2 * (k + apart))
+    } else {
+        None
+    }
+}
+
+/// Spans, one after the other, in as many chains as they are apart: event 2 k enters span k, and is linked to the enters of its
+/// neighbours.
+fn chains(alloc: Global, count: usize, apart: usize) -> Result<Vec<Event>, AllocError>
+    requires { 2 * count < 2 ^ 64 }
+    ensures len { IfOk result (λ v. length v.items ≡ 2 * count) }
+    ensures ends { IfOk result (λ v. All (EndsBelow (2 * count)) v.items) }
+{
+    let mut events = Vec::new(alloc);
+    for k in 0..count {
+        events.push(linked(enter_before(k, apart), enter_behind(k, apart, count)))?;
+        events.push(event(2))?;
+    }
+    Ok(events)
+}
+
+/// Two chains of two spans, one within the stretch of the other, with two events added in front of most.
 fn chains_moved(alloc: Global) -> Result<String, AllocError> {
-    let mut events = Vec::from_array(
-        alloc,
-        [
-            linked(None, Some(4)),
-            event(2),
-            linked(None, Some(6)),
-            event(4),
-            linked(Some(0), None),
-            event(6),
-            linked(Some(2), None),
-            event(8),
-        ],
-    )?;
+    let mut events = chains(alloc, 4, 2)?;
     let mut map = EditMap::new(alloc);
     map.add(1, 0, vec![in alloc; event(91), event(92)]?)?;
     map.consume(&mut events)?;
@@ -106,7 +134,7 @@ fn chains_moved(alloc: Global) -> Result<String, AllocError> {
 
 /// Two chunks in a chain; the second one is removed.
 fn end_removed(alloc: Global) -> Result<String, AllocError> {
-    let mut events = chain(alloc, 2)?;
+    let mut events = chains(alloc, 2, 1)?;
     let mut map = EditMap::new(alloc);
     map.add(2, 2, Vec::new(alloc))?;
     map.consume(&mut events)?;
@@ -118,48 +146,17 @@ fn end_removed(alloc: Global) -> Result<String, AllocError> {
 fn ends_of_links_are_moved_or_removed(rt: HostRuntime) -> Result<(), AllocError> {
     let want =
         "enter Data 1:1 (0+0) Text None Some(6); enter Data 1:91 (0+0); enter Data 1:92 (0+0); \
-        enter Data 1:2 (0+0); enter Data 1:1 (0+0) Text None Some(8); enter Data 1:4 (0+0); \
-        enter Data 1:1 (0+0) Text Some(0) None; enter Data 1:6 (0+0); enter Data 1:1 (0+0) Text Some(4) None; \
-        enter Data 1:8 (0+0)";
+        enter Data 1:2 (0+0); enter Data 1:1 (0+0) Text None Some(8); enter Data 1:2 (0+0); \
+        enter Data 1:1 (0+0) Text Some(0) None; enter Data 1:2 (0+0); enter Data 1:1 (0+0) Text Some(4) None; \
+        enter Data 1:2 (0+0)";
     assert_shown(&rt, chains_moved(rt.alloc()), want)?;
     let want = "enter Data 1:1 (0+0) Text None None; enter Data 1:2 (0+0)";
     assert_shown(&rt, end_removed(rt.alloc()), want)
 }
 
-/// The enter of the span before span k.
-fn enter_before(k: usize) -> Option<usize>
-    requires { 2 * k < 2 ^ 64 }
-    ensures { IfSome result (λ p. p < 2 * k) }
-{
-    if k > 0 { Some(2 * k - 2) } else { None }
-}
-
-/// The enter of the span after span k, of `count` spans.
-fn enter_behind(k: usize, count: usize) -> Option<usize>
-    requires fits { 2 * count < 2 ^ 64 }
-    requires inside { k < count }
-    ensures { IfSome result (λ n. n < 2 * count) }
-{
-    if k + 1 < count { Some(2 * k + 2) } else { None }
-}
-
-/// The spans of a chain, one after the other: event 2 k enters span k, and is linked to the enters of its neighbours.
-fn chain(alloc: Global, count: usize) -> Result<Vec<Event>, AllocError>
-    requires { 2 * count < 2 ^ 64 }
-    ensures len { IfOk result (λ v. length v.items ≡ 2 * count) }
-    ensures ends { IfOk result (λ v. All (EndsBelow (2 * count)) v.items) }
-{
-    let mut events = Vec::new(alloc);
-    for k in 0..count {
-        events.push(linked(enter_before(k), enter_behind(k, count)))?;
-        events.push(event(2))?;
-    }
-    Ok(events)
-}
-
 /// Two events are added in front of each span of a chain of a hundred, the last span first.
 fn chain_edited(alloc: Global) -> Result<Vec<Event>, AllocError> {
-    let mut events = chain(alloc, 100)?;
+    let mut events = chains(alloc, 100, 1)?;
     let mut map = EditMap::new(alloc);
     for step in 0..100 {
         let k = 99 - step;

@@ -37,15 +37,21 @@ fn is_passed(alloc: Global) -> bool {
     }
 }
 
-/// Whether a new tokenizer is read as one that has read nothing, and gives no event.
-fn is_new(alloc: Global, parse_state: &ParseState<Types>) -> bool {
-    let t = Tokenizer::new(alloc, Point::START, parse_state);
-    let is_new = t.point() == Point::START
+/// Whether a tokenizer says that it has read nothing.
+fn has_read_nothing(t: &Tokenizer<Types>) -> bool {
+    t.point() == Point::START
         && t.previous().is_none()
         && t.current().is_none()
         && t.stack().is_empty()
-        && t.resolvers().is_empty();
-    is_new && t.into_events().is_empty()
+        && t.resolvers().is_empty()
+}
+
+/// Whether a new tokenizer is read as one that has read nothing, and gives no event.
+fn is_new(alloc: Global, parse_state: &ParseState<Types>) -> bool {
+    let t = Tokenizer::new(alloc, Point::START, parse_state);
+    let is_new = has_read_nothing(&t);
+    let events = t.into_events();
+    is_new && events.is_empty()
 }
 
 #[test]

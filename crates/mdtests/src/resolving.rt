@@ -116,8 +116,15 @@ fn flush_found<'a>(
     tokenizer.flush(state, true)
 }
 
+/// Reads a document, in which the definition `x` is found.
+fn read_found(alloc: Global, parse_state: &ParseState<Wrap>) -> Result<Subresult, Fault> {
+    let label = owned(alloc, "x")?;
+    let mut tokenizer = Tokenizer::new(alloc, Point::START, parse_state);
+    flush_found(&mut tokenizer, parse_state, label)
+}
+
 /// Reads `a`, finds the definition `x`, and shows what the flush returns.
-fn read_found(alloc: Global) -> Result<String, AllocError> {
+fn found(alloc: Global) -> Result<String, AllocError> {
     let options = ParseOptions::default();
     let machine = Wrap { refuse: false };
     let parse_state = ParseState {
@@ -125,10 +132,7 @@ fn read_found(alloc: Global) -> Result<String, AllocError> {
         options: &options,
         machine: &machine,
     };
-    let label = owned(alloc, "x")?;
-    let mut tokenizer = Tokenizer::new(alloc, Point::START, &parse_state);
-    let flushed = flush_found(&mut tokenizer, &parse_state, label);
-    drop(tokenizer);
+    let flushed = read_found(alloc, &parse_state);
     let mut text = String::new(alloc);
     push_answer(&mut text, &flushed)?;
     Ok(text)
@@ -137,6 +141,6 @@ fn read_found(alloc: Global) -> Result<String, AllocError> {
 /// Definitions that states found come first, also if the first resolver finds nothing.
 #[test]
 fn definitions_of_states_come_first(rt: HostRuntime) -> Result<(), AllocError> {
-    let read = read_found(rt.alloc());
-    assert_shown(&rt, read, "done: false, notes: 0, definitions: x A\n")
+    let found = found(rt.alloc());
+    assert_shown(&rt, found, "done: false, notes: 0, definitions: x A\n")
 }

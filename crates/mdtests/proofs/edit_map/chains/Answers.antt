@@ -1,6 +1,6 @@
 use Rattle.mdtests.proofs.Prelude.{ℕ, ◌*◌, ◌<◌, [], ◌∷◌, ◌++◌, sym, subst, ap, ◌∙◌, arith, rules, IfSome, All, All-push, EndsBelow, EachEnd}
 use Rattle.std.proofs.lemmas.Option.{IfSome_then}
-use Rattle.mdtests.proofs.edit_map.chain.Goals as goal
+use Rattle.mdtests.proofs.edit_map.chains.Goals as goal
 
 pub loop-k-preserved : goal.loop-k-preserved
 loop-k-preserved c =
